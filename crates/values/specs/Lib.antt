@@ -1,0 +1,10 @@
+pub mod Logical
+pub mod Datum
+pub mod Kinds
+pub mod Order
+pub mod Weight
+pub mod Causes
+pub mod StreamCauses
+pub mod Reading
+pub mod Rose
+pub mod Typed

@@ -1,0 +1,103 @@
+-- What bytes mean where some of them may be at fault: a value, or a set of faults that isn't empty.
+-- A definition of this form says at once which value is read, and which faults stand.
+use Rattle.std.specs.Prelude.{◌≡◌, ◌⊎◌, ℕ, zero, suc, ◌+◌, Bool, true, false, Option, None, Some, Result, Ok, Err, List, [], ◌∷◌, ◌++◌}
+use Rattle.values.specs.declared.faults.StreamFault.{StreamFault}
+use Rattle.values.specs.declared.faults.StreamFault.TheVariants as fault
+
+infixl 10 ◌>>=◌
+-- one fault, or those of two sets
+pub data Faults : Type 0 where
+  one : StreamFault → Faults
+  several : Faults → Faults → Faults
+
+abbrev pub IsAmong : Faults → StreamFault → Type 0
+IsAmong (one d) c = d ≡ c
+IsAmong (several fs gs) c = IsAmong fs c ⊎ IsAmong gs c
+
+abbrev pub Reading : Type 0 → Type 0
+Reading X = Result X Faults
+
+-- What depends on something unreadable isn't read: nothing stands there.
+abbrev pub ◌>>=◌ : {X Y : Type 0} → Reading X → (X → Reading Y) → Reading Y
+Ok x >>= f = f x
+Err fs >>= f = Err fs
+
+-- Two things that are read each by itself: the faults of both stand.
+abbrev pub both : {X Y Z : Type 0} → (X → Y → Z) → Reading X → Reading Y → Reading Z
+both join (Ok x) (Ok y) = Ok (join x y)
+both join (Ok x) (Err gs) = Err gs
+both join (Err fs) (Ok y) = Err fs
+both join (Err fs) (Err gs) = Err (several fs gs)
+
+-- the value, or this fault where there is none
+abbrev pub must : {X : Type 0} → StreamFault → Option X → Reading X
+must c None = Err (one c)
+must c (Some x) = Ok x
+
+-- this fault where the test holds
+abbrev pub refused_if : StreamFault → Bool → Reading (Unit {0})
+refused_if c true = Err (one c)
+refused_if c false = Ok tt
+
+-- joining functions for `both`
+abbrev pub first : {X Y : Type 0} → X → Y → X
+first x y = x
+
+abbrev pub second : {X Y : Type 0} → X → Y → Y
+second x y = y
+
+abbrev pub cons : {X : Type 0} → X → List X → List X
+cons x xs = x ∷ xs
+
+abbrev pub append_to : {X : Type 0} → List X → List X → List X
+append_to xs ys = xs ++ ys
+
+-- what a change of the value makes of a reading
+abbrev pub mapped : {X Y : Type 0} → (X → Y) → Reading X → Reading Y
+mapped f (Ok x) = Ok (f x)
+mapped f (Err fs) = Err fs
+
+-- the n readings from number i on
+unfoldable pub each : {X : Type 0} → (ℕ → Reading X) → ℕ → ℕ → Reading (List X)
+each f i zero = Ok []
+each f i (suc n) = both cons (f i) (each f (i + 1) n)
+
+-- this fault stands
+abbrev pub Stands : {X : Type 0} → Reading X → StreamFault → Type 0
+Stands (Ok x) c = ⊥
+Stands (Err fs) c = IsAmong fs c
+
+-- no fault stands
+abbrev pub IsGood : {X : Type 0} → Reading X → Type 0
+IsGood (Ok x) = Unit {0}
+IsGood (Err fs) = ⊥
+
+-- A refusal is right: the fault stands, or memory ran out.
+abbrev pub Fails : {X : Type 0} → StreamFault → Reading X → Type 0
+Fails fault.Memory m = Unit {0}
+Fails c m = Stands m c
+
+-- What a call answers that reads without taking memory: `Ok` exactly where no fault stands, and then the value
+-- as contracts see it; otherwise a fault that stands.
+abbrev pub Judges : {X Y : Type 0} → (X → Y) → Result X StreamFault → Reading Y → Type 0
+Judges view (Ok x) m = m ≡ Ok (view x)
+Judges view (Err c) m = Stands m c
+
+-- the same of a call that takes memory, which may run out
+abbrev pub Answers : {X Y : Type 0} → (X → Y) → Result X StreamFault → Reading Y → Type 0
+Answers view (Ok x) m = m ≡ Ok (view x)
+Answers view (Err c) m = Fails c m
+
+-- what a check answers that gives no value: `Ok` exactly where no fault stands
+abbrev pub Passes : {X : Type 0} → Result (Unit {0}) StreamFault → Reading X → Type 0
+Passes (Ok u) m = IsGood m
+Passes (Err c) m = Stands m c
+
+-- What is left to read decides the whole: the invariant of a loop that judges one thing after another.
+pub record Decides {X Y : Type 0} (rest : Reading X) (whole : Reading Y) : Type 0 where
+  pub good : IsGood rest → IsGood whole
+  pub fault : (c : StreamFault) → Stands rest c → Stands whole c
+
+-- a list that is read after another: the invariant of a loop that gathers
+abbrev pub with_front : {X : Type 0} → List X → Reading (List X) → Reading (List X)
+with_front xs m = mapped (append_to xs) m
