@@ -1,0 +1,10 @@
+pub mod Faults
+pub mod Sums
+pub mod Forests
+pub mod Names
+pub mod Sample
+pub mod PathLemmas
+pub mod Places
+pub mod SchemaFits
+pub mod FieldRead
+pub mod SchemaRead

@@ -1,0 +1,55 @@
+-- The metadata of a Schema message that another program wrote, with the columns k and v of int64: the definitions answer what it says.
+use Rattle.std.proofs.Common.{◌≡◌, ℕ, true, List, [], ◌∷◌, Ok, Err, refl, slice_set, ◌<◌, zero, suc, slice_index, arith}
+use Rattle.std.specs.Str.{is_utf8}
+use Rattle.std.proofs.lemmas.Str.{is_utf8-from_IsUtf8, IsUtf8-from_ascii}
+use Rattle.flatbuf.specs.Layout.{number_at, signed_at, target_at, bytes_at, block_at, place_of_vtable, vtable_at, table_at, root_of, slot_of, number_of, signed_of, structs_of, subtable_of, vector_at, vector_of, entry_of}
+use Rattle.values.specs.Reading.{Reading, ◌>>=◌, must, each, one}
+use Rattle.values.specs.Rose.{Rose, node, none}
+use Rattle.values.specs.declared.faults.StreamFault.TheVariants as fault
+use Rattle.schema_meta.specs.declared.stored_type.StoredType.TheVariants as stored
+use Rattle.schema_meta.specs.Entry.{Entry}
+use Rattle.schema_meta.specs.Types.{readable, bool_of, kind_of, width_of, int_of, type_of}
+use Rattle.schema_meta.specs.Fields.{name_of, plain_of, children_of, label_of, content_of, field_of, entry_by, child_at, forest}
+use Rattle.schema_meta.specs.Totals.{sum_from, total_at, total}
+use Rattle.schema_meta.specs.Schema.{endianness_of, columns_of, schema_of}
+
+abbrev metadata : List ℕ
+metadata =
+    24 ∷ 0 ∷ 0 ∷ 0 ∷ 0 ∷ 0 ∷ 0 ∷ 0 ∷ 12 ∷ 0 ∷ 24 ∷ 0 ∷ 4 ∷ 0 ∷ 6 ∷ 0 ∷
+    8 ∷ 0 ∷ 16 ∷ 0 ∷ 0 ∷ 0 ∷ 0 ∷ 0 ∷ 16 ∷ 0 ∷ 0 ∷ 0 ∷ 4 ∷ 0 ∷ 1 ∷ 0 ∷
+    24 ∷ 0 ∷ 0 ∷ 0 ∷ 0 ∷ 0 ∷ 0 ∷ 0 ∷ 0 ∷ 0 ∷ 0 ∷ 0 ∷ 0 ∷ 0 ∷ 0 ∷ 0 ∷
+    8 ∷ 0 ∷ 12 ∷ 0 ∷ 4 ∷ 0 ∷ 8 ∷ 0 ∷ 8 ∷ 0 ∷ 0 ∷ 0 ∷ 0 ∷ 0 ∷ 0 ∷ 0 ∷
+    4 ∷ 0 ∷ 0 ∷ 0 ∷ 2 ∷ 0 ∷ 0 ∷ 0 ∷ 24 ∷ 0 ∷ 0 ∷ 0 ∷ 92 ∷ 0 ∷ 0 ∷ 0 ∷
+    16 ∷ 0 ∷ 20 ∷ 0 ∷ 4 ∷ 0 ∷ 8 ∷ 0 ∷ 9 ∷ 0 ∷ 12 ∷ 0 ∷ 0 ∷ 0 ∷ 16 ∷ 0 ∷
+    16 ∷ 0 ∷ 0 ∷ 0 ∷ 16 ∷ 0 ∷ 0 ∷ 0 ∷ 1 ∷ 2 ∷ 0 ∷ 0 ∷ 28 ∷ 0 ∷ 0 ∷ 0 ∷
+    36 ∷ 0 ∷ 0 ∷ 0 ∷ 1 ∷ 0 ∷ 0 ∷ 0 ∷ 107 ∷ 0 ∷ 0 ∷ 0 ∷ 0 ∷ 0 ∷ 0 ∷ 0 ∷
+    8 ∷ 0 ∷ 12 ∷ 0 ∷ 4 ∷ 0 ∷ 8 ∷ 0 ∷ 8 ∷ 0 ∷ 0 ∷ 0 ∷ 64 ∷ 0 ∷ 0 ∷ 0 ∷
+    1 ∷ 0 ∷ 0 ∷ 0 ∷ 0 ∷ 0 ∷ 0 ∷ 0 ∷ 16 ∷ 0 ∷ 20 ∷ 0 ∷ 4 ∷ 0 ∷ 8 ∷ 0 ∷
+    9 ∷ 0 ∷ 12 ∷ 0 ∷ 0 ∷ 0 ∷ 16 ∷ 0 ∷ 16 ∷ 0 ∷ 0 ∷ 0 ∷ 16 ∷ 0 ∷ 0 ∷ 0 ∷
+    1 ∷ 2 ∷ 0 ∷ 0 ∷ 28 ∷ 0 ∷ 0 ∷ 0 ∷ 36 ∷ 0 ∷ 0 ∷ 0 ∷ 1 ∷ 0 ∷ 0 ∷ 0 ∷
+    118 ∷ 0 ∷ 0 ∷ 0 ∷ 0 ∷ 0 ∷ 0 ∷ 0 ∷ 8 ∷ 0 ∷ 12 ∷ 0 ∷ 4 ∷ 0 ∷ 8 ∷ 0 ∷
+    8 ∷ 0 ∷ 0 ∷ 0 ∷ 64 ∷ 0 ∷ 0 ∷ 0 ∷ 1 ∷ 0 ∷ 0 ∷ 0 ∷ 0 ∷ 0 ∷ 0 ∷ 0 ∷ []
+
+-- the schema in the metadata of a message, whose third slot is the header
+abbrev schema_in : List ℕ → Reading (List (Rose Entry))
+schema_in bytes = readable (root_of bytes) >>= λ message. readable (subtable_of message 2) >>= must fault.BadTable >>= schema_of
+
+abbrev column : ℕ → Rose Entry
+column letter = node (record { name = letter ∷ []; nullable = true; stored = stored.Int64 }) none
+
+letter : (c : ℕ) → c < 128 → is_utf8 (c ∷ []) ≡ true
+letter c h = is_utf8-from_IsUtf8 (c ∷ []) (IsUtf8-from_ascii (c ∷ []) ascii)
+  where
+    ascii : (i : ℕ) → slice_index (c ∷ []) i < 128
+    ascii zero = h
+    ascii (suc i) = omega arith
+
+-- the columns, and what a changed byte is the fault of: the root's place, the endianness, the first column's kind and its width
+pub sample :
+    (schema_in metadata ≡ Ok (column 107 ∷ column 118 ∷ []))
+    × (schema_in (slice_set metadata 0 220) ≡ Err (one fault.BadTable))
+    × (schema_in (slice_set metadata 60 1) ≡ Err (one fault.BigEndian))
+    × (schema_in (slice_set metadata 105 3) ≡ Err (one fault.UnsupportedType))
+    × (schema_in (slice_set metadata 140 65) ≡ Err (one fault.BadType))
+unfolding number_at signed_at target_at bytes_at block_at place_of_vtable vtable_at table_at root_of slot_of number_of signed_of structs_of subtable_of vector_at vector_of entry_of each bool_of kind_of width_of int_of type_of name_of plain_of children_of label_of content_of field_of entry_by child_at forest sum_from total_at total endianness_of columns_of schema_of
+sample = rw (letter 107 (omega arith), letter 118 (omega arith)) (refl, refl, refl, refl, refl)

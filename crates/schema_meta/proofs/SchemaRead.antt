@@ -1,0 +1,130 @@
+-- The Schema message that is written is read as its schema.
+use Rattle.std.proofs.Common.{◌≡◌, ℕ, ◌^◌, ◌<◌, ◌≤◌, true, List, [], ◌∷◌, length, Option, Some, None, Ok, refl, arith}
+use Rattle.std.specs.Prelude.{nat_eq}
+use Rattle.std.specs.Int.{w16, w64}
+use Rattle.std.proofs.lemmas.Bool.{le-leb, eq-eqb}
+use Rattle.std.specs.Cmp.Lexicographic.{pointwise}
+use Rattle.std.proofs.lemmas.Int.{to_z_pos}
+use Rattle.flatbuf.specs.Tree.{number, Nodes, count}
+use Rattle.flatbuf.specs.Layout.{Table, Vector, table_in, slot_of, subtable_of}
+use Rattle.flatbuf.specs.Written.{whole, IsWritable}
+use Rattle.flatbuf.specs.Held.{element_place, NodeHeld, Held, RootHeld}
+use Rattle.flatbuf.proofs.ReadsBack.{layout-law}
+use Rattle.flatbuf.proofs.Words.{number-read, signed-read, subtable-read, vector-read}
+use Rattle.values.specs.Logical.{LogicalField}
+use Rattle.values.specs.declared.types.ColType.{ColType}
+use Rattle.values.specs.declared.types.ColType.TheVariants.{Int64, Utf8}
+use Rattle.schema_meta.specs.declared.write.HeaderKind.{HeaderKind}
+use Rattle.schema_meta.specs.declared.write.HeaderKind.TheVariants.{Schema, RecordBatch}
+use Rattle.schema_meta.specs.declared.header.MessageKind.{MessageKind}
+use Rattle.schema_meta.specs.declared.header.MessageKind.TheVariants as kind
+use Rattle.schema_meta.specs.Slots as slot
+use Rattle.schema_meta.specs.Schema.{endianness_of, columns_of, schema_of}
+use Rattle.schema_meta.specs.Stage.{Known, Meta}
+use Rattle.schema_meta.specs.Message.{version_of, kind_of, header_table, body_of, expected, new_schema, header_of, meta_of, brings_schema}
+use Rattle.schema_meta.specs.MessageTree.{header_number, message_slots}
+use Rattle.schema_meta.specs.SchemaTree.{field_tables, schema_slots, schema_metadata, AreColumns}
+use Rattle.schema_meta.specs.SchemaLaw.{stored_field, stored_fields, stored_as, AreNamed, before, AreExpected, SchemaLaw, ColumnsLaw}
+use Rattle.schema_meta.specs.Logical.{logical_type, logical_field}
+use Rattle.schema_meta.specs.SameColumns.{is_type, is_declared}
+use Rattle.schema_meta.proofs.SchemaFits.{count-field_tables, schema-writable}
+use Rattle.schema_meta.proofs.FieldRead.{forest-read, total-read}
+
+columns-read : (v : Vector) (fs : List LogicalField) → v.count ≡ length fs → AreColumns fs → AreNamed fs → Held v.bytes (element_place v.start) 0 (field_tables fs) →
+    columns_of v ≡ Ok (stored_fields fs)
+unfolding columns_of
+columns-read v fs e columns named h =
+    rw (total-read 15 v fs e h, le-leb (length fs) 1024 columns.few, forest-read 15 v fs e columns.short_names named.texts h) refl
+
+endianness-read : (t : Table) → NodeHeld t.bytes (slot_of t slot.endianness) (number 2 0) → endianness_of t ≡ Ok tt
+unfolding endianness_of
+endianness-read t h = rw (signed-read w16 0 t slot.endianness h) refl
+
+pub schema-read : (t : Table) (fs : List LogicalField) → AreColumns fs → AreNamed fs → Held t.bytes (slot_of t) 0 (schema_slots fs) → schema_of t ≡ Ok (stored_fields fs)
+unfolding schema_of
+schema-read t fs columns named h =
+    let r = vector-read (field_tables fs) t slot.fields h.1.0 in
+    let v : Vector = record { bytes = t.bytes; start = r.start; count = count (field_tables fs) } in
+    let read : columns_of v ≡ Ok (stored_fields fs) = columns-read v fs (count-field_tables fs) columns named r.elements in
+    rw (endianness-read t h.0, r.is, read) refl
+
+-- the kind under which a header is read
+abbrev pub kind_as : HeaderKind → MessageKind
+kind_as Schema = kind.Schema
+kind_as RecordBatch = kind.Batch
+
+version-read : (t : Table) → NodeHeld t.bytes (slot_of t 0) (number 2 4) → version_of t ≡ Ok tt
+unfolding version_of
+version-read t h = rw (signed-read w16 4 t 0 h) refl
+
+kind-read : (t : Table) (k : HeaderKind) → NodeHeld t.bytes (slot_of t 1) (number 1 (header_number k)) → kind_of t ≡ Ok (kind_as k)
+unfolding kind_of
+kind-read t Schema h = rw (number-read 1 1 t 1 h) refl
+kind-read t RecordBatch h = rw (number-read 1 3 t 1 h) refl
+
+body-read : (t : Table) (n : ℕ) → n ≤ 2 ^ 28 → NodeHeld t.bytes (slot_of t 3) (number 8 n) → body_of t ≡ Ok n
+unfolding body_of
+body-read t n le h =
+    let small : n < 2 ^ 63 = omega arith in
+    rw (signed-read w64 n t 3 h, to_z_pos w64 n small, le-leb n (2 ^ 28) le) refl
+
+header-read : (t h : Table) → subtable_of t 2 ≡ Some (Some h) → header_table t ≡ Ok h
+unfolding header_table
+header-read t h e = rw e refl
+
+-- What the header means under its kind is what the metadata means.
+meta-held : (known : Known) (b : List ℕ) (k : HeaderKind) (header : Nodes) (body : ℕ) (m : Meta) → body ≤ 2 ^ 28 → RootHeld b (message_slots k header body) →
+    ((t h : Table) → header_table t ≡ Ok h → Held h.bytes (slot_of h) 0 header → ((i : ℕ) → count header ≤ i → slot_of h i ≡ Some None) → header_of known t (kind_as k) body ≡ Ok m) →
+    meta_of known b ≡ Ok m
+unfolding meta_of
+meta-held known b k header body m le r means =
+    let t : Table = table_in b r.place in
+    let held = r.held in
+    let h = subtable-read header t 2 held.1.1.0 in
+    let meant : header_of known t (kind_as k) body ≡ Ok m = means t (table_in b h.place) (header-read t (table_in b h.place) h.is) h.slots h.beyond in
+    rw (r.found, kind-read t k held.1.0, version-read t held.0, body-read t body le held.1.1.1.0, meant) refl
+
+pub meta-read : (known : Known) (k : HeaderKind) (header : Nodes) (body : ℕ) (m : Meta) → body ≤ 2 ^ 28 → IsWritable (message_slots k header body) →
+    ((t h : Table) → header_table t ≡ Ok h → Held h.bytes (slot_of h) 0 header → ((i : ℕ) → count header ≤ i → slot_of h i ≡ Some None) → header_of known t (kind_as k) body ≡ Ok m) →
+    meta_of known (whole (message_slots k header body)) ≡ Ok m
+meta-read known k header body m le fits means =
+    meta-held known (whole (message_slots k header body)) k header body m le (layout-law (message_slots k header body) fits) means
+
+same-bytes : (xs : List ℕ) → pointwise nat_eq xs xs ≡ true
+same-bytes [] = refl
+same-bytes (x ∷ xs) = rw (eq-eqb x x refl, same-bytes xs) refl
+
+same-type : (c : ColType) → is_type c (logical_type (stored_as c)) ≡ true
+same-type Int64 = refl
+same-type Utf8 = refl
+
+declared-same : (fs : List LogicalField) → is_declared fs (stored_fields fs) ≡ true
+unfolding is_declared
+declared-same [] = refl
+declared-same (f ∷ fs) = rw (same-bytes f.name, same-type f.col_type, declared-same fs) refl
+
+expected-read : (declared : Option (List LogicalField)) (fs : List LogicalField) → AreExpected declared fs → expected declared (stored_fields fs) ≡ Ok (stored_fields fs)
+expected-read None fs h = refl
+expected-read (Some columns) fs h = rw (h, declared-same fs) refl
+
+header-means : (declared : Option (List LogicalField)) (t h : Table) (fs : List LogicalField) → header_table t ≡ Ok h → schema_of h ≡ Ok (stored_fields fs) →
+    AreExpected declared fs → header_of (before declared) t kind.Schema 0 ≡ Ok (brings_schema 0 (stored_fields fs))
+unfolding header_of new_schema
+header-means declared t h fs found read same = rw (found, read, expected-read declared fs same) refl
+
+pub schema-law : SchemaLaw
+unfolding schema_metadata
+schema-law declared fs columns named same =
+    meta-read (before declared) Schema (schema_slots fs) 0 (brings_schema 0 (stored_fields fs)) (omega arith) (schema-writable fs columns)
+    (λ t h found held beyond. header-means declared t h fs found (schema-read h fs columns named held) same)
+
+logical-stored : (f : LogicalField) → logical_field (stored_field f) ≡ f
+logical-stored f = by-type f.name f.col_type
+  where
+    by-type : (xs : List ℕ) (c : ColType) → logical_field (stored_field (record { name = xs; col_type = c })) ≡ record { name = xs; col_type = c }
+    by-type xs Int64 = refl
+    by-type xs Utf8 = refl
+
+pub columns-law : ColumnsLaw
+columns-law [] = refl
+columns-law (f ∷ fs) = rw (logical-stored f, columns-law fs) refl

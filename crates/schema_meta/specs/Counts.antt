@@ -1,0 +1,16 @@
+-- Fields of metadata tables.
+use Rattle.std.specs.Prelude.{ℕ, ℤ, pos, negsuc, Ok, Err, nat_le, if◌then◌else◌, unwrap_or}
+use Rattle.std.specs.Int.{w64}
+use Rattle.flatbuf.specs.Layout.{Table, signed_of}
+use Rattle.values.specs.declared.faults.StreamFault.{StreamFault}
+use Rattle.values.specs.declared.faults.StreamFault.TheVariants as fault
+use Rattle.values.specs.Reading.{Reading, ◌>>=◌, must, one}
+
+-- a number that must lie between 0 and this one
+abbrev pub within : StreamFault → ℕ → ℤ → Reading ℕ
+within c most (pos n) = if nat_le n most then Ok n else Err (one c)
+within c most (negsuc n) = Err (one c)
+
+-- a count in a slot of 64 bits, 0 where it is absent
+abbrev pub count_in : StreamFault → ℕ → Table → ℕ → Reading ℕ
+count_in c most t slot = must fault.BadTable (signed_of w64 t slot) >>= λ found. within c most (unwrap_or found (pos 0))

@@ -1,0 +1,94 @@
+-- Apache Arrow Schema.fbs, table Field: a field with its children, and the faults that stand in it. The parts of a field are read
+-- each by itself.
+use Rattle.std.specs.Prelude.{ℕ, zero, suc, Bool, ◌&&◌, Option, None, Some, Ok, Err, List, [], length, is_none, nat_le, ◌==◌, if◌then◌else◌}
+use Rattle.std.specs.Str.{is_utf8}
+use Rattle.flatbuf.specs.Layout.{Table, Vector, text_of, subtable_of, vector_of, entry_of}
+use Rattle.values.specs.Reading.{Reading, ◌>>=◌, both, first, second, each, one}
+use Rattle.values.specs.Rose.{Rose, node, kids_of}
+use Rattle.values.specs.declared.faults.StreamFault.TheVariants as fault
+use Rattle.schema_meta.specs.declared.types.TypeKind.{TypeKind}
+use Rattle.schema_meta.specs.declared.stored_type.StoredType.{StoredType}
+use Rattle.schema_meta.specs.Entry.{Entry}
+use Rattle.schema_meta.specs.Slots as slot
+use Rattle.schema_meta.specs.Types.{readable, checked, needs, bool_of, kind_of, type_of, may_have}
+
+-- A name is UTF-8 of at most 4,096 bytes. An absent one is empty.
+abbrev pub checked_name : List ℕ → Reading (List ℕ)
+checked_name bytes = checked fault.BadName (nat_le (length bytes) 4096 && is_utf8 bytes) bytes
+
+abbrev pub name_in : Option (List ℕ) → Reading (List ℕ)
+name_in None = Ok []
+name_in (Some bytes) = checked_name bytes
+
+unfoldable pub name_of : Table → Reading (List ℕ)
+name_of t = readable (text_of t slot.name) >>= name_in
+
+-- Columns of dictionary indices aren't taken.
+unfoldable pub plain_of : Table → Reading (Unit {0})
+plain_of t = readable (subtable_of t slot.dictionary) >>= λ dictionary. needs fault.UnsupportedType (is_none dictionary)
+
+-- An absent vector is an empty one.
+abbrev pub count_in : Option Vector → ℕ
+count_in None = 0
+count_in (Some v) = v.count
+
+abbrev pub fields_in : (Vector → Reading (List (Rose Entry))) → Option Vector → Reading (List (Rose Entry))
+fields_in below None = Ok []
+fields_in below (Some v) = below v
+
+-- the children of a field of this kind, where `below` reads a vector of fields
+unfoldable pub children_of : (Vector → Reading (List (Rose Entry))) → TypeKind → Table → Reading (List (Rose Entry))
+children_of below k t = do
+  v ← readable (vector_of t slot.children)
+  both second (needs fault.BadType (may_have k (count_in v))) (fields_in below v)
+
+-- the parts of a field that its kind doesn't bear on, and those that it does
+pub record Label : Type 0 where
+  pub name : List ℕ
+  pub nullable : Bool
+
+pub record Content : Type 0 where
+  pub stored : StoredType
+  pub children : List (Rose Entry)
+
+abbrev pub label : List ℕ → Bool → Label
+label name nullable = record { name = name; nullable = nullable }
+
+abbrev pub content : StoredType → List (Rose Entry) → Content
+content stored children = record { stored = stored; children = children }
+
+abbrev pub field : Label → Content → Rose Entry
+field l c = node (record { name = l.name; nullable = l.nullable; stored = c.stored }) (kids_of c.children)
+
+unfoldable pub label_of : Table → Reading Label
+label_of t = both label (name_of t) (bool_of t slot.nullable)
+
+-- Where the kind can't be read, or isn't taken, that is the fault, and nothing that it bears on is read.
+unfoldable pub content_of : (Vector → Reading (List (Rose Entry))) → Table → Reading Content
+content_of below t = do
+  k ← kind_of t
+  both content (both first (type_of k t) (plain_of t)) (children_of below k t)
+
+unfoldable pub field_of : (Vector → Reading (List (Rose Entry))) → Table → Reading (Rose Entry)
+field_of below t = both field (label_of t) (content_of below t)
+
+unfoldable pub entry_by : (Vector → Reading (List (Rose Entry))) → Vector → ℕ → Reading (Rose Entry)
+entry_by below v i = readable (entry_of v i) >>= field_of below
+
+-- the children of field i, where they can be read
+abbrev pub children_by : Reading TypeKind → Option (Option Vector) → Option Vector
+children_by (Ok k) None = None
+children_by (Ok k) (Some v) = v
+children_by (Err fs) v = None
+
+abbrev pub children_at : Option Table → Option Vector
+children_at None = None
+children_at (Some t) = children_by (kind_of t) (vector_of t slot.children)
+
+unfoldable pub child_at : Vector → ℕ → Option Vector
+child_at v i = children_at (entry_of v i)
+
+-- The fields of a vector, with at most this many levels of fields, and no field below them.
+unfoldable pub forest : ℕ → Vector → Reading (List (Rose Entry))
+forest zero v = if v.count == 0 then Ok [] else Err (one fault.TooManyFields)
+forest (suc depth) v = each (entry_by (forest depth) v) 0 v.count

@@ -1,0 +1,80 @@
+-- The metadata of a message: Message.fbs, tables `Message` and `DictionaryBatch`.
+-- Not every fault that could be named is collected: what is left out stands only beside one that is kept, so the same
+-- metadata is read.
+use Rattle.std.specs.Prelude.{ℕ, ◌^◌, pos, Ok, Err, List, Option, None, Some, is_some, unwrap_or, ◌==◌, if◌then◌else◌}
+use Rattle.std.specs.Int.{w16, w64}
+use Rattle.std.specs.Ordering.{int_eq}
+use Rattle.flatbuf.specs.Layout.{Table, root_of, number_of, signed_of, subtable_of}
+use Rattle.values.specs.declared.faults.StreamFault.TheVariants as fault
+use Rattle.values.specs.Reading.{Reading, ◌>>=◌, both, second, must, one, refused_if, mapped}
+use Rattle.values.specs.Rose.{Rose}
+use Rattle.values.specs.Logical.{LogicalField}
+use Rattle.schema_meta.specs.Entry.{Entry}
+use Rattle.schema_meta.specs.Schema.{schema_of}
+use Rattle.schema_meta.specs.declared.header.MessageKind.{MessageKind}
+use Rattle.schema_meta.specs.declared.header.MessageKind.TheVariants as kind
+use Rattle.schema_meta.specs.declared.header.Header.TheVariants as header
+use Rattle.schema_meta.specs.Counts.{count_in}
+use Rattle.schema_meta.specs.BatchHead.{BatchHead}
+use Rattle.schema_meta.specs.Batch.{batch_of}
+use Rattle.schema_meta.specs.Shape.{shape_of}
+use Rattle.schema_meta.specs.Stage.{Known, Meta}
+use Rattle.schema_meta.specs.SameColumns.{is_declared}
+
+-- Only V5 is read. An absent version is V1.
+unfoldable pub version_of : Table → Reading (Unit {0})
+version_of t =
+    must fault.BadTable (signed_of w16 t 0) >>= λ v. if int_eq (unwrap_or v (pos 0)) (pos 4) then Ok tt else Err (one fault.Version)
+
+abbrev pub known_kind : ℕ → Reading MessageKind
+known_kind n =
+    if n == 1 then Ok kind.Schema
+    else (if n == 2 then Ok kind.Dictionary else (if n == 3 then Ok kind.Batch else Err (one fault.HeaderKind)))
+
+-- the kind of the header
+unfoldable pub kind_of : Table → Reading MessageKind
+kind_of t = must fault.BadTable (number_of 1 t 1) >>= λ n. known_kind (unwrap_or n 0)
+
+-- the header's own table, which must be there
+unfoldable pub header_table : Table → Reading Table
+header_table t = must fault.BadTable (subtable_of t 2) >>= must fault.BadTable
+
+unfoldable pub body_of : Table → Reading ℕ
+body_of t = count_in fault.BodySize (2 ^ 28) t 3
+
+abbrev pub brings_schema : ℕ → List (Rose Entry) → Meta
+brings_schema body fields = record { header = header.Schema; body = body; schema = Some fields }
+
+abbrev pub brings_batch : ℕ → BatchHead → Meta
+brings_batch body b = record { header = header.Batch b; body = body; schema = None }
+
+-- the declared schema, where one was
+abbrev pub expected : Option (List LogicalField) → List (Rose Entry) → Reading (List (Rose Entry))
+expected None fields = Ok fields
+expected (Some columns) fields = if is_declared columns fields then Ok fields else Err (one fault.SchemaMismatch)
+
+-- There is one schema, before all batches.
+unfoldable pub new_schema : Known → Table → Reading (List (Rose Entry))
+new_schema known h = both second (refused_if fault.SecondSchema (is_some known.schema)) (schema_of h >>= expected known.declared)
+
+-- No field has a dictionary, so no id is one of the schema's.
+unfoldable pub dictionary_of : Known → Table → Reading Meta
+dictionary_of known t =
+    must fault.NoSchema known.schema >>= λ fields. header_table t >>= λ h. must fault.BadTable (signed_of w64 h 0)
+    >>= λ id. Err (one fault.UnknownDictionary)
+
+unfoldable pub record_batch : Known → ℕ → Table → Reading BatchHead
+record_batch known body t =
+    must fault.NoSchema known.schema >>= λ fields. header_table t >>= batch_of (shape_of fields) body
+
+-- what the header means, by its kind
+unfoldable pub header_of : Known → Table → MessageKind → ℕ → Reading Meta
+header_of known t kind.Schema body = mapped (brings_schema body) (header_table t >>= new_schema known)
+header_of known t kind.Dictionary body = dictionary_of known t
+header_of known t kind.Batch body = mapped (brings_batch body) (record_batch known body t)
+
+-- Under an unknown kind nothing else is judged. A batch before the schema is refused whatever it holds.
+unfoldable pub meta_of : Known → List ℕ → Reading Meta
+meta_of known bytes =
+    must fault.BadTable (root_of bytes) >>= λ t. kind_of t
+    >>= λ k. both second (version_of t) (body_of t >>= header_of known t k)

@@ -1,0 +1,69 @@
+-- The faults of a schema by paths of slots: each path from the schema's table down is read by itself.
+use Rattle.std.specs.Prelude.{◌≡◌, ℕ, ◌<◌, false, Option, None, Some, Ok, List, [], ◌∷◌, length}
+use Rattle.flatbuf.specs.Layout.{Table, Vector, vector_of, entry_of}
+use Rattle.values.specs.Reading.{Stands}
+use Rattle.values.specs.declared.faults.StreamFault.{StreamFault}
+use Rattle.values.specs.declared.faults.StreamFault.TheVariants as fault
+use Rattle.schema_meta.specs.declared.types.TypeKind.{TypeKind}
+use Rattle.schema_meta.specs.Slots as slot
+use Rattle.schema_meta.specs.Types.{readable, bool_of, kind_of, type_of, may_have}
+use Rattle.schema_meta.specs.Fields.{name_of, plain_of, count_in, child_at}
+use Rattle.schema_meta.specs.Totals.{total}
+use Rattle.schema_meta.specs.Schema.{endianness_of, schema_of}
+
+-- The fault is one of a slot of the field's own table.
+pub data FaultOfField (t : Table) (c : StreamFault) : Type 0 where
+  in_name : Stands (name_of t) c → FaultOfField t c
+  in_nullable : Stands (bool_of t slot.nullable) c → FaultOfField t c
+  in_kind : Stands (kind_of t) c → FaultOfField t c
+  in_type : (k : TypeKind) → kind_of t ≡ Ok k → Stands (type_of k t) c → FaultOfField t c
+  in_dictionary : (k : TypeKind) → kind_of t ≡ Ok k → Stands (plain_of t) c → FaultOfField t c
+  in_children : (k : TypeKind) → kind_of t ≡ Ok k → Stands (readable (vector_of t slot.children)) c → FaultOfField t c
+  in_number :
+      (k : TypeKind) (v : Option Vector) → kind_of t ≡ Ok k → vector_of t slot.children ≡ Some v → may_have k (count_in v) ≡ false
+      → fault.BadType ≡ c → FaultOfField t c
+
+abbrev pub FaultOfEntry : Option Table → StreamFault → Type 0
+FaultOfEntry None c = fault.BadTable ≡ c
+FaultOfEntry (Some t) c = FaultOfField t c
+
+-- A path is the numbers of the fields that it goes through: from the fields v to the fields w.
+abbrev pub Leads : List ℕ → Vector → Vector → Type 0
+Leads [] v w = v ≡ w
+Leads (i ∷ p) v w = (i < v.count) × ((u : Vector) × (child_at v i ≡ Some u) × Leads p u w)
+
+-- The fault stands at the end of a path through less than `depth` fields.
+pub record StandsBelow (depth : ℕ) (v : Vector) (c : StreamFault) : Type 0 where
+  pub path : List ℕ
+  pub end : Vector
+  pub leads : Leads path v end
+  pub within : length path < depth
+  pub index : ℕ
+  pub inside : index < end.count
+  pub fault_of : FaultOfEntry (entry_of end index) c
+
+-- A path through as many fields leads to further ones.
+pub record IsDeeper (depth : ℕ) (v : Vector) : Type 0 where
+  pub path : List ℕ
+  pub end : Vector
+  pub leads : Leads path v end
+  pub long : length path ≡ depth
+  pub some : 0 < end.count
+
+-- The faults of the columns: those by paths, and too many fields by their counts or by their depth.
+pub data FaultOfColumns (v : Vector) (c : StreamFault) : Type 0 where
+  by_path : StandsBelow 16 v c → FaultOfColumns v c
+  by_depth : IsDeeper 16 v → fault.TooManyFields ≡ c → FaultOfColumns v c
+  by_count : 1024 < total 16 v → fault.TooManyFields ≡ c → FaultOfColumns v c
+
+pub data FaultOfSchema (t : Table) (c : StreamFault) : Type 0 where
+  in_endianness : Stands (endianness_of t) c → FaultOfSchema t c
+  in_fields : Stands (readable (vector_of t slot.fields)) c → FaultOfSchema t c
+  in_columns : (v : Vector) → vector_of t slot.fields ≡ Some (Some v) → FaultOfColumns v c → FaultOfSchema t c
+
+-- A fault is in the schema's reading exactly where it stands by a path.
+abbrev pub FoundByPaths : Type 0
+FoundByPaths = (t : Table) (c : StreamFault) → Stands (schema_of t) c → FaultOfSchema t c
+
+abbrev pub StandsByPaths : Type 0
+StandsByPaths = (t : Table) (c : StreamFault) → FaultOfSchema t c → Stands (schema_of t) c

@@ -1,0 +1,25 @@
+-- Apache Arrow Schema.fbs, table Schema: what it means, and the faults that stand in it.
+use Rattle.std.specs.Prelude.{pos, List, unwrap_or, nat_le}
+use Rattle.std.specs.Int.{w16}
+use Rattle.std.specs.Ordering.{int_eq}
+use Rattle.flatbuf.specs.Layout.{Table, Vector, signed_of, vector_of}
+use Rattle.values.specs.Reading.{Reading, ◌>>=◌, both, second}
+use Rattle.values.specs.Rose.{Rose}
+use Rattle.values.specs.declared.faults.StreamFault.TheVariants as fault
+use Rattle.schema_meta.specs.Entry.{Entry}
+use Rattle.schema_meta.specs.Slots as slot
+use Rattle.schema_meta.specs.Types.{readable, needs}
+use Rattle.schema_meta.specs.Fields.{forest, fields_in}
+use Rattle.schema_meta.specs.Totals.{total}
+
+-- The numbers of the bodies are little endian, which is 0. An absent one is 0.
+unfoldable pub endianness_of : Table → Reading (Unit {0})
+endianness_of t =
+    readable (signed_of w16 t slot.endianness) >>= λ e. needs fault.BigEndian (int_eq (unwrap_or e (pos 0)) (pos 0))
+
+-- At most 1,024 fields at all levels, of at most 16 levels.
+unfoldable pub columns_of : Vector → Reading (List (Rose Entry))
+columns_of v = both second (needs fault.TooManyFields (nat_le (total 16 v) 1024)) (forest 16 v)
+
+unfoldable pub schema_of : Table → Reading (List (Rose Entry))
+schema_of t = both second (endianness_of t) (readable (vector_of t slot.fields) >>= fields_in columns_of)

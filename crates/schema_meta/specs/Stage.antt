@@ -1,0 +1,29 @@
+-- What is known of a stream before a message, and what a message's metadata says.
+use Rattle.std.specs.Prelude.{ℕ, ◌+◌, List, Option, None}
+use Rattle.values.specs.Rose.{Rose}
+use Rattle.values.specs.Logical.{LogicalField}
+use Rattle.schema_meta.specs.Entry.{Entry}
+use Rattle.schema_meta.specs.declared.header.Header.{Header}
+use Rattle.schema_meta.specs.declared.header.Header.TheVariants as header
+
+-- the schema that was declared for the stream, if any, and the one that came, once it has
+pub record Known : Type 0 where
+  pub declared : Option (List LogicalField)
+  pub schema : Option (List (Rose Entry))
+
+-- the header, the length of the body, and the schema that the message brings
+pub record Meta : Type 0 where
+  pub header : Header
+  pub body : ℕ
+  pub schema : Option (List (Rose Entry))
+
+abbrev pub end_meta : Meta
+end_meta = record { header = header.End; body = 0; schema = None }
+
+-- a message that is there whole: where its body begins, and its metadata
+pub record Whole : Type 0 where
+  pub front : ℕ
+  pub meta : Meta
+
+abbrev pub end_of : Whole → ℕ
+end_of w = w.front + w.meta.body

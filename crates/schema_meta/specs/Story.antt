@@ -1,0 +1,76 @@
+-- The reading of a whole stream: Arrow Columnar Format, "IPC Streaming Format". Message by message, each in what is known after those
+-- before it.
+use Rattle.std.specs.Prelude.{ℕ, zero, suc, ◌==◌, List, [], ◌++◌, Option, None, Some, Ok, Err, length, drop, slice_range, unwrap_or, if◌then◌else◌}
+use Rattle.values.specs.Datum.{Datum}
+use Rattle.values.specs.Reading.{Reading, one}
+use Rattle.values.specs.Rose.{Rose}
+use Rattle.values.specs.declared.faults.StreamFault.TheVariants as fault
+use Rattle.schema_meta.specs.Entry.{Entry}
+use Rattle.schema_meta.specs.declared.header.Header.{Header}
+use Rattle.schema_meta.specs.declared.header.Header.TheVariants as header
+use Rattle.schema_meta.specs.Stage.{Known, Whole, end_of}
+use Rattle.schema_meta.specs.Sound.{after}
+use Rattle.schema_meta.specs.Framing.{first}
+use Rattle.schema_meta.specs.Rows.{rows_of}
+
+-- What a stream tells: the schema that came, the rows of its batches, and then its end, or the faults at which it breaks.
+pub record Story : Type 0 where
+  pub schema : Option (List (Rose Entry))
+  pub rows : List (List Datum)
+  pub end : Reading (Unit {0})
+
+abbrev pub ends : Known → Reading (Unit {0}) → Story
+ends known end = record { schema = known.schema; rows = []; end = end }
+
+-- rows, and then the rest of the story
+abbrev pub after_rows : List (List Datum) → Story → Story
+after_rows rows s = record { schema = s.schema; rows = rows ++ s.rows; end = s.end }
+
+-- There is one schema: once it is known, it is that of the stream.
+abbrev pub knowing : Option (List (Rose Entry)) → Story → Story
+knowing None s = s
+knowing (Some fields) s = record { schema = Some fields; rows = s.rows; end = s.end }
+
+-- The input may end between two messages where a schema came.
+abbrev pub at_input_end : Option (List (Rose Entry)) → Reading (Unit {0})
+at_input_end None = Err (one fault.NoSchema)
+at_input_end (Some fields) = Ok tt
+
+-- Nothing follows an end mark.
+abbrev pub at_end_mark : List ℕ → Reading (Unit {0})
+at_end_mark rest = if length rest == 0 then Ok tt else Err (one fault.AfterEnd)
+
+abbrev pub after_batch : Known → Reading (List (List Datum)) → Story → Story
+after_batch known (Ok rows) rest = after_rows rows rest
+after_batch known (Err fs) rest = ends known (Err fs)
+
+-- The message's header says what it tells, with the body and the bytes after the message. `known` holds after it, and `rest` is the story of
+-- those bytes.
+abbrev pub told_by : Known → Story → List ℕ → List ℕ → Header → Story
+told_by known rest body bytes header.Schema = rest
+told_by known rest body bytes (header.Batch head) = after_batch known (rows_of (unwrap_or known.schema []) head body) rest
+told_by known rest body bytes header.End = ends known (at_end_mark bytes)
+
+abbrev pub after_message : (Known → List ℕ → Story) → Known → List ℕ → Whole → Story
+after_message next known bytes w =
+    told_by known (next known (drop (end_of w) bytes)) (slice_range bytes w.front (end_of w)) (drop (end_of w) bytes) w.meta.header
+
+-- the first message, if it is there and no fault stands in it, and what follows
+unfoldable pub told : (Known → List ℕ → Story) → Known → List ℕ → Reading (Option Whole) → Story
+told next known bytes (Err fs) = ends known (Err fs)
+told next known bytes (Ok None) = ends known (Err (one fault.Truncated))
+told next known bytes (Ok (Some w)) = after_message next (after known w.meta.schema) bytes w
+
+-- the story of bytes that have at most this many messages
+unfoldable pub story : ℕ → Known → List ℕ → Story
+story zero known bytes = ends known (at_input_end known.schema)
+story (suc n) known bytes =
+    if length bytes == 0 then ends known (at_input_end known.schema)
+    else knowing known.schema (told (story n) known bytes (first known bytes))
+
+abbrev pub nothing_known : Known
+nothing_known = record { declared = None; schema = None }
+
+-- A message has a byte at least, so there are no more messages than bytes.
+unfoldable pub story_of : List ℕ → Story
+story_of bytes = story (length bytes) nothing_known bytes

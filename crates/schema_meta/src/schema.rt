@@ -1,0 +1,76 @@
+//! The schema of a stream.
+ghost use Rattle.std.specs.Prelude.{◌≡◌, IfErr, IfOk, OnOk, map};
+ghost use Rattle.values.specs.Reading.{Answers, Fails, IsGood, Judges};
+ghost use Rattle.schema_meta.specs.Logical.{logical_field};
+ghost use Rattle.schema_meta.specs.Schema.{columns_of, endianness_of, schema_of};
+
+use crate::count::count;
+use crate::field::Field;
+use crate::fields::read_fields;
+use crate::slots::{SCHEMA_ENDIANNESS, SCHEMA_FIELDS};
+use crate::types::unreadable;
+use flatbuf::{TableRef, VectorRef};
+use std::alloc::{AllocError, Global};
+use values::limits::{MAX_DEPTH, MAX_FIELDS};
+use values::{Schema, StreamFault};
+
+/// The columns of a stream, as they are stored.
+#[derive(Drop)]
+pub struct StreamSchema {
+    pub fields: Vec<Field>,
+}
+
+impl StreamSchema {
+    /// The columns' names and the types of their values.
+    pub fn logical(&self, alloc: Global) -> Result<Schema, AllocError>
+        ensures { IfOk result (λ s. s.fields.items ≡ map logical_field self.now.fields.items) }
+    {
+        let mut fields = Vec::with_capacity(alloc, self.fields.len())?;
+        for field in &self.fields {
+            fields.push(field.logical(alloc)?)?;
+        }
+        Ok(Schema { fields })
+    }
+}
+
+/// The schema that a Schema table of the metadata means (Apache Arrow Schema.fbs, table Schema).
+///
+/// The error is a fault that stands in the table, any one where there are several: `BadTable`, `BadName`,
+/// `BigEndian`, `UnsupportedType`, `BadType` or `TooManyFields`. Where none stands only `Memory` is an
+/// error. What lies under a type of a kind that isn't taken is not read.
+pub fn read_schema(alloc: Global, schema: &TableRef) -> Result<StreamSchema, StreamFault>
+    ensures reading { Answers (λ s. s.fields.items) result (schema_of schema.now) }
+
+    // what this says of the two outcomes
+    ensures ok { OnOk result (IsGood (schema_of schema.now)) }
+    ensures fault { IfErr result (λ c. Fails c (schema_of schema.now)) }
+{
+    check_endianness(schema)?;
+    let fields = match schema.vector(SCHEMA_FIELDS).map_err(unreadable)? {
+        None => Vec::new(alloc),
+        Some(columns) => read_columns(alloc, &columns)?,
+    };
+    Ok(StreamSchema { fields })
+}
+
+fn read_columns(alloc: Global, columns: &VectorRef) -> Result<Vec<Field>, StreamFault>
+    ensures { Answers (λ fs. fs.items) result (columns_of columns.now) }
+{
+    if count(columns, MAX_DEPTH, MAX_FIELDS as usize).is_none() {
+        return Err(StreamFault::TooManyFields);
+    }
+    read_fields(alloc, columns, MAX_DEPTH)
+}
+
+fn check_endianness(schema: &TableRef) -> Result<(), StreamFault>
+    ensures { Judges (λ u. u) result (endianness_of schema.now) }
+{
+    match schema
+        .i16(SCHEMA_ENDIANNESS)
+        .map_err(unreadable)?
+        .unwrap_or(0)
+    {
+        0 => Ok(()),
+        _ => Err(StreamFault::BigEndian),
+    }
+}

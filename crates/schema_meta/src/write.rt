@@ -1,0 +1,107 @@
+//! Writing a message's metadata.
+
+ghost use Rattle.std.specs.Prelude.{ℕ, ◌≡◌, ◌≤◌, ◌^◌, ◌<◌, length, IfOk};
+ghost use Rattle.flatbuf.specs.Tree.{table};
+ghost use Rattle.flatbuf.specs.Written.{up, object_end, whole, IsWritable};
+ghost use Rattle.flatbuf.specs.Built.{slots};
+ghost use Rattle.schema_meta.specs.MessageTree.{header_number, message_slots};
+ghost use Rattle.schema_meta.specs.SchemaTree.{type_number, type_slots, field_slots, schema_slots, schema_metadata, AreColumns};
+
+use flatbuf::{Builder, Tables};
+use std::alloc::{AllocError, Global};
+use values::{ColType, Named, Schema};
+
+/// The kinds of messages that are written.
+#[derive(Clone, Copy, Debug, PartialEq, Eq)]
+pub enum HeaderKind {
+    Schema,
+    RecordBatch,
+}
+
+fn number_of_header(kind: HeaderKind) -> u8
+    ensures { result ≡ header_number kind }
+{
+    match kind {
+        HeaderKind::Schema => 1,
+        HeaderKind::RecordBatch => 3,
+    }
+}
+
+/// The metadata of a message with this header and a body of this length (Message.fbs).
+pub fn write_message(
+    alloc: Global,
+    kind: HeaderKind,
+    header: Builder,
+    body_len: u64,
+) -> Result<Vec<u8>, AllocError>
+    requires { IsWritable (message_slots kind (slots header) body_len) }
+    ensures bytes { IfOk result (λ bytes. bytes.items ≡ whole (message_slots kind (slots header) body_len)) }
+    ensures size { IfOk result (λ bytes. length bytes.items ≡ up 8 (object_end 4 (table (message_slots kind (slots header) body_len)))) }
+{
+    let mut message = Builder::new(alloc);
+    message.u16(4)?;
+    message.u8(number_of_header(kind))?;
+    message.table(header)?;
+    message.u64(body_len)?;
+    message.finish(alloc)
+}
+
+fn number_of_type(col_type: ColType) -> u8
+    ensures { result ≡ type_number col_type }
+{
+    match col_type {
+        ColType::Int64 => 2,
+        ColType::Utf8 => 5,
+    }
+}
+
+fn type_table(alloc: Global, col_type: ColType) -> Result<Builder, AllocError>
+    ensures { IfOk result (λ table. slots table ≡ type_slots col_type) }
+{
+    let mut table = Builder::new(alloc);
+    match col_type {
+        ColType::Int64 => {
+            table.u32(64)?;
+            table.u8(1)?;
+        }
+        ColType::Utf8 => {}
+    }
+    Ok(table)
+}
+
+fn field_table(alloc: Global, field: &Named) -> Result<Builder, AllocError>
+    ensures { IfOk result (λ table. slots table ≡ field_slots field.now) }
+{
+    let mut table = Builder::new(alloc);
+    table.text(field.name.as_bytes())?;
+    table.u8(1)?;
+    table.u8(number_of_type(field.col_type))?;
+    table.table(type_table(alloc, field.col_type)?)?;
+    table.absent()?;
+    table.tables(Tables::new(alloc))?;
+    Ok(table)
+}
+
+#[tactic(auto, using(crate::proofs::SchemaFits::fields))]
+fn schema_table(alloc: Global, schema: &Schema) -> Result<Builder, AllocError>
+    ensures { IfOk result (λ table. slots table ≡ schema_slots schema.now.fields.items) }
+{
+    let mut fields = Tables::new(alloc);
+    for field in &schema.fields {
+        fields.push(field_table(alloc, field)?)?;
+    }
+    let mut table = Builder::new(alloc);
+    table.u16(0)?;
+    table.tables(fields)?;
+    Ok(table)
+}
+
+/// The metadata of the Schema message of this schema, each field nullable.
+#[tactic(auto, using(crate::proofs::SchemaFits::fields), unfolding(crate::specs::SchemaTree::schema_metadata))]
+pub fn write_schema(alloc: Global, schema: &Schema) -> Result<Vec<u8>, AllocError>
+    requires { AreColumns schema.now.fields.items }
+    ensures bytes { IfOk result (λ bytes. bytes.items ≡ schema_metadata schema.now.fields.items) }
+    ensures size { IfOk result (λ bytes. length bytes.items < 2 ^ 24) }
+{
+    write_message(alloc, HeaderKind::Schema, schema_table(alloc, schema)?, 0)
+}
