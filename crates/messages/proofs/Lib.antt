@@ -1,0 +1,14 @@
+pub mod Columns
+pub mod SpanCounts
+pub mod Stages
+pub mod Messages
+pub mod Gathering
+pub mod Facts
+pub mod Sounds
+pub mod Streams
+pub mod Brings
+pub mod ShortNames
+pub mod Lawful
+pub mod Runs
+mod Sample
+pub mod Pushed

@@ -1,0 +1,6 @@
+pub mod Handed
+pub mod State
+pub mod Gather
+pub mod Stream
+pub mod Laws
+pub mod Run

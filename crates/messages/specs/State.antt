@@ -1,0 +1,35 @@
+-- What the program knows of a stream, as the definitions have it.
+use Rattle.std.specs.Prelude.{ℕ, ◌≤◌, List, length, Option, None, Some}
+use Rattle.std.specs.Option.{option_map}
+use Rattle.values.specs.Rose.{Rose}
+use Rattle.schema_meta.specs.Entry.{Entry}
+use Rattle.messages.specs.declared.state.State.{State}
+use Rattle.messages.specs.declared.metadata.Metadata.{Metadata}
+use Rattle.messages.specs.declared.framing.Found.{Found}
+use Rattle.messages.specs.declared.framing.Progress.{Progress}
+use Rattle.messages.specs.declared.framing.Progress.TheVariants as progress
+use Rattle.schema_meta.specs.Stage.{Known, Meta, Whole}
+
+abbrev pub known_of : State → Known
+known_of s =
+    record { declared = option_map (λ d. d.fields.items) s.declared; schema = option_map (λ d. d.fields.items) s.schema }
+
+abbrev pub meta_seen : Metadata → Meta
+meta_seen m = record { header = m.header; body = m.body; schema = option_map (λ d. d.fields.items) m.schema }
+
+abbrev pub whole_seen : Found → Whole
+whole_seen f = record { front = f.front; meta = meta_seen f.metadata }
+
+abbrev pub progress_seen : Progress → Option Whole
+progress_seen (progress.Partial n) = None
+progress_seen (progress.Whole f) = Some (whole_seen f)
+
+-- how many bytes more are worth a look
+abbrev pub wanted_by : Progress → ℕ
+wanted_by (progress.Partial n) = n
+wanted_by (progress.Whole f) = 1
+
+-- a schema within the limit on fields
+abbrev pub IsSmall : Option (List (Rose Entry)) → Type 0
+IsSmall None = Unit {0}
+IsSmall (Some fields) = length fields ≤ 1024

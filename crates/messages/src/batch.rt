@@ -1,0 +1,173 @@
+//! The header of a record batch: Message.fbs, `RecordBatch`, `FieldNode` and `Buffer`.
+
+ghost use Rattle.std.specs.Prelude.{◌≡◌, ◌+◌, ◌*◌, ◌^◌, ◌<◌, ◌≤◌, length};
+ghost use Rattle.values.specs.Reading.{Answers, Judges};
+ghost use Rattle.schema_meta.specs.Batch.{batch_of, node_of, nodes_in, span_of, spans_in, plain, rows_of, nodes_of, spans_of, structs_in, word_at};
+
+use crate::fields::{checked, readable};
+use byteorder::{ByteOrder, LittleEndian};
+use flatbuf::{BadTable, TableRef};
+use schema_meta::{BatchHeader, Node, Shape, Span};
+use std::alloc::Global;
+use values::StreamFault;
+use values::limits::MAX_BATCH_LENGTH;
+
+/// The number of 64 bits at `place`.
+#[tactic(auto, unfolding(schema_meta::specs::Batch::word_at))]
+fn word_at(bytes: &[u8], place: usize) -> u64
+    requires { place + 8 ≤ length bytes.now }
+    ensures { result ≡ word_at bytes.now place }
+{
+    LittleEndian::read_u64(&bytes[place..])
+}
+
+/// The node with number `index`: its length must be that of the batch.
+fn node_at(bytes: &[u8], index: usize, rows: usize) -> Result<Node, StreamFault>
+    requires { 16 * index + 16 ≤ length bytes.now }
+    ensures { Judges (λ n. n) result (node_of rows bytes.now index) }
+{
+    let place = 16 * index;
+    if word_at(bytes, place) != rows as u64 {
+        return Err(StreamFault::BadLength);
+    }
+    let nulls = word_at(bytes, place + 8).cast_signed();
+    Ok(Node {
+        length: rows,
+        nulls,
+    })
+}
+
+/// The buffer with number `index`: it must lie within the body.
+fn span_at(bytes: &[u8], index: usize, body: usize) -> Result<Span, StreamFault>
+    requires in_bytes { 16 * index + 16 ≤ length bytes.now }
+    requires in_range { body ≤ 2 ^ 28 }
+    ensures { Judges (λ s. s) result (span_of body bytes.now index) }
+{
+    let place = 16 * index;
+    let from = word_at(bytes, place);
+    let len = word_at(bytes, place + 8);
+    if from > body as u64 || len > body as u64 - from {
+        return Err(StreamFault::BufferRange);
+    }
+    Ok(Span {
+        from: from as usize,
+        len: len as usize,
+    })
+}
+
+/// `count` nodes, one after the other.
+#[tactic(auto, using(values::proofs::Readings::gathering), unfolding(schema_meta::specs::Batch::nodes_in))]
+fn nodes_in(
+    alloc: Global,
+    bytes: &[u8],
+    count: usize,
+    rows: usize,
+) -> Result<Vec<Node>, StreamFault>
+    requires { length bytes.now ≡ 16 * count }
+    ensures { Answers (λ v. v.items) result (nodes_in count rows bytes.now) }
+{
+    let mut nodes = Vec::with_capacity(alloc, count)?;
+    for i in 0..count {
+        nodes.push(node_at(bytes, i, rows)?)?;
+    }
+    Ok(nodes)
+}
+
+/// `count` buffers, one after the other.
+#[tactic(auto, using(values::proofs::Readings::gathering), unfolding(schema_meta::specs::Batch::spans_in))]
+fn spans_in(
+    alloc: Global,
+    bytes: &[u8],
+    count: usize,
+    body: usize,
+) -> Result<Vec<Span>, StreamFault>
+    requires counted { length bytes.now ≡ 16 * count }
+    requires in_range { body ≤ 2 ^ 28 }
+    ensures { Answers (λ v. v.items) result (spans_in count body bytes.now) }
+{
+    let mut spans = Vec::with_capacity(alloc, count)?;
+    for i in 0..count {
+        spans.push(span_at(bytes, i, body)?)?;
+    }
+    Ok(spans)
+}
+
+/// The bytes of a vector of `count` structs of 16 bytes; an absent vector is an empty one.
+fn structs<'a>(
+    table: &TableRef<'a>,
+    slot: u16,
+    count: usize,
+    fault: StreamFault,
+) -> Result<&'a [u8], StreamFault>
+    ensures { Judges (λ s. s.now) result (structs_in fault count table.now slot) }
+{
+    let bytes: &[u8] = match table.structs(slot, 16) {
+        Err(BadTable) => return Err(StreamFault::BadTable),
+        Ok(None) => &[],
+        Ok(Some(bytes)) => bytes,
+    };
+    if bytes.len() % 16 != 0 || bytes.len() / 16 != count {
+        return Err(fault);
+    }
+    Ok(bytes)
+}
+
+fn nodes_of(
+    alloc: Global,
+    table: &TableRef,
+    count: usize,
+    rows: usize,
+) -> Result<Vec<Node>, StreamFault>
+    ensures { Answers (λ v. v.items) result (nodes_of count rows table.now) }
+{
+    let bytes = structs(table, 1, count, StreamFault::NodeCount)?;
+    nodes_in(alloc, bytes, count, rows)
+}
+
+fn spans_of(
+    alloc: Global,
+    table: &TableRef,
+    count: usize,
+    body: usize,
+) -> Result<Vec<Span>, StreamFault>
+    requires { body ≤ 2 ^ 28 }
+    ensures { Answers (λ v. v.items) result (spans_of count body table.now) }
+{
+    let bytes = structs(table, 2, count, StreamFault::BufferCount)?;
+    spans_in(alloc, bytes, count, body)
+}
+
+fn rows_of(table: &TableRef) -> Result<usize, StreamFault>
+    ensures { Judges (λ n. n) result (rows_of table.now) }
+{
+    let length = readable(table.i64(0))?.unwrap_or(0);
+    checked(StreamFault::BadLength, MAX_BATCH_LENGTH, length)
+}
+
+fn uncompressed(table: &TableRef) -> Result<(), StreamFault>
+    ensures { Judges (λ u. u) result (plain table.now) }
+{
+    if readable(table.has(3))? {
+        return Err(StreamFault::Compressed);
+    }
+    Ok(())
+}
+
+/// The header that the table `RecordBatch` means under a schema of this shape, where the message has a body of
+/// `body` bytes.
+#[tactic(auto, using(values::proofs::Readings::failing), unfolding(schema_meta::specs::Batch::batch_of))]
+pub(crate) fn read_batch_header(
+    alloc: Global,
+    table: &TableRef,
+    shape: Shape,
+    body: usize,
+) -> Result<BatchHeader, StreamFault>
+    requires { body ≤ 2 ^ 28 }
+    ensures { Answers (λ b. b) result (batch_of shape body table.now) }
+{
+    uncompressed(table)?;
+    let rows = rows_of(table)?;
+    let nodes = nodes_of(alloc, table, shape.nodes, rows)?;
+    let spans = spans_of(alloc, table, shape.spans, body)?;
+    Ok(BatchHeader { rows, nodes, spans })
+}

@@ -1,0 +1,113 @@
+//! Framing: Arrow Columnar Format, "Encapsulated message format".
+
+ghost use Rattle.std.specs.Prelude.{◌≡◌, ◌≤◌, ◌+◌, ◌^◌, Some, length, slice_range, IfOk};
+ghost use Rattle.values.specs.Reading.{Answers, Judges};
+ghost use Rattle.schema_meta.specs.Framing.{end_mark, first, framed, message_at};
+ghost use Rattle.schema_meta.specs.Message.{meta_of};
+ghost use Rattle.messages.specs.State.{IsSmall, known_of, progress_seen, wanted_by, whole_seen};
+
+use crate::metadata::{Metadata, read_metadata};
+use crate::state::State;
+use byteorder::{ByteOrder, LittleEndian};
+use schema_meta::Header;
+use std::alloc::Global;
+use values::StreamFault;
+use values::limits::MAX_METADATA_SIZE;
+
+/// A message that is there whole.
+#[derive(Drop)]
+pub(crate) struct Found {
+    /// Where its body begins.
+    pub front: usize,
+    pub metadata: Metadata,
+}
+
+/// How far the first message of some bytes has come.
+#[derive(Drop)]
+pub(crate) enum Progress {
+    /// It isn't whole. No fewer than `wanted` bytes more can make it so.
+    Partial { wanted: usize },
+    Whole(Found),
+}
+
+/// The metadata's size, by the first two numbers of a message.
+#[tactic(auto, unfolding(schema_meta::specs::Framing::framed))]
+fn metadata_size(mark: u32, size: u32) -> Result<usize, StreamFault>
+    ensures value { Judges (λ n. n) result (framed mark size) }
+    ensures small { IfOk result (λ n. n ≤ 2 ^ 24) }
+{
+    if mark != u32::MAX {
+        return Err(StreamFault::NoContinuation);
+    }
+    if size as usize > MAX_METADATA_SIZE {
+        return Err(StreamFault::BadSize);
+    }
+    Ok(size as usize)
+}
+
+fn end_mark(state: &State) -> Result<Found, StreamFault>
+    ensures { Judges (λ f. Some (whole_seen f)) result (end_mark (known_of state.now)) }
+{
+    if state.schema.is_none() {
+        return Err(StreamFault::NoSchema);
+    }
+    Ok(Found {
+        front: 8,
+        metadata: Metadata {
+            header: Header::End,
+            body: 0,
+            schema: None,
+        },
+    })
+}
+
+/// The message whose body begins at `front`, if it is there whole.
+#[tactic(auto, using(values::proofs::Readings::failing), unfolding(schema_meta::specs::Framing::message_at))]
+fn message_at(
+    alloc: Global,
+    state: &State,
+    bytes: &[u8],
+    front: usize,
+) -> Result<Progress, StreamFault>
+    requires in_range { 8 ≤ front }
+    requires small { IsSmall (known_of state.now).schema }
+    ensures value { Answers progress_seen result
+        (message_at (length bytes.now) front (meta_of (known_of state.now) (slice_range bytes.now 8 front))) }
+    ensures wanted { IfOk result (λ p. 1 ≤ wanted_by p) }
+{
+    if bytes.len() < front {
+        return Ok(Progress::Partial {
+            wanted: front - bytes.len(),
+        });
+    }
+    let metadata = read_metadata(alloc, state, &bytes[8..front])?;
+    let there = bytes.len() - front;
+    if there < metadata.body {
+        return Ok(Progress::Partial {
+            wanted: metadata.body - there,
+        });
+    }
+    Ok(Progress::Whole(Found { front, metadata }))
+}
+
+/// The first message of the bytes, if it is there whole. A fault is found as soon as what has it is there.
+#[tactic(auto, using(values::proofs::Readings::failing), unfolding(schema_meta::specs::Framing::first, schema_meta::specs::Framing::staged))]
+pub(crate) fn first(alloc: Global, state: &State, bytes: &[u8]) -> Result<Progress, StreamFault>
+    requires { IsSmall (known_of state.now).schema }
+    ensures value { Answers progress_seen result (first (known_of state.now) bytes.now) }
+    ensures wanted { IfOk result (λ p. 1 ≤ wanted_by p) }
+{
+    if bytes.len() < 8 {
+        return Ok(Progress::Partial {
+            wanted: 8 - bytes.len(),
+        });
+    }
+    let size = metadata_size(
+        LittleEndian::read_u32(bytes),
+        LittleEndian::read_u32(&bytes[4..]),
+    )?;
+    if size == 0 {
+        return Ok(Progress::Whole(end_mark(state)?));
+    }
+    message_at(alloc, state, bytes, 8 + size)
+}

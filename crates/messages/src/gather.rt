@@ -1,0 +1,120 @@
+//! Gathering a message from pieces.
+
+ghost use Rattle.std.specs.Prelude.{◌≡◌, ◌≤◌, ◌+◌, ◌^◌, ◌++◌, Ok, None, length, take, IfOk, IfErr, OnOk, OnErr};
+ghost use Rattle.values.specs.Reading.{Answers, Fails};
+ghost use Rattle.schema_meta.specs.Framing.{first};
+ghost use Rattle.messages.specs.Gather.{Gathers, Steps};
+ghost use Rattle.messages.specs.State.{IsSmall, known_of, progress_seen, wanted_by};
+
+use crate::framing::{Found, Progress, first};
+use crate::state::State;
+use std::alloc::Global;
+use values::StreamFault;
+
+/// Extends what is held, and looks for the first message in it.
+fn grow(
+    alloc: Global,
+    state: &State,
+    held: &mut Vec<u8>,
+    bytes: &[u8],
+) -> Result<Progress, StreamFault>
+    requires { IsSmall (known_of state.now).schema }
+    ensures found { Answers progress_seen result (first (known_of state.now) (held.old.items ++ bytes.now)) }
+    ensures wanted { IfOk result (λ p. 1 ≤ wanted_by p) }
+    ensures grown { OnOk result (held.new.items ≡ held.old.items ++ bytes.now) }
+    ensures kept { OnErr result (take (length held.old.items) held.new.items ≡ held.old.items) }
+{
+    held.extend_from_slice(bytes)?;
+    first(alloc, state, held)
+}
+
+/// Extends what is held by the piece until it holds a whole message, or by all of the piece. No more is copied than
+/// the message can be seen to want; `wanted` is what it was seen to want before.
+#[tactic(auto, using(crate::proofs::Gathering::gathers))]
+fn gather(
+    alloc: Global,
+    state: &State,
+    held: &mut Vec<u8>,
+    piece: &[u8],
+    mut wanted: usize,
+) -> Result<Progress, StreamFault>
+    requires small { IsSmall (known_of state.now).schema }
+    requires partial { first (known_of state.now) held.old.items ≡ Ok None }
+    requires some { 1 ≤ wanted }
+    ensures found { Answers progress_seen result (first (known_of state.now) (held.old.items ++ piece.now)) }
+    ensures wanted { IfOk result (λ p. 1 ≤ wanted_by p) }
+    ensures grown { IfOk result (λ p. Gathers (progress_seen p) (held.old.items ++ piece.now) held.new.items) }
+    ensures unchanged { OnErr result (held.new.items ≡ held.old.items) }
+{
+    let before = held.len();
+    let mut used = 0;
+    while used < piece.len() {
+        let step = wanted.min(piece.len() - used);
+        match grow(alloc, state, held, &piece[used..used + step]) {
+            Err(fault) => {
+                held.truncate(before);
+                return Err(fault);
+            }
+            Ok(Progress::Whole(found)) => return Ok(Progress::Whole(found)),
+            Ok(Progress::Partial { wanted: more }) => {
+                used += step;
+                wanted = more;
+            }
+        }
+    }
+    Ok(Progress::Partial { wanted })
+}
+
+/// What a piece came to.
+#[derive(Drop)]
+pub(crate) enum Step {
+    /// All of it is held, and no message is whole yet.
+    Partial {
+        wanted: usize,
+    },
+    /// It completes a message, of which this is the body.
+    Whole {
+        used: usize,
+        found: Found,
+        body: Vec<u8>,
+    },
+}
+
+/// Takes the first message out of what is held and the piece, once it is whole. Nothing is held then.
+pub(crate) fn advance(
+    alloc: Global,
+    state: &State,
+    held: &mut Vec<u8>,
+    piece: &[u8],
+    wanted: usize,
+) -> Result<Step, StreamFault>
+    requires small { IsSmall (known_of state.now).schema }
+    requires partial { first (known_of state.now) held.old.items ≡ Ok None }
+    requires some { 1 ≤ wanted }
+    ensures ok { IfOk result (λ s. Steps (first (known_of state.now) (held.old.items ++ piece.now)) (held.old.items ++ piece.now)
+        (length held.old.items) s held.new.items) }
+    ensures fault { IfErr result (λ e. Fails e (first (known_of state.now) (held.old.items ++ piece.now))) }
+    ensures unchanged { OnErr result (held.new.items ≡ held.old.items) }
+{
+    let had = held.len();
+    match gather(alloc, state, held, piece, wanted)? {
+        Progress::Partial { wanted } => Ok(Step::Partial { wanted }),
+        Progress::Whole(found) => {
+            let end = found.front + found.metadata.body;
+            match Vec::from_slice(alloc, &held[found.front..end]) {
+                Ok(body) => {
+                    held.clear();
+                    Ok(Step::Whole {
+                        used: end - had,
+                        found,
+                        body,
+                    })
+                }
+                Err(refused) => {
+                    held.truncate(had);
+                    Err(StreamFault::from(refused))
+                }
+            }
+        }
+    }
+}

@@ -1,0 +1,156 @@
+//! The metadata of a message: Message.fbs, table `Message`.
+
+ghost use Rattle.std.specs.Prelude.{◌≡◌, ◌≤◌, ◌^◌, length, IfOk};
+ghost use Rattle.values.specs.Reading.{Answers, Judges};
+ghost use Rattle.schema_meta.specs.Message.{body_of, dictionary_of, header_of, header_table, kind_of, meta_of, new_schema, record_batch, version_of};
+ghost use Rattle.messages.specs.State.{IsSmall, known_of, meta_seen};
+
+use crate::batch::read_batch_header;
+use crate::declared::is_declared;
+use crate::fields::{checked, readable};
+use crate::shapes::shape_of;
+use crate::state::State;
+use flatbuf::{Buf, TableRef};
+use schema_meta::{BatchHeader, Header, MessageKind, StreamSchema, read_schema};
+use std::alloc::Global;
+use values::StreamFault;
+use values::limits::MAX_BODY_SIZE;
+
+/// What the metadata of a message says.
+#[derive(Drop)]
+pub(crate) struct Metadata {
+    pub header: Header,
+    /// The length of the body.
+    pub body: usize,
+    /// The schema that the message brings, if it is one.
+    pub schema: Option<StreamSchema>,
+}
+
+fn check_version(message: &TableRef) -> Result<(), StreamFault>
+    ensures { Judges (λ u. u) result (version_of message.now) }
+{
+    match readable(message.i16(0))?.unwrap_or(0) {
+        4 => Ok(()),
+        _ => Err(StreamFault::Version),
+    }
+}
+
+fn kind_of(message: &TableRef) -> Result<MessageKind, StreamFault>
+    ensures { Judges (λ k. k) result (kind_of message.now) }
+{
+    match readable(message.u8(1))?.unwrap_or(0) {
+        1 => Ok(MessageKind::Schema),
+        2 => Ok(MessageKind::Dictionary),
+        3 => Ok(MessageKind::Batch),
+        _ => Err(StreamFault::HeaderKind),
+    }
+}
+
+fn header_table<'a>(message: &TableRef<'a>) -> Result<TableRef<'a>, StreamFault>
+    ensures { Judges (λ t. t) result (header_table message.now) }
+{
+    match readable(message.table(2))? {
+        None => Err(StreamFault::BadTable),
+        Some(table) => Ok(table),
+    }
+}
+
+fn body_of(message: &TableRef) -> Result<usize, StreamFault>
+    ensures value { Judges (λ n. n) result (body_of message.now) }
+    ensures small { IfOk result (λ n. n ≤ 2 ^ 28) }
+{
+    let length = readable(message.i64(3))?.unwrap_or(0);
+    checked(StreamFault::BodySize, MAX_BODY_SIZE, length)
+}
+
+/// The schema of a message that comes where `state` is known.
+fn new_schema(alloc: Global, state: &State, header: &TableRef) -> Result<StreamSchema, StreamFault>
+    ensures { Answers (λ s. s.fields.items) result (new_schema (known_of state.now) header.now) }
+{
+    if state.schema.is_some() {
+        return Err(StreamFault::SecondSchema);
+    }
+    let schema = read_schema(alloc, header)?;
+    match &state.declared {
+        Some(declared) if !is_declared(declared, &schema) => Err(StreamFault::SchemaMismatch),
+        _ => Ok(schema),
+    }
+}
+
+/// No field that is taken has a dictionary, so there is none that this one could be for.
+fn refuse_dictionary(state: &State, message: &TableRef) -> Result<Metadata, StreamFault>
+    ensures { Judges meta_seen result (dictionary_of (known_of state.now) message.now) }
+{
+    if state.schema.is_none() {
+        return Err(StreamFault::NoSchema);
+    }
+    let header = header_table(message)?;
+    readable(header.i64(0))?;
+    Err(StreamFault::UnknownDictionary)
+}
+
+fn record_batch(
+    alloc: Global,
+    state: &State,
+    body: usize,
+    message: &TableRef,
+) -> Result<BatchHeader, StreamFault>
+    requires in_range { body ≤ 2 ^ 28 }
+    requires small { IsSmall (known_of state.now).schema }
+    ensures { Answers (λ b. b) result (record_batch (known_of state.now) body message.now) }
+{
+    let Some(schema) = &state.schema else {
+        return Err(StreamFault::NoSchema);
+    };
+    let header = header_table(message)?;
+    read_batch_header(alloc, &header, shape_of(schema), body)
+}
+
+#[tactic(auto, using(values::proofs::Readings::failing), unfolding(schema_meta::specs::Message::header_of))]
+fn read_header(
+    alloc: Global,
+    state: &State,
+    message: &TableRef,
+    kind: MessageKind,
+    body: usize,
+) -> Result<Metadata, StreamFault>
+    requires in_range { body ≤ 2 ^ 28 }
+    requires small { IsSmall (known_of state.now).schema }
+    ensures { Answers meta_seen result (header_of (known_of state.now) message.now kind body) }
+{
+    match kind {
+        MessageKind::Schema => {
+            let header = header_table(message)?;
+            let schema = new_schema(alloc, state, &header)?;
+            Ok(Metadata {
+                header: Header::Schema,
+                body,
+                schema: Some(schema),
+            })
+        }
+        MessageKind::Dictionary => refuse_dictionary(state, message),
+        MessageKind::Batch => Ok(Metadata {
+            header: Header::Batch(record_batch(alloc, state, body, message)?),
+            body,
+            schema: None,
+        }),
+    }
+}
+
+/// What the metadata means where `state` is known.
+#[tactic(auto, using(values::proofs::Readings::failing), unfolding(schema_meta::specs::Message::meta_of))]
+pub(crate) fn read_metadata(
+    alloc: Global,
+    state: &State,
+    bytes: &[u8],
+) -> Result<Metadata, StreamFault>
+    requires { IsSmall (known_of state.now).schema }
+    ensures { Answers meta_seen result (meta_of (known_of state.now) bytes.now) }
+{
+    let message = readable(Buf::root(bytes))?;
+    let kind = kind_of(&message)?;
+    check_version(&message)?;
+    let body = body_of(&message)?;
+    let metadata = read_header(alloc, state, &message, kind, body)?;
+    Ok(metadata)
+}
