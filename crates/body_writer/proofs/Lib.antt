@@ -1,0 +1,9 @@
+pub mod Steps
+pub mod Bits
+pub mod Grown
+pub mod Weighing
+pub mod Sizes
+pub mod Standing
+pub mod ReadBack
+pub mod BitsBack
+pub mod Short
