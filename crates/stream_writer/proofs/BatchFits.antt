@@ -1,0 +1,58 @@
+-- Each batch within the limits has a header that can be written.
+use Rattle.std.proofs.Common.{◌≡◌, ℕ, ◌+◌, ◌*◌, ◌^◌, ◌<◌, ◌≤◌, List, [], ◌∷◌, ◌++◌, length, get_or, drop, append_assoc, refl, ap, sym, ◌∙◌, arith}
+use Rattle.std.proofs.lemmas.List.{drop_more}
+use Rattle.byteorder.specs.Endian.{little_bytes}
+use Rattle.flatbuf.specs.Tree.{table}
+use Rattle.flatbuf.specs.Written.{object_end, table_end, items_place, Fits, IsWritable}
+use Rattle.schema_meta.specs.declared.write.HeaderKind.TheVariants.{RecordBatch}
+use Rattle.schema_meta.specs.MessageTree.{message_slots}
+use Rattle.schema_meta.proofs.SchemaFits.{table_place-le, items_place-le, number-fits}
+use Rattle.body_writer.specs.declared.body.Node.{Node}
+use Rattle.body_writer.specs.declared.body.Span.{Span}
+use Rattle.body_writer.proofs.Sizes.{body_bytes-short, body_spans-few, body_nodes-few}
+use Rattle.stream_writer.specs.Batch.{node_bytes, span_bytes, batch_slots}
+
+pub node_bytes-length : (ns : List Node) → length (node_bytes ns) ≡ 16 * length ns
+node_bytes-length [] = refl
+node_bytes-length (n ∷ ns) = let rest = node_bytes-length ns in omega (arith, rest)
+
+pub span_bytes-length : (ss : List Span) → length (span_bytes ss) ≡ 16 * length ss
+span_bytes-length [] = refl
+span_bytes-length (s ∷ ss) = let rest = span_bytes-length ss in omega (arith, rest)
+
+pub batch-end : (rows body : ℕ) (ns : List Node) (ss : List Span) → length ns ≤ 1024 → length ss ≤ 3072 →
+    object_end 4 (table (message_slots RecordBatch (batch_slots rows ns ss) body)) < 2 ^ 17
+batch-end rows body ns ss few fewer =
+    let message : ℕ = table_end 4 (message_slots RecordBatch (batch_slots rows ns ss) body) in
+    let begin : message ≤ 64 = omega arith in
+    let header : ℕ = table_end message (batch_slots rows ns ss) in
+    let place = table_place-le message (batch_slots rows ns ss) in
+    let nodes = items_place-le header in
+    let spans = items_place-le (items_place header + length (node_bytes ns)) in
+    omega (arith, begin, place, nodes, spans, few, fewer, node_bytes-length ns, span_bytes-length ss)
+
+pub batch-writable : (rows body : ℕ) (ns : List Node) (ss : List Span) → length ns ≤ 1024 → length ss ≤ 3072 → rows < 2 ^ 64 → body < 2 ^ 64 →
+    IsWritable (message_slots RecordBatch (batch_slots rows ns ss) body)
+batch-writable rows body ns ss few fewer high higher =
+    let end = batch-end rows body ns ss few fewer in
+    let fits : Fits (table (batch_slots rows ns ss)) = (omega arith, omega arith, (number-fits 8 rows (omega arith) (omega arith) high, (omega arith, (omega arith, tt)))) in
+    record {
+      fits = (omega arith, omega arith, (number-fits 2 4 (omega arith) (omega arith) (omega arith), (number-fits 1 3 (omega arith) (omega arith) (omega arith), (fits, (number-fits 8 body (omega arith) (omega arith) higher, tt)))));
+      short = omega (arith, end);
+    }
+
+pub ruleset batch_fits = (batch-end, batch-writable, body_spans-few, body_nodes-few)
+
+-- one more node, one more span
+
+pub nodes-more : (out : List ℕ) (ns : List Node) (i : ℕ) (d : Node) → i < length ns →
+    (out ++ (little_bytes 8 (get_or ns i d).length ++ little_bytes 8 (get_or ns i d).nulls)) ++ node_bytes (drop (i + 1) ns) ≡ out ++ node_bytes (drop i ns)
+nodes-more out ns i d h =
+    let pair = little_bytes 8 (get_or ns i d).length ++ little_bytes 8 (get_or ns i d).nulls in
+    append_assoc out pair (node_bytes (drop (i + 1) ns)) ∙ ap (λ xs. out ++ node_bytes xs) (sym (drop_more ns i d h))
+
+pub spans-more : (out : List ℕ) (ss : List Span) (i : ℕ) (d : Span) → i < length ss →
+    (out ++ (little_bytes 8 (get_or ss i d).offset ++ little_bytes 8 (get_or ss i d).length)) ++ span_bytes (drop (i + 1) ss) ≡ out ++ span_bytes (drop i ss)
+spans-more out ss i d h =
+    let pair = little_bytes 8 (get_or ss i d).offset ++ little_bytes 8 (get_or ss i d).length in
+    append_assoc out pair (span_bytes (drop (i + 1) ss)) ∙ ap (λ xs. out ++ span_bytes xs) (sym (drop_more ss i d h))

@@ -1,0 +1,91 @@
+-- One more piece goes out, or the writer stops.
+use Rattle.std.proofs.Common.{◌≡◌, ℕ, ◌+◌, ◌≤◌, List, [], ◌++◌, length, take, drop, refl, ap, sym, ◌∙◌, arith, length-drop, Option, Some, None, Result, Ok, Err, length-append}
+use Rattle.std.specs.Prelude.{◌≢◌, ◌↔◌}
+use Rattle.std.proofs.lemmas.List.{append-nil}
+use Rattle.std.proofs.lemmas.List.{take-append-le, drop-drop, drop_at}
+use Rattle.std.proofs.Common.{inl, inr}
+use Rattle.std.proofs.lemmas.Bool.{cases_eq}
+use Rattle.std.proofs.Math.Seq.{take-add}
+use Rattle.std.specs.Io.KnownBytes.{Appends}
+use Rattle.stream_writer.specs.Sinks.{Sunk, Writes, written_of, IsWhole, IsDevice, fault_after}
+use Rattle.stream_writer.specs.Went.{Went}
+use Rattle.stream_writer.specs.declared.faults.WriteFault.{WriteFault}
+use Rattle.stream_writer.specs.declared.faults.WriteFault.TheVariants.{Memory, Device}
+use Rattle.stream_writer.proofs.Puts.{Appends-then}
+
+nothing : (known : Option (List ℕ)) → Appends known known []
+nothing None = tt
+nothing (Some xs) = sym (append-nil xs)
+
+-- nothing is out yet
+pub Went-start : (start : Sunk) (whole : List ℕ) → Went start start 0 whole whole
+Went-start start whole = record { bytes = nothing start.taken; left = refl; bound = omega arith; failures = refl }
+
+-- where no failure is answered, none was counted
+same-failures : (old new : Sunk) (answer : Result ℕ WriteFault) (whole : List ℕ) → Writes old new answer whole → ¬ (IsDevice answer) → new.failures ≡ old.failures
+same-failures old new answer whole writes h =
+    elim (cases_eq old.failures new.failures) [ inl e ↦ sym e | inr ne ↦ absurd (h (writes.device.1 ne)) ]
+
+no-device : (old new : Sunk) → new.failures ≡ old.failures → ⊥ ↔ (old.failures ≢ new.failures)
+no-device old new e = (λ h. absurd h, λ h. h (sym e))
+
+-- what stops within the next piece
+stop-in : (start old new : Sunk) (written k : ℕ) (whole piece rest : List ℕ) → Went start old written whole (piece ++ rest) → (answer later : Result ℕ WriteFault) →
+    written_of answer ≡ k → written_of later ≡ written + k → IsWhole later whole → Writes old new answer piece → (IsDevice later ↔ (start.failures ≢ new.failures)) → Writes start new later whole
+stop-in start old new written k whole piece rest went answer later is after complete writes device =
+    let left = ap length went.left in
+    let room = length-drop written whole in
+    let both = length-append piece rest in
+    let bound = went.bound in
+    let inside = writes.bound in
+    let few : k ≤ length piece = omega (arith, inside, is) in
+    let out : take k (drop written whole) ≡ take k piece = rw went.left (take-append-le k piece rest few) in
+    let put = rw is at writes.bytes in
+    record {
+      bytes = rw (after, take-add written k whole, out) (Appends-then start.taken old.taken new.taken (take written whole) (take k piece) went.bytes put);
+      bound = omega (arith, after, left, room, both, bound, few);
+      complete = complete;
+      device = device;
+    }
+
+-- the next piece went out
+pub Went-on : (start old new : Sunk) (written more : ℕ) (whole piece rest : List ℕ) → Went start old written whole (piece ++ rest) → Writes old new (Ok more) piece →
+    Went start new (written + more) whole rest
+Went-on start old new written more whole piece rest went writes =
+    let n : more ≡ length piece = writes.complete in
+    let after = length-drop written whole in
+    let left = ap length went.left in
+    let both = length-append piece rest in
+    let bound = went.bound in
+    let out : take more (drop written whole) ≡ take more piece = rw went.left (take-append-le more piece rest (omega (arith, n))) in
+    let end : drop (written + more) whole ≡ rest =
+    sym (drop-drop more written whole) ∙ rw (went.left, n) (drop_at piece rest (length piece) refl) in
+    record {
+      bytes = rw (take-add written more whole, out) (Appends-then start.taken old.taken new.taken (take written whole) (take more piece) went.bytes writes.bytes);
+      left = end;
+      bound = omega (arith, n, after, left, both, bound);
+      failures = same-failures old new (Ok more) piece writes (λ h. h) ∙ went.failures;
+    }
+
+-- the sink failed, or memory was refused, within the next piece
+pub Went-stop : (start old new : Sunk) (written : ℕ) (fault : WriteFault) (whole piece rest : List ℕ) → Went start old written whole (piece ++ rest) → Writes old new (Err fault) piece →
+    Writes start new (Err (fault_after written fault)) whole
+Went-stop start old new written (Memory k) whole piece rest went writes =
+    stop-in start old new written k whole piece rest went (Err (Memory k)) (Err (Memory (written + k))) refl refl tt writes
+    ((λ h. absurd h), (λ h. h (sym went.failures ∙ sym (same-failures old new (Err (Memory k)) piece writes (λ d. d)))))
+Went-stop start old new written (Device k) whole piece rest went writes =
+    stop-in start old new written k whole piece rest went (Err (Device k)) (Err (Device (written + k))) refl refl tt writes
+    ((λ h e. writes.device.0 tt (went.failures ∙ e)), (λ h. tt))
+
+-- memory was refused before the next piece
+pub Went-memory : (start now : Sunk) (written : ℕ) (whole rest : List ℕ) → Went start now written whole rest → Writes start now (Err (Memory written)) whole
+Went-memory start now written whole rest went =
+    record { bytes = went.bytes; bound = went.bound; complete = tt; device = no-device start now went.failures }
+
+-- all is out
+pub Went-end : (start now : Sunk) (written : ℕ) (whole : List ℕ) → Went start now written whole [] → Writes start now (Ok written) whole
+Went-end start now written whole went =
+    let left = ap length went.left in
+    let room = length-drop written whole in
+    let bound = went.bound in
+    record { bytes = went.bytes; bound = went.bound; complete = omega (arith, left, room, bound); device = no-device start now went.failures }

@@ -1,0 +1,172 @@
+-- The canonical stream of a table is read as the table.
+use Rattle.std.proofs.Common.{Option, ◌≡◌, ℕ, zero, suc, ◌+◌, ◌*◌, ◌/◌, ◌-◌, ◌^◌, ◌<◌, ◌≤◌, List, [], ◌∷◌, ◌++◌, length, take, drop, Some, None, Ok, refl, ap, sym, subst, ◌∙◌, arith, append_assoc, length-append, length-drop}
+use Rattle.std.specs.Prelude.{All, slice_range}
+use Rattle.std.proofs.lemmas.List.{take-append-drop}
+use Rattle.std.proofs.lemmas.List.Elements.{All-take, All-drop}
+use Rattle.flatbuf.specs.Tree.{Nodes, table}
+use Rattle.flatbuf.specs.Written.{whole, object_end, IsWritable}
+use Rattle.flatbuf.proofs.Ends.{object_end-le}
+use Rattle.flatbuf.proofs.Lengths.{whole-length}
+use Rattle.values.specs.Datum.{Datum}
+use Rattle.values.specs.Logical.{LogicalField}
+use Rattle.schema_meta.specs.declared.write.HeaderKind.TheVariants.{Schema, RecordBatch}
+use Rattle.schema_meta.specs.Stage.{Known, Meta, Whole, end_of}
+use Rattle.schema_meta.specs.Sound.{after}
+use Rattle.schema_meta.specs.Message.{meta_of, brings_schema, brings_batch}
+use Rattle.schema_meta.specs.MessageTree.{message_slots}
+use Rattle.schema_meta.specs.SchemaTree.{schema_slots, schema_metadata, AreColumns}
+use Rattle.schema_meta.specs.SchemaLaw.{stored_fields, AreNamed, before, AreExpected}
+use Rattle.schema_meta.specs.Framing.{first}
+use Rattle.schema_meta.specs.Story.{Story, knowing, told_by, told, story, story_of}
+use Rattle.schema_meta.proofs.SchemaFits.{schema-end, schema-writable}
+use Rattle.schema_meta.proofs.SchemaRead.{schema-law}
+use Rattle.body_writer.specs.Body.{body_bytes, body_nodes, body_spans}
+use Rattle.body_writer.specs.Weights.{IsBatch}
+use Rattle.body_writer.proofs.Sizes.{body_nodes-few, body_spans-few}
+use Rattle.body_writer.proofs.Short.{short-body}
+use Rattle.stream_writer.specs.Batch.{batch_slots, batch_metadata}
+use Rattle.stream_writer.specs.BatchLaw.{head}
+use Rattle.stream_writer.specs.Stream.{message, end_mark, schema_message, batch_message, batch_len, batches, canon}
+use Rattle.stream_writer.specs.Table.{IsRow, IsTable}
+use Rattle.stream_writer.specs.RowsLaw.{AreTyped}
+use Rattle.stream_writer.specs.RoundTrip.{whole_story, RoundTrip, DeclaredTrip}
+use Rattle.stream_writer.proofs.BatchFits.{batch-end, batch-writable}
+use Rattle.stream_writer.proofs.Cut.{batch-some, batch-sound}
+use Rattle.stream_writer.proofs.BatchRead.{batch-law}
+use Rattle.stream_writer.proofs.FramingRead.{first-law, message-left, message-body, last-law}
+use Rattle.stream_writer.proofs.RowsRead.{rows-law}
+use Rattle.stream_writer.proofs.Tests.{not-zero}
+
+-- how long metadata is
+
+record IsShort (metadata : List ℕ) : Type 0 where
+  some : 0 < length metadata
+  small : length metadata ≤ 2 ^ 24
+
+whole-short : (s : Nodes) → IsWritable s → object_end 4 (table s) < 2 ^ 23 → IsShort (whole s)
+whole-short s h end =
+    let n : ℕ = object_end 4 (table s) in
+    let low : 4 ≤ n = object_end-le 4 (table s) h.fits in
+    let high : n < 2 ^ 23 = end in
+    let long : length (whole s) ≡ (n + (8 - 1)) / 8 * 8 = whole-length s h.fits in
+    record { some = omega (arith, low, long); small = omega (arith, high, long) }
+
+schema-short : (fs : List LogicalField) → AreColumns fs → IsShort (schema_metadata fs)
+unfolding schema_metadata
+schema-short fs h = whole-short (message_slots Schema (schema_slots fs) 0) (schema-writable fs h) (schema-end fs h)
+
+batch-short : (fs : List LogicalField) (rows : List (List Datum)) → IsBatch fs rows → IsShort (batch_metadata fs rows)
+unfolding batch_metadata
+batch-short fs rows b =
+    let few = b.few in
+    let short = short-body fs rows b in
+    let ns = body_nodes fs rows in
+    let ss = body_spans fs rows in
+    let body : ℕ = length (body_bytes fs rows) in
+    let end = batch-end (length rows) body ns ss (body_nodes-few fs rows b) (body_spans-few fs rows b) in
+    whole-short (message_slots RecordBatch (batch_slots (length rows) ns ss) body)
+    (batch-writable (length rows) body ns ss (body_nodes-few fs rows b) (body_spans-few fs rows b) (omega (arith, few)) (omega (arith, short)))
+    (omega (arith, end))
+
+-- one message
+
+told-whole : (n : ℕ) (known : Known) (bytes body rest : List ℕ) (w : Whole) → slice_range bytes w.front (end_of w) ≡ body → drop (end_of w) bytes ≡ rest →
+    told (story n) known bytes (Ok (Some w)) ≡ told_by (after known w.meta.schema) (story n (after known w.meta.schema) rest) body rest w.meta.header
+unfolding told
+told-whole n known bytes body rest w cut left = rw (cut, left) refl
+
+story-next : (n : ℕ) (known : Known) (bytes : List ℕ) (w : Whole) (s : Story) → 0 < length bytes → first known bytes ≡ Ok (Some w) → told (story n) known bytes (Ok (Some w)) ≡ s →
+    story (suc n) known bytes ≡ knowing known.schema s
+unfolding story
+story-next n known bytes w s some e told-is = rw (not-zero (length bytes) some, e, told-is) refl
+
+message-told : (n : ℕ) (known : Known) (metadata body rest : List ℕ) (m : Meta) → IsShort metadata → m.body ≡ length body → meta_of known metadata ≡ Ok m →
+    story (suc n) known (message metadata body ++ rest) ≡ knowing known.schema (told_by (after known m.schema) (story n (after known m.schema) rest) body rest m.header)
+message-told n known metadata body rest m short e read =
+    let bytes = message metadata body ++ rest in
+    let w : Whole = record { front = 8 + length metadata; meta = m } in
+    let P : ℕ → Type 0 = λ k. slice_range bytes (8 + length metadata) (8 + length metadata + k) ≡ body in
+    let Q : ℕ → Type 0 = λ k. drop (8 + length metadata + k) bytes ≡ rest in
+    let cut : slice_range bytes w.front (end_of w) ≡ body = subst P (sym e) (message-body metadata body rest) in
+    let left : drop (end_of w) bytes ≡ rest = subst Q (sym e) (message-left metadata body rest) in
+    story-next n known bytes w (told_by (after known m.schema) (story n (after known m.schema) rest) body rest m.header) (omega arith)
+    (first-law known metadata body rest m short.some short.small e read) (told-whole n known bytes body rest w cut left)
+
+-- what is known once the schema came
+abbrev begun : Option (List LogicalField) → List LogicalField → Known
+begun declared fs = record { declared = declared; schema = Some (stored_fields fs) }
+
+end-told : (n : ℕ) (declared : Option (List LogicalField)) (fs : List LogicalField) → story (suc n) (begun declared fs) end_mark ≡ whole_story fs []
+unfolding story told
+end-told n declared fs = rw (last-law (begun declared fs) refl) refl
+
+batch-told : (n : ℕ) (declared : Option (List LogicalField)) (fs : List LogicalField) (rows more : List (List Datum)) (rest : List ℕ) → IsBatch fs rows → All (AreTyped fs) rows →
+    story n (begun declared fs) rest ≡ whole_story fs more → story (suc n) (begun declared fs) (batch_message fs rows ++ rest) ≡ whole_story fs (rows ++ more)
+unfolding batch_message
+batch-told n declared fs rows more rest b typed e =
+    message-told n (begun declared fs) (batch_metadata fs rows) (body_bytes fs rows) rest (brings_batch (length (body_bytes fs rows)) (head fs rows)) (batch-short fs rows b) refl (batch-law (begun declared fs) fs rows b refl)
+    ∙ rw (rows-law fs rows b typed, e) refl
+
+-- all batches, and the end mark
+
+message-long : (metadata body : List ℕ) → 8 ≤ length (message metadata body)
+message-long metadata body = omega arith
+
+batch-long : (fs : List LogicalField) (rows : List (List Datum)) → 8 ≤ length (batch_message fs rows)
+unfolding batch_message
+batch-long fs rows = message-long (batch_metadata fs rows) (body_bytes fs rows)
+
+batches-told : (n most : ℕ) (declared : Option (List LogicalField)) (fs : List LogicalField) (rows : List (List Datum)) → length rows ≤ most → length (batches fs most rows ++ end_mark) ≤ n →
+    AreColumns fs → All (IsRow fs) rows → All (AreTyped fs) rows → story n (begun declared fs) (batches fs most rows ++ end_mark) ≡ whole_story fs rows
+unfolding batches
+batches-told zero most declared fs rows few room columns sound typed = absurd (omega (arith, room, length-append (batches fs most rows) end_mark))
+batches-told (suc n) zero declared fs [] few room columns sound typed = end-told n declared fs
+batches-told (suc n) zero declared fs (row ∷ rows) few room columns sound typed = absurd (omega (arith, few))
+batches-told (suc n) (suc most) declared fs [] few room columns sound typed = end-told n declared fs
+batches-told (suc n) (suc most) declared fs (row ∷ rows) few room columns sound typed =
+    let all : List (List Datum) = row ∷ rows in
+    let k : ℕ = batch_len fs all in
+    let mine = batch_message fs (take k all) in
+    let others = batches fs most (drop k all) in
+    let one = batch-some fs all (omega arith) sound in
+    let left = length-drop k all in
+    let long = batch-long fs (take k all) in
+    let sum = length-append (mine ++ others) end_mark in
+    let sum' = length-append mine others in
+    let sum'' = length-append others end_mark in
+    let rest = batches-told n most declared fs (drop k all) (omega (arith, few, one, left)) (omega (arith, room, long, sum, sum', sum'')) columns (All-drop (IsRow fs) k all sound) (All-drop (AreTyped fs) k all typed) in
+    ap (story (suc n) (begun declared fs)) (append_assoc mine others end_mark)
+    ∙ batch-told n declared fs (take k all) (drop k all) (others ++ end_mark) (batch-sound fs all columns sound) (All-take (AreTyped fs) k all typed) rest
+    ∙ ap (whole_story fs) (take-append-drop k all)
+
+schema-told : (n : ℕ) (declared : Option (List LogicalField)) (fs : List LogicalField) (rows : List (List Datum)) (rest : List ℕ) → AreColumns fs → AreNamed fs → AreExpected declared fs →
+    story n (begun declared fs) rest ≡ whole_story fs rows → story (suc n) (before declared) (schema_message fs ++ rest) ≡ whole_story fs rows
+unfolding schema_message
+schema-told n declared fs rows rest columns named same e =
+    message-told n (before declared) (schema_metadata fs) [] rest (brings_schema 0 (stored_fields fs)) (schema-short fs columns) refl (schema-law declared fs columns named same) ∙ e
+
+schema-long : (fs : List LogicalField) → 8 ≤ length (schema_message fs)
+unfolding schema_message
+schema-long fs = message-long (schema_metadata fs) []
+
+trip :
+    (declared : Option (List LogicalField)) (fs : List LogicalField) (rows : List (List Datum)) → IsTable fs rows → AreNamed fs
+    → All (AreTyped fs) rows → AreExpected declared fs
+    → story (length (canon fs rows)) (before declared) (canon fs rows) ≡ whole_story fs rows
+unfolding canon
+trip declared fs rows t named typed same =
+    let rest = batches fs (length rows) rows ++ end_mark in
+    let bytes = schema_message fs ++ rest in
+    let n : ℕ = length bytes - 1 in
+    let long = schema-long fs in
+    let sum = length-append (schema_message fs) rest in
+    let fuel : suc n ≡ length bytes = omega (arith, long, sum) in
+    let P : ℕ → Type 0 = λ k. story k (before declared) bytes ≡ whole_story fs rows in
+    subst P fuel (schema-told n declared fs rows rest t.columns named same (batches-told n (length rows) declared fs rows (omega arith) (omega (arith, long, sum)) t.columns t.sound typed))
+
+pub round-trip : RoundTrip
+unfolding story_of
+round-trip fs rows t named typed = trip None fs rows t named typed tt
+
+pub declared-trip : DeclaredTrip
+declared-trip fs rows t named typed = trip (Some fs) fs rows t named typed refl

@@ -1,0 +1,11 @@
+pub mod Sinks
+pub mod Batch
+pub mod Stream
+pub mod Table
+pub mod Went
+pub mod Sample
+pub mod CutLaw
+pub mod BatchLaw
+pub mod FramingLaw
+pub mod RowsLaw
+pub mod RoundTrip

@@ -1,0 +1,24 @@
+-- The canonical stream of a table is read as the table.
+use Rattle.std.specs.Prelude.{◌≡◌, List, length, All, Some, Ok}
+use Rattle.values.specs.Datum.{Datum}
+use Rattle.values.specs.Logical.{LogicalField}
+use Rattle.schema_meta.specs.SchemaLaw.{stored_fields, AreNamed, before}
+use Rattle.schema_meta.specs.Story.{Story, story, story_of}
+use Rattle.stream_writer.specs.Stream.{canon}
+use Rattle.stream_writer.specs.Table.{IsTable}
+use Rattle.stream_writer.specs.RowsLaw.{AreTyped}
+
+-- the columns, the rows in order, and an end without fault
+abbrev pub whole_story : List LogicalField → List (List Datum) → Story
+whole_story fs rows = record { schema = Some (stored_fields fs); rows = rows; end = Ok tt }
+
+abbrev pub RoundTrip : Type 0
+RoundTrip =
+    (fs : List LogicalField) (rows : List (List Datum)) → IsTable fs rows → AreNamed fs → All (AreTyped fs) rows
+    → story_of (canon fs rows) ≡ whole_story fs rows
+
+-- the same where these columns were declared for the stream
+abbrev pub DeclaredTrip : Type 0
+DeclaredTrip =
+    (fs : List LogicalField) (rows : List (List Datum)) → IsTable fs rows → AreNamed fs → All (AreTyped fs) rows
+    → story (length (canon fs rows)) (before (Some fs)) (canon fs rows) ≡ whole_story fs rows

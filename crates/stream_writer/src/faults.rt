@@ -1,0 +1,30 @@
+//! Why a table was not written whole.
+
+ghost use Rattle.std.specs.Prelude.{◌≡◌, ◌+◌, ◌^◌, ◌<◌, Ok, Err};
+ghost use Rattle.stream_writer.specs.Sinks.{written_of, fault_after};
+
+/// Why not all was written. `written` is how many bytes the sink took all the same, from the first on.
+#[derive(Clone, Copy, Debug, PartialEq, Eq)]
+pub enum WriteFault {
+    /// Memory was refused.
+    Memory { written: u64 },
+    /// The sink failed.
+    Device { written: u64 },
+}
+
+impl WriteFault {
+    /// The same fault, where `before` bytes had gone out already.
+    pub(crate) fn after(self, before: u64) -> WriteFault
+        requires { before + written_of (Err self) < 2 ^ 64 }
+        ensures { result ≡ fault_after before self }
+    {
+        match self {
+            WriteFault::Memory { written } => WriteFault::Memory {
+                written: before + written,
+            },
+            WriteFault::Device { written } => WriteFault::Device {
+                written: before + written,
+            },
+        }
+    }
+}

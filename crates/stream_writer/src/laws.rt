@@ -1,0 +1,39 @@
+//! Laws of the definitions, each the contract of a function that does nothing.
+
+ghost use Rattle.stream_writer.specs.BatchLaw.{BatchLaw};
+ghost use Rattle.stream_writer.specs.CutLaw.{CutLaw};
+ghost use Rattle.stream_writer.specs.FramingLaw.{FirstLaw, LastLaw};
+ghost use Rattle.stream_writer.specs.RoundTrip.{DeclaredTrip, RoundTrip};
+ghost use Rattle.stream_writer.specs.RowsLaw.{RowsLaw};
+
+/// The batches of a table, joined, are its rows. Each is within the limits, and none could have taken
+/// the next row too.
+pub fn cut_law()
+    ensures { CutLaw }
+{}
+
+/// The metadata that is written of a batch is read, where the schema is known, as the counts of its
+/// arrays and the places of its buffers, with no fault.
+pub fn batch_law()
+    ensures { BatchLaw }
+{}
+
+/// A written message whose metadata is read is found whole at the front of any bytes, and so is the end
+/// mark.
+pub fn framing_law()
+    ensures first { FirstLaw }
+    ensures last { LastLaw }
+{}
+
+/// The body that is written for rows whose cells are of their columns' types is read, by the header that
+/// is written for it, as those rows.
+pub fn rows_law()
+    ensures { RowsLaw }
+{}
+
+/// The canonical stream of each table within the limits is read as that table: its columns, its rows in
+/// order, and an end without fault; also where its columns were declared for the stream.
+pub fn canon_law()
+    ensures alone { RoundTrip }
+    ensures declared { DeclaredTrip }
+{}

@@ -1,0 +1,21 @@
+//! Writing a table as its canonical stream.
+//!
+//! `specs/Stream.antt` says which bytes these are, `specs/Sinks.antt` what a writer does to a sink,
+//! `specs/Table.antt` which tables can be written, `specs/CutLaw.antt` what the cut into batches keeps.
+#![tactic(auto)]
+
+mod faults;
+mod laws;
+mod memory;
+mod messages;
+mod sink;
+mod table;
+
+pub use faults::WriteFault;
+pub use laws::{batch_law, canon_law, cut_law, framing_law, rows_law};
+pub use memory::MemorySink;
+pub use sink::{DeviceFault, Sink, put_all};
+pub use table::write_table;
+
+#[cfg(test)]
+mod tests;

@@ -1,0 +1,117 @@
+//! The messages of a stream, each as its bytes.
+
+ghost use Rattle.std.specs.Prelude.{ℕ, ◌≡◌, ◌+◌, ◌*◌, ◌^◌, ◌<◌, ◌≤◌, ◌++◌, IfOk, length};
+ghost use Rattle.byteorder.specs.Endian.{little_bytes};
+ghost use Rattle.flatbuf.specs.Built.{slots};
+ghost use Rattle.schema_meta.specs.SchemaTree.{AreColumns};
+ghost use Rattle.body_writer.specs.Body.{cells, body_bytes, body_nodes, body_spans};
+ghost use Rattle.body_writer.specs.Weights.{IsBatch};
+ghost use Rattle.stream_writer.specs.Batch.{node_bytes as nodes_as, span_bytes as spans_as, batch_slots, batch_whole};
+ghost use Rattle.stream_writer.specs.Stream as stream;
+
+use body_writer::{Body, Node, Span, write_body};
+use byteorder::{ByteOrder, LittleEndian};
+use flatbuf::Builder;
+use schema_meta::{HeaderKind, write_message, write_schema};
+use std::alloc::{AllocError, Global};
+use values::{Row, Schema};
+
+/// A message of this metadata and body.
+fn message(alloc: Global, metadata: &[u8], body: &[u8]) -> Result<Vec<u8>, AllocError>
+    requires metadata { length metadata.now < 2 ^ 32 }
+    requires body { length body.now ≤ 2 ^ 38 }
+    ensures { IfOk result (λ bytes. bytes.items ≡ stream.message metadata.now body.now) }
+{
+    let mut prefix = [255u8; 8];
+    LittleEndian::write_u32(&mut prefix[4..], metadata.len() as u32);
+    let mut bytes = Vec::with_capacity(alloc, 8 + metadata.len() + body.len())?;
+    bytes.extend_from_slice(&prefix)?;
+    bytes.extend_from_slice(metadata)?;
+    bytes.extend_from_slice(body)?;
+    Ok(bytes)
+}
+
+/// The Schema message of a table.
+#[tactic(auto, unfolding(crate::specs::Stream::schema_message))]
+pub fn schema_message(alloc: Global, schema: &Schema) -> Result<Vec<u8>, AllocError>
+    requires { AreColumns schema.now.fields.items }
+    ensures bytes { IfOk result (λ bytes. bytes.items ≡ stream.schema_message schema.now.fields.items) }
+    ensures size { IfOk result (λ bytes. length bytes.items ≤ 2 ^ 39) }
+{
+    let metadata = write_schema(alloc, schema)?;
+    let bytes = message(alloc, &metadata, &[])?;
+    Ok(bytes)
+}
+
+fn node_bytes(alloc: Global, nodes: &[Node]) -> Result<Vec<u8>, AllocError>
+    requires { length nodes.now ≤ 2 ^ 16 }
+    ensures { IfOk result (λ bytes. bytes.items ≡ nodes_as nodes.now) }
+{
+    let mut bytes = Vec::with_capacity(alloc, 16 * nodes.len())?;
+    for node in nodes {
+        bytes.extend_from_slice(&pair(node.length, node.nulls))?;
+    }
+    Ok(bytes)
+}
+
+fn span_bytes(alloc: Global, spans: &[Span]) -> Result<Vec<u8>, AllocError>
+    requires { length spans.now ≤ 2 ^ 16 }
+    ensures { IfOk result (λ bytes. bytes.items ≡ spans_as spans.now) }
+{
+    let mut bytes = Vec::with_capacity(alloc, 16 * spans.len())?;
+    for span in spans {
+        bytes.extend_from_slice(&pair(span.offset, span.length))?;
+    }
+    Ok(bytes)
+}
+
+/// A struct of two numbers of 64 bits.
+fn pair(first: u64, second: u64) -> [u8; 16]
+    ensures { result ≡ little_bytes 8 first ++ little_bytes 8 second }
+{
+    let mut bytes = [0u8; 16];
+    LittleEndian::write_u64(&mut bytes, first);
+    LittleEndian::write_u64(&mut bytes[8..], second);
+    bytes
+}
+
+/// The record batch of these rows.
+#[tactic(auto, using(crate::proofs::BatchFits::batch_fits), unfolding(crate::specs::Stream::batch_message, crate::specs::Batch::batch_metadata))]
+pub fn batch_message(alloc: Global, schema: &Schema, rows: &[Row]) -> Result<Vec<u8>, AllocError>
+    requires { IsBatch schema.now.fields.items (cells rows.now) }
+    ensures bytes { IfOk result (λ bytes. bytes.items ≡ stream.batch_message schema.now.fields.items (cells rows.now)) }
+    ensures size { IfOk result (λ bytes. length bytes.items ≤ 2 ^ 39) }
+{
+    let body = write_body(alloc, schema, rows)?;
+    let metadata = batch_metadata(alloc, rows.len() as u64, &body)?;
+    let bytes = message(alloc, &metadata, &body.bytes)?;
+    Ok(bytes)
+}
+
+fn batch_header(alloc: Global, rows: u64, body: &Body) -> Result<Builder, AllocError>
+    requires nodes { length body.now.nodes.items ≤ 1024 }
+    requires spans { length body.now.spans.items ≤ 3072 }
+    ensures { IfOk result (λ header. slots header ≡ batch_slots rows body.now.nodes.items body.now.spans.items) }
+{
+    let mut header = Builder::new(alloc);
+    header.u64(rows)?;
+    header.structs(16, node_bytes(alloc, &body.nodes)?)?;
+    header.structs(16, span_bytes(alloc, &body.spans)?)?;
+    Ok(header)
+}
+
+fn batch_metadata(alloc: Global, rows: u64, body: &Body) -> Result<Vec<u8>, AllocError>
+    requires nodes { length body.now.nodes.items ≤ 1024 }
+    requires spans { length body.now.spans.items ≤ 3072 }
+    ensures bytes { IfOk result (λ bytes. bytes.items ≡ batch_whole rows body.now.nodes.items body.now.spans.items (length body.now.bytes.items)) }
+    ensures size { IfOk result (λ bytes. length bytes.items < 2 ^ 24) }
+{
+    let header = batch_header(alloc, rows, body)?;
+    let bytes = write_message(
+        alloc,
+        HeaderKind::RecordBatch,
+        header,
+        body.bytes.len() as u64,
+    )?;
+    Ok(bytes)
+}

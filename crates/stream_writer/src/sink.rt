@@ -1,0 +1,47 @@
+//! Where bytes go.
+
+ghost use Rattle.std.specs.Prelude.{◌≡◌, ◌+◌, ◌^◌, ◌<◌, ◌≤◌, length, IfErr};
+
+use crate::faults::WriteFault;
+
+/// A sink could not take what it was given.
+#[derive(Clone, Copy, Debug, PartialEq, Eq)]
+pub struct DeviceFault;
+
+/// Takes bytes, as a file or a socket does.
+///
+/// An impl says by `sunk` which bytes it has taken, where it can tell, and how often it failed. Since a
+/// value can't count for ever, failures are counted modulo 2^64.
+pub trait Sink {
+    ghost use Rattle.stream_writer.specs.Sinks.{Sunk, Puts};
+
+    ghost sunk: { Self → Sunk };
+
+    /// Takes some first bytes of the piece, and answers how many. An error, or 0 for a piece that is
+    /// not empty, is one failure.
+    fn put(&mut self, piece: &[u8]) -> Result<usize, DeviceFault>
+        ensures { Puts (sunk self.old) (sunk self.new) result piece.now };
+}
+
+ghost use Rattle.stream_writer.specs.Sinks.{Writes, IsDeviceFault};
+
+/// Puts all bytes, in as many pieces as the sink asks for.
+pub fn put_all<S: Sink>(sink: &mut S, bytes: &[u8]) -> Result<u64, WriteFault>
+    ensures writes { Writes (S.sunk sink.old) (S.sunk sink.new) result bytes.now }
+    ensures stops { IfErr result IsDeviceFault }
+{
+    let mut written = 0;
+    while written < bytes.len() {
+        let taken = match sink.put(&bytes[written..]) {
+            Ok(taken) => taken,
+            Err(DeviceFault) => 0,
+        };
+        if taken == 0 {
+            return Err(WriteFault::Device {
+                written: written as u64,
+            });
+        }
+        written += taken;
+    }
+    Ok(written as u64)
+}
