@@ -1,0 +1,112 @@
+-- From the table that was read to the bytes that are put.
+use Rattle.std.proofs.Common.{◌≡◌, ◌⊎◌, inl, inr, ℕ, List, Result, Ok, Err, refl, sym, subst}
+use Rattle.values.specs.Datum.{Datum}
+use Rattle.values.specs.Logical.{LogicalField}
+use Rattle.values.specs.declared.causes.Cause.{Cause}
+use Rattle.values.specs.declared.causes.Cause.TheVariants as cause
+use Rattle.values.specs.StreamCauses.{cause_of}
+use Rattle.values.specs.declared.faults.StreamFault.{StreamFault}
+use Rattle.values.specs.declared.faults.StreamFault.TheVariants as fault
+use Rattle.schema_meta.specs.Story.{Story}
+use Rattle.stream_writer.specs.Sinks.{Sunk, Writes}
+use Rattle.stream_writer.specs.Stream.{canon}
+use Rattle.stream_writer.specs.declared.faults.WriteFault.{WriteFault}
+use Rattle.liveviews.specs.Steps.{Means, Refuses}
+use Rattle.liveviews.specs.Recast.{WritesTable, IsUntouched, Stops}
+
+untouched : (old : Sunk) → IsUntouched old old 0
+untouched old = record { same = refl; none = refl }
+
+-- no fault of a stream is the device's
+no-device : (f : StreamFault) → cause_of f ≡ cause.Device → ⊥
+no-device fault.NoContinuation e = absurd (cc)
+no-device fault.BadSize e = absurd (cc)
+no-device fault.BadTable e = absurd (cc)
+no-device fault.BadName e = absurd (cc)
+no-device fault.Version e = absurd (cc)
+no-device fault.HeaderKind e = absurd (cc)
+no-device fault.BodySize e = absurd (cc)
+no-device fault.NoSchema e = absurd (cc)
+no-device fault.SecondSchema e = absurd (cc)
+no-device fault.BigEndian e = absurd (cc)
+no-device fault.UnsupportedType e = absurd (cc)
+no-device fault.BadType e = absurd (cc)
+no-device fault.TooManyFields e = absurd (cc)
+no-device fault.Compressed e = absurd (cc)
+no-device fault.DictionaryClash e = absurd (cc)
+no-device fault.UnknownDictionary e = absurd (cc)
+no-device fault.DictionaryTooLarge e = absurd (cc)
+no-device fault.NodeCount e = absurd (cc)
+no-device fault.BufferCount e = absurd (cc)
+no-device fault.BadLength e = absurd (cc)
+no-device fault.BufferRange e = absurd (cc)
+no-device fault.BufferShort e = absurd (cc)
+no-device fault.NullCount e = absurd (cc)
+no-device fault.Offsets e = absurd (cc)
+no-device fault.NotUtf8 e = absurd (cc)
+no-device fault.DictionaryIndex e = absurd (cc)
+no-device fault.DecimalRange e = absurd (cc)
+no-device fault.SchemaMismatch e = absurd (cc)
+no-device fault.AfterEnd e = absurd (cc)
+no-device fault.Truncated e = absurd (cc)
+no-device fault.Memory e = absurd (cc)
+
+-- a stream that isn't taken
+pub refused-stops : (old : Sunk) (c : Cause) (s : Story) → Refuses s c → Stops old old c 0 s
+refused-stops old cause.Memory s h = inl (untouched old)
+refused-stops old cause.Device s (f, named, stands) = absurd (no-device f named)
+refused-stops old cause.NoContinuation s h = (untouched old, h)
+refused-stops old cause.BadSize s h = (untouched old, h)
+refused-stops old cause.BadTable s h = (untouched old, h)
+refused-stops old cause.BadName s h = (untouched old, h)
+refused-stops old cause.Version s h = (untouched old, h)
+refused-stops old cause.HeaderKind s h = (untouched old, h)
+refused-stops old cause.BodySize s h = (untouched old, h)
+refused-stops old cause.NoSchema s h = (untouched old, h)
+refused-stops old cause.SecondSchema s h = (untouched old, h)
+refused-stops old cause.BigEndian s h = (untouched old, h)
+refused-stops old cause.UnsupportedType s h = (untouched old, h)
+refused-stops old cause.BadType s h = (untouched old, h)
+refused-stops old cause.TooManyFields s h = (untouched old, h)
+refused-stops old cause.Compressed s h = (untouched old, h)
+refused-stops old cause.DictionaryClash s h = (untouched old, h)
+refused-stops old cause.UnknownDictionary s h = (untouched old, h)
+refused-stops old cause.DictionaryTooLarge s h = (untouched old, h)
+refused-stops old cause.NodeCount s h = (untouched old, h)
+refused-stops old cause.BufferCount s h = (untouched old, h)
+refused-stops old cause.BadLength s h = (untouched old, h)
+refused-stops old cause.BufferRange s h = (untouched old, h)
+refused-stops old cause.BufferShort s h = (untouched old, h)
+refused-stops old cause.NullCount s h = (untouched old, h)
+refused-stops old cause.Offsets s h = (untouched old, h)
+refused-stops old cause.NotUtf8 s h = (untouched old, h)
+refused-stops old cause.DictionaryIndex s h = (untouched old, h)
+refused-stops old cause.DecimalRange s h = (untouched old, h)
+refused-stops old cause.SchemaMismatch s h = (untouched old, h)
+refused-stops old cause.AfterEnd s h = (untouched old, h)
+refused-stops old cause.Truncated s h = (untouched old, h)
+refused-stops old cause.NullKey s h = (untouched old, h)
+refused-stops old cause.DuplicateKey s h = (untouched old, h)
+refused-stops old cause.UnknownKey s h = (untouched old, h)
+refused-stops old cause.TooManyRows s h = (untouched old, h)
+refused-stops old cause.CellTooHeavy s h = (untouched old, h)
+refused-stops old cause.NothingToUndo s h = (untouched old, h)
+refused-stops old cause.FeedBroken s h = (untouched old, h)
+refused-stops old cause.UnknownFeed s h = (untouched old, h)
+refused-stops old cause.UnknownView s h = (untouched old, h)
+refused-stops old cause.NotToml s h = (untouched old, h)
+refused-stops old cause.UnknownName s h = (untouched old, h)
+refused-stops old cause.DuplicateColumn s h = (untouched old, h)
+refused-stops old cause.TypeText s h = (untouched old, h)
+refused-stops old cause.ConstantType s h = (untouched old, h)
+refused-stops old cause.SumType s h = (untouched old, h)
+refused-stops old cause.OrderType s h = (untouched old, h)
+refused-stops old cause.OverLimit s h = (untouched old, h)
+refused-stops old cause.Shape s h = (untouched old, h)
+
+pub written-table :
+    (old new : Sunk) (answer : Result ℕ WriteFault) (s : Story) (fields : List LogicalField) (rows : List (List Datum)) → Means s fields rows
+    → Writes old new answer (canon fields rows) → WritesTable old new answer s
+written-table old new answer s fields rows means writes = record { fields = fields; rows = rows; means = means; writes = writes }
+
+pub ruleset recasts = (refused-stops, written-table)

@@ -1,0 +1,56 @@
+-- Row after row of a batch.
+use Rattle.std.proofs.Common.{◌≡◌, inl, inr, ℕ, zero, suc, List, [], ◌∷◌, ◌++◌, ◌+◌, ◌-◌, ◌<◌, ◌≤◌, map, Vec, refl, ap, sym, subst, ◌∙◌, arith, append_assoc, append-nil}
+use Rattle.std.proofs.lemmas.List.{map-append}
+use Rattle.std.proofs.lemmas.Bool.{cases_lt}
+use Rattle.std.specs.declared.alloc.Global.{Global}
+use Rattle.values.specs.Datum.{Datum}
+use Rattle.values.specs.declared.types.ColType.{ColType}
+use Rattle.schema_meta.specs.Rows.{row_at, rows_from, rows_in}
+use Rattle.liveviews.specs.Heavy.{IsLight}
+use Rattle.liveviews.specs.Taken.{AreLight, cells_of_rows}
+
+rows_from-step :
+    (columns : List (List Datum)) (i n : ℕ) → i < n → rows_from columns i (n - i) ≡ row_at columns i ∷ rows_from columns (i + 1) (n - (i + 1))
+unfolding rows_from
+rows_from-step columns i n below =
+    let more : n - i ≡ suc (n - (i + 1)) = omega (arith, below) in
+    ap (rows_from columns i) more
+
+pub taken-more :
+    (columns : List (List Datum)) (i n : ℕ) (rows : List (Vec Datum Global)) (row : Vec Datum Global) (whole : List (List Datum)) → i < n
+    → row.items ≡ row_at columns i → cells_of_rows rows ++ rows_from columns i (n - i) ≡ whole
+    → cells_of_rows (rows ++ row ∷ []) ++ rows_from columns (i + 1) (n - (i + 1)) ≡ whole
+taken-more columns i n rows row whole below is all =
+    let rest : List (List Datum) = rows_from columns (i + 1) (n - (i + 1)) in
+    let joined : cells_of_rows (rows ++ row ∷ []) ≡ cells_of_rows rows ++ row.items ∷ [] = map-append (λ r. r.items) rows (row ∷ []) in
+    let P : List (List Datum) → Type 0 = λ xs. cells_of_rows rows ++ xs ≡ whole in
+    let Q : List Datum → Type 0 = λ x. cells_of_rows rows ++ x ∷ rest ≡ whole in
+    ap (λ xs. xs ++ rest) joined ∙ append_assoc (cells_of_rows rows) (row.items ∷ []) rest
+    ∙ subst Q (sym is) (subst P (rows_from-step columns i n below) all)
+
+pub taken-end :
+    (columns : List (List Datum)) (i n : ℕ) (rows : List (Vec Datum Global)) (whole : List (List Datum)) → n ≤ i
+    → cells_of_rows rows ++ rows_from columns i (n - i) ≡ whole → cells_of_rows rows ≡ whole
+unfolding rows_from
+taken-end columns i n rows whole all is =
+    let none : n - i ≡ 0 = omega (arith, all) in
+    let P : ℕ → Type 0 = λ k. cells_of_rows rows ++ rows_from columns i k ≡ whole in
+    sym (append-nil (cells_of_rows rows)) ∙ subst P none is
+
+pub light-none : (types : List ColType) (columns : List (List Datum)) → AreLight types columns 0
+light-none types columns k below = absurd (omega (arith, below))
+
+pub light-more :
+    (types : List ColType) (columns : List (List Datum)) (i : ℕ) → AreLight types columns i → IsLight types (row_at columns i)
+    → AreLight types columns (i + 1)
+light-more types columns i before here k below = elim (cases_lt k i) [
+  | inl less ↦ before k less
+  | inr least ↦
+      let same : i ≡ k = omega (arith, below, least) in
+      let P : ℕ → Type 0 = λ j. IsLight types (row_at columns j) in subst P same here
+]
+
+pub light-end : (types : List ColType) (columns : List (List Datum)) (i n : ℕ) → AreLight types columns i → n ≤ i → AreLight types columns n
+light-end types columns i n light all k below = light k (omega (arith, below, all))
+
+pub ruleset taking = (taken-more, taken-end, light-none, light-more, light-end)

@@ -1,0 +1,99 @@
+-- A row's weight, cell by cell.
+use Rattle.std.proofs.Common.{◌≡◌, ◌⊎◌, inl, inr, ℕ, List, [], ◌∷◌, ◌+◌, ◌^◌, ◌<◌, ◌≤◌, length, map, drop, get_or, Some, None, IfSome, slice_get, All, refl, ap, sym, subst, ◌∙◌, arith}
+use Rattle.std.proofs.lemmas.List.{drop_more, drop_all}
+use Rattle.std.proofs.lemmas.Option.{slice_get-get_or}
+use Rattle.std.proofs.lemmas.List.Elements.{All-get_or}
+use Rattle.values.specs.Datum.{Datum, null}
+use Rattle.values.specs.Weight.{weight_of}
+use Rattle.schema_meta.specs.Rows.{row_at}
+use Rattle.liveviews.specs.CheckedColumn.{CheckedColumn, cells_in, types_in}
+use Rattle.liveviews.specs.Heavy.{row_weight, HasHeavyCell, AreLightCells, IsHeavy, IsLight}
+
+abbrev weight_left : List CheckedColumn → ℕ → ℕ
+weight_left cs k = row_weight (types_in cs) (row_at (cells_in cs) k)
+
+abbrev heavy_left : List CheckedColumn → ℕ → Type 0
+heavy_left cs k = HasHeavyCell (types_in cs) (row_at (cells_in cs) k)
+
+abbrev light_left : List CheckedColumn → ℕ → Type 0
+light_left cs k = AreLightCells (types_in cs) (row_at (cells_in cs) k)
+
+-- What is left of a row, after cells of this sum, decides whether the whole row is heavy.
+pub record Weighs (sum : ℕ) (rest columns : List CheckedColumn) (k : ℕ) : Type 0 where
+  pub cell : heavy_left rest k → IsHeavy (types_in columns) (row_at (cells_in columns) k)
+  pub row : 2 ^ 26 < sum + weight_left rest k → IsHeavy (types_in columns) (row_at (cells_in columns) k)
+  pub light : light_left rest k → sum + weight_left rest k ≤ 2 ^ 26 → IsLight (types_in columns) (row_at (cells_in columns) k)
+  pub below : sum ≤ 2 ^ 26
+
+pub weighs-all : (columns : List CheckedColumn) (k : ℕ) → Weighs 0 columns columns k
+weighs-all columns k = record {
+  cell = λ h. inl h;
+  row = λ h. inr (omega (arith, h));
+  light = λ cells whole. record { cells = cells; whole = omega (arith, whole) };
+  below = omega arith;
+}
+
+split_at :
+    (columns : List CheckedColumn) (i : ℕ) (c : CheckedColumn) → c ≡ get_or columns i c → i < length columns
+    → drop i columns ≡ c ∷ drop (i + 1) columns
+split_at columns i c is below = let P : CheckedColumn → Type 0 = λ x. drop i columns ≡ x ∷ drop (i + 1) columns in
+    subst P (sym is) (drop_more columns i c below)
+
+-- each column has a cell in row k
+pub cell_there :
+    (columns : List CheckedColumn) (i k : ℕ) (c : CheckedColumn) → c ≡ get_or columns i c → i < length columns
+    → All (λ x. k < length x.cells) columns → k < length c.cells
+cell_there columns i k c is below all =
+    let P : CheckedColumn → Type 0 = λ x. k < length x.cells in
+    subst P (sym is) (All-get_or P columns i c below all)
+
+-- the weight that a column says for the cell
+weight_is :
+    (c : CheckedColumn) (k w : ℕ) → k < length c.cells → IfSome (slice_get c.cells k) (λ d. w ≡ weight_of c.col_type d)
+    → w ≡ weight_of c.col_type (get_or c.cells k null)
+weight_is c k w below says =
+    let P = λ (o : _). IfSome o (λ d. w ≡ weight_of c.col_type d) in
+    subst P (slice_get-get_or c.cells k null below) says
+
+pub weighs-heavy :
+    (sum i k w : ℕ) (columns whole : List CheckedColumn) (c : CheckedColumn) → c ≡ get_or columns i c → i < length columns → k < length c.cells
+    → IfSome (slice_get c.cells k) (λ d. w ≡ weight_of c.col_type d) → 2 ^ 20 < w → Weighs sum (drop i columns) whole k
+    → IsHeavy (types_in whole) (row_at (cells_in whole) k)
+weighs-heavy sum i k w columns whole c is below inside says heavy left =
+    let P : List CheckedColumn → Type 0 = λ cs. Weighs sum cs whole k in
+    let here : Weighs sum (c ∷ drop (i + 1) columns) whole k = subst P (split_at columns i c is below) left in
+    here.cell (inl (omega (arith, heavy, weight_is c k w inside says)))
+
+pub weighs-over :
+    (sum i k w : ℕ) (columns whole : List CheckedColumn) (c : CheckedColumn) → c ≡ get_or columns i c → i < length columns → k < length c.cells
+    → IfSome (slice_get c.cells k) (λ d. w ≡ weight_of c.col_type d) → 2 ^ 26 < sum + w → Weighs sum (drop i columns) whole k
+    → IsHeavy (types_in whole) (row_at (cells_in whole) k)
+weighs-over sum i k w columns whole c is below inside says heavy left =
+    let P : List CheckedColumn → Type 0 = λ cs. Weighs sum cs whole k in
+    let here : Weighs sum (c ∷ drop (i + 1) columns) whole k = subst P (split_at columns i c is below) left in
+    here.row (omega (arith, heavy, weight_is c k w inside says))
+
+pub weighs-more :
+    (sum i k w : ℕ) (columns whole : List CheckedColumn) (c : CheckedColumn) → c ≡ get_or columns i c → i < length columns → k < length c.cells
+    → IfSome (slice_get c.cells k) (λ d. w ≡ weight_of c.col_type d) → w ≤ 2 ^ 20 → sum + w ≤ 2 ^ 26 → Weighs sum (drop i columns) whole k
+    → Weighs (sum + w) (drop (i + 1) columns) whole k
+weighs-more sum i k w columns whole c is below inside says light within left =
+    let P : List CheckedColumn → Type 0 = λ cs. Weighs sum cs whole k in
+    let here : Weighs sum (c ∷ drop (i + 1) columns) whole k = subst P (split_at columns i c is below) left in
+    let same : w ≡ weight_of c.col_type (get_or c.cells k null) = weight_is c k w inside says in
+    record {
+      cell = λ h. here.cell (inr h);
+      row = λ h. here.row (omega (arith, h, same));
+      light = λ cells whole. here.light (omega (arith, light, same), cells) (omega (arith, whole, same));
+      below = within;
+    }
+
+pub weighs-end :
+    (sum i k : ℕ) (columns whole : List CheckedColumn) → length columns ≤ i → Weighs sum (drop i columns) whole k
+    → IsLight (types_in whole) (row_at (cells_in whole) k)
+weighs-end sum i k columns whole all left =
+    let P : List CheckedColumn → Type 0 = λ cs. Weighs sum cs whole k in
+    let here : Weighs sum [] whole k = subst P (drop_all i columns all) left in
+    here.light tt (omega (arith, here.below))
+
+pub ruleset weighing = (weighs-all, weighs-heavy, weighs-over, weighs-more, weighs-end)

@@ -1,0 +1,6 @@
+pub mod CheckedColumn
+pub mod Heavy
+pub mod Taken
+pub mod Refused
+pub mod Steps
+pub mod Recast

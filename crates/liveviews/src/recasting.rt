@@ -1,0 +1,47 @@
+//! `recast`: a stream in, the canonical stream of the same rows out.
+
+ghost use Rattle.schema_meta.specs.Story.{story_of};
+ghost use Rattle.std.specs.Prelude.{OnOk};
+ghost use Rattle.liveviews.specs.Recast.{Recasts};
+ghost use Rattle.liveviews.specs.Steps.{AreTakenSo};
+
+use crate::table::Table;
+use std::alloc::Global;
+use stream_writer::{Sink, WriteFault, write_table};
+use thiserror::Error;
+use values::Cause;
+
+/// Why a stream was not recast. `written` bytes of the output went out before, a beginning of it.
+#[derive(Clone, Copy, Debug, PartialEq, Eq, Error)]
+#[error("refused {number} {name}", number = .cause.number(), name = .cause)]
+pub struct RecastFault {
+    pub cause: Cause,
+    pub written: u64,
+}
+
+/// Reads a whole stream and puts the canonical stream of its rows; answers how many bytes went out.
+///
+/// Nothing is put before all of the input was accepted. Where several causes stand, any of them may come.
+#[tactic(auto, using(crate::proofs::Recasts::recasts))]
+pub fn recast<S: Sink>(alloc: Global, input: &[u8], sink: &mut S) -> Result<u64, RecastFault>
+    ensures recasts { Recasts (S.sunk sink.old) (S.sunk sink.new) result (story_of input.now) }
+
+    // On Ok no limit is passed either: at most 2^24 rows, none too heavy.
+    ensures accepted { OnOk result (AreTakenSo (story_of input.now).schema (story_of input.now).rows) }
+{
+    let table = match Table::read(alloc, input) {
+        Ok(table) => table,
+        Err(cause) => return Err(RecastFault { cause, written: 0 }),
+    };
+    match write_table(alloc, sink, &table.schema, table.rows.as_slice()) {
+        Ok(written) => Ok(written),
+        Err(WriteFault::Memory { written }) => Err(RecastFault {
+            cause: Cause::Memory,
+            written,
+        }),
+        Err(WriteFault::Device { written }) => Err(RecastFault {
+            cause: Cause::Device,
+            written,
+        }),
+    }
+}
