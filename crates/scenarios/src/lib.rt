@@ -1,0 +1,22 @@
+//! Tests that cross crates: whole streams in, whole streams or a refusal out, each compared byte by byte.
+//!
+//! `sample` is a stored stream, `table` the table that it means, built cell by cell, and `streams` builds
+//! other streams by hand. `checks` compares one answer. The tests are `r1_rows`, what is written and refused
+//! of each kind of stream, `cuts`, the stored stream cut short or bent, and `printed`, what `lv` prints.
+//! Nothing here is for other crates.
+#![tactic(auto)]
+
+#[cfg(test)]
+mod checks;
+#[cfg(test)]
+mod cuts;
+#[cfg(test)]
+mod printed;
+#[cfg(test)]
+mod r1_rows;
+#[cfg(test)]
+mod sample;
+#[cfg(test)]
+mod streams;
+#[cfg(test)]
+mod table;

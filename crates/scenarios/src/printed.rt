@@ -1,0 +1,156 @@
+//! What `lv` prints and how it ends, over one file to read and one to make.
+
+use crate::sample::SAMPLE;
+use liveviews::{FileFault, Files, lv};
+use std::alloc::Global;
+use std::process::Abort;
+use std::test::Fail;
+use stream_writer::{DeviceFault, Sink};
+
+/// The file `in` with these bytes, and the file `out` once it is made. Nothing else can be read or made.
+#[derive(Drop)]
+struct Shelf<'a> {
+    alloc: Global,
+    input: &'a [u8],
+    made: Option<Vec<u8>>,
+    failures: u64,
+}
+
+impl Sink for Shelf<'_> {
+    ghost use Rattle.std.specs.Prelude.{None};
+
+    ghost sunk = { λ s. record { taken = None; failures = s.failures } };
+
+    fn put(&mut self, piece: &[u8]) -> Result<usize, DeviceFault> {
+        if piece.is_empty() {
+            return Ok(0);
+        }
+        if append(&mut self.made, piece) {
+            return Ok(piece.len());
+        }
+        self.failures = self.failures.wrapping_add(1);
+        Err(DeviceFault)
+    }
+}
+
+/// Whether the file is there and took the piece.
+fn append(file: &mut Option<Vec<u8>>, piece: &[u8]) -> bool {
+    match file {
+        Some(bytes) => bytes.extend_from_slice(piece).is_ok(),
+        None => false,
+    }
+}
+
+impl Files for Shelf<'_> {
+    fn read(&mut self, path: &str) -> Result<Vec<u8>, FileFault> {
+        if path != "in" {
+            return Err(FileFault::Unusable);
+        }
+        let mut bytes = Vec::new(self.alloc);
+        match bytes.extend_from_slice(self.input) {
+            Ok(()) => Ok(bytes),
+            Err(_) => Err(FileFault::Memory),
+        }
+    }
+
+    fn create(&mut self, path: &str) -> Result<(), FileFault> {
+        if path != "out" {
+            return Err(FileFault::Unusable);
+        }
+        self.made = Some(Vec::new(self.alloc));
+        Ok(())
+    }
+}
+
+/// What came of one run: its line, its status, and the file `out`.
+fn run(
+    rt: &(impl Abort + AllocGlobal),
+    input: &[u8],
+    words: &[&str],
+    line: &str,
+    status: u8,
+    made: Option<usize>,
+) -> Result<(), Fail> {
+    let mut owned = Vec::new(rt.alloc());
+    for &word in words {
+        owned.push(String::from_str(rt.alloc(), word)?)?;
+    }
+    let mut shelf = Shelf {
+        alloc: rt.alloc(),
+        input,
+        made: None,
+        failures: 0,
+    };
+    let mut out: Vec<u8> = Vec::new(rt.alloc());
+    assert_eq!(rt;
+        lv(rt.alloc(), owned.as_slice(), &mut shelf, &mut out),
+        status
+    );
+    assert_eq!(rt; out.as_slice(), line.as_bytes());
+    assert_eq!(rt; shelf.made.as_ref().map(|bytes| bytes.len()), made);
+    Ok(())
+}
+
+#[test]
+fn recast_prints_one_line(rt: HostRuntime) -> Result<(), Fail> {
+    run(
+        &rt,
+        &SAMPLE,
+        &["recast", "in", "out"],
+        "wrote 504\n",
+        0,
+        Some(504),
+    )?;
+    run(
+        &rt,
+        &SAMPLE[..231],
+        &["recast", "in", "out"],
+        "refused 30 Truncated\n",
+        1,
+        None,
+    )?;
+    run(
+        &rt,
+        &[],
+        &["recast", "in", "out"],
+        "refused 8 NoSchema\n",
+        1,
+        None,
+    )?;
+    run(
+        &rt,
+        &SAMPLE,
+        &["recast", "gone", "out"],
+        "cannot read gone\n",
+        1,
+        None,
+    )?;
+    run(
+        &rt,
+        &SAMPLE,
+        &["recast", "in", "gone"],
+        "cannot write gone\n",
+        1,
+        None,
+    )?;
+    Ok(())
+}
+
+#[test]
+fn other_words_are_wrong_use(rt: HostRuntime) -> Result<(), Fail> {
+    run(&rt, &SAMPLE, &[], "wrong use\n", 2, None)?;
+    run(&rt, &SAMPLE, &["recast"], "wrong use\n", 2, None)?;
+    run(&rt, &SAMPLE, &["recast", "in"], "wrong use\n", 2, None)?;
+    run(
+        &rt,
+        &SAMPLE,
+        &["recast", "in", "out", "more"],
+        "wrong use\n",
+        2,
+        None,
+    )?;
+    run(&rt, &SAMPLE, &["view", "in", "out"], "wrong use\n", 2, None)?;
+    run(&rt, &SAMPLE, &["--help"], "wrong use\n", 2, None)?;
+    run(&rt, &SAMPLE, &["--version"], "wrong use\n", 2, None)?;
+    Ok(())
+}

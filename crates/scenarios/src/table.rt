@@ -1,0 +1,50 @@
+//! The table of the stored stream, built cell by cell.
+
+ghost use Rattle.std.specs.Prelude.{◌≡◌, IfOk, [], ◌∷◌};
+ghost use Rattle.values.specs.Kinds.{datum_of};
+ghost use Rattle.values.specs.declared.types.ColType.TheVariants.{Int64};
+ghost use Rattle.body_writer.specs.Body.{cells};
+ghost use Rattle.stream_writer.specs.Sample.{sample_fields, sample_rows};
+
+use std::alloc::{AllocError, Global};
+use values::{ColType, Kind, Named, Row, Schema, Value};
+
+fn int64(alloc: Global, name: &str) -> Result<Named, AllocError>
+    ensures { IfOk result (λ n. n ≡ record { name = name.now; col_type = Int64 }) }
+{
+    let name = String::from_str(alloc, name)?;
+    Ok(Named {
+        name,
+        col_type: ColType::Int64,
+    })
+}
+
+/// The columns `k` and `v`.
+pub fn schema(alloc: Global) -> Result<Schema, AllocError>
+    ensures { IfOk result (λ s. s.fields.items ≡ sample_fields) }
+{
+    let mut fields = Vec::new(alloc);
+    fields.push(int64(alloc, "k")?)?;
+    fields.push(int64(alloc, "v")?)?;
+    Ok(Schema { fields })
+}
+
+fn row(alloc: Global, key: Kind, value: Kind) -> Result<Row, AllocError>
+    ensures { IfOk result (λ r. r.items ≡ datum_of key ∷ datum_of value ∷ []) }
+{
+    let mut row = Vec::with_capacity(alloc, 2)?;
+    row.push(Value { kind: key })?;
+    row.push(Value { kind: value })?;
+    Ok(row)
+}
+
+/// (1, 10), (2, null) and (3, 30).
+pub fn rows(alloc: Global) -> Result<Vec<Row>, AllocError>
+    ensures { IfOk result (λ found. cells found.items ≡ sample_rows) }
+{
+    let mut rows = Vec::new(alloc);
+    rows.push(row(alloc, Kind::Whole(1), Kind::Whole(10))?)?;
+    rows.push(row(alloc, Kind::Whole(2), Kind::Null)?)?;
+    rows.push(row(alloc, Kind::Whole(3), Kind::Whole(30))?)?;
+    Ok(rows)
+}
