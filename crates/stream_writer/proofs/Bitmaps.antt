@@ -12,7 +12,7 @@ use Rattle.schema_meta.specs.Buffers.{bit_at, zeros, is_null}
 use Rattle.schema_meta.specs.BodyLayout.{validity_of}
 use Rattle.body_writer.specs.Columns.{is_valid, null_count, byte_of, packed, bitmap, validity}
 use Rattle.body_writer.proofs.Sizes.{packed-length}
-use Rattle.stream_writer.proofs.Tests.{not-zero, some-of}
+use Rattle.stream_writer.proofs.AboveZero.{not-zero, some-of}
 
 half : (b : Bool) (n : ℕ) → ((if b then 1 else 0) + 2 * n) / 2 ≡ n
 half true n = omega arith

@@ -12,7 +12,7 @@ use Rattle.schema_meta.specs.Framing.{framed, message_at, staged, first}
 use Rattle.schema_meta.specs.Framing.{end_mark as end_known}
 use Rattle.stream_writer.specs.Stream.{message}
 use Rattle.stream_writer.specs.FramingLaw.{FirstLaw, LastLaw}
-use Rattle.stream_writer.proofs.Tests.{some-of}
+use Rattle.stream_writer.proofs.AboveZero.{some-of}
 
 staged-read : (len n : ℕ) (end : Reading (Option Whole)) (meta : ℕ → Reading Meta) (m : Meta) → 0 < n → 8 + n + m.body ≤ len → meta n ≡ Ok m →
     staged len (Ok n) end meta ≡ Ok (Some (record { front = 8 + n; meta = m }))

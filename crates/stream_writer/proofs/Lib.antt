@@ -11,4 +11,4 @@ pub mod Bitmaps
 pub mod RowsRead
 pub mod CellsRead
 pub mod StreamRead
-pub mod Tests
+pub mod AboveZero

@@ -35,7 +35,7 @@ use Rattle.stream_writer.proofs.Cut.{batch-some, batch-sound}
 use Rattle.stream_writer.proofs.BatchRead.{batch-law}
 use Rattle.stream_writer.proofs.FramingRead.{first-law, message-left, message-body, last-law}
 use Rattle.stream_writer.proofs.RowsRead.{rows-law}
-use Rattle.stream_writer.proofs.Tests.{not-zero}
+use Rattle.stream_writer.proofs.AboveZero.{not-zero}
 
 -- how long metadata is
 
