@@ -10,5 +10,6 @@ pub mod Brings
 pub mod ShortNames
 pub mod Lawful
 pub mod Runs
+pub mod Feedings
 mod Sample
 pub mod Pushed

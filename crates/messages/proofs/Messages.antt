@@ -6,7 +6,7 @@ use Rattle.byteorder.specs.Endian.{little_number}
 use Rattle.byteorder.specs.Numbers.{little_from-append}
 use Rattle.values.specs.declared.faults.StreamFault.{StreamFault}
 use Rattle.values.specs.declared.faults.StreamFault.TheVariants as fault
-use Rattle.values.specs.Reading.{Reading, Stands, Fails, one}
+use Rattle.values.specs.Reading.{Faults, Reading, Stands, Fails, one}
 use Rattle.values.proofs.Readings.{fails_along}
 use Rattle.schema_meta.specs.Stage.{Known, Whole, end_meta, end_of}
 use Rattle.schema_meta.specs.Message.{meta_of}
@@ -82,7 +82,13 @@ pub whole_stays :
 whole_stays known bytes more w h =
     elim (first_settled known bytes more) [ inl n ↦ absurd (cc) | inr e ↦ e ∙ h ]
 
--- nor a fault that stands
+-- nor the faults that stand
+pub faults_stay :
+    (known : Known) (bytes more : List ℕ) (fs : Faults) → first known bytes ≡ Err fs → first known (bytes ++ more) ≡ Err fs
+faults_stay known bytes more fs h =
+    elim (first_settled known bytes more) [ inl n ↦ absurd (cc) | inr e ↦ e ∙ h ]
+
+-- each of them by itself
 pub fault_stays :
     (known : Known) (bytes more : List ℕ) (c : StreamFault) → Stands (first known bytes) c → Stands (first known (bytes ++ more)) c
 fault_stays known bytes more c h =

@@ -26,7 +26,7 @@ same_message : (w : Whole) (xs ys : List ℕ) → end_of w ≤ length xs → mes
 same_message w xs ys l =
     ap (λ bs. record { header = w.meta.header; body = bs }) (slice-append xs ys w.front (end_of w) (omega arith) l)
 
-run_step :
+pub run_step :
     (n : ℕ) (known : Known) (bytes : List ℕ) (r : Reading (Option Whole)) → first known bytes ≡ r
     → run_of (suc n) known bytes ≡ run_after (run_of n) known bytes r
 unfolding run_of
@@ -41,7 +41,7 @@ rest_behind held piece later used end u l =
     drop-append-le end (held ++ piece) later l
     ∙ ap (λ ds. ds ++ later) (ap (λ m. drop m (held ++ piece)) k ∙ drop-append-add held piece used)
 
-push_whole :
+pub push_whole :
     (n : ℕ) (old new : Stream) (piece later : List ℕ) (f : Framed) (w : Whole) → first old.known (old.held ++ piece) ≡ Ok (Some w)
     → f.used + length old.held ≡ end_of w → f.message ≡ Some (message_of w (old.held ++ piece))
     → new ≡ record { known = after old.known w.meta.schema; held = [] }
@@ -67,7 +67,7 @@ push_whole n old new piece later f w e u m s =
     ≡ led_by (message_of w bytes) (run_of n t.known (t.held ++ (drop f.used piece ++ later))) in
     subst P (sym m) (subst Q (sym s) (ap (λ bs. run_of (suc n) old.known bs) a ∙ (one ∙ two)))
 
-push_partial :
+pub push_partial :
     (n : ℕ) (old new : Stream) (piece later : List ℕ) (f : Framed) → f.used ≡ length piece → f.message ≡ None
     → new ≡ record { known = old.known; held = old.held ++ piece }
     → run_of (suc n) old.known (old.held ++ (piece ++ later))
@@ -109,5 +109,3 @@ refusal_law n old piece later c h =
     let s : Stands (first old.known (bytes ++ later)) c = fault_stays old.known bytes later c h in
     subst P (append_assoc old.held piece later)
     (refusal_by n old.known (bytes ++ later) c (first old.known (bytes ++ later)) refl s)
-
-pub ruleset run_laws = (push_law, refusal_law)

@@ -12,7 +12,7 @@ use Rattle.messages.specs.Stream.{IsStream}
 use Rattle.messages.proofs.Messages.{first_within, first_beyond}
 use Rattle.messages.proofs.Sounds.{first_sound}
 
-nothing_held : (known : Known) → first known [] ≡ Ok None
+pub nothing_held : (known : Known) → first known [] ≡ Ok None
 unfolding first staged
 nothing_held known = refl
 

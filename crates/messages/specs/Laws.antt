@@ -1,12 +1,15 @@
 -- What pieces can't change.
-use Rattle.std.specs.Prelude.{◌≡◌, ℕ, suc, ◌≤◌, List, ◌++◌, length, drop, Some, Ok}
+use Rattle.std.specs.Prelude.{◌≡◌, ℕ, suc, ◌≤◌, List, ◌++◌, length, drop, None, Some, Result, Ok, Err}
+use Rattle.std.specs.List.{concat}
 use Rattle.values.specs.declared.faults.StreamFault.{StreamFault}
-use Rattle.values.specs.Reading.{Stands}
+use Rattle.values.specs.Reading.{Faults, Judges, Reading, Stands}
 use Rattle.schema_meta.specs.Stage.{Known, Whole, end_of}
 use Rattle.schema_meta.specs.Framing.{first}
 use Rattle.messages.specs.declared.headers.Framed.{Framed}
+use Rattle.messages.specs.Handed.{MessageView}
 use Rattle.messages.specs.Stream.{Stream, Frames}
-use Rattle.messages.specs.Run.{run_of, run_behind}
+use Rattle.messages.specs.Run.{Run, run_of, run_behind, whole_run}
+use Rattle.messages.specs.Feeding.{Feeds}
 
 -- Bytes behind a whole message change nothing of it.
 abbrev pub WholeStays : Type 0
@@ -22,6 +25,11 @@ abbrev pub FaultStays : Type 0
 FaultStays =
     (known : Known) (bytes more : List ℕ) (c : StreamFault) → Stands (first known bytes) c → Stands (first known (bytes ++ more)) c
 
+-- Nor does another fault come to stand beside it.
+abbrev pub FaultsStay : Type 0
+FaultsStay =
+    (known : Known) (bytes more : List ℕ) (fs : Faults) → first known bytes ≡ Err fs → first known (bytes ++ more) ≡ Err fs
+
 -- A push changes nothing of the messages of a stream: those of what was held, the piece and all that comes later are the one
 -- that the push hands on, if it does, and those of what is held then, the rest of the piece and all that comes later.
 abbrev pub PushKeepsRun : Type 0
@@ -35,3 +43,37 @@ abbrev pub RefusalEndsRun : Type 0
 RefusalEndsRun =
     (n : ℕ) (old : Stream) (piece later : List ℕ) (c : StreamFault) → Stands (first old.known (old.held ++ piece)) c
     → Stands (run_of (suc n) old.known (old.held ++ (piece ++ later))).rest c
+
+-- these messages and this end are those of a run
+pub record Follows (messages : List MessageView) (end : Result Stream StreamFault) (r : Run) : Type 0 where
+  pub same : r.messages ≡ messages
+  pub left : Judges (λ s. s) end r.rest
+
+-- Feeding pieces hands on the messages of all the bytes, and leaves what the bytes leave, or a refusal names a fault at which
+-- they end.
+abbrev pub FeedFollowsRun : Type 0
+FeedFollowsRun =
+    (old : Stream) (pieces : List (List ℕ)) (messages : List MessageView) (end : Result Stream StreamFault)
+    → first old.known old.held ≡ Ok None → Feeds old pieces messages end
+    → Follows messages end (whole_run old.known (old.held ++ concat pieces))
+
+-- the same stream is left, or both refusals name faults of the same set
+abbrev pub AgreeIn : Reading Stream → Result Stream StreamFault → Result Stream StreamFault → Type 0
+AgreeIn rest (Ok s) (Ok t) = s ≡ t
+AgreeIn rest (Err c) (Err d) = Stands rest c × Stands rest d
+AgreeIn rest (Ok s) (Err d) = ⊥
+AgreeIn rest (Err c) (Ok t) = ⊥
+
+-- However bytes are cut into pieces, the messages are the same, and so is the end.
+abbrev pub CutsAgree : Type 0
+CutsAgree =
+    (old : Stream) (pieces others : List (List ℕ)) (messages others_messages : List MessageView)
+    (end others_end : Result Stream StreamFault) → first old.known old.held ≡ Ok None → concat pieces ≡ concat others
+    → Feeds old pieces messages end → Feeds old others others_messages others_end
+    → (messages ≡ others_messages) × AgreeIn (whole_run old.known (old.held ++ concat pieces)).rest end others_end
+
+-- Each list of pieces can be fed to its end.
+abbrev pub FeedsEnd : Type 0
+FeedsEnd =
+    (old : Stream) (pieces : List (List ℕ)) → first old.known old.held ≡ Ok None
+    → (messages : List MessageView) × (end : Result Stream StreamFault) × Feeds old pieces messages end

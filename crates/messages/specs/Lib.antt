@@ -4,3 +4,4 @@ pub mod Gather
 pub mod Stream
 pub mod Laws
 pub mod Run
+pub mod Feeding

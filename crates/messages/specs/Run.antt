@@ -1,5 +1,5 @@
 -- The messages of a stream as a whole: what is read of all its bytes at once.
-use Rattle.std.specs.Prelude.{ℕ, zero, suc, List, [], ◌∷◌, drop, Option, None, Some, Ok, Err}
+use Rattle.std.specs.Prelude.{ℕ, zero, suc, List, [], ◌∷◌, length, drop, Option, None, Some, Ok, Err}
 use Rattle.values.specs.Reading.{Reading}
 use Rattle.messages.specs.Handed.{MessageView}
 use Rattle.schema_meta.specs.Stage.{Known, Whole, end_of}
@@ -29,6 +29,10 @@ run_after later known bytes (Err fs) = stopped (Err fs)
 unfoldable pub run_of : ℕ → Known → List ℕ → Run
 run_of zero known bytes = stopped (Ok (record { known = known; held = bytes }))
 run_of (suc n) known bytes = run_after (run_of n) known bytes (first known bytes)
+
+-- All messages of the bytes. Each has a byte at least, so there are no more messages than bytes.
+abbrev pub whole_run : Known → List ℕ → Run
+whole_run known bytes = run_of (length bytes) known bytes
 
 -- the run that begins with a message, if there is one; `r` reads a number of messages
 abbrev pub run_behind : Option MessageView → (ℕ → Run) → ℕ → Run

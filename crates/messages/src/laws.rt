@@ -1,19 +1,24 @@
 //! Laws of the definitions: functions that do nothing, whose contracts are theorems.
 
-ghost use Rattle.messages.specs.Laws.{FaultStays, PushKeepsRun, RefusalEndsRun, WholeStays, WholeWithin};
+ghost use Rattle.messages.specs.Laws.{CutsAgree, FaultStays, FaultsStay, FeedFollowsRun, FeedsEnd, PushKeepsRun, RefusalEndsRun, WholeStays, WholeWithin};
 
-/// More bytes change neither a whole message nor a fault that stands, so neither depends on where the input is cut.
+/// More bytes change neither a whole message nor the faults that stand, so neither depends on where the input is cut.
 #[tactic(auto, using(crate::proofs::Lawful::laws))]
 pub fn more_bytes_law()
     ensures whole { WholeStays }
     ensures within { WholeWithin }
     ensures fault { FaultStays }
+    ensures faults { FaultsStay }
 {}
 
 /// However a stream is cut into pieces, pushing them hands on the messages of its bytes, and a refusal names a fault at
-/// which they end.
-#[tactic(auto, using(crate::proofs::Runs::run_laws))]
+/// which they end: `push` and `refusal` say it of one push, `feed` of a list of pieces, and `cuts` that two lists with the
+/// same bytes come to the same.
+#[tactic(auto, using(crate::proofs::Feedings::run_laws))]
 pub fn pieces_law()
     ensures push { PushKeepsRun }
     ensures refusal { RefusalEndsRun }
+    ensures feed { FeedFollowsRun }
+    ensures cuts { CutsAgree }
+    ensures end { FeedsEnd }
 {}
