@@ -1,5 +1,5 @@
 -- Feeding pieces, by the messages of all their bytes.
-use Rattle.std.proofs.Common.{◌≡◌, inl, ℕ, zero, suc, ◌+◌, ◌-◌, ◌<◌, ◌≤◌, Option, None, Some, Result, Ok, Err, List, [], ◌∷◌, ◌++◌, length, drop, refl, ap, sym, subst, ◌∙◌, arith, append_assoc, append-nil, length-append, length-drop}
+use Rattle.std.proofs.Common.{◌≡◌, inl, ℕ, zero, suc, ◌+◌, ◌-◌, ◌<◌, ◌≤◌, Option, None, Some, Ok, Err, List, [], ◌∷◌, ◌++◌, length, drop, refl, ap, sym, subst, ◌∙◌, arith, append_assoc, append-nil, length-append, length-drop}
 use Rattle.std.specs.List.{concat}
 use Rattle.std.proofs.Math.Seq.{drop-length}
 use Rattle.values.specs.declared.faults.StreamFault.{StreamFault}
@@ -11,7 +11,7 @@ use Rattle.schema_meta.specs.Sound.{after}
 use Rattle.schema_meta.specs.Framing.{first}
 use Rattle.messages.specs.Stream.{Stream, Frames, message_of}
 use Rattle.messages.specs.Run.{Run, led_by, run_after, run_of, run_behind, whole_run}
-use Rattle.messages.specs.Feeding.{Feeds, ended, used_up, pushed, refused, handed_on}
+use Rattle.messages.specs.Feeding.{End, Feeds, ended, used_up, pushed, refused, handed_on}
 use Rattle.messages.specs.Laws.{AgreeIn, CutsAgree, FeedFollowsRun, FeedsEnd, Follows}
 use Rattle.messages.proofs.Messages.{first_beyond, first_within, fault_stays}
 use Rattle.messages.proofs.Streams.{nothing_held}
@@ -52,7 +52,7 @@ ended_follows n s p =
 
 -- a push that waits for more
 waits_follow :
-    (n : ℕ) (old new : Stream) (piece later : List ℕ) (f : Framed) (messages : List MessageView) (end : Result Stream StreamFault)
+    (n : ℕ) (old new : Stream) (piece later : List ℕ) (f : Framed) (messages : List MessageView) (end : End)
     → first old.known (old.held ++ piece) ≡ Ok None → f.used ≡ length piece → f.message ≡ None
     → new ≡ record { known = old.known; held = old.held ++ piece } → length (old.held ++ (piece ++ later)) ≤ n
     → ((m : ℕ) → first new.known new.held ≡ Ok None → length (new.held ++ (drop f.used piece ++ later)) ≤ m
@@ -75,14 +75,14 @@ waits_follow n old new piece later f messages end e u m s l ih =
     subst P (sym m) (subst Q (sym k) (ih n (subst E (sym s) e) size))
 
 follows_led :
-    (m : MessageView) (messages : List MessageView) (end : Result Stream StreamFault) (r : Run) → Follows messages end r
+    (m : MessageView) (messages : List MessageView) (end : End) (r : Run) → Follows messages end r
     → Follows (m ∷ messages) end (led_by m r)
 follows_led m messages end r h = record { same = ap (λ ms. m ∷ ms) h.same; left = h.left }
 
 -- a push that hands a message on
 hands_follow :
     (n : ℕ) (old new : Stream) (piece later : List ℕ) (f : Framed) (w : Whole) (messages : List MessageView)
-    (end : Result Stream StreamFault) → first old.known (old.held ++ piece) ≡ Ok (Some w)
+    (end : End) → first old.known (old.held ++ piece) ≡ Ok (Some w)
     → f.used + length old.held ≡ end_of w → f.message ≡ Some (message_of w (old.held ++ piece))
     → new ≡ record { known = after old.known w.meta.schema; held = [] } → length (old.held ++ (piece ++ later)) ≤ suc n
     → ((m : ℕ) → first new.known new.held ≡ Ok None → length (new.held ++ (drop f.used piece ++ later)) ≤ m
@@ -116,7 +116,7 @@ some_bytes known held piece later w e =
     omega (arith, within.0, within.1, length-append held piece, length-append held (piece ++ later), length-append piece later)
 
 pushed_follows :
-    (n : ℕ) (old new : Stream) (piece later : List ℕ) (f : Framed) (messages : List MessageView) (end : Result Stream StreamFault)
+    (n : ℕ) (old new : Stream) (piece later : List ℕ) (f : Framed) (messages : List MessageView) (end : End)
     (r : Reading (Option Whole)) → first old.known (old.held ++ piece) ≡ r → Frames r old piece f new
     → length (old.held ++ (piece ++ later)) ≤ n
     → ((m : ℕ) → first new.known new.held ≡ Ok None → length (new.held ++ (drop f.used piece ++ later)) ≤ m
@@ -149,7 +149,7 @@ refused_follows n old piece later c h =
     (refused_by n old.known (bytes ++ later) c (first old.known (bytes ++ later)) refl (fault_stays old.known bytes later c h))
 
 feed_follows :
-    (old : Stream) (pieces : List (List ℕ)) (messages : List MessageView) (end : Result Stream StreamFault)
+    (old : Stream) (pieces : List (List ℕ)) (messages : List MessageView) (end : End)
     → Feeds old pieces messages end → (n : ℕ) → first old.known old.held ≡ Ok None → length (old.held ++ concat pieces) ≤ n
     → Follows messages end (run_of (suc n) old.known (old.held ++ concat pieces))
 feed_follows old pieces messages end (ended s) n p l = ended_follows n s p
@@ -167,7 +167,7 @@ feed_law old pieces messages end p h =
     (feed_follows old pieces messages end h (length bytes) p (omega arith))
 
 agree :
-    (rest : Reading Stream) (end other : Result Stream StreamFault) → Judges (λ s. s) end rest → Judges (λ s. s) other rest
+    (rest : Reading Stream) (end other : End) → Judges (λ s. s) end rest → Judges (λ s. s) other rest
     → AgreeIn rest end other
 agree rest (Ok s) (Ok t) h k = let e : Ok s ≡ Ok t = sym h ∙ k in cc
 agree rest (Err c) (Err d) h k = (h, k)
@@ -175,16 +175,16 @@ agree rest (Ok s) (Err d) h k = let P : Reading Stream → Type 0 = λ m. Stands
 agree rest (Err c) (Ok t) h k = let P : Reading Stream → Type 0 = λ m. Stands m c in absurd (subst P k h)
 
 pub cuts_law : CutsAgree
-cuts_law old pieces others messages other_messages end other p same h k =
-    let P : List ℕ → Type 0 = λ bs. Follows other_messages other (whole_run old.known (old.held ++ bs)) in
+cuts_law old pieces others messages theirs end other p same h k =
+    let P : List ℕ → Type 0 = λ bs. Follows theirs other (whole_run old.known (old.held ++ bs)) in
     let a = feed_law old pieces messages end p h in
-    let b : Follows other_messages other (whole_run old.known (old.held ++ concat pieces)) =
-    subst P (sym same) (feed_law old others other_messages other p k) in
+    let b : Follows theirs other (whole_run old.known (old.held ++ concat pieces)) =
+    subst P (sym same) (feed_law old others theirs other p k) in
     (sym a.same ∙ b.same, agree (whole_run old.known (old.held ++ concat pieces)).rest end other a.left b.left)
 
 -- feeding comes to an end
 abbrev Ends : Stream → List (List ℕ) → Type 0
-Ends s pieces = (messages : List MessageView) × (end : Result Stream StreamFault) × Feeds s pieces messages end
+Ends s pieces = (messages : List MessageView) × (end : End) × Feeds s pieces messages end
 
 some_fault : (fs : Faults) → (c : StreamFault) × IsAmong fs c
 some_fault (one c) = (c, refl)

@@ -11,10 +11,18 @@ abbrev pub handed_on : Option MessageView → List MessageView → List MessageV
 handed_on None later = later
 handed_on (Some m) later = m ∷ later
 
--- Feeding pieces to a stream hands on these messages, and ends with the stream after the last piece or with a refusal. What a
--- push leaves of a piece is pushed next. A push that memory ran out in left the stream as it was, and doesn't count.
-pub data Feeds : Stream → List (List ℕ) → List MessageView → Result Stream StreamFault → Type 0 where
+-- the stream after the last piece, or the fault that a push was refused for
+abbrev pub End : Type 0
+End = Result Stream StreamFault
+
+-- Feeding pieces to a stream hands on these messages and comes to this end. What a push leaves of a piece is pushed next. A push
+-- that memory ran out in left the stream as it was, and doesn't count.
+pub data Feeds : Stream → List (List ℕ) → List MessageView → End → Type 0 where
+  -- No piece is left.
   ended : (s : Stream) → Feeds s [] [] (Ok s)
-  used_up : (s : Stream) (pieces : List (List ℕ)) (messages : List MessageView) (end : Result Stream StreamFault) → Feeds s pieces messages end → Feeds s ([] ∷ pieces) messages end
-  pushed : (old new : Stream) (piece : List ℕ) (pieces : List (List ℕ)) (f : Framed) (messages : List MessageView) (end : Result Stream StreamFault) → Frames (first old.known (old.held ++ piece)) old piece f new → Feeds new (drop f.used piece ∷ pieces) messages end → Feeds old (piece ∷ pieces) (handed_on f.message messages) end
+  -- Nothing is left of a piece.
+  used_up : (s : Stream) (pieces : List (List ℕ)) (messages : List MessageView) (end : End) → Feeds s pieces messages end → Feeds s ([] ∷ pieces) messages end
+  -- A push takes some of a piece.
+  pushed : (old new : Stream) (piece : List ℕ) (pieces : List (List ℕ)) (f : Framed) (messages : List MessageView) (end : End) → Frames (first old.known (old.held ++ piece)) old piece f new → Feeds new (drop f.used piece ∷ pieces) messages end → Feeds old (piece ∷ pieces) (handed_on f.message messages) end
+  -- A push is refused.
   refused : (old : Stream) (piece : List ℕ) (pieces : List (List ℕ)) (c : StreamFault) → Stands (first old.known (old.held ++ piece)) c → Feeds old (piece ∷ pieces) [] (Err c)

@@ -17,3 +17,8 @@ Steps m bytes had (step.Partial wanted) held = (m ≡ Ok None) × (held ≡ byte
 Steps m bytes had (step.Whole used found body) held =
     (m ≡ Ok (Some (whole_seen found))) × (used + had ≡ end_of (whole_seen found))
     × (body.items ≡ slice_range bytes found.front (end_of (whole_seen found))) × (held ≡ [])
+
+-- the step of a piece that completes no message
+abbrev pub IsWaiting : Step → Type 0
+IsWaiting (step.Partial wanted) = Unit {0}
+IsWaiting (step.Whole used found body) = ⊥

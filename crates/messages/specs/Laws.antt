@@ -1,5 +1,5 @@
 -- What pieces can't change.
-use Rattle.std.specs.Prelude.{◌≡◌, ℕ, suc, ◌≤◌, List, ◌++◌, length, drop, None, Some, Result, Ok, Err}
+use Rattle.std.specs.Prelude.{◌≡◌, ℕ, suc, ◌≤◌, List, ◌++◌, length, drop, None, Some, Ok, Err}
 use Rattle.std.specs.List.{concat}
 use Rattle.values.specs.declared.faults.StreamFault.{StreamFault}
 use Rattle.values.specs.Reading.{Faults, Judges, Reading, Stands}
@@ -9,7 +9,7 @@ use Rattle.messages.specs.declared.headers.Framed.{Framed}
 use Rattle.messages.specs.Handed.{MessageView}
 use Rattle.messages.specs.Stream.{Stream, Frames}
 use Rattle.messages.specs.Run.{Run, run_of, run_behind, whole_run}
-use Rattle.messages.specs.Feeding.{Feeds}
+use Rattle.messages.specs.Feeding.{End, Feeds}
 
 -- Bytes behind a whole message change nothing of it.
 abbrev pub WholeStays : Type 0
@@ -45,7 +45,7 @@ RefusalEndsRun =
     → Stands (run_of (suc n) old.known (old.held ++ (piece ++ later))).rest c
 
 -- these messages and this end are those of a run
-pub record Follows (messages : List MessageView) (end : Result Stream StreamFault) (r : Run) : Type 0 where
+pub record Follows (messages : List MessageView) (end : End) (r : Run) : Type 0 where
   pub same : r.messages ≡ messages
   pub left : Judges (λ s. s) end r.rest
 
@@ -53,12 +53,12 @@ pub record Follows (messages : List MessageView) (end : Result Stream StreamFaul
 -- they end.
 abbrev pub FeedFollowsRun : Type 0
 FeedFollowsRun =
-    (old : Stream) (pieces : List (List ℕ)) (messages : List MessageView) (end : Result Stream StreamFault)
+    (old : Stream) (pieces : List (List ℕ)) (messages : List MessageView) (end : End)
     → first old.known old.held ≡ Ok None → Feeds old pieces messages end
     → Follows messages end (whole_run old.known (old.held ++ concat pieces))
 
 -- the same stream is left, or both refusals name faults of the same set
-abbrev pub AgreeIn : Reading Stream → Result Stream StreamFault → Result Stream StreamFault → Type 0
+abbrev pub AgreeIn : Reading Stream → End → End → Type 0
 AgreeIn rest (Ok s) (Ok t) = s ≡ t
 AgreeIn rest (Err c) (Err d) = Stands rest c × Stands rest d
 AgreeIn rest (Ok s) (Err d) = ⊥
@@ -67,13 +67,13 @@ AgreeIn rest (Err c) (Ok t) = ⊥
 -- However bytes are cut into pieces, the messages are the same, and so is the end.
 abbrev pub CutsAgree : Type 0
 CutsAgree =
-    (old : Stream) (pieces others : List (List ℕ)) (messages others_messages : List MessageView)
-    (end others_end : Result Stream StreamFault) → first old.known old.held ≡ Ok None → concat pieces ≡ concat others
-    → Feeds old pieces messages end → Feeds old others others_messages others_end
-    → (messages ≡ others_messages) × AgreeIn (whole_run old.known (old.held ++ concat pieces)).rest end others_end
+    (old : Stream) (pieces others : List (List ℕ)) (messages theirs : List MessageView) (end other : End)
+    → first old.known old.held ≡ Ok None → concat pieces ≡ concat others → Feeds old pieces messages end
+    → Feeds old others theirs other
+    → (messages ≡ theirs) × AgreeIn (whole_run old.known (old.held ++ concat pieces)).rest end other
 
 -- Each list of pieces can be fed to its end.
 abbrev pub FeedsEnd : Type 0
 FeedsEnd =
     (old : Stream) (pieces : List (List ℕ)) → first old.known old.held ≡ Ok None
-    → (messages : List MessageView) × (end : Result Stream StreamFault) × Feeds old pieces messages end
+    → (messages : List MessageView) × (end : End) × Feeds old pieces messages end

@@ -1,9 +1,9 @@
 //! Gathering a message from pieces.
 
-ghost use Rattle.std.specs.Prelude.{◌≡◌, ◌≤◌, ◌+◌, ◌^◌, ◌++◌, Ok, None, length, take, IfOk, IfErr, OnOk, OnErr};
+ghost use Rattle.std.specs.Prelude.{◌≡◌, ◌≤◌, ◌+◌, ◌^◌, ◌++◌, Ok, None, [], length, take, IfOk, IfErr, IsOk, IsOkAnd, OnOk, OnErr};
 ghost use Rattle.values.specs.Reading.{Answers, Fails};
 ghost use Rattle.schema_meta.specs.Framing.{first};
-ghost use Rattle.messages.specs.Gather.{Gathers, Steps};
+ghost use Rattle.messages.specs.Gather.{Gathers, IsWaiting, Steps};
 ghost use Rattle.messages.specs.State.{IsSmall, known_of, progress_seen, wanted_by};
 
 use crate::framing::{Found, Progress, first};
@@ -45,6 +45,7 @@ fn gather(
     ensures wanted { IfOk result (λ p. 1 ≤ wanted_by p) }
     ensures grown { IfOk result (λ p. Gathers (progress_seen p) (held.old.items ++ piece.now) held.new.items) }
     ensures unchanged { OnErr result (held.new.items ≡ held.old.items) }
+    ensures empty { piece.now ≡ [] → IsOk result }
 {
     let before = held.len();
     let mut used = 0;
@@ -95,6 +96,7 @@ pub(crate) fn advance(
         (length held.old.items) s held.new.items) }
     ensures fault { IfErr result (λ e. Fails e (first (known_of state.now) (held.old.items ++ piece.now))) }
     ensures unchanged { OnErr result (held.new.items ≡ held.old.items) }
+    ensures empty { piece.now ≡ [] → IsOkAnd result IsWaiting }
 {
     let had = held.len();
     match gather(alloc, state, held, piece, wanted)? {

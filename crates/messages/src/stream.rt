@@ -1,6 +1,6 @@
 //! A stream of messages, from pieces.
 
-ghost use Rattle.std.specs.Prelude.{◌≡◌, [], ◌++◌, ◌<◌, ◌≤◌, Some, None, length, IfOk, IfErr, IfSome, OnErr};
+ghost use Rattle.std.specs.Prelude.{◌≡◌, [], ◌++◌, ◌<◌, ◌≤◌, Some, None, length, IfOk, IfErr, IfSome, IsOkAnd, OnErr};
 ghost use Rattle.std.specs.Option.{option_copied, option_map};
 ghost use Rattle.values.specs.Reading.{Fails};
 ghost use Rattle.schema_meta.specs.Framing.{first};
@@ -83,6 +83,7 @@ impl Framer {
         ensures ok { IfOk result (λ f. Frames (first self.old.known (self.old.held ++ piece.now)) self.old piece.now f self.new) }
         ensures fault { IfErr result (λ e. Fails e (first self.old.known (self.old.held ++ piece.now))) }
         ensures unchanged { OnErr result (self.new ≡ self.old) }
+        ensures empty { piece.now ≡ [] → IsOkAnd result (λ f. (f.used ≡ 0) × (f.message ≡ None)) × (self.new ≡ self.old) }
         ensures used { IfOk result (λ f. f.used ≤ length piece.now) }
         ensures progress { IfOk result (λ f. 0 < length piece.now → 0 < f.used) }
         ensures fits { IfOk result (λ f. IfSome f.message (λ m. IsFitting self.new.known.schema m.header (length m.body))) }
