@@ -1,6 +1,8 @@
 //! Tests on a stored stream of two int64 columns `k` and `v` with the rows (1, 10), (2, null), (3, 30).
 
 use crate::{Framer, Header};
+use std::alloc::{AllocError, Global};
+use std::process::Abort;
 use std::test::Fail;
 use values::{ColType, Named, Schema, StreamFault};
 
@@ -92,44 +94,151 @@ fn in_pieces_of_one_byte(rt: HostRuntime) -> Result<(), Fail> {
     Ok(())
 }
 
-/// The fault of the first two messages, where the byte at `place` is another.
-fn refused(rt: &HostRuntime, place: usize, byte: u8) -> Result<Option<StreamFault>, Fail> {
-    let mut bytes = SAMPLE;
-    if place < 504 {
-        bytes[place] = byte;
-    }
-    let mut framer = Framer::open(rt.alloc(), None);
-    match framer.push(&bytes) {
-        Err(fault) => return Ok(Some(fault)),
-        Ok(framed) => {
-            if framed.used != 232 {
-                return Ok(None);
-            }
+/// What a stream is refused for that comes whole, if it is.
+fn fault_of_whole(framer: &mut Framer, bytes: &[u8]) -> Option<StreamFault> {
+    let mut rest = bytes;
+    for _ in 0..4 {
+        match framer.push(rest) {
+            Err(fault) => return Some(fault),
+            Ok(framed) => rest = &rest[framed.used..],
         }
     }
-    match framer.push(&bytes[232..]) {
-        Err(fault) => Ok(Some(fault)),
-        Ok(_) => Ok(None),
+    None
+}
+
+/// What a stream is refused for that comes in pieces of one byte, if it is.
+fn fault_of_bytes(framer: &mut Framer, bytes: &[u8]) -> Option<StreamFault> {
+    for byte in bytes {
+        if let Err(fault) = framer.push(&[*byte]) {
+            return Some(fault);
+        }
     }
+    None
+}
+
+/// A stream of these bytes answers the same whole and in pieces of one byte.
+fn answers(rt: &(impl Abort + AllocGlobal), bytes: &[u8], answer: Option<StreamFault>) {
+    let whole = fault_of_whole(&mut Framer::open(rt.alloc(), None), bytes);
+    let cut = fault_of_bytes(&mut Framer::open(rt.alloc(), None), bytes);
+    assert_eq!(rt; whole, answer);
+    assert_eq!(rt; cut, answer);
+}
+
+/// The sample with other bytes at some places is refused for this fault.
+fn refuses(rt: &(impl Abort + AllocGlobal), changes: &[(usize, u8)], fault: StreamFault) {
+    let mut bytes = SAMPLE;
+    for &(place, byte) in changes {
+        assert!(rt; place < 504);
+        bytes[place] = byte;
+    }
+    answers(rt, &bytes, Some(fault));
 }
 
 #[test]
-fn names_the_fault(rt: HostRuntime) -> Result<(), Fail> {
-    assert_eq!(rt; refused(&rt, 0, 0xFE)?, Some(StreamFault::NoContinuation));
-    assert_eq!(rt; refused(&rt, 7, 0x80)?, Some(StreamFault::BadSize));
-    assert_eq!(rt; refused(&rt, 36, 0x03)?, Some(StreamFault::Version));
-    assert_eq!(rt; refused(&rt, 38, 0x04)?, Some(StreamFault::HeaderKind));
-    assert_eq!(rt; refused(&rt, 68, 0x01)?, Some(StreamFault::BigEndian));
-    assert_eq!(rt;
-        refused(&rt, 113, 0x03)?,
-        Some(StreamFault::UnsupportedType)
+fn takes_the_sample(rt: HostRuntime) {
+    answers(&rt, &SAMPLE, None);
+    answers(&rt, &SAMPLE[..300], None);
+}
+
+#[test]
+fn framing_faults(rt: HostRuntime) -> Result<(), Fail> {
+    refuses(&rt, &[(0, 0xFE)], StreamFault::NoContinuation);
+    refuses(&rt, &[(7, 0x80)], StreamFault::BadSize);
+    refuses(&rt, &[(239, 0x01)], StreamFault::BadSize);
+    answers(
+        &rt,
+        &[255, 255, 255, 255, 1, 0, 0, 1],
+        Some(StreamFault::BadSize),
     );
-    assert_eq!(rt; refused(&rt, 128, 0xFF)?, Some(StreamFault::BadName));
-    assert_eq!(rt; refused(&rt, 148, 0x41)?, Some(StreamFault::BadType));
-    assert_eq!(rt; refused(&rt, 312, 0x04)?, Some(StreamFault::BadLength));
-    assert_eq!(rt; refused(&rt, 372, 0x03)?, Some(StreamFault::BufferCount));
-    assert_eq!(rt; refused(&rt, 424, 0x21)?, Some(StreamFault::BufferRange));
-    assert_eq!(rt; refused(&rt, 504, 0)?, None);
+    let mut shorter = SAMPLE[..4].to_vec(rt.alloc())?;
+    shorter.extend_from_slice(&SAMPLE[5..])?;
+    answers(&rt, &shorter, Some(StreamFault::BadSize));
+    answers(&rt, &SAMPLE[496..], Some(StreamFault::NoSchema));
+    Ok(())
+}
+
+#[test]
+fn schema_faults(rt: HostRuntime) {
+    refuses(&rt, &[(8, 0xDC)], StreamFault::BadTable);
+    refuses(&rt, &[(128, 0xFF)], StreamFault::BadName);
+    refuses(&rt, &[(36, 0x03)], StreamFault::Version);
+    refuses(&rt, &[(38, 0x04)], StreamFault::HeaderKind);
+    refuses(&rt, &[(55, 0x80)], StreamFault::BodySize);
+    refuses(&rt, &[(52, 0x01)], StreamFault::BodySize);
+    refuses(&rt, &[(68, 0x01)], StreamFault::BigEndian);
+    refuses(&rt, &[(113, 0x03)], StreamFault::UnsupportedType);
+    refuses(&rt, &[(148, 0x41)], StreamFault::BadType);
+}
+
+#[test]
+fn second_schema(rt: HostRuntime) -> Result<(), Fail> {
+    let mut twice = SAMPLE[..232].to_vec(rt.alloc())?;
+    twice.extend_from_slice(&SAMPLE)?;
+    answers(&rt, &twice, Some(StreamFault::SecondSchema));
+    Ok(())
+}
+
+/// The Schema message of so many columns, which all share the first one's bytes.
+fn columns(alloc: Global, count: u16) -> Result<Vec<u8>, AllocError> {
+    let count = count as u32;
+    let mut bytes = Vec::new(alloc);
+    bytes.extend_from_slice(&[255; 4])?;
+    bytes.extend_from_slice(&(144 + 4 * count).to_le_bytes())?;
+    bytes.extend_from_slice(&SAMPLE[8..76])?;
+    bytes.extend_from_slice(&count.to_le_bytes())?;
+    for i in 0..count {
+        bytes.extend_from_slice(&(4 * (count - i) + 16).to_le_bytes())?;
+    }
+    bytes.extend_from_slice(&SAMPLE[88..160])?;
+    Ok(bytes)
+}
+
+#[test]
+fn too_many_columns(rt: HostRuntime) -> Result<(), Fail> {
+    answers(&rt, &columns(rt.alloc(), 1024)?, None);
+    answers(
+        &rt,
+        &columns(rt.alloc(), 1025)?,
+        Some(StreamFault::TooManyFields),
+    );
+    Ok(())
+}
+
+/// A count of fields that can't be there is judged as one that is too great or unreadable, however it comes.
+#[test]
+fn impossible_count(rt: HostRuntime) {
+    let mut bytes = SAMPLE;
+    bytes[76] = 0xFF;
+    bytes[77] = 0xFF;
+    bytes[78] = 0xFF;
+    bytes[79] = 0x7F;
+    let answer = fault_of_whole(&mut Framer::open(rt.alloc(), None), &bytes);
+    assert!(rt;
+        answer == Some(StreamFault::BadTable) || answer == Some(StreamFault::TooManyFields)
+    );
+    answers(&rt, &bytes, answer);
+}
+
+#[test]
+fn batch_faults(rt: HostRuntime) {
+    answers(&rt, &SAMPLE[232..], Some(StreamFault::NoSchema));
+    refuses(&rt, &[(288, 0x0C), (298, 0x04)], StreamFault::Compressed);
+    refuses(&rt, &[(270, 0x02)], StreamFault::UnknownDictionary);
+    refuses(&rt, &[(332, 0x01)], StreamFault::NodeCount);
+    refuses(&rt, &[(372, 0x03)], StreamFault::BufferCount);
+    refuses(&rt, &[(312, 0x04)], StreamFault::BadLength);
+    refuses(&rt, &[(424, 0x21)], StreamFault::BufferRange);
+}
+
+#[test]
+fn takes_an_empty_piece(rt: HostRuntime) -> Result<(), Fail> {
+    let mut framer = Framer::open(rt.alloc(), None);
+    assert_eq!(rt; framer.push(&SAMPLE[..100])?.used, 100);
+    let framed = framer.push(&[])?;
+    assert_eq!(rt; framed.used, 0);
+    assert!(rt; framed.message.is_none());
+    assert_eq!(rt; framer.held(), 100);
+    assert_eq!(rt; framer.push(&SAMPLE[100..])?.used, 132);
     Ok(())
 }
 
@@ -177,7 +286,11 @@ fn wants_the_declared_schema(rt: HostRuntime) -> Result<(), Fail> {
     let mut framer = Framer::open(rt.alloc(), Some(declared(&rt, "v")?));
     assert_eq!(rt; framer.push(&SAMPLE)?.used, 232);
     let mut framer = Framer::open(rt.alloc(), Some(declared(&rt, "w")?));
-    assert!(rt; matches!(framer.push(&SAMPLE), Err(StreamFault::SchemaMismatch)));
+    let whole = fault_of_whole(&mut framer, &SAMPLE);
+    assert_eq!(rt; whole, Some(StreamFault::SchemaMismatch));
+    let mut framer = Framer::open(rt.alloc(), Some(declared(&rt, "w")?));
+    let cut = fault_of_bytes(&mut framer, &SAMPLE);
+    assert_eq!(rt; cut, Some(StreamFault::SchemaMismatch));
     Ok(())
 }
 
