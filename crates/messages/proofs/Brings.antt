@@ -1,24 +1,20 @@
 -- What a message brings: a schema comes once, out of a Schema table, and no other message has one.
-use Rattle.std.proofs.Common.{◌≡◌, ◌⊎◌, inl, inr, ℕ, ◌+◌, Bool, true, false, Option, None, Some, Ok, Err, List, length, drop, refl, ap, sym, subst, ◌∙◌}
+use Rattle.std.proofs.Common.{◌≡◌, inl, inr, ℕ, ◌+◌, Bool, true, false, Option, None, Some, Ok, Err, List, length, drop, refl, ap, subst, ◌∙◌}
 use Rattle.std.specs.Prelude.{slice_range, is_some, if◌then◌else◌}
 use Rattle.byteorder.specs.Endian.{little_number}
-use Rattle.flatbuf.specs.Layout.{Table, root_of}
-use Rattle.values.specs.declared.faults.StreamFault.{StreamFault}
+use Rattle.flatbuf.specs.Layout.{Table}
 use Rattle.values.specs.declared.faults.StreamFault.TheVariants as fault
-use Rattle.values.specs.Logical.{LogicalField}
-use Rattle.values.specs.Reading.{Reading, ◌>>=◌, both, second, must, one, refused_if, mapped}
+use Rattle.values.specs.Reading.{Reading, ◌>>=◌, second, one, refused_if}
 use Rattle.values.specs.Rose.{Rose}
 use Rattle.values.proofs.Readings.{both_Ok, bind_Ok, mapped_Ok}
 use Rattle.schema_meta.specs.Entry.{Entry}
 use Rattle.schema_meta.specs.Schema.{schema_of}
-use Rattle.schema_meta.specs.SameColumns.{is_declared}
 use Rattle.schema_meta.specs.declared.header.MessageKind.{MessageKind}
 use Rattle.schema_meta.specs.declared.header.MessageKind.TheVariants as kind
 use Rattle.schema_meta.specs.declared.header.Header.{Header}
 use Rattle.schema_meta.specs.declared.header.Header.TheVariants as header
-use Rattle.schema_meta.specs.BatchHead.{BatchHead}
 use Rattle.schema_meta.specs.Stage.{Known, Meta, Whole, end_meta}
-use Rattle.schema_meta.specs.Message.{expected, new_schema, header_table, header_of, record_batch, brings_schema, brings_batch, version_of, body_of, kind_of, meta_of}
+use Rattle.schema_meta.specs.Message.{expected, new_schema, header_table, header_of, record_batch, brings_schema, brings_batch, meta_of}
 use Rattle.schema_meta.specs.Framing.{framed, end_mark, first}
 use Rattle.messages.proofs.Stages.{staged_from}
 use Rattle.messages.proofs.Facts.{no_dictionary, expected_same, meta_header}

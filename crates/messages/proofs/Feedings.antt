@@ -10,7 +10,7 @@ use Rattle.schema_meta.specs.Stage.{Known, Whole, end_of}
 use Rattle.schema_meta.specs.Sound.{after}
 use Rattle.schema_meta.specs.Framing.{first}
 use Rattle.messages.specs.Stream.{Stream, Frames, message_of}
-use Rattle.messages.specs.Run.{Run, led_by, run_after, run_of, run_behind, whole_run}
+use Rattle.messages.specs.Run.{Run, led_by, run_of, run_behind, whole_run}
 use Rattle.messages.specs.Feeding.{End, Feeds, ended, used_up, pushed, refused, handed_on}
 use Rattle.messages.specs.Laws.{AgreeIn, CutsAgree, FeedFollowsRun, FeedsEnd, Follows}
 use Rattle.messages.proofs.Messages.{first_beyond, first_within, fault_stays}

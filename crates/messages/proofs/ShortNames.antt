@@ -1,18 +1,18 @@
 -- The names of a schema that was read are short.
-use Rattle.std.proofs.Common.{◌≡◌, ℕ, zero, suc, ◌+◌, ◌-◌, ◌<◌, ◌≤◌, Bool, true, false, ◌&&◌, Option, None, Some, Ok, Err, List, [], length, All, refl, ap, sym, subst, ◌∙◌, arith}
+use Rattle.std.proofs.Common.{◌≡◌, ℕ, zero, suc, ◌≤◌, Bool, true, false, ◌&&◌, Option, None, Some, Ok, Err, List, [], length, All, refl, subst, arith}
 use Rattle.std.specs.Prelude.{nat_le, ◌==◌, if◌then◌else◌}
 use Rattle.std.specs.Str.{is_utf8}
 use Rattle.std.proofs.lemmas.Bool.{leb-true}
 use Rattle.flatbuf.specs.Layout.{Table, Vector, text_of, vector_of, entry_of}
 use Rattle.values.specs.declared.faults.StreamFault.{StreamFault}
 use Rattle.values.specs.declared.faults.StreamFault.TheVariants as fault
-use Rattle.values.specs.Reading.{Reading, ◌>>=◌, both, second, each, one}
-use Rattle.values.specs.Rose.{Rose, node}
+use Rattle.values.specs.Reading.{Reading, ◌>>=◌, second, one}
+use Rattle.values.specs.Rose.{Rose}
 use Rattle.values.proofs.Readings.{both_Ok, bind_Ok, each_all}
 use Rattle.schema_meta.specs.Entry.{Entry}
 use Rattle.schema_meta.specs.Slots as slot
 use Rattle.schema_meta.specs.Types.{readable, checked, needs, bool_of}
-use Rattle.schema_meta.specs.Fields.{checked_name, name_in, name_of, Label, Content, label, label_of, content_of, field, field_of, entry_by, fields_in, forest}
+use Rattle.schema_meta.specs.Fields.{name_in, name_of, Label, label, label_of, content_of, field, field_of, entry_by, fields_in, forest}
 use Rattle.schema_meta.specs.Totals.{total}
 use Rattle.schema_meta.specs.Schema.{columns_of, endianness_of, schema_of}
 use Rattle.schema_meta.specs.Logical.{logical_field}
