@@ -1,6 +1,6 @@
 -- A batch of two int64 columns with the rows (1, 10), (2, null), (3, 30), as another program wrote it: the definitions
 -- answer what it says, and what each changed byte is the fault of.
-use Rattle.std.proofs.Common.{◌≡◌, ℕ, pos, true, List, [], ◌∷◌, ◌++◌, take, Option, None, Some, Ok, Err, refl, slice_set}
+use Rattle.std.proofs.Common.{◌≡◌, ℕ, pos, true, List, [], ◌∷◌, ◌++◌, take, drop, Option, None, Some, Ok, Err, refl, slice_set}
 use Rattle.flatbuf.specs.Layout.{number_at, signed_at, target_at, bytes_at, block_at, place_of_vtable, vtable_at, table_at, root_of, slot_of, number_of, signed_of, structs_of, subtable_of, vector_at, vector_of, entry_of}
 use Rattle.values.specs.Reading.{Reading, each, one, several}
 use Rattle.values.specs.Rose.{Rose, node, none}
@@ -15,6 +15,7 @@ use Rattle.schema_meta.specs.Shape.{shape_of}
 use Rattle.schema_meta.specs.Stage.{Known, Whole}
 use Rattle.schema_meta.specs.Message.{version_of, kind_of, header_table, body_of, record_batch, header_of, meta_of}
 use Rattle.schema_meta.specs.Framing.{framed, message_at, staged, first}
+use Rattle.messages.specs.Run.{run_of, whole_run}
 
 abbrev message : List ℕ
 message =
@@ -83,3 +84,16 @@ pub faults :
     × (first new_stream (255 ∷ 255 ∷ 255 ∷ 255 ∷ 0 ∷ 0 ∷ 0 ∷ 0 ∷ []) ≡ refused fault.NoSchema)
 unfolding number_at signed_at target_at bytes_at block_at place_of_vtable vtable_at table_at root_of slot_of number_of signed_of structs_of subtable_of vector_at vector_of entry_of each word_at node_of span_of rows_of nodes_in nodes_of spans_in spans_of plain batch_of shape_of version_of kind_of header_table body_of record_batch header_of meta_of framed message_at staged first
 faults = (refl, refl, refl, refl, refl, refl, refl, refl)
+
+abbrev end_mark : List ℕ
+end_mark = 255 ∷ 255 ∷ 255 ∷ 255 ∷ 0 ∷ 0 ∷ 0 ∷ 0 ∷ []
+
+-- the batch, the end mark, and the beginning of a third message
+pub messages :
+    whole_run open_stream (message ++ (end_mark ++ (255 ∷ 255 ∷ [])))
+    ≡ record {
+      messages = record { header = header.Batch sample_header; body = drop 208 message } ∷ record { header = header.End; body = [] } ∷ [];
+      rest = Ok (record { known = open_stream; held = 255 ∷ 255 ∷ [] });
+    }
+unfolding number_at signed_at target_at bytes_at block_at place_of_vtable vtable_at table_at root_of slot_of number_of signed_of structs_of subtable_of vector_at vector_of entry_of each word_at node_of span_of rows_of nodes_in nodes_of spans_in spans_of plain batch_of shape_of version_of kind_of header_table body_of record_batch header_of meta_of framed message_at staged first run_of
+messages = refl
