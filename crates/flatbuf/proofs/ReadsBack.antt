@@ -1,7 +1,6 @@
 -- What is written is read back, from the root table down.
-use Rattle.std.proofs.Common.{◌≡◌, ℕ, ◌+◌, ◌*◌, ◌-◌, ◌/◌, ◌%◌, ◌^◌, ◌<◌, ◌≤◌, List, [], ◌∷◌, ◌++◌, length, take, drop, Option, Some, refl, ap, sym, subst, ◌∙◌, arith}
+use Rattle.std.proofs.Common.{◌≡◌, ℕ, ◌+◌, ◌*◌, ◌-◌, ◌/◌, ◌%◌, ◌^◌, ◌<◌, ◌≤◌, List, [], ◌∷◌, ◌++◌, length, Option, Some, refl, ap, subst, ◌∙◌, arith}
 use Rattle.std.proofs.Math.Nat.{div-add-mod', mul-le-mul_left}
-use Rattle.std.proofs.lemmas.List.{length-take-le, take-append-drop}
 use Rattle.byteorder.specs.Endian.{little_bytes}
 use Rattle.flatbuf.specs.Tree.{Node, absent, number, text, structs, table, references, Nodes, node, no_nodes, count}
 use Rattle.flatbuf.specs.Layout.{target_at, table_at, table_in, slot_of, root_of}
@@ -47,11 +46,11 @@ counted-stands b at n xs a =
       items = At-back b at (up_count at + 4) (counted at n) xs a (omega (arith, len));
     }
 
--- a whole number of elements
-elements-take : (w : ℕ) (xs : List ℕ) → length (take (length xs / w * w) xs) ≡ length xs / w * w
-elements-take w xs =
-    let split : length xs / w * w + length xs % w ≡ length xs = div-add-mod' (length xs) w in
-    length-take-le (length xs / w * w) xs (omega (arith, split))
+-- whole elements
+elements-whole : (w n : ℕ) → n % w ≡ 0 → n ≡ n / w * w
+elements-whole w n h =
+    let split : n / w * w + n % w ≡ n = div-add-mod' n w in
+    omega (arith, split, h)
 
 few-elements : (w n : ℕ) → 1 ≤ w → n / w ≤ n
 few-elements w n h =
@@ -73,11 +72,8 @@ mutual
       let p : ℕ = up_count at in
       let c = counted-stands b at (length xs / w) xs own in
       let target = target-at b q p (omega arith) (omega arith) field in
-      let n : ℕ = length xs / w * w in
-      let few = few-elements w (length xs) f in
-      let P : List ℕ → Type 0 = λ l. At b (p + 4) l in
-      let split : At b (p + 4) (take n xs ++ drop n xs) = subst P (sym (take-append-drop n xs)) c.items in
-      (q, p, e, target, block-at b p w (length xs / w) (take n xs) (omega (arith, few, short)) (elements-take w xs) c.count (At-front b (p + 4) (take n xs) (drop n xs) split))
+      let few = few-elements w (length xs) f.0 in
+      (q, p, e, target, block-at b p w (length xs / w) xs (omega (arith, few, short)) (elements-whole w (length xs) f.1) c.count c.items)
   node-held b q at o (table s) f e field own le short =
       let p : ℕ = table_place at s in
       let v : ℕ = up 8 at in

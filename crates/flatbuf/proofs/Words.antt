@@ -1,7 +1,6 @@
 -- What the reader's words answer where a node is held.
-use Rattle.std.proofs.Common.{◌≡◌, ℕ, ◌+◌, ◌*◌, ◌/◌, ◌≤◌, List, length, Option, Some, None, refl, sym, subst, arith}
+use Rattle.std.proofs.Common.{◌≡◌, ℕ, ◌+◌, ◌*◌, ◌≤◌, List, Option, Some, None, refl, sym, subst}
 use Rattle.std.specs.Int.{Width, byte_len, cast_signed}
-use Rattle.std.proofs.lemmas.List.{take_all}
 use Rattle.flatbuf.specs.Tree.{number, text, structs, table, references, Nodes, count}
 use Rattle.flatbuf.specs.Layout.{Table, Vector, table_in, target_at, slot_of, number_of, signed_at, signed_of, structs_of, subtable_of, vector_at, vector_of, entry_of}
 use Rattle.flatbuf.specs.Held.{element_place, NodeHeld, Held}
@@ -18,9 +17,9 @@ pub text-read : (xs : List ℕ) (t : Table) (k : ℕ) → NodeHeld t.bytes (slot
 unfolding structs_of
 text-read xs t k h = rw (h.2, h.3, h.4) refl
 
-pub structs-read : (w n : ℕ) (xs : List ℕ) (t : Table) (k : ℕ) → length xs / w * w ≡ length xs → NodeHeld t.bytes (slot_of t k) (structs w xs) → structs_of w t k ≡ Some (Some xs)
+pub structs-read : (w : ℕ) (xs : List ℕ) (t : Table) (k : ℕ) → NodeHeld t.bytes (slot_of t k) (structs w xs) → structs_of w t k ≡ Some (Some xs)
 unfolding structs_of
-structs-read w n xs t k e h = rw (h.2, h.3, h.4, e, take_all (length xs) xs (omega arith)) refl
+structs-read w xs t k h = rw (h.2, h.3, h.4) refl
 
 -- a table that a slot or an element leads to
 pub record TableRead (b : List ℕ) (answer : Option (Option Table)) (s : Nodes) : Type 0 where

@@ -1,5 +1,5 @@
 -- A tree is read back from bytes: the reader's words answer, from places alone, what the tree says.
-use Rattle.std.specs.Prelude.{◌≡◌, ℕ, ◌+◌, ◌*◌, ◌/◌, ◌≤◌, List, length, take, Option, Some, None, ⊤}
+use Rattle.std.specs.Prelude.{◌≡◌, ℕ, ◌+◌, ◌*◌, ◌≤◌, List, Option, Some, None, ⊤}
 use Rattle.flatbuf.specs.Tree.{Node, absent, number, text, structs, table, references, Nodes, no_nodes, node, count}
 use Rattle.flatbuf.specs.Layout.{number_at, target_at, block_at, table_at, table_in, slot_of, root_of}
 
@@ -14,8 +14,7 @@ abbrev mutual
   NodeHeld b o (number w n) = (q : ℕ) × (o ≡ Some (Some q)) × (number_at w b q ≡ Some n)
   NodeHeld b o (text xs) = (q : ℕ) × (p : ℕ) × (o ≡ Some (Some q)) × (target_at b q ≡ Some p) × (block_at 1 b p ≡ Some xs)
   NodeHeld b o (structs w xs) =
-      (q : ℕ) × (p : ℕ) × (o ≡ Some (Some q)) × (target_at b q ≡ Some p)
-      × (block_at w b p ≡ Some (take (length xs / w * w) xs))
+      (q : ℕ) × (p : ℕ) × (o ≡ Some (Some q)) × (target_at b q ≡ Some p) × (block_at w b p ≡ Some xs)
   NodeHeld b o (table s) =
       (q : ℕ) × (p : ℕ) × (o ≡ Some (Some q)) × (target_at b q ≡ Some p) × (table_at b p ≡ Some (table_in b p))
       × Held b (slot_of (table_in b p)) 0 s × ((k : ℕ) → count s ≤ k → slot_of (table_in b p) k ≡ Some None)

@@ -5,7 +5,7 @@
 -- next multiple of 8 after it; a field stands at the next multiple of its width from the table's
 -- start; the count of a vector or string stands at the next place that is 4 modulo 8. All fill is
 -- zero. `at` is the place from which an object has room, counted from the start of the bytes.
-use Rattle.std.specs.Prelude.{ℕ, ◌+◌, ◌*◌, ◌-◌, ◌/◌, ◌^◌, ◌<◌, ◌≤◌, List, [], ◌∷◌, ◌++◌, length, replicate, ⊤}
+use Rattle.std.specs.Prelude.{◌≡◌, ℕ, ◌+◌, ◌*◌, ◌-◌, ◌/◌, ◌%◌, ◌^◌, ◌<◌, ◌≤◌, List, [], ◌∷◌, ◌++◌, length, replicate, ⊤}
 use Rattle.byteorder.specs.Endian.{little_bytes}
 use Rattle.flatbuf.specs.Tree.{Node, absent, number, text, structs, table, references, Nodes, no_nodes, node, count}
 
@@ -158,12 +158,12 @@ whole s =
 -- Limits within which a tree can be written.
 
 abbrev mutual
-  -- the numbers fit their widths, and tables their 16 bit sizes
+  -- the numbers fit their widths, the structs are whole, and tables fit their 16 bit sizes
   pub Fits : Node → Type 0
   Fits absent = ⊤
   Fits (number w n) = (1 ≤ w) × (w ≤ 8) × (n < 256 ^ w)
   Fits (text xs) = ⊤
-  Fits (structs w xs) = 1 ≤ w
+  Fits (structs w xs) = (1 ≤ w) × (length xs % w ≡ 0)
   Fits (table s) = (vtable_len s < 2 ^ 16) × (fields_end 4 s < 2 ^ 16) × FitAll s
   Fits (references s) = FitAll s × AreReferences s
 

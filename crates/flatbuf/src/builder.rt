@@ -89,7 +89,7 @@ impl Builder {
         self.push(Slot::Text(owned))
     }
 
-    /// A vector of structs of this width, by the bytes of all.
+    /// A vector of structs of this width, by the bytes of all. A table is finished only with whole structs.
     pub fn structs(&mut self, width: usize, bytes: Vec<u8>) -> Result<(), AllocError>
         ensures ok { OnOk result (slots self.new ≡ add (slots self.old) (structs width bytes.items)) }
         ensures err { OnErr result (slots self.new ≡ slots self.old) }

@@ -2,7 +2,7 @@
 use Rattle.std.proofs.Common.{◌≡◌, ℕ, ◌+◌, ◌*◌, ◌^◌, ◌<◌, ◌≤◌, List, [], ◌∷◌, ◌++◌, length, get_or, drop, append_assoc, refl, ap, sym, ◌∙◌, arith}
 use Rattle.std.proofs.lemmas.List.{drop_more}
 use Rattle.byteorder.specs.Endian.{little_bytes}
-use Rattle.flatbuf.specs.Tree.{table}
+use Rattle.flatbuf.specs.Tree.{structs, table}
 use Rattle.flatbuf.specs.Written.{object_end, table_end, items_place, Fits, IsWritable}
 use Rattle.schema_meta.specs.declared.write.HeaderKind.TheVariants.{RecordBatch}
 use Rattle.schema_meta.specs.MessageTree.{message_slots}
@@ -20,6 +20,9 @@ pub span_bytes-length : (ss : List Span) → length (span_bytes ss) ≡ 16 * len
 span_bytes-length [] = refl
 span_bytes-length (s ∷ ss) = let rest = span_bytes-length ss in omega (arith, rest)
 
+whole-structs : (n : ℕ) (xs : List ℕ) → length xs ≡ 16 * n → Fits (structs 16 xs)
+whole-structs n xs e = (omega arith, omega (arith, e))
+
 pub batch-end : (rows body : ℕ) (ns : List Node) (ss : List Span) → length ns ≤ 1024 → length ss ≤ 3072 →
     object_end 4 (table (message_slots RecordBatch (batch_slots rows ns ss) body)) < 2 ^ 17
 batch-end rows body ns ss few fewer =
@@ -35,7 +38,9 @@ pub batch-writable : (rows body : ℕ) (ns : List Node) (ss : List Span) → len
     IsWritable (message_slots RecordBatch (batch_slots rows ns ss) body)
 batch-writable rows body ns ss few fewer high higher =
     let end = batch-end rows body ns ss few fewer in
-    let fits : Fits (table (batch_slots rows ns ss)) = (omega arith, omega arith, (number-fits 8 rows (omega arith) (omega arith) high, (omega arith, (omega arith, tt)))) in
+    let nodes : Fits (structs 16 (node_bytes ns)) = whole-structs (length ns) (node_bytes ns) (node_bytes-length ns) in
+    let spans : Fits (structs 16 (span_bytes ss)) = whole-structs (length ss) (span_bytes ss) (span_bytes-length ss) in
+    let fits : Fits (table (batch_slots rows ns ss)) = (omega arith, omega arith, (number-fits 8 rows (omega arith) (omega arith) high, (nodes, (spans, tt)))) in
     record {
       fits = (omega arith, omega arith, (number-fits 2 4 (omega arith) (omega arith) (omega arith), (number-fits 1 3 (omega arith) (omega arith) (omega arith), (fits, (number-fits 8 body (omega arith) (omega arith) higher, tt)))));
       short = omega (arith, end);

@@ -1,5 +1,5 @@
 -- The header of a batch that is written is read as it is meant.
-use Rattle.std.proofs.Common.{◌≡◌, ℕ, ◌+◌, ◌*◌, ◌/◌, ◌^◌, ◌<◌, ◌≤◌, List, [], ◌∷◌, ◌++◌, length, drop, Some, None, Ok, refl, ap, sym, subst, ◌∙◌, arith, append_assoc, length-append}
+use Rattle.std.proofs.Common.{◌≡◌, ℕ, ◌+◌, ◌*◌, ◌^◌, ◌<◌, ◌≤◌, List, [], ◌∷◌, ◌++◌, length, drop, Some, None, Ok, refl, ap, sym, subst, ◌∙◌, arith, append_assoc, length-append}
 use Rattle.std.specs.Prelude.{map, pos, sum_by, replicate}
 use Rattle.std.specs.Int.{w64}
 use Rattle.std.proofs.lemmas.Bool.{le-leb, eq-eqb}
@@ -127,9 +127,6 @@ spans-count j (f ∷ fs) rows =
 
 -- the header's table
 
-whole-structs : (n : ℕ) (xs : List ℕ) → length xs ≡ 16 * n → length xs / 16 * 16 ≡ length xs
-whole-structs n xs e = omega (arith, e)
-
 batch-back : (shape : Shape) (rows body : ℕ) (h : Table) (ns : List Node) (ss : List Span) (nodes : List ReadNode) (spans : List ReadSpan) →
     rows ≤ 2 ^ 24 → length ns ≡ shape.nodes → length ss ≡ shape.spans →
     nodes_in shape.nodes rows (node_bytes ns) ≡ Ok nodes → spans_in shape.spans body (span_bytes ss) ≡ Ok spans →
@@ -139,8 +136,8 @@ batch-back shape rows body h ns ss nodes spans few en es n s held none =
     let small : rows < 2 ^ 63 = omega (arith, few) in
     let nl : length (node_bytes ns) ≡ 16 * shape.nodes = node_bytes-length ns ∙ ap (λ k. 16 * k) en in
     let sl : length (span_bytes ss) ≡ 16 * shape.spans = span_bytes-length ss ∙ ap (λ k. 16 * k) es in
-    let first = structs-read 16 shape.nodes (node_bytes ns) h 1 (whole-structs shape.nodes (node_bytes ns) nl) held.1.0 in
-    let second = structs-read 16 shape.spans (span_bytes ss) h 2 (whole-structs shape.spans (span_bytes ss) sl) held.1.1.0 in
+    let first = structs-read 16 (node_bytes ns) h 1 held.1.0 in
+    let second = structs-read 16 (span_bytes ss) h 2 held.1.1.0 in
     rw (
       none,
       signed-read w64 rows h 0 held.0,
