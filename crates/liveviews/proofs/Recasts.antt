@@ -8,10 +8,11 @@ use Rattle.values.specs.StreamCauses.{cause_of}
 use Rattle.values.specs.declared.faults.StreamFault.{StreamFault}
 use Rattle.values.specs.declared.faults.StreamFault.TheVariants as fault
 use Rattle.schema_meta.specs.Story.{Story}
+use Rattle.schema_meta.specs.Means.{Means}
 use Rattle.stream_writer.specs.Sinks.{Sunk, Writes}
 use Rattle.stream_writer.specs.Stream.{canon}
 use Rattle.stream_writer.specs.declared.faults.WriteFault.{WriteFault}
-use Rattle.liveviews.specs.Steps.{Means, Refuses}
+use Rattle.liveviews.specs.Steps.{Refuses}
 use Rattle.liveviews.specs.Recast.{WritesTable, IsUntouched, Stops}
 
 untouched : (old : Sunk) → IsUntouched old old 0

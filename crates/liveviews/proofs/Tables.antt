@@ -16,12 +16,13 @@ use Rattle.schema_meta.specs.Entry.{Entry}
 use Rattle.schema_meta.specs.Logical.{logical_field}
 use Rattle.schema_meta.specs.Stage.{Known}
 use Rattle.schema_meta.specs.Story.{Story, story, story_of, ends, at_input_end, at_end_mark, after_rows, nothing_known}
+use Rattle.schema_meta.specs.Means.{Means}
 use Rattle.body_writer.specs.Weights.{row_weight}
 use Rattle.stream_writer.specs.Table.{IsRow, IsTable}
 use Rattle.liveviews.specs.Heavy as heavy
 use Rattle.liveviews.specs.Taken.{AreTaken, IsTakenRow}
 use Rattle.liveviews.specs.Refused.{types_of}
-use Rattle.liveviews.specs.Steps.{Tells, Refuses, IsSound, AreTakenSo, Means, HasTold, IsTableOf, Lacks}
+use Rattle.liveviews.specs.Steps.{Tells, Refuses, IsSound, AreTakenSo, HasTold, IsTableOf, Lacks}
 
 weights-same : (fields : List (Rose Entry)) (row : List Datum) → row_weight (map logical_field fields) row ≡ heavy.row_weight (types_of fields) row
 weights-same [] row = refl

@@ -5,11 +5,12 @@ use Rattle.values.specs.Logical.{LogicalField}
 use Rattle.values.specs.declared.causes.Cause.{Cause}
 use Rattle.values.specs.declared.causes.Cause.TheVariants as cause
 use Rattle.schema_meta.specs.Story.{Story}
+use Rattle.schema_meta.specs.Means.{Means}
 use Rattle.stream_writer.specs.Sinks.{Sunk, Writes}
 use Rattle.stream_writer.specs.Stream.{canon}
 use Rattle.stream_writer.specs.declared.faults.WriteFault.{WriteFault}
 use Rattle.stream_writer.specs.declared.faults.WriteFault.TheVariants as write
-use Rattle.liveviews.specs.Steps.{Means, Refuses}
+use Rattle.liveviews.specs.Steps.{Refuses}
 use Rattle.liveviews.specs.declared.recasting.RecastFault.{RecastFault}
 
 -- The stream means a table, and this came of writing the table's canonical stream.

@@ -1,7 +1,6 @@
 -- What reading a stream message by message tells of the whole stream.
 use Rattle.std.specs.Prelude.{◌≡◌, ℕ, ◌^◌, ◌<◌, ◌≤◌, List, [], Option, None, Some, IsSome, Ok, Any, length, drop, map}
 use Rattle.values.specs.Datum.{Datum}
-use Rattle.std.specs.Option.{option_map}
 use Rattle.values.specs.Logical.{LogicalField}
 use Rattle.values.specs.Rose.{Rose}
 use Rattle.values.specs.declared.causes.Cause.{Cause}
@@ -72,12 +71,6 @@ RefusesRowsOf (Some fields) head body before c = RefusesBatch (types_of fields) 
 -- The stream told these rows and no more, and ends like an input where so much is known.
 abbrev pub HasTold : Story → List (List Datum) → Known → Type 0
 HasTold s rows known = s ≡ after_rows rows (ends known (at_input_end known.schema))
-
--- Reading the whole stream gives this table: no fault stands, and these are its columns and rows.
-pub record Means (s : Story) (fields : List LogicalField) (rows : List (List Datum)) : Type 0 where
-  pub whole : s.end ≡ Ok tt
-  pub columns : option_map (λ fs. map logical_field fs) s.schema ≡ Some fields
-  pub cells : s.rows ≡ rows
 
 -- the table of a stream whose schema is this
 abbrev pub IsTableOf : Option (List (Rose Entry)) → List (List Datum) → List LogicalField → List (List Datum) → Type 0

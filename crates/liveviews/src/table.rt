@@ -8,8 +8,9 @@ ghost use Rattle.schema_meta.specs.Sound.{Fits};
 ghost use Rattle.schema_meta.specs.Logical.{logical_field};
 ghost use Rattle.liveviews.specs.Taken.{AreTaken, cells_of_rows};
 ghost use Rattle.schema_meta.specs.Story.{Story, story_of};
+ghost use Rattle.schema_meta.specs.Means.{Means};
 ghost use Rattle.stream_writer.specs.Table.{IsTable};
-ghost use Rattle.liveviews.specs.Steps.{AreTakenSo, HasEnded, HasTold, IsSound, IsTableOf, Lacks, Means, ReadsRows, Refuses, RefusesRowsOf, Tells, TellsAfter, length_of};
+ghost use Rattle.liveviews.specs.Steps.{AreTakenSo, HasEnded, HasTold, IsSound, IsTableOf, Lacks, ReadsRows, Refuses, RefusesRowsOf, Tells, TellsAfter, length_of};
 ghost use Rattle.liveviews.specs.Refused.{RefusesBatch, types_of, types_of_parts};
 
 use crate::batch::{add_rows, check_columns};

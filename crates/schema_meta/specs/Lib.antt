@@ -12,6 +12,7 @@ pub mod BodyLayout
 pub mod Cells
 pub mod Rows
 pub mod Story
+pub mod Means
 pub mod Batch
 pub mod BatchHead
 pub mod Counts

@@ -18,8 +18,9 @@ use Rattle.schema_meta.specs.SchemaTree.{schema_slots, schema_metadata, AreColum
 use Rattle.schema_meta.specs.SchemaLaw.{stored_fields, AreNamed, before, AreExpected}
 use Rattle.schema_meta.specs.Framing.{first}
 use Rattle.schema_meta.specs.Story.{Story, knowing, told_by, told, story, story_of}
+use Rattle.schema_meta.specs.Means.{Means}
 use Rattle.schema_meta.proofs.SchemaFits.{schema-end, schema-writable}
-use Rattle.schema_meta.proofs.SchemaRead.{schema-law}
+use Rattle.schema_meta.proofs.SchemaRead.{schema-law, columns-law}
 use Rattle.body_writer.specs.Body.{body_bytes, body_nodes, body_spans}
 use Rattle.body_writer.specs.Weights.{IsBatch}
 use Rattle.body_writer.proofs.Sizes.{body_nodes-few, body_spans-few}
@@ -29,7 +30,7 @@ use Rattle.stream_writer.specs.BatchLaw.{head}
 use Rattle.stream_writer.specs.Stream.{message, end_mark, schema_message, batch_message, batch_len, batches, canon}
 use Rattle.stream_writer.specs.Table.{IsRow, IsTable}
 use Rattle.stream_writer.specs.RowsLaw.{AreTyped}
-use Rattle.stream_writer.specs.RoundTrip.{whole_story, RoundTrip, DeclaredTrip}
+use Rattle.stream_writer.specs.RoundTrip.{MeansItsTable, DeclaredMeansItsTable, whole_story, RoundTrip, DeclaredTrip}
 use Rattle.stream_writer.proofs.BatchFits.{batch-end, batch-writable}
 use Rattle.stream_writer.proofs.Cut.{batch-some, batch-sound}
 use Rattle.stream_writer.proofs.BatchRead.{batch-law}
@@ -170,3 +171,17 @@ round-trip fs rows t named typed = trip None fs rows t named typed tt
 
 pub declared-trip : DeclaredTrip
 declared-trip fs rows t named typed = trip (Some fs) fs rows t named typed refl
+
+-- the story of a whole stream of a table means the table
+
+told-means : (s : Story) (fs : List LogicalField) (rows : List (List Datum)) → s ≡ whole_story fs rows → Means s fs rows
+told-means s fs rows e =
+    let P : Story → Type 0 = λ story. Means story fs rows in
+    subst P (sym e) (record { whole = refl; columns = ap (λ columns. Some columns) (columns-law fs); cells = refl })
+
+pub means-its-table : MeansItsTable
+means-its-table fs rows t named typed = told-means (story_of (canon fs rows)) fs rows (round-trip fs rows t named typed)
+
+pub declared-means-its-table : DeclaredMeansItsTable
+declared-means-its-table fs rows t named typed =
+    told-means (story (length (canon fs rows)) (before (Some fs)) (canon fs rows)) fs rows (declared-trip fs rows t named typed)

@@ -4,6 +4,7 @@ use Rattle.values.specs.Datum.{Datum}
 use Rattle.values.specs.Logical.{LogicalField}
 use Rattle.schema_meta.specs.SchemaLaw.{stored_fields, AreNamed, before}
 use Rattle.schema_meta.specs.Story.{Story, story, story_of}
+use Rattle.schema_meta.specs.Means.{Means}
 use Rattle.stream_writer.specs.Stream.{canon}
 use Rattle.stream_writer.specs.Table.{IsTable}
 use Rattle.stream_writer.specs.RowsLaw.{AreTyped}
@@ -22,3 +23,15 @@ abbrev pub DeclaredTrip : Type 0
 DeclaredTrip =
     (fs : List LogicalField) (rows : List (List Datum)) → IsTable fs rows → AreNamed fs → All (AreTyped fs) rows
     → story (length (canon fs rows)) (before (Some fs)) (canon fs rows) ≡ whole_story fs rows
+
+-- Reading the canonical stream of a table gives the table: no fault stands, and its columns and its rows come back.
+abbrev pub MeansItsTable : Type 0
+MeansItsTable =
+    (fs : List LogicalField) (rows : List (List Datum)) → IsTable fs rows → AreNamed fs → All (AreTyped fs) rows
+    → Means (story_of (canon fs rows)) fs rows
+
+-- the same where these columns were declared for the stream
+abbrev pub DeclaredMeansItsTable : Type 0
+DeclaredMeansItsTable =
+    (fs : List LogicalField) (rows : List (List Datum)) → IsTable fs rows → AreNamed fs → All (AreTyped fs) rows
+    → Means (story (length (canon fs rows)) (before (Some fs)) (canon fs rows)) fs rows

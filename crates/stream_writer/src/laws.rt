@@ -3,7 +3,7 @@
 ghost use Rattle.stream_writer.specs.BatchLaw.{BatchLaw};
 ghost use Rattle.stream_writer.specs.CutLaw.{CutLaw};
 ghost use Rattle.stream_writer.specs.FramingLaw.{FirstLaw, LastLaw};
-ghost use Rattle.stream_writer.specs.RoundTrip.{DeclaredTrip, RoundTrip};
+ghost use Rattle.stream_writer.specs.RoundTrip.{DeclaredMeansItsTable, DeclaredTrip, MeansItsTable, RoundTrip};
 ghost use Rattle.stream_writer.specs.RowsLaw.{RowsLaw};
 
 /// The batches of a table, joined, are its rows. Each is within the limits, and none could have taken
@@ -32,8 +32,11 @@ pub fn rows_law()
 {}
 
 /// The canonical stream of each table within the limits is read as that table: its columns, its rows in
-/// order, and an end without fault; also where its columns were declared for the stream.
+/// order, and an end without fault; also where its columns were declared for the stream. `means` says
+/// so of the columns' names and types, `alone` of how they are stored too.
 pub fn canon_law()
+    ensures means { MeansItsTable }
+    ensures declared_means { DeclaredMeansItsTable }
     ensures alone { RoundTrip }
     ensures declared { DeclaredTrip }
 {}
