@@ -8,3 +8,4 @@ pub mod Places
 pub mod SchemaFits
 pub mod FieldRead
 pub mod SchemaRead
+pub mod Signs

@@ -25,3 +25,4 @@ pub mod Sound
 pub mod MessageTree
 pub mod SchemaTree
 pub mod SchemaLaw
+pub mod SignLaw

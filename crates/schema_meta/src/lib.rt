@@ -19,7 +19,7 @@ mod write;
 
 pub use field::Field;
 pub use header::{BatchHeader, Header, MessageKind, Node, Shape, Span};
-pub use laws::{path_law, schema_law};
+pub use laws::{path_law, schema_law, sign_law};
 pub use parts::{Part, place_parts};
 pub use schema::{StreamSchema, read_schema};
 pub use stored_type::StoredType;
