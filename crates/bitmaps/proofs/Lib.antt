@@ -1,0 +1,5 @@
+pub mod Runs
+pub mod Packing
+pub mod Pushing
+pub mod Making
+pub mod Sample

@@ -1,0 +1,80 @@
+//! Bits of one's own.
+
+ghost use Rattle.std.specs.Prelude.{◌≡◌, ◌+◌, ◌<◌, ◌++◌, ◌∷◌, ◌^◌, [], length, IfOk, OnErr};
+ghost use Rattle.bitmaps.specs.Bits.{bits_at};
+ghost use Rattle.bitmaps.specs.Packed.{IsPacked, bytes_of};
+
+use crate::bits::Bits;
+use std::alloc::{AllocError, Global};
+use std::marker::Model;
+
+/// A bitmap in memory of its own. Contracts see it as the list of its bits.
+#[derive(Debug, Drop)]
+pub struct Bitmap {
+    bytes: Vec<u8>,
+    len: usize,
+}
+
+impl Model for Bitmap {
+    ghost use Rattle.std.specs.Prelude.{Bool, List};
+    ghost use Rattle.bitmaps.specs.Bits.{bits_at};
+    ghost use Rattle.bitmaps.specs.Packed.{IsPacked};
+
+    ghost Value = { List Bool };
+
+    ghost view = { λ b. bits_at b.bytes.items 0 b.len };
+
+    ghost invariant = { λ b. IsPacked b.bytes.items b.len };
+}
+
+/// Adds a bit to the `len` that the bytes hold.
+#[tactic(auto, using(crate::proofs::Pushing::pushing))]
+fn push_bit(bytes: &mut Vec<u8>, len: usize, bit: bool) -> Result<(), AllocError>
+    requires { IsPacked bytes.old.items len }
+    ensures pushed { IfOk result (λ _. bytes.new.items ≡ bytes_of (bits_at bytes.old.items 0 len ++ bit ∷ [])) }
+    ensures unchanged { OnErr result (bytes.new.items ≡ bytes.old.items) }
+{
+    let place = len % 8;
+    if place == 0 {
+        bytes.push(bit as u8)?;
+    } else {
+        bytes[len / 8] += (bit as u8) << place;
+    }
+    Ok(())
+}
+
+#[tactic(auto, using(crate::proofs::Packing::packing))]
+impl Bitmap {
+    /// No bits, with room for `len` of them.
+    pub fn with_capacity(alloc: Global, len: usize) -> Result<Bitmap, AllocError>
+        ensures { IfOk result (λ b. b ≡ []) }
+    {
+        let bytes = Vec::with_capacity(alloc, len.div_ceil(8))?;
+        Ok(Bitmap { bytes, len: 0 })
+    }
+
+    /// Adds a bit at the end. A refusal changes nothing.
+    pub fn push(&mut self, bit: bool) -> Result<(), AllocError>
+        requires { length self.old + 1 < 2 ^ 64 }
+        ensures pushed { IfOk result (λ _. self.new ≡ self.old ++ bit ∷ []) }
+        ensures unchanged { OnErr result (self.new ≡ self.old) }
+    {
+        push_bit(&mut self.bytes, self.len, bit)?;
+        self.len += 1;
+        Ok(())
+    }
+
+    /// Its bits.
+    pub fn bits(&self) -> Bits<'_>
+        ensures { result ≡ self.now }
+    {
+        Bits::new(&self.bytes, 0, self.len)
+    }
+
+    /// The bytes that hold its bits: no more than are needed, and unused bits are 0.
+    pub fn as_bytes(&self) -> &[u8]
+        ensures { result.now ≡ bytes_of self.now }
+    {
+        &self.bytes
+    }
+}
