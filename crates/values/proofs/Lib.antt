@@ -1,2 +1,4 @@
 pub mod Readings
 pub mod Roses
+pub mod ItemSizes
+pub mod KeyLaws

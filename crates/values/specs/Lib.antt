@@ -8,3 +8,6 @@ pub mod StreamCauses
 pub mod Reading
 pub mod Rose
 pub mod Typed
+pub mod Sizes
+pub mod Keys
+pub mod KeyOrder

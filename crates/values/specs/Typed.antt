@@ -8,9 +8,7 @@ use Rattle.values.specs.declared.types.ColType.TheVariants.{Int64, Utf8}
 
 -- a cell of this type: a null, a number of 64 bits, or a text that is UTF-8.
 abbrev pub HasType : ColType → Datum → Type 0
-HasType Int64 null = Unit {0}
+HasType type null = Unit {0}
 HasType Int64 (whole n) = FitsSigned w64 n
-HasType Int64 (text b) = ⊥
-HasType Utf8 null = Unit {0}
-HasType Utf8 (whole n) = ⊥
 HasType Utf8 (text b) = is_utf8 b ≡ true
+HasType _ _ = ⊥

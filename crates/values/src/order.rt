@@ -1,25 +1,38 @@
 //! The order of values.
 
 ghost use Rattle.std.specs.Prelude.{◌≡◌};
-ghost use Rattle.values.specs.Order.{datum_cmp};
+ghost use Rattle.values.specs.Order.{datum_cmp, kind_of};
 
 use crate::cells::{Kind, Value};
 use std::cmp::Ordering;
 
-/// Numbers by value, texts by their bytes (a beginning stands before its continuation), nulls last.
+/// False before true, numbers by value, texts and bytes by their bytes (a beginning stands before its continuation), nulls last.
 ///
-/// Values of one column are of one kind or null. Elsewhere numbers stand before texts, so that the order is
-/// total.
+/// Values of one column are of one kind or null. Two kinds stand in the order of `rank`, so that the order is total. Lists have no order
+/// among themselves, and structs have none: they are answered as equal.
 pub fn cmp_values(a: &Value, b: &Value) -> Ordering
     ensures { result ≡ datum_cmp a.now b.now }
 {
     match (&a.kind, &b.kind) {
-        (Kind::Null, Kind::Null) => Ordering::Equal,
-        (Kind::Null, _) => Ordering::Greater,
-        (_, Kind::Null) => Ordering::Less,
+        (Kind::Truth(x), Kind::Truth(y)) => x.cmp(y),
         (Kind::Whole(x), Kind::Whole(y)) => x.cmp(y),
         (Kind::Text(x), Kind::Text(y)) => x.cmp(y),
-        (Kind::Whole(_), Kind::Text(_)) => Ordering::Less,
-        (Kind::Text(_), Kind::Whole(_)) => Ordering::Greater,
+        (Kind::Bytes(x), Kind::Bytes(y)) => x.cmp(y),
+        _ => rank(a).cmp(&rank(b)),
+    }
+}
+
+/// The place of a value's kind among the kinds.
+fn rank(value: &Value) -> u8
+    ensures { result ≡ kind_of value.now }
+{
+    match &value.kind {
+        Kind::Truth(_) => 0,
+        Kind::Whole(_) => 1,
+        Kind::Text(_) => 2,
+        Kind::Bytes(_) => 3,
+        Kind::List(_) => 4,
+        Kind::Struct(_) => 5,
+        Kind::Null => 6,
     }
 }

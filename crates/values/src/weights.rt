@@ -17,12 +17,13 @@ pub fn slot(col_type: &ColType) -> u64
     }
 }
 
-/// The weight of a cell: its slot, and the bytes of a text.
+/// The weight of a cell: its slot, and the bytes of a text or of bytes.
 pub fn weight(col_type: &ColType, value: &Value) -> u64
     ensures { result ≡ weight_of col_type.now value.now }
 {
     match &value.kind {
         Kind::Text(text) => slot(col_type) + text.len() as u64,
+        Kind::Bytes(bytes) => slot(col_type) + bytes.len() as u64,
         _ => slot(col_type),
     }
 }

@@ -1,0 +1,55 @@
+//! Keys: values that are compared, ordered and hashed.
+
+ghost use Rattle.std.specs.Prelude.{◌≡◌, IfOk};
+ghost use Rattle.values.specs.Keys.{key_of};
+
+use crate::cells::{Kind, Value};
+use crate::key_parts::{KeyBytes, KeyText};
+use std::alloc::{AllocError, Global};
+
+/// A value by which rows are told apart, grouped and ordered. Lists and structs are none.
+///
+/// Keys of one column are of one kind or null. Their order is that of `cmp_values`, so nulls come last.
+#[derive(Debug, Drop, PartialEq, Eq, PartialOrd, Ord, Hash)]
+pub enum Key {
+    /// A truth value.
+    Truth(bool),
+    /// A whole number.
+    Whole(i128),
+    /// A text.
+    Text(KeyText),
+    /// Bytes.
+    Bytes(KeyBytes),
+    /// No value.
+    Null,
+}
+
+impl Key {
+    /// The key that a value is; none where it is a list or a struct.
+    pub fn of(alloc: Global, value: &Value) -> Result<Option<Key>, AllocError>
+        ensures { IfOk result (λ key. key ≡ key_of value.now) }
+    {
+        Ok(Some(match &value.kind {
+            Kind::Null => Key::Null,
+            Kind::Truth(truth) => Key::Truth(*truth),
+            Kind::Whole(number) => Key::Whole(*number),
+            Kind::Text(text) => Key::Text(KeyText::new(alloc, text.as_str())?),
+            Kind::Bytes(bytes) => Key::Bytes(KeyBytes::new(alloc, bytes)?),
+            Kind::List(_) => return Ok(None),
+            Kind::Struct(_) => return Ok(None),
+        }))
+    }
+
+    /// An equal key with memory of its own.
+    pub fn copy(&self, alloc: Global) -> Result<Key, AllocError>
+        ensures { IfOk result (λ key. key ≡ self.now) }
+    {
+        Ok(match self {
+            Key::Null => Key::Null,
+            Key::Truth(truth) => Key::Truth(*truth),
+            Key::Whole(number) => Key::Whole(*number),
+            Key::Text(text) => Key::Text(text.copy(alloc)?),
+            Key::Bytes(bytes) => Key::Bytes(bytes.copy(alloc)?),
+        })
+    }
+}

@@ -1,0 +1,203 @@
+//! What keys hold, where it lies in memory of its own.
+
+ghost use Rattle.std.specs.Prelude.{◌≡◌, IfOk};
+
+use std::alloc::{AllocError, Global};
+use std::cmp::Ordering;
+use std::hash::{Hash, Hasher};
+use std::marker::Model;
+
+/// The text of a key. Contracts see its bytes.
+#[derive(Debug, Drop)]
+pub struct KeyText {
+    text: String,
+}
+
+impl Model for KeyText {
+    ghost use Rattle.std.specs.Prelude.{List, string_bytes, ℕ};
+
+    ghost Value = { List ℕ };
+
+    ghost view = { λ t. string_bytes t.text };
+}
+
+impl KeyText {
+    /// A copy of a text.
+    pub(crate) fn new(alloc: Global, text: &str) -> Result<KeyText, AllocError>
+        ensures { IfOk result (λ key. key ≡ text.now) }
+    {
+        Ok(KeyText {
+            text: String::from_str(alloc, text)?,
+        })
+    }
+
+    /// An equal one with memory of its own.
+    pub(crate) fn copy(&self, alloc: Global) -> Result<KeyText, AllocError>
+        ensures { IfOk result (λ key. key ≡ self.now) }
+    {
+        KeyText::new(alloc, &self.text)
+    }
+}
+
+impl PartialEq for KeyText {
+    ghost use Rattle.std.proofs.Common.{rules};
+    ghost use Rattle.std.specs.Cmp.Lexicographic.{pointwise};
+    ghost use Rattle.std.specs.Cmp.Rules.{comparing};
+    ghost use Rattle.std.specs.Prelude.{nat_eq};
+
+    ghost eq = { pointwise nat_eq };
+    ghost laws = { Prim.search (comparing, rules) };
+
+    fn eq(&self, other: &KeyText) -> bool {
+        self.text == other.text
+    }
+}
+
+impl Eq for KeyText {
+    ghost use Rattle.std.proofs.Common.{rules};
+    ghost use Rattle.std.specs.Cmp.Rules.{comparing};
+
+    ghost laws = { Prim.search (comparing, rules) };
+}
+
+impl PartialOrd for KeyText {
+    ghost use Rattle.std.proofs.Common.{rules};
+    ghost use Rattle.std.specs.Cmp.{partial_order_from_own_ties};
+    ghost use Rattle.std.specs.Cmp.Lexicographic.{slice_cmp};
+    ghost use Rattle.std.specs.Cmp.Rules.{comparing};
+    ghost use Rattle.std.specs.Ordering.{as_partial_cmp, nat_cmp};
+
+    ghost partial_cmp = { as_partial_cmp (slice_cmp nat_cmp) };
+    ghost laws = { partial_order_from_own_ties (Prim.search (comparing, rules)) (Prim.search (comparing, rules)) };
+
+    fn partial_cmp(&self, other: &KeyText) -> Option<Ordering> {
+        Some(self.cmp(other))
+    }
+}
+
+impl Ord for KeyText {
+    ghost use Rattle.std.proofs.Common.{rules};
+    ghost use Rattle.std.specs.Cmp.Lexicographic.{slice_cmp};
+    ghost use Rattle.std.specs.Cmp.Rules.{comparing};
+    ghost use Rattle.std.specs.Ordering.{nat_cmp};
+
+    ghost cmp = { slice_cmp nat_cmp };
+    ghost total = { Prim.search (comparing, rules) };
+    ghost matches_partial_cmp = { Prim.search (comparing, rules) };
+    ghost matches_eq = { Prim.search (comparing, rules) };
+
+    fn cmp(&self, other: &KeyText) -> Ordering {
+        self.text.cmp(&other.text)
+    }
+}
+
+impl Hash for KeyText {
+    ghost use Rattle.std.proofs.Common.{rules};
+    ghost use Rattle.std.specs.Cmp.Rules.{hashing};
+    ghost use Rattle.std.specs.Hash as fed;
+
+    ghost hash_input = { fed.str };
+    ghost respects_eq = { Prim.search (hashing, rules) };
+
+    fn hash<H: Hasher>(&self, state: &mut H) {
+        self.text.hash(state);
+    }
+}
+
+/// The bytes of a key that is no text. Contracts see them.
+#[derive(Debug, Drop)]
+pub struct KeyBytes {
+    bytes: Vec<u8>,
+}
+
+impl Model for KeyBytes {
+    ghost use Rattle.std.specs.Prelude.{List, ℕ};
+
+    ghost Value = { List ℕ };
+
+    ghost view = { λ b. b.bytes.items };
+}
+
+impl KeyBytes {
+    /// A copy of some bytes.
+    pub(crate) fn new(alloc: Global, bytes: &[u8]) -> Result<KeyBytes, AllocError>
+        ensures { IfOk result (λ key. key ≡ bytes.now) }
+    {
+        Ok(KeyBytes {
+            bytes: Vec::from_slice(alloc, bytes)?,
+        })
+    }
+
+    /// An equal one with memory of its own.
+    pub(crate) fn copy(&self, alloc: Global) -> Result<KeyBytes, AllocError>
+        ensures { IfOk result (λ key. key ≡ self.now) }
+    {
+        KeyBytes::new(alloc, &self.bytes)
+    }
+}
+
+impl PartialEq for KeyBytes {
+    ghost use Rattle.std.proofs.Common.{rules};
+    ghost use Rattle.std.specs.Cmp.Lexicographic.{pointwise};
+    ghost use Rattle.std.specs.Cmp.Rules.{comparing};
+    ghost use Rattle.std.specs.Prelude.{nat_eq};
+
+    ghost eq = { pointwise nat_eq };
+    ghost laws = { Prim.search (comparing, rules) };
+
+    fn eq(&self, other: &KeyBytes) -> bool {
+        self.bytes == other.bytes
+    }
+}
+
+impl Eq for KeyBytes {
+    ghost use Rattle.std.proofs.Common.{rules};
+    ghost use Rattle.std.specs.Cmp.Rules.{comparing};
+
+    ghost laws = { Prim.search (comparing, rules) };
+}
+
+impl PartialOrd for KeyBytes {
+    ghost use Rattle.std.proofs.Common.{rules};
+    ghost use Rattle.std.specs.Cmp.{partial_order_from_own_ties};
+    ghost use Rattle.std.specs.Cmp.Lexicographic.{slice_cmp};
+    ghost use Rattle.std.specs.Cmp.Rules.{comparing};
+    ghost use Rattle.std.specs.Ordering.{as_partial_cmp, nat_cmp};
+
+    ghost partial_cmp = { as_partial_cmp (slice_cmp nat_cmp) };
+    ghost laws = { partial_order_from_own_ties (Prim.search (comparing, rules)) (Prim.search (comparing, rules)) };
+
+    fn partial_cmp(&self, other: &KeyBytes) -> Option<Ordering> {
+        Some(self.cmp(other))
+    }
+}
+
+impl Ord for KeyBytes {
+    ghost use Rattle.std.proofs.Common.{rules};
+    ghost use Rattle.std.specs.Cmp.Lexicographic.{slice_cmp};
+    ghost use Rattle.std.specs.Cmp.Rules.{comparing};
+    ghost use Rattle.std.specs.Ordering.{nat_cmp};
+
+    ghost cmp = { slice_cmp nat_cmp };
+    ghost total = { Prim.search (comparing, rules) };
+    ghost matches_partial_cmp = { Prim.search (comparing, rules) };
+    ghost matches_eq = { Prim.search (comparing, rules) };
+
+    fn cmp(&self, other: &KeyBytes) -> Ordering {
+        self.bytes.cmp(&other.bytes)
+    }
+}
+
+impl Hash for KeyBytes {
+    ghost use Rattle.std.proofs.Common.{rules};
+    ghost use Rattle.std.specs.Cmp.Rules.{hashing};
+    ghost use Rattle.std.specs.Hash as fed;
+
+    ghost hash_input = { fed.slice fed.u8 };
+    ghost respects_eq = { Prim.search (hashing, rules) };
+
+    fn hash<H: Hasher>(&self, state: &mut H) {
+        self.bytes.hash(state);
+    }
+}
+
