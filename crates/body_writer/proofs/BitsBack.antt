@@ -5,7 +5,7 @@ use Rattle.std.proofs.lemmas.Bool.{cases_lt, cases_eq}
 use Rattle.std.proofs.lemmas.Bool.Decides.{nat_tests}
 use Rattle.std.proofs.lemmas.List.{get_or-take, get_or-drop, get_or-map, length-map}
 use Rattle.std.proofs.Math.Nat.{div-div-eq-div-mul, pow-succ', zero-div}
-use Rattle.values.specs.Datum.{Datum, null, whole, text}
+use Rattle.values.specs.Datum.{Datum, null}
 use Rattle.body_writer.specs.Columns.{is_valid, null_count, byte_of, packed, bitmap}
 use Rattle.body_writer.specs.ColumnLaw.{valid_at, ValidityLaw}
 use Rattle.body_writer.proofs.Sizes.{packed-length}
@@ -56,10 +56,8 @@ packed-bit (suc n) bs i h = elim (cases_lt i 8) [
 all-valid : (cs : List Datum) (i : ℕ) → i < length cs → null_count cs ≡ 0 → is_valid (get_or cs i null) ≡ true
 all-valid [] i h none = absurd (omega (arith, h))
 all-valid (null ∷ cs) i h none = absurd (omega (arith, none))
-all-valid (whole n ∷ cs) zero h none = refl
-all-valid (whole n ∷ cs) (suc i) h none = all-valid cs i (omega (arith, h)) (omega (arith, none))
-all-valid (text bs ∷ cs) zero h none = refl
-all-valid (text bs ∷ cs) (suc i) h none = all-valid cs i (omega (arith, h)) (omega (arith, none))
+all-valid (c ∷ cs) zero h none = refl
+all-valid (c ∷ cs) (suc i) h none = all-valid cs i (omega (arith, h)) (omega (arith, none))
 
 bit-is : (b : Bool) (n : ℕ) → n ≡ bit b → (n == 1) ≡ b
 bit-is true n e = grind (arith, nat_tests)

@@ -6,7 +6,7 @@ use Rattle.std.proofs.lemmas.List.{drop_at, take_at, drop-drop}
 use Rattle.std.proofs.Math.Nat.{mod-lt}
 use Rattle.byteorder.specs.Endian.{little_number, little_bytes}
 use Rattle.byteorder.specs.Numbers.{little_number-reads_back}
-use Rattle.values.specs.Datum.{Datum, null, whole, text}
+use Rattle.values.specs.Datum.{Datum, null, whole}
 use Rattle.body_writer.specs.Columns.{number_in, numbers, bytes_in, offsets_from, offsets, texts}
 use Rattle.body_writer.specs.ColumnLaw.{NumbersLaw, TextsLaw, offset_at}
 use Rattle.body_writer.proofs.BitsBack.{validity-back}
@@ -18,9 +18,8 @@ drop-piece w i x rest e =
     ap (λ n. drop n (x ++ rest)) more ∙ sym (drop-drop (w * i) w (x ++ rest)) ∙ ap (λ xs. drop (w * i) xs) (drop_at x rest w e)
 
 number-fits : (c : Datum) → number_in c < 256 ^ 8
-number-fits null = omega arith
 number-fits (whole n) = mod-lt (cast_unsigned w128 n) {m = 2 ^ 64} (omega arith)
-number-fits (text bs) = omega arith
+number-fits c = omega arith
 
 pub numbers-back : NumbersLaw
 numbers-back [] i h = absurd (omega (arith, h))

@@ -3,7 +3,7 @@ use Rattle.std.proofs.Common.{◌≡◌, ℕ, suc, ◌+◌, ◌*◌, ◌/◌, �
 use Rattle.std.specs.Prelude.{true, false, All, map, ◌==◌, if◌then◌else◌}
 use Rattle.std.proofs.lemmas.List.{length-map}
 use Rattle.std.proofs.lemmas.List.Elements.{All-head, All-tail}
-use Rattle.values.specs.Datum.{Datum, null, whole, text}
+use Rattle.values.specs.Datum.{Datum, null, text, bytes}
 use Rattle.values.specs.Weight.{weight_of}
 use Rattle.values.specs.declared.types.ColType.{ColType}
 use Rattle.values.specs.declared.types.ColType.TheVariants.{Int64, Utf8}
@@ -20,14 +20,14 @@ weights t [] = 0
 weights t (c ∷ cs) = weight_of t c + weights t cs
 
 int-weight : (c : Datum) → 9 ≤ weight_of Int64 c
-int-weight null = omega arith
-int-weight (whole n) = omega arith
-int-weight (text bs) = omega arith
+int-weight (text t) = omega arith
+int-weight (bytes b) = omega arith
+int-weight c = omega arith
 
 text-weight : (c : Datum) → 5 + length (bytes_in c) ≤ weight_of Utf8 c
-text-weight null = omega arith
-text-weight (whole n) = omega arith
-text-weight (text bs) = omega arith
+text-weight (text t) = omega arith
+text-weight (bytes b) = omega arith
+text-weight c = omega arith
 
 ints-weight : (cs : List Datum) → 9 * length cs ≤ weights Int64 cs
 ints-weight [] = omega arith

@@ -4,7 +4,7 @@ use Rattle.std.specs.Prelude.{All, Vec}
 use Rattle.std.specs.declared.alloc.Global.{Global}
 use Rattle.std.proofs.lemmas.List.{length-map, get_or-map}
 use Rattle.std.proofs.lemmas.List.Elements.{All-head, All-tail}
-use Rattle.values.specs.Datum.{Datum, null, whole, text}
+use Rattle.values.specs.Datum.{Datum, null, text, bytes}
 use Rattle.values.specs.declared.types.ColType.{ColType}
 use Rattle.values.specs.Logical.{LogicalField}
 use Rattle.values.specs.Weight.{weight_of}
@@ -13,9 +13,9 @@ use Rattle.body_writer.specs.Body.{cells, HasColumn}
 use Rattle.body_writer.specs.Weights.{row_weight, rows_weight, IsBatch}
 
 cell-light : (t : ColType) (c : Datum) → length (bytes_in c) ≤ weight_of t c
-cell-light t null = omega arith
-cell-light t (whole n) = omega arith
-cell-light t (text bs) = omega arith
+cell-light t (text xs) = omega arith
+cell-light t (bytes xs) = omega arith
+cell-light t c = omega arith
 
 row-light : (fs : List LogicalField) (row : List Datum) (j : ℕ) → j < length fs → length row ≡ length fs → length (bytes_in (cell_at j row)) ≤ row_weight fs row
 row-light [] row j h e = absurd (omega (arith, h))

@@ -3,7 +3,7 @@ use Rattle.std.specs.Prelude.{ℕ, zero, suc, ◌+◌, ◌*◌, ◌/◌, ◌==�
 use Rattle.std.specs.List.{flat_map}
 use Rattle.std.specs.Int.{w128}
 use Rattle.byteorder.specs.Endian.{little_bytes, low_bytes}
-use Rattle.values.specs.Datum.{Datum, null, whole, text}
+use Rattle.values.specs.Datum.{Datum, null, whole, text, bytes}
 use Rattle.values.specs.declared.types.ColType.{ColType}
 use Rattle.values.specs.declared.types.ColType.TheVariants.{Int64, Utf8}
 
@@ -16,8 +16,7 @@ column j rows = map (cell_at j) rows
 
 abbrev pub is_valid : Datum → Bool
 is_valid null = false
-is_valid (whole n) = true
-is_valid (text bytes) = true
+is_valid _ = true
 
 abbrev pub null_count : List Datum → ℕ
 null_count [] = 0
@@ -44,9 +43,8 @@ validity cs = if null_count cs == 0 then [] else bitmap (map is_valid cs)
 -- "Fixed-size primitive layout": two's complement of 64 bits, zeros for a null
 
 abbrev pub number_in : Datum → ℕ
-number_in null = 0
 number_in (whole n) = low_bytes w128 8 n
-number_in (text bytes) = 0
+number_in _ = 0
 
 abbrev pub numbers : List Datum → List ℕ
 numbers cs = flat_map (λ c. little_bytes 8 (number_in c)) cs
@@ -54,9 +52,9 @@ numbers cs = flat_map (λ c. little_bytes 8 (number_in c)) cs
 -- "Variable-size binary layout": where each text starts and ends, nothing for a null, and the texts
 
 abbrev pub bytes_in : Datum → List ℕ
-bytes_in null = []
-bytes_in (whole n) = []
-bytes_in (text bytes) = bytes
+bytes_in (text t) = t
+bytes_in (bytes b) = b
+bytes_in _ = []
 
 abbrev pub offsets_from : ℕ → List Datum → List ℕ
 offsets_from at [] = little_bytes 4 at

@@ -23,8 +23,7 @@ fn is_set(value: &Value) -> bool
 {
     match &value.kind {
         Kind::Null => false,
-        Kind::Whole(_) => true,
-        Kind::Text(_) => true,
+        _ => true,
     }
 }
 
@@ -33,8 +32,8 @@ fn text_in(value: &Value) -> &[u8]
 {
     match &value.kind {
         Kind::Text(text) => text.as_bytes(),
-        Kind::Null => &[],
-        Kind::Whole(_) => &[],
+        Kind::Bytes(bytes) => bytes,
+        _ => &[],
     }
 }
 
@@ -44,8 +43,7 @@ fn number_bytes(value: &Value) -> [u8; 8]
     let mut bytes = [0u8; 8];
     match &value.kind {
         Kind::Whole(number) => LittleEndian::write_int128(&mut bytes, *number, 8),
-        Kind::Null => {}
-        Kind::Text(_) => {}
+        _ => {}
     }
     bytes
 }

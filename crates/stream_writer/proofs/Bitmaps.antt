@@ -7,7 +7,7 @@ use Rattle.std.proofs.lemmas.Bool.{le-ltb, cases_lt}
 use Rattle.std.proofs.lemmas.List.{length-map, length-take, get_or-take, get_or-drop, get_or-map, drop_all}
 use Rattle.std.proofs.Math.Seq.{drop-cons}
 use Rattle.std.proofs.Math.Nat.{pow-succ', div-div-eq-div-mul}
-use Rattle.values.specs.Datum.{Datum, null, whole, text}
+use Rattle.values.specs.Datum.{Datum, null}
 use Rattle.schema_meta.specs.Buffers.{bit_at, zeros, is_null}
 use Rattle.schema_meta.specs.BodyLayout.{validity_of}
 use Rattle.body_writer.specs.Columns.{is_valid, null_count, byte_of, packed, bitmap, validity}
@@ -129,10 +129,8 @@ validity-read cs =
 all-valid : (cs : List Datum) (i : ℕ) → null_count cs ≡ 0 → i < length cs → is_valid (get_or cs i null) ≡ true
 all-valid [] i z h = absurd (omega (arith, h))
 all-valid (null ∷ cs) i z h = absurd (omega (arith, z))
-all-valid (whole n ∷ cs) zero z h = refl
-all-valid (whole n ∷ cs) (suc i) z h = all-valid cs i (omega (arith, z)) (omega (arith, h))
-all-valid (text bs ∷ cs) zero z h = refl
-all-valid (text bs ∷ cs) (suc i) z h = all-valid cs i (omega (arith, z)) (omega (arith, h))
+all-valid (c ∷ cs) zero z h = refl
+all-valid (c ∷ cs) (suc i) z h = all-valid cs i (omega (arith, z)) (omega (arith, h))
 
 some-bits : (bits : List ℕ) (i : ℕ) → 0 < length bits → is_null bits i ≡ not (bit_at bits i)
 unfolding is_null

@@ -26,9 +26,8 @@ skipped : (w n a : ℕ) (rest : List ℕ) → drop (w + n) (little_bytes w a ++ 
 skipped w n a rest = sym (drop-drop n w (little_bytes w a ++ rest)) ∙ ap (drop n) (drop_at (little_bytes w a) rest w (length-bytes_low_first 0 w a))
 
 number-small : (c : Datum) → number_in c < 2 ^ 64
-number-small null = omega arith
 number-small (whole n) = omega arith
-number-small (text bs) = omega arith
+number-small c = omega arith
 
 pub word-read : (cs : List Datum) (i : ℕ) → i < length cs → word_at (numbers cs) i ≡ number_in (get_or cs i null)
 unfolding word_at
@@ -50,7 +49,7 @@ slot is_null x = if is_null then Ok null else x
 pub number-leaf : (c : Datum) (z : ℤ) → HasType Int64 c → z ≡ cast_signed w64 (number_in c) → slot (not (is_valid c)) (Ok (whole z)) ≡ Ok c
 number-leaf null z t e = refl
 number-leaf (whole n) z t e = ap (λ m. Ok (whole m)) (e ∙ ap (cast_signed w64) (low-same n t) ∙ to_z-of_z w64 n t)
-number-leaf (text bs) z t e = absurd t
+number-leaf c z t e = absurd t
 
 pub numbers-read : (cs : List Datum) → numbers_of (numbers cs) (length cs) ≡ Ok tt
 unfolding numbers_of
@@ -148,5 +147,5 @@ offsets-read cs short =
 
 pub text-leaf : (c : Datum) (xs : List ℕ) → HasType Utf8 c → xs ≡ bytes_in c → slot (not (is_valid c)) (text_of xs) ≡ Ok c
 text-leaf null xs t e = refl
-text-leaf (whole n) xs t e = absurd t
 text-leaf (text bs) xs t e = rw (e, t) refl
+text-leaf c xs t e = absurd t

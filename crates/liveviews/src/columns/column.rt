@@ -31,9 +31,11 @@ impl Model for Column {
     ghost use Rattle.schema_meta.specs.BodyLayout.{IsSound};
     ghost use Rattle.schema_meta.specs.Cells.{good_of, cells_of};
     ghost use Rattle.schema_meta.specs.Logical.{logical_type};
-    ghost use Rattle.liveviews.specs.CheckedColumn.{CheckedColumn};
+    ghost use Rattle.liveviews.specs.CheckedColumn.{CheckedColumn, column_code};
 
     ghost Value = { CheckedColumn };
+
+    ghost coded = { column_code };
 
     ghost view = { λ c. record { col_type = logical_type c.part.stored; cells = good_of (cells_of c.body.value.items c.part) } };
 
