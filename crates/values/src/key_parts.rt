@@ -46,6 +46,7 @@ impl PartialEq for KeyText {
     ghost use Rattle.std.specs.Prelude.{nat_eq};
 
     ghost eq = { pointwise nat_eq };
+
     ghost laws = { Prim.search (comparing, rules) };
 
     fn eq(&self, other: &KeyText) -> bool {
@@ -68,6 +69,7 @@ impl PartialOrd for KeyText {
     ghost use Rattle.std.specs.Ordering.{as_partial_cmp, nat_cmp};
 
     ghost partial_cmp = { as_partial_cmp (slice_cmp nat_cmp) };
+
     ghost laws = { partial_order_from_own_ties (Prim.search (comparing, rules)) (Prim.search (comparing, rules)) };
 
     fn partial_cmp(&self, other: &KeyText) -> Option<Ordering> {
@@ -82,8 +84,11 @@ impl Ord for KeyText {
     ghost use Rattle.std.specs.Ordering.{nat_cmp};
 
     ghost cmp = { slice_cmp nat_cmp };
+
     ghost total = { Prim.search (comparing, rules) };
+
     ghost matches_partial_cmp = { Prim.search (comparing, rules) };
+
     ghost matches_eq = { Prim.search (comparing, rules) };
 
     fn cmp(&self, other: &KeyText) -> Ordering {
@@ -97,6 +102,7 @@ impl Hash for KeyText {
     ghost use Rattle.std.specs.Hash as fed;
 
     ghost hash_input = { fed.str };
+
     ghost respects_eq = { Prim.search (hashing, rules) };
 
     fn hash<H: Hasher>(&self, state: &mut H) {
@@ -143,6 +149,7 @@ impl PartialEq for KeyBytes {
     ghost use Rattle.std.specs.Prelude.{nat_eq};
 
     ghost eq = { pointwise nat_eq };
+
     ghost laws = { Prim.search (comparing, rules) };
 
     fn eq(&self, other: &KeyBytes) -> bool {
@@ -165,6 +172,7 @@ impl PartialOrd for KeyBytes {
     ghost use Rattle.std.specs.Ordering.{as_partial_cmp, nat_cmp};
 
     ghost partial_cmp = { as_partial_cmp (slice_cmp nat_cmp) };
+
     ghost laws = { partial_order_from_own_ties (Prim.search (comparing, rules)) (Prim.search (comparing, rules)) };
 
     fn partial_cmp(&self, other: &KeyBytes) -> Option<Ordering> {
@@ -179,8 +187,11 @@ impl Ord for KeyBytes {
     ghost use Rattle.std.specs.Ordering.{nat_cmp};
 
     ghost cmp = { slice_cmp nat_cmp };
+
     ghost total = { Prim.search (comparing, rules) };
+
     ghost matches_partial_cmp = { Prim.search (comparing, rules) };
+
     ghost matches_eq = { Prim.search (comparing, rules) };
 
     fn cmp(&self, other: &KeyBytes) -> Ordering {
@@ -194,10 +205,10 @@ impl Hash for KeyBytes {
     ghost use Rattle.std.specs.Hash as fed;
 
     ghost hash_input = { fed.slice fed.u8 };
+
     ghost respects_eq = { Prim.search (hashing, rules) };
 
     fn hash<H: Hasher>(&self, state: &mut H) {
         self.bytes.hash(state);
     }
 }
-

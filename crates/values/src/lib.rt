@@ -14,6 +14,8 @@ mod key_parts;
 mod laws;
 pub mod limits;
 mod order;
+#[cfg(test)]
+mod tests;
 mod types;
 mod weights;
 
