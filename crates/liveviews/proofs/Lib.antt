@@ -9,3 +9,4 @@ pub mod Batching
 pub mod Stories
 pub mod Tables
 pub mod Recasts
+pub mod Endings

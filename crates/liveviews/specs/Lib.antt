@@ -4,3 +4,5 @@ pub mod Taken
 pub mod Refused
 pub mod Steps
 pub mod Recast
+pub mod Files
+pub mod Program

@@ -3,9 +3,11 @@
 
 mod batch;
 mod columns;
+mod files;
 mod program;
 mod recasting;
 mod table;
 
-pub use program::{FileFault, Files, lv};
+pub use files::{FileFault, Files};
+pub use program::lv;
 pub use recasting::{RecastFault, recast};

@@ -1,33 +1,17 @@
 //! The program `lv`, over words, files and an output that its caller hands in.
 
-use crate::table::Table;
+ghost use Rattle.std.specs.Prelude.{◌≡◌, ◌≤◌, IfErr};
+ghost use Rattle.liveviews.specs.Program.{Ends, EndsSomewhere, IsBegun, IsDone, IsStopped, IsUnread, status_of, unmade_for};
+ghost use Rattle.liveviews.specs.declared.program.Refusal.TheVariants.{CannotWrite};
+
+use crate::files::{FileFault, Files};
+use crate::recasting::{RecastFault, recast};
 use clap::error::ErrorKind;
 use clap::{Arg, ArgAction, Command};
 use std::alloc::{AllocError, Global};
 use std::io::Write;
-use stream_writer::{Sink, WriteFault, write_table};
 use thiserror::Error;
 use values::Cause;
-
-/// Why a file could not be used.
-#[derive(Clone, Copy, Debug, PartialEq, Eq)]
-pub enum FileFault {
-    /// The file can't be opened, read or made.
-    Unusable,
-    /// Memory ran out.
-    Memory,
-}
-
-/// The files that `lv` works on: those of the machine, or in a test those of a map.
-///
-/// As a [`Sink`] it writes the file that `create` made last.
-pub trait Files: Sink {
-    /// All bytes of the file at `path`.
-    fn read(&mut self, path: &str) -> Result<Vec<u8>, FileFault>;
-
-    /// Makes the file at `path`, or empties the one that is there. `put` then writes it.
-    fn create(&mut self, path: &str) -> Result<(), FileFault>;
-}
 
 /// What the words ask for.
 #[derive(Debug, Drop)]
@@ -49,40 +33,46 @@ enum Refusal<'a> {
 }
 
 impl<'a> Refusal<'a> {
-    fn status(&self) -> u8 {
+    /// The status with which the program ends.
+    fn status(&self) -> u8
+        ensures { result ≡ status_of self.now }
+    {
         match self {
             Refusal::WrongUse => 2,
             _ => 1,
         }
     }
-}
 
-impl<'a> From<Cause> for Refusal<'a> {
-    fn from(cause: Cause) -> Refusal<'a> {
-        Refusal::Refused(cause)
+    /// The refusal of a file at `path` that could not be made.
+    fn unmade(fault: FileFault, path: &'a str) -> Refusal<'a>
+        ensures { result ≡ unmade_for (CannotWrite path.entry) fault }
+    {
+        match fault {
+            FileFault::Unusable => Refusal::CannotWrite(path),
+            FileFault::Memory => Refusal::Refused(Cause::Memory),
+        }
     }
 }
 
 impl<'a> From<AllocError> for Refusal<'a> {
+    ghost use Rattle.liveviews.specs.Program.{IsUnread};
+
+    ghost from_gives = { λ _ r. IsUnread r };
+
     fn from(_refused: AllocError) -> Refusal<'a> {
         Refusal::Refused(Cause::Memory)
     }
 }
 
 impl<'a> From<clap::Error> for Refusal<'a> {
+    ghost use Rattle.liveviews.specs.Program.{IsUnread};
+
+    ghost from_gives = { λ _ r. IsUnread r };
+
     fn from(error: clap::Error) -> Refusal<'a> {
         match error.kind() {
             ErrorKind::OutOfMemory => Refusal::Refused(Cause::Memory),
             _ => Refusal::WrongUse,
-        }
-    }
-}
-
-impl<'a> From<WriteFault> for Refusal<'a> {
-    fn from(fault: WriteFault) -> Refusal<'a> {
-        match fault {
-            WriteFault::Memory { .. } => Refusal::Refused(Cause::Memory),
-            WriteFault::Device { .. } => Refusal::Refused(Cause::Device),
         }
     }
 }
@@ -102,7 +92,9 @@ fn required<'a>(alloc: Global, name: &'a str) -> Arg<'a> {
     Arg::new(alloc, name).required(true).action(ArgAction::Set)
 }
 
-fn parse<'a>(alloc: Global, words: &'a [String]) -> Result<Asked<'a>, Refusal<'a>> {
+fn parse<'a>(alloc: Global, words: &'a [String]) -> Result<Asked<'a>, Refusal<'a>>
+    ensures { IfErr result IsUnread }
+{
     let found = command(alloc)?.try_get_matches_from(words)?;
     let Some(("recast", given)) = found.subcommand() else {
         return Err(Refusal::WrongUse);
@@ -113,30 +105,43 @@ fn parse<'a>(alloc: Global, words: &'a [String]) -> Result<Asked<'a>, Refusal<'a
     }
 }
 
+/// Recasts the file at `from`, and puts what comes of it to the file at `to`, which is made once there is something to put.
 fn recast_file<'a, F: Files>(
     alloc: Global,
     from: &'a str,
     to: &'a str,
     files: &mut F,
-) -> Result<u64, Refusal<'a>> {
+) -> Result<u64, Refusal<'a>>
+    ensures { Ends (F.content files.old from.now) (F.sunk files.old) (F.sunk files.new) (F.unmade files.new) result }
+{
     let input = match files.read(from) {
         Ok(input) => input,
         Err(FileFault::Unusable) => return Err(Refusal::CannotRead(from)),
         Err(FileFault::Memory) => return Err(Refusal::Refused(Cause::Memory)),
     };
-    let table = Table::read(alloc, &input)?;
-    match files.create(to) {
-        Ok(()) => Ok(write_table(alloc, files, &table.schema, &table.rows)?),
-        Err(FileFault::Unusable) => Err(Refusal::CannotWrite(to)),
-        Err(FileFault::Memory) => Err(Refusal::Refused(Cause::Memory)),
+    if let Err(fault) = files.create(to) {
+        return Err(Refusal::unmade(fault, to));
+    }
+    match recast(alloc, &input, files) {
+        Ok(written) => Ok(written),
+        Err(fault) => Err(stopped(files, fault, to)),
     }
 }
 
-fn done<'a, F: Files>(
-    alloc: Global,
-    words: &'a [String],
-    files: &mut F,
-) -> Result<u64, Refusal<'a>> {
+/// The refusal of a recast that stopped: a file that could not be made is named.
+fn stopped<'a, F: Files>(files: &F, fault: RecastFault, to: &'a str) -> Refusal<'a>
+    ensures { IsStopped (CannotWrite to.entry) (F.unmade files.now) fault.cause result }
+{
+    match (fault.cause, files.fault()) {
+        (Cause::Device, Some(unmade)) => Refusal::unmade(unmade, to),
+        (cause, _) => Refusal::Refused(cause),
+    }
+}
+
+/// Does what the words ask for.
+fn done<'a, F: Files>(alloc: Global, words: &'a [String], files: &mut F) -> Result<u64, Refusal<'a>>
+    ensures { EndsSomewhere (F.content files.old) (F.sunk files.old) (F.sunk files.new) (F.unmade files.new) result }
+{
     match parse(alloc, words)? {
         Asked::Recast { from, to } => recast_file(alloc, from, to, files),
     }
@@ -145,7 +150,12 @@ fn done<'a, F: Files>(
 /// Does what `words` ask for (the program's arguments without its own name), and prints one line to `out`.
 ///
 /// Answers the program's exit status: 0 done, 1 refused or a print that failed, 2 words that ask for nothing that `lv` does.
-pub fn lv<F: Files, W: Write>(alloc: Global, words: &[String], files: &mut F, out: &mut W) -> u8 {
+pub fn lv<F: Files, W: Write>(alloc: Global, words: &[String], files: &mut F, out: &mut W) -> u8
+    ensures done { result ≡ 0 → IsDone (F.content files.old) (F.sunk files.old) (F.sunk files.new) }
+    ensures wrong_use { result ≡ 2 → F.sunk files.new ≡ F.sunk files.old }
+    ensures begun { IsBegun (F.content files.old) (F.sunk files.old) (F.sunk files.new) }
+    ensures bound { result ≤ 2 }
+{
     let (status, printed) = match done(alloc, words, files) {
         Ok(written) => (0, writeln!(out, "wrote {written}")),
         Err(refusal) => (refusal.status(), writeln!(out, "{refusal}")),

@@ -1,31 +1,61 @@
 //! The files of the machine.
 
-ghost use Rattle.std.specs.Prelude.{◌≤◌, length};
+ghost use Rattle.std.specs.Prelude.{◌≡◌, ◌≤◌, length};
 
 use liveviews::{FileFault, Files};
 use std::fs;
 use std::io::{Error, ErrorKind, Write};
 use stream_writer::{DeviceFault, Sink};
 
-/// The machine's files, and the one that was made last, which `put` writes.
+/// The machine's files. `put` writes the one that was named last, and makes it first.
 #[derive(Drop)]
 pub struct Disk<'a, R: std::rt::Files> {
     runtime: &'a R,
-    made: Option<R::File>,
+    output: Output<R::File>,
+    fault: Option<FileFault>,
     failures: u64,
+}
+
+/// The file that `put` writes.
+#[derive(Drop)]
+enum Output<F> {
+    /// None was named, or the one that was named could not be made.
+    Missing,
+    /// It is made at the first put.
+    Named(String),
+    Open(F),
 }
 
 impl<'a, R: std::rt::Files> Disk<'a, R> {
     pub fn new(runtime: &'a R) -> Self {
         Disk {
             runtime,
-            made: None,
+            output: Output::Missing,
+            fault: None,
             failures: 0,
         }
     }
 }
 
-impl<R: std::rt::Files> Sink for Disk<'_, R> {
+impl<R: std::rt::Files + AllocGlobal> Disk<'_, R> {
+    /// Makes the file that was named, if it is not there yet.
+    fn open(&mut self)
+        ensures { self.new.failures ≡ self.old.failures }
+    {
+        let Output::Named(path) = &self.output else {
+            return;
+        };
+        match fs::create(self.runtime, path) {
+            Ok(file) => self.output = Output::Open(file),
+            Err(error) => {
+                self.output = Output::Missing;
+                self.fault = Some(fault_of(error));
+            }
+        }
+    }
+}
+
+impl<R: std::rt::Files + AllocGlobal> Sink for Disk<'_, R> {
     ghost use Rattle.std.specs.Prelude.{None};
 
     ghost sunk = { λ s. record { taken = None; failures = s.failures } };
@@ -34,7 +64,8 @@ impl<R: std::rt::Files> Sink for Disk<'_, R> {
         if piece.is_empty() {
             return Ok(0);
         }
-        let taken = write_some(&mut self.made, piece);
+        self.open();
+        let taken = write_some(&mut self.output, piece);
         if taken == 0 {
             self.failures = self.failures.wrapping_add(1);
             return Err(DeviceFault);
@@ -44,23 +75,39 @@ impl<R: std::rt::Files> Sink for Disk<'_, R> {
 }
 
 impl<R: std::rt::Files + AllocGlobal> Files for Disk<'_, R> {
+    ghost use Rattle.std.specs.Prelude.{None};
+
+    ghost content = { λ _ _. None };
+
+    ghost unmade = { λ s. s.fault };
+
     fn read(&mut self, path: &str) -> Result<Vec<u8>, FileFault> {
         fs::read(self.runtime, path).map_err(fault_of)
     }
 
     fn create(&mut self, path: &str) -> Result<(), FileFault> {
-        self.made = Some(fs::create(self.runtime, path).map_err(fault_of)?);
-        Ok(())
+        match String::from_str(self.runtime.alloc(), path) {
+            Ok(path) => {
+                self.output = Output::Named(path);
+                self.fault = None;
+                Ok(())
+            }
+            Err(_) => Err(FileFault::Memory),
+        }
+    }
+
+    fn fault(&self) -> Option<FileFault> {
+        self.fault
     }
 }
 
 /// How many first bytes of `piece` the file took; none where writing failed or no file is there.
-fn write_some<F: Write>(file: &mut Option<F>, piece: &[u8]) -> usize
+fn write_some<F: Write>(output: &mut Output<F>, piece: &[u8]) -> usize
     ensures { result ≤ length piece.now }
 {
-    match file {
-        None => 0,
-        Some(file) => file.write(piece).unwrap_or(0),
+    match output {
+        Output::Open(file) => file.write(piece).unwrap_or(0),
+        _ => 0,
     }
 }
 

@@ -1,5 +1,7 @@
 //! What `lv` prints and how it ends, over one file to read and one to make.
 
+ghost use Rattle.std.specs.Prelude.{◌≡◌};
+
 use crate::sample::SAMPLE;
 use liveviews::{FileFault, Files, lv};
 use std::alloc::Global;
@@ -12,8 +14,30 @@ use stream_writer::{DeviceFault, Sink};
 struct Shelf<'a> {
     alloc: Global,
     input: &'a [u8],
+    named: Named,
     made: Option<Vec<u8>>,
+    fault: Option<FileFault>,
     failures: u64,
+}
+
+/// Which file is to be written.
+#[derive(Clone, Copy, PartialEq, Eq)]
+enum Named {
+    Out,
+    Other,
+}
+
+impl Shelf<'_> {
+    /// Makes the file that was named, if it is not there yet.
+    fn make(&mut self)
+        ensures { self.new.failures ≡ self.old.failures }
+    {
+        if self.named == Named::Other {
+            self.fault = Some(FileFault::Unusable);
+        } else if self.made.is_none() {
+            self.made = Some(Vec::new(self.alloc));
+        }
+    }
 }
 
 impl Sink for Shelf<'_> {
@@ -25,6 +49,7 @@ impl Sink for Shelf<'_> {
         if piece.is_empty() {
             return Ok(0);
         }
+        self.make();
         if append(&mut self.made, piece) {
             return Ok(piece.len());
         }
@@ -42,6 +67,12 @@ fn append(file: &mut Option<Vec<u8>>, piece: &[u8]) -> bool {
 }
 
 impl Files for Shelf<'_> {
+    ghost use Rattle.std.specs.Prelude.{None};
+
+    ghost content = { λ _ _. None };
+
+    ghost unmade = { λ s. s.fault };
+
     fn read(&mut self, path: &str) -> Result<Vec<u8>, FileFault> {
         if path != "in" {
             return Err(FileFault::Unusable);
@@ -54,11 +85,17 @@ impl Files for Shelf<'_> {
     }
 
     fn create(&mut self, path: &str) -> Result<(), FileFault> {
-        if path != "out" {
-            return Err(FileFault::Unusable);
-        }
-        self.made = Some(Vec::new(self.alloc));
+        self.named = if path == "out" {
+            Named::Out
+        } else {
+            Named::Other
+        };
+        self.fault = None;
         Ok(())
+    }
+
+    fn fault(&self) -> Option<FileFault> {
+        self.fault
     }
 }
 
@@ -78,7 +115,9 @@ fn run(
     let mut shelf = Shelf {
         alloc: rt.alloc(),
         input,
+        named: Named::Other,
         made: None,
+        fault: None,
         failures: 0,
     };
     let mut out: Vec<u8> = Vec::new(rt.alloc());

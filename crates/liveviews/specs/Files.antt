@@ -1,0 +1,25 @@
+-- What a command did to the files: what was read of one, and what was put to another.
+use Rattle.std.specs.Prelude.{◌≡◌, ℕ, List, Option, None, Some, Result, Err}
+use Rattle.schema_meta.specs.Story.{story_of}
+use Rattle.stream_writer.specs.Sinks.{Sunk}
+use Rattle.values.specs.declared.causes.Cause.TheVariants as cause
+use Rattle.liveviews.specs.Recast.{Recasts}
+use Rattle.liveviews.specs.declared.files.FileFault.{FileFault}
+use Rattle.liveviews.specs.declared.recasting.RecastFault.{RecastFault}
+
+-- what was read is what the file holds, where that is told
+abbrev pub IsContent : Option (List ℕ) → List ℕ → Type 0
+IsContent None bytes = Unit {0}
+IsContent (Some held) bytes = bytes ≡ held
+
+-- These bytes were read of a file that holds `held`, and this came of recasting them.
+pub record RecastsFile (held : Option (List ℕ)) (old new : Sunk) (answer : Result ℕ RecastFault) : Type 0 where
+  pub input : List ℕ
+  pub read : IsContent held input
+  pub recasts : Recasts old new answer (story_of input)
+
+-- The file to be written could not be made, so that putting the first bytes failed.
+pub record MakesNone (held : Option (List ℕ)) (old new : Sunk) (unmade : Option FileFault) (why : FileFault) : Type 0 where
+  pub fault : unmade ≡ Some why
+  pub written : ℕ
+  pub recasts : RecastsFile held old new (Err (record { cause = cause.Device; written = written }))

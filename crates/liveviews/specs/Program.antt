@@ -1,0 +1,63 @@
+-- How a command ends, and how the program does.
+use Rattle.std.specs.Prelude.{◌≡◌, ◌⊎◌, ℕ, List, Option, Some, Result, Ok, Err}
+use Rattle.stream_writer.specs.Sinks.{Sunk}
+use Rattle.values.specs.declared.causes.Cause.{Cause}
+use Rattle.values.specs.declared.causes.Cause.TheVariants as cause
+use Rattle.liveviews.specs.Files.{RecastsFile, MakesNone}
+use Rattle.liveviews.specs.declared.files.FileFault.{FileFault}
+use Rattle.liveviews.specs.declared.files.FileFault.TheVariants as file
+use Rattle.liveviews.specs.declared.program.Refusal.{Refusal}
+use Rattle.liveviews.specs.declared.program.Refusal.TheVariants as refusal
+use Rattle.liveviews.specs.declared.recasting.RecastFault.{RecastFault}
+
+-- words that ask for nothing, or memory was refused before a file was read
+abbrev pub IsUnread : Refusal → Type 0
+IsUnread refusal.WrongUse = Unit {0}
+IsUnread (refusal.Refused c) = c ≡ cause.Memory
+IsUnread (refusal.CannotRead path) = ⊥
+IsUnread (refusal.CannotWrite path) = ⊥
+
+-- A cause that the command names: memory was refused outside of recasting, or recasting stopped for it.
+abbrev pub StopsFor : Option (List ℕ) → Sunk → Sunk → Option FileFault → Cause → Type 0
+StopsFor held old new unmade c =
+    ((c ≡ cause.Memory) × (new ≡ old)) ⊎ ((c ≡ cause.Memory) × MakesNone held old new unmade file.Memory)
+    ⊎ ((written : ℕ) × RecastsFile held old new (Err (record { cause = c; written = written })))
+
+-- the refusal of a command over a file that holds `held`, and what was put
+abbrev pub StopsSo : Option (List ℕ) → Sunk → Sunk → Option FileFault → Refusal → Type 0
+StopsSo held old new unmade refusal.WrongUse = new ≡ old
+StopsSo held old new unmade (refusal.CannotRead path) = new ≡ old
+StopsSo held old new unmade (refusal.CannotWrite path) = (new ≡ old) ⊎ MakesNone held old new unmade file.Unusable
+StopsSo held old new unmade (refusal.Refused c) = StopsFor held old new unmade c
+
+abbrev pub Ends : Option (List ℕ) → Sunk → Sunk → Option FileFault → Result ℕ Refusal → Type 0
+Ends held old new unmade (Ok n) = RecastsFile held old new (Ok n)
+Ends held old new unmade (Err r) = StopsSo held old new unmade r
+
+-- the same for some file
+abbrev pub EndsSomewhere : (List ℕ → Option (List ℕ)) → Sunk → Sunk → Option FileFault → Result ℕ Refusal → Type 0
+EndsSomewhere content old new unmade answer = (path : List ℕ) × Ends (content path) old new unmade answer
+
+-- the refusal where the file to be written, whose refusal is named, could not be made
+abbrev pub unmade_for : Refusal → FileFault → Refusal
+unmade_for named file.Unusable = named
+unmade_for named file.Memory = refusal.Refused cause.Memory
+
+-- A cause is named as it is, or it is the device's where the file could not be made.
+abbrev pub IsStopped : Refusal → Option FileFault → Cause → Refusal → Type 0
+IsStopped named unmade c answer =
+    (answer ≡ refusal.Refused c) ⊎ ((why : FileFault) × (c ≡ cause.Device) × (unmade ≡ Some why) × (answer ≡ unmade_for named why))
+
+abbrev pub status_of : Refusal → ℕ
+status_of refusal.WrongUse = 2
+status_of (refusal.CannotRead path) = 1
+status_of (refusal.CannotWrite path) = 1
+status_of (refusal.Refused c) = 1
+
+-- A file was read, and all of the canonical stream of its table was put.
+abbrev pub IsDone : (List ℕ → Option (List ℕ)) → Sunk → Sunk → Type 0
+IsDone content old new = (path : List ℕ) × (n : ℕ) × RecastsFile (content path) old new (Ok n)
+
+-- Nothing was put, or a file was read and recast, however far.
+abbrev pub IsBegun : (List ℕ → Option (List ℕ)) → Sunk → Sunk → Type 0
+IsBegun content old new = (new ≡ old) ⊎ ((path : List ℕ) × (answer : Result ℕ RecastFault) × RecastsFile (content path) old new answer)
