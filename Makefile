@@ -1,19 +1,23 @@
-# The two ways in: `make run` and `make test`.
+# The ways in: `make run`, `make test` and `make bench`.
 
 PREFIX ?= /usr/local
 LV := crates/lv/out/lv
 OUT ?= out/orders.canon.arrows
 
-.PHONY: run test install lv need-rt
+.PHONY: run test bench install lv need-rt
 
 # Recasts the sample stream to a file of its own, and prints what `lv` prints.
 run: lv
 	@mkdir -p out
 	$(LV) recast examples/orders.arrows $(OUT)
 
-# The merge gate: every proof from nothing, the must-fail edits, the tests, the program.
+# The merge gate: every proof from nothing, the must-fail edits, the tests, the program; then the program under refused memory.
 test: need-rt
-	@rt ci
+	@tools/gate.sh
+
+# Time and memory of recasting about 100 MB, beside `cat` of the same file.
+bench: lv
+	@tools/bench.sh
 
 install: lv
 	install -D -m 755 $(LV) $(PREFIX)/bin/lv

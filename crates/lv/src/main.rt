@@ -4,14 +4,21 @@
 mod disk;
 
 use disk::Disk;
+use std::alloc::Global;
 use std::process::ExitCode;
 use std::{env, io};
 
-fn main(rt: HostRuntime) -> io::Result<ExitCode> {
+fn main(rt: HostRuntime) -> ExitCode {
     let alloc = rt.alloc();
-    let words: Vec<String> = env::args(&rt)?.skip(1).collect(alloc)?;
+    let words = words(&rt, alloc).unwrap_or(Vec::new(alloc));
     let mut files = Disk::new(&rt);
     let mut out = io::writer(&rt);
     let status = liveviews::lv(alloc, words.as_slice(), &mut files, &mut out);
-    Ok(ExitCode::from(status))
+    ExitCode::from(status)
+}
+
+/// The words after the program's own name. Where they can't be held, the program has none to go by.
+fn words(rt: &HostRuntime, alloc: Global) -> io::Result<Vec<String>> {
+    let words = env::args(rt)?.skip(1).collect(alloc)?;
+    Ok(words)
 }
