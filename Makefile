@@ -12,12 +12,12 @@ run: lv
 	$(LV) recast examples/orders.arrows $(OUT)
 
 # The merge gate: every proof from nothing, the must-fail edits, the tests, the program; then the program under refused memory.
-test: need-rt
+test:
 	@tools/gate.sh
 
 # Time and memory of recasting about 100 MB, beside `cat` of the same file.
 bench: lv
-	@tools/bench.sh
+	@tools/bench.py
 
 install: lv
 	install -D -m 755 $(LV) $(PREFIX)/bin/lv

@@ -2,6 +2,7 @@
 # The merge gate (rt ci), then the built lv under refused memory. The gate's own last line is printed last.
 set -euo pipefail
 cd "$(dirname "$0")/.."
+make --no-print-directory need-rt
 
 last=$(mktemp)
 trap 'rm -f "$last"' EXIT

@@ -1,0 +1,148 @@
+#!/usr/bin/env python3
+"""Time and peak memory of `lv recast` over streams of about 100 MB, beside `cat` of the same file.
+
+Makes each stream, runs both three times in turn, prints the fastest of each, and removes what it made.
+"""
+
+import os
+import shutil
+import struct
+import subprocess
+import sys
+import tempfile
+
+TARGET = 100_000_000
+TURNS = 3
+LV = "crates/lv/out/lv"
+GNU_TIME = "/usr/bin/time"
+
+END_MARK = bytes.fromhex("ffffffff00000000")
+
+
+def groups(*numbers):
+    """Groups of eight bytes, written as they stand."""
+    return b"".join(number.to_bytes(8, "big") for number in numbers)
+
+
+def numbers(*values):
+    return struct.pack(f"<{len(values)}Q", *values)
+
+
+INT64_SCHEMA = groups(
+    0xFFFFFFFF_98000000, 0x18000000_00000000, 0x0C001800_04000600, 0x08001000_00000000, 0x10000000_04000100,
+    0x18000000_00000000, 0x00000000_00000000, 0x08000C00_04000800, 0x08000000_00000000, 0x04000000_01000000,
+    0x18000000_00000000, 0x10001400_04000800, 0x09000C00_00001000, 0x10000000_10000000, 0x01020000_1C000000,
+    0x24000000_01000000, 0x6B000000_00000000, 0x08000C00_04000800, 0x08000000_40000000, 0x01000000_00000000,
+)
+
+UTF8_SCHEMA = groups(
+    0xFFFFFFFF_90000000, 0x18000000_00000000, 0x0C001800_04000600, 0x08001000_00000000, 0x10000000_04000100,
+    0x18000000_00000000, 0x00000000_00000000, 0x08000C00_04000800, 0x08000000_00000000, 0x04000000_01000000,
+    0x18000000_00000000, 0x10001400_04000800, 0x09000C00_00001000, 0x10000000_10000000, 0x01050000_1C000000,
+    0x1C000000_01000000, 0x74000000_00000000, 0x04000400_00000000, 0x08000000_00000000,
+)
+
+
+def head(first, body, rows, buffers, spans):
+    """The metadata of a batch of one column without nulls: a body of so many bytes, and the place and length of each buffer in it."""
+    return (
+        groups(first, 0x18000000_00000000, 0x0C001800_04000600, 0x08001000_00000000, 0x10000000_04000300, 0x20000000_00000000)
+        + numbers(body)
+        + groups(0x0A001800_08001000, 0x14000000_00000000, 0x10000000_00000000)
+        + numbers(rows)
+        + groups(0x0C000000_20000000, 0x00000000_01000000)
+        + numbers(rows, 0)
+        + groups(buffers)
+        + numbers(*spans)
+    )
+
+
+def filled(data):
+    return data + bytes(-len(data) % 8)
+
+
+def int64_batch(rows, first):
+    body = struct.pack(f"<{rows}q", *range(first, first + rows))
+    return head(0xFFFFFFFF_98000000, len(body), rows, 0x00000000_02000000, [0, 0, 0, len(body)]) + body
+
+
+def utf8_batch(rows, size):
+    offsets = struct.pack(f"<{rows + 1}i", *range(0, size * (rows + 1), size))
+    start = len(filled(offsets))
+    body = filled(offsets) + filled(b"t" * (size * rows))
+    spans = [0, 0, 0, len(offsets), start, size * rows]
+    return head(0xFFFFFFFF_A8000000, len(body), rows, 0x00000000_03000000, spans) + body
+
+
+def int64_stream(file):
+    file.write(INT64_SCHEMA)
+    rows = 1 << 16
+    for first in range(0, TARGET // 8, rows):
+        file.write(int64_batch(rows, first))
+    file.write(END_MARK)
+
+
+def utf8_stream(size):
+    def write(file):
+        file.write(UTF8_SCHEMA)
+        rows = (1 << 19) // (size + 4)
+        batch = utf8_batch(rows, size)
+        for _ in range(TARGET // len(batch)):
+            file.write(batch)
+        file.write(END_MARK)
+
+    return write
+
+
+SHAPES = [
+    ("int64", int64_stream),
+    ("utf8, texts of 32 bytes", utf8_stream(32)),
+    ("utf8, texts of 1,000 bytes", utf8_stream(1000)),
+]
+
+
+def measured(words, output):
+    """The seconds and the peak memory in MB of one run, whose standard output goes to a file."""
+    if os.path.exists(GNU_TIME):
+        words = [GNU_TIME, "-f", "%e %M"] + words
+        run = subprocess.run(words, stdout=output, stderr=subprocess.PIPE, check=True, text=True)
+        seconds, kilobytes = run.stderr.split()
+        return float(seconds), int(kilobytes) / 1000
+    start = os.times().elapsed
+    process = subprocess.Popen(words, stdout=output)
+    _, status, used = os.wait4(process.pid, 0)
+    if status != 0:
+        sys.exit(f"bench: {words} ended with {status}")
+    return os.times().elapsed - start, used.ru_maxrss / 1000
+
+
+def row(name, write, folder):
+    source, target = os.path.join(folder, "in"), os.path.join(folder, "out")
+    with open(source, "wb") as file:
+        write(file)
+    runs = {"lv": [], "cat": []}
+    for _ in range(TURNS):
+        with open(os.path.join(folder, "line"), "wb") as line:
+            runs["lv"].append(measured([LV, "recast", source, target], line))
+        with open(target, "wb") as copy:
+            runs["cat"].append(measured(["cat", source], copy))
+    lv, cat = min(runs["lv"]), min(runs["cat"])
+    size = os.path.getsize(source) / 1e6
+    print(f"| {name} | {size:.0f} MB | {lv[0]:.2f} s | {lv[1]:.0f} MB | {cat[0]:.2f} s | {cat[1]:.0f} MB |", flush=True)
+
+
+def main():
+    os.chdir(os.path.join(os.path.dirname(os.path.abspath(__file__)), ".."))
+    if not os.path.exists(LV):
+        sys.exit(f"bench: {LV} is not there; make lv builds it")
+    print("| one column of | size | lv recast | its peak | cat | its peak |")
+    print("|---|---|---|---|---|---|")
+    for name, write in SHAPES:
+        folder = tempfile.mkdtemp(prefix="lv-bench-")
+        try:
+            row(name, write, folder)
+        finally:
+            shutil.rmtree(folder)
+
+
+main()
