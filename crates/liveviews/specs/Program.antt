@@ -1,5 +1,7 @@
 -- How a command ends, and how the program does.
-use Rattle.std.specs.Prelude.{◌≡◌, ◌⊎◌, ℕ, List, Option, Some, Result, Ok, Err}
+use Rattle.std.specs.Prelude.{◌≡◌, ◌⊎◌, ℕ, List, [], ◌∷◌, ◌++◌, Option, Some, Result, Ok, Err, codes}
+use Rattle.std.specs.Fmt.{decimal}
+use Rattle.std.specs.Io.KnownBytes.{Appends}
 use Rattle.stream_writer.specs.Sinks.{Sunk}
 use Rattle.values.specs.declared.causes.Cause.{Cause}
 use Rattle.values.specs.declared.causes.Cause.TheVariants as cause
@@ -54,9 +56,13 @@ status_of (refusal.CannotRead path) = 1
 status_of (refusal.CannotWrite path) = 1
 status_of (refusal.Refused c) = 1
 
--- A file was read, and all of the canonical stream of its table was put.
-abbrev pub IsDone : (List ℕ → Option (List ℕ)) → Sunk → Sunk → Type 0
-IsDone content old new = (path : List ℕ) × (n : ℕ) × RecastsFile (content path) old new (Ok n)
+-- what is printed where so many bytes were put
+abbrev pub line_of : ℕ → List ℕ
+line_of n = codes "wrote " ++ decimal n ++ 10 ∷ []
+
+-- A file was read, all of the canonical stream of its table was put, and the line that says so was printed.
+abbrev pub IsDone : (List ℕ → Option (List ℕ)) → Sunk → Sunk → Option (List ℕ) → Option (List ℕ) → Type 0
+IsDone content old new before after = (path : List ℕ) × (n : ℕ) × RecastsFile (content path) old new (Ok n) × Appends before after (line_of n)
 
 -- Nothing was put, or a file was read and recast, however far.
 abbrev pub IsBegun : (List ℕ → Option (List ℕ)) → Sunk → Sunk → Type 0

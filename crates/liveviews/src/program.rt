@@ -151,7 +151,7 @@ fn done<'a, F: Files>(alloc: Global, words: &'a [String], files: &mut F) -> Resu
 ///
 /// Answers the program's exit status: 0 done, 1 refused or a print that failed, 2 words that ask for nothing that `lv` does.
 pub fn lv<F: Files, W: Write>(alloc: Global, words: &[String], files: &mut F, out: &mut W) -> u8
-    ensures done { result ≡ 0 → IsDone (F.content files.old) (F.sunk files.old) (F.sunk files.new) }
+    ensures done { result ≡ 0 → IsDone (F.content files.old) (F.sunk files.old) (F.sunk files.new) (W.contents out.old) (W.contents out.new) }
     ensures wrong_use { result ≡ 2 → F.sunk files.new ≡ F.sunk files.old }
     ensures begun { IsBegun (F.content files.old) (F.sunk files.old) (F.sunk files.new) }
     ensures bound { result ≤ 2 }
