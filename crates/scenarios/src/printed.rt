@@ -9,13 +9,14 @@ use std::process::Abort;
 use std::test::Fail;
 use stream_writer::{DeviceFault, Sink};
 
-/// The file `in` with these bytes, and the file `out` once it is made. Nothing else can be read or made.
+/// The file `in` with these bytes, and the file `out` once it is made, with what was put to it. Nothing else can be read or made.
 #[derive(Drop)]
 struct Shelf<'a> {
     alloc: Global,
     input: &'a [u8],
     named: Named,
-    made: Option<Vec<u8>>,
+    made: bool,
+    written: Vec<u8>,
     fault: Option<FileFault>,
     failures: u64,
 }
@@ -28,29 +29,29 @@ enum Named {
 }
 
 impl Shelf<'_> {
-    /// Makes the file that was named, if it is not there yet.
-    fn make(&mut self)
-        ensures { self.new.failures ≡ self.old.failures }
+    /// Makes the file that was named, if it is not there yet. Answers whether it is there.
+    fn make(&mut self) -> bool
+        ensures failures { self.new.failures ≡ self.old.failures }
+        ensures written { self.new.written ≡ self.old.written }
     {
-        if self.named == Named::Other {
-            self.fault = Some(FileFault::Unusable);
-        } else if self.made.is_none() {
-            self.made = Some(Vec::new(self.alloc));
+        match self.named {
+            Named::Out => self.made = true,
+            Named::Other => self.fault = Some(FileFault::Unusable),
         }
+        self.made
     }
 }
 
 impl Sink for Shelf<'_> {
-    ghost use Rattle.std.specs.Prelude.{None};
+    ghost use Rattle.std.specs.Prelude.{Some};
 
-    ghost sunk = { λ s. record { taken = None; failures = s.failures } };
+    ghost sunk = { λ s. record { taken = Some s.written.items; failures = s.failures } };
 
     fn put(&mut self, piece: &[u8]) -> Result<usize, DeviceFault> {
         if piece.is_empty() {
             return Ok(0);
         }
-        self.make();
-        if append(&mut self.made, piece) {
+        if self.make() && self.written.extend_from_slice(piece).is_ok() {
             return Ok(piece.len());
         }
         self.failures = self.failures.wrapping_add(1);
@@ -58,18 +59,10 @@ impl Sink for Shelf<'_> {
     }
 }
 
-/// Whether the file is there and took the piece.
-fn append(file: &mut Option<Vec<u8>>, piece: &[u8]) -> bool {
-    match file {
-        Some(bytes) => bytes.extend_from_slice(piece).is_ok(),
-        None => false,
-    }
-}
-
 impl Files for Shelf<'_> {
-    ghost use Rattle.std.specs.Prelude.{None};
+    ghost use Rattle.std.specs.Prelude.{Some};
 
-    ghost content = { λ _ _. None };
+    ghost content = { λ s _. Some s.input.now };
 
     ghost unmade = { λ s. s.fault };
 
@@ -116,7 +109,8 @@ fn run(
         alloc: rt.alloc(),
         input,
         named: Named::Other,
-        made: None,
+        made: false,
+        written: Vec::new(rt.alloc()),
         fault: None,
         failures: 0,
     };
@@ -126,7 +120,7 @@ fn run(
         status
     );
     assert_eq!(rt; out.as_slice(), line.as_bytes());
-    assert_eq!(rt; shelf.made.as_ref().map(|bytes| bytes.len()), made);
+    assert_eq!(rt; shelf.made.then_some(shelf.written.len()), made);
     Ok(())
 }
 
