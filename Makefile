@@ -17,6 +17,7 @@ test:
 
 # Time and memory of recasting about 100 MB, beside `cat` of the same file.
 bench: lv
+	@command -v python3 > /dev/null || { echo "make bench needs python3, which is not on the PATH" >&2; exit 1; }
 	@tools/bench.py
 
 install: lv
