@@ -1,7 +1,9 @@
 -- How a command ends, and how the program does.
-use Rattle.std.specs.Prelude.{◌≡◌, ◌⊎◌, ℕ, List, [], ◌∷◌, ◌++◌, Option, Some, Result, Ok, Err, codes}
+use Rattle.std.specs.Prelude.{◌≡◌, ◌≢◌, ◌⊎◌, ℕ, List, [], ◌∷◌, ◌++◌, Option, Some, Result, Ok, Err, codes}
 use Rattle.std.specs.Fmt.{decimal}
 use Rattle.std.specs.Io.KnownBytes.{Appends}
+use Rattle.clap.specs.declared.error.kind.ErrorKind.{ErrorKind}
+use Rattle.clap.specs.declared.error.kind.ErrorKind.TheVariants as kinds
 use Rattle.stream_writer.specs.Sinks.{Sunk}
 use Rattle.values.specs.declared.causes.Cause.{Cause}
 use Rattle.values.specs.declared.causes.Cause.TheVariants as cause
@@ -18,6 +20,11 @@ IsUnread refusal.WrongUse = Unit {0}
 IsUnread (refusal.Refused c) = c ≡ cause.Memory
 IsUnread (refusal.CannotRead path) = ⊥
 IsUnread (refusal.CannotWrite path) = ⊥
+
+-- Words that can't be read: for want of memory, or else they ask for nothing.
+abbrev pub IsRefusedAs : ErrorKind → Refusal → Type 0
+IsRefusedAs kind r =
+    ((kind ≡ kinds.OutOfMemory) × (r ≡ refusal.Refused cause.Memory)) ⊎ ((kind ≢ kinds.OutOfMemory) × (r ≡ refusal.WrongUse))
 
 -- A cause that the command names: memory was refused outside of recasting, or recasting stopped for it.
 abbrev pub StopsFor : Option (List ℕ) → Sunk → Sunk → Option FileFault → Cause → Type 0

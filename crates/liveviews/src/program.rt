@@ -55,9 +55,11 @@ impl<'a> Refusal<'a> {
 }
 
 impl<'a> From<AllocError> for Refusal<'a> {
-    ghost use Rattle.liveviews.specs.Program.{IsUnread};
+    ghost use Rattle.std.specs.Prelude.{◌≡◌};
+    ghost use Rattle.values.specs.declared.causes.Cause.TheVariants.{Memory};
+    ghost use Rattle.liveviews.specs.declared.program.Refusal.TheVariants.{Refused};
 
-    ghost from_gives = { λ _ r. IsUnread r };
+    ghost from_gives = { λ _ r. r ≡ Refused Memory };
 
     fn from(_refused: AllocError) -> Refusal<'a> {
         Refusal::Refused(Cause::Memory)
@@ -65,9 +67,10 @@ impl<'a> From<AllocError> for Refusal<'a> {
 }
 
 impl<'a> From<clap::Error> for Refusal<'a> {
-    ghost use Rattle.liveviews.specs.Program.{IsUnread};
+    ghost use Rattle.clap.specs.Values.{kind_of};
+    ghost use Rattle.liveviews.specs.Program.{IsRefusedAs};
 
-    ghost from_gives = { λ _ r. IsUnread r };
+    ghost from_gives = { λ e r. IsRefusedAs (kind_of e) r };
 
     fn from(error: clap::Error) -> Refusal<'a> {
         match error.kind() {
