@@ -1,5 +1,5 @@
 -- An item is smaller than all items together.
-use Rattle.std.proofs.Common.{◌≡◌, ℕ, zero, suc, ◌+◌, ◌<◌, ◌≤◌, List, [], ◌∷◌, length, get_or, ap, sym, arith, subst}
+use Rattle.std.proofs.Common.{◌≡◌, ℕ, zero, suc, ◌<◌, ◌≤◌, List, [], ◌∷◌, length, get_or, sym, arith, subst}
 use Rattle.values.specs.Datum.{Datum, null, truth, whole, text, bytes, list, structure, datum_size, items_size, items_of}
 
 some : (d : Datum) → 0 < datum_size d

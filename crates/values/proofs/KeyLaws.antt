@@ -1,7 +1,7 @@
 -- Equality and order of keys.
-use Rattle.std.proofs.Common.{◌≡◌, ℕ, List, refl, ap, sym, subst}
-use Rattle.std.specs.Prelude.{Bool, true, false, nat_eq}
-use Rattle.std.specs.Cmp.Lexicographic.{pointwise, same_text}
+use Rattle.std.proofs.Common.{◌≡◌, refl, ap, sym, subst}
+use Rattle.std.specs.Prelude.{Bool, true, false}
+use Rattle.std.specs.Cmp.Lexicographic.{same_text}
 use Rattle.std.specs.Cmp.{signed_Decides}
 use Rattle.std.proofs.lemmas.Cmp.{int_eq_equiv, nat_list_eq_equiv}
 use Rattle.values.specs.declared.key.Key.{Key}

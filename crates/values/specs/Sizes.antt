@@ -1,5 +1,5 @@
 -- The size of a value bounds what it holds.
-use Rattle.std.specs.Prelude.{ℕ, suc, ◌+◌, ◌≤◌}
+use Rattle.std.specs.Prelude.{◌≤◌}
 use Rattle.std.proofs.Common.{arith}
 use Rattle.values.specs.Datum.{datum_size, most_le-items_size}
 use Rattle.values.specs.Kinds.{datum_of}
