@@ -75,6 +75,6 @@ impl Bitmap {
     pub fn as_bytes(&self) -> &[u8]
         ensures { result.now ≡ bytes_of self.now }
     {
-        &self.bytes
+        self.bytes.as_slice()
     }
 }

@@ -1,6 +1,5 @@
 -- The rows of a batch, from its header and its body.
-use Rattle.std.proofs.Common.{◌≡◌, ℕ, zero, suc, List, [], ◌∷◌, ◌++◌, ◌+◌, ◌<◌, ◌≤◌, ◌^◌, length, map, get_or, All, Any, slice_index_or, Vec, OnOk, IfErr, Result, Ok, Err, refl, ap, sym, subst, ◌∙◌, arith}
-use Rattle.std.specs.declared.alloc.Global.{Global}
+use Rattle.std.proofs.Common.{◌≡◌, ℕ, zero, suc, List, ◌++◌, ◌+◌, ◌<◌, ◌≤◌, ◌^◌, length, get_or, All, Any, slice_index_or, OnOk, Result, Ok, Err, refl, ap, sym, subst, ◌∙◌, arith}
 use Rattle.std.proofs.lemmas.List.{get_or-map, length-map, length-append}
 use Rattle.std.proofs.lemmas.List.Elements.{All-append}
 use Rattle.values.specs.Datum.{Datum, null}
@@ -20,10 +19,9 @@ use Rattle.schema_meta.specs.BodyLayout.{IsWithin}
 use Rattle.values.proofs.Readings.{fails_along}
 use Rattle.schema_meta.specs.Rows.{columns_in, rows_of, rows_in, rows_from, row_at}
 use Rattle.schema_meta.specs.Sound.{Fits}
-use Rattle.schema_meta.specs.Logical.{logical_type}
 use Rattle.liveviews.specs.CheckedColumn.{CheckedColumn, cells_in, types_in}
 use Rattle.liveviews.specs.Heavy.{IsHeavy}
-use Rattle.liveviews.specs.Taken.{AreLight, AreTaken, IsTakenRow, HasHeavyRow, RefusesRows, cells_of_rows}
+use Rattle.liveviews.specs.Taken.{AreLight, AreTaken, IsTakenRow, HasHeavyRow, RefusesRows}
 use Rattle.liveviews.specs.Refused.{RefusesBatch, types_of, types_of_parts}
 use Rattle.liveviews.proofs.Placing.{parts-within, parts-lengths, parts-types, columns-lengths}
 

@@ -1,13 +1,11 @@
 -- The cells of a column whose layout and texts are good.
-use Rattle.std.proofs.Common.{◌≡◌, ℕ, List, ◌+◌, ◌<◌, length, Ok, Err, Some, slice_get, true, false, Bool, refl, ap, sym, subst, ◌∙◌, arith}
-use Rattle.std.specs.Str.{is_utf8}
-use Rattle.values.specs.Datum.{Datum, null, whole, text}
-use Rattle.values.specs.Reading.{Reading, Stands, IsGood, ◌>>=◌, each}
+use Rattle.std.proofs.Common.{◌≡◌, ℕ, List, ◌+◌, ◌<◌, length, Ok, Err, Some, slice_get, refl, ap, sym, subst, ◌∙◌, arith}
+use Rattle.values.specs.Datum.{Datum}
+use Rattle.values.specs.Reading.{Reading, Stands, IsGood, ◌>>=◌}
 use Rattle.values.specs.declared.faults.StreamFault.{StreamFault}
-use Rattle.values.proofs.Readings.{each_length, each_get, good_each, good_Ok}
+use Rattle.values.proofs.Readings.{each_length, each_get, good_each}
 use Rattle.schema_meta.specs.declared.parts.Part.{Part}
-use Rattle.schema_meta.specs.Buffers.{is_null}
-use Rattle.schema_meta.specs.BodyLayout.{layout_of, bytes_of}
+use Rattle.schema_meta.specs.BodyLayout.{layout_of}
 use Rattle.schema_meta.specs.Cells.{cell_of, cells_of, column_of, good_of}
 
 good_is : (m : Reading (List Datum)) → IsGood m → m ≡ Ok (good_of m)

@@ -1,5 +1,5 @@
 -- The arrays of a batch whose header fits its schema and its body.
-use Rattle.std.proofs.Common.{◌≡◌, ℕ, suc, pos, List, [], ◌∷◌, ◌+◌, ◌<◌, ◌≤◌, length, map, All, Some, None, Option, slice_get, get_or, unwrap_or, sum_by, Ok, Err, refl, ap, sym, subst, ◌∙◌, arith}
+use Rattle.std.proofs.Common.{◌≡◌, ℕ, suc, pos, List, [], ◌∷◌, ◌+◌, ◌<◌, ◌≤◌, length, map, All, Some, None, Option, slice_get, get_or, unwrap_or, Ok, refl, ap, subst, ◌∙◌, arith}
 use Rattle.std.proofs.lemmas.List.Elements.{All-get_or, All-cons}
 use Rattle.std.proofs.lemmas.Option.{slice_get_within, get_or_from_slice_get, unwrap_or-slice_get}
 use Rattle.values.specs.Datum.{Datum}
@@ -19,7 +19,7 @@ use Rattle.schema_meta.specs.Parts.{placed, parts_of, part_of, part_by, span_at,
 use Rattle.schema_meta.specs.BodyLayout.{IsWithin, layout_of}
 use Rattle.schema_meta.specs.Cells.{cell_of, cells_of, column_of}
 use Rattle.schema_meta.specs.Rows.{columns_in}
-use Rattle.values.specs.Reading.{Reading, both, cons}
+use Rattle.values.specs.Reading.{cons}
 use Rattle.values.proofs.Readings.{both_Ok, bind_Ok, each_length}
 
 -- a buffer within so many bytes

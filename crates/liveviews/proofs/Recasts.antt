@@ -1,5 +1,5 @@
 -- From the table that was read to the bytes that are put.
-use Rattle.std.proofs.Common.{◌≡◌, ◌⊎◌, inl, inr, ℕ, List, Result, Ok, Err, refl, sym, subst}
+use Rattle.std.proofs.Common.{◌≡◌, inl, ℕ, List, Result, refl}
 use Rattle.values.specs.Datum.{Datum}
 use Rattle.values.specs.Logical.{LogicalField}
 use Rattle.values.specs.declared.causes.Cause.{Cause}

@@ -1,7 +1,6 @@
 -- What it means for offsets to rise.
-use Rattle.std.proofs.Common.{◌≡◌, ℕ, zero, suc, List, ◌+◌, ◌*◌, ◌^◌, ◌<◌, ◌≤◌, Bool, true, false, ◌&&◌, length, nat_le, nat_lt, refl, arith, cond, ap, ◌∙◌, inl, inr, subst, sym}
+use Rattle.std.proofs.Common.{◌≡◌, ℕ, zero, suc, List, ◌+◌, ◌*◌, ◌<◌, ◌≤◌, Bool, true, false, ◌&&◌, length, refl, arith, inl, inr, subst}
 use Rattle.std.proofs.lemmas.Bool.{cases_lt, lt-leb}
-use Rattle.std.proofs.lemmas.Bool.Decides.{nat_tests}
 use Rattle.schema_meta.specs.Buffers.{offset_at, is_rising}
 use Rattle.schema_meta.specs.BodyLayout.{AreFit}
 

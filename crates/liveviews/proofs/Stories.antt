@@ -1,6 +1,6 @@
 -- The story of a stream, message by message.
-use Rattle.std.proofs.Common.{◌≡◌, ◌≢◌, ◌⊎◌, inl, inr, ℕ, zero, suc, ◌+◌, ◌-◌, ◌<◌, ◌≤◌, ◌^◌, Bool, true, false, Option, None, Some, Ok, Err, List, [], ◌∷◌, ◌++◌, length, drop, map, All, Any, refl, ap, sym, subst, ◌∙◌, arith, append_assoc, length-append, length-drop}
-use Rattle.std.specs.Prelude.{slice_range, unwrap_or, IsSome, IsSomeAnd, if◌then◌else◌, ◌==◌}
+use Rattle.std.proofs.Common.{◌≡◌, ◌≢◌, ◌⊎◌, inl, inr, ℕ, zero, suc, ◌+◌, ◌-◌, ◌<◌, ◌≤◌, Bool, true, false, Option, None, Some, Ok, Err, List, [], ◌++◌, length, drop, map, Any, refl, ap, sym, subst, ◌∙◌, arith, append_assoc, length-append, length-drop}
+use Rattle.std.specs.Prelude.{slice_range, unwrap_or, ◌==◌}
 use Rattle.std.proofs.lemmas.Bool.{eqb-true, eqb-false, cases_lt}
 use Rattle.values.specs.Datum.{Datum}
 use Rattle.values.specs.Reading.{Reading, Stands, Fails, with_front, one}
@@ -16,7 +16,7 @@ use Rattle.schema_meta.specs.Stage.{Known, Whole, end_of}
 use Rattle.schema_meta.specs.Sound.{after, schema_after}
 use Rattle.schema_meta.specs.Framing.{first}
 use Rattle.schema_meta.specs.Rows.{rows_of}
-use Rattle.schema_meta.specs.Story.{Story, story, told, knowing, ends, at_input_end, at_end_mark, after_rows, after_batch, after_message, told_by}
+use Rattle.schema_meta.specs.Story.{Story, story, told, knowing, ends, at_end_mark, after_rows, after_batch, told_by}
 use Rattle.schema_meta.specs.BatchHead.{BatchHead}
 use Rattle.messages.specs.Stream.{Stream, Frames, message_of}
 use Rattle.messages.specs.Handed.{MessageView}
@@ -25,7 +25,7 @@ use Rattle.messages.proofs.Messages.{first_within}
 use Rattle.messages.proofs.Brings.{Brings, BringsSchema, first_brings}
 use Rattle.values.specs.StreamCauses.{cause_of}
 use Rattle.values.proofs.Readings.{fails_along}
-use Rattle.liveviews.specs.Steps.{Tells, TellsAfter, Refuses, HasHeavyRow, IsSound, AreTakenSo, ReadsRows, RefusesRowsOf}
+use Rattle.liveviews.specs.Steps.{Tells, Refuses, HasHeavyRow, IsSound, AreTakenSo, ReadsRows, RefusesRowsOf}
 use Rattle.liveviews.specs.Refused.{RefusesBatch, types_of}
 use Rattle.liveviews.specs.Heavy.{IsHeavy}
 use Rattle.liveviews.specs.Taken.{AreTaken}

@@ -1,11 +1,11 @@
 -- Row after row of a batch.
-use Rattle.std.proofs.Common.{◌≡◌, inl, inr, ℕ, zero, suc, List, [], ◌∷◌, ◌++◌, ◌+◌, ◌-◌, ◌<◌, ◌≤◌, map, Vec, refl, ap, sym, subst, ◌∙◌, arith, append_assoc, append-nil}
+use Rattle.std.proofs.Common.{◌≡◌, inl, inr, ℕ, suc, List, [], ◌∷◌, ◌++◌, ◌+◌, ◌-◌, ◌<◌, ◌≤◌, Vec, ap, sym, subst, ◌∙◌, arith, append_assoc, append-nil}
 use Rattle.std.proofs.lemmas.List.{map-append}
 use Rattle.std.proofs.lemmas.Bool.{cases_lt}
 use Rattle.std.specs.declared.alloc.Global.{Global}
 use Rattle.values.specs.Datum.{Datum}
 use Rattle.values.specs.declared.types.ColType.{ColType}
-use Rattle.schema_meta.specs.Rows.{row_at, rows_from, rows_in}
+use Rattle.schema_meta.specs.Rows.{row_at, rows_from}
 use Rattle.liveviews.specs.Heavy.{IsLight}
 use Rattle.liveviews.specs.Taken.{AreLight, cells_of_rows}
 

@@ -1,9 +1,9 @@
 -- A row's weight, cell by cell.
-use Rattle.std.proofs.Common.{◌≡◌, ◌⊎◌, inl, inr, ℕ, List, [], ◌∷◌, ◌+◌, ◌^◌, ◌<◌, ◌≤◌, length, map, drop, get_or, Some, None, IfSome, slice_get, All, refl, ap, sym, subst, ◌∙◌, arith}
+use Rattle.std.proofs.Common.{◌≡◌, inl, inr, ℕ, List, [], ◌∷◌, ◌+◌, ◌^◌, ◌<◌, ◌≤◌, length, drop, get_or, IfSome, slice_get, All, sym, subst, arith}
 use Rattle.std.proofs.lemmas.List.{drop_more, drop_all}
 use Rattle.std.proofs.lemmas.Option.{slice_get-get_or}
 use Rattle.std.proofs.lemmas.List.Elements.{All-get_or}
-use Rattle.values.specs.Datum.{Datum, null}
+use Rattle.values.specs.Datum.{null}
 use Rattle.values.specs.Weight.{weight_of}
 use Rattle.schema_meta.specs.Rows.{row_at}
 use Rattle.liveviews.specs.CheckedColumn.{CheckedColumn, cells_in, types_in}

@@ -1,5 +1,5 @@
 -- What reading a stream message by message tells of the whole stream.
-use Rattle.std.specs.Prelude.{◌≡◌, ℕ, ◌^◌, ◌<◌, ◌≤◌, List, [], Option, None, Some, IsSome, Ok, Any, length, drop, map}
+use Rattle.std.specs.Prelude.{◌≡◌, ℕ, ◌^◌, ◌<◌, List, [], Option, None, Some, IsSome, Ok, Any, length, drop, map}
 use Rattle.values.specs.Datum.{Datum}
 use Rattle.values.specs.Logical.{LogicalField}
 use Rattle.values.specs.Rose.{Rose}

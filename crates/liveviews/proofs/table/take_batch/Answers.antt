@@ -1,4 +1,4 @@
-use Rattle.std.proofs.Common.{length, All}
+use Rattle.std.proofs.Common.{length}
 use Rattle.std.proofs.lemmas.Result.{IfErr-weaker, on_ok_weaker}
 use Rattle.liveviews.specs.Taken.{cells_of_rows}
 use Rattle.liveviews.proofs.Batching.{batch-whole, batch-refused, batch-kept}

@@ -3,7 +3,6 @@ use Rattle.std.specs.declared.alloc.Global.{Global}
 use Rattle.values.specs.Datum.{Datum}
 use Rattle.std.proofs.lemmas.List.{length-map}
 use Rattle.std.proofs.lemmas.Result.{IfErr-weaker}
-use Rattle.liveviews.specs.CheckedColumn.{cells_in}
 use Rattle.liveviews.specs.Refused.{types_of_parts}
 use Rattle.liveviews.specs.Taken.{cells_of_rows}
 use Rattle.schema_meta.specs.Rows.{columns_in}
