@@ -14,7 +14,7 @@ ghost use Rattle.liveviews.specs.Steps.{AreTakenSo, HasEnded, HasTold, IsSound, 
 ghost use Rattle.liveviews.specs.Refused.{RefusesBatch, types_of, types_of_parts};
 
 use crate::batch::{add_rows, check_columns};
-use messages::{Framed, Framer, Message};
+use messages::{Framed, Framer, Message, message_law};
 use schema_meta::{BatchHeader, Header, Part, StreamSchema, place_parts};
 use std::alloc::Global;
 use std::rc::Rc;
@@ -137,6 +137,8 @@ fn take_message(
         → TellsAfter s (cells_of_rows rows.new.items) framer.new.known bytes.now step) }
     ensures refused { IfErr result (λ c. (s : Story) → Tells s (cells_of_rows rows.old.items) framer.old.known bytes.now → Refuses s c) }
 {
+    // It does nothing: the proof takes from it what a message is.
+    message_law();
     let framed = match framer.push(bytes) {
         Ok(framed) => framed,
         Err(fault) => return Err(fault.cause()),

@@ -1,6 +1,6 @@
 -- What a message brings: a schema comes once, out of a Schema table, and no other message has one.
-use Rattle.std.proofs.Common.{◌≡◌, inl, inr, ℕ, ◌+◌, Bool, true, false, Option, None, Some, Ok, Err, List, length, drop, refl, ap, subst, ◌∙◌}
-use Rattle.std.specs.Prelude.{slice_range, is_some, if◌then◌else◌}
+use Rattle.std.proofs.Common.{◌≡◌, inl, inr, ℕ, ◌+◌, Bool, true, false, Option, None, Some, Ok, Err, List, length, drop, refl, ap, subst, ◌∙◌, ◌≤◌, arith}
+use Rattle.std.specs.Prelude.{map, slice_range, is_some, if◌then◌else◌}
 use Rattle.byteorder.specs.Endian.{little_number}
 use Rattle.flatbuf.specs.Layout.{Table}
 use Rattle.values.specs.declared.faults.StreamFault.TheVariants as fault
@@ -11,30 +11,26 @@ use Rattle.schema_meta.specs.Entry.{Entry}
 use Rattle.schema_meta.specs.Schema.{schema_of}
 use Rattle.schema_meta.specs.declared.header.MessageKind.{MessageKind}
 use Rattle.schema_meta.specs.declared.header.MessageKind.TheVariants as kind
-use Rattle.schema_meta.specs.declared.header.Header.{Header}
 use Rattle.schema_meta.specs.declared.header.Header.TheVariants as header
 use Rattle.schema_meta.specs.Stage.{Known, Meta, Whole, end_meta}
 use Rattle.schema_meta.specs.Message.{expected, new_schema, header_table, header_of, record_batch, brings_schema, brings_batch, meta_of}
 use Rattle.schema_meta.specs.Framing.{framed, end_mark, first}
 use Rattle.messages.proofs.Stages.{staged_from}
-use Rattle.messages.proofs.Facts.{no_dictionary, expected_same, meta_header}
+use Rattle.schema_meta.specs.Logical.{logical_field}
+use Rattle.schema_meta.specs.SchemaTree.{AreColumns}
+use Rattle.messages.specs.MessageLaw.{Brings, MessageLaw}
+use Rattle.messages.proofs.Facts.{no_dictionary, expected_same, meta_header, schema_few}
+use Rattle.messages.proofs.ShortNames.{schema-short}
+use Rattle.messages.proofs.Messages.{first_within}
+use Rattle.std.proofs.lemmas.List.{length-map}
+use Rattle.std.proofs.lemmas.List.Elements.{All-map}
 
--- these fields were read of a Schema table
-pub record IsRead (fields : List (Rose Entry)) : Type 0 where
-  pub table : Table
-  pub is : schema_of table ≡ Ok fields
-
--- what a message brings where a schema is known, or none
-pub record BringsSchema (known brought : Option (List (Rose Entry))) : Type 0 where
-  pub fields : List (Rose Entry)
-  pub read : IsRead fields
-  pub new : known ≡ None
-  pub is : brought ≡ Some fields
-
-abbrev pub Brings : Option (List (Rose Entry)) → Option (List (Rose Entry)) → Header → Type 0
-Brings known brought header.Schema = BringsSchema known brought
-Brings known brought (header.Batch b) = brought ≡ None
-Brings known brought header.End = brought ≡ None
+columns-sound : (t : Table) (fs : List (Rose Entry)) → schema_of t ≡ Ok fs → AreColumns (map logical_field fs)
+columns-sound t fs e = record {
+  few = let same : length (map logical_field fs) ≡ length fs = length-map fs logical_field in
+      omega (arith, same, schema_few t fs e);
+  short_names = All-map (λ f. length f.name ≤ 4096) logical_field fs (schema-short t fs e);
+}
 
 unknown_by : (o : Option (List (Rose Entry))) (b : Bool) (u : Unit {0}) → is_some o ≡ b → refused_if fault.SecondSchema b ≡ Ok u → b ≡ false
 unknown_by o true u s e = absurd (cc)
@@ -60,7 +56,7 @@ header_brings known t kind.Schema body m e =
     let q = bind_Ok (header_table t) (new_schema known) p.0 p.1 in
     let r = new_from known q.0 p.0 q.2 in
     let made : Brings known.schema (Some p.0) header.Schema =
-    record { fields = p.0; read = record { table = q.0; is = r.1 }; new = r.0; is = refl } in
+    record { fields = p.0; sound = columns-sound q.0 p.0 r.1; new = r.0; is = refl } in
     subst (λ (x : Meta). Brings known.schema x.schema x.header) p.2 made
 header_brings known t kind.Batch body m e =
     let p = mapped_Ok (brings_batch body) (record_batch known body t) m e in
@@ -80,7 +76,7 @@ end_brings_by known w true e =
     subst (λ (v : Whole). Brings known.schema v.meta.schema v.meta.header) k refl
 end_brings_by known w false e = absurd (cc)
 
-pub first_brings : (known : Known) (bytes : List ℕ) (w : Whole) → first known bytes ≡ Ok (Some w) → Brings known.schema w.meta.schema w.meta.header
+first_brings : (known : Known) (bytes : List ℕ) (w : Whole) → first known bytes ≡ Ok (Some w) → Brings known.schema w.meta.schema w.meta.header
 unfolding first
 first_brings known bytes w e =
     let f : ℕ → Reading Meta = λ n. meta_of known (slice_range bytes 8 (8 + n)) in
@@ -89,3 +85,10 @@ first_brings known bytes w e =
       | inl m ↦ end_brings_by known w (is_some known.schema) m
       | inr r ↦ meta_brings known (slice_range bytes 8 (8 + r.0)) w.meta r.1
     ]
+
+pub message-law : MessageLaw
+message-law known bytes w e =
+    let there = first_within known bytes w e in
+    record { behind = there.0; within = there.1; brings = first_brings known bytes w e }
+
+pub ruleset message_laws = (message-law)

@@ -5,3 +5,4 @@ pub mod Stream
 pub mod Laws
 pub mod Run
 pub mod Feeding
+pub mod MessageLaw

@@ -1,5 +1,6 @@
 //! Laws of the definitions: functions that do nothing, whose contracts are theorems.
 
+ghost use Rattle.messages.specs.MessageLaw.{MessageLaw};
 ghost use Rattle.messages.specs.Laws.{CutsAgree, FaultStays, FaultsStay, FeedFollowsRun, FeedsEnd, PushKeepsRun, RefusalEndsRun, WholeStays, WholeWithin};
 
 /// More bytes change neither a whole message nor the faults that stand, so neither depends on where the input is cut.
@@ -21,4 +22,11 @@ pub fn pieces_law()
     ensures feed { FeedFollowsRun }
     ensures cuts { CutsAgree }
     ensures end { FeedsEnd }
+{}
+
+/// A message that is found whole lies within the bytes. A schema comes once, with its columns within the limits, and no other
+/// message brings one.
+#[tactic(auto, using(crate::proofs::Brings::message_laws))]
+pub fn message_law()
+    ensures { MessageLaw }
 {}

@@ -22,6 +22,6 @@ mod stream;
 mod tests;
 
 pub use headers::{Framed, Message};
-pub use laws::{more_bytes_law, pieces_law};
+pub use laws::{message_law, more_bytes_law, pieces_law};
 pub use schema_meta::{BatchHeader, Header, Node, Shape, Span};
 pub use stream::Framer;
