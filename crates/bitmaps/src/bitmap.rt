@@ -45,12 +45,14 @@ fn push_bit(bytes: &mut Vec<u8>, len: usize, bit: bool) -> Result<(), AllocError
 
 #[tactic(auto, using(crate::proofs::Packing::packing))]
 impl Bitmap {
-    /// No bits, with room for `len` of them.
-    pub fn with_capacity(alloc: Global, len: usize) -> Result<Bitmap, AllocError>
-        ensures { IfOk result (λ b. b ≡ []) }
+    /// No bits. It takes no memory.
+    pub fn new(alloc: Global) -> Bitmap
+        ensures { result ≡ [] }
     {
-        let bytes = Vec::with_capacity(alloc, len.div_ceil(8))?;
-        Ok(Bitmap { bytes, len: 0 })
+        Bitmap {
+            bytes: Vec::new(alloc),
+            len: 0,
+        }
     }
 
     /// Adds a bit at the end. A refusal changes nothing.

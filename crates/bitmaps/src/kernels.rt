@@ -20,7 +20,7 @@ impl<'a> Bits<'a> {
         requires { length other.now ≡ length self.now }
         ensures { IfOk result (λ b. b ≡ pairwise (λ x y. x && y) self.now other.now) }
     {
-        let mut made = Bitmap::with_capacity(alloc, self.len())?;
+        let mut made = Bitmap::new(alloc);
         for i in 0..self.len() {
             made.push(self.at(i) & other.at(i))?;
         }
@@ -32,7 +32,7 @@ impl<'a> Bits<'a> {
         requires { length other.now ≡ length self.now }
         ensures { IfOk result (λ b. b ≡ pairwise (λ x y. x || y) self.now other.now) }
     {
-        let mut made = Bitmap::with_capacity(alloc, self.len())?;
+        let mut made = Bitmap::new(alloc);
         for i in 0..self.len() {
             made.push(self.at(i) | other.at(i))?;
         }
@@ -43,7 +43,7 @@ impl<'a> Bits<'a> {
     pub fn not(&self, alloc: Global) -> Result<Bitmap, AllocError>
         ensures { IfOk result (λ b. b ≡ map not self.now) }
     {
-        let mut made = Bitmap::with_capacity(alloc, self.len())?;
+        let mut made = Bitmap::new(alloc);
         for i in 0..self.len() {
             made.push(!self.at(i))?;
         }
@@ -56,7 +56,7 @@ impl<'a> Bits<'a> {
         requires no { length no.now ≡ length self.now }
         ensures { IfOk result (λ b. b ≡ selected self.now yes.now no.now) }
     {
-        let mut made = Bitmap::with_capacity(alloc, self.len())?;
+        let mut made = Bitmap::new(alloc);
         for i in 0..self.len() {
             made.push(pick(self.at(i), yes.at(i), no.at(i)))?;
         }

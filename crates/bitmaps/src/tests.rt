@@ -38,7 +38,7 @@ fn makes_bitmaps(rt: HostRuntime) -> Result<(), Fail> {
 
 #[test]
 fn pushes_bits(rt: HostRuntime) -> Result<(), Fail> {
-    let mut made = Bitmap::with_capacity(rt.alloc(), 9)?;
+    let mut made = Bitmap::new(rt.alloc());
     assert!(rt; made.as_bytes().is_empty());
     for i in 0..9usize {
         made.push(i % 3 == 0)?;

@@ -7,7 +7,7 @@ use Rattle.bitmaps.proofs.bits.Bits.and.Goals as goal
 
 pub loop-i-preserved : goal.loop-i-preserved
 loop-i-preserved c =
-    let within : c.loop-i.i < length c.args.self.now = omega (arith, c.loop-i-test.true, c.len.ensures, c.len-i-end.ensures) in
+    let within : c.loop-i.i < length c.args.self.now = omega (arith, c.loop-i-test.true, c.len-i-end.ensures) in
     let bit = (c.at.result && c.at-in-loop-i.result) ∷ [] in
     let more = length-append c.loop-i.made bit in
     record {
