@@ -1,0 +1,6 @@
+use Rattle.std.proofs.Common.{◌≡◌, take}
+use Rattle.dictionaries.specs.Joined.{joined}
+use Rattle.dictionaries.proofs.chunks.merge.Given as goal
+
+abbrev pub invariant-loop-chunk : goal.invariant-loop-chunk
+invariant-loop-chunk l = l.all.items ≡ joined (take l.chunk-index l.chunks)

@@ -1,0 +1,4 @@
+pub mod Joined
+pub mod Batches
+pub mod Table
+pub mod Law

@@ -1,0 +1,106 @@
+//! Dictionaries by id.
+
+ghost use Rattle.std.specs.Prelude.{◌≡◌, [], IfOk, OnOk, OnErr};
+ghost use Rattle.std.specs.Option.{option_copied};
+ghost use Rattle.dictionaries.specs.Batches.{batch};
+ghost use Rattle.dictionaries.specs.Table.{Changes, Takes, change_of, found, HasRoom};
+
+use crate::dictionary::Dictionary;
+use indexmap::IndexMap;
+use std::alloc::{AllocError, Global};
+use std::marker::Model;
+use values::Value;
+
+/// The dictionaries that dictionary batches brought, by id.
+///
+/// Contracts see a `Table`: the values by id, and the room for more of them.
+#[derive(Drop)]
+pub struct Dictionaries {
+    alloc: Global,
+    by_id: IndexMap<i64, Dictionary>,
+}
+
+impl Model for Dictionaries {
+    ghost use Rattle.indexmap.specs.IndexMap.{spare};
+    ghost use Rattle.dictionaries.specs.Table.{Table, table, table_code};
+
+    ghost Value = { Table };
+
+    ghost coded = { table_code };
+
+    ghost view = { λ d. table d.by_id.entries (spare d.by_id) };
+}
+
+/// What a batch changes, with all the memory for it. Contracts see a `Change`: the id and all its values.
+#[derive(Drop)]
+pub struct Ready {
+    id: i64,
+    dictionary: Dictionary,
+}
+
+impl Model for Ready {
+    ghost use Rattle.dictionaries.specs.Table.{Change, change, change_code};
+
+    ghost Value = { Change };
+
+    ghost coded = { change_code };
+
+    ghost view = { λ r. change r.id r.dictionary };
+}
+
+impl Dictionaries {
+    /// No dictionaries yet.
+    pub fn new(alloc: Global) -> Dictionaries
+        ensures { result.entries ≡ [] }
+    {
+        Dictionaries {
+            alloc,
+            by_id: IndexMap::new(alloc),
+        }
+    }
+
+    /// The dictionary of an id as it is now, if a batch came for it. It takes no memory.
+    pub fn lookup(&self, id: i64) -> Option<&Dictionary>
+        ensures { option_copied result ≡ found self.now id }
+    {
+        self.by_id.get(&id)
+    }
+
+    /// Makes what `commit` needs to take a batch, and changes no dictionary.
+    pub fn prepare(
+        &mut self,
+        id: i64,
+        is_delta: bool,
+        values: Vec<Value>,
+    ) -> Result<Ready, AllocError>
+        ensures same { self.new.entries ≡ self.old.entries }
+        ensures ready { IfOk result (λ r. r ≡ change_of self.old (batch id is_delta values.items)) }
+        ensures room { OnOk result (HasRoom self.new) }
+    {
+        let dictionary = match self.by_id.get(&id) {
+            Some(before) if is_delta => before.extended(self.alloc, values)?,
+            _ => Dictionary::of(self.alloc, values)?,
+        };
+        self.by_id.reserve(1)?;
+        Ok(Ready { id, dictionary })
+    }
+
+    /// Makes the change that `prepare` made ready. It takes no memory.
+    pub fn commit(&mut self, ready: Ready)
+        requires { HasRoom self.old }
+        ensures { Changes self.old self.new ready }
+    {
+        let Ready { id, dictionary } = ready;
+        self.by_id.insert(id, dictionary).unwrap();
+    }
+
+    /// Takes a batch. A refusal changes no dictionary.
+    pub fn apply(&mut self, id: i64, is_delta: bool, values: Vec<Value>) -> Result<(), AllocError>
+        ensures taken { OnOk result (Takes self.old self.new (batch id is_delta values.items)) }
+        ensures unchanged { OnErr result (self.new.entries ≡ self.old.entries) }
+    {
+        let ready = self.prepare(id, is_delta, values)?;
+        self.commit(ready);
+        Ok(())
+    }
+}

@@ -1,0 +1,92 @@
+//! The values of one dictionary.
+
+ghost use Rattle.std.specs.Prelude.{◌≡◌, ◌++◌, length, nat_eq, slice_get, IfOk};
+ghost use Rattle.std.specs.Option.{option_copied};
+
+use crate::chunks::{Chunk, extend, value_at};
+use std::alloc::{AllocError, Global};
+use std::marker::Model;
+use std::rc::Rc;
+use values::Value;
+
+/// The values of a dictionary as they stood at one time, nulls among them. They never change.
+///
+/// Contracts see their list.
+#[derive(Drop)]
+pub struct Dictionary {
+    chunks: Rc<Vec<Chunk>>,
+    len: usize,
+}
+
+impl Model for Dictionary {
+    ghost use Rattle.std.specs.Prelude.{◌≡◌, List, length};
+    ghost use Rattle.std.specs.Coded.{coded_list};
+    ghost use Rattle.values.specs.Datum.{Datum, datum_code};
+    ghost use Rattle.dictionaries.specs.Joined.{joined};
+
+    ghost Value = { List Datum };
+
+    ghost coded = { coded_list datum_code };
+
+    ghost view = { λ d. joined d.chunks.value.items };
+
+    ghost invariant = { λ d. d.len ≡ length (joined d.chunks.value.items) };
+}
+
+impl Dictionary {
+    /// A dictionary of these values.
+    pub(crate) fn of(alloc: Global, values: Vec<Value>) -> Result<Dictionary, AllocError>
+        ensures { IfOk result (λ d. d ≡ values.items) }
+    {
+        let len = values.len();
+        let chunks = extend(alloc, &[], values)?;
+        let chunks = Rc::new(alloc, chunks)?;
+        Ok(Dictionary { chunks, len })
+    }
+
+    /// A dictionary of its values and of these behind them, most of which it shares.
+    pub(crate) fn extended(
+        &self,
+        alloc: Global,
+        values: Vec<Value>,
+    ) -> Result<Dictionary, AllocError>
+        ensures { IfOk result (λ d. d ≡ self.now ++ values.items) }
+    {
+        let len = self.len.checked_add(values.len()).ok_or(AllocError)?;
+        let chunks = extend(alloc, self.chunks.as_ref().as_slice(), values)?;
+        let chunks = Rc::new(alloc, chunks)?;
+        Ok(Dictionary { chunks, len })
+    }
+
+    /// The same dictionary, for one more owner. No value is copied.
+    pub fn share(&self) -> Result<Dictionary, AllocError>
+        ensures { IfOk result (λ d. d ≡ self.now) }
+    {
+        let chunks = self.chunks.clone()?;
+        Ok(Dictionary {
+            chunks,
+            len: self.len,
+        })
+    }
+
+    /// The number of values.
+    pub fn len(&self) -> usize
+        ensures { result ≡ length self.now }
+    {
+        self.len
+    }
+
+    /// Whether there is no value.
+    pub fn is_empty(&self) -> bool
+        ensures { result ≡ nat_eq (length self.now) 0 }
+    {
+        self.len == 0
+    }
+
+    /// Value `i`, if there are more than `i`. It takes no memory.
+    pub fn get(&self, i: usize) -> Option<&Value>
+        ensures { option_copied result ≡ slice_get self.now i }
+    {
+        value_at(self.chunks.as_ref().as_slice(), i)
+    }
+}
