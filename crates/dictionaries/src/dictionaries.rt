@@ -77,7 +77,7 @@ impl Dictionaries {
         ensures ready { IfOk result (λ r. r ≡ change_of self.old (batch id is_delta values.items)) }
         ensures room { OnOk result (HasRoom self.new) }
     {
-        let dictionary = match self.by_id.get(&id) {
+        let dictionary = match self.lookup(id) {
             Some(before) if is_delta => before.extended(self.alloc, values)?,
             _ => Dictionary::of(self.alloc, values)?,
         };

@@ -62,11 +62,9 @@ impl Dictionary {
     pub fn share(&self) -> Result<Dictionary, AllocError>
         ensures { IfOk result (λ d. d ≡ self.now) }
     {
+        let len = self.len;
         let chunks = self.chunks.clone()?;
-        Ok(Dictionary {
-            chunks,
-            len: self.len,
-        })
+        Ok(Dictionary { chunks, len })
     }
 
     /// The number of values.

@@ -30,18 +30,37 @@ fn holds(dictionary: &Dictionary, numbers: &[i128]) -> bool {
     dictionary.len() == numbers.len() && dictionary.get(numbers.len()).is_none()
 }
 
+/// Whether the dictionary of an id holds these numbers.
+fn stands(dictionaries: &Dictionaries, id: i64, numbers: &[i128]) -> bool {
+    match dictionaries.lookup(id) {
+        Some(dictionary) => holds(dictionary, numbers),
+        None => false,
+    }
+}
+
+fn bring(
+    dictionaries: &mut Dictionaries,
+    alloc: Global,
+    id: i64,
+    is_delta: bool,
+    list: &[i128],
+) -> Result<(), AllocError> {
+    let values = numbers(alloc, list)?;
+    dictionaries.apply(id, is_delta, values)
+}
+
 #[test]
 fn a_batch_replaces_and_a_delta_adds(rt: HostRuntime) -> Result<(), Fail> {
     let alloc = rt.alloc();
     let mut dictionaries = Dictionaries::new(alloc);
     assert!(rt; dictionaries.lookup(7).is_none());
-    dictionaries.apply(7, false, numbers(alloc, &[1, 2])?)?;
-    dictionaries.apply(-8, false, numbers(alloc, &[9])?)?;
-    dictionaries.apply(7, true, numbers(alloc, &[3])?)?;
-    assert!(rt; holds(dictionaries.lookup(7).ok_or("none")?, &[1, 2, 3]));
-    dictionaries.apply(7, false, numbers(alloc, &[4])?)?;
-    assert!(rt; holds(dictionaries.lookup(7).ok_or("none")?, &[4]));
-    assert!(rt; holds(dictionaries.lookup(-8).ok_or("none")?, &[9]));
+    bring(&mut dictionaries, alloc, 7, false, &[1, 2])?;
+    bring(&mut dictionaries, alloc, -8, false, &[9])?;
+    bring(&mut dictionaries, alloc, 7, true, &[3])?;
+    assert!(rt; stands(&dictionaries, 7, &[1, 2, 3]));
+    bring(&mut dictionaries, alloc, 7, false, &[4])?;
+    assert!(rt; stands(&dictionaries, 7, &[4]));
+    assert!(rt; stands(&dictionaries, -8, &[9]));
     Ok(())
 }
 
@@ -56,7 +75,14 @@ fn a_delta_may_be_the_first(rt: HostRuntime) -> Result<(), Fail> {
     assert_eq!(rt; dictionary.len(), 2);
     let second = dictionary.get(1).ok_or("one value")?;
     assert!(rt; matches!(&second.kind, Kind::Null));
-    dictionaries.apply(8, true, Vec::new(alloc))?;
+    Ok(())
+}
+
+#[test]
+fn an_empty_delta_brings_a_dictionary(rt: HostRuntime) -> Result<(), Fail> {
+    let alloc = rt.alloc();
+    let mut dictionaries = Dictionaries::new(alloc);
+    bring(&mut dictionaries, alloc, 8, true, &[])?;
     assert!(rt; dictionaries.lookup(8).ok_or("none")?.is_empty());
     Ok(())
 }
@@ -65,16 +91,23 @@ fn a_delta_may_be_the_first(rt: HostRuntime) -> Result<(), Fail> {
 fn what_was_handed_out_stays(rt: HostRuntime) -> Result<(), Fail> {
     let alloc = rt.alloc();
     let mut dictionaries = Dictionaries::new(alloc);
-    dictionaries.apply(7, false, numbers(alloc, &[1])?)?;
+    bring(&mut dictionaries, alloc, 7, false, &[1, 2])?;
     let first = dictionaries.lookup(7).ok_or("none")?.share()?;
-    dictionaries.apply(7, true, numbers(alloc, &[2])?)?;
-    let second = dictionaries.lookup(7).ok_or("none")?.share()?;
-    let ready = dictionaries.prepare(7, false, numbers(alloc, &[3])?)?;
-    assert!(rt; holds(dictionaries.lookup(7).ok_or("none")?, &[1, 2]));
+    bring(&mut dictionaries, alloc, 7, true, &[3])?;
+    assert!(rt; stands(&dictionaries, 7, &[1, 2, 3]));
+    bring(&mut dictionaries, alloc, 7, false, &[4])?;
+    assert!(rt; holds(&first, &[1, 2]));
+    Ok(())
+}
+
+#[test]
+fn what_is_prepared_comes_with_commit(rt: HostRuntime) -> Result<(), Fail> {
+    let alloc = rt.alloc();
+    let mut dictionaries = Dictionaries::new(alloc);
+    let ready = dictionaries.prepare(7, true, numbers(alloc, &[1])?)?;
+    assert!(rt; dictionaries.lookup(7).is_none());
     dictionaries.commit(ready);
-    assert!(rt; holds(dictionaries.lookup(7).ok_or("none")?, &[3]));
-    assert!(rt; holds(&first, &[1]));
-    assert!(rt; holds(&second, &[1, 2]));
+    assert!(rt; stands(&dictionaries, 7, &[1]));
     Ok(())
 }
 
@@ -85,9 +118,9 @@ fn many_small_deltas(rt: HostRuntime) -> Result<(), Fail> {
     let mut all = Vec::new(alloc);
     for i in 0..300u64 {
         all.push(i as i128)?;
-        dictionaries.apply(7, true, numbers(alloc, &[i as i128])?)?;
-        dictionaries.apply(7, true, Vec::new(alloc))?;
+        bring(&mut dictionaries, alloc, 7, true, &[i as i128])?;
+        bring(&mut dictionaries, alloc, 7, true, &[])?;
     }
-    assert!(rt; holds(dictionaries.lookup(7).ok_or("none")?, &all));
+    assert!(rt; stands(&dictionaries, 7, &all));
     Ok(())
 }
