@@ -1,6 +1,6 @@
 -- The values after one more batch.
 use Rattle.std.proofs.Common.{◌≡◌, ℤ, Bool, true, false, cond, ◌||◌, List, [], ◌∷◌, ◌++◌, refl, ap, sym, ◌∙◌, append-nil}
-use Rattle.std.specs.Prelude.{not, if◌then◌else◌, filter, flat_map, Option, Some, None, unwrap_or}
+use Rattle.std.specs.Prelude.{not, if◌then◌else◌, filter, flat_map, Some, None, unwrap_or}
 use Rattle.std.specs.List.{list_any}
 use Rattle.std.specs.Ordering.{int_eq}
 use Rattle.std.specs.Cmp.{signed_Decides}
@@ -8,8 +8,8 @@ use Rattle.std.proofs.lemmas.List.Concat.{flat_map-append}
 use Rattle.std.proofs.lemmas.List.Elements.{filter-append}
 use Rattle.values.specs.Datum.{Datum}
 use Rattle.dictionaries.specs.Batches.{DictionaryBatch, is_of, is_whole, since_last_whole, dictionary_after, found_after}
-use Rattle.dictionaries.specs.Table.{Table, Takes, found}
-use Rattle.dictionaries.specs.Law.{StandsAfter, NoneAtFirst, TakingIsOneMore}
+use Rattle.dictionaries.specs.Table.{found}
+use Rattle.dictionaries.specs.Law.{NoneAtFirst, TakingIsOneMore}
 
 or-true : (t u : Bool) → u ≡ true → (t || u) ≡ true
 or-true true u e = refl

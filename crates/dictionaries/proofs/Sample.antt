@@ -1,6 +1,6 @@
 -- The definitions answer by computation.
 use Rattle.std.proofs.Common.{◌≡◌, [], ◌∷◌, true, false, refl}
-use Rattle.std.specs.Prelude.{pos, Some, None}
+use Rattle.std.specs.Prelude.{pos, None}
 use Rattle.values.specs.Datum.{null, whole}
 use Rattle.dictionaries.specs.Batches.{batch, dictionary_after, found_after}
 

@@ -1,5 +1,5 @@
 -- Dictionaries by id as they are at one time, and what a batch changes.
-use Rattle.std.specs.Prelude.{◌≡◌, ℕ, ℤ, ◌++◌, ◌<◌, Bool, if◌then◌else◌, List, [], Option, None, Some, refl, unwrap_or}
+use Rattle.std.specs.Prelude.{◌≡◌, ℕ, ℤ, ◌++◌, ◌<◌, if◌then◌else◌, List, [], Option, Some, refl, unwrap_or}
 use Rattle.std.specs.Coded.{Coded, code_by, coded×, coded_ℕ, coded_ℤ, coded_list}
 use Rattle.std.specs.Map.{lookup}
 use Rattle.std.specs.Ordering.{int_eq}
