@@ -4,7 +4,7 @@ use Rattle.std.specs.Prelude.{pos, None}
 use Rattle.values.specs.Datum.{null, whole}
 use Rattle.dictionaries.specs.Batches.{batch, dictionary_after, found_after}
 
--- a delta first, an empty null among its values; another id; a batch in its place; and a delta behind that
+-- a delta first, another id, a batch in place of the first, and a delta behind that
 replaced : dictionary_after (batch (pos 7) true (null ∷ []) ∷ batch (pos 8) false (null ∷ []) ∷ batch (pos 7) false (whole (pos 1) ∷ []) ∷ batch (pos 7) true (whole (pos 2) ∷ []) ∷ []) (pos 7)
     ≡ whole (pos 1) ∷ whole (pos 2) ∷ []
 replaced = refl

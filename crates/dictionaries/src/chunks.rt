@@ -81,7 +81,7 @@ fn kept(chunks: &[Chunk], added: usize) -> usize
     let mut merged = added;
     while kept > 0 {
         let len = chunks[kept - 1].values().len();
-        if len / 2 > merged {
+        if len > merged.saturating_mul(2) {
             break;
         }
         merged = merged.saturating_add(len);
