@@ -15,12 +15,12 @@ use values::Value;
 ///
 /// Contracts see a `Table`: the values by id, and the room for more of them.
 #[derive(Drop)]
-pub struct Dictionaries {
+pub struct Dicts {
     alloc: Global,
     by_id: IndexMap<i64, Dictionary>,
 }
 
-impl Model for Dictionaries {
+impl Model for Dicts {
     ghost use Rattle.indexmap.specs.IndexMap.{spare};
     ghost use Rattle.dictionaries.specs.Table.{Table, table, table_code};
 
@@ -48,12 +48,12 @@ impl Model for Ready {
     ghost view = { λ r. change r.id r.dictionary };
 }
 
-impl Dictionaries {
+impl Dicts {
     /// No dictionaries yet.
-    pub fn new(alloc: Global) -> Dictionaries
+    pub fn new(alloc: Global) -> Dicts
         ensures { result.entries ≡ [] }
     {
-        Dictionaries {
+        Dicts {
             alloc,
             by_id: IndexMap::new(alloc),
         }

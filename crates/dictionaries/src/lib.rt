@@ -12,6 +12,6 @@ mod laws;
 #[cfg(test)]
 mod tests;
 
-pub use dictionaries::{Dictionaries, Ready};
+pub use dictionaries::{Dicts, Ready};
 pub use dictionary::Dictionary;
 pub use laws::batches_law;

@@ -1,6 +1,6 @@
 //! Dictionaries that batches replace and add to.
 
-use crate::{Dictionaries, Dictionary};
+use crate::{Dictionary, Dicts};
 use std::alloc::{AllocError, Global};
 use std::test::Fail;
 use values::{Kind, Value};
@@ -31,7 +31,7 @@ fn holds(dictionary: &Dictionary, numbers: &[i128]) -> bool {
 }
 
 /// Whether the dictionary of an id holds these numbers.
-fn stands(dictionaries: &Dictionaries, id: i64, numbers: &[i128]) -> bool {
+fn stands(dictionaries: &Dicts, id: i64, numbers: &[i128]) -> bool {
     match dictionaries.lookup(id) {
         Some(dictionary) => holds(dictionary, numbers),
         None => false,
@@ -39,7 +39,7 @@ fn stands(dictionaries: &Dictionaries, id: i64, numbers: &[i128]) -> bool {
 }
 
 fn bring(
-    dictionaries: &mut Dictionaries,
+    dictionaries: &mut Dicts,
     alloc: Global,
     id: i64,
     is_delta: bool,
@@ -52,7 +52,7 @@ fn bring(
 #[test]
 fn a_batch_replaces_and_a_delta_adds(rt: HostRuntime) -> Result<(), Fail> {
     let alloc = rt.alloc();
-    let mut dictionaries = Dictionaries::new(alloc);
+    let mut dictionaries = Dicts::new(alloc);
     assert!(rt; dictionaries.lookup(7).is_none());
     bring(&mut dictionaries, alloc, 7, false, &[1, 2])?;
     bring(&mut dictionaries, alloc, -8, false, &[9])?;
@@ -67,7 +67,7 @@ fn a_batch_replaces_and_a_delta_adds(rt: HostRuntime) -> Result<(), Fail> {
 #[test]
 fn a_delta_may_be_the_first(rt: HostRuntime) -> Result<(), Fail> {
     let alloc = rt.alloc();
-    let mut dictionaries = Dictionaries::new(alloc);
+    let mut dictionaries = Dicts::new(alloc);
     let mut values = numbers(alloc, &[5])?;
     values.push(Value { kind: Kind::Null })?;
     dictionaries.apply(7, true, values)?;
@@ -81,7 +81,7 @@ fn a_delta_may_be_the_first(rt: HostRuntime) -> Result<(), Fail> {
 #[test]
 fn an_empty_delta_brings_a_dictionary(rt: HostRuntime) -> Result<(), Fail> {
     let alloc = rt.alloc();
-    let mut dictionaries = Dictionaries::new(alloc);
+    let mut dictionaries = Dicts::new(alloc);
     bring(&mut dictionaries, alloc, 8, true, &[])?;
     assert!(rt; dictionaries.lookup(8).ok_or("none")?.is_empty());
     Ok(())
@@ -90,7 +90,7 @@ fn an_empty_delta_brings_a_dictionary(rt: HostRuntime) -> Result<(), Fail> {
 #[test]
 fn what_was_handed_out_stays(rt: HostRuntime) -> Result<(), Fail> {
     let alloc = rt.alloc();
-    let mut dictionaries = Dictionaries::new(alloc);
+    let mut dictionaries = Dicts::new(alloc);
     bring(&mut dictionaries, alloc, 7, false, &[1, 2])?;
     let first = dictionaries.lookup(7).ok_or("none")?.share()?;
     bring(&mut dictionaries, alloc, 7, true, &[3])?;
@@ -103,7 +103,7 @@ fn what_was_handed_out_stays(rt: HostRuntime) -> Result<(), Fail> {
 #[test]
 fn what_is_prepared_comes_with_commit(rt: HostRuntime) -> Result<(), Fail> {
     let alloc = rt.alloc();
-    let mut dictionaries = Dictionaries::new(alloc);
+    let mut dictionaries = Dicts::new(alloc);
     let ready = dictionaries.prepare(7, true, numbers(alloc, &[1])?)?;
     assert!(rt; dictionaries.lookup(7).is_none());
     dictionaries.commit(ready);
@@ -114,7 +114,7 @@ fn what_is_prepared_comes_with_commit(rt: HostRuntime) -> Result<(), Fail> {
 #[test]
 fn many_small_deltas(rt: HostRuntime) -> Result<(), Fail> {
     let alloc = rt.alloc();
-    let mut dictionaries = Dictionaries::new(alloc);
+    let mut dictionaries = Dicts::new(alloc);
     let mut all = Vec::new(alloc);
     for i in 0..300u64 {
         all.push(i as i128)?;
