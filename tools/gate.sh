@@ -1,11 +1,13 @@
 #!/usr/bin/env bash
-# The merge gate (rt ci), then the built lv under refused memory. The gate's own last line is printed last.
+# The merge gate (rt ci), then the built lv under refused memory. The gate's own last line is printed last, unless it passed
+# and the run under refused memory did not.
 set -euo pipefail
 cd "$(dirname "$0")/.."
 make --no-print-directory need-rt
 
 last=$(mktemp)
-trap 'rm -f "$last"' EXIT
+built=$(mktemp)
+trap 'rm -f "$last" "$built"' EXIT
 
 # Prints all but the last line as it comes, and keeps that one.
 hold_last() {
@@ -14,13 +16,19 @@ hold_last() {
 
 # Over what the gate left: nothing is proved a second time.
 under_refused_memory() {
-    make --no-print-directory lv > /dev/null && tools/refuse-memory.sh
+    if ! make --no-print-directory lv > "$built" 2>&1; then
+        cat "$built" >&2
+        return 1
+    fi
+    tools/refuse-memory.sh
 }
 
 status=0
 rt ci | hold_last || status=$?
-if [ "$status" -eq 0 ]; then
-    under_refused_memory || status=1
+if [ "$status" -eq 0 ] && ! under_refused_memory; then
+    cat "$last"
+    echo "the run under refused memory FAILED"
+    exit 1
 fi
 cat "$last"
 exit "$status"

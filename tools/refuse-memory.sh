@@ -28,13 +28,17 @@ run() {
     line=$(< "$work/line")
 }
 
-# Whether the last run's answer is one that may come.
+# The words of the program take no more requests than this.
+words=8
+
+# Whether the last run's answer is one that may come where request $1 is refused. Where none was, it is the whole.
 is_right() {
     [ ! -s "$work/error" ] || return 1
+    [ -e "$work/mark" ] || [ "$status $line" = "0 wrote $size" ] || return 1
     case "$status $line" in
         "0 wrote $size") cmp -s "$work/out" "$work/whole" ;;
         "1 refused 55 Memory") is_beginning ;;
-        "2 wrong use") [ -n "$no_words" ] && [ ! -e "$work/out" ] ;;
+        "2 wrong use") [ -n "$no_words" ] && [ "$1" -le "$words" ] && [ ! -e "$work/out" ] ;;
         *) return 1 ;;
     esac
 }
@@ -50,7 +54,7 @@ each_request() {
         no_words=yes
         for ((at = 1; ; at++)); do
             run "$1" "$at" "$on"
-            if ! is_right; then
+            if ! is_right "$at"; then
                 echo "refused memory: FAILED over $1 at request $at (all after it: $on): status $status, $line" >&2
                 cat "$work/error" >&2
                 exit 1

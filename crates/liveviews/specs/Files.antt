@@ -18,7 +18,7 @@ pub record RecastsFile (held : Option (List ℕ)) (old new : Sunk) (answer : Res
   pub read : IsContent held input
   pub recasts : Recasts old new answer (story_of input)
 
--- The file to be written could not be made, so that putting the first bytes failed.
+-- Putting failed, and the files tell that the one to be written could not be made.
 pub record MakesNone (held : Option (List ℕ)) (old new : Sunk) (unmade : Option FileFault) (why : FileFault) : Type 0 where
   pub fault : unmade ≡ Some why
   pub written : ℕ

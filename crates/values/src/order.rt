@@ -8,7 +8,7 @@ use std::cmp::Ordering;
 
 /// False before true, numbers by value, texts and bytes by their bytes (a beginning stands before its continuation), nulls last.
 ///
-/// Values of one column are of one kind or null. Two kinds stand in the order of `rank`, so that the order is total. Lists have no order
+/// Values of one column are of one kind or null. Two kinds stand in the order of their variants in `Kind`, nulls last, so that the order is total. Lists have no order
 /// among themselves, and structs have none: they are answered as equal.
 pub fn cmp_values(a: &Value, b: &Value) -> Ordering
     ensures { result ≡ datum_cmp a.now b.now }
