@@ -1,13 +1,11 @@
-pub mod Logical
 pub mod Datum
 pub mod Kinds
+pub mod Layouts
 pub mod Order
-pub mod Weight
 pub mod Causes
 pub mod StreamCauses
 pub mod Reading
 pub mod Rose
-pub mod Typed
 pub mod Sizes
 pub mod Keys
 pub mod KeyOrder

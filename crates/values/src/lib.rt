@@ -1,8 +1,8 @@
-//! What all layers speak of: columns and their types, values with their order and weight, the limits,
-//! and the causes of a refusal.
+//! What all layers speak of: values with their order, how they lie in memory and what they weigh, the limits, and the causes
+//! of a refusal.
 //!
 //! The contracts are equations on definitions of `specs/`: `Datum` (a value as contracts see it), `Order`,
-//! `Weight`, `Causes`. `Reading` has the words for what bytes mean where some of them may be at fault, and
+//! `Layouts` (what a layout holds, and what it weighs), `Causes`. `Reading` has the words for what bytes mean where some of them may be at fault, and
 //! `Rose` the tree that stored fields and arrays are seen as; the crates above cite both.
 #![tactic(auto)]
 
@@ -12,12 +12,11 @@ mod faults;
 mod key;
 mod key_parts;
 mod laws;
+mod layout;
 pub mod limits;
 mod order;
 #[cfg(test)]
 mod tests;
-mod types;
-mod weights;
 
 pub use causes::Cause;
 pub use cells::{Kind, Row, Value, copy_row};
@@ -25,6 +24,5 @@ pub use faults::StreamFault;
 pub use key::Key;
 pub use key_parts::{KeyBytes, KeyText};
 pub use laws::key_law;
+pub use layout::{IntWidth, Layout, LayoutTree, OffsetWidth};
 pub use order::cmp_values;
-pub use types::{ColType, Named, Schema};
-pub use weights::{slot, weight};
