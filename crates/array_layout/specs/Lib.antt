@@ -1,0 +1,4 @@
+pub mod Placing
+pub mod Buffers
+pub mod Sound
+pub mod Cells

@@ -1,0 +1,60 @@
+//! Arrays, as a record batch's header tells them.
+
+use std::marker::Model;
+use values::Layout;
+
+/// The length of an array and the nulls that are claimed for it: Message.fbs, struct `FieldNode`.
+#[derive(Clone, Copy, Debug, PartialEq, Eq)]
+pub struct Node {
+    pub length: usize,
+    /// As stored: whether it is true is judged on the body.
+    pub nulls: i64,
+}
+
+/// A buffer's place in the body, in bytes: Message.fbs, struct `Buffer`.
+#[derive(Clone, Copy, Debug, PartialEq, Eq)]
+pub struct Span {
+    pub from: usize,
+    pub len: usize,
+}
+
+/// What an array has of its own: its layout, its node, and where its buffers lie in the body.
+#[derive(Clone, Copy, Debug, PartialEq, Eq)]
+pub struct Part {
+    pub layout: Layout,
+    /// The number of slots.
+    pub len: usize,
+    /// How many of them are said to be null.
+    pub nulls: i64,
+    pub validity: Span,
+    /// Of texts, bytes and lists; elsewhere of length 0.
+    pub offsets: Span,
+    /// The bits or numbers of the slots, or the bytes that the offsets point into; of lists and structs of length 0.
+    pub values: Span,
+}
+
+/// An array with its children.
+///
+/// Contracts see it as a tree with a `Part` at each node.
+#[derive(Debug, Drop)]
+pub struct Array {
+    pub part: Part,
+    pub children: Vec<Array>,
+}
+
+impl Model for Array {
+    ghost use Rattle.std.proofs.Common.{arith};
+    ghost use Rattle.values.specs.Rose.{Rose, node, kids_of, rose_code, rose_size, most_le-roses_size};
+    ghost use Rattle.array_layout.specs.declared.array.Part.{Part};
+    ghost use Rattle.array_layout.specs.contracts.array.Part.{the_row};
+
+    ghost Value = { Rose Part };
+
+    ghost coded = { rose_code the_row.coded };
+
+    ghost view = { λ a. node a.part (kids_of a.children.items) };
+
+    ghost size = { rose_size };
+
+    ghost size_decreases = { λ a h. omega (arith, most_le-roses_size a.children.items) };
+}

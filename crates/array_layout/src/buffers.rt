@@ -1,0 +1,124 @@
+//! The readers of buffers.
+
+ghost use Rattle.std.specs.Prelude.{◌≡◌, ◌+◌, ◌*◌, ◌<◌, ◌≤◌, ◌^◌, length, false, true};
+ghost use Rattle.bitmaps.specs.Bits.{HasBits, bit_at};
+ghost use Rattle.values.specs.Layouts.{bytes_in, offset_bytes};
+ghost use Rattle.array_layout.specs.Placing.{bytes_of};
+ghost use Rattle.array_layout.specs.Sound.{LiesIn};
+ghost use Rattle.array_layout.specs.Buffers.{is_null, number_at, fixed_at, offset_at, slice_at};
+
+use crate::array::Span;
+use byteorder::{ByteOrder, LittleEndian};
+use values::{IntWidth, OffsetWidth};
+
+/// The bytes of a buffer.
+pub fn buffer<'a>(body: &'a [u8], span: &Span) -> &'a [u8]
+    requires { LiesIn body.now span.now }
+    ensures { result.now ≡ bytes_of body.now span.now }
+{
+    &body[span.from..span.from + span.len]
+}
+
+/// The width of a number, in bytes.
+pub fn number_width(width: IntWidth) -> usize
+    ensures { result ≡ bytes_in width }
+{
+    match width {
+        IntWidth::Bits8 => 1,
+        IntWidth::Bits16 => 2,
+        IntWidth::Bits32 => 4,
+        IntWidth::Bits64 => 8,
+    }
+}
+
+/// The width of an offset, in bytes.
+pub fn offset_width(width: OffsetWidth) -> usize
+    ensures { result ≡ offset_bytes width }
+{
+    match width {
+        OffsetWidth::Bits32 => 4,
+        OffsetWidth::Bits64 => 8,
+    }
+}
+
+/// Bit `i`.
+pub fn bit(bits: &[u8], i: usize) -> bool
+    requires { HasBits bits.now (i + 1) }
+    ensures { result ≡ bit_at bits.now i }
+{
+    (bits[i / 8] >> (i % 8)) % 2 == 1
+}
+
+/// Whether slot `i` is null, by a validity buffer.
+#[tactic(auto, unfolding(crate::specs::Buffers::is_null))]
+pub fn is_null_at(bits: &[u8], i: usize) -> bool
+    requires { 0 < length bits.now → HasBits bits.now (i + 1) }
+    ensures { result ≡ is_null bits.now i }
+{
+    !bits.is_empty() && !bit(bits, i)
+}
+
+/// Number `i`, in two's complement.
+#[tactic(auto, unfolding(crate::specs::Buffers::number_at, crate::specs::Buffers::word_at))]
+fn signed_number(bytes: &[u8], width: usize, i: usize) -> i128
+    requires low { 1 ≤ width }
+    requires high { width ≤ 16 }
+    requires room { width * (i + 1) ≤ length bytes.now }
+    ensures { result ≡ number_at true width bytes.now i }
+{
+    LittleEndian::read_int128(&bytes[width * i..], width)
+}
+
+/// Number `i`.
+#[tactic(auto, unfolding(crate::specs::Buffers::number_at, crate::specs::Buffers::word_at))]
+pub fn number(bytes: &[u8], width: IntWidth, signed: bool, i: usize) -> i128
+    requires { bytes_in width * (i + 1) ≤ length bytes.now }
+    ensures { result ≡ number_at signed (bytes_in width) bytes.now i }
+{
+    let width = number_width(width);
+    if signed {
+        signed_number(bytes, width, i)
+    } else {
+        i128::from(LittleEndian::read_uint(&bytes[width * i..], width))
+    }
+}
+
+/// Decimal `i`, unscaled.
+pub fn decimal(bytes: &[u8], i: usize) -> i128
+    requires { 16 * (i + 1) ≤ length bytes.now }
+    ensures { result ≡ number_at true 16 bytes.now i }
+{
+    signed_number(bytes, 16, i)
+}
+
+/// The `width` bytes of slot `i`.
+#[tactic(auto, unfolding(crate::specs::Buffers::fixed_at))]
+pub fn fixed(bytes: &[u8], width: usize, i: usize) -> &[u8]
+    requires { width * i + width ≤ length bytes.now }
+    ensures { result.now ≡ fixed_at width bytes.now i }
+{
+    &bytes[width * i..width * i + width]
+}
+
+/// Offset `i`, without its sign.
+#[tactic(auto, unfolding(crate::specs::Buffers::offset_at, crate::specs::Buffers::word_at))]
+pub fn offset(offsets: &[u8], width: OffsetWidth, i: usize) -> usize
+    requires { offset_bytes width * (i + 1) ≤ length offsets.now }
+    ensures { result ≡ offset_at width offsets.now i }
+{
+    match width {
+        OffsetWidth::Bits32 => LittleEndian::read_u32(&offsets[4 * i..]) as usize,
+        OffsetWidth::Bits64 => LittleEndian::read_u64(&offsets[8 * i..]) as usize,
+    }
+}
+
+/// The bytes from offset `i` to offset `i + 1`.
+#[tactic(auto, unfolding(crate::specs::Buffers::slice_at))]
+pub fn slice<'a>(offsets: &[u8], bytes: &'a [u8], width: OffsetWidth, i: usize) -> &'a [u8]
+    requires room { offset_bytes width * (i + 2) ≤ length offsets.now }
+    requires rising { offset_at width offsets.now i ≤ offset_at width offsets.now (i + 1) }
+    requires within { offset_at width offsets.now (i + 1) ≤ length bytes.now }
+    ensures { result.now ≡ slice_at width offsets.now bytes.now i }
+{
+    &bytes[offset(offsets, width, i)..offset(offsets, width, i + 1)]
+}

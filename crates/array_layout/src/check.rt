@@ -1,0 +1,168 @@
+//! The checks of an array's buffers: 22 BufferShort, 23 NullCount, 24 Offsets.
+
+ghost use Rattle.std.specs.Prelude.{◌≡◌, ◌+◌, ◌*◌, ◌<◌, ◌≤◌, ◌^◌, length, OnOk};
+ghost use Rattle.values.specs.Reading.{Passes};
+ghost use Rattle.values.specs.Rose.{kids_of};
+ghost use Rattle.values.specs.Layouts.{offset_bytes};
+ghost use Rattle.bitmaps.specs.Bits.{HasBits};
+ghost use Rattle.array_layout.specs.Buffers.{zeros, offset_at, is_rising};
+ghost use Rattle.array_layout.specs.Sound.{validity_of, bits_of, slots_of, offsets_of, own_faults, faults_in, first_len, LiesIn, IsPlaced, ArePlaced, IsSound, AreFit, HasRoom};
+
+use crate::array::{Array, Part};
+use crate::buffers::{buffer, number_width, offset, offset_width};
+use bitmaps::Bits;
+use values::{Layout, OffsetWidth, StreamFault};
+
+/// How many of the first `len` bits are 0.
+#[tactic(auto, using(crate::proofs::Bits::bit_counts), unfolding(crate::specs::Buffers::zeros))]
+fn count_zeros(bits: &[u8], len: usize) -> usize
+    requires { HasBits bits.now len }
+    ensures { result ≡ zeros bits.now len }
+{
+    len - Bits::new(bits, 0, len).count_ones()
+}
+
+#[tactic(auto, unfolding(crate::specs::Sound::validity_of))]
+fn check_validity(bits: &[u8], len: usize, nulls: i64) -> Result<(), StreamFault>
+    ensures passes { Passes result (validity_of bits.now len nulls) }
+    ensures room { OnOk result (0 < length bits.now → len ≤ 8 * length bits.now) }
+{
+    if bits.is_empty() {
+        if nulls == 0 {
+            Ok(())
+        } else {
+            Err(StreamFault::NullCount)
+        }
+    } else if len.div_ceil(8) > bits.len() {
+        Err(StreamFault::BufferShort)
+    } else if i128::from(nulls) == count_zeros(bits, len) as i128 {
+        Ok(())
+    } else {
+        Err(StreamFault::NullCount)
+    }
+}
+
+#[tactic(auto, unfolding(crate::specs::Sound::bits_of))]
+fn check_bits(bits: &[u8], len: usize) -> Result<(), StreamFault>
+    ensures passes { Passes result (bits_of bits.now len) }
+    ensures room { OnOk result (len ≤ 8 * length bits.now) }
+{
+    if len.div_ceil(8) > bits.len() {
+        Err(StreamFault::BufferShort)
+    } else {
+        Ok(())
+    }
+}
+
+#[tactic(auto, unfolding(crate::specs::Sound::slots_of))]
+fn check_slots(bytes: &[u8], width: usize, len: usize) -> Result<(), StreamFault>
+    requires narrow { width < 2 ^ 32 }
+    requires small { len < 2 ^ 31 }
+    ensures passes { Passes result (slots_of width bytes.now len) }
+    ensures room { OnOk result (width * len ≤ length bytes.now) }
+{
+    if bytes.len() < width * len {
+        Err(StreamFault::BufferShort)
+    } else {
+        Ok(())
+    }
+}
+
+/// Whether no offset falls.
+#[tactic(auto, using(crate::proofs::Rising::rising_steps), unfolding(crate::specs::Buffers::is_rising))]
+fn rises(offsets: &[u8], width: OffsetWidth, len: usize) -> bool
+    requires room { offset_bytes width * (len + 1) ≤ length offsets.now }
+    requires small { len < 2 ^ 31 }
+    ensures { result ≡ is_rising width offsets.now len }
+{
+    let mut before = offset(offsets, width, 0);
+    for i in 0..len {
+        let next = offset(offsets, width, i + 1);
+        if next < before {
+            return false;
+        }
+        before = next;
+    }
+    true
+}
+
+#[tactic(auto, using(crate::proofs::Rising::rising_steps), unfolding(crate::specs::Sound::offsets_of))]
+fn check_offsets(
+    offsets: &[u8],
+    width: OffsetWidth,
+    len: usize,
+    limit: usize,
+) -> Result<(), StreamFault>
+    requires small { len < 2 ^ 31 }
+    ensures passes { Passes result (offsets_of width offsets.now len limit) }
+    ensures fit { OnOk result (0 < len → AreFit width offsets.now len limit) }
+{
+    if len == 0 {
+        return Ok(());
+    }
+    let bytes = offset_width(width);
+    if offsets.len() < bytes * (len + 1) {
+        return Err(StreamFault::BufferShort);
+    }
+    let last = offset(offsets, width, len);
+    if rises(offsets, width, len) && last < 1 << (8 * bytes - 1) && last <= limit {
+        Ok(())
+    } else {
+        Err(StreamFault::Offsets)
+    }
+}
+
+/// The slots that a list's offsets point into.
+fn first_len(children: &[Array]) -> usize
+    ensures { result ≡ first_len (kids_of children.now) }
+{
+    match children.first() {
+        Some(child) => child.part.len,
+        None => 0,
+    }
+}
+
+/// Judges the buffers of one array.
+#[tactic(auto, using(values::proofs::Readings::failing, values::proofs::Readings::both_good), unfolding(crate::specs::Sound::own_faults))]
+fn check_part(body: &[u8], part: &Part, slots: usize) -> Result<(), StreamFault>
+    requires validity { LiesIn body.now part.now.validity }
+    requires offsets { LiesIn body.now part.now.offsets }
+    requires values { LiesIn body.now part.now.values }
+    requires small { part.now.len < 2 ^ 31 }
+    ensures passes { Passes result (own_faults body.now part.now slots) }
+    ensures bits { OnOk result (0 < part.now.validity.len → part.now.len ≤ 8 * part.now.validity.len) }
+    ensures room { OnOk result (HasRoom part.now.layout body.now part.now slots) }
+{
+    check_validity(buffer(body, &part.validity), part.len, part.nulls)?;
+    let values = buffer(body, &part.values);
+    let offsets = buffer(body, &part.offsets);
+    match part.layout {
+        Layout::Bits => check_bits(values, part.len),
+        Layout::Number { width, .. } => check_slots(values, number_width(width), part.len),
+        Layout::Decimal { .. } => check_slots(values, 16, part.len),
+        Layout::Fixed { width } => check_slots(values, width as usize, part.len),
+        Layout::Text { offsets: width } | Layout::Bytes { offsets: width } => check_offsets(
+            offsets,
+            width,
+            part.len,
+            values.len(),
+        ),
+        Layout::List { offsets: width } => check_offsets(offsets, width, part.len, slots),
+        Layout::Struct => Ok(()),
+    }
+}
+
+/// Judges the buffers of an array and of all arrays below it: 22, 23 and 24.
+#[tactic(auto, using(crate::proofs::Sounding::sounding, values::proofs::Roses::kid_smaller, values::proofs::Readings::both_left))]
+pub fn check_layout(body: &[u8], array: &Array) -> Result<(), StreamFault>
+    requires { IsPlaced body.now array.now }
+    ensures passes { Passes result (faults_in body.now array.now) }
+    ensures sound { OnOk result (IsSound body.now array.now) }
+{
+    let children: &[Array] = &array.children;
+    check_part(body, &array.part, first_len(children))?;
+    for child in children {
+        check_layout(body, child)?;
+    }
+    Ok(())
+}

@@ -1,0 +1,10 @@
+pub mod Texts
+pub mod Powers
+pub mod Calming
+pub mod Judging
+pub mod Copying
+pub mod ColumnCells
+pub mod Typing
+pub mod Weighing
+pub mod WeightLaw
+pub mod Reaching

@@ -1,0 +1,5 @@
+pub mod Calm
+pub mod Checked
+pub mod Weights
+pub mod Laws
+pub mod Reached

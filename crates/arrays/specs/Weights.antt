@@ -1,0 +1,55 @@
+-- The weight of a cell where it lies.
+use Rattle.std.specs.Prelude.{◌≡◌, ℕ, zero, suc, ◌+◌, ◌-◌, ◌^◌, ◌<◌, ◌≤◌, List, if◌then◌else◌, nat_lt}
+use Rattle.values.specs.Rose.{Rose, node, Roses, none, more}
+use Rattle.values.specs.declared.layout.OffsetWidth.{OffsetWidth}
+use Rattle.values.specs.declared.layout.Layout.{Layout}
+use Rattle.values.specs.declared.layout.Layout.TheVariants.{Text, Bytes, List as Listed, Struct}
+use Rattle.values.specs.Layouts.{slot}
+use Rattle.array_layout.specs.declared.array.Part.{Part}
+use Rattle.array_layout.specs.Placing.{bytes_of, layouts_of}
+use Rattle.array_layout.specs.Buffers.{is_null, offset_at}
+
+-- the sum over n numbers from i on
+unfoldable pub sum_from : (ℕ → ℕ) → ℕ → ℕ → ℕ
+sum_from f i zero = 0
+sum_from f i (suc n) = f i + sum_from f (i + 1) n
+
+-- how many bytes or items slot i has
+abbrev pub extent : OffsetWidth → List ℕ → ℕ → ℕ
+extent o offsets i = offset_at o offsets (i + 1) - offset_at o offsets i
+
+-- A valid slot, by layout: `here` weighs the slots of the first child, `beside` those of all children at one place.
+abbrev pub weight_by : Layout → List ℕ → Part → ℕ → (ℕ → ℕ) → (ℕ → ℕ) → ℕ → ℕ
+weight_by (Text o) body p bare here beside i = 5 + extent o (bytes_of body p.offsets) i
+weight_by (Bytes o) body p bare here beside i = 5 + extent o (bytes_of body p.offsets) i
+weight_by (Listed o) body p bare here beside i =
+    5 + sum_from here (offset_at o (bytes_of body p.offsets) i) (extent o (bytes_of body p.offsets) i)
+weight_by Struct body p bare here beside i = 1 + beside i
+weight_by l body p bare here beside i = bare
+
+unfoldable pub weight_in : List ℕ → Part → ℕ → (ℕ → ℕ) → (ℕ → ℕ) → ℕ → ℕ
+weight_in body p bare here beside i =
+    if is_null (bytes_of body p.validity) i then bare else weight_by p.layout body p bare here beside i
+
+abbrev mutual
+  pub weight_at : List ℕ → Rose Part → ℕ → ℕ
+  weight_at body (node p kids) i =
+      weight_in body p (slot (node p.layout (layouts_of kids))) (λ j. first_weight body kids j) (λ j. weight_beside body kids j) i
+
+  pub first_weight : List ℕ → Roses Part → ℕ → ℕ
+  first_weight body none i = 0
+  first_weight body (more t ts) i = weight_at body t i
+
+  pub weight_beside : List ℕ → Roses Part → ℕ → ℕ
+  weight_beside body none i = 0
+  weight_beside body (more t ts) i = weight_at body t i + weight_beside body ts i
+
+-- a weight, exact up to the limit of a cell and 1 more where it is above
+unfoldable pub capped : ℕ → ℕ
+capped n = if nat_lt n (2 ^ 20 + 1) then n else 2 ^ 20 + 1
+
+-- r says the weight w: exactly where it is within the limit of a cell, and else that w is above it
+pub record Says (r w : ℕ) : Type 0 where
+  pub exact : r ≤ 2 ^ 20 → r ≡ w
+  pub heavy : 2 ^ 20 < r → 2 ^ 20 < w
+  pub bound : r ≤ 2 ^ 20 + 1

@@ -1,0 +1,101 @@
+//! A column of a batch, judged once and then read cell by cell.
+
+ghost use Rattle.std.specs.Prelude.{◌≡◌, ◌<◌, length, slice_get, Some, IfOk, IfSome, Ok};
+ghost use Rattle.values.specs.Reading.{Judges, Passes, IsGood};
+ghost use Rattle.values.specs.Layouts.{Holds, weight};
+ghost use Rattle.array_layout.specs.Placing.{layout_of};
+ghost use Rattle.array_layout.specs.Sound.{IsPlaced, IsSound};
+ghost use Rattle.array_layout.specs.Cells.{cell, cells, column_of, len_of};
+ghost use Rattle.arrays.specs.Weights.{Says};
+
+use crate::judge::judge_items;
+use crate::read::read;
+use crate::weigh::weigh;
+use array_layout::{Array, check_layout};
+use std::alloc::{AllocError, Global};
+use std::marker::Model;
+use std::rc::Rc;
+use values::{StreamFault, Value};
+
+/// A column whose buffers and cells were judged. Contracts see it as its layouts and the list of its cells.
+///
+/// It shares the body of its message with the other columns of the batch.
+#[derive(Drop)]
+pub struct Column {
+    body: Rc<Vec<u8>>,
+    root: Array,
+}
+
+impl Model for Column {
+    ghost use Rattle.values.specs.Reading.{IsGood};
+    ghost use Rattle.array_layout.specs.Placing.{layout_of};
+    ghost use Rattle.array_layout.specs.Sound.{IsSound};
+    ghost use Rattle.array_layout.specs.Cells.{cells};
+    ghost use Rattle.arrays.specs.Checked.{CheckedColumn, column_code, good_of};
+
+    ghost Value = { CheckedColumn };
+
+    ghost coded = { column_code };
+
+    ghost view = { λ c. record { layouts = layout_of c.root; cells = good_of (cells c.body.value.items c.root) } };
+
+    ghost invariant = { λ c. IsSound c.body.value.items c.root × IsGood (cells c.body.value.items c.root) };
+}
+
+/// Judges all cells of an array.
+#[tactic(auto, using(crate::proofs::ColumnCells::judged_all))]
+fn judge_cells(body: &[u8], array: &Array) -> Result<(), StreamFault>
+    requires { IsSound body.now array.now }
+    ensures { Passes result (cells body.now array.now) }
+{
+    judge_items(body, array, 0, array.part.len)
+}
+
+/// A copy of a cell.
+#[tactic(auto, using(crate::proofs::Typing::typing))]
+fn read_cell(alloc: Global, body: &[u8], array: &Array, i: usize) -> Result<Value, AllocError>
+    requires sound { IsSound body.now array.now }
+    requires below { i < len_of array.now }
+    requires good { IsGood (cell body.now array.now i) }
+    ensures value { IfOk result (λ v. cell body.now array.now i ≡ Ok v) }
+    ensures typed { IfOk result (λ v. Holds (layout_of array.now) v) }
+{
+    read(alloc, body, array, i)
+}
+
+#[tactic(auto, using(crate::proofs::ColumnCells::column_laws))]
+impl Column {
+    /// Judges the buffers and the cells of one column: 22 to 25 and 27.
+    pub fn of(body: Rc<Vec<u8>>, array: Array) -> Result<Column, StreamFault>
+        requires { IsPlaced body.value.items array }
+        ensures reading { Judges (λ c. c.cells) result (column_of body.value.items array) }
+        ensures typed { IfOk result (λ c. c.layouts ≡ layout_of array) }
+    {
+        check_layout(&body, &array)?;
+        judge_cells(&body, &array)?;
+        Ok(Column { body, root: array })
+    }
+
+    /// The number of cells.
+    pub fn len(&self) -> usize
+        ensures { result ≡ length self.now.cells }
+    {
+        self.root.part.len
+    }
+
+    /// A copy of cell `i`.
+    pub fn cell(&self, alloc: Global, i: usize) -> Result<Value, AllocError>
+        requires { i < length self.now.cells }
+        ensures value { IfOk result (λ v. slice_get self.now.cells i ≡ Some v) }
+        ensures typed { IfOk result (λ v. Holds self.now.layouts v) }
+    {
+        read_cell(alloc, &self.body, &self.root, i)
+    }
+    /// The weight of cell `i`, which is not copied for it: exact up to the limit of a cell, and 1 more than the limit where it is above.
+    pub fn weight(&self, i: usize) -> u64
+        requires { i < length self.now.cells }
+        ensures { IfSome (slice_get self.now.cells i) (λ d. Says result (weight self.now.layouts d)) }
+    {
+        weigh(&self.body, &self.root, i)
+    }
+}

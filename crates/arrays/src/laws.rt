@@ -1,0 +1,17 @@
+//! Laws of the definitions: each is the contract of a function that does nothing.
+
+ghost use Rattle.arrays.specs.Laws.{WeighsAsRead};
+ghost use Rattle.arrays.specs.Reached.{FaultsAreReached, ReachedFaultsStand};
+
+/// A cell weighs where it lies what its value weighs.
+#[tactic(auto, using(crate::proofs::WeightLaw::weights))]
+pub fn weight_law()
+    ensures { WeighsAsRead }
+{}
+
+/// A fault stands in a cell exactly where a slot that it reaches has it.
+#[tactic(auto, using(crate::proofs::Reaching::reaching))]
+pub fn reached_law()
+    ensures found { FaultsAreReached }
+    ensures stands { ReachedFaultsStand }
+{}

@@ -1,0 +1,81 @@
+//! What an array's own buffers hold for a slot.
+
+ghost use Rattle.std.specs.Prelude.{◌≡◌, ◌+◌, ◌*◌, ◌<◌, ◌≤◌, ◌^◌, length, string_bytes, IfOk, true};
+ghost use Rattle.std.specs.Str.{is_utf8};
+ghost use Rattle.values.specs.Reading.{Passes, IsGood};
+ghost use Rattle.array_layout.specs.Placing.{bytes_of};
+ghost use Rattle.array_layout.specs.Buffers.{is_null, slice_at, number_at};
+ghost use Rattle.array_layout.specs.Sound.{LiesIn, AreFit};
+ghost use Rattle.array_layout.specs.Cells.{text_of, decimal_of};
+
+use array_layout::{Part, buffer, decimal, is_null_at, slice};
+use simdutf8::basic::from_utf8;
+use std::alloc::{AllocError, Global};
+use values::{OffsetWidth, StreamFault};
+
+/// Whether slot `i` is null.
+pub(crate) fn is_null_slot(body: &[u8], part: &Part, i: usize) -> bool
+    requires lies { LiesIn body.now part.now.validity }
+    requires bits { 0 < part.now.validity.len → part.now.len ≤ 8 * part.now.validity.len }
+    requires below { i < part.now.len }
+    ensures { result ≡ is_null (bytes_of body.now part.now.validity) i }
+{
+    is_null_at(buffer(body, &part.validity), i)
+}
+
+/// The bytes of slot `i`.
+pub(crate) fn bytes_slot<'a>(body: &'a [u8], part: &Part, width: OffsetWidth, i: usize) -> &'a [u8]
+    requires offsets { LiesIn body.now part.now.offsets }
+    requires values { LiesIn body.now part.now.values }
+    requires fit { AreFit width (bytes_of body.now part.now.offsets) part.now.len part.now.values.len }
+    requires below { i < part.now.len }
+    ensures { result.now ≡ slice_at width (bytes_of body.now part.now.offsets) (bytes_of body.now part.now.values) i }
+{
+    slice(
+        buffer(body, &part.offsets),
+        buffer(body, &part.values),
+        width,
+        i,
+    )
+}
+
+/// Whether bytes are UTF-8.
+#[tactic(auto, using(crate::proofs::Texts::text_tests))]
+fn is_text(bytes: &[u8]) -> bool
+    ensures { result ≡ is_utf8 bytes.now }
+{
+    from_utf8(bytes).is_ok()
+}
+
+/// Judges a text.
+pub(crate) fn judge_text(bytes: &[u8]) -> Result<(), StreamFault>
+    ensures { Passes result (text_of bytes.now) }
+{
+    if is_text(bytes) {
+        Ok(())
+    } else {
+        Err(StreamFault::NotUtf8)
+    }
+}
+
+/// Judges a decimal's digits.
+#[tactic(auto, using(crate::proofs::Powers::powers))]
+pub(crate) fn judge_decimal(number: i128, precision: u8) -> Result<(), StreamFault>
+    requires { precision ≤ 38 }
+    ensures { Passes result (decimal_of precision number) }
+{
+    if number.unsigned_abs() < 10u128.pow(u32::from(precision)) {
+        Ok(())
+    } else {
+        Err(StreamFault::DecimalRange)
+    }
+}
+
+/// A text of its own from bytes that are known to be one.
+#[tactic(auto, using(crate::proofs::Texts::text_tests))]
+pub(crate) fn text_from(alloc: Global, bytes: &[u8]) -> Result<String, AllocError>
+    requires { is_utf8 bytes.now ≡ true }
+    ensures { IfOk result (λ t. string_bytes t ≡ bytes.now) }
+{
+    String::from_str(alloc, from_utf8(bytes).unwrap())
+}

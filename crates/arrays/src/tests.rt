@@ -1,0 +1,187 @@
+//! Columns over bytes that were written by hand.
+
+ghost use Rattle.values.specs.Rose.{none};
+ghost use Rattle.values.specs.Layouts.{IsNode};
+
+use crate::Column;
+use array_layout::{Array, Part, Span};
+use std::alloc::{AllocError, Global};
+use std::rc::Rc;
+use std::test::Fail;
+use values::limits::{MAX_CELL_WEIGHT, MAX_NODE_LENGTH};
+use values::{IntWidth, Kind, Layout, OffsetWidth, Value};
+
+const NOWHERE: Span = Span { from: 0, len: 0 };
+
+fn is_truth(value: &Value, truth: bool) -> bool {
+    match &value.kind {
+        Kind::Truth(found) => *found == truth,
+        _ => false,
+    }
+}
+
+fn is_null(value: &Value) -> bool {
+    match &value.kind {
+        Kind::Null => true,
+        _ => false,
+    }
+}
+
+/// Cell `i`, where there is one.
+fn cell_at(column: &Column, alloc: Global, i: usize) -> Result<Option<Value>, AllocError> {
+    if i < column.len() {
+        Ok(Some(column.cell(alloc, i)?))
+    } else {
+        Ok(None)
+    }
+}
+
+fn has_truth(column: &Column, alloc: Global, i: usize, truth: bool) -> Result<bool, AllocError> {
+    match cell_at(column, alloc, i)? {
+        Some(value) => Ok(is_truth(&value, truth)),
+        None => Ok(false),
+    }
+}
+
+fn has_null(column: &Column, alloc: Global, i: usize) -> Result<bool, AllocError> {
+    match cell_at(column, alloc, i)? {
+        Some(value) => Ok(is_null(&value)),
+        None => Ok(false),
+    }
+}
+
+fn weight_at(column: &Column, i: usize) -> u64 {
+    if i < column.len() {
+        column.weight(i)
+    } else {
+        0
+    }
+}
+
+#[test]
+fn the_ninth_bit_is_null(rt: HostRuntime) -> Result<(), Fail> {
+    let alloc = rt.alloc();
+    let body = Rc::new(alloc, vec![in alloc; 0xFF, 0xFE, 0x55, 0xFF]?)?;
+    let part = Part {
+        layout: Layout::Bits,
+        len: 9,
+        nulls: 1,
+        validity: Span { from: 0, len: 2 },
+        offsets: NOWHERE,
+        values: Span { from: 2, len: 2 },
+    };
+    let root = Array {
+        part,
+        children: Vec::new(alloc),
+    };
+    let column = Column::of(body, root)?;
+    assert_eq!(rt; column.len(), 9);
+    for i in 0..8 {
+        assert!(rt; has_truth(&column, alloc, i, i % 2 == 0)?);
+    }
+    assert!(rt; has_null(&column, alloc, 8)?);
+    assert_eq!(rt; weight_at(&column, 8), 2);
+    Ok(())
+}
+
+#[test]
+fn a_text_under_a_null_is_not_reached(rt: HostRuntime) -> Result<(), Fail> {
+    let alloc = rt.alloc();
+    let body = Rc::new(
+        alloc,
+        vec![in alloc;
+            1, 5, 6, 0, 0, 0, 0, 1, 0, 0, 0, 3, 0, 0, 0, 0x78, 0xFF, 0xFF,
+        ]?,
+    )?;
+    let numbers = Part {
+        layout: Layout::Number {
+            width: IntWidth::Bits8,
+            signed: true,
+        },
+        len: 2,
+        nulls: 0,
+        validity: NOWHERE,
+        offsets: NOWHERE,
+        values: Span { from: 1, len: 2 },
+    };
+    let texts = Part {
+        layout: Layout::Text {
+            offsets: OffsetWidth::Bits32,
+        },
+        len: 2,
+        nulls: 0,
+        validity: NOWHERE,
+        offsets: Span { from: 3, len: 12 },
+        values: Span { from: 15, len: 3 },
+    };
+    let part = Part {
+        layout: Layout::Struct,
+        len: 2,
+        nulls: 1,
+        validity: Span { from: 0, len: 1 },
+        offsets: NOWHERE,
+        values: NOWHERE,
+    };
+    let number_child = Array {
+        part: numbers,
+        children: Vec::new(alloc),
+    };
+    let text_child = Array {
+        part: texts,
+        children: Vec::new(alloc),
+    };
+    let root = Array {
+        part,
+        children: vec![in alloc; number_child, text_child]?,
+    };
+    let column = Column::of(body, root)?;
+    assert_eq!(rt; column.len(), 2);
+    assert!(rt; has_null(&column, alloc, 1)?);
+    assert_eq!(rt; weight_at(&column, 0), 9);
+    assert_eq!(rt; weight_at(&column, 1), 8);
+    Ok(())
+}
+
+/// A list with as many items as there can be, none of which takes a byte.
+fn list_of(alloc: Global, layout: Layout) -> Result<Column, Fail>
+    requires { IsNode layout none }
+{
+    let body = Rc::new(alloc, vec![in alloc; 0, 0, 0, 0, 0xFF, 0xFF, 0xFF, 0x7F]?)?;
+    let items = Part {
+        layout,
+        len: MAX_NODE_LENGTH,
+        nulls: 0,
+        validity: NOWHERE,
+        offsets: NOWHERE,
+        values: NOWHERE,
+    };
+    let part = Part {
+        layout: Layout::List {
+            offsets: OffsetWidth::Bits32,
+        },
+        len: 1,
+        nulls: 0,
+        validity: NOWHERE,
+        offsets: Span { from: 0, len: 8 },
+        values: NOWHERE,
+    };
+    let child = Array {
+        part: items,
+        children: Vec::new(alloc),
+    };
+    let root = Array {
+        part,
+        children: vec![in alloc; child]?,
+    };
+    Ok(Column::of(body, root)?)
+}
+
+#[test]
+fn items_without_bytes_are_weighed_at_once(rt: HostRuntime) -> Result<(), Fail> {
+    let alloc = rt.alloc();
+    let empty = list_of(alloc, Layout::Fixed { width: 0 })?;
+    assert!(rt; weight_at(&empty, 0) > MAX_CELL_WEIGHT);
+    let bare = list_of(alloc, Layout::Struct)?;
+    assert!(rt; weight_at(&bare, 0) > MAX_CELL_WEIGHT);
+    Ok(())
+}
