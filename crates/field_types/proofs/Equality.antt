@@ -1,0 +1,124 @@
+-- Equality of types.
+use Rattle.std.proofs.Common.{◌≡◌, refl, ap, sym, subst}
+use Rattle.std.specs.Prelude.{Bool, true, false, ◌&&◌}
+use Rattle.std.specs.Cmp.{nat_eq_equiv}
+use Rattle.std.specs.Cmp.Lexicographic.{same_text}
+use Rattle.std.proofs.lemmas.Bool.{and_from, and_parts, eqb-true}
+use Rattle.std.proofs.lemmas.Cmp.{nat_list_eq_equiv}
+use Rattle.values.specs.declared.layout.IntWidth.{IntWidth}
+use Rattle.values.specs.declared.layout.IntWidth.TheVariants as int
+use Rattle.values.specs.declared.layout.OffsetWidth.{OffsetWidth}
+use Rattle.values.specs.declared.layout.OffsetWidth.TheVariants as offset
+use Rattle.values.specs.contracts.layout.IntWidthPartialEq.TheImpl as int_equality
+use Rattle.values.specs.contracts.layout.OffsetWidthPartialEq.TheImpl as offset_equality
+use Rattle.field_types.specs.declared.units.DateUnit.{DateUnit}
+use Rattle.field_types.specs.declared.units.DateUnit.TheVariants as date
+use Rattle.field_types.specs.declared.units.TimeUnit.{TimeUnit}
+use Rattle.field_types.specs.declared.units.TimeUnit.TheVariants as time
+use Rattle.field_types.specs.contracts.units.DateUnitPartialEq.TheImpl as date_equality
+use Rattle.field_types.specs.contracts.units.TimeUnitPartialEq.TheImpl as time_equality
+use Rattle.field_types.specs.declared.stored_type.StoredType.{StoredType}
+use Rattle.field_types.specs.declared.stored_type.StoredType.TheVariants as stored
+use Rattle.field_types.specs.contracts.stored_type.StoredTypePartialEq.TheImpl as equality
+use Rattle.field_types.specs.StoredLaws.{TypesAreExact}
+
+abbrev type_eq : StoredType → StoredType → Bool
+type_eq = equality.ghosts.eq
+
+same-bool : (b : Bool) → type_eq (stored.Int int.Bits8 b) (stored.Int int.Bits8 b) ≡ true
+same-bool true = refl
+same-bool false = refl
+
+same-int : (w : IntWidth) (b : Bool) → type_eq (stored.Int w b) (stored.Int w b) ≡ true
+same-int int.Bits8 b = same-bool b
+same-int int.Bits16 b = same-bool b
+same-int int.Bits32 b = same-bool b
+same-int int.Bits64 b = same-bool b
+
+equal-int : (w x : IntWidth) → int_equality.ghosts.eq w x ≡ true → w ≡ x
+equal-int int.Bits8 int.Bits8 h = refl
+equal-int int.Bits16 int.Bits16 h = refl
+equal-int int.Bits32 int.Bits32 h = refl
+equal-int int.Bits64 int.Bits64 h = refl
+equal-int w x h = absurd (cc)
+
+same-offset : (o : OffsetWidth) → offset_equality.ghosts.eq o o ≡ true
+same-offset offset.Bits32 = refl
+same-offset offset.Bits64 = refl
+
+equal-offset : (o q : OffsetWidth) → offset_equality.ghosts.eq o q ≡ true → o ≡ q
+equal-offset offset.Bits32 offset.Bits32 h = refl
+equal-offset offset.Bits64 offset.Bits64 h = refl
+equal-offset o q h = absurd (cc)
+
+same-date : (u : DateUnit) → date_equality.ghosts.eq u u ≡ true
+same-date date.Day = refl
+same-date date.Millisecond = refl
+
+equal-date : (u v : DateUnit) → date_equality.ghosts.eq u v ≡ true → u ≡ v
+equal-date date.Day date.Day h = refl
+equal-date date.Millisecond date.Millisecond h = refl
+equal-date u v h = absurd (cc)
+
+same-time : (u : TimeUnit) → time_equality.ghosts.eq u u ≡ true
+same-time time.Second = refl
+same-time time.Millisecond = refl
+same-time time.Microsecond = refl
+same-time time.Nanosecond = refl
+
+equal-time : (u v : TimeUnit) → time_equality.ghosts.eq u v ≡ true → u ≡ v
+equal-time time.Second time.Second h = refl
+equal-time time.Millisecond time.Millisecond h = refl
+equal-time time.Microsecond time.Microsecond h = refl
+equal-time time.Nanosecond time.Nanosecond h = refl
+equal-time u v h = absurd (cc)
+
+same-type : (a : StoredType) → type_eq a a ≡ true
+same-type stored.Bool = refl
+same-type (stored.Int w s) = same-int w s
+same-type (stored.Decimal p s) = and_from _ _ (nat_eq_equiv.refl p) (nat_eq_equiv.refl s)
+same-type (stored.Date u) = same-date u
+same-type (stored.Time u) = same-time u
+same-type (stored.Timestamp u z) = and_from _ _ (same-time u) (nat_list_eq_equiv.refl z)
+same-type (stored.Duration u) = same-time u
+same-type (stored.Utf8 o) = same-offset o
+same-type (stored.Binary o) = same-offset o
+same-type (stored.Fixed w) = nat_eq_equiv.refl w
+same-type (stored.List o) = same-offset o
+same-type stored.Struct = refl
+
+not-false : (b : Bool) → ¬ ((b && false) ≡ true)
+not-false true h = cc
+not-false false h = cc
+
+equal-ints : (w x : IntWidth) (s r : Bool) → type_eq (stored.Int w s) (stored.Int x r) ≡ true → stored.Int w s ≡ stored.Int x r
+equal-ints w x true true h = ap (λ y. stored.Int y true) (equal-int w x (and_parts _ _ h).0)
+equal-ints w x false false h = ap (λ y. stored.Int y false) (equal-int w x (and_parts _ _ h).0)
+equal-ints w x true false h = absurd (not-false (int_equality.ghosts.eq w x) h)
+equal-ints w x false true h = absurd (not-false (int_equality.ghosts.eq w x) h)
+
+equal-types : (a b : StoredType) → type_eq a b ≡ true → a ≡ b
+equal-types stored.Bool stored.Bool h = refl
+equal-types (stored.Int w s) (stored.Int x r) h = equal-ints w x s r h
+equal-types (stored.Decimal p s) (stored.Decimal q r) h =
+    let e = and_parts _ _ h in
+    let here : p ≡ q = eqb-true p q e.0 in
+    let there : s ≡ r = eqb-true s r e.1 in
+    rw (here, there) refl
+equal-types (stored.Date u) (stored.Date v) h = ap stored.Date (equal-date u v h)
+equal-types (stored.Time u) (stored.Time v) h = ap stored.Time (equal-time u v h)
+equal-types (stored.Timestamp u z) (stored.Timestamp v y) h =
+    let e = and_parts _ _ h in
+    let here : u ≡ v = equal-time u v e.0 in
+    let there : z ≡ y = same_text z y (sym e.1) in
+    rw (here, there) refl
+equal-types (stored.Duration u) (stored.Duration v) h = ap stored.Duration (equal-time u v h)
+equal-types (stored.Utf8 o) (stored.Utf8 q) h = ap stored.Utf8 (equal-offset o q h)
+equal-types (stored.Binary o) (stored.Binary q) h = ap stored.Binary (equal-offset o q h)
+equal-types (stored.Fixed w) (stored.Fixed x) h = ap stored.Fixed (eqb-true w x h)
+equal-types (stored.List o) (stored.List q) h = ap stored.List (equal-offset o q h)
+equal-types stored.Struct stored.Struct h = refl
+equal-types a b h = absurd (cc)
+
+pub types-exact : TypesAreExact
+types-exact a b = (equal-types a b, λ e. subst (λ x. type_eq a x ≡ true) e (same-type a))

@@ -1,0 +1,9 @@
+pub mod Faults
+pub mod Texts
+pub mod TypeFacts
+pub mod Equality
+pub mod Children
+pub mod StoredLaws
+pub mod TypeRead
+pub mod TypeSizes
+pub mod TypeLaws

@@ -1,0 +1,69 @@
+-- Apache Arrow Schema.fbs, union Type and its tables, as they are written: each slot of a type's table, also where it holds the default.
+-- A time zone stands only where there is one.
+use Rattle.std.specs.Prelude.{ℕ, ◌*◌, Bool, true, false, List, [], ◌∷◌}
+use Rattle.flatbuf.specs.Tree.{Node, absent, number, text, Nodes, no_nodes, nodes_of}
+use Rattle.values.specs.Layouts.{bytes_in}
+use Rattle.values.specs.declared.layout.OffsetWidth.{OffsetWidth}
+use Rattle.values.specs.declared.layout.OffsetWidth.TheVariants as offset
+use Rattle.field_types.specs.declared.units.DateUnit.{DateUnit}
+use Rattle.field_types.specs.declared.units.DateUnit.TheVariants as date
+use Rattle.field_types.specs.declared.units.TimeUnit.{TimeUnit}
+use Rattle.field_types.specs.declared.units.TimeUnit.TheVariants as time
+use Rattle.field_types.specs.declared.stored_type.StoredType.{StoredType}
+use Rattle.field_types.specs.declared.stored_type.StoredType.TheVariants as stored
+use Rattle.field_types.specs.Types.{bits_of_time}
+
+-- the number of a type, and that of its large form
+abbrev pub by_offsets : OffsetWidth → ℕ → ℕ → ℕ
+by_offsets offset.Bits32 small large = small
+by_offsets offset.Bits64 small large = large
+
+-- union Type
+abbrev pub type_number : StoredType → ℕ
+type_number stored.Bool = 6
+type_number (stored.Int w s) = 2
+type_number (stored.Decimal p s) = 7
+type_number (stored.Date u) = 8
+type_number (stored.Time u) = 9
+type_number (stored.Timestamp u z) = 10
+type_number (stored.Duration u) = 18
+type_number (stored.Utf8 o) = by_offsets o 5 20
+type_number (stored.Binary o) = by_offsets o 4 19
+type_number (stored.Fixed w) = 15
+type_number (stored.List o) = by_offsets o 12 21
+type_number stored.Struct = 13
+
+abbrev pub bool_number : Bool → ℕ
+bool_number false = 0
+bool_number true = 1
+
+-- enum DateUnit
+abbrev pub date_unit_number : DateUnit → ℕ
+date_unit_number date.Day = 0
+date_unit_number date.Millisecond = 1
+
+-- enum TimeUnit
+abbrev pub time_unit_number : TimeUnit → ℕ
+time_unit_number time.Second = 0
+time_unit_number time.Millisecond = 1
+time_unit_number time.Microsecond = 2
+time_unit_number time.Nanosecond = 3
+
+abbrev pub zone_node : List ℕ → Node
+zone_node [] = absent
+zone_node (b ∷ bs) = text (b ∷ bs)
+
+-- the slots of a type's table
+abbrev pub type_slots : StoredType → Nodes
+type_slots stored.Bool = no_nodes
+type_slots (stored.Int w s) = nodes_of (number 4 (8 * bytes_in w) ∷ number 1 (bool_number s) ∷ [])
+type_slots (stored.Decimal p s) = nodes_of (number 4 p ∷ number 4 s ∷ number 4 128 ∷ [])
+type_slots (stored.Date u) = nodes_of (number 2 (date_unit_number u) ∷ [])
+type_slots (stored.Time u) = nodes_of (number 2 (time_unit_number u) ∷ number 4 (bits_of_time u) ∷ [])
+type_slots (stored.Timestamp u z) = nodes_of (number 2 (time_unit_number u) ∷ zone_node z ∷ [])
+type_slots (stored.Duration u) = nodes_of (number 2 (time_unit_number u) ∷ [])
+type_slots (stored.Utf8 o) = no_nodes
+type_slots (stored.Binary o) = no_nodes
+type_slots (stored.Fixed w) = nodes_of (number 4 w ∷ [])
+type_slots (stored.List o) = no_nodes
+type_slots stored.Struct = no_nodes

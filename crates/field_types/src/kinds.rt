@@ -1,0 +1,82 @@
+//! The kinds of types, and what is read of any table.
+
+ghost use Rattle.std.specs.Prelude.{◌≡◌};
+ghost use Rattle.values.specs.Reading.{Judges};
+ghost use Rattle.field_types.specs.Kinds.{kind_of, may_have as may_have_children};
+ghost use Rattle.field_types.specs.Reads.{bool_of};
+
+use crate::slots::FIELD_TYPE_KIND;
+use flatbuf::{BadTable, TableRef};
+use values::{OffsetWidth, StreamFault};
+
+/// The kind of a type: what a field says of its type before the type's own table.
+#[derive(Clone, Copy, Debug, PartialEq, Eq)]
+pub enum TypeKind {
+    Bool,
+    Int,
+    Decimal,
+    Date,
+    Time,
+    Timestamp,
+    Duration,
+    Utf8 { offsets: OffsetWidth },
+    Binary { offsets: OffsetWidth },
+    Fixed,
+    List { offsets: OffsetWidth },
+    Struct,
+}
+
+/// The fault of what can't be read.
+pub fn unreadable(_cause: BadTable) -> StreamFault
+    ensures { result ≡ StreamFault.BadTable }
+{
+    StreamFault::BadTable
+}
+
+/// A bool of a table, `false` where it is absent.
+#[tactic(auto, unfolding(crate::specs::Reads::bool_of))]
+pub fn read_bool(table: &TableRef, slot: u16) -> Result<bool, StreamFault>
+    ensures { Judges (λ b. b) result (bool_of table.now slot) }
+{
+    let byte = table.u8(slot).map_err(unreadable)?;
+    Ok(byte.unwrap_or(0) != 0)
+}
+
+/// The kind of a field's type.
+///
+/// A kind that is not taken is `UnsupportedType`.
+#[tactic(auto, unfolding(crate::specs::Kinds::kind_of, crate::specs::Kinds::kind_numbered))]
+pub fn read_kind(field: &TableRef) -> Result<TypeKind, StreamFault>
+    ensures { Judges (λ k. k) result (kind_of field.now) }
+{
+    let (small, large) = (OffsetWidth::Bits32, OffsetWidth::Bits64);
+    match field.u8(FIELD_TYPE_KIND).map_err(unreadable)?.unwrap_or(0) {
+        2 => Ok(TypeKind::Int),
+        4 => Ok(TypeKind::Binary { offsets: small }),
+        5 => Ok(TypeKind::Utf8 { offsets: small }),
+        6 => Ok(TypeKind::Bool),
+        7 => Ok(TypeKind::Decimal),
+        8 => Ok(TypeKind::Date),
+        9 => Ok(TypeKind::Time),
+        10 => Ok(TypeKind::Timestamp),
+        12 => Ok(TypeKind::List { offsets: small }),
+        13 => Ok(TypeKind::Struct),
+        15 => Ok(TypeKind::Fixed),
+        18 => Ok(TypeKind::Duration),
+        19 => Ok(TypeKind::Binary { offsets: large }),
+        20 => Ok(TypeKind::Utf8 { offsets: large }),
+        21 => Ok(TypeKind::List { offsets: large }),
+        _ => Err(StreamFault::UnsupportedType),
+    }
+}
+
+/// Whether a field of this kind may have as many children.
+pub fn may_have(kind: TypeKind, children: usize) -> bool
+    ensures { result ≡ may_have_children kind children }
+{
+    match kind {
+        TypeKind::List { .. } => children == 1,
+        TypeKind::Struct => true,
+        _ => children == 0,
+    }
+}

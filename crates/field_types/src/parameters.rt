@@ -1,0 +1,136 @@
+//! The parameters of types.
+
+ghost use Rattle.std.specs.Prelude.{◌≡◌, ◌≤◌, pos, ◌≤ℤ◌, IfOk};
+ghost use Rattle.values.specs.Reading.{Judges};
+ghost use Rattle.field_types.specs.Reads.{short_of, word_of};
+ghost use Rattle.field_types.specs.Types.{checked_zone, date_unit_numbered, precision_of, ranged as ranged_between, time_unit_of, time_unit_numbered, wide_of, width_of, zone_of};
+
+use crate::kinds::unreadable;
+use crate::slots::{
+    DECIMAL_BIT_WIDTH, DECIMAL_PRECISION, INT_BIT_WIDTH, TIME_UNIT, TIMESTAMP_ZONE,
+};
+use crate::units::{DateUnit, TimeUnit};
+use flatbuf::TableRef;
+use values::limits::MAX_NAME_LEN;
+use values::{IntWidth, StreamFault};
+
+/// The digits of a decimal of 128 bits.
+pub(crate) const MAX_PRECISION: i32 = 38;
+
+/// The widest value of `FixedSizeBinary`, in bytes.
+pub(crate) const MAX_FIXED_WIDTH: i32 = 65_536;
+
+#[tactic(auto, unfolding(crate::specs::Reads::short_of))]
+pub(crate) fn read_short(table: &TableRef, slot: u16, default: i16) -> Result<i16, StreamFault>
+    ensures { Judges (λ n. n) result (short_of table.now slot default) }
+{
+    Ok(table.i16(slot).map_err(unreadable)?.unwrap_or(default))
+}
+
+#[tactic(auto, unfolding(crate::specs::Reads::word_of))]
+pub(crate) fn read_word(table: &TableRef, slot: u16, default: i32) -> Result<i32, StreamFault>
+    ensures { Judges (λ n. n) result (word_of table.now slot default) }
+{
+    Ok(table.i32(slot).map_err(unreadable)?.unwrap_or(default))
+}
+
+/// The number, where it lies between these.
+pub(crate) fn ranged(low: i32, high: i32, number: i32) -> Result<u32, StreamFault>
+    requires { pos 0 ≤ℤ low }
+    ensures exact { Judges (λ n. n) result (ranged_between low high number) }
+    ensures within { IfOk result (λ n. pos n ≤ℤ high) }
+{
+    if low <= number && number <= high {
+        Ok(number as u32)
+    } else {
+        Err(StreamFault::BadType)
+    }
+}
+
+#[tactic(auto, using(crate::proofs::Faults::faults), unfolding(crate::specs::Types::width_of))]
+pub(crate) fn read_width(table: &TableRef) -> Result<IntWidth, StreamFault>
+    ensures { Judges (λ w. w) result (width_of table.now) }
+{
+    match read_word(table, INT_BIT_WIDTH, 0)? {
+        8 => Ok(IntWidth::Bits8),
+        16 => Ok(IntWidth::Bits16),
+        32 => Ok(IntWidth::Bits32),
+        64 => Ok(IntWidth::Bits64),
+        _ => Err(StreamFault::BadType),
+    }
+}
+
+#[tactic(auto, using(crate::proofs::Faults::faults), unfolding(crate::specs::Types::precision_of))]
+pub(crate) fn read_precision(table: &TableRef) -> Result<u8, StreamFault>
+    ensures exact { Judges (λ n. n) result (precision_of table.now) }
+    ensures within { IfOk result (λ n. n ≤ 38) }
+{
+    let precision = ranged(1, MAX_PRECISION, read_word(table, DECIMAL_PRECISION, 0)?)?;
+    Ok(precision as u8)
+}
+
+/// Refuses decimals of other widths than 128 bits.
+#[tactic(auto, using(crate::proofs::Faults::faults), unfolding(crate::specs::Types::wide_of))]
+pub(crate) fn check_decimal_bits(table: &TableRef) -> Result<(), StreamFault>
+    ensures { Judges (λ u. u) result (wide_of table.now) }
+{
+    if read_word(table, DECIMAL_BIT_WIDTH, 128)? == 128 {
+        Ok(())
+    } else {
+        Err(StreamFault::UnsupportedType)
+    }
+}
+
+pub(crate) fn date_unit(number: i16) -> Result<DateUnit, StreamFault>
+    ensures { Judges (λ u. u) result (date_unit_numbered number) }
+{
+    match number {
+        0 => Ok(DateUnit::Day),
+        1 => Ok(DateUnit::Millisecond),
+        _ => Err(StreamFault::BadType),
+    }
+}
+
+fn time_unit(number: i16) -> Result<TimeUnit, StreamFault>
+    ensures { Judges (λ u. u) result (time_unit_numbered number) }
+{
+    match number {
+        0 => Ok(TimeUnit::Second),
+        1 => Ok(TimeUnit::Millisecond),
+        2 => Ok(TimeUnit::Microsecond),
+        3 => Ok(TimeUnit::Nanosecond),
+        _ => Err(StreamFault::BadType),
+    }
+}
+
+/// The unit of a time, a timestamp or a duration: each has it in its first slot.
+#[tactic(auto, using(crate::proofs::Faults::faults), unfolding(crate::specs::Types::time_unit_of))]
+pub(crate) fn read_time_unit(table: &TableRef, default: i16) -> Result<TimeUnit, StreamFault>
+    ensures { Judges (λ u. u) result (time_unit_of table.now default) }
+{
+    time_unit(read_short(table, TIME_UNIT, default)?)
+}
+
+/// The name of a timestamp's zone, in the buffer.
+#[tactic(auto, using(crate::proofs::Faults::faults), unfolding(crate::specs::Types::zone_of))]
+pub(crate) fn read_zone<'a>(table: &TableRef<'a>) -> Result<&'a str, StreamFault>
+    ensures { Judges (λ name. name.now) result (zone_of table.now) }
+{
+    match table.text(TIMESTAMP_ZONE).map_err(unreadable)? {
+        None => Ok(""),
+        Some(bytes) => check_zone(bytes),
+    }
+}
+
+#[tactic(auto, using(crate::proofs::Texts::texts))]
+fn check_zone(bytes: &[u8]) -> Result<&str, StreamFault>
+    ensures { Judges (λ name. name.now) result (checked_zone bytes.now) }
+{
+    if bytes.len() > MAX_NAME_LEN {
+        return Err(StreamFault::BadType);
+    }
+    match simdutf8::basic::from_utf8(bytes) {
+        Ok(name) => Ok(name),
+        Err(_) => Err(StreamFault::BadType),
+    }
+}
