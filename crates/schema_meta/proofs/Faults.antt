@@ -3,7 +3,7 @@ use Rattle.std.proofs.Common.{◌≡◌, ◌⊎◌, inl, inr, Bool, true, false,
 use Rattle.values.specs.declared.faults.StreamFault.{StreamFault}
 use Rattle.values.specs.Reading.{Reading, ◌>>=◌, Stands}
 use Rattle.values.proofs.Readings.{both_left, both_right}
-use Rattle.schema_meta.specs.Types.{readable, needs}
+use Rattle.field_types.specs.Reads.{readable, needs}
 
 pub bind_left : {X Y : Type 0} (m : Reading X) (f : X → Reading Y) (c : StreamFault) → Stands m c → Stands (m >>= f) c
 bind_left (Ok x) f c h = absurd h

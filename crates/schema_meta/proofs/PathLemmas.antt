@@ -1,5 +1,5 @@
 -- A fault is in the schema's reading exactly where it stands by a path.
-use Rattle.std.proofs.Common.{◌≡◌, ◌⊎◌, inl, inr, ℕ, zero, suc, ◌+◌, ◌<◌, Bool, true, false, Option, None, Some, Ok, Err, List, [], ◌∷◌, length, refl, ap, subst, arith, nat_le}
+use Rattle.std.proofs.Common.{◌≡◌, ◌⊎◌, inl, inr, ℕ, zero, suc, ◌+◌, ◌<◌, Bool, true, false, Option, None, Some, Ok, Err, List, [], ◌∷◌, length, refl, ap, sym, subst, arith, nat_le}
 use Rattle.std.proofs.lemmas.Bool.Decides.{nat_tests}
 use Rattle.std.specs.Prelude.{◌==◌, if◌then◌else◌}
 use Rattle.flatbuf.specs.Layout.{Table, Vector, vector_of, entry_of}
@@ -8,14 +8,17 @@ use Rattle.values.specs.Rose.{Rose}
 use Rattle.values.specs.declared.faults.StreamFault.{StreamFault}
 use Rattle.values.specs.declared.faults.StreamFault.TheVariants as fault
 use Rattle.values.proofs.Readings.{both_left, both_right, stands_both, stands_each}
-use Rattle.schema_meta.specs.declared.types.TypeKind.{TypeKind}
+use Rattle.field_types.specs.declared.kinds.TypeKind.{TypeKind}
 use Rattle.schema_meta.specs.Entry.{Entry}
 use Rattle.schema_meta.specs.Slots as slot
-use Rattle.schema_meta.specs.Types.{readable, needs, bool_of, kind_of, type_of, may_have}
+use Rattle.field_types.specs.Reads.{readable, needs, checked, bool_of}
+use Rattle.field_types.specs.Kinds.{kind_of, may_have}
+use Rattle.field_types.specs.Types.{type_of}
+use Rattle.schema_meta.specs.FieldLayouts.{are_slim, layouts_of}
 use Rattle.schema_meta.specs.Fields.{name_of, plain_of, count_in, fields_in, children_of, label, content, field, label_of, content_of, field_of, entry_by, forest, children_by, children_at, child_at}
 use Rattle.schema_meta.specs.Totals.{total}
-use Rattle.schema_meta.specs.Schema.{endianness_of, columns_of, schema_of}
-use Rattle.schema_meta.specs.Paths.{FaultOfField, FaultOfEntry, Leads, StandsBelow, IsDeeper, FaultOfColumns, FaultOfSchema, in_name, in_nullable, in_kind, in_type, in_dictionary, in_children, in_number, by_path, by_depth, by_count, in_endianness, in_fields, in_columns}
+use Rattle.schema_meta.specs.Schema.{endianness_of, columns_of, schema_of, slim}
+use Rattle.schema_meta.specs.Paths.{FaultOfField, FaultOfEntry, Leads, StandsBelow, IsDeeper, FaultOfColumns, FaultOfSchema, in_name, in_nullable, in_kind, in_type, in_dictionary, in_children, in_number, by_path, by_depth, by_count, by_slot, in_endianness, in_fields, in_columns}
 use Rattle.schema_meta.proofs.Faults.{bind_left, bind_right, bind_found, needs_found, needs_stands, readable_found, readable_some}
 
 -- The children of a field have the fault.
@@ -134,12 +137,24 @@ forest_found (suc depth) v c h =
           ]
     ]
 
+slim_found : (fs : List (Rose Entry)) (c : StreamFault) → Stands (slim fs) c → (are_slim (layouts_of fs) ≡ false) × (fault.BadType ≡ c)
+slim_found fs c h = by_test (are_slim (layouts_of fs)) refl h where
+  by_test :
+      (b : Bool) → are_slim (layouts_of fs) ≡ b → Stands (checked fault.BadType b fs) c
+      → (are_slim (layouts_of fs) ≡ false) × (fault.BadType ≡ c)
+  by_test true is h = absurd h
+  by_test false is h = (is, h)
+
 columns_found : (v : Vector) (c : StreamFault) → Stands (columns_of v) c → FaultOfColumns v c
 unfolding columns_of
 columns_found v c h =
-    elim (stands_both second (needs fault.TooManyFields (nat_le (total 16 v) 1024)) (forest 16 v) c h) [
+    elim (stands_both second (needs fault.TooManyFields (nat_le (total 16 v) 1024)) (forest 16 v >>= slim) c h) [
       | inl a ↦ let n = needs_found fault.TooManyFields (nat_le (total 16 v) 1024) c a in by_count (above (total 16 v) 1024 n.0) n.1
-      | inr b ↦ elim (forest_found 16 v c b) [ inl x ↦ by_path x | inr y ↦ by_depth y.0 y.1 ]
+      | inr b ↦
+          elim (bind_found (forest 16 v) slim c b) [
+            | inl p ↦ elim (forest_found 16 v c p) [ inl x ↦ by_path x | inr y ↦ by_depth y.0 y.1 ]
+            | inr q ↦ let wide = slim_found q.0 c q.2 in by_slot q.0 q.1 wide.0 wide.1
+          ]
     ]
 
 fields_found :
@@ -280,18 +295,26 @@ depth_stands (j ∷ p) (suc depth) v w l e n =
     at_stands (forest depth) v v.count j fault.TooManyFields l.0
     (child_stands (forest depth) (entry_of v j) fault.TooManyFields l.1.0 l.1.1 (depth_stands p depth l.1.0 w l.1.2 (omega (arith, e)) n))
 
+slim_stands : (fs : List (Rose Entry)) (c : StreamFault) → are_slim (layouts_of fs) ≡ false → fault.BadType ≡ c → Stands (slim fs) c
+slim_stands fs c wide e = let P : Bool → Type 0 = λ b. Stands (checked fault.BadType b fs) c in subst P (sym wide) e
+
+in_forest : (v : Vector) (c : StreamFault) → Stands (forest 16 v) c → Stands (columns_of v) c
+unfolding columns_of
+in_forest v c h =
+    both_right second (needs fault.TooManyFields (nat_le (total 16 v) 1024)) (forest 16 v >>= slim) c (bind_left (forest 16 v) slim c h)
+
 columns_stands : (v : Vector) (c : StreamFault) → FaultOfColumns v c → Stands (columns_of v) c
 unfolding columns_of
-columns_stands v c (by_path s) =
-    both_right second (needs fault.TooManyFields (nat_le (total 16 v) 1024)) (forest 16 v) c
-    (path_stands s.path 16 v s.end s.index c s.leads s.within s.inside s.fault_of)
+columns_stands v c (by_path s) = in_forest v c (path_stands s.path 16 v s.end s.index c s.leads s.within s.inside s.fault_of)
 columns_stands v c (by_depth s e) =
     let P : StreamFault → Type 0 = λ d. Stands (forest 16 v) d in
-    both_right second (needs fault.TooManyFields (nat_le (total 16 v) 1024)) (forest 16 v) c
-    (subst P e (depth_stands s.path 16 v s.end s.leads s.long s.some))
+    in_forest v c (subst P e (depth_stands s.path 16 v s.end s.leads s.long s.some))
 columns_stands v c (by_count m e) =
-    both_left second (needs fault.TooManyFields (nat_le (total 16 v) 1024)) (forest 16 v) c
+    both_left second (needs fault.TooManyFields (nat_le (total 16 v) 1024)) (forest 16 v >>= slim) c
     (needs_stands fault.TooManyFields (nat_le (total 16 v) 1024) c (not_above (total 16 v) 1024 m) e)
+columns_stands v c (by_slot fs read wide e) =
+    both_right second (needs fault.TooManyFields (nat_le (total 16 v) 1024)) (forest 16 v >>= slim) c
+    (bind_right (forest 16 v) slim c fs read (slim_stands fs c wide e))
 
 pub stands_by_paths : (t : Table) (c : StreamFault) → FaultOfSchema t c → Stands (schema_of t) c
 unfolding schema_of

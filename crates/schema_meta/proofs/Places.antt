@@ -1,40 +1,27 @@
 -- The arrays of a batch, one after another.
-use Rattle.std.proofs.Common.{◌≡◌, ℕ, List, [], ◌∷◌, ◌++◌, ◌+◌, ◌<◌, ◌≤◌, length, drop, get_or, refl, ap, sym, subst, ◌∙◌, arith, append_assoc, append-nil}
-use Rattle.std.proofs.lemmas.List.{drop_more, drop_all}
-use Rattle.values.specs.Rose.{Rose, node}
+use Rattle.std.proofs.Common.{◌≡◌, ℕ, List, [], ◌∷◌, ◌++◌, ◌∙◌, ◌+◌, ◌<◌, length, drop, get_or, subst}
+use Rattle.values.specs.Rose.{Rose, Roses, more, join, kids_of, rose_size}
+use Rattle.values.proofs.Roses.{kids_step, kids_end, join_more, join_none, kid_smaller}
+use Rattle.values.specs.declared.layout.Layout.{Layout}
+use Rattle.array_layout.specs.declared.array.Node.{Node}
+use Rattle.array_layout.specs.declared.array.Span.{Span}
+use Rattle.array_layout.specs.declared.array.Part.{Part}
+use Rattle.array_layout.specs.Placing.{placed, placed_all, spans_in}
 use Rattle.schema_meta.specs.Entry.{Entry}
-use Rattle.schema_meta.specs.BatchHead.{BatchHead}
-use Rattle.schema_meta.specs.declared.header.Node.{Node}
-use Rattle.schema_meta.specs.declared.header.Span.{Span}
-use Rattle.schema_meta.specs.declared.parts.Part.{Part}
-use Rattle.schema_meta.specs.Parts.{placed, parts_of, part_of, node_at}
-use Rattle.schema_meta.specs.Shape.{spans_of_field}
+use Rattle.schema_meta.proofs.Counts.{nodes_step, spans_step}
+use Rattle.schema_meta.specs.FieldLayouts.{layout_of, layouts_below}
 
-pub placed-start :
-    (made : List Part) (head : BatchHead) (fields : List (Rose Entry)) → made ≡ []
-    → made ++ placed head.nodes head.spans 0 0 fields ≡ parts_of fields head
-unfolding parts_of
-placed-start made head fields none = let P : List Part → Type 0 = λ m. m ++ placed head.nodes head.spans 0 0 fields ≡ parts_of fields head in
-    subst P (sym none) refl
+pub placed_step :
+    (nodes : List Node) (spans : List Span) (fs : List (Rose Entry)) (k : ℕ) (e d : Rose Entry) (n b m c : ℕ) (made : List (Rose Part))
+    (a : Rose Part) (whole : Roses Part) → e ≡ get_or fs k d → k < length fs → a ≡ placed nodes spans n b (layout_of e)
+    → m ≡ n + rose_size (layout_of e) → c ≡ b + spans_in (layout_of e)
+    → join made (placed_all nodes spans n b (layouts_below (kids_of (drop k fs)))) ≡ whole
+    → join (made ++ a ∷ []) (placed_all nodes spans m c (layouts_below (kids_of (drop (k + 1) fs)))) ≡ whole
+placed_step nodes spans fs k e d n b m c made a whole is below here next more_spans all =
+    let rest : Roses Layout = layouts_below (kids_of (drop (k + 1) fs)) in
+    let P : Roses Entry → Type 0 = λ ts. join made (placed_all nodes spans n b (layouts_below ts)) ≡ whole in
+    let split : join made (more (placed nodes spans n b (layout_of e)) (placed_all nodes spans (n + rose_size (layout_of e)) (b + spans_in (layout_of e)) rest)) ≡ whole =
+    subst P (kids_step fs k e d is below) all in
+    rw (here, next, more_spans) (join_more made (placed nodes spans n b (layout_of e)) (placed_all nodes spans (n + rose_size (layout_of e)) (b + spans_in (layout_of e)) rest) ∙ split)
 
-pub placed-more :
-    (nodes : List Node) (spans : List Span) (i b : ℕ) (fields : List (Rose Entry)) (e : Rose Entry) (made whole : List Part)
-    → e ≡ get_or fields i e → i < length fields → made ++ placed nodes spans i b (drop i fields) ≡ whole
-    → (made ++ part_of e (node_at nodes i) spans b ∷ []) ++ placed nodes spans (i + 1) (b + spans_of_field e) (drop (i + 1) fields) ≡ whole
-unfolding placed
-placed-more nodes spans i b fields e made whole is below all =
-    let split : drop i fields ≡ e ∷ drop (i + 1) fields = let P : Rose Entry → Type 0 = λ x. drop i fields ≡ x ∷ drop (i + 1) fields in
-    subst P (sym is) (drop_more fields i e below) in
-    let Q : List (Rose Entry) → Type 0 = λ fs. made ++ placed nodes spans i b fs ≡ whole in
-    let rest : List Part = placed nodes spans (i + 1) (b + spans_of_field e) (drop (i + 1) fields) in
-    append_assoc made (part_of e (node_at nodes i) spans b ∷ []) rest ∙ subst Q split all
-
-pub placed-end :
-    (nodes : List Node) (spans : List Span) (i b : ℕ) (fields : List (Rose Entry)) (made whole : List Part) → length fields ≤ i
-    → made ++ placed nodes spans i b (drop i fields) ≡ whole → made ≡ whole
-unfolding placed
-placed-end nodes spans i b fields made whole all is =
-    let Q : List (Rose Entry) → Type 0 = λ fs. made ++ placed nodes spans i b fs ≡ whole in
-    sym (append-nil made) ∙ subst Q (drop_all i fields all) is
-
-pub ruleset places = (placed-start, placed-more, placed-end)
+pub ruleset placing = (kids_step, kids_end, join_more, join_none, kid_smaller, nodes_step, spans_step)

@@ -6,9 +6,12 @@ use Rattle.flatbuf.specs.Layout.{number_at, signed_at, target_at, bytes_at, bloc
 use Rattle.values.specs.Reading.{Reading, ◌>>=◌, must, each, one}
 use Rattle.values.specs.Rose.{Rose, node, none}
 use Rattle.values.specs.declared.faults.StreamFault.TheVariants as fault
-use Rattle.schema_meta.specs.declared.stored_type.StoredType.TheVariants as stored
+use Rattle.values.specs.declared.layout.IntWidth.TheVariants as int
+use Rattle.field_types.specs.declared.stored_type.StoredType.TheVariants as stored
+use Rattle.field_types.specs.Kinds.{kind_numbered, kind_of}
+use Rattle.field_types.specs.Reads.{readable, bool_of, word_of}
+use Rattle.field_types.specs.Types.{width_of, int_of, type_of}
 use Rattle.schema_meta.specs.Entry.{Entry}
-use Rattle.schema_meta.specs.Types.{readable, bool_of, kind_of, width_of, int_of, type_of}
 use Rattle.schema_meta.specs.Fields.{name_of, plain_of, children_of, label_of, content_of, field_of, entry_by, child_at, forest}
 use Rattle.schema_meta.specs.Totals.{sum_from, total_at, total}
 use Rattle.schema_meta.specs.Schema.{endianness_of, columns_of, schema_of}
@@ -35,7 +38,7 @@ abbrev schema_in : List ℕ → Reading (List (Rose Entry))
 schema_in bytes = readable (root_of bytes) >>= λ message. readable (subtable_of message 2) >>= must fault.BadTable >>= schema_of
 
 abbrev column : ℕ → Rose Entry
-column letter = node (record { name = letter ∷ []; nullable = true; stored = stored.Int64 }) none
+column letter = node (record { name = letter ∷ []; nullable = true; stored = stored.Int int.Bits64 true }) none
 
 letter : (c : ℕ) → c < 128 → is_utf8 (c ∷ []) ≡ true
 letter c h = is_utf8-from_IsUtf8 (c ∷ []) (IsUtf8-from_ascii (c ∷ []) ascii)
@@ -51,5 +54,5 @@ pub sample :
     × (schema_in (slice_set metadata 60 1) ≡ Err (one fault.BigEndian))
     × (schema_in (slice_set metadata 105 3) ≡ Err (one fault.UnsupportedType))
     × (schema_in (slice_set metadata 140 65) ≡ Err (one fault.BadType))
-unfolding number_at signed_at target_at bytes_at block_at place_of_vtable vtable_at table_at root_of slot_of number_of signed_of structs_of subtable_of vector_at vector_of entry_of each bool_of kind_of width_of int_of type_of name_of plain_of children_of label_of content_of field_of entry_by child_at forest sum_from total_at total endianness_of columns_of schema_of
+unfolding number_at signed_at target_at bytes_at block_at place_of_vtable vtable_at table_at root_of slot_of number_of signed_of structs_of subtable_of vector_at vector_of entry_of each bool_of word_of kind_numbered kind_of width_of int_of type_of name_of plain_of children_of label_of content_of field_of entry_by child_at forest sum_from total_at total endianness_of columns_of schema_of
 sample = rw (letter 107 (omega arith), letter 118 (omega arith)) (refl, refl, refl, refl, refl)

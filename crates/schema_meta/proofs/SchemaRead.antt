@@ -1,6 +1,6 @@
 -- The Schema message that is written is read as its schema.
-use Rattle.std.proofs.Common.{◌≡◌, ℕ, ◌^◌, ◌<◌, ◌≤◌, true, List, [], ◌∷◌, length, Option, Some, None, Ok, refl, arith}
-use Rattle.std.specs.Prelude.{nat_eq}
+use Rattle.std.proofs.Common.{◌≡◌, ℕ, ◌+◌, ◌-◌, ◌^◌, ◌<◌, ◌≤◌, ◌∙◌, true, List, [], ◌∷◌, Option, Some, None, Ok, refl, ap, subst, sym, arith}
+use Rattle.std.specs.Prelude.{nat_eq, map}
 use Rattle.std.specs.Int.{w16, w64}
 use Rattle.std.proofs.lemmas.Bool.{le-leb, eq-eqb}
 use Rattle.std.specs.Cmp.Lexicographic.{pointwise}
@@ -11,41 +11,62 @@ use Rattle.flatbuf.specs.Written.{whole, IsWritable}
 use Rattle.flatbuf.specs.Held.{element_place, NodeHeld, Held, RootHeld}
 use Rattle.flatbuf.proofs.ReadsBack.{layout-law}
 use Rattle.flatbuf.proofs.Words.{number-read, signed-read, subtable-read, vector-read}
-use Rattle.values.specs.Logical.{LogicalField}
-use Rattle.values.specs.declared.types.ColType.{ColType}
-use Rattle.values.specs.declared.types.ColType.TheVariants.{Int64, Utf8}
+use Rattle.values.specs.Rose.{Rose, node, Roses, none, more, kids_of, roses_size}
+use Rattle.values.specs.declared.layout.Layout.{Layout}
+use Rattle.field_types.specs.Logical.{LogicalField, child_name, narrow}
+use Rattle.field_types.specs.contracts.stored_type.StoredTypePartialEq.TheImpl as types
+use Rattle.field_types.specs.declared.stored_type.StoredType.{StoredType}
+use Rattle.field_types.specs.declared.stored_type.StoredType.TheVariants as stored
+use Rattle.field_types.proofs.Equality.{types-exact}
 use Rattle.schema_meta.specs.declared.write.HeaderKind.{HeaderKind}
 use Rattle.schema_meta.specs.declared.write.HeaderKind.TheVariants.{Schema, RecordBatch}
 use Rattle.schema_meta.specs.declared.header.MessageKind.{MessageKind}
 use Rattle.schema_meta.specs.declared.header.MessageKind.TheVariants as kind
 use Rattle.schema_meta.specs.Slots as slot
+use Rattle.schema_meta.specs.FieldLayouts.{are_slim}
 use Rattle.schema_meta.specs.Schema.{endianness_of, columns_of, schema_of}
 use Rattle.schema_meta.specs.Stage.{Known, Meta}
 use Rattle.schema_meta.specs.Message.{version_of, kind_of, header_table, body_of, expected, new_schema, header_of, meta_of, brings_schema}
 use Rattle.schema_meta.specs.MessageTree.{header_number, message_slots}
 use Rattle.schema_meta.specs.SchemaTree.{field_tables, schema_slots, schema_metadata, AreColumns}
-use Rattle.schema_meta.specs.SchemaLaw.{stored_field, stored_fields, stored_as, AreNamed, before, AreExpected, SchemaLaw, ColumnsLaw}
-use Rattle.schema_meta.specs.Logical.{logical_type, logical_field}
-use Rattle.schema_meta.specs.SameColumns.{is_type, is_declared}
-use Rattle.schema_meta.proofs.SchemaFits.{count-field_tables, schema-writable}
+use Rattle.schema_meta.specs.SchemaLaw.{stored_below, stored_fields, AreLogical, AreNamed, before, AreExpected, SchemaLaw, ColumnsLaw}
+use Rattle.schema_meta.specs.Logical.{logical_below, logical_field}
+use Rattle.schema_meta.specs.SameColumns.{are_same, is_declared}
+use Rattle.schema_meta.specs.Totals.{total}
+use Rattle.schema_meta.proofs.SchemaFits.{schema-writable}
+use Rattle.schema_meta.proofs.ColumnsRead.{all_read}
+use Rattle.schema_meta.proofs.SoundFields.{Sound, tables-count, entries-fields, layouts-read}
 use Rattle.schema_meta.proofs.FieldRead.{forest-read, total-read}
 
-columns-read : (v : Vector) (fs : List LogicalField) → v.count ≡ length fs → AreColumns fs → AreNamed fs → Held v.bytes (element_place v.start) 0 (field_tables fs) →
-    columns_of v ≡ Ok (stored_fields fs)
-unfolding columns_of
+sound-columns : (fs : List (Rose LogicalField)) → AreColumns fs → AreNamed fs → Sound 16 stored.Struct (kids_of fs)
+sound-columns fs columns named =
+    record { within = columns.within; logical = named.logical; layouts = named.layouts; shallow = named.shallow }
+
+columns-read :
+    (v : Vector) (fs : List (Rose LogicalField)) → v.count ≡ count (field_tables (kids_of fs)) → AreColumns fs → AreNamed fs
+    → Held v.bytes (element_place v.start) 0 (field_tables (kids_of fs)) → columns_of v ≡ Ok (stored_fields fs)
 columns-read v fs e columns named h =
-    rw (total-read 15 v fs e h, le-leb (length fs) 1024 columns.few, forest-read 15 v fs e columns.short_names named.texts h) refl
+    let sound = sound-columns fs columns named in
+    let counted = e ∙ tables-count (kids_of fs) in
+    let counts = total-read 16 stored.Struct (kids_of fs) sound v counted h in
+    let read = forest-read 16 stored.Struct (kids_of fs) sound v counted h ∙ ap (λ es. Ok es) (entries-fields fs) in
+    let few = columns.few in
+    let left : 1024 - roses_size (kids_of fs) + total 16 v ≡ 1024 = omega (arith, few, counts) in
+    let P : Roses Layout → Type 0 = λ ls. are_slim ls ≡ true in
+    all_read v (stored_fields fs) (1024 - roses_size (kids_of fs)) left read (subst P (sym (layouts-read fs)) named.slim)
 
 endianness-read : (t : Table) → NodeHeld t.bytes (slot_of t slot.endianness) (number 2 0) → endianness_of t ≡ Ok tt
 unfolding endianness_of
 endianness-read t h = rw (signed-read w16 0 t slot.endianness h) refl
 
-pub schema-read : (t : Table) (fs : List LogicalField) → AreColumns fs → AreNamed fs → Held t.bytes (slot_of t) 0 (schema_slots fs) → schema_of t ≡ Ok (stored_fields fs)
+pub schema-read :
+    (t : Table) (fs : List (Rose LogicalField)) → AreColumns fs → AreNamed fs → Held t.bytes (slot_of t) 0 (schema_slots (kids_of fs))
+    → schema_of t ≡ Ok (stored_fields fs)
 unfolding schema_of
 schema-read t fs columns named h =
-    let r = vector-read (field_tables fs) t slot.fields h.1.0 in
-    let v : Vector = record { bytes = t.bytes; start = r.start; count = count (field_tables fs) } in
-    let read : columns_of v ≡ Ok (stored_fields fs) = columns-read v fs (count-field_tables fs) columns named r.elements in
+    let r = vector-read (field_tables (kids_of fs)) t slot.fields h.1.0 in
+    let v : Vector = record { bytes = t.bytes; start = r.start; count = count (field_tables (kids_of fs)) } in
+    let read : columns_of v ≡ Ok (stored_fields fs) = columns-read v fs refl columns named r.elements in
     rw (endianness-read t h.0, r.is, read) refl
 
 -- the kind under which a header is read
@@ -94,37 +115,60 @@ same-bytes : (xs : List ℕ) → pointwise nat_eq xs xs ≡ true
 same-bytes [] = refl
 same-bytes (x ∷ xs) = rw (eq-eqb x x refl, same-bytes xs) refl
 
-same-type : (c : ColType) → is_type c (logical_type (stored_as c)) ≡ true
-same-type Int64 = refl
-same-type Utf8 = refl
+same-type : (s : StoredType) → types.ghosts.eq s s ≡ true
+same-type s = (types-exact s s).1 refl
 
-declared-same : (fs : List LogicalField) → is_declared fs (stored_fields fs) ≡ true
+same-all : (fs : Roses LogicalField) → are_same fs fs ≡ true
+same-all none = refl
+same-all (more (node f kids) fs) = rw (same-bytes f.name, same-type f.col_type, same-all kids, same-all fs) refl
+
+abbrev field_named : List ℕ → StoredType → LogicalField
+field_named name s = record { name = name; col_type = s }
+
+-- a field whose parts are those of another
+logical-node :
+    (f : LogicalField) (name : List ℕ) (s : StoredType) (below kids : Roses LogicalField) → name ≡ f.name → s ≡ f.col_type → below ≡ kids
+    → node (field_named name s) below ≡ node f kids
+logical-node f name s below kids named typed same = rw (named, typed, same) refl
+
+logical-below : (s : StoredType) (fs : Roses LogicalField) → AreLogical s fs → logical_below s (stored_below fs) ≡ fs
+logical-below s none h = refl
+logical-below s (more (node f kids) fs) h =
+    let here = logical-node f (child_name s f.name) (narrow f.col_type) (logical_below f.col_type (stored_below kids)) kids h.0.1 h.0.2 (logical-below f.col_type kids h.0.3) in
+    rw (here, logical-below s fs h.1) refl
+
+logical-all : (fs : List (Rose LogicalField)) → AreLogical stored.Struct (kids_of fs) → map logical_field (stored_fields fs) ≡ fs
+logical-all [] h = refl
+logical-all (node f kids ∷ fs) h =
+    let here = logical-node f f.name (narrow f.col_type) (logical_below f.col_type (stored_below kids)) kids refl h.0.2 (logical-below f.col_type kids h.0.3) in
+    rw (here, logical-all fs h.1) refl
+
+pub columns-law : ColumnsLaw
+columns-law fs named = logical-all fs named.logical
+
+declared-same : (fs : List (Rose LogicalField)) → AreNamed fs → is_declared fs (stored_fields fs) ≡ true
 unfolding is_declared
-declared-same [] = refl
-declared-same (f ∷ fs) = rw (same-bytes f.name, same-type f.col_type, declared-same fs) refl
+declared-same fs named =
+    let P : Roses LogicalField → Type 0 = λ gs. are_same (kids_of fs) gs ≡ true in
+    subst P (sym (ap kids_of (columns-law fs named))) (same-all (kids_of fs))
 
-expected-read : (declared : Option (List LogicalField)) (fs : List LogicalField) → AreExpected declared fs → expected declared (stored_fields fs) ≡ Ok (stored_fields fs)
-expected-read None fs h = refl
-expected-read (Some columns) fs h = rw (h, declared-same fs) refl
+expected-read :
+    (declared : Option (List (Rose LogicalField))) (fs : List (Rose LogicalField)) → AreNamed fs → AreExpected declared fs
+    → expected declared (stored_fields fs) ≡ Ok (stored_fields fs)
+expected-read None fs named h = refl
+expected-read (Some columns) fs named h = rw (h, declared-same fs named) refl
 
-header-means : (declared : Option (List LogicalField)) (t h : Table) (fs : List LogicalField) → header_table t ≡ Ok h → schema_of h ≡ Ok (stored_fields fs) →
-    AreExpected declared fs → header_of (before declared) t kind.Schema 0 ≡ Ok (brings_schema 0 (stored_fields fs))
+header-means :
+    (declared : Option (List (Rose LogicalField))) (t h : Table) (fs : List (Rose LogicalField)) → AreNamed fs → header_table t ≡ Ok h
+    → schema_of h ≡ Ok (stored_fields fs) → AreExpected declared fs
+    → header_of (before declared) t kind.Schema 0 ≡ Ok (brings_schema 0 (stored_fields fs))
 unfolding header_of new_schema
-header-means declared t h fs found read same = rw (found, read, expected-read declared fs same) refl
+header-means declared t h fs named found read same = rw (found, read, expected-read declared fs named same) refl
 
 pub schema-law : SchemaLaw
 unfolding schema_metadata
 schema-law declared fs columns named same =
-    meta-read (before declared) Schema (schema_slots fs) 0 (brings_schema 0 (stored_fields fs)) (omega arith) (schema-writable fs columns)
-    (λ t h found held beyond. header-means declared t h fs found (schema-read h fs columns named held) same)
+    meta-read (before declared) Schema (schema_slots (kids_of fs)) 0 (brings_schema 0 (stored_fields fs)) (omega arith) (schema-writable fs columns)
+    (λ t h found held beyond. header-means declared t h fs named found (schema-read h fs columns named held) same)
 
-logical-stored : (f : LogicalField) → logical_field (stored_field f) ≡ f
-logical-stored f = by-type f.name f.col_type
-  where
-    by-type : (xs : List ℕ) (c : ColType) → logical_field (stored_field (record { name = xs; col_type = c })) ≡ record { name = xs; col_type = c }
-    by-type xs Int64 = refl
-    by-type xs Utf8 = refl
-
-pub columns-law : ColumnsLaw
-columns-law [] = refl
-columns-law (f ∷ fs) = rw (logical-stored f, columns-law fs) refl
+pub ruleset schema_laws = (schema-law, columns-law)

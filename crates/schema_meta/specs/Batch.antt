@@ -1,14 +1,17 @@
 -- The header of a record batch: Message.fbs, `RecordBatch`, with its structs `FieldNode` and `Buffer`.
-use Rattle.std.specs.Prelude.{ℕ, ◌+◌, ◌*◌, ◌^◌, List, [], length, drop, Ok, Err, is_some, nat_le, ◌==◌, if◌then◌else◌, unwrap_or}
+use Rattle.std.specs.Prelude.{ℕ, Bool, true, ◌&&◌, nat_lt, ◌+◌, ◌*◌, ◌^◌, List, [], length, drop, Ok, Err, is_some, nat_le, ◌==◌, if◌then◌else◌, unwrap_or}
 use Rattle.std.specs.Int.{w64, cast_signed}
 use Rattle.byteorder.specs.Endian.{little_number}
 use Rattle.flatbuf.specs.Layout.{Table, slot_of, structs_of}
 use Rattle.values.specs.declared.faults.StreamFault.{StreamFault}
 use Rattle.values.specs.declared.faults.StreamFault.TheVariants as fault
 use Rattle.values.specs.Reading.{Reading, ◌>>=◌, both, second, must, one, refused_if, each}
-use Rattle.schema_meta.specs.declared.header.Node.{Node}
-use Rattle.schema_meta.specs.declared.header.Span.{Span}
-use Rattle.schema_meta.specs.declared.header.Shape.{Shape}
+use Rattle.values.specs.Rose.{Rose, node, Roses, none, more, rose_size, roses_size}
+use Rattle.values.specs.declared.layout.Layout.{Layout}
+use Rattle.values.specs.declared.layout.Layout.TheVariants.{Struct}
+use Rattle.array_layout.specs.declared.array.Node.{Node}
+use Rattle.array_layout.specs.declared.array.Span.{Span}
+use Rattle.array_layout.specs.Placing.{node_at, spans_below}
 use Rattle.schema_meta.specs.BatchHead.{BatchHead}
 use Rattle.schema_meta.specs.Counts.{count_in}
 
@@ -16,14 +19,13 @@ use Rattle.schema_meta.specs.Counts.{count_in}
 unfoldable pub word_at : List ℕ → ℕ → ℕ
 word_at bytes p = little_number 8 (drop p bytes)
 
--- A node is two numbers of 64 bits: a length, and a null count. A column's length is that of the batch, which a negative
--- one is not either, since it is above 2^63 when it is read without a sign.
-abbrev pub node_made : ℕ → List ℕ → ℕ → Node
-node_made rows bytes place = record { length = rows; nulls = cast_signed w64 (word_at bytes (place + 8)) }
+-- A node is two numbers of 64 bits: a length below 2^31, which a negative one isn't when it is read without a sign, and a null count.
+abbrev pub node_made : List ℕ → ℕ → Node
+node_made bytes place = record { length = word_at bytes place; nulls = cast_signed w64 (word_at bytes (place + 8)) }
 
-unfoldable pub node_of : ℕ → List ℕ → ℕ → Reading Node
-node_of rows bytes i =
-    if word_at bytes (16 * i) == rows then Ok (node_made rows bytes (16 * i)) else Err (one fault.BadLength)
+unfoldable pub node_of : List ℕ → ℕ → Reading Node
+node_of bytes i =
+    if nat_lt (word_at bytes (16 * i)) (2 ^ 31) then Ok (node_made bytes (16 * i)) else Err (one fault.BadLength)
 
 -- A buffer is two numbers of 64 bits: a place in the body, and a length. It lies within the body, which no negative
 -- number does when it is read without a sign.
@@ -43,11 +45,39 @@ structs_in c n t slot = must fault.BadTable (structs_of 16 t slot) >>= λ found.
 unfoldable pub rows_of : Table → Reading ℕ
 rows_of t = count_in fault.BadLength (2 ^ 24) t 0
 
-unfoldable pub nodes_in : ℕ → ℕ → List ℕ → Reading (List Node)
-nodes_in n rows bytes = each (node_of rows bytes) 0 n
+unfoldable pub nodes_in : ℕ → List ℕ → Reading (List Node)
+nodes_in n bytes = each (node_of bytes) 0 n
 
-unfoldable pub nodes_of : ℕ → ℕ → Table → Reading (List Node)
-nodes_of n rows t = structs_in fault.NodeCount n t 1 >>= nodes_in n rows
+-- The child of a struct is at least as long as the struct.
+abbrev pub least : Layout → ℕ → ℕ
+least Struct n = n
+least l n = 0
+
+-- Arrays whose first node is number n, and all arrays below them, are long enough: the first ones have this length at least.
+abbrev mutual
+  pub is_long : List Node → ℕ → ℕ → Rose Layout → Bool
+  is_long nodes n floor (node l kids) =
+      nat_le floor (node_at nodes n).length && are_long nodes (n + 1) (least l (node_at nodes n).length) kids
+
+  pub are_long : List Node → ℕ → ℕ → Roses Layout → Bool
+  are_long nodes n floor none = true
+  are_long nodes n floor (more t ts) = is_long nodes n floor t && are_long nodes (n + rose_size t) floor ts
+
+-- Each column has as many slots as the batch has rows, and all below it are long enough.
+abbrev pub columns_fit : List Node → ℕ → ℕ → Roses Layout → Bool
+columns_fit nodes n rows none = true
+columns_fit nodes n rows (more t ts) =
+    (node_at nodes n).length == rows && (is_long nodes n rows t && columns_fit nodes (n + rose_size t) rows ts)
+
+unfoldable pub lengths_fit : ℕ → Roses Layout → List Node → Bool
+lengths_fit rows ls nodes = columns_fit nodes 0 rows ls
+
+abbrev pub fitting : ℕ → Roses Layout → List Node → Reading (List Node)
+fitting rows ls nodes = if lengths_fit rows ls nodes then Ok nodes else Err (one fault.BadLength)
+
+-- Lengths are judged by place where the number of nodes is right.
+unfoldable pub nodes_of : Roses Layout → ℕ → Table → Reading (List Node)
+nodes_of ls rows t = structs_in fault.NodeCount (roses_size ls) t 1 >>= nodes_in (roses_size ls) >>= fitting rows ls
 
 unfoldable pub spans_in : ℕ → ℕ → List ℕ → Reading (List Span)
 spans_in n body bytes = each (span_of body bytes) 0 n
@@ -62,8 +92,8 @@ plain t = must fault.BadTable (slot_of t 3) >>= λ place. refused_if fault.Compr
 abbrev pub batch : ℕ → List Node → List Span → BatchHead
 batch rows nodes spans = record { rows = rows; nodes = nodes; spans = spans }
 
--- The header of a batch of a schema of this shape, with a body of this length. Nodes and buffers are judged where the
+-- The header of a batch whose columns lie so, with a body of this length. Nodes and buffers are judged where the
 -- batch's own length is in range.
-unfoldable pub batch_of : Shape → ℕ → Table → Reading BatchHead
-batch_of shape body t =
-    both second (plain t) (rows_of t >>= λ rows. both (batch rows) (nodes_of shape.nodes rows t) (spans_of shape.spans body t))
+unfoldable pub batch_of : Roses Layout → ℕ → Table → Reading BatchHead
+batch_of ls body t =
+    both second (plain t) (rows_of t >>= λ rows. both (batch rows) (nodes_of ls rows t) (spans_of (spans_below ls) body t))

@@ -1,7 +1,7 @@
 -- The header of a record batch as contracts see it.
 use Rattle.std.specs.Prelude.{ℕ, List}
-use Rattle.schema_meta.specs.declared.header.Node.{Node}
-use Rattle.schema_meta.specs.declared.header.Span.{Span}
+use Rattle.array_layout.specs.declared.array.Node.{Node}
+use Rattle.array_layout.specs.declared.array.Span.{Span}
 
 pub record BatchHead : Type 0 where
   pub rows : ℕ

@@ -1,8 +1,8 @@
 -- A stored field as contracts see it: a tree with an entry at each node, and the field's children below it.
 use Rattle.std.specs.Prelude.{ℕ, Bool, List, refl}
 use Rattle.std.specs.Coded.{Coded, code_by, coded×, coded_ℕ, coded_bool, coded_list}
-use Rattle.schema_meta.specs.declared.stored_type.StoredType.{StoredType}
-use Rattle.schema_meta.specs.contracts.stored_type.StoredType.{the_row}
+use Rattle.field_types.specs.declared.stored_type.StoredType.{StoredType}
+use Rattle.field_types.specs.contracts.stored_type.StoredType.{the_row}
 
 pub record Entry : Type 0 where
   pub name : List ℕ

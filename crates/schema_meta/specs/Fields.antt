@@ -6,11 +6,13 @@ use Rattle.flatbuf.specs.Layout.{Table, Vector, text_of, subtable_of, vector_of,
 use Rattle.values.specs.Reading.{Reading, ◌>>=◌, both, first, second, each, one}
 use Rattle.values.specs.Rose.{Rose, node, kids_of}
 use Rattle.values.specs.declared.faults.StreamFault.TheVariants as fault
-use Rattle.schema_meta.specs.declared.types.TypeKind.{TypeKind}
-use Rattle.schema_meta.specs.declared.stored_type.StoredType.{StoredType}
+use Rattle.field_types.specs.declared.kinds.TypeKind.{TypeKind}
+use Rattle.field_types.specs.declared.stored_type.StoredType.{StoredType}
 use Rattle.schema_meta.specs.Entry.{Entry}
 use Rattle.schema_meta.specs.Slots as slot
-use Rattle.schema_meta.specs.Types.{readable, checked, needs, bool_of, kind_of, type_of, may_have}
+use Rattle.field_types.specs.Reads.{readable, checked, needs, bool_of}
+use Rattle.field_types.specs.Kinds.{kind_of, may_have}
+use Rattle.field_types.specs.Types.{type_of}
 
 -- A name is UTF-8 of at most 4,096 bytes. An absent one is empty.
 abbrev pub checked_name : List ℕ → Reading (List ℕ)

@@ -1,15 +1,19 @@
--- The logical schema of a stored one: each column's name, and the type of its values whatever they are stored as.
-use Rattle.values.specs.Rose.{Rose, node}
-use Rattle.values.specs.Logical.{LogicalField}
-use Rattle.values.specs.declared.types.ColType.{ColType}
-use Rattle.values.specs.declared.types.ColType.TheVariants as col
-use Rattle.schema_meta.specs.declared.stored_type.StoredType.{StoredType}
-use Rattle.schema_meta.specs.declared.stored_type.StoredType.TheVariants as stored
+-- The logical schema of a stored one: offsets of any width are the same, a list's items are named `item`, and nothing is said of nulls.
+use Rattle.std.specs.Prelude.{ℕ, List}
+use Rattle.values.specs.Rose.{Rose, node, Roses, none, more}
+use Rattle.field_types.specs.Logical.{LogicalField, narrow, child_name}
+use Rattle.field_types.specs.declared.stored_type.StoredType.{StoredType}
 use Rattle.schema_meta.specs.Entry.{Entry}
 
-abbrev pub logical_type : StoredType → ColType
-logical_type stored.Int64 = col.Int64
-logical_type stored.Utf8 = col.Utf8
+-- a field by another name, and the fields below one of this type
+abbrev mutual
+  pub logical_as : List ℕ → Rose Entry → Rose LogicalField
+  logical_as name (node e kids) = node (record { name = name; col_type = narrow e.stored }) (logical_below e.stored kids)
 
-abbrev pub logical_field : Rose Entry → LogicalField
-logical_field (node e children) = record { name = e.name; col_type = logical_type e.stored }
+  pub logical_below : StoredType → Roses Entry → Roses LogicalField
+  logical_below s none = none
+  logical_below s (more (node e kids) fs) =
+      more (node (record { name = child_name s e.name; col_type = narrow e.stored }) (logical_below e.stored kids)) (logical_below s fs)
+
+abbrev pub logical_field : Rose Entry → Rose LogicalField
+logical_field (node e kids) = logical_as e.name (node e kids)

@@ -8,7 +8,7 @@ use Rattle.flatbuf.specs.Layout.{Table, root_of, number_of, signed_of, subtable_
 use Rattle.values.specs.declared.faults.StreamFault.TheVariants as fault
 use Rattle.values.specs.Reading.{Reading, ◌>>=◌, both, second, must, one, refused_if, mapped}
 use Rattle.values.specs.Rose.{Rose}
-use Rattle.values.specs.Logical.{LogicalField}
+use Rattle.field_types.specs.Logical.{LogicalField}
 use Rattle.schema_meta.specs.Entry.{Entry}
 use Rattle.schema_meta.specs.Schema.{schema_of}
 use Rattle.schema_meta.specs.declared.header.MessageKind.{MessageKind}
@@ -17,7 +17,7 @@ use Rattle.schema_meta.specs.declared.header.Header.TheVariants as header
 use Rattle.schema_meta.specs.Counts.{count_in}
 use Rattle.schema_meta.specs.BatchHead.{BatchHead}
 use Rattle.schema_meta.specs.Batch.{batch_of}
-use Rattle.schema_meta.specs.Shape.{shape_of}
+use Rattle.schema_meta.specs.FieldLayouts.{layouts_of}
 use Rattle.schema_meta.specs.Stage.{Known, Meta}
 use Rattle.schema_meta.specs.SameColumns.{is_declared}
 
@@ -49,7 +49,7 @@ abbrev pub brings_batch : ℕ → BatchHead → Meta
 brings_batch body b = record { header = header.Batch b; body = body; schema = None }
 
 -- the declared schema, where one was
-abbrev pub expected : Option (List LogicalField) → List (Rose Entry) → Reading (List (Rose Entry))
+abbrev pub expected : Option (List (Rose LogicalField)) → List (Rose Entry) → Reading (List (Rose Entry))
 expected None fields = Ok fields
 expected (Some columns) fields = if is_declared columns fields then Ok fields else Err (one fault.SchemaMismatch)
 
@@ -65,7 +65,7 @@ dictionary_of known t =
 
 unfoldable pub record_batch : Known → ℕ → Table → Reading BatchHead
 record_batch known body t =
-    must fault.NoSchema known.schema >>= λ fields. header_table t >>= batch_of (shape_of fields) body
+    must fault.NoSchema known.schema >>= λ fields. header_table t >>= batch_of (layouts_of fields) body
 
 -- what the header means, by its kind
 unfoldable pub header_of : Known → Table → MessageKind → ℕ → Reading Meta

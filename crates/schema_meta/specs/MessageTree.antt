@@ -1,5 +1,5 @@
 -- Arrow's Message table (Message.fbs) as a tree.
-use Rattle.std.specs.Prelude.{ℕ, List, [], ◌∷◌}
+use Rattle.std.specs.Prelude.{ℕ, [], ◌∷◌}
 use Rattle.flatbuf.specs.Tree.{number, table, Nodes, nodes_of}
 use Rattle.schema_meta.specs.declared.write.HeaderKind.{HeaderKind}
 use Rattle.schema_meta.specs.declared.write.HeaderKind.TheVariants.{Schema, RecordBatch}

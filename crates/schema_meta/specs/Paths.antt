@@ -4,10 +4,15 @@ use Rattle.flatbuf.specs.Layout.{Table, Vector, vector_of, entry_of}
 use Rattle.values.specs.Reading.{Stands}
 use Rattle.values.specs.declared.faults.StreamFault.{StreamFault}
 use Rattle.values.specs.declared.faults.StreamFault.TheVariants as fault
-use Rattle.schema_meta.specs.declared.types.TypeKind.{TypeKind}
+use Rattle.field_types.specs.declared.kinds.TypeKind.{TypeKind}
+use Rattle.values.specs.Rose.{Rose}
+use Rattle.schema_meta.specs.Entry.{Entry}
 use Rattle.schema_meta.specs.Slots as slot
-use Rattle.schema_meta.specs.Types.{readable, bool_of, kind_of, type_of, may_have}
-use Rattle.schema_meta.specs.Fields.{name_of, plain_of, count_in, child_at}
+use Rattle.field_types.specs.Reads.{readable, bool_of}
+use Rattle.field_types.specs.Kinds.{kind_of, may_have}
+use Rattle.field_types.specs.Types.{type_of}
+use Rattle.schema_meta.specs.FieldLayouts.{are_slim, layouts_of}
+use Rattle.schema_meta.specs.Fields.{name_of, plain_of, count_in, child_at, forest}
 use Rattle.schema_meta.specs.Totals.{total}
 use Rattle.schema_meta.specs.Schema.{endianness_of, schema_of}
 
@@ -50,11 +55,13 @@ pub record IsDeeper (depth : ℕ) (v : Vector) : Type 0 where
   pub long : length path ≡ depth
   pub some : 0 < end.count
 
--- The faults of the columns: those by paths, and too many fields by their counts or by their depth.
+-- The faults of the columns: those by paths, too many fields by their counts or by their depth, and a slot that is too large where all
+-- fields are known.
 pub data FaultOfColumns (v : Vector) (c : StreamFault) : Type 0 where
   by_path : StandsBelow 16 v c → FaultOfColumns v c
   by_depth : IsDeeper 16 v → fault.TooManyFields ≡ c → FaultOfColumns v c
   by_count : 1024 < total 16 v → fault.TooManyFields ≡ c → FaultOfColumns v c
+  by_slot : (fs : List (Rose Entry)) → forest 16 v ≡ Ok fs → are_slim (layouts_of fs) ≡ false → fault.BadType ≡ c → FaultOfColumns v c
 
 pub data FaultOfSchema (t : Table) (c : StreamFault) : Type 0 where
   in_endianness : Stands (endianness_of t) c → FaultOfSchema t c

@@ -2,17 +2,17 @@
 use Rattle.std.specs.Prelude.{ℕ, zero, suc, ◌+◌, List, [], ◌∷◌, map, get_or, Ok}
 use Rattle.values.specs.Datum.{Datum, null}
 use Rattle.values.specs.Reading.{Reading, both, cons, mapped}
-use Rattle.values.specs.Rose.{Rose}
+use Rattle.values.specs.Rose.{Rose, Roses, none, more}
+use Rattle.array_layout.specs.declared.array.Part.{Part}
+use Rattle.array_layout.specs.Cells.{column_of}
 use Rattle.schema_meta.specs.Entry.{Entry}
-use Rattle.schema_meta.specs.declared.parts.Part.{Part}
 use Rattle.schema_meta.specs.BatchHead.{BatchHead}
-use Rattle.schema_meta.specs.Parts.{parts_of}
-use Rattle.schema_meta.specs.Cells.{column_of}
+use Rattle.schema_meta.specs.Parts.{arrays_of}
 
 -- the columns, each judged by itself
-unfoldable pub columns_in : List ℕ → List Part → Reading (List (List Datum))
-columns_in body [] = Ok []
-columns_in body (p ∷ ps) = both cons (column_of body p) (columns_in body ps)
+unfoldable pub columns_in : List ℕ → Roses Part → Reading (List (List Datum))
+columns_in body none = Ok []
+columns_in body (more t ts) = both cons (column_of body t) (columns_in body ts)
 
 abbrev pub row_at : List (List Datum) → ℕ → List Datum
 row_at columns i = map (λ c. get_or c i null) columns
@@ -27,4 +27,4 @@ rows_in n columns = rows_from columns 0 n
 
 -- the rows of a batch of these fields, or the faults of the body stage that stand in its body
 unfoldable pub rows_of : List (Rose Entry) → BatchHead → List ℕ → Reading (List (List Datum))
-rows_of fields head body = mapped (rows_in head.rows) (columns_in body (parts_of fields head))
+rows_of fields head body = mapped (rows_in head.rows) (columns_in body (arrays_of fields head))

@@ -1,24 +1,21 @@
 -- Whether a stream's schema is the one that was declared for it: the same names and logical types, in order.
-use Rattle.std.specs.Prelude.{Bool, true, false, ◌&&◌, List, [], ◌∷◌, nat_eq}
+use Rattle.std.specs.Prelude.{Bool, true, false, ◌&&◌, List, map, nat_eq}
 use Rattle.std.specs.Cmp.Lexicographic.{pointwise}
-use Rattle.values.specs.Rose.{Rose}
-use Rattle.values.specs.Logical.{LogicalField}
-use Rattle.values.specs.declared.types.ColType.{ColType}
-use Rattle.values.specs.declared.types.ColType.TheVariants.{Int64, Utf8}
+use Rattle.values.specs.Rose.{Rose, node, Roses, none, more, kids_of}
+use Rattle.field_types.specs.Logical.{LogicalField}
+use Rattle.field_types.specs.contracts.stored_type.StoredTypePartialEq.TheImpl as types
 use Rattle.schema_meta.specs.Entry.{Entry}
 use Rattle.schema_meta.specs.Logical.{logical_field}
 
-abbrev pub is_type : ColType → ColType → Bool
-is_type Int64 Int64 = true
-is_type Utf8 Utf8 = true
-is_type Int64 Utf8 = false
-is_type Utf8 Int64 = false
+abbrev mutual
+  pub is_same : Rose LogicalField → Rose LogicalField → Bool
+  is_same (node a ks) (node b ls) = pointwise nat_eq a.name b.name && (types.ghosts.eq a.col_type b.col_type && are_same ks ls)
 
-abbrev pub is_column : LogicalField → LogicalField → Bool
-is_column a b = pointwise nat_eq a.name b.name && is_type a.col_type b.col_type
+  pub are_same : Roses LogicalField → Roses LogicalField → Bool
+  are_same none none = true
+  are_same none (more g gs) = false
+  are_same (more f fs) none = false
+  are_same (more f fs) (more g gs) = is_same f g && are_same fs gs
 
-unfoldable pub is_declared : List LogicalField → List (Rose Entry) → Bool
-is_declared [] [] = true
-is_declared [] (f ∷ fs) = false
-is_declared (c ∷ cs) [] = false
-is_declared (c ∷ cs) (f ∷ fs) = is_column c (logical_field f) && is_declared cs fs
+unfoldable pub is_declared : List (Rose LogicalField) → List (Rose Entry) → Bool
+is_declared columns fields = are_same (kids_of columns) (kids_of (map logical_field fields))

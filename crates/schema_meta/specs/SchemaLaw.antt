@@ -1,49 +1,72 @@
 -- What is written of a logical schema is read as that schema.
-use Rattle.std.specs.Prelude.{◌≡◌, true, List, map, All, Option, None, Some, Ok, ⊤}
+use Rattle.std.specs.Prelude.{◌≡◌, ◌≤◌, ℕ, suc, max, true, List, map, Option, None, Some, Ok, ⊤}
 use Rattle.std.specs.Str.{is_utf8}
-use Rattle.values.specs.Rose.{Rose, node, none}
-use Rattle.values.specs.Logical.{LogicalField}
-use Rattle.values.specs.declared.types.ColType.{ColType}
-use Rattle.values.specs.declared.types.ColType.TheVariants.{Int64, Utf8}
-use Rattle.schema_meta.specs.declared.stored_type.StoredType.{StoredType}
-use Rattle.schema_meta.specs.declared.stored_type.StoredType.TheVariants as stored
+use Rattle.values.specs.Rose.{Rose, node, Roses, none, more, kids_of}
+use Rattle.values.specs.Layouts.{AreLayouts}
+use Rattle.field_types.specs.Logical.{LogicalField, child_name, narrow, trees_of}
+use Rattle.field_types.specs.declared.stored_type.StoredType.{StoredType}
+use Rattle.field_types.specs.declared.stored_type.StoredType.TheVariants as stored
 use Rattle.schema_meta.specs.Entry.{Entry}
+use Rattle.schema_meta.specs.FieldLayouts.{are_slim}
 use Rattle.schema_meta.specs.Logical.{logical_field}
 use Rattle.schema_meta.specs.SchemaTree.{AreColumns, schema_metadata}
 use Rattle.schema_meta.specs.Stage.{Known}
 use Rattle.schema_meta.specs.Message.{meta_of, brings_schema}
 
--- what a column of this type is stored as
-abbrev pub stored_as : ColType → StoredType
-stored_as Int64 = stored.Int64
-stored_as Utf8 = stored.Utf8
+-- a column as it is read: it may hold nulls
+abbrev mutual
+  pub stored_field : Rose LogicalField → Rose Entry
+  stored_field (node f kids) = node (record { name = f.name; nullable = true; stored = f.col_type }) (stored_below kids)
 
--- a column as it is read: it may hold nulls, and has no children
-abbrev pub stored_field : LogicalField → Rose Entry
-stored_field f = node (record { name = f.name; nullable = true; stored = stored_as f.col_type }) none
+  pub stored_below : Roses LogicalField → Roses Entry
+  stored_below none = none
+  stored_below (more f fs) = more (stored_field f) (stored_below fs)
 
-abbrev pub stored_fields : List LogicalField → List (Rose Entry)
+abbrev pub stored_fields : List (Rose LogicalField) → List (Rose Entry)
 stored_fields fs = map stored_field fs
 
--- Names are texts.
-pub record AreNamed (fields : List LogicalField) : Type 0 where
-  pub texts : All (λ f. is_utf8 f.name ≡ true) fields
+-- how many levels of fields there are
+abbrev mutual
+  pub depth_of : Rose LogicalField → ℕ
+  depth_of (node f kids) = suc (depth_below kids)
+
+  pub depth_below : Roses LogicalField → ℕ
+  depth_below none = 0
+  depth_below (more f fs) = max (depth_of f) (depth_below fs)
+
+-- Below a field of this type: names are texts, the items of lists are named `item`, and offsets have 32 bits.
+abbrev mutual
+  pub IsLogical : StoredType → Rose LogicalField → Type 0
+  IsLogical parent (node f kids) =
+      (is_utf8 f.name ≡ true) × (child_name parent f.name ≡ f.name) × (narrow f.col_type ≡ f.col_type) × AreLogical f.col_type kids
+
+  pub AreLogical : StoredType → Roses LogicalField → Type 0
+  AreLogical parent none = Unit {0}
+  AreLogical parent (more f fs) = IsLogical parent f × AreLogical parent fs
+
+-- The columns of a logical schema, which a stream can have: each field has the children that its type wants, and they are
+-- neither too deep nor too wide.
+pub record AreNamed (fields : List (Rose LogicalField)) : Type 0 where
+  pub logical : AreLogical stored.Struct (kids_of fields)
+  pub layouts : AreLayouts (trees_of (kids_of fields))
+  pub shallow : depth_below (kids_of fields) ≤ 16
+  pub slim : are_slim (trees_of (kids_of fields)) ≡ true
 
 -- a stream before its schema, with the columns that are declared for it, if any are
-abbrev pub before : Option (List LogicalField) → Known
+abbrev pub before : Option (List (Rose LogicalField)) → Known
 before declared = record { declared = declared; schema = None }
 
 -- These columns, where any are declared, are the schema's.
-abbrev pub AreExpected : Option (List LogicalField) → List LogicalField → Type 0
+abbrev pub AreExpected : Option (List (Rose LogicalField)) → List (Rose LogicalField) → Type 0
 AreExpected None fs = ⊤
 AreExpected (Some columns) fs = columns ≡ fs
 
 -- The metadata of the Schema message says the schema, and no body.
 abbrev pub SchemaLaw : Type 0
 SchemaLaw =
-    (declared : Option (List LogicalField)) (fs : List LogicalField) → AreColumns fs → AreNamed fs → AreExpected declared fs
+    (declared : Option (List (Rose LogicalField))) (fs : List (Rose LogicalField)) → AreColumns fs → AreNamed fs → AreExpected declared fs
     → meta_of (before declared) (schema_metadata fs) ≡ Ok (brings_schema 0 (stored_fields fs))
 
 -- The columns as they are read are the logical ones.
 abbrev pub ColumnsLaw : Type 0
-ColumnsLaw = (fs : List LogicalField) → map logical_field (stored_fields fs) ≡ fs
+ColumnsLaw = (fs : List (Rose LogicalField)) → AreNamed fs → map logical_field (stored_fields fs) ≡ fs

@@ -15,21 +15,8 @@ name = 0
 abbrev pub nullable : ℕ
 nullable = 1
 
-abbrev pub type_kind : ℕ
-type_kind = 2
-
-abbrev pub type_table : ℕ
-type_table = 3
-
 abbrev pub dictionary : ℕ
 dictionary = 4
 
 abbrev pub children : ℕ
 children = 5
-
--- table Int
-abbrev pub bit_width : ℕ
-bit_width = 0
-
-abbrev pub is_signed : ℕ
-is_signed = 1

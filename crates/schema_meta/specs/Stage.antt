@@ -1,14 +1,14 @@
 -- What is known of a stream before a message, and what a message's metadata says.
 use Rattle.std.specs.Prelude.{ℕ, ◌+◌, List, Option, None}
 use Rattle.values.specs.Rose.{Rose}
-use Rattle.values.specs.Logical.{LogicalField}
+use Rattle.field_types.specs.Logical.{LogicalField}
 use Rattle.schema_meta.specs.Entry.{Entry}
 use Rattle.schema_meta.specs.declared.header.Header.{Header}
 use Rattle.schema_meta.specs.declared.header.Header.TheVariants as header
 
 -- the schema that was declared for the stream, if any, and the one that came, once it has
 pub record Known : Type 0 where
-  pub declared : Option (List LogicalField)
+  pub declared : Option (List (Rose LogicalField))
   pub schema : Option (List (Rose Entry))
 
 -- the header, the length of the body, and the schema that the message brings

@@ -1,11 +1,13 @@
 //! A field of the stored schema.
 ghost use Rattle.std.specs.Prelude.{◌≡◌, IfOk};
-ghost use Rattle.schema_meta.specs.Logical.{logical_field, logical_type};
+ghost use Rattle.values.specs.Rose.{kids_of};
+ghost use Rattle.field_types.specs.Logical.{child_name, narrow};
+ghost use Rattle.schema_meta.specs.Logical.{logical_as, logical_below, logical_field};
 
-use crate::stored_type::StoredType;
+use field_types::{Named, StoredType};
 use std::alloc::{AllocError, Global};
 use std::marker::Model;
-use values::{ColType, Named};
+use values::OffsetWidth;
 
 /// A field as it is stored: a column, or a part of one.
 ///
@@ -37,26 +39,64 @@ impl Model for Field {
 }
 
 impl Field {
-    /// The field's name with the type of its values.
+    /// The field with the type of its values, whatever they are stored as.
     pub fn logical(&self, alloc: Global) -> Result<Named, AllocError>
         ensures { IfOk result (λ n. n ≡ logical_field self.now) }
     {
-        let name = String::from_str(alloc, self.name.as_str())?;
-        Ok(Named {
-            name,
-            col_type: self.stored.logical(),
-        })
+        logical_as(alloc, self.name.as_str(), self)
     }
 }
 
-impl StoredType {
-    /// The type of the values that are stored.
-    pub fn logical(self) -> ColType
-        ensures { result ≡ logical_type self }
-    {
-        match self {
-            StoredType::Int64 => ColType::Int64,
-            StoredType::Utf8 => ColType::Utf8,
-        }
+/// The logical field of this name.
+#[cycle(logical)]
+#[tactic(auto, using(crate::proofs::Logicals::logicals))]
+fn logical_as(alloc: Global, name: &str, field: &Field) -> Result<Named, AllocError>
+    ensures { IfOk result (λ n. n ≡ logical_as name.now field.now) }
+{
+    Ok(Named {
+        name: String::from_str(alloc, name)?,
+        col_type: narrow(alloc, &field.stored)?,
+        children: logical_below(alloc, &field.stored, &field.children)?,
+    })
+}
+
+/// The logical fields below one of this type.
+#[cycle(logical)]
+#[tactic(auto, using(crate::proofs::Logicals::logicals))]
+fn logical_below(
+    alloc: Global,
+    parent: &StoredType,
+    fields: &[Field],
+) -> Result<Vec<Named>, AllocError>
+    ensures { IfOk result (λ ns. kids_of ns.items ≡ logical_below parent.now (kids_of fields.now)) }
+{
+    let mut named = Vec::with_capacity(alloc, fields.len())?;
+    for field in fields {
+        let name = child_name(parent, field.name.as_str());
+        named.push(logical_as(alloc, name, field)?)?;
+    }
+    Ok(named)
+}
+
+/// The name of a child of a field of this type.
+fn child_name<'a>(parent: &StoredType, name: &'a str) -> &'a str
+    ensures { result.now ≡ child_name parent.now name.now }
+{
+    match parent {
+        StoredType::List { .. } => "item",
+        _ => name,
+    }
+}
+
+/// The type with offsets of 32 bits.
+fn narrow(alloc: Global, stored: &StoredType) -> Result<StoredType, AllocError>
+    ensures { IfOk result (λ s. s ≡ narrow stored.now) }
+{
+    let offsets = OffsetWidth::Bits32;
+    match stored {
+        StoredType::Utf8 { .. } => Ok(StoredType::Utf8 { offsets }),
+        StoredType::Binary { .. } => Ok(StoredType::Binary { offsets }),
+        StoredType::List { .. } => Ok(StoredType::List { offsets }),
+        _ => stored.copy(alloc),
     }
 }

@@ -6,7 +6,8 @@ ghost use Rattle.schema_meta.specs.Fields.{checked_name, children_of, entry_by, 
 
 use crate::field::Field;
 use crate::slots::{FIELD_CHILDREN, FIELD_DICTIONARY, FIELD_NAME, FIELD_NULLABLE};
-use crate::types::{TypeKind, may_have, read_bool, read_kind, read_type, unreadable};
+use crate::unreadable::unreadable;
+use field_types::{TypeKind, may_have, read_bool, read_kind, read_type};
 use flatbuf::{TableRef, VectorRef};
 use std::alloc::Global;
 use values::StreamFault;
@@ -59,7 +60,7 @@ fn read_field(alloc: Global, table: &TableRef, depth: u8) -> Result<Field, Strea
     let name = read_name(table)?;
     let nullable = read_bool(table, FIELD_NULLABLE)?;
     let kind = read_kind(table)?;
-    let stored = read_type(kind, table)?;
+    let stored = read_type(alloc, kind, table)?;
     refuse_dictionary(table)?;
     let children = read_children(alloc, kind, table, depth)?;
     Ok(Field {

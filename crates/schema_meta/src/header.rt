@@ -1,5 +1,6 @@
 //! What the metadata of a message says beside a schema: Message.fbs, tables `Message` and `RecordBatch`.
 
+use array_layout::{Node, Span};
 use std::marker::Model;
 
 /// The kinds of headers that a stream is made of: Message.fbs, union `MessageHeader`.
@@ -8,30 +9,6 @@ pub enum MessageKind {
     Schema,
     Dictionary,
     Batch,
-}
-
-/// What a schema wants of each of its batches.
-#[derive(Clone, Copy, Debug, PartialEq, Eq)]
-pub struct Shape {
-    /// The number of nodes: one a field.
-    pub nodes: usize,
-    /// The number of buffers: those of each field's layout.
-    pub spans: usize,
-}
-
-/// The length of an array and the nulls that are claimed for it: struct `FieldNode`.
-#[derive(Clone, Copy, Debug, PartialEq, Eq)]
-pub struct Node {
-    pub length: usize,
-    /// As stored: whether it is true is judged on the body.
-    pub nulls: i64,
-}
-
-/// A buffer's place in the body, in bytes: struct `Buffer`.
-#[derive(Clone, Copy, Debug, PartialEq, Eq)]
-pub struct Span {
-    pub from: usize,
-    pub len: usize,
 }
 
 /// The header of a record batch.

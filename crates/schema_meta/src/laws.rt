@@ -1,4 +1,7 @@
 //! Laws of the definitions, each the contract of a function that does nothing.
+ghost use Rattle.schema_meta.specs.FieldsLaw.{ColumnsFit, FieldsLaw};
+ghost use Rattle.schema_meta.specs.LogicalLaw.{LogicalTrees, NarrowFits, NarrowHolds, NarrowHoldsEach, NarrowRowWeighs, NarrowWeighs};
+ghost use Rattle.schema_meta.specs.PlaceLaw.{PlaceLaw};
 ghost use Rattle.schema_meta.specs.Paths.{FoundByPaths, StandsByPaths};
 ghost use Rattle.schema_meta.specs.SchemaLaw.{ColumnsLaw, SchemaLaw};
 ghost use Rattle.schema_meta.specs.SignLaw.{SignedLength, SignedOffsets, SignedRange, SignedSize};
@@ -10,8 +13,16 @@ pub fn path_law()
     ensures stands { StandsByPaths }
 {}
 
+/// Fields that are read are at most 1,024 at all levels, with short names, types within their bounds, the children that each
+/// layout wants, and slots within the limit; and their logical fields can be written.
+pub fn fields_law()
+    ensures read { FieldsLaw }
+    ensures fit { ColumnsFit }
+{}
+
 /// The metadata of the Schema message that is written for a logical schema is read as the columns of
 /// that schema, with no fault and no body; and their logical fields are the schema's.
+#[tactic(auto, using(crate::proofs::SchemaRead::schema_laws))]
 pub fn schema_law()
     ensures schema { SchemaLaw }
     ensures columns { ColumnsLaw }
@@ -25,4 +36,22 @@ pub fn sign_law()
     ensures range { SignedRange }
     ensures offsets { SignedOffsets }
     ensures size { SignedSize }
+{}
+
+/// The layouts of logical columns are those of the stored ones with offsets of 32 bits, and such layouts hold what the others
+/// hold, with the same weights.
+#[tactic(auto, using(crate::proofs::Narrowing::narrowing))]
+pub fn logical_law()
+    ensures trees { LogicalTrees }
+    ensures fits { NarrowFits }
+    ensures cells { NarrowHolds }
+    ensures rows { NarrowHoldsEach }
+    ensures weights { NarrowWeighs }
+    ensures row_weights { NarrowRowWeighs }
+{}
+
+/// The arrays of a batch whose header fits its schema lie in the body, are long enough, have a slot a row, and lie as their
+/// fields want.
+pub fn place_law()
+    ensures { PlaceLaw }
 {}

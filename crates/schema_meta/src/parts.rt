@@ -1,35 +1,30 @@
 //! Where the arrays of a batch lie: Arrow Columnar Format, "RecordBatch message".
 
 ghost use Rattle.std.specs.Prelude.{◌≡◌, ◌+◌, ◌<◌, ◌≤◌, ◌^◌, IfOk, length};
-ghost use Rattle.schema_meta.specs.Parts.{node_at as node_numbered, parts_of, part_of, span_at as span_numbered};
-ghost use Rattle.schema_meta.specs.Shape.{spans_of_field};
+ghost use Rattle.values.specs.Rose.{kids_of, rose_size, roses_size};
+ghost use Rattle.array_layout.specs.Placing.{node_at, offsets_at, own_spans, part_at, placed, placed_all, span_at, spans_below, spans_in, values_at};
+ghost use Rattle.schema_meta.specs.FieldLayouts.{layout_of, layouts_of};
+ghost use Rattle.schema_meta.specs.Parts.{arrays_of};
 
 use crate::field::Field;
-use crate::header::{BatchHeader, Node, Span};
+use crate::header::BatchHeader;
 use crate::schema::StreamSchema;
-use crate::stored_type::StoredType;
+use array_layout::{Array, Node, Part, Span};
 use std::alloc::{AllocError, Global};
+use values::Layout;
 
-/// What a batch says of one array: its type, its node, and where its buffers lie in the body.
-#[derive(Clone, Copy, Debug, PartialEq, Eq)]
-pub struct Part {
-    pub stored: StoredType,
-    /// The number of slots.
-    pub len: usize,
-    /// How many of them are said to be null.
-    pub nulls: i64,
-    pub validity: Span,
-    /// Of an array of texts; elsewhere of length 0.
-    pub offsets: Span,
-    /// The numbers, or the bytes of the texts.
-    pub values: Span,
+/// The number of the next array's node, and that of its first buffer.
+#[derive(Drop)]
+struct Cursor {
+    node: usize,
+    span: usize,
 }
 
 const NOWHERE: Span = Span { from: 0, len: 0 };
 
 /// Buffer `index`, or one of length 0 where there is none.
 fn span_at(spans: &[Span], index: usize) -> Span
-    ensures { result ≡ span_numbered spans.now index }
+    ensures { result ≡ span_at spans.now index }
 {
     match spans.get(index) {
         Some(span) => *span,
@@ -39,7 +34,7 @@ fn span_at(spans: &[Span], index: usize) -> Span
 
 /// Node `index`, or one of length 0 where there is none.
 fn node_at(nodes: &[Node], index: usize) -> Node
-    ensures { result ≡ node_numbered nodes.now index }
+    ensures { result ≡ node_at nodes.now index }
 {
     match nodes.get(index) {
         Some(node) => *node,
@@ -50,54 +45,116 @@ fn node_at(nodes: &[Node], index: usize) -> Node
     }
 }
 
-/// How many buffers a column's array has.
-fn spans_of(field: &Field) -> usize
-    ensures exact { result ≡ spans_of_field field.now }
+/// How many buffers an array of this layout has of its own.
+pub(crate) fn own_spans(layout: Layout) -> usize
+    ensures exact { result ≡ own_spans layout }
     ensures bound { result ≤ 3 }
 {
-    match field.stored {
-        StoredType::Int64 => 2,
-        StoredType::Utf8 => 3,
+    match layout {
+        Layout::Text { .. } | Layout::Bytes { .. } => 3,
+        Layout::Struct => 1,
+        _ => 2,
     }
 }
 
-/// The array of a column with this node, whose buffers begin with buffer `first`.
-fn part_in(field: &Field, node: Node, spans: &[Span], first: usize) -> Part
-    requires { first + 2 < 2 ^ 64 }
-    ensures { result ≡ part_of field.now node spans.now first }
+/// The buffer with the offsets, when validity is buffer `first`.
+fn offsets_at(layout: Layout, spans: &[Span], first: usize) -> Span
+    requires { first + 3 < 2 ^ 64 }
+    ensures { result ≡ offsets_at layout spans.now first }
 {
-    let validity = span_at(spans, first);
-    let (offsets, values) = match field.stored {
-        StoredType::Int64 => (NOWHERE, span_at(spans, first + 1)),
-        StoredType::Utf8 => (span_at(spans, first + 1), span_at(spans, first + 2)),
-    };
+    match layout {
+        Layout::Text { .. } | Layout::Bytes { .. } | Layout::List { .. } => {
+            span_at(spans, first + 1)
+        }
+        _ => NOWHERE,
+    }
+}
+
+/// The buffer with the values, when validity is buffer `first`.
+fn values_at(layout: Layout, spans: &[Span], first: usize) -> Span
+    requires { first + 3 < 2 ^ 64 }
+    ensures { result ≡ values_at layout spans.now first }
+{
+    match layout {
+        Layout::Text { .. } | Layout::Bytes { .. } => span_at(spans, first + 2),
+        Layout::List { .. } | Layout::Struct => NOWHERE,
+        _ => span_at(spans, first + 1),
+    }
+}
+
+fn part_at(nodes: &[Node], spans: &[Span], at: &Cursor, layout: Layout) -> Part
+    requires { at.now.span + 3 < 2 ^ 64 }
+    ensures { result ≡ part_at nodes.now spans.now at.now.node at.now.span layout }
+{
+    let node = node_at(nodes, at.node);
     Part {
-        stored: field.stored,
+        layout,
         len: node.length,
         nulls: node.nulls,
-        validity,
-        offsets,
-        values,
+        validity: span_at(spans, at.span),
+        offsets: offsets_at(layout, spans, at.span),
+        values: values_at(layout, spans, at.span),
     }
 }
 
-/// The arrays of a batch, one a column: nodes and buffers stand in the order of the columns.
-#[tactic(auto, using(crate::proofs::Places::places))]
-pub fn place_parts(
+/// The array of a field; the cursor moves past it and all below it.
+#[cycle(place)]
+#[tactic(auto, using(crate::proofs::Places::placing))]
+fn place(
+    alloc: Global,
+    field: &Field,
+    nodes: &[Node],
+    spans: &[Span],
+    at: &mut Cursor,
+) -> Result<Array, AllocError>
+    requires nodes { at.old.node + rose_size (layout_of field.now) ≤ length nodes.now }
+    requires spans { at.old.span + spans_in (layout_of field.now) ≤ length spans.now }
+    ensures array { IfOk result (λ a. a ≡ placed nodes.now spans.now at.old.node at.old.span (layout_of field.now)) }
+    ensures node { IfOk result (λ _. at.new.node ≡ at.old.node + rose_size (layout_of field.now)) }
+    ensures span { IfOk result (λ _. at.new.span ≡ at.old.span + spans_in (layout_of field.now)) }
+{
+    let layout = field.stored.layout();
+    let part = part_at(nodes, spans, at, layout);
+    at.node += 1;
+    at.span += own_spans(layout);
+    let children = place_all(alloc, &field.children, nodes, spans, at)?;
+    Ok(Array { part, children })
+}
+
+/// The arrays of these fields, one after the other.
+#[cycle(place)]
+#[tactic(auto, using(crate::proofs::Places::placing))]
+fn place_all(
+    alloc: Global,
+    fields: &[Field],
+    nodes: &[Node],
+    spans: &[Span],
+    at: &mut Cursor,
+) -> Result<Vec<Array>, AllocError>
+    requires nodes { at.old.node + roses_size (layouts_of fields.now) ≤ length nodes.now }
+    requires spans { at.old.span + spans_below (layouts_of fields.now) ≤ length spans.now }
+    ensures arrays { IfOk result (λ a. kids_of a.items ≡ placed_all nodes.now spans.now at.old.node at.old.span (layouts_of fields.now)) }
+    ensures node { IfOk result (λ _. at.new.node ≡ at.old.node + roses_size (layouts_of fields.now)) }
+    ensures span { IfOk result (λ _. at.new.span ≡ at.old.span + spans_below (layouts_of fields.now)) }
+{
+    let mut arrays = Vec::with_capacity(alloc, fields.len())?;
+    for field in fields {
+        arrays.push(place(alloc, field, nodes, spans, at)?)?;
+    }
+    Ok(arrays)
+}
+
+/// The arrays of a batch, one a column.
+#[tactic(auto, unfolding(crate::specs::Parts::arrays_of))]
+pub fn place_arrays(
     alloc: Global,
     schema: &StreamSchema,
     header: &BatchHeader,
-) -> Result<Vec<Part>, AllocError>
-    requires { length schema.now.fields.items ≤ 1024 }
-    ensures { IfOk result (λ ps. ps.items ≡ parts_of schema.now.fields.items header.now) }
+) -> Result<Vec<Array>, AllocError>
+    requires nodes { roses_size (layouts_of schema.now.fields.items) ≤ length header.now.nodes }
+    requires spans { spans_below (layouts_of schema.now.fields.items) ≤ length header.now.spans }
+    ensures { IfOk result (λ a. kids_of a.items ≡ arrays_of schema.now.fields.items header.now) }
 {
-    let mut parts = Vec::with_capacity(alloc, schema.fields.len())?;
-    let mut first = 0;
-    for index in 0..schema.fields.len() {
-        let field = &schema.fields[index];
-        let node = node_at(&header.nodes, index);
-        parts.push(part_in(field, node, &header.spans, first))?;
-        first += spans_of(field);
-    }
-    Ok(parts)
+    let mut at = Cursor { node: 0, span: 0 };
+    place_all(alloc, &schema.fields, &header.nodes, &header.spans, &mut at)
 }

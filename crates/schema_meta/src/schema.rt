@@ -7,12 +7,14 @@ ghost use Rattle.schema_meta.specs.Schema.{columns_of, endianness_of, schema_of}
 use crate::count::count;
 use crate::field::Field;
 use crate::fields::read_fields;
+use crate::slot::slots_of;
 use crate::slots::{SCHEMA_ENDIANNESS, SCHEMA_FIELDS};
-use crate::types::unreadable;
+use crate::unreadable::unreadable;
+use field_types::Schema;
 use flatbuf::{TableRef, VectorRef};
 use std::alloc::{AllocError, Global};
+use values::StreamFault;
 use values::limits::{MAX_DEPTH, MAX_FIELDS};
-use values::{Schema, StreamFault};
 
 /// The columns of a stream, as they are stored.
 #[derive(Drop)]
@@ -53,13 +55,18 @@ pub fn read_schema(alloc: Global, schema: &TableRef) -> Result<StreamSchema, Str
     Ok(StreamSchema { fields })
 }
 
+#[tactic(auto, using(crate::proofs::ColumnsRead::columns_read))]
 fn read_columns(alloc: Global, columns: &VectorRef) -> Result<Vec<Field>, StreamFault>
     ensures { Answers (λ fs. fs.items) result (columns_of columns.now) }
 {
-    if count(columns, MAX_DEPTH, MAX_FIELDS as usize).is_none() {
+    let Some(_) = count(columns, MAX_DEPTH, MAX_FIELDS as usize) else {
         return Err(StreamFault::TooManyFields);
+    };
+    let fields = read_fields(alloc, columns, MAX_DEPTH)?;
+    match slots_of(&fields) {
+        None => Err(StreamFault::BadType),
+        Some(_) => Ok(fields),
     }
-    read_fields(alloc, columns, MAX_DEPTH)
 }
 
 fn check_endianness(schema: &TableRef) -> Result<(), StreamFault>

@@ -2,14 +2,15 @@
 
 ghost use Rattle.std.specs.Prelude.{ℕ, ◌≡◌, ◌≤◌, ◌^◌, ◌<◌, length, IfOk};
 ghost use Rattle.flatbuf.specs.Tree.{table};
+ghost use Rattle.values.specs.Rose.{kids_of};
 ghost use Rattle.flatbuf.specs.Written.{up, object_end, whole, IsWritable};
-ghost use Rattle.flatbuf.specs.Built.{slots};
+ghost use Rattle.flatbuf.specs.Built.{listed, slots};
 ghost use Rattle.schema_meta.specs.MessageTree.{header_number, message_slots};
-ghost use Rattle.schema_meta.specs.SchemaTree.{type_number, type_slots, field_slots, schema_slots, schema_metadata, AreColumns};
+ghost use Rattle.schema_meta.specs.SchemaTree.{field_slots, field_tables as tables_of, schema_slots, schema_metadata, AreColumns};
 
+use field_types::{Named, Schema, type_number, type_table};
 use flatbuf::{Builder, Tables};
 use std::alloc::{AllocError, Global};
-use values::{ColType, Named, Schema};
 
 /// The kinds of messages that are written.
 #[derive(Clone, Copy, Debug, PartialEq, Eq)]
@@ -46,58 +47,46 @@ pub fn write_message(
     message.finish(alloc)
 }
 
-fn number_of_type(col_type: ColType) -> u8
-    ensures { result ≡ type_number col_type }
-{
-    match col_type {
-        ColType::Int64 => 2,
-        ColType::Utf8 => 5,
-    }
-}
-
-fn type_table(alloc: Global, col_type: ColType) -> Result<Builder, AllocError>
-    ensures { IfOk result (λ table. slots table ≡ type_slots col_type) }
-{
-    let mut table = Builder::new(alloc);
-    match col_type {
-        ColType::Int64 => {
-            table.u32(64)?;
-            table.u8(1)?;
-        }
-        ColType::Utf8 => {}
-    }
-    Ok(table)
-}
-
+/// The table of a field: Schema.fbs, `Field`, nullable, without a dictionary.
+#[cycle(tables)]
+#[tactic(auto, using(crate::proofs::FieldTables::field_tables_made))]
 fn field_table(alloc: Global, field: &Named) -> Result<Builder, AllocError>
     ensures { IfOk result (λ table. slots table ≡ field_slots field.now) }
 {
     let mut table = Builder::new(alloc);
     table.text(field.name.as_bytes())?;
     table.u8(1)?;
-    table.u8(number_of_type(field.col_type))?;
-    table.table(type_table(alloc, field.col_type)?)?;
+    table.u8(type_number(&field.col_type))?;
+    table.table(type_table(alloc, &field.col_type)?)?;
     table.absent()?;
-    table.tables(Tables::new(alloc))?;
+    table.tables(field_tables(alloc, &field.children)?)?;
     Ok(table)
 }
 
-#[tactic(auto, using(crate::proofs::SchemaFits::fields))]
-fn schema_table(alloc: Global, schema: &Schema) -> Result<Builder, AllocError>
-    ensures { IfOk result (λ table. slots table ≡ schema_slots schema.now.fields.items) }
+/// The tables of fields, one after another.
+#[cycle(tables)]
+#[tactic(auto, using(crate::proofs::FieldTables::field_tables_made))]
+fn field_tables(alloc: Global, fields: &[Named]) -> Result<Tables, AllocError>
+    ensures { IfOk result (λ tables. listed tables ≡ tables_of (kids_of fields.now)) }
 {
-    let mut fields = Tables::new(alloc);
-    for field in &schema.fields {
-        fields.push(field_table(alloc, field)?)?;
+    let mut tables = Tables::new(alloc);
+    for field in fields {
+        tables.push(field_table(alloc, field)?)?;
     }
+    Ok(tables)
+}
+
+fn schema_table(alloc: Global, schema: &Schema) -> Result<Builder, AllocError>
+    ensures { IfOk result (λ table. slots table ≡ schema_slots (kids_of schema.now.fields.items)) }
+{
     let mut table = Builder::new(alloc);
     table.u16(0)?;
-    table.tables(fields)?;
+    table.tables(field_tables(alloc, &schema.fields)?)?;
     Ok(table)
 }
 
 /// The metadata of the Schema message of this schema, each field nullable.
-#[tactic(auto, using(crate::proofs::SchemaFits::fields), unfolding(crate::specs::SchemaTree::schema_metadata))]
+#[tactic(auto, unfolding(crate::specs::SchemaTree::schema_metadata))]
 pub fn write_schema(alloc: Global, schema: &Schema) -> Result<Vec<u8>, AllocError>
     requires { AreColumns schema.now.fields.items }
     ensures bytes { IfOk result (λ bytes. bytes.items ≡ schema_metadata schema.now.fields.items) }

@@ -1,4 +1,4 @@
-use Rattle.std.proofs.Common.{◌≡◌, ℕ, ◌<◌, ◌^◌, List, length, arith, sym, subst}
+use Rattle.std.proofs.Common.{◌≡◌, ℕ, ◌-◌, ◌<◌, ◌^◌, length, arith, sym, subst}
 use Rattle.std.specs.Prelude.{Vec}
 use Rattle.std.specs.declared.alloc.Global.{Global}
 use Rattle.std.proofs.lemmas.Result.{IfOk-weaker}
@@ -17,7 +17,7 @@ write_message-requires c =
 
 pub returns-clause-size : goal.returns-clause-size
 returns-clause-size c =
-    let E : Nodes → Type 0 = λ s. object_end 4 (table (message_slots Schema s 0)) < 2 ^ 23 in
+    let E : Nodes → Type 0 = λ s. object_end 4 (table (message_slots Schema s 0)) < 2 ^ 24 - 8 in
     let end = subst E (sym c.in_ok-schema_table.ensures) (schema-end c.args.schema.now.fields.items c.requires) in
     let at : ℕ = object_end 4 (table (message_slots Schema (slots c.in_ok-schema_table.field-0) 0)) in
     let fill = up8-le at in

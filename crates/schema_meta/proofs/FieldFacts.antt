@@ -1,0 +1,225 @@
+-- What is known of fields that were read: how many they are, and that each has the children that its layout wants.
+use Rattle.std.proofs.Common.{◌≡◌, ℕ, zero, suc, ◌+◌, ◌≤◌, Bool, true, false, List, [], ◌∷◌, length, Option, None, Some, Ok, Err, refl, ap, sym, subst, ◌∙◌, arith}
+use Rattle.std.specs.Prelude.{nat_le, ◌==◌, ◌&&◌, if◌then◌else◌}
+use Rattle.std.proofs.lemmas.Bool.{and_parts, leb-true}
+use Rattle.std.proofs.lemmas.Bool.Decides.{nat_tests}
+use Rattle.flatbuf.specs.Layout.{Table, Vector, text_of, vector_of, entry_of}
+use Rattle.values.specs.Reading.{Reading, ◌>>=◌, both, first, second, each, one, cons}
+use Rattle.values.specs.declared.faults.StreamFault.{StreamFault}
+use Rattle.values.specs.declared.faults.StreamFault.TheVariants as fault
+use Rattle.values.specs.Rose.{Rose, node, kids_of, rose_size, roses_size}
+use Rattle.values.specs.Layouts.{IsNode, IsLayout, AreLayouts}
+use Rattle.values.proofs.Readings.{both_Ok, bind_Ok, must_Ok}
+use Rattle.schema_meta.specs.Entry.{Entry}
+use Rattle.field_types.specs.Stored.{kind_of_type, layout_of as layout_by}
+use Rattle.field_types.specs.StoredLaws.{kids_count}
+use Rattle.field_types.proofs.TypeFacts.{read-is-type}
+use Rattle.field_types.proofs.Children.{children-fit}
+use Rattle.schema_meta.specs.FieldLayouts.{layout_of, layouts_of, are_slim}
+use Rattle.schema_meta.specs.FieldsLaw.{AreFields, FieldsLaw, IsGoodField, AreGoodFields}
+use Rattle.std.specs.Str.{is_utf8}
+use Rattle.std.proofs.lemmas.Str.{is_utf8-from_IsUtf8, IsUtf8-from_ascii}
+use Rattle.schema_meta.specs.Slots as slot
+use Rattle.field_types.specs.declared.kinds.TypeKind.{TypeKind}
+use Rattle.field_types.specs.declared.stored_type.StoredType.{StoredType}
+use Rattle.field_types.specs.Reads.{readable, needs, checked, bool_of}
+use Rattle.field_types.specs.Kinds.{kind_of, may_have}
+use Rattle.field_types.specs.Types.{type_of}
+use Rattle.schema_meta.specs.Fields.{Label, label, label_of, name_in, name_of, Content, content, content_of, field, field_of, children_of, count_in, fields_in, entry_by, child_at, forest, plain_of}
+use Rattle.schema_meta.specs.Totals.{sum_from, total, total_at, total_in}
+use Rattle.schema_meta.specs.Schema.{columns_of, endianness_of, schema_of, slim}
+
+-- the children that a kind may have are those that the layouts of its types want
+
+kids_of_all : (kids : List (Rose Entry)) → kids_count (layouts_of kids) ≡ length kids
+kids_of_all [] = refl
+kids_of_all (node e below ∷ kids) = ap suc (kids_of_all kids)
+
+fit_node :
+    (k : TypeKind) (t : Table) (s : StoredType) (kids : List (Rose Entry)) → type_of k t ≡ Ok s → may_have k (length kids) ≡ true
+    → IsNode (layout_by s) (layouts_of kids)
+fit_node k t s kids read may =
+    let is = read-is-type k t s read in
+    let P : TypeKind → Type 0 = λ j. may_have j (length kids) ≡ true in
+    let Q : ℕ → Type 0 = λ n. may_have (kind_of_type s) n ≡ true in
+    (children-fit s is.0 (layouts_of kids)).1 (subst Q (sym (kids_of_all kids)) (subst P (sym is.1) may))
+
+-- what is known of the fields of a vector that `below` reads
+pub record Known (count : Vector → ℕ) (v : Vector) (fs : List (Rose Entry)) : Type 0 where
+  pub long : length fs ≡ v.count
+  pub size : roses_size (kids_of fs) ≡ count v
+  pub layouts : AreLayouts (layouts_of fs)
+  pub good : AreGoodFields (kids_of fs)
+
+is_zero : (n : ℕ) → (n == 0) ≡ true → n ≡ 0
+is_zero n e = grind (arith, nat_tests, e)
+
+needed : (c : StreamFault) (b : Bool) (u : Unit {0}) → needs c b ≡ Ok u → b ≡ true
+needed c true u e = refl
+needed c false u e = absurd (cc)
+
+-- the children of a field
+pub record Below (count : Vector → ℕ) (k : TypeKind) (o : Option Vector) (fs : List (Rose Entry)) : Type 0 where
+  pub may : may_have k (length fs) ≡ true
+  pub size : roses_size (kids_of fs) ≡ total_in count o
+  pub layouts : AreLayouts (layouts_of fs)
+  pub good : AreGoodFields (kids_of fs)
+
+below_in :
+    (below : Vector → Reading (List (Rose Entry))) (count : Vector → ℕ) (k : TypeKind) (o : Option Vector) (fs : List (Rose Entry))
+    → ((v : Vector) (gs : List (Rose Entry)) → below v ≡ Ok gs → Known count v gs) → may_have k (count_in o) ≡ true → fields_in below o ≡ Ok fs
+    → Below count k o fs
+below_in below count k None fs known may e =
+    let P : List (Rose Entry) → Type 0 = λ gs. Below count k None gs in
+    let is : [] ≡ fs = cc in
+    subst P is (record { may = may; size = refl; layouts = tt; good = tt })
+below_in below count k (Some v) fs known may e =
+    let here = known v fs e in
+    let P : ℕ → Type 0 = λ n. may_have k n ≡ true in
+    record { may = subst P (sym here.long) may; size = here.size; layouts = here.layouts; good = here.good }
+
+children_known :
+    (below : Vector → Reading (List (Rose Entry))) (count : Vector → ℕ) (k : TypeKind) (t : Table) (fs : List (Rose Entry))
+    → ((v : Vector) (gs : List (Rose Entry)) → below v ≡ Ok gs → Known count v gs) → children_of below k t ≡ Ok fs
+    → (o : Option Vector) × (vector_of t slot.children ≡ Some o) × Below count k o fs
+unfolding children_of
+children_known below count k t fs known e =
+    let read = bind_Ok (readable (vector_of t slot.children)) (λ v. both second (needs fault.BadType (may_have k (count_in v))) (fields_in below v)) fs e in
+    let parts = both_Ok second (needs fault.BadType (may_have k (count_in read.0))) (fields_in below read.0) fs read.2 in
+    let P : List (Rose Entry) → Type 0 = λ gs. Below count k read.0 gs in (
+      read.0,
+      must_Ok fault.BadTable (vector_of t slot.children) read.0 read.1,
+      subst P parts.4 (below_in below count k read.0 parts.1 known (needed _ _ parts.0 parts.2) parts.3),
+    )
+
+-- a field: how many there are with those below it, and that its layout is whole
+pub record IsKnown (count : Vector → ℕ) (v : Vector) (i : ℕ) (f : Rose Entry) : Type 0 where
+  pub size : rose_size f ≡ 1 + total_at count v i
+  pub layout : IsLayout (layout_of f)
+  pub good : IsGoodField f
+
+passed : (c : StreamFault) (b : Bool) (x y : List ℕ) → checked c b x ≡ Ok y → (b ≡ true) × (x ≡ y)
+passed c true x y e = (refl, cc)
+passed c false x y e = absurd (cc)
+
+-- names are short texts
+IsName : List ℕ → Type 0
+IsName n = (length n ≤ 4096) × (is_utf8 n ≡ true)
+
+name_in_good : (o : Option (List ℕ)) (n : List ℕ) → name_in o ≡ Ok n → IsName n
+unfolding IsName
+name_in_good None n e =
+    let none : [] ≡ n = cc in subst IsName none (omega arith, is_utf8-from_IsUtf8 [] (IsUtf8-from_ascii [] (λ k. omega arith)))
+name_in_good (Some bytes) n e =
+    let p = passed fault.BadName (nat_le (length bytes) 4096 && is_utf8 bytes) bytes n e in
+    let tests = and_parts (nat_le (length bytes) 4096) (is_utf8 bytes) p.0 in
+    subst IsName p.1 (leb-true (length bytes) 4096 tests.0, tests.1)
+
+label_good : (t : Table) (l : Label) → label_of t ≡ Ok l → (length l.name ≤ 4096) × (is_utf8 l.name ≡ true)
+unfolding label_of name_of IsName
+label_good t l e =
+    let p = both_Ok label (name_of t) (bool_of t slot.nullable) l e in
+    let q = bind_Ok (readable (text_of t slot.name)) name_in p.0 p.2 in
+    let P : Label → Type 0 = λ x. IsName x.name in
+    subst P p.4 (name_in_good q.0 p.0 q.2)
+
+child_is :
+    (v : Vector) (i : ℕ) (t : Table) (k : TypeKind) (o : Option Vector) → entry_of v i ≡ Some t → kind_of t ≡ Ok k
+    → vector_of t slot.children ≡ Some o → child_at v i ≡ o
+unfolding child_at
+child_is v i t k o here known kids = rw (here, known, kids) refl
+
+sum_is : (count : Vector → ℕ) (v : Vector) (i : ℕ) (o : Option Vector) → child_at v i ≡ o → total_at count v i ≡ total_in count o
+unfolding total_at
+sum_is count v i o is = ap (total_in count) is
+
+entry_known :
+    (below : Vector → Reading (List (Rose Entry))) (count : Vector → ℕ) (v : Vector) (i : ℕ) (f : Rose Entry)
+    → ((w : Vector) (gs : List (Rose Entry)) → below w ≡ Ok gs → Known count w gs) → entry_by below v i ≡ Ok f → IsKnown count v i f
+unfolding entry_by field_of content_of
+entry_known below count v i f known e =
+    let entry = bind_Ok (readable (entry_of v i)) (field_of below) f e in
+    let t : Table = entry.0 in
+    let here : entry_of v i ≡ Some t = must_Ok fault.BadTable (entry_of v i) t entry.1 in
+    let parts = both_Ok field (label_of t) (content_of below t) f entry.2 in
+    let kinds = bind_Ok (kind_of t) (λ k. both content (both first (type_of k t) (plain_of t)) (children_of below k t)) parts.1 parts.3 in
+    let k : TypeKind = kinds.0 in
+    let typed = both_Ok content (both first (type_of k t) (plain_of t)) (children_of below k t) parts.1 kinds.2 in
+    let name = label_good t parts.0 parts.2 in
+    let label_type = both_Ok first (type_of k t) (plain_of t) typed.0 typed.2 in
+    let typed_type : type_of k t ≡ Ok typed.0 = label_type.2 ∙ ap (λ x. Ok x) label_type.4 in
+    let kids = children_known below count k t typed.1 known typed.3 in
+    let sum = sum_is count v i kids.0 (child_is v i t k kids.0 here kinds.1 kids.1) in
+    let P : Rose Entry → Type 0 = λ g. IsKnown count v i g in
+    let Q : Content → Type 0 = λ c. IsKnown count v i (field parts.0 c) in
+    subst P parts.4 (subst Q typed.4 (record {
+      size = omega (arith, kids.2.size, sum);
+      layout = (fit_node k t typed.0 typed.1 typed_type kids.2.may, kids.2.layouts);
+      good = (name.0, name.1, (read-is-type k t typed.0 typed_type).0, kids.2.good);
+    }))
+
+each_known :
+    (below : Vector → Reading (List (Rose Entry))) (count : Vector → ℕ) (v : Vector) (i n : ℕ) (fs : List (Rose Entry))
+    → ((w : Vector) (gs : List (Rose Entry)) → below w ≡ Ok gs → Known count w gs) → each (entry_by below v) i n ≡ Ok fs
+    → (length fs ≡ n) × (roses_size (kids_of fs) ≡ n + sum_from (total_at count v) i n) × AreLayouts (layouts_of fs) × AreGoodFields (kids_of fs)
+unfolding each sum_from
+each_known below count v i zero fs known e =
+    let none : [] ≡ fs = cc in
+    let P : List (Rose Entry) → Type 0 = λ gs. (length gs ≡ 0) × (roses_size (kids_of gs) ≡ 0) × AreLayouts (layouts_of gs) × AreGoodFields (kids_of gs) in
+    subst P none (refl, refl, tt, tt)
+each_known below count v i (suc n) fs known e =
+    let parts = both_Ok cons (entry_by below v i) (each (entry_by below v) (i + 1) n) fs e in
+    let here = entry_known below count v i parts.0 known parts.2 in
+    let rest = each_known below count v (i + 1) n parts.1 known parts.3 in
+    let P : List (Rose Entry) → Type 0 =
+    λ gs. (length gs ≡ suc n) × (roses_size (kids_of gs) ≡ suc n + (total_at count v i + sum_from (total_at count v) (i + 1) n)) × AreLayouts (layouts_of gs) × AreGoodFields (kids_of gs) in
+    subst P parts.4 (ap suc rest.0, omega (arith, here.size, rest.1), (here.layout, rest.2), (here.good, rest.3))
+
+forest_known : (depth : ℕ) (v : Vector) (fs : List (Rose Entry)) → forest depth v ≡ Ok fs → Known (total depth) v fs
+unfolding forest total
+forest_known zero v fs e = by_count (v.count == 0) refl e where
+  by_count : (b : Bool) → (v.count == 0) ≡ b → (if b then Ok [] else Err (one fault.TooManyFields)) ≡ Ok fs → Known (total zero) v fs
+  by_count true empty e =
+      let is : [] ≡ fs = cc in
+      let P : List (Rose Entry) → Type 0 = λ gs. Known (total zero) v gs in
+      subst P is (record { long = sym (is_zero v.count empty); size = refl; layouts = tt; good = tt })
+  by_count false some e = absurd (cc)
+forest_known (suc depth) v fs e =
+    let all = each_known (forest depth) (total depth) v 0 v.count fs (forest_known depth) e in
+    record { long = all.0; size = all.1; layouts = all.2; good = all.3 }
+
+pub few_read : (v : Vector) (fs : List (Rose Entry)) (left room : ℕ) → forest 16 v ≡ Ok fs → left + total 16 v ≡ room → roses_size (kids_of fs) ≤ room
+few_read v fs left room read count = omega (arith, (forest_known 16 v fs read).size, count)
+
+slim_is : (fs gs : List (Rose Entry)) → slim fs ≡ Ok gs → (are_slim (layouts_of fs) ≡ true) × (fs ≡ gs)
+slim_is fs gs e = by_test (are_slim (layouts_of fs)) refl e where
+  by_test :
+      (b : Bool) → are_slim (layouts_of fs) ≡ b → checked fault.BadType b fs ≡ Ok gs → (are_slim (layouts_of fs) ≡ true) × (fs ≡ gs)
+  by_test true is e = (is, cc)
+  by_test false is e = absurd (cc)
+
+columns_known : (v : Vector) (fs : List (Rose Entry)) → columns_of v ≡ Ok fs → AreFields fs
+unfolding columns_of
+columns_known v fs e =
+    let parts = both_Ok second (needs fault.TooManyFields (nat_le (total 16 v) 1024)) (forest 16 v >>= slim) fs e in
+    let few : total 16 v ≤ 1024 = leb-true (total 16 v) 1024 (needed fault.TooManyFields (nat_le (total 16 v) 1024) parts.0 parts.2) in
+    let read = bind_Ok (forest 16 v) slim parts.1 parts.3 in
+    let known = forest_known 16 v read.0 read.1 in
+    let narrow = slim_is read.0 parts.1 read.2 in
+    let P : List (Rose Entry) → Type 0 = λ gs. AreFields gs in
+    subst P (narrow.1 ∙ parts.4) (record { few = omega (arith, known.size, few); layouts = known.layouts; slim = narrow.0; good = known.good })
+
+in_known : (o : Option Vector) (fs : List (Rose Entry)) → fields_in columns_of o ≡ Ok fs → AreFields fs
+in_known None fs e =
+    let none : [] ≡ fs = cc in
+    let P : List (Rose Entry) → Type 0 = λ gs. AreFields gs in
+    subst P none (record { few = omega arith; layouts = tt; slim = refl; good = tt })
+in_known (Some v) fs e = columns_known v fs e
+
+pub fields_known : FieldsLaw
+unfolding schema_of
+fields_known t fs e =
+    let parts = both_Ok second (endianness_of t) (readable (vector_of t slot.fields) >>= fields_in columns_of) fs e in
+    let read = bind_Ok (readable (vector_of t slot.fields)) (fields_in columns_of) parts.1 parts.3 in
+    let P : List (Rose Entry) → Type 0 = λ gs. AreFields gs in
+    subst P parts.4 (in_known read.0 parts.1 read.2)

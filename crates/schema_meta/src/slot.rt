@@ -1,0 +1,64 @@
+//! The slots of fields: what a null of a type weighs.
+
+ghost use Rattle.std.specs.Prelude.{◌≡◌, ◌+◌, ◌*◌, ◌^◌, ◌<◌, ◌≤◌, MatchOption, IfSome, true, false};
+ghost use Rattle.values.specs.Rose.{kids_of, node, none, rose_size, roses_size};
+ghost use Rattle.values.specs.Layouts.{slot, slots};
+ghost use Rattle.schema_meta.specs.FieldLayouts.{are_slim, is_slim, layout_of, layouts_of};
+
+use crate::field::Field;
+use values::limits::MAX_SLOT;
+use values::{IntWidth, Layout};
+
+/// The slot of a layout, but for the slots of a struct's children.
+fn own_slot(layout: Layout) -> u64
+    ensures { result ≡ slot (node layout none) }
+{
+    match layout {
+        Layout::Bits => 2,
+        Layout::Number { width, .. } => match width {
+            IntWidth::Bits8 => 2,
+            IntWidth::Bits16 => 3,
+            IntWidth::Bits32 => 5,
+            IntWidth::Bits64 => 9,
+        },
+        Layout::Decimal { .. } => 17,
+        Layout::Fixed { width } => 1 + u64::from(width),
+        Layout::Text { .. } | Layout::Bytes { .. } | Layout::List { .. } => 5,
+        Layout::Struct => 1,
+    }
+}
+
+/// The slot of a field; `None` where it or that of a field below it is too large.
+#[cycle(slots)]
+#[tactic(auto, using(crate::proofs::Slims::slims))]
+fn slot_of(field: &Field) -> Option<u64>
+    requires { rose_size field.now ≤ 1024 }
+    ensures value { MatchOption result (is_slim (layout_of field.now) ≡ false) (λ n. (is_slim (layout_of field.now) ≡ true) × (n ≡ slot (layout_of field.now))) }
+    ensures bound { IfSome result (λ n. n ≤ 2 ^ 20) }
+{
+    let below = slots_of(&field.children)?;
+    let layout = field.stored.layout();
+    let slot = match layout {
+        Layout::Struct => 1 + below,
+        _ => own_slot(layout),
+    };
+    if slot > MAX_SLOT {
+        return None;
+    }
+    Some(slot)
+}
+
+/// The slots of these fields together; `None` where one of them, or of those below them, is too large.
+#[cycle(slots)]
+#[tactic(auto, using(crate::proofs::Slims::slims))]
+pub(crate) fn slots_of(fields: &[Field]) -> Option<u64>
+    requires { roses_size (kids_of fields.now) ≤ 1024 }
+    ensures value { MatchOption result (are_slim (layouts_of fields.now) ≡ false) (λ n. (are_slim (layouts_of fields.now) ≡ true) × (n ≡ slots (layouts_of fields.now))) }
+    ensures bound { IfSome result (λ n. n ≤ 2 ^ 20 * roses_size (kids_of fields.now)) }
+{
+    let mut slots = 0;
+    for field in fields {
+        slots += slot_of(field)?;
+    }
+    Some(slots)
+}
