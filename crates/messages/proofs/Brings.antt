@@ -1,5 +1,5 @@
 -- What a message brings: a schema comes once, out of a Schema table, and no other message has one.
-use Rattle.std.proofs.Common.{◌≡◌, inl, inr, ℕ, ◌+◌, Bool, true, false, Option, None, Some, Ok, Err, List, length, drop, refl, ap, subst, ◌∙◌, ◌≤◌, arith}
+use Rattle.std.proofs.Common.{◌≡◌, inl, inr, ℕ, ◌+◌, Bool, true, false, Option, None, Some, Ok, Err, List, length, drop, refl, ap, subst, ◌∙◌}
 use Rattle.std.specs.Prelude.{map, slice_range, is_some, if◌then◌else◌}
 use Rattle.byteorder.specs.Endian.{little_number}
 use Rattle.flatbuf.specs.Layout.{Table}
@@ -19,18 +19,13 @@ use Rattle.messages.proofs.Stages.{staged_from}
 use Rattle.schema_meta.specs.Logical.{logical_field}
 use Rattle.schema_meta.specs.SchemaTree.{AreColumns}
 use Rattle.messages.specs.MessageLaw.{Brings, MessageLaw}
-use Rattle.messages.proofs.Facts.{no_dictionary, expected_same, meta_header, schema_few}
-use Rattle.messages.proofs.ShortNames.{schema-short}
+use Rattle.messages.proofs.Facts.{no_dictionary, expected_same, meta_header}
+use Rattle.schema_meta.proofs.FieldFacts.{fields_known}
+use Rattle.schema_meta.proofs.LogicalFits.{columns_fit}
 use Rattle.messages.proofs.Messages.{first_within}
-use Rattle.std.proofs.lemmas.List.{length-map}
-use Rattle.std.proofs.lemmas.List.Elements.{All-map}
 
 columns-sound : (t : Table) (fs : List (Rose Entry)) → schema_of t ≡ Ok fs → AreColumns (map logical_field fs)
-columns-sound t fs e = record {
-  few = let same : length (map logical_field fs) ≡ length fs = length-map fs logical_field in
-      omega (arith, same, schema_few t fs e);
-  short_names = All-map (λ f. length f.name ≤ 4096) logical_field fs (schema-short t fs e);
-}
+columns-sound t fs e = columns_fit fs (fields_known t fs e)
 
 unknown_by : (o : Option (List (Rose Entry))) (b : Bool) (u : Unit {0}) → is_some o ≡ b → refused_if fault.SecondSchema b ≡ Ok u → b ≡ false
 unknown_by o true u s e = absurd (cc)
@@ -56,7 +51,7 @@ header_brings known t kind.Schema body m e =
     let q = bind_Ok (header_table t) (new_schema known) p.0 p.1 in
     let r = new_from known q.0 p.0 q.2 in
     let made : Brings known.schema (Some p.0) header.Schema =
-    record { fields = p.0; sound = columns-sound q.0 p.0 r.1; new = r.0; is = refl } in
+    record { fields = p.0; read = fields_known q.0 p.0 r.1; sound = columns-sound q.0 p.0 r.1; new = r.0; is = refl } in
     subst (λ (x : Meta). Brings known.schema x.schema x.header) p.2 made
 header_brings known t kind.Batch body m e =
     let p = mapped_Ok (brings_batch body) (record_batch known body t) m e in

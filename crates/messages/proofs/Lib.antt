@@ -1,5 +1,5 @@
-pub mod Columns
-pub mod SpanCounts
+pub mod SameFields
+pub mod LongEnough
 pub mod Stages
 pub mod Messages
 pub mod Gathering
@@ -7,7 +7,6 @@ pub mod Facts
 pub mod Sounds
 pub mod Streams
 pub mod Brings
-pub mod ShortNames
 pub mod Lawful
 pub mod Runs
 pub mod Feedings

@@ -2,16 +2,16 @@
 -- answer what it says, and what each changed byte is the fault of.
 use Rattle.std.proofs.Common.{◌≡◌, ℕ, pos, true, List, [], ◌∷◌, ◌++◌, take, drop, Option, None, Some, Ok, Err, refl, slice_set}
 use Rattle.flatbuf.specs.Layout.{number_at, signed_at, target_at, bytes_at, block_at, place_of_vtable, vtable_at, table_at, root_of, slot_of, number_of, signed_of, structs_of, subtable_of, vector_at, vector_of, entry_of}
-use Rattle.values.specs.Reading.{Reading, each, one, several}
+use Rattle.values.specs.Reading.{Reading, each, one}
 use Rattle.values.specs.Rose.{Rose, node, none}
 use Rattle.values.specs.declared.faults.StreamFault.{StreamFault}
 use Rattle.values.specs.declared.faults.StreamFault.TheVariants as fault
-use Rattle.schema_meta.specs.declared.stored_type.StoredType.TheVariants as stored
+use Rattle.field_types.specs.declared.stored_type.StoredType.TheVariants as stored
+use Rattle.values.specs.declared.layout.IntWidth.TheVariants as int
 use Rattle.schema_meta.specs.Entry.{Entry}
 use Rattle.schema_meta.specs.declared.header.Header.TheVariants as header
 use Rattle.schema_meta.specs.BatchHead.{BatchHead}
-use Rattle.schema_meta.specs.Batch.{word_at, node_of, span_of, rows_of, nodes_in, nodes_of, spans_in, spans_of, plain, batch_of}
-use Rattle.schema_meta.specs.Shape.{shape_of}
+use Rattle.schema_meta.specs.Batch.{word_at, node_of, span_of, rows_of, nodes_in, nodes_of, spans_in, spans_of, plain, lengths_fit, batch_of}
 use Rattle.schema_meta.specs.Stage.{Known, Whole}
 use Rattle.schema_meta.specs.Message.{version_of, kind_of, header_table, body_of, record_batch, header_of, meta_of}
 use Rattle.schema_meta.specs.Framing.{framed, message_at, staged, first}
@@ -38,7 +38,7 @@ message =
     30 ∷ 0 ∷ 0 ∷ 0 ∷ 0 ∷ 0 ∷ 0 ∷ 0 ∷ []
 
 abbrev column : ℕ → Rose Entry
-column letter = node (record { name = letter ∷ []; nullable = true; stored = stored.Int64 }) none
+column letter = node (record { name = letter ∷ []; nullable = true; stored = stored.Int int.Bits64 true }) none
 
 -- a stream whose schema came, and one that nothing came of
 abbrev open_stream : Known
@@ -68,7 +68,7 @@ pub taken :
     (first open_stream message ≡ Ok (Some batch)) × (first open_stream (message ++ message) ≡ Ok (Some batch))
     × (first open_stream (take 263 message) ≡ Ok None) × (first open_stream (take 207 message) ≡ Ok None)
     × (first open_stream (take 7 message) ≡ Ok None)
-unfolding number_at signed_at target_at bytes_at block_at place_of_vtable vtable_at table_at root_of slot_of number_of signed_of structs_of subtable_of vector_at vector_of entry_of each word_at node_of span_of rows_of nodes_in nodes_of spans_in spans_of plain batch_of shape_of version_of kind_of header_table body_of record_batch header_of meta_of framed message_at staged first
+unfolding number_at signed_at target_at bytes_at block_at place_of_vtable vtable_at table_at root_of slot_of number_of signed_of structs_of subtable_of vector_at vector_of entry_of each word_at node_of span_of rows_of nodes_in nodes_of spans_in spans_of plain batch_of lengths_fit version_of kind_of header_table body_of record_batch header_of meta_of framed message_at staged first
 taken = (refl, refl, refl, refl, refl)
 
 -- the mark, the size, the version, the batch's length (which neither node has then), the count of buffers, a buffer's
@@ -77,12 +77,12 @@ pub faults :
     (first open_stream (take 8 (slice_set message 0 254)) ≡ refused fault.NoContinuation)
     × (first open_stream (take 8 (slice_set message 7 1)) ≡ refused fault.BadSize)
     × (first open_stream (slice_set message 36 3) ≡ refused fault.Version)
-    × (first open_stream (slice_set message 80 4) ≡ Err (several (one fault.BadLength) (one fault.BadLength)))
+    × (first open_stream (slice_set message 80 4) ≡ refused fault.BadLength)
     × (first open_stream (slice_set message 140 3) ≡ refused fault.BufferCount)
     × (first open_stream (slice_set message 192 33) ≡ refused fault.BufferRange)
     × (first new_stream (take 208 message) ≡ refused fault.NoSchema)
     × (first new_stream (255 ∷ 255 ∷ 255 ∷ 255 ∷ 0 ∷ 0 ∷ 0 ∷ 0 ∷ []) ≡ refused fault.NoSchema)
-unfolding number_at signed_at target_at bytes_at block_at place_of_vtable vtable_at table_at root_of slot_of number_of signed_of structs_of subtable_of vector_at vector_of entry_of each word_at node_of span_of rows_of nodes_in nodes_of spans_in spans_of plain batch_of shape_of version_of kind_of header_table body_of record_batch header_of meta_of framed message_at staged first
+unfolding number_at signed_at target_at bytes_at block_at place_of_vtable vtable_at table_at root_of slot_of number_of signed_of structs_of subtable_of vector_at vector_of entry_of each word_at node_of span_of rows_of nodes_in nodes_of spans_in spans_of plain batch_of lengths_fit version_of kind_of header_table body_of record_batch header_of meta_of framed message_at staged first
 faults = (refl, refl, refl, refl, refl, refl, refl, refl)
 
 abbrev end_mark : List ℕ
@@ -95,5 +95,5 @@ pub messages :
       messages = record { header = header.Batch sample_header; body = drop 208 message } ∷ record { header = header.End; body = [] } ∷ [];
       rest = Ok (record { known = open_stream; held = 255 ∷ 255 ∷ [] });
     }
-unfolding number_at signed_at target_at bytes_at block_at place_of_vtable vtable_at table_at root_of slot_of number_of signed_of structs_of subtable_of vector_at vector_of entry_of each word_at node_of span_of rows_of nodes_in nodes_of spans_in spans_of plain batch_of shape_of version_of kind_of header_table body_of record_batch header_of meta_of framed message_at staged first run_of
+unfolding number_at signed_at target_at bytes_at block_at place_of_vtable vtable_at table_at root_of slot_of number_of signed_of structs_of subtable_of vector_at vector_of entry_of each word_at node_of span_of rows_of nodes_in nodes_of spans_in spans_of plain batch_of lengths_fit version_of kind_of header_table body_of record_batch header_of meta_of framed message_at staged first run_of
 messages = refl

@@ -5,7 +5,7 @@ use Rattle.std.proofs.lemmas.List.{length-take-le}
 use Rattle.values.specs.Rose.{Rose}
 use Rattle.schema_meta.specs.Entry.{Entry}
 use Rattle.schema_meta.specs.Stage.{Known, Whole, end_of}
-use Rattle.messages.specs.State.{IsSmall}
+use Rattle.messages.specs.State.{IsRead}
 use Rattle.schema_meta.specs.Sound.{IsFitting, schema_after, after}
 use Rattle.schema_meta.specs.Framing.{staged, first}
 use Rattle.messages.specs.Stream.{IsStream}
@@ -16,21 +16,21 @@ pub nothing_held : (known : Known) → first known [] ≡ Ok None
 unfolding first staged
 nothing_held known = refl
 
-pub fresh_stream : (known : Known) (held : List ℕ) → held ≡ [] → IsSmall known.schema → IsStream known held 8
+pub fresh_stream : (known : Known) (held : List ℕ) → held ≡ [] → IsRead known.schema → IsStream known held 8
 fresh_stream known held h s =
     let P : List ℕ → Type 0 = λ bs. first known bs ≡ Ok None in
     record { partial = subst P (sym h) (nothing_held known); small = s; some = omega arith }
 
-small_after : (a b : Option (List (Rose Entry))) → IsSmall a → IsSmall b → IsSmall (schema_after a b)
+small_after : (a b : Option (List (Rose Entry))) → IsRead a → IsRead b → IsRead (schema_after a b)
 small_after a None p q = p
 small_after a (Some fields) p q = q
 
 pub next_stream :
-    (known next : Known) (bytes held : List ℕ) (w : Whole) → first known bytes ≡ Ok (Some w) → IsSmall known.schema
+    (known next : Known) (bytes held : List ℕ) (w : Whole) → first known bytes ≡ Ok (Some w) → IsRead known.schema
     → next ≡ after known w.meta.schema → held ≡ [] → IsStream next held 8
 next_stream known next bytes held w e s n h =
-    let P : Known → Type 0 = λ k. IsSmall k.schema in
-    let sound = first_sound known bytes w e in
+    let P : Known → Type 0 = λ k. IsRead k.schema in
+    let sound = first_sound known bytes w s e in
     fresh_stream next held h (subst P (sym n) (small_after known.schema w.meta.schema s sound.1))
 
 body_length :
@@ -43,12 +43,12 @@ body_length bytes body w l b =
     ap (λ bs. length bs) b ∙ (t ∙ k)
 
 pub next_fits :
-    (known next : Known) (bytes body : List ℕ) (w : Whole) → first known bytes ≡ Ok (Some w)
+    (known next : Known) (bytes body : List ℕ) (w : Whole) → IsRead known.schema → first known bytes ≡ Ok (Some w)
     → next ≡ after known w.meta.schema → body ≡ slice_range bytes w.front (end_of w)
     → IsFitting next.schema w.meta.header (length body)
-next_fits known next bytes body w e n b =
+next_fits known next bytes body w read e n b =
     let within = first_within known bytes w e in
-    let sound = first_sound known bytes w e in
+    let sound = first_sound known bytes w read e in
     let l : length body ≡ w.meta.body = body_length bytes body w within.1 b in
     let P : Known → Type 0 = λ k. IsFitting k.schema w.meta.header (length body) in
     let Q : ℕ → Type 0 = λ m. IsFitting (schema_after known.schema w.meta.schema) w.meta.header m in

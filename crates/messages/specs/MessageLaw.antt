@@ -4,6 +4,7 @@ use Rattle.values.specs.Rose.{Rose}
 use Rattle.schema_meta.specs.Entry.{Entry}
 use Rattle.schema_meta.specs.Logical.{logical_field}
 use Rattle.schema_meta.specs.SchemaTree.{AreColumns}
+use Rattle.schema_meta.specs.FieldsLaw.{AreFields}
 use Rattle.schema_meta.specs.declared.header.Header.{Header}
 use Rattle.schema_meta.specs.declared.header.Header.TheVariants as header
 use Rattle.schema_meta.specs.Stage.{Known, Whole, end_of}
@@ -12,6 +13,7 @@ use Rattle.schema_meta.specs.Framing.{first}
 -- A schema comes where none is known, and its columns are within the limits.
 pub record BringsSchema (known brought : Option (List (Rose Entry))) : Type 0 where
   pub fields : List (Rose Entry)
+  pub read : AreFields fields
   pub sound : AreColumns (map logical_field fields)
   pub new : known ≡ None
   pub is : brought ≡ Some fields

@@ -1,8 +1,9 @@
 -- What the program knows of a stream, as the definitions have it.
-use Rattle.std.specs.Prelude.{ℕ, ◌≤◌, List, length, Option, None, Some}
+use Rattle.std.specs.Prelude.{ℕ, List, Option, None, Some}
 use Rattle.std.specs.Option.{option_map}
 use Rattle.values.specs.Rose.{Rose}
 use Rattle.schema_meta.specs.Entry.{Entry}
+use Rattle.schema_meta.specs.FieldsLaw.{AreFields}
 use Rattle.messages.specs.declared.state.State.{State}
 use Rattle.messages.specs.declared.metadata.Metadata.{Metadata}
 use Rattle.messages.specs.declared.framing.Found.{Found}
@@ -29,7 +30,7 @@ abbrev pub wanted_by : Progress → ℕ
 wanted_by (progress.Partial n) = n
 wanted_by (progress.Whole f) = 1
 
--- a schema within the limit on fields
-abbrev pub IsSmall : Option (List (Rose Entry)) → Type 0
-IsSmall None = Unit {0}
-IsSmall (Some fields) = length fields ≤ 1024
+-- The fields are as they are read.
+abbrev pub IsRead : Option (List (Rose Entry)) → Type 0
+IsRead None = Unit {0}
+IsRead (Some fields) = AreFields fields

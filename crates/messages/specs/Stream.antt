@@ -1,9 +1,7 @@
 -- A stream between two pieces, and what a push makes of it.
 use Rattle.std.specs.Prelude.{◌≡◌, ℕ, ◌+◌, ◌≤◌, List, [], ◌++◌, length, slice_range, Option, None, Some, Ok, Err, refl}
 use Rattle.std.specs.Coded.{Coded, code_by, coded×, coded_ℕ, coded_list, coded_option}
-use Rattle.values.specs.contracts.types.ColType.{the_row}
-use Rattle.values.specs.declared.types.ColType.{ColType}
-use Rattle.values.specs.Logical.{LogicalField}
+use Rattle.field_types.specs.Logical.{LogicalField, logical_code}
 use Rattle.values.specs.Reading.{Reading}
 use Rattle.values.specs.Rose.{Rose, rose_code}
 use Rattle.schema_meta.specs.Entry.{Entry, entry_code}
@@ -11,7 +9,7 @@ use Rattle.messages.specs.declared.headers.Framed.{Framed}
 use Rattle.messages.specs.Handed.{MessageView}
 use Rattle.schema_meta.specs.Stage.{Known, Whole, end_of}
 use Rattle.schema_meta.specs.Sound.{after}
-use Rattle.messages.specs.State.{IsSmall}
+use Rattle.messages.specs.State.{IsRead}
 use Rattle.schema_meta.specs.Framing.{first}
 
 -- what is known of it, and the bytes of a message that is not whole yet
@@ -19,17 +17,12 @@ pub record Stream : Type 0 where
   pub known : Known
   pub held : List ℕ
 
-abbrev pub field_code : Coded LogicalField
-field_code =
-    code_by (List ℕ × ColType) (coded× (coded_list coded_ℕ) the_row.coded) (λ f. (f.name, f.col_type))
-    (λ p. record { name = p.0; col_type = p.1 }) (λ _. refl)
-
 abbrev pub Stored : Type 0
-Stored = Option (List LogicalField) × (Option (List (Rose Entry)) × List ℕ)
+Stored = Option (List (Rose LogicalField)) × (Option (List (Rose Entry)) × List ℕ)
 
 abbrev pub stored_code : Coded Stored
 stored_code =
-    coded× (coded_option (coded_list field_code)) (coded× (coded_option (coded_list (rose_code entry_code))) (coded_list coded_ℕ))
+    coded× (coded_option (coded_list (rose_code logical_code))) (coded× (coded_option (coded_list (rose_code entry_code))) (coded_list coded_ℕ))
 
 abbrev pub stream_code : Coded Stream
 stream_code =
@@ -39,7 +32,7 @@ stream_code =
 -- what is held is no whole message, and has no fault
 pub record IsStream (known : Known) (held : List ℕ) (wanted : ℕ) : Type 0 where
   pub partial : first known held ≡ Ok None
-  pub small : IsSmall known.schema
+  pub small : IsRead known.schema
   pub some : 1 ≤ wanted
 
 -- a message that is handed on, out of all bytes

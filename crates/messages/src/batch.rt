@@ -2,15 +2,19 @@
 
 ghost use Rattle.std.specs.Prelude.{◌≡◌, ◌+◌, ◌*◌, ◌^◌, ◌<◌, ◌≤◌, length};
 ghost use Rattle.values.specs.Reading.{Answers, Judges};
+ghost use Rattle.schema_meta.specs.FieldLayouts.{layouts_of};
+ghost use Rattle.schema_meta.specs.FieldsLaw.{AreFields};
 ghost use Rattle.schema_meta.specs.Batch.{batch_of, node_of, nodes_in, span_of, spans_in, plain, rows_of, nodes_of, spans_of, structs_in, word_at};
 
 use crate::fields::{checked, readable};
+use crate::lengths::fit;
+use array_layout::{Node, Span};
 use byteorder::{ByteOrder, LittleEndian};
 use flatbuf::{BadTable, TableRef};
-use schema_meta::{BatchHeader, Node, Shape, Span};
+use schema_meta::{BatchHeader, StreamSchema};
 use std::alloc::Global;
 use values::StreamFault;
-use values::limits::MAX_BATCH_LENGTH;
+use values::limits::{MAX_BATCH_LENGTH, MAX_NODE_LENGTH};
 
 /// The number of 64 bits at `place`.
 #[tactic(auto, unfolding(schema_meta::specs::Batch::word_at))]
@@ -21,18 +25,19 @@ fn word_at(bytes: &[u8], place: usize) -> u64
     LittleEndian::read_u64(&bytes[place..])
 }
 
-/// The node with number `index`: its length must be that of the batch.
-fn node_at(bytes: &[u8], index: usize, rows: usize) -> Result<Node, StreamFault>
+/// The node with number `index`.
+fn node_at(bytes: &[u8], index: usize) -> Result<Node, StreamFault>
     requires { 16 * index + 16 ≤ length bytes.now }
-    ensures { Judges (λ n. n) result (node_of rows bytes.now index) }
+    ensures { Judges (λ n. n) result (node_of bytes.now index) }
 {
     let place = 16 * index;
-    if word_at(bytes, place) != rows as u64 {
+    let length = word_at(bytes, place);
+    if length > MAX_NODE_LENGTH as u64 {
         return Err(StreamFault::BadLength);
     }
     let nulls = word_at(bytes, place + 8).cast_signed();
     Ok(Node {
-        length: rows,
+        length: length as usize,
         nulls,
     })
 }
@@ -57,18 +62,13 @@ fn span_at(bytes: &[u8], index: usize, body: usize) -> Result<Span, StreamFault>
 
 /// `count` nodes, one after the other.
 #[tactic(auto, using(values::proofs::Readings::gathering), unfolding(schema_meta::specs::Batch::nodes_in))]
-fn nodes_in(
-    alloc: Global,
-    bytes: &[u8],
-    count: usize,
-    rows: usize,
-) -> Result<Vec<Node>, StreamFault>
+fn nodes_in(alloc: Global, bytes: &[u8], count: usize) -> Result<Vec<Node>, StreamFault>
     requires { length bytes.now ≡ 16 * count }
-    ensures { Answers (λ v. v.items) result (nodes_in count rows bytes.now) }
+    ensures { Answers (λ v. v.items) result (nodes_in count bytes.now) }
 {
     let mut nodes = Vec::with_capacity(alloc, count)?;
     for i in 0..count {
-        nodes.push(node_at(bytes, i, rows)?)?;
+        nodes.push(node_at(bytes, i)?)?;
     }
     Ok(nodes)
 }
@@ -112,16 +112,25 @@ fn structs<'a>(
     Ok(bytes)
 }
 
+/// The nodes of a batch of this schema with `rows` rows.
+#[tactic(auto, using(crate::proofs::LongEnough::counted), unfolding(schema_meta::specs::Batch::nodes_of))]
 fn nodes_of(
     alloc: Global,
     table: &TableRef,
-    count: usize,
+    schema: &StreamSchema,
     rows: usize,
 ) -> Result<Vec<Node>, StreamFault>
-    ensures { Answers (λ v. v.items) result (nodes_of count rows table.now) }
+    requires { AreFields schema.now.fields.items }
+    ensures { Answers (λ v. v.items) result (nodes_of (layouts_of schema.now.fields.items) rows table.now) }
 {
+    let count = schema.nodes();
     let bytes = structs(table, 1, count, StreamFault::NodeCount)?;
-    nodes_in(alloc, bytes, count, rows)
+    let nodes = nodes_in(alloc, bytes, count)?;
+    if fit(schema, &nodes, rows) {
+        Ok(nodes)
+    } else {
+        Err(StreamFault::BadLength)
+    }
 }
 
 fn spans_of(
@@ -153,21 +162,21 @@ fn uncompressed(table: &TableRef) -> Result<(), StreamFault>
     Ok(())
 }
 
-/// The header that the table `RecordBatch` means under a schema of this shape, where the message has a body of
-/// `body` bytes.
+/// The header that the table `RecordBatch` means under this schema, where the message has a body of `body` bytes.
 #[tactic(auto, using(values::proofs::Readings::failing), unfolding(schema_meta::specs::Batch::batch_of))]
 pub(crate) fn read_batch_header(
     alloc: Global,
     table: &TableRef,
-    shape: Shape,
+    schema: &StreamSchema,
     body: usize,
 ) -> Result<BatchHeader, StreamFault>
-    requires { body ≤ 2 ^ 28 }
-    ensures { Answers (λ b. b) result (batch_of shape body table.now) }
+    requires in_range { body ≤ 2 ^ 28 }
+    requires fields { AreFields schema.now.fields.items }
+    ensures { Answers (λ b. b) result (batch_of (layouts_of schema.now.fields.items) body table.now) }
 {
     uncompressed(table)?;
     let rows = rows_of(table)?;
-    let nodes = nodes_of(alloc, table, shape.nodes, rows)?;
-    let spans = spans_of(alloc, table, shape.spans, body)?;
+    let nodes = nodes_of(alloc, table, schema, rows)?;
+    let spans = spans_of(alloc, table, schema.spans(), body)?;
     Ok(BatchHeader { rows, nodes, spans })
 }

@@ -1,37 +1,31 @@
 //! Whether a stream's schema is the declared one.
 
 ghost use Rattle.std.specs.Prelude.{◌≡◌};
-ghost use Rattle.schema_meta.specs.Logical.{logical_field};
-ghost use Rattle.schema_meta.specs.SameColumns.{is_column, is_declared, is_type};
+ghost use Rattle.values.specs.Rose.{kids_of};
+ghost use Rattle.schema_meta.specs.SameColumns.{are_same, is_same};
 
-use schema_meta::{Field, StreamSchema};
-use values::{ColType, Named, Schema};
+use field_types::Named;
 
-fn is_type(a: ColType, b: ColType) -> bool
-    ensures { result ≡ is_type a b }
+/// Whether two fields have one name and type, and so on down.
+#[cycle(same)]
+#[tactic(auto, using(crate::proofs::SameFields::same))]
+fn is_same(a: &Named, b: &Named) -> bool
+    ensures { result ≡ is_same a.now b.now }
 {
-    match (a, b) {
-        (ColType::Int64, ColType::Int64) | (ColType::Utf8, ColType::Utf8) => true,
-        (ColType::Int64, ColType::Utf8) | (ColType::Utf8, ColType::Int64) => false,
-    }
+    a.name == b.name && a.col_type == b.col_type && are_same(&a.children, &b.children)
 }
 
-fn is_column(declared: &Named, field: &Field) -> bool
-    ensures { result ≡ is_column declared.now (logical_field field.now) }
+/// Whether these are the same fields, in order.
+#[cycle(same)]
+#[tactic(auto, using(crate::proofs::SameFields::same))]
+pub(crate) fn are_same(a: &[Named], b: &[Named]) -> bool
+    ensures { result ≡ are_same (kids_of a.now) (kids_of b.now) }
 {
-    declared.name == field.name && is_type(declared.col_type, field.stored.logical())
-}
-
-/// Whether the columns have the declared names and logical types, in order.
-#[tactic(auto, using(crate::proofs::Columns::columns))]
-pub(crate) fn is_declared(declared: &Schema, schema: &StreamSchema) -> bool
-    ensures { result ≡ is_declared declared.now.fields.items schema.now.fields.items }
-{
-    if declared.fields.len() != schema.fields.len() {
+    if a.len() != b.len() {
         return false;
     }
-    for i in 0..declared.fields.len() {
-        if !is_column(&declared.fields[i], &schema.fields[i]) {
+    for index in 0..a.len() {
+        if !is_same(&a[index], &b[index]) {
             return false;
         }
     }

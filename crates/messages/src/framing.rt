@@ -4,7 +4,7 @@ ghost use Rattle.std.specs.Prelude.{◌≡◌, ◌≤◌, ◌+◌, ◌^◌, Some
 ghost use Rattle.values.specs.Reading.{Answers, Judges};
 ghost use Rattle.schema_meta.specs.Framing.{end_mark, first, framed, message_at};
 ghost use Rattle.schema_meta.specs.Message.{meta_of};
-ghost use Rattle.messages.specs.State.{IsSmall, known_of, progress_seen, wanted_by, whole_seen};
+ghost use Rattle.messages.specs.State.{IsRead, known_of, progress_seen, wanted_by, whole_seen};
 
 use crate::metadata::{Metadata, read_metadata};
 use crate::state::State;
@@ -70,7 +70,7 @@ fn message_at(
     front: usize,
 ) -> Result<Progress, StreamFault>
     requires in_range { 8 ≤ front }
-    requires small { IsSmall (known_of state.now).schema }
+    requires small { IsRead (known_of state.now).schema }
     ensures value { Answers progress_seen result
         (message_at (length bytes.now) front (meta_of (known_of state.now) (slice_range bytes.now 8 front))) }
     ensures wanted { IfOk result (λ p. 1 ≤ wanted_by p) }
@@ -93,7 +93,7 @@ fn message_at(
 /// The first message of the bytes, if it is there whole. A fault is found as soon as what has it is there.
 #[tactic(auto, using(values::proofs::Readings::failing), unfolding(schema_meta::specs::Framing::first, schema_meta::specs::Framing::staged))]
 pub(crate) fn first(alloc: Global, state: &State, bytes: &[u8]) -> Result<Progress, StreamFault>
-    requires { IsSmall (known_of state.now).schema }
+    requires { IsRead (known_of state.now).schema }
     ensures value { Answers progress_seen result (first (known_of state.now) bytes.now) }
     ensures wanted { IfOk result (λ p. 1 ≤ wanted_by p) }
 {

@@ -4,7 +4,7 @@ ghost use Rattle.std.specs.Prelude.{◌≡◌, ◌≤◌, ◌+◌, ◌^◌, ◌+
 ghost use Rattle.values.specs.Reading.{Answers, Fails};
 ghost use Rattle.schema_meta.specs.Framing.{first};
 ghost use Rattle.messages.specs.Gather.{Gathers, IsWaiting, Steps};
-ghost use Rattle.messages.specs.State.{IsSmall, known_of, progress_seen, wanted_by};
+ghost use Rattle.messages.specs.State.{IsRead, known_of, progress_seen, wanted_by};
 
 use crate::framing::{Found, Progress, first};
 use crate::state::State;
@@ -18,7 +18,7 @@ fn grow(
     held: &mut Vec<u8>,
     bytes: &[u8],
 ) -> Result<Progress, StreamFault>
-    requires { IsSmall (known_of state.now).schema }
+    requires { IsRead (known_of state.now).schema }
     ensures found { Answers progress_seen result (first (known_of state.now) (held.old.items ++ bytes.now)) }
     ensures wanted { IfOk result (λ p. 1 ≤ wanted_by p) }
     ensures grown { OnOk result (held.new.items ≡ held.old.items ++ bytes.now) }
@@ -38,7 +38,7 @@ fn gather(
     piece: &[u8],
     mut wanted: usize,
 ) -> Result<Progress, StreamFault>
-    requires small { IsSmall (known_of state.now).schema }
+    requires small { IsRead (known_of state.now).schema }
     requires partial { first (known_of state.now) held.old.items ≡ Ok None }
     requires some { 1 ≤ wanted }
     ensures found { Answers progress_seen result (first (known_of state.now) (held.old.items ++ piece.now)) }
@@ -89,7 +89,7 @@ pub(crate) fn advance(
     piece: &[u8],
     wanted: usize,
 ) -> Result<Step, StreamFault>
-    requires small { IsSmall (known_of state.now).schema }
+    requires small { IsRead (known_of state.now).schema }
     requires partial { first (known_of state.now) held.old.items ≡ Ok None }
     requires some { 1 ≤ wanted }
     ensures ok { IfOk result (λ s. Steps (first (known_of state.now) (held.old.items ++ piece.now)) (held.old.items ++ piece.now)

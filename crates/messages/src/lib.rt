@@ -14,8 +14,8 @@ mod framing;
 mod gather;
 mod headers;
 mod laws;
+mod lengths;
 mod metadata;
-mod shapes;
 mod state;
 mod stream;
 #[cfg(test)]
@@ -23,5 +23,5 @@ mod tests;
 
 pub use headers::{Framed, Message};
 pub use laws::{message_law, more_bytes_law, pieces_law};
-pub use schema_meta::{BatchHeader, Header, Node, Shape, Span};
+pub use schema_meta::{BatchHeader, Header};
 pub use stream::Framer;

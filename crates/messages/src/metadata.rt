@@ -1,15 +1,16 @@
 //! The metadata of a message: Message.fbs, table `Message`.
 
 ghost use Rattle.std.specs.Prelude.{◌≡◌, ◌≤◌, ◌^◌, length, IfOk};
+ghost use Rattle.std.specs.Option.{option_map};
 ghost use Rattle.values.specs.Reading.{Answers, Judges};
-ghost use Rattle.schema_meta.specs.Message.{body_of, dictionary_of, header_of, header_table, kind_of, meta_of, new_schema, record_batch, version_of};
-ghost use Rattle.messages.specs.State.{IsSmall, known_of, meta_seen};
+ghost use Rattle.schema_meta.specs.Message.{body_of, dictionary_of, expected, header_of, header_table, kind_of, meta_of, new_schema, record_batch, version_of};
+ghost use Rattle.messages.specs.State.{IsRead, known_of, meta_seen};
 
 use crate::batch::read_batch_header;
-use crate::declared::is_declared;
+use crate::declared::are_same;
 use crate::fields::{checked, readable};
-use crate::shapes::shape_of;
 use crate::state::State;
+use field_types::Schema;
 use flatbuf::{Buf, TableRef};
 use schema_meta::{BatchHeader, Header, MessageKind, StreamSchema, read_schema};
 use std::alloc::Global;
@@ -63,6 +64,26 @@ fn body_of(message: &TableRef) -> Result<usize, StreamFault>
     checked(StreamFault::BodySize, MAX_BODY_SIZE, length)
 }
 
+/// Whether the schema has the columns that were declared, where some were.
+#[tactic(auto, unfolding(schema_meta::specs::SameColumns::is_declared))]
+fn check_declared(
+    alloc: Global,
+    declared: &Option<Schema>,
+    schema: &StreamSchema,
+) -> Result<(), StreamFault>
+    ensures { Answers (λ u. schema.now.fields.items) result (expected (option_map (λ d. d.fields.items) declared.now) schema.now.fields.items) }
+{
+    let Some(declared) = declared else {
+        return Ok(());
+    };
+    let logical = schema.logical(alloc)?;
+    if are_same(&declared.fields, &logical.fields) {
+        Ok(())
+    } else {
+        Err(StreamFault::SchemaMismatch)
+    }
+}
+
 /// The schema of a message that comes where `state` is known.
 fn new_schema(alloc: Global, state: &State, header: &TableRef) -> Result<StreamSchema, StreamFault>
     ensures { Answers (λ s. s.fields.items) result (new_schema (known_of state.now) header.now) }
@@ -71,10 +92,8 @@ fn new_schema(alloc: Global, state: &State, header: &TableRef) -> Result<StreamS
         return Err(StreamFault::SecondSchema);
     }
     let schema = read_schema(alloc, header)?;
-    match &state.declared {
-        Some(declared) if !is_declared(declared, &schema) => Err(StreamFault::SchemaMismatch),
-        _ => Ok(schema),
-    }
+    check_declared(alloc, &state.declared, &schema)?;
+    Ok(schema)
 }
 
 /// No field that is taken has a dictionary, so there is none that this one could be for.
@@ -96,14 +115,14 @@ fn record_batch(
     message: &TableRef,
 ) -> Result<BatchHeader, StreamFault>
     requires in_range { body ≤ 2 ^ 28 }
-    requires small { IsSmall (known_of state.now).schema }
+    requires small { IsRead (known_of state.now).schema }
     ensures { Answers (λ b. b) result (record_batch (known_of state.now) body message.now) }
 {
     let Some(schema) = &state.schema else {
         return Err(StreamFault::NoSchema);
     };
     let header = header_table(message)?;
-    read_batch_header(alloc, &header, shape_of(schema), body)
+    read_batch_header(alloc, &header, schema, body)
 }
 
 #[tactic(auto, using(values::proofs::Readings::failing), unfolding(schema_meta::specs::Message::header_of))]
@@ -115,7 +134,7 @@ fn read_header(
     body: usize,
 ) -> Result<Metadata, StreamFault>
     requires in_range { body ≤ 2 ^ 28 }
-    requires small { IsSmall (known_of state.now).schema }
+    requires small { IsRead (known_of state.now).schema }
     ensures { Answers meta_seen result (header_of (known_of state.now) message.now kind body) }
 {
     match kind {
@@ -144,7 +163,7 @@ pub(crate) fn read_metadata(
     state: &State,
     bytes: &[u8],
 ) -> Result<Metadata, StreamFault>
-    requires { IsSmall (known_of state.now).schema }
+    requires { IsRead (known_of state.now).schema }
     ensures { Answers meta_seen result (meta_of (known_of state.now) bytes.now) }
 {
     let message = readable(Buf::root(bytes))?;

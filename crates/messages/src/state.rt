@@ -5,8 +5,8 @@ ghost use Rattle.std.specs.Option.{option_map};
 ghost use Rattle.messages.specs.State.{known_of};
 ghost use Rattle.schema_meta.specs.Sound.{after};
 
+use field_types::Schema;
 use schema_meta::StreamSchema;
-use values::Schema;
 
 /// The schema that was declared for the stream, if any, and the one that came, once it has.
 #[derive(Drop)]

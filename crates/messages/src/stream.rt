@@ -11,10 +11,11 @@ use crate::gather::{Step, advance};
 use crate::headers::{Framed, Message};
 use crate::metadata::Metadata;
 use crate::state::State;
+use field_types::Schema;
 use schema_meta::StreamSchema;
 use std::alloc::Global;
 use std::marker::Model;
-use values::{Schema, StreamFault};
+use values::StreamFault;
 
 /// Takes the messages of a stream out of its pieces, however it is cut.
 ///

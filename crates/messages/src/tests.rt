@@ -1,10 +1,11 @@
 //! Tests on a stored stream of two int64 columns `k` and `v` with the rows (1, 10), (2, null), (3, 30).
 
 use crate::{Framer, Header};
+use field_types::{Named, Schema, StoredType};
 use std::alloc::{AllocError, Global};
 use std::process::Abort;
 use std::test::Fail;
-use values::{ColType, Named, Schema, StreamFault};
+use values::{IntWidth, StreamFault};
 
 /// The schema message ends at 232, the batch at 496, the end mark at 504.
 const SAMPLE: [u8; 504] = [
@@ -204,6 +205,62 @@ fn too_many_columns(rt: HostRuntime) -> Result<(), Fail> {
     Ok(())
 }
 
+/// The Schema message of a column of structs without names, `depth` levels with an int64 at the bottom. Each struct has so many
+/// children, which are all one table.
+fn nested(alloc: Global, depth: u8, children: u8) -> Result<Vec<u8>, AllocError> {
+    let mut bytes = Vec::new(alloc);
+    bytes.extend_from_slice(&[255; 4])?;
+    bytes.extend_from_slice(&(64 * depth as u32 + 84).to_le_bytes())?;
+    bytes.extend_from_slice(&SAMPLE[8..76])?;
+    bytes.extend_from_slice(&[1, 0, 0, 0, 20, 0, 0, 0])?;
+    for _ in 1..depth {
+        bytes.extend_from_slice(&FIELD_SLOTS)?;
+        bytes.extend_from_slice(&[
+            16, 0, 0, 0, 16, 0, 0, 0, 1, 13, 0, 0, 20, 0, 0, 0, 20, 0, 0, 0,
+        ])?;
+        bytes.extend_from_slice(&[0, 0, 0, 0, 0, 0, 0, 0, 4, 0, 4, 0, 4, 0, 0, 0])?;
+        bytes.extend_from_slice(&[children, 0, 0, 0, 24, 0, 0, 0, 20, 0, 0, 0])?;
+    }
+    bytes.extend_from_slice(&FIELD_SLOTS)?;
+    bytes.extend_from_slice(&[
+        16, 0, 0, 0, 16, 0, 0, 0, 1, 2, 0, 0, 28, 0, 0, 0, 12, 0, 0, 0,
+    ])?;
+    bytes.extend_from_slice(&[0, 0, 0, 0, 0, 0, 0, 0, 0, 0, 0, 0])?;
+    bytes.extend_from_slice(&SAMPLE[136..160])?;
+    Ok(bytes)
+}
+
+/// The vtable of a field: name, nullable, the type's kind and table, no dictionary, children.
+const FIELD_SLOTS: [u8; 16] = [16, 0, 20, 0, 4, 0, 8, 0, 9, 0, 12, 0, 0, 0, 16, 0];
+
+#[test]
+fn depth_to_the_limit(rt: HostRuntime) -> Result<(), Fail> {
+    answers(&rt, &nested(rt.alloc(), 16, 1)?, None);
+    answers(
+        &rt,
+        &nested(rt.alloc(), 17, 1)?,
+        Some(StreamFault::TooManyFields),
+    );
+    Ok(())
+}
+
+/// Two children that are one table are two fields: few bytes mean very many, and are counted only up to the limit.
+#[test]
+fn shared_tables(rt: HostRuntime) -> Result<(), Fail> {
+    answers(&rt, &nested(rt.alloc(), 10, 2)?, None);
+    answers(
+        &rt,
+        &nested(rt.alloc(), 11, 2)?,
+        Some(StreamFault::TooManyFields),
+    );
+    answers(
+        &rt,
+        &nested(rt.alloc(), 16, 2)?,
+        Some(StreamFault::TooManyFields),
+    );
+    Ok(())
+}
+
 /// A count of fields that can't be there is judged as one that is too great or unreadable, however it comes.
 #[test]
 fn impossible_count(rt: HostRuntime) {
@@ -265,19 +322,24 @@ fn takes_sizes_to_the_limit(rt: HostRuntime) -> Result<(), Fail> {
     Ok(())
 }
 
+/// A column of 64 bits with a sign.
+fn int64(alloc: Global, name: &str) -> Result<Named, AllocError> {
+    let width = IntWidth::Bits64;
+    Ok(Named {
+        name: String::from_str(alloc, name)?,
+        col_type: StoredType::Int {
+            width,
+            signed: true,
+        },
+        children: Vec::new(alloc),
+    })
+}
+
 /// A schema of two columns, of which the second is named `name`.
 fn declared(rt: &HostRuntime, name: &str) -> Result<Schema, Fail> {
-    let first = Named {
-        name: String::from_str(rt.alloc(), "k")?,
-        col_type: ColType::Int64,
-    };
-    let second = Named {
-        name: String::from_str(rt.alloc(), name)?,
-        col_type: ColType::Int64,
-    };
-    let mut fields = Vec::new(rt.alloc());
-    fields.push(first)?;
-    fields.push(second)?;
+    let mut fields = Vec::with_capacity(rt.alloc(), 2)?;
+    fields.push(int64(rt.alloc(), "k")?)?;
+    fields.push(int64(rt.alloc(), name)?)?;
     Ok(Schema { fields })
 }
 

@@ -22,7 +22,7 @@ pub returns-in-Whole-clause-fits : goal.returns-in-Whole-clause-fits
 returns-in-Whole-clause-fits c =
     let e = rw c.in-Whole.is at c.in_ok-wanted.ensures.ok in
     next_fits (known_of c.self.inside.state) (known_of c.learn.new.self) (c.self.inside.held.items ++ c.args.piece.now)
-    c.in-Whole.body.items (whole_seen c.in-Whole.found) e.0 c.learn.ensures e.2
+    c.in-Whole.body.items (whole_seen c.in-Whole.found) c.self.invariant.small e.0 c.learn.ensures e.2
 
 -- src/stream.rt:82:5
 pub returns-in-Whole-clause-progress : goal.returns-in-Whole-clause-progress

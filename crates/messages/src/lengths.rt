@@ -1,0 +1,84 @@
+//! Whether the arrays of a batch are long enough: Arrow Columnar Format, "Struct Layout" and "RecordBatch message".
+
+ghost use Rattle.std.specs.Prelude.{◌≡◌, ◌+◌, ◌≤◌, MatchOption, length, true, false};
+ghost use Rattle.values.specs.Rose.{rose_size, roses_size};
+ghost use Rattle.array_layout.specs.Placing.{node_at};
+ghost use Rattle.schema_meta.specs.FieldLayouts.{layout_of, layouts_of};
+ghost use Rattle.schema_meta.specs.Batch.{are_long, is_long, least, lengths_fit};
+
+use array_layout::Node;
+use schema_meta::{Field, StreamSchema};
+use values::Layout;
+
+/// The length of node `index`, 0 where there is none.
+fn length_at(nodes: &[Node], index: usize) -> usize
+    ensures { result ≡ (node_at nodes.now index).length }
+{
+    match nodes.get(index) {
+        Some(node) => node.length,
+        None => 0,
+    }
+}
+
+/// How long the children of an array of this layout and length must be.
+fn least_below(layout: Layout, len: usize) -> usize
+    ensures { result ≡ least layout len }
+{
+    match layout {
+        Layout::Struct => len,
+        _ => 0,
+    }
+}
+
+/// The number of the node behind a field's nodes, the first of which is node `index`; `None` where the field's array isn't as
+/// long as `floor`, or one below it isn't long enough.
+#[cycle(lengths)]
+#[tactic(auto, using(crate::proofs::LongEnough::lengths))]
+fn behind(field: &Field, nodes: &[Node], index: usize, floor: usize) -> Option<usize>
+    requires { index + rose_size (layout_of field.now) ≤ length nodes.now }
+    ensures { MatchOption result (is_long nodes.now index floor (layout_of field.now) ≡ false) (λ next. (is_long nodes.now index floor (layout_of field.now) ≡ true) × (next ≡ index + rose_size (layout_of field.now))) }
+{
+    let len = length_at(nodes, index);
+    if len < floor {
+        return None;
+    }
+    behind_all(
+        &field.children,
+        nodes,
+        index + 1,
+        least_below(field.stored.layout(), len),
+    )
+}
+
+/// The same of fields one after the other.
+#[cycle(lengths)]
+#[tactic(auto, using(crate::proofs::LongEnough::lengths))]
+fn behind_all(fields: &[Field], nodes: &[Node], index: usize, floor: usize) -> Option<usize>
+    requires { index + roses_size (layouts_of fields.now) ≤ length nodes.now }
+    ensures { MatchOption result (are_long nodes.now index floor (layouts_of fields.now) ≡ false) (λ next. (are_long nodes.now index floor (layouts_of fields.now) ≡ true) × (next ≡ index + roses_size (layouts_of fields.now))) }
+{
+    let mut next = index;
+    for field in fields {
+        next = behind(field, nodes, next, floor)?;
+    }
+    Some(next)
+}
+
+/// Whether each column is as long as the batch, and all below it are long enough.
+#[tactic(auto, using(crate::proofs::LongEnough::lengths), unfolding(schema_meta::specs::Batch::lengths_fit))]
+pub(crate) fn fit(schema: &StreamSchema, nodes: &[Node], rows: usize) -> bool
+    requires { roses_size (layouts_of schema.now.fields.items) ≤ length nodes.now }
+    ensures { result ≡ lengths_fit rows (layouts_of schema.now.fields.items) nodes.now }
+{
+    let mut next = 0;
+    for index in 0..schema.fields.len() {
+        if length_at(nodes, next) != rows {
+            return false;
+        }
+        match behind(&schema.fields[index], nodes, next, rows) {
+            None => return false,
+            Some(behind) => next = behind,
+        }
+    }
+    true
+}
