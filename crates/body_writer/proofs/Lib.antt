@@ -1,9 +1,17 @@
-pub mod Steps
-pub mod Bits
-pub mod Grown
+mod Sample
+pub mod Cells
+pub mod Growing
+pub mod Pieces
+pub mod Validity
+pub mod Numbers
+pub mod Offsets
+pub mod Held
 pub mod Weighing
-pub mod Sizes
+pub mod Own
+pub mod ColumnRead
+pub mod Ahead
 pub mod Standing
-pub mod ReadBack
-pub mod BitsBack
-pub mod Short
+pub mod Sizing
+pub mod Rows
+pub mod Summing
+pub mod SampleBatch

@@ -1,72 +1,85 @@
--- The buffers of a column, as they are written (Arrow columnar format, "Physical Memory Layout").
-use Rattle.std.specs.Prelude.{ℕ, zero, suc, ◌+◌, ◌*◌, ◌/◌, ◌==◌, Bool, true, false, if◌then◌else◌, List, [], ◌∷◌, ◌++◌, length, take, drop, map, get_or}
+-- The canonical buffers of a column, and its nodes (Arrow Columnar Format, "Physical Memory Layout" and "RecordBatch message"): both in
+-- preorder, an array's own and then those of its children.
+use Rattle.std.specs.Prelude.{ℕ, suc, pos, ◌+◌, ◌==◌, if◌then◌else◌, List, [], ◌∷◌, ◌++◌, length, map}
 use Rattle.std.specs.List.{flat_map}
-use Rattle.std.specs.Int.{w128}
-use Rattle.byteorder.specs.Endian.{little_bytes, low_bytes}
-use Rattle.values.specs.Datum.{Datum, null, whole, text, bytes}
-use Rattle.values.specs.declared.types.ColType.{ColType}
-use Rattle.values.specs.declared.types.ColType.TheVariants.{Int64, Utf8}
-
-abbrev pub cell_at : ℕ → List Datum → Datum
-cell_at j row = get_or row j null
-
--- the cells of column j
-abbrev pub column : ℕ → List (List Datum) → List Datum
-column j rows = map (cell_at j) rows
-
-abbrev pub is_valid : Datum → Bool
-is_valid null = false
-is_valid _ = true
-
-abbrev pub null_count : List Datum → ℕ
-null_count [] = 0
-null_count (c ∷ cs) = (if is_valid c then 0 else 1) + null_count cs
-
--- "Validity bitmaps": the least significant bit is the first
-
-abbrev pub byte_of : List Bool → ℕ
-byte_of [] = 0
-byte_of (b ∷ bs) = (if b then 1 else 0) + 2 * byte_of bs
-
--- n bytes of bits; unused bits are zero
-abbrev pub packed : ℕ → List Bool → List ℕ
-packed zero bs = []
-packed (suc n) bs = byte_of (take 8 bs) ∷ packed n (drop 8 bs)
-
-abbrev pub bitmap : List Bool → List ℕ
-bitmap bs = packed ((length bs + 7) / 8) bs
+use Rattle.byteorder.specs.Endian.{little_bytes}
+use Rattle.bitmaps.specs.Packed.{bytes_of}
+use Rattle.values.specs.Rose.{Rose, node, Roses, none, more}
+use Rattle.values.specs.Datum.{Datum}
+use Rattle.values.specs.declared.layout.OffsetWidth.{OffsetWidth}
+use Rattle.values.specs.declared.layout.Layout.{Layout}
+use Rattle.values.specs.declared.layout.Layout.TheVariants.{Bits, Number, Decimal, Fixed, Text, Bytes, List as Listed, Struct}
+use Rattle.values.specs.Layouts.{bytes_in as width_of, offset_bytes}
+use Rattle.array_layout.specs.declared.array.Node.{Node}
+use Rattle.body_writer.specs.Slots.{is_valid, null_count, truth_in, number_in, fixed_in, bytes_in, items_in, length_in, part}
 
 -- no bytes where nothing is null
-abbrev pub validity : List Datum → List ℕ
-validity cs = if null_count cs == 0 then [] else bitmap (map is_valid cs)
+unfoldable pub validity : List Datum → List ℕ
+validity cs = if null_count cs == 0 then [] else bytes_of (map is_valid cs)
 
--- "Fixed-size primitive layout": two's complement of 64 bits, zeros for a null
+unfoldable pub truths : List Datum → List ℕ
+truths cs = bytes_of (map truth_in cs)
 
-abbrev pub number_in : Datum → ℕ
-number_in (whole n) = low_bytes w128 8 n
-number_in _ = 0
+-- w bytes a slot
+unfoldable pub numbers : ℕ → List Datum → List ℕ
+numbers w cs = flat_map (λ c. little_bytes w (number_in w c)) cs
 
-abbrev pub numbers : List Datum → List ℕ
-numbers cs = flat_map (λ c. little_bytes 8 (number_in c)) cs
+unfoldable pub fixed : ℕ → List Datum → List ℕ
+fixed w cs = flat_map (fixed_in w) cs
 
--- "Variable-size binary layout": where each text starts and ends, nothing for a null, and the texts
+-- where runs of these lengths begin, one after the other, and where the last one ends
+unfoldable pub offsets_from : OffsetWidth → ℕ → List ℕ → List ℕ
+offsets_from o at [] = little_bytes (offset_bytes o) at
+offsets_from o at (n ∷ ns) = little_bytes (offset_bytes o) at ++ offsets_from o (at + n) ns
 
-abbrev pub bytes_in : Datum → List ℕ
-bytes_in (text t) = t
-bytes_in (bytes b) = b
-bytes_in _ = []
+-- the bytes of texts and of bytes, and the items of lists, one after the other
 
-abbrev pub offsets_from : ℕ → List Datum → List ℕ
-offsets_from at [] = little_bytes 4 at
-offsets_from at (c ∷ cs) = little_bytes 4 at ++ offsets_from (at + length (bytes_in c)) cs
+unfoldable pub joined : List Datum → List ℕ
+joined cs = flat_map bytes_in cs
 
-abbrev pub offsets : List Datum → List ℕ
-offsets cs = offsets_from 0 cs
+unfoldable pub items : List Datum → List Datum
+items cs = flat_map items_in cs
 
-abbrev pub texts : List Datum → List ℕ
-texts cs = flat_map bytes_in cs
+unfoldable pub offsets : OffsetWidth → List Datum → List ℕ
+offsets o cs = offsets_from o 0 (map length_in cs)
 
--- the buffers of a column of this type
-abbrev pub buffers : ColType → List Datum → List (List ℕ)
-buffers Int64 cs = validity cs ∷ numbers cs ∷ []
-buffers Utf8 cs = validity cs ∷ offsets cs ∷ texts cs ∷ []
+-- what an array's slots hold: after validity, its offsets and its values
+abbrev pub value_buffers : Layout → List Datum → List (List ℕ)
+value_buffers Bits cs = truths cs ∷ []
+value_buffers (Number w s) cs = numbers (width_of w) cs ∷ []
+value_buffers (Decimal p) cs = numbers 16 cs ∷ []
+value_buffers (Fixed w) cs = fixed w cs ∷ []
+value_buffers (Text o) cs = offsets o cs ∷ joined cs ∷ []
+value_buffers (Bytes o) cs = offsets o cs ∷ joined cs ∷ []
+value_buffers (Listed o) cs = offsets o cs ∷ []
+value_buffers Struct cs = []
+
+-- the buffers that an array has of its own
+abbrev pub own_buffers : Layout → List Datum → List (List ℕ)
+own_buffers l cs = validity cs ∷ value_buffers l cs
+
+-- the cells of child j
+abbrev pub child_cells : Layout → ℕ → List Datum → List Datum
+child_cells (Listed o) j cs = items cs
+child_cells Struct j cs = map (part j) cs
+child_cells l j cs = []
+
+abbrev mutual
+  pub buffers : Rose Layout → List Datum → List (List ℕ)
+  buffers (node l kids) cs = own_buffers l cs ++ buffers_below l 0 kids cs
+
+  -- those of the children from number j on
+  pub buffers_below : Layout → ℕ → Roses Layout → List Datum → List (List ℕ)
+  buffers_below l j none cs = []
+  buffers_below l j (more t ts) cs = buffers t (child_cells l j cs) ++ buffers_below l (suc j) ts cs
+
+abbrev pub own_node : List Datum → Node
+own_node cs = record { length = length cs; nulls = pos (null_count cs) }
+
+abbrev mutual
+  pub nodes : Rose Layout → List Datum → List Node
+  nodes (node l kids) cs = own_node cs ∷ nodes_below l 0 kids cs
+
+  pub nodes_below : Layout → ℕ → Roses Layout → List Datum → List Node
+  nodes_below l j none cs = []
+  nodes_below l j (more t ts) cs = nodes t (child_cells l j cs) ++ nodes_below l (suc j) ts cs

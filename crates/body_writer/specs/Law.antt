@@ -1,9 +1,86 @@
--- How long the body of a batch is.
-use Rattle.std.specs.Prelude.{◌^◌, ◌≤◌, List, length}
+-- What columns that are written are read as, how many nodes and buffers they have, and how long they are.
+use Rattle.std.specs.Prelude.{◌≡◌, ℕ, suc, ◌+◌, ◌*◌, ◌%◌, ◌^◌, ◌<◌, ◌≤◌, All, Ok, List, [], ◌∷◌, ◌++◌, length, map}
+use Rattle.values.specs.Rose.{Rose, node, Roses, none, more, rose_size}
 use Rattle.values.specs.Datum.{Datum}
-use Rattle.values.specs.Logical.{LogicalField}
-use Rattle.body_writer.specs.Body.{body_bytes}
-use Rattle.body_writer.specs.Weights.{IsBatch}
+use Rattle.values.specs.declared.layout.Layout.{Layout}
+use Rattle.values.specs.declared.layout.Layout.TheVariants.{Struct}
+use Rattle.values.specs.Layouts.{IsLayout, AreLayouts, Holds}
+use Rattle.array_layout.specs.declared.array.Node.{Node}
+use Rattle.array_layout.specs.declared.array.Span.{Span}
+use Rattle.array_layout.specs.declared.array.Part.{Part}
+use Rattle.array_layout.specs.Placing.{node_at, span_at, bytes_of, spans_in, spans_below, placed, placed_all}
+use Rattle.array_layout.specs.Sound.{LiesIn, IsPlaced, ArePlaced}
+use Rattle.array_layout.specs.Cells.{column_of}
+use Rattle.body_writer.specs.Slots.{part}
+use Rattle.body_writer.specs.Columns.{buffers, buffers_below, nodes, nodes_below}
+use Rattle.body_writer.specs.Body.{laid, spans_from}
+use Rattle.body_writer.specs.Weights.{weights}
 
-abbrev pub ShortBody : Type 0
-ShortBody = (fs : List LogicalField) (rows : List (List Datum)) → IsBatch fs rows → length (body_bytes fs rows) ≤ 2 ^ 28
+-- the nodes from number n on are these
+abbrev pub AreNodes : List Node → ℕ → List Node → Type 0
+AreNodes all n [] = Unit {0}
+AreNodes all n (x ∷ xs) = (node_at all n ≡ x) × AreNodes all (suc n) xs
+
+-- the buffers from number b on lie in the body, and hold these bytes
+abbrev pub Stand : List ℕ → List Span → ℕ → List (List ℕ) → Type 0
+Stand body spans b [] = Unit {0}
+Stand body spans b (x ∷ xs) = LiesIn body (span_at spans b) × (bytes_of body (span_at spans b) ≡ x) × Stand body spans (suc b) xs
+
+-- Whatever stands around its nodes and buffers: a column's cells are read back, and no fault stands in it.
+abbrev pub ColumnLaw : Type 0
+ColumnLaw =
+    (t : Rose Layout) (cs : List Datum) (body : List ℕ) (all : List Node) (spans : List Span) (n b : ℕ) → IsLayout t → All (Holds t) cs
+    → weights t cs < 2 ^ 31 → AreNodes all n (nodes t cs) → Stand body spans b (buffers t cs)
+    → column_of body (placed all spans n b t) ≡ Ok cs
+
+abbrev pub PlacedLaw : Type 0
+PlacedLaw =
+    (t : Rose Layout) (cs : List Datum) (body : List ℕ) (all : List Node) (spans : List Span) (n b : ℕ) → IsLayout t → All (Holds t) cs
+    → weights t cs < 2 ^ 31 → AreNodes all n (nodes t cs) → Stand body spans b (buffers t cs) → IsPlaced body (placed all spans n b t)
+
+-- as many nodes as the tree has, as many buffers as its layouts want
+abbrev pub NodesLaw : Type 0
+NodesLaw = (t : Rose Layout) (cs : List Datum) → length (nodes t cs) ≡ rose_size t
+
+abbrev pub BuffersLaw : Type 0
+BuffersLaw = (t : Rose Layout) (cs : List Datum) → length (buffers t cs) ≡ spans_in t
+
+-- the columns of a batch, from column j on, are read as these rows' cells
+abbrev pub AreRead : List ℕ → Roses Part → ℕ → List Datum → Type 0
+AreRead body none j rows = Unit {0}
+AreRead body (more p ps) j rows = (column_of body p ≡ Ok (map (part j) rows)) × AreRead body ps (suc j) rows
+
+-- The columns of a batch are the children of a struct whose cells are the rows: each is read back.
+abbrev pub BatchLaw : Type 0
+BatchLaw =
+    (ts : Roses Layout) (rows : List Datum) (body : List ℕ) (all : List Node) (spans : List Span) (n b : ℕ) → AreLayouts ts
+    → All (Holds (node Struct ts)) rows → weights (node Struct ts) rows < 2 ^ 31 → AreNodes all n (nodes_below Struct 0 ts rows)
+    → Stand body spans b (buffers_below Struct 0 ts rows)
+    → AreRead body (placed_all all spans n b ts) 0 rows × ArePlaced body (placed_all all spans n b ts)
+
+-- nodes and buffers stand where they are appended
+
+abbrev pub NodesStandLaw : Type 0
+NodesStandLaw = (before xs after : List Node) → AreNodes (before ++ (xs ++ after)) (length before) xs
+
+abbrev pub BuffersStandLaw : Type 0
+BuffersStandLaw =
+    (before after : List ℕ) (sb sa : List Span) (xs : List (List ℕ))
+    → Stand (before ++ (laid xs ++ after)) (sb ++ (spans_from (length before) xs ++ sa)) (length sb) xs
+
+-- each at a multiple of 8
+abbrev pub AlignedLaw : Type 0
+AlignedLaw = (at : ℕ) (xs : List (List ℕ)) → at % 8 ≡ 0 → All (λ (s : Span). s.from % 8 ≡ 0) (spans_from at xs)
+
+-- The weights bound the bytes with their padding. An offset of 64 bits weighs 4 and takes 8: hence 7 for 4.
+abbrev pub SizeLaw : Type 0
+SizeLaw =
+    (t : Rose Layout) (cs : List Datum) → IsLayout t → All (Holds t) cs
+    → 4 * length (laid (buffers t cs)) ≤ 7 * weights t cs + 64 * spans_in t
+
+-- rows of summed weight 2^27, where the 1 a row that a struct weighs is not counted
+abbrev pub BatchSizeLaw : Type 0
+BatchSizeLaw =
+    (ts : Roses Layout) (rows : List Datum) → AreLayouts ts → All (Holds (node Struct ts)) rows
+    → weights (node Struct ts) rows ≤ 2 ^ 27 + length rows → spans_below ts ≤ 4096
+    → length (laid (buffers_below Struct 0 ts rows)) ≤ 2 ^ 28

@@ -1,7 +1,8 @@
+pub mod Slots
 pub mod Columns
 pub mod Body
 pub mod Weights
 pub mod Grows
-pub mod BodyLaw
-pub mod ColumnLaw
 pub mod Law
+pub mod Batch
+pub mod Sample

@@ -1,21 +1,28 @@
--- What rows weigh, and the batches that a body is written for.
-use Rattle.std.specs.Prelude.{◌≡◌, ℕ, ◌+◌, ◌^◌, ◌≤◌, List, [], ◌∷◌, length, All}
-use Rattle.values.specs.Datum.{Datum}
-use Rattle.values.specs.Logical.{LogicalField}
-use Rattle.values.specs.Weight.{weight_of}
+-- What a column weighs.
+use Rattle.std.specs.Prelude.{ℕ, ◌+◌, ◌^◌, nat_lt, if◌then◌else◌, List, [], ◌∷◌}
+use Rattle.values.specs.Rose.{Rose}
+use Rattle.values.specs.Datum.{Datum, text, bytes, list, Items, no_items}
+use Rattle.values.specs.declared.layout.Layout.{Layout}
+use Rattle.values.specs.Layouts.{weight}
 
-abbrev pub row_weight : List LogicalField → List Datum → ℕ
-row_weight [] cs = 0
-row_weight (f ∷ fs) [] = 0
-row_weight (f ∷ fs) (c ∷ cs) = weight_of f.col_type c + row_weight fs cs
+abbrev pub weights : Rose Layout → List Datum → ℕ
+weights t [] = 0
+weights t (c ∷ cs) = weight t c + weights t cs
 
-abbrev pub rows_weight : List LogicalField → List (List Datum) → ℕ
-rows_weight fs [] = 0
-rows_weight fs (r ∷ rs) = row_weight fs r + rows_weight fs rs
+-- a weight, exact up to that of the heaviest row, and 1 more where it is above
+unfoldable pub capped : ℕ → ℕ
+capped n = if nat_lt n (2 ^ 26 + 1) then n else 2 ^ 26 + 1
 
--- a cell a column, and few and light enough rows for one batch
-pub record IsBatch (fields : List LogicalField) (rows : List (List Datum)) : Type 0 where
-  pub few : length rows ≤ 1024
-  pub complete : All (λ row. length row ≡ length fields) rows
-  pub narrow : length fields ≤ 1024
-  pub light : rows_weight fields rows ≤ 2 ^ 27
+-- what texts, bytes and lists hold beyond their slots
+
+abbrev pub text_in : Datum → List ℕ
+text_in (text b) = b
+text_in _ = []
+
+abbrev pub blob_in : Datum → List ℕ
+blob_in (bytes b) = b
+blob_in _ = []
+
+abbrev pub items_in : Datum → Items
+items_in (list es) = es
+items_in _ = no_items

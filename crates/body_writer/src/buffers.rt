@@ -1,150 +1,225 @@
-//! The buffers of one column, each built whole.
+//! The buffers of one array, each built whole, and the cells of its children.
 
-ghost use Rattle.std.specs.Prelude.{ℕ, ◌≡◌, ◌+◌, ◌*◌, ◌^◌, ◌<◌, ◌≤◌, ◌++◌, IfOk, OnOk, length, map, Bool};
-ghost use Rattle.byteorder.specs.Endian.{little_bytes};
-ghost use Rattle.body_writer.specs.Columns.{cell_at, column, is_valid, null_count, byte_of, packed, bitmap, validity, number_in, numbers, bytes_in, offsets, texts};
-ghost use Rattle.body_writer.specs.Body.{cells, HasColumn};
+ghost use Rattle.std.specs.Prelude.{◌≡◌, ◌+◌, ◌*◌, ◌^◌, ◌<◌, ◌≤◌, ◌++◌, IfOk, OnOk, length, map};
+ghost use Rattle.std.specs.Prelude.{replicate};
+ghost use Rattle.std.specs.Int.{w128};
+ghost use Rattle.byteorder.specs.Endian.{little_bytes, low_bytes};
+ghost use Rattle.body_writer.specs.Slots.{part as part_of};
+ghost use Rattle.bitmaps.specs.Packed.{bytes_of};
+ghost use Rattle.values.specs.Layouts.{offset_bytes};
+ghost use Rattle.body_writer.specs.Slots.{cell_of, cells_of, null_count, number_in, fixed_in, items_in, total_length};
+ghost use Rattle.body_writer.specs.Columns.{validity as validity_of, truths as truths_of, numbers as numbers_of, fixed as fixed_of, offsets as offsets_of, joined as joined_of, items as items_of, child_cells as cells_of_child};
 
+use crate::slots;
+use bitmaps::Bitmap;
 use byteorder::{ByteOrder, LittleEndian};
 use std::alloc::{AllocError, Global};
-use values::{Kind, Row, Value};
+use values::{Kind, Layout, OffsetWidth, Value};
 
-/// The cell of a row in column `j`.
-#[tactic(auto, using(crate::proofs::Steps::reads))]
-fn cell(row: &Row, j: usize) -> &Value
-    requires { j < length row.now.items }
-    ensures { result.now ≡ cell_at j row.now.items }
-{
-    &row[j]
-}
-
-fn is_set(value: &Value) -> bool
-    ensures { result ≡ is_valid value.now }
-{
-    match &value.kind {
-        Kind::Null => false,
-        _ => true,
-    }
-}
-
-fn text_in(value: &Value) -> &[u8]
-    ensures { result.now ≡ bytes_in value.now }
-{
-    match &value.kind {
-        Kind::Text(text) => text.as_bytes(),
-        Kind::Bytes(bytes) => bytes,
-        _ => &[],
-    }
-}
-
-fn number_bytes(value: &Value) -> [u8; 8]
-    ensures { result ≡ little_bytes 8 (number_in value.now) }
-{
-    let mut bytes = [0u8; 8];
-    match &value.kind {
-        Kind::Whole(number) => LittleEndian::write_int128(&mut bytes, *number, 8),
-        _ => {}
-    }
-    bytes
-}
-
-/// How many cells of column `j` are null.
-#[tactic(auto, using(crate::proofs::Steps::steps))]
-pub fn count_nulls(rows: &[Row], j: usize) -> u64
-    requires { HasColumn j rows.now }
-    ensures value { result ≡ null_count (column j (cells rows.now)) }
-    ensures bound { result ≤ length rows.now }
+/// How many cells are null.
+#[tactic(auto, using(crate::proofs::Cells::steps))]
+pub fn count_nulls(cells: &[Option<&Value>]) -> usize
+    ensures value { result ≡ null_count (cells_of cells.now) }
+    ensures bound { result ≤ length cells.now }
 {
     let mut nulls = 0;
-    for row in rows {
-        if !is_set(cell(row, j)) {
+    for cell in cells {
+        if !slots::is_set(*cell) {
             nulls += 1;
         }
     }
     nulls
 }
 
-#[tactic(auto, using(crate::proofs::Steps::steps))]
-pub fn numbers_buffer(alloc: Global, rows: &[Row], j: usize) -> Result<Vec<u8>, AllocError>
-    requires few { length rows.now ≤ 1024 }
-    requires complete { HasColumn j rows.now }
-    ensures { IfOk result (λ buffer. buffer.items ≡ numbers (column j (cells rows.now))) }
+/// A bit a cell, or none where no cell is null.
+#[tactic(auto, using(crate::proofs::Cells::bits))]
+pub fn validity(alloc: Global, cells: &[Option<&Value>]) -> Result<Bitmap, AllocError>
+    requires { length cells.now < 2 ^ 31 }
+    ensures { IfOk result (λ bits. bytes_of bits ≡ validity_of (cells_of cells.now)) }
 {
-    let mut buffer = Vec::with_capacity(alloc, 8 * rows.len())?;
-    for row in rows {
-        buffer.extend_from_slice(&number_bytes(cell(row, j)))?;
+    let mut bits = Bitmap::new(alloc);
+    if count_nulls(cells) == 0 {
+        return Ok(bits);
     }
-    Ok(buffer)
+    for cell in cells {
+        bits.push(slots::is_set(*cell))?;
+    }
+    Ok(bits)
 }
 
-#[tactic(auto, using(crate::proofs::Steps::steps))]
-pub fn texts_buffer(alloc: Global, rows: &[Row], j: usize) -> Result<Vec<u8>, AllocError>
-    requires { HasColumn j rows.now }
-    ensures { IfOk result (λ buffer. buffer.items ≡ texts (column j (cells rows.now))) }
+#[tactic(auto, using(crate::proofs::Cells::steps), unfolding(crate::specs::Columns::truths))]
+pub fn truths(alloc: Global, cells: &[Option<&Value>]) -> Result<Bitmap, AllocError>
+    requires { length cells.now < 2 ^ 31 }
+    ensures { IfOk result (λ bits. bytes_of bits ≡ truths_of (cells_of cells.now)) }
+{
+    let mut bits = Bitmap::new(alloc);
+    for cell in cells {
+        bits.push(slots::truth_in(*cell))?;
+    }
+    Ok(bits)
+}
+
+fn push_number(buffer: &mut Vec<u8>, number: i128, width: usize) -> Result<(), AllocError>
+    requires some { 1 ≤ width }
+    requires few { width ≤ 16 }
+    ensures { OnOk result (buffer.new.items ≡ buffer.old.items ++ little_bytes width (low_bytes w128 width number)) }
+{
+    let mut bytes = [0u8; 16];
+    LittleEndian::write_int128(&mut bytes, number, width);
+    buffer.extend_from_slice(&bytes[..width])
+}
+
+/// `width` bytes a cell.
+#[tactic(auto, using(crate::proofs::Cells::steps), unfolding(crate::specs::Columns::numbers))]
+pub fn numbers(alloc: Global, cells: &[Option<&Value>], width: usize) -> Result<Vec<u8>, AllocError>
+    requires some { 1 ≤ width }
+    requires few { width ≤ 16 }
+    ensures { IfOk result (λ buffer. buffer.items ≡ numbers_of width (cells_of cells.now)) }
 {
     let mut buffer = Vec::new(alloc);
-    for row in rows {
-        buffer.extend_from_slice(text_in(cell(row, j)))?;
+    for cell in cells {
+        push_number(&mut buffer, slots::whole_in(*cell), width)?;
     }
     Ok(buffer)
 }
 
-/// Where each text starts, and where the last one ends.
-#[tactic(auto, using(crate::proofs::Steps::steps))]
-pub fn offsets_buffer(alloc: Global, rows: &[Row], j: usize) -> Result<Vec<u8>, AllocError>
-    requires few { length rows.now ≤ 1024 }
-    requires complete { HasColumn j rows.now }
-    requires short { length (texts (column j (cells rows.now))) < 2 ^ 31 }
-    ensures { IfOk result (λ buffer. buffer.items ≡ offsets (column j (cells rows.now))) }
+fn push_zeros(buffer: &mut Vec<u8>, count: usize) -> Result<(), AllocError>
+    ensures { OnOk result (buffer.new.items ≡ buffer.old.items ++ replicate count 0) }
 {
-    let mut buffer = Vec::with_capacity(alloc, 4 * (rows.len() + 1))?;
-    let mut end = 0;
-    for row in rows {
-        push_offset(&mut buffer, end)?;
-        end += text_in(cell(row, j)).len() as u64;
+    for _ in 0..count {
+        buffer.push(0)?;
     }
-    push_offset(&mut buffer, end)?;
+    Ok(())
+}
+
+fn push_fixed(buffer: &mut Vec<u8>, cell: Option<&Value>, width: usize) -> Result<(), AllocError>
+    ensures { OnOk result (buffer.new.items ≡ buffer.old.items ++ fixed_in width (cell_of cell.entry)) }
+{
+    let Some(value) = cell else {
+        return push_zeros(buffer, width);
+    };
+    match &value.kind {
+        Kind::Bytes(bytes) => buffer.extend_from_slice(bytes),
+        _ => push_zeros(buffer, width),
+    }
+}
+
+/// The bytes of each cell, and `width` zeros for a null.
+#[tactic(auto, using(crate::proofs::Cells::steps), unfolding(crate::specs::Columns::fixed))]
+pub fn fixed(alloc: Global, cells: &[Option<&Value>], width: usize) -> Result<Vec<u8>, AllocError>
+    ensures { IfOk result (λ buffer. buffer.items ≡ fixed_of width (cells_of cells.now)) }
+{
+    let mut buffer = Vec::new(alloc);
+    for cell in cells {
+        push_fixed(&mut buffer, *cell, width)?;
+    }
     Ok(buffer)
 }
 
-fn push_offset(buffer: &mut Vec<u8>, offset: u64) -> Result<(), AllocError>
+/// The bytes of all cells, one after the other.
+#[tactic(auto, using(crate::proofs::Cells::steps), unfolding(crate::specs::Columns::joined))]
+pub fn joined(alloc: Global, cells: &[Option<&Value>]) -> Result<Vec<u8>, AllocError>
+    ensures { IfOk result (λ buffer. buffer.items ≡ joined_of (cells_of cells.now)) }
+{
+    let mut buffer = Vec::new(alloc);
+    for cell in cells {
+        buffer.extend_from_slice(slots::bytes_in(*cell))?;
+    }
+    Ok(buffer)
+}
+
+fn push_offset(buffer: &mut Vec<u8>, width: OffsetWidth, offset: u64) -> Result<(), AllocError>
     requires { offset < 2 ^ 31 }
-    ensures { OnOk result (buffer.new.items ≡ buffer.old.items ++ little_bytes 4 offset) }
+    ensures { OnOk result (buffer.new.items ≡ buffer.old.items ++ little_bytes (offset_bytes width) offset) }
 {
-    let mut bytes = [0u8; 4];
-    LittleEndian::write_u32(&mut bytes, offset as u32);
-    buffer.extend_from_slice(&bytes)
-}
-
-/// A byte of the validity bitmap, for at most eight rows.
-#[tactic(auto, using(crate::proofs::Steps::steps))]
-fn validity_byte(rows: &[Row], j: usize) -> u8
-    requires few { length rows.now ≤ 8 }
-    requires complete { HasColumn j rows.now }
-    ensures value { result ≡ byte_of (map is_valid (column j (cells rows.now))) }
-    ensures bound { result < 2 ^ length rows.now }
-{
-    match rows {
-        [] => 0,
-        [first, rest @ ..] => is_set(cell(first, j)) as u8 + 2 * validity_byte(rest, j),
+    let mut bytes = [0u8; 8];
+    LittleEndian::write_u64(&mut bytes, offset);
+    match width {
+        OffsetWidth::Bits32 => buffer.extend_from_slice(&bytes[..4]),
+        OffsetWidth::Bits64 => buffer.extend_from_slice(&bytes),
     }
 }
 
-/// The validity bitmap, or nothing where no cell is null.
-#[tactic(auto, using(crate::proofs::Steps::steps))]
-pub fn validity_buffer(alloc: Global, rows: &[Row], j: usize) -> Result<Vec<u8>, AllocError>
-    requires few { length rows.now ≤ 1024 }
-    requires complete { HasColumn j rows.now }
-    ensures { IfOk result (λ buffer. buffer.items ≡ validity (column j (cells rows.now))) }
+/// Where the bytes or the items of each cell start, and where the last ones end.
+#[tactic(auto, using(crate::proofs::Cells::steps), unfolding(crate::specs::Columns::offsets, crate::specs::Columns::offsets_from))]
+pub fn offsets(
+    alloc: Global,
+    cells: &[Option<&Value>],
+    width: OffsetWidth,
+) -> Result<Vec<u8>, AllocError>
+    requires { total_length (cells_of cells.now) < 2 ^ 31 }
+    ensures { IfOk result (λ buffer. buffer.items ≡ offsets_of width (cells_of cells.now)) }
 {
-    if count_nulls(rows, j) == 0 {
-        return Ok(Vec::new(alloc));
+    let mut buffer = Vec::new(alloc);
+    let mut end = 0;
+    for cell in cells {
+        push_offset(&mut buffer, width, end)?;
+        end += slots::length_in(*cell) as u64;
     }
-    let len = rows.len().div_ceil(8);
-    let mut buffer = Vec::with_capacity(alloc, len)?;
-    for i in 0..len {
-        let end = rows.len().min(8 * i + 8);
-        buffer.push(validity_byte(&rows[8 * i..end], j))?;
-    }
+    push_offset(&mut buffer, width, end)?;
     Ok(buffer)
+}
+
+/// Appends the items of a list.
+#[tactic(auto, using(crate::proofs::Cells::reading))]
+fn push_items<'a>(
+    all: &mut Vec<Option<&'a Value>>,
+    cell: Option<&'a Value>,
+) -> Result<(), AllocError>
+    ensures { OnOk result (cells_of all.new.items ≡ cells_of all.old.items ++ items_in (cell_of cell.entry)) }
+{
+    let Some(value) = cell else {
+        return Ok(());
+    };
+    if let Kind::List(items) = &value.kind {
+        for item in items {
+            all.push(Some(item))?;
+        }
+    }
+    Ok(())
+}
+
+#[tactic(auto, using(crate::proofs::Cells::steps), unfolding(crate::specs::Columns::items))]
+fn items<'a>(
+    alloc: Global,
+    cells: &[Option<&'a Value>],
+) -> Result<Vec<Option<&'a Value>>, AllocError>
+    ensures { IfOk result (λ all. cells_of all.items ≡ items_of (cells_of cells.now)) }
+{
+    let mut all = Vec::new(alloc);
+    for cell in cells {
+        push_items(&mut all, *cell)?;
+    }
+    Ok(all)
+}
+
+#[tactic(auto, using(crate::proofs::Cells::steps))]
+fn parts<'a>(
+    alloc: Global,
+    cells: &[Option<&'a Value>],
+    j: usize,
+) -> Result<Vec<Option<&'a Value>>, AllocError>
+    ensures { IfOk result (λ all. cells_of all.items ≡ map (part_of j) (cells_of cells.now)) }
+{
+    let mut all = Vec::new(alloc);
+    for cell in cells {
+        all.push(slots::part(*cell, j))?;
+    }
+    Ok(all)
+}
+
+/// The cells of child `j`.
+pub fn child_cells<'a>(
+    alloc: Global,
+    layout: Layout,
+    cells: &[Option<&'a Value>],
+    j: usize,
+) -> Result<Vec<Option<&'a Value>>, AllocError>
+    ensures { IfOk result (λ all. cells_of all.items ≡ cells_of_child layout j (cells_of cells.now)) }
+{
+    match layout {
+        Layout::List { .. } => items(alloc, cells),
+        Layout::Struct => parts(alloc, cells, j),
+        _ => Ok(Vec::new(alloc)),
+    }
 }

@@ -1,24 +1,34 @@
 //! Laws of the definitions, each the contract of a function that does nothing.
 
-ghost use Rattle.body_writer.specs.BodyLaw.{BodyLaw};
-ghost use Rattle.body_writer.specs.ColumnLaw.{NumbersLaw, TextsLaw, ValidityLaw};
-ghost use Rattle.body_writer.specs.Law.{ShortBody};
+ghost use Rattle.body_writer.specs.Law.{AlignedLaw, BatchLaw, BatchSizeLaw, BuffersLaw, BuffersStandLaw, ColumnLaw, NodesLaw, NodesStandLaw, PlacedLaw, SizeLaw};
 
-/// In each body, every buffer stands at its span, and every span starts at a multiple of 8.
-#[tactic(auto, using(crate::proofs::Standing::body_laws))]
-pub fn body_law()
-    ensures { BodyLaw }
-{}
-
-/// From the buffers of a column each of its cells is read back.
-#[tactic(auto, using(crate::proofs::ReadBack::column_laws))]
+/// Whatever stands around its nodes and buffers, a column that is written is read as the same cells, and no fault stands in it. The columns
+/// of a batch are so read one after the other.
+#[tactic(auto, using(crate::proofs::ColumnRead::column_laws))]
 pub fn column_law()
-    ensures numbers { NumbersLaw }
-    ensures texts { TextsLaw }
-    ensures validity { ValidityLaw }
+    ensures cells { ColumnLaw }
+    ensures placed { PlacedLaw }
+    ensures batch { BatchLaw }
 {}
 
-/// The body of a batch is at most 2^28 bytes, since the weights of its rows bound it.
-pub fn short_body_law()
-    ensures { ShortBody }
+/// A column has a node an array, and as many buffers as their layouts want.
+#[tactic(auto, using(crate::proofs::ColumnRead::column_laws))]
+pub fn count_law()
+    ensures nodes { NodesLaw }
+    ensures buffers { BuffersLaw }
+{}
+
+/// What is appended stands behind what was there, each buffer at a multiple of 8.
+#[tactic(auto, using(crate::proofs::Standing::standing))]
+pub fn standing_law()
+    ensures nodes { NodesStandLaw }
+    ensures buffers { BuffersStandLaw }
+    ensures aligned { AlignedLaw }
+{}
+
+/// The weights of cells bound the bytes of their column, and those of rows the bytes of their batch.
+#[tactic(auto, using(crate::proofs::Sizing::sizes))]
+pub fn size_law()
+    ensures column { SizeLaw }
+    ensures batch { BatchSizeLaw }
 {}

@@ -1,14 +1,21 @@
-//! The canonical body of a record batch: the buffers of its columns, where they stand, and the
-//! counts of its arrays.
+//! Columns as they are written: the canonical buffers of a column of any layout.
 //!
-//! `specs/Columns.antt` says what the buffers of a column are, `specs/Body.antt` how they are laid out,
-//! `specs/Weights.antt` which batches have a body. That what is written can be read again is said by
-//! `specs/BodyLaw.antt` and `specs/ColumnLaw.antt`, and carried by `body_law` and `column_law`.
+//! `specs/Columns.antt` says what the nodes and buffers of a column are, `specs/Body.antt` how buffers are laid out, `specs/Law.antt` that
+//! a column that is written is read back. The laws are carried by [`column_law`] and its neighbours.
 #![tactic(auto)]
 
+mod batch;
 mod body;
 mod buffers;
+mod column;
 mod laws;
+mod slots;
+#[cfg(test)]
+mod tests;
+mod weigh;
 
-pub use body::{Body, Node, Span, write_body};
-pub use laws::{body_law, column_law, short_body_law};
+pub use batch::write_body;
+pub use body::Body;
+pub use column::write_column;
+pub use laws::{column_law, count_law, size_law, standing_law};
+pub use weigh::{row_weight, weight};

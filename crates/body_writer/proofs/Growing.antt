@@ -1,0 +1,35 @@
+-- Buffers that are appended one after another.
+use Rattle.std.proofs.Common.{◌≡◌, ℕ, ◌+◌, List, [], ◌∷◌, ◌++◌, length, refl, ap, sym, ◌∙◌, arith, append_assoc, append-nil, length-append}
+use Rattle.std.proofs.lemmas.List.Concat.{flat_map-append}
+use Rattle.array_layout.specs.declared.array.Node.{Node}
+use Rattle.body_writer.specs.Body.{laid, padded, spans_from}
+use Rattle.body_writer.specs.Grows.{Appends, Grows}
+use Rattle.body_writer.specs.declared.body.Body.{Body}
+
+pub ruleset lengths = (length-append, append_assoc, append-nil)
+
+pub spans_from-append : (at : ℕ) (xs ys : List (List ℕ)) → spans_from at (xs ++ ys) ≡ spans_from at xs ++ spans_from (at + length (laid xs)) ys
+spans_from-append at [] ys = ap (λ n. spans_from n ys) (omega arith)
+spans_from-append at (x ∷ xs) ys =
+    let rest = spans_from-append (at + length (padded x)) xs ys in
+    let both : length (laid (x ∷ xs)) ≡ length (padded x) + length (laid xs) = length-append (padded x) (laid xs) in
+    let place : at + length (padded x) + length (laid xs) ≡ at + length (laid (x ∷ xs)) = omega (arith, both) in
+    ap (λ ss. record { from = at; len = length x } ∷ ss) (rest ∙ ap (λ n. spans_from (at + length (padded x)) xs ++ spans_from n ys) place)
+
+pub Grows-then : {a b c : Body} (ns ms : List Node) (xs ys : List (List ℕ)) → Grows a b ns xs → Grows b c ms ys → Grows a c (ns ++ ms) (xs ++ ys)
+Grows-then {a} {b} {c} ns ms xs ys first second =
+    let moved : length b.bytes.items ≡ length a.bytes.items + length (laid xs) = ap length first.bytes ∙ length-append a.bytes.items (laid xs) in
+    record {
+      nodes = second.nodes ∙ rw first.nodes (append_assoc a.nodes.items ns ms);
+      spans = second.spans ∙ rw (first.spans, moved) (append_assoc a.spans.items (spans_from (length a.bytes.items) xs) (spans_from (length a.bytes.items + length (laid xs)) ys) ∙ ap (λ ss. a.spans.items ++ ss) (sym (spans_from-append (length a.bytes.items) xs ys)));
+      bytes = second.bytes ∙ rw first.bytes (append_assoc a.bytes.items (laid xs) (laid ys) ∙ ap (λ bs. a.bytes.items ++ bs) (sym (flat_map-append padded xs ys)));
+    }
+
+pub Appends-then : {a b c : Body} (xs ys : List (List ℕ)) → Appends a b xs → Appends b c ys → Appends a c (xs ++ ys)
+Appends-then {a} {b} {c} xs ys first second =
+    let moved : length b.bytes.items ≡ length a.bytes.items + length (laid xs) = ap length first.bytes ∙ length-append a.bytes.items (laid xs) in
+    record {
+      nodes = second.nodes ∙ first.nodes;
+      spans = second.spans ∙ rw (first.spans, moved) (append_assoc a.spans.items (spans_from (length a.bytes.items) xs) (spans_from (length a.bytes.items + length (laid xs)) ys) ∙ ap (λ ss. a.spans.items ++ ss) (sym (spans_from-append (length a.bytes.items) xs ys)));
+      bytes = second.bytes ∙ rw first.bytes (append_assoc a.bytes.items (laid xs) (laid ys) ∙ ap (λ bs. a.bytes.items ++ bs) (sym (flat_map-append padded xs ys)));
+    }

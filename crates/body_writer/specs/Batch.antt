@@ -1,0 +1,48 @@
+-- The body of a record batch (Arrow Columnar Format, "RecordBatch message"): its columns stand as the children of a struct would, whose
+-- cells are the rows.
+use Rattle.std.specs.Prelude.{ℕ, ◌+◌, ◌^◌, ◌≤◌, All, List, [], ◌∷◌, length, map}
+use Rattle.values.specs.Rose.{Roses, roses_size}
+use Rattle.values.specs.Datum.{Datum, structure, items_of}
+use Rattle.values.specs.declared.layout.Layout.{Layout}
+use Rattle.values.specs.declared.layout.Layout.TheVariants.{Struct}
+use Rattle.values.specs.Layouts.{AreLayouts, HoldsEach}
+use Rattle.values.specs.Layouts.{row_weight as weight_beside}
+use Rattle.array_layout.specs.declared.array.Node.{Node}
+use Rattle.array_layout.specs.declared.array.Span.{Span}
+use Rattle.body_writer.specs.Body.{laid, spans_from}
+use Rattle.body_writer.specs.Columns.{buffers_below, nodes_below}
+
+-- the struct that a row is
+abbrev pub row_cell : List Datum → Datum
+row_cell row = structure (items_of row)
+
+abbrev pub row_cells : List (List Datum) → List Datum
+row_cells rows = map row_cell rows
+
+unfoldable pub body_nodes : Roses Layout → List (List Datum) → List Node
+body_nodes ls rows = nodes_below Struct 0 ls (row_cells rows)
+
+unfoldable pub body_buffers : Roses Layout → List (List Datum) → List (List ℕ)
+body_buffers ls rows = buffers_below Struct 0 ls (row_cells rows)
+
+unfoldable pub body_spans : Roses Layout → List (List Datum) → List Span
+body_spans ls rows = spans_from 0 (body_buffers ls rows)
+
+unfoldable pub body_bytes : Roses Layout → List (List Datum) → List ℕ
+body_bytes ls rows = laid (body_buffers ls rows)
+
+-- what a row weighs: the sum of its cells
+abbrev pub row_weight : Roses Layout → List Datum → ℕ
+row_weight ls row = weight_beside ls (items_of row)
+
+abbrev pub rows_weight : Roses Layout → List (List Datum) → ℕ
+rows_weight ls [] = 0
+rows_weight ls (r ∷ rs) = row_weight ls r + rows_weight ls rs
+
+-- few and light enough rows for one batch, whose cells are of their columns' layouts
+pub record IsBatch (ls : Roses Layout) (rows : List (List Datum)) : Type 0 where
+  pub few : length rows ≤ 1024
+  pub held : All (λ row. HoldsEach ls (items_of row)) rows
+  pub narrow : roses_size ls ≤ 1024
+  pub layouts : AreLayouts ls
+  pub light : rows_weight ls rows ≤ 2 ^ 27

@@ -1,0 +1,130 @@
+//! A column of any layout.
+
+ghost use Rattle.std.specs.Prelude.{◌≡◌, ◌^◌, ◌<◌, ◌≤◌, OnOk, All, length, [], ◌∷◌};
+ghost use Rattle.values.specs.Rose.{node, kids_of};
+ghost use Rattle.values.specs.Layouts.{bytes_in, IsNode, IsLayout, AreLayouts, Holds};
+ghost use Rattle.body_writer.specs.Slots.{cells_of, total_length};
+ghost use Rattle.body_writer.specs.Columns.{value_buffers, own_node, own_buffers, nodes, nodes_below, buffers, buffers_below};
+ghost use Rattle.body_writer.specs.Columns.{offsets as offsets_of, joined as joined_of};
+ghost use Rattle.body_writer.specs.Weights.{weights};
+ghost use Rattle.body_writer.specs.Grows.{Appends, Grows};
+
+use crate::body::Body;
+use crate::buffers;
+use array_layout::Node;
+use std::alloc::{AllocError, Global};
+use values::{IntWidth, Layout, LayoutTree, OffsetWidth, Value};
+
+pub(crate) fn width_in_bytes(width: IntWidth) -> usize
+    ensures value { result ≡ bytes_in width }
+    ensures some { 1 ≤ result }
+    ensures few { result ≤ 8 }
+{
+    match width {
+        IntWidth::Bits8 => 1,
+        IntWidth::Bits16 => 2,
+        IntWidth::Bits32 => 4,
+        IntWidth::Bits64 => 8,
+    }
+}
+
+/// Texts or bytes: where each starts, and all of them.
+fn append_runs(
+    alloc: Global,
+    offsets: OffsetWidth,
+    cells: &[Option<&Value>],
+    body: &mut Body,
+) -> Result<(), AllocError>
+    requires { total_length (cells_of cells.now) < 2 ^ 31 }
+    ensures { OnOk result (Appends body.old body.new (offsets_of offsets (cells_of cells.now) ∷ joined_of (cells_of cells.now) ∷ [])) }
+{
+    body.append(&buffers::offsets(alloc, cells, offsets)?)?;
+    body.append(&buffers::joined(alloc, cells)?)
+}
+
+/// The offsets and values of these cells, by layout.
+fn append_values(
+    alloc: Global,
+    layout: Layout,
+    cells: &[Option<&Value>],
+    body: &mut Body,
+) -> Result<(), AllocError>
+    requires few { length cells.now < 2 ^ 31 }
+    requires short { total_length (cells_of cells.now) < 2 ^ 31 }
+    ensures { OnOk result (Appends body.old body.new (value_buffers layout (cells_of cells.now))) }
+{
+    match layout {
+        Layout::Bits => body.append(buffers::truths(alloc, cells)?.as_bytes()),
+        Layout::Number { width, .. } => {
+            body.append(&buffers::numbers(alloc, cells, width_in_bytes(width))?)
+        }
+        Layout::Decimal { .. } => body.append(&buffers::numbers(alloc, cells, 16)?),
+        Layout::Fixed { width } => body.append(&buffers::fixed(alloc, cells, width as usize)?),
+        Layout::Text { offsets } => append_runs(alloc, offsets, cells, body),
+        Layout::Bytes { offsets } => append_runs(alloc, offsets, cells, body),
+        Layout::List { offsets } => body.append(&buffers::offsets(alloc, cells, offsets)?),
+        Layout::Struct => Ok(()),
+    }
+}
+
+/// The node and the buffers of these cells, without those of any children.
+fn write_own(
+    alloc: Global,
+    layout: Layout,
+    cells: &[Option<&Value>],
+    body: &mut Body,
+) -> Result<(), AllocError>
+    requires few { length cells.now < 2 ^ 31 }
+    requires short { total_length (cells_of cells.now) < 2 ^ 31 }
+    ensures { OnOk result (Grows body.old body.new (own_node (cells_of cells.now) ∷ []) (own_buffers layout (cells_of cells.now))) }
+{
+    body.nodes.push(Node {
+        length: cells.len(),
+        nulls: buffers::count_nulls(cells) as i64,
+    })?;
+    body.append(buffers::validity(alloc, cells)?.as_bytes())?;
+    append_values(alloc, layout, cells, body)
+}
+
+/// Writes the columns of the children of an array with this layout and these cells.
+#[cycle(column)]
+fn write_children(
+    alloc: Global,
+    layout: Layout,
+    children: &[LayoutTree],
+    cells: &[Option<&Value>],
+    body: &mut Body,
+) -> Result<(), AllocError>
+    requires own { IsNode layout (kids_of children.now) }
+    requires layouts { AreLayouts (kids_of children.now) }
+    requires held { All (Holds (node layout (kids_of children.now))) (cells_of cells.now) }
+    requires light { weights (node layout (kids_of children.now)) (cells_of cells.now) < 2 ^ 31 }
+    ensures { OnOk result (Grows body.old body.new (nodes_below layout 0 (kids_of children.now) (cells_of cells.now))
+        (buffers_below layout 0 (kids_of children.now) (cells_of cells.now))) }
+{
+    for j in 0..children.len() {
+        let child = &children[j];
+        let below = buffers::child_cells(alloc, layout, cells, j)?;
+        write_column(alloc, child, &below, body)?;
+    }
+    Ok(())
+}
+
+/// Appends the column of these cells: its nodes, and its buffers, each with zeros up to a multiple of 8. No cell is a null.
+///
+/// Where memory runs out, what the body holds has no meaning.
+#[cycle(column)]
+pub fn write_column(
+    alloc: Global,
+    layout: &LayoutTree,
+    cells: &[Option<&Value>],
+    body: &mut Body,
+) -> Result<(), AllocError>
+    requires layouts { IsLayout layout.now }
+    requires held { All (Holds layout.now) (cells_of cells.now) }
+    requires light { weights layout.now (cells_of cells.now) < 2 ^ 31 }
+    ensures { OnOk result (Grows body.old body.new (nodes layout.now (cells_of cells.now)) (buffers layout.now (cells_of cells.now))) }
+{
+    write_own(alloc, layout.layout, cells, body)?;
+    write_children(alloc, layout.layout, &layout.children, cells, body)
+}

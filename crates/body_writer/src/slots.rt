@@ -1,0 +1,86 @@
+//! What a cell gives to the buffers of its column.
+
+ghost use Rattle.std.specs.Prelude.{◌≡◌, length};
+ghost use Rattle.body_writer.specs.Slots.{cell_of, is_valid, truth_in as truth_of, whole_in as whole_of, bytes_in as bytes_of, length_in as length_of, part as part_of};
+
+use values::{Kind, Value};
+
+pub fn is_set(cell: Option<&Value>) -> bool
+    ensures { result ≡ is_valid (cell_of cell.entry) }
+{
+    let Some(value) = cell else {
+        return false;
+    };
+    match &value.kind {
+        Kind::Null => false,
+        _ => true,
+    }
+}
+
+pub fn truth_in(cell: Option<&Value>) -> bool
+    ensures { result ≡ truth_of (cell_of cell.entry) }
+{
+    let Some(value) = cell else {
+        return false;
+    };
+    match &value.kind {
+        Kind::Truth(truth) => *truth,
+        _ => false,
+    }
+}
+
+pub fn whole_in(cell: Option<&Value>) -> i128
+    ensures { result ≡ whole_of (cell_of cell.entry) }
+{
+    let Some(value) = cell else {
+        return 0;
+    };
+    match &value.kind {
+        Kind::Whole(number) => *number,
+        _ => 0,
+    }
+}
+
+/// Of a text or of bytes; else none.
+pub fn bytes_in<'a>(cell: Option<&'a Value>) -> &'a [u8]
+    ensures { result.now ≡ bytes_of (cell_of cell.entry) }
+{
+    let Some(value) = cell else {
+        return &[];
+    };
+    match &value.kind {
+        Kind::Text(text) => text.as_bytes(),
+        Kind::Bytes(bytes) => bytes,
+        _ => &[],
+    }
+}
+
+#[tactic(auto, using(crate::proofs::Cells::reading))]
+/// The bytes of a text or of bytes, or the items of a list.
+pub fn length_in(cell: Option<&Value>) -> usize
+    ensures { result ≡ length_of (cell_of cell.entry) }
+{
+    let Some(value) = cell else {
+        return 0;
+    };
+    match &value.kind {
+        Kind::Text(text) => text.len(),
+        Kind::Bytes(bytes) => bytes.len(),
+        Kind::List(items) => items.len(),
+        _ => 0,
+    }
+}
+
+#[tactic(auto, using(crate::proofs::Cells::reading))]
+/// Child `j` of a struct.
+pub fn part<'a>(cell: Option<&'a Value>, j: usize) -> Option<&'a Value>
+    ensures { cell_of result ≡ part_of j (cell_of cell.entry) }
+{
+    let Some(value) = cell else {
+        return None;
+    };
+    match &value.kind {
+        Kind::Struct(children) => children.get(j),
+        _ => None,
+    }
+}
