@@ -1,16 +1,30 @@
 -- Each batch within the limits has a header that can be written.
 use Rattle.std.proofs.Common.{◌≡◌, ℕ, ◌+◌, ◌*◌, ◌^◌, ◌<◌, ◌≤◌, List, [], ◌∷◌, ◌++◌, length, get_or, drop, append_assoc, refl, ap, sym, ◌∙◌, arith}
 use Rattle.std.proofs.lemmas.List.{drop_more}
-use Rattle.byteorder.specs.Endian.{little_bytes}
-use Rattle.flatbuf.specs.Tree.{structs, table}
-use Rattle.flatbuf.specs.Written.{object_end, table_end, items_place, Fits, IsWritable}
+use Rattle.std.specs.Int.{w64}
+use Rattle.byteorder.specs.Endian.{little_bytes, low_bytes}
+use Rattle.flatbuf.specs.Tree.{number, structs, table, Nodes}
+use Rattle.flatbuf.specs.Written.{object_end, table_end, items_place, table_place, vtable_len, up, Fits, IsWritable}
 use Rattle.schema_meta.specs.declared.write.HeaderKind.TheVariants.{RecordBatch}
 use Rattle.schema_meta.specs.MessageTree.{message_slots}
-use Rattle.schema_meta.proofs.SchemaFits.{table_place-le, items_place-le, number-fits}
-use Rattle.body_writer.specs.declared.body.Node.{Node}
-use Rattle.body_writer.specs.declared.body.Span.{Span}
-use Rattle.body_writer.proofs.Sizes.{body_bytes-short, body_spans-few, body_nodes-few}
+use Rattle.schema_meta.proofs.SchemaFits.{up8-le}
+use Rattle.array_layout.specs.declared.array.Node.{Node}
+use Rattle.array_layout.specs.declared.array.Span.{Span}
+use Rattle.stream_writer.proofs.Counts.{body_spans-few, body_nodes-few}
 use Rattle.stream_writer.specs.Batch.{node_bytes, span_bytes, batch_slots}
+
+items_place-le : (n : ℕ) → items_place n ≤ n + 11
+items_place-le n = omega arith
+
+table_place-le : (at : ℕ) (s : Nodes) → table_place at s ≤ at + 14 + vtable_len s
+table_place-le at s =
+    let vtable : ℕ = up 8 at in
+    let first : vtable ≤ at + 7 = up8-le at in
+    let second : up 8 (vtable + vtable_len s) ≤ vtable + vtable_len s + 7 = up8-le (vtable + vtable_len s) in
+    omega (arith, first, second)
+
+number-fits : (w n : ℕ) → 1 ≤ w → w ≤ 8 → n < 256 ^ w → Fits (number w n)
+number-fits w n low high fits = (low, high, fits)
 
 pub node_bytes-length : (ns : List Node) → length (node_bytes ns) ≡ 16 * length ns
 node_bytes-length [] = refl
@@ -51,13 +65,13 @@ pub ruleset batch_fits = (batch-end, batch-writable, body_spans-few, body_nodes-
 -- one more node, one more span
 
 pub nodes-more : (out : List ℕ) (ns : List Node) (i : ℕ) (d : Node) → i < length ns →
-    (out ++ (little_bytes 8 (get_or ns i d).length ++ little_bytes 8 (get_or ns i d).nulls)) ++ node_bytes (drop (i + 1) ns) ≡ out ++ node_bytes (drop i ns)
+    (out ++ (little_bytes 8 (get_or ns i d).length ++ little_bytes 8 (low_bytes w64 8 (get_or ns i d).nulls))) ++ node_bytes (drop (i + 1) ns) ≡ out ++ node_bytes (drop i ns)
 nodes-more out ns i d h =
-    let pair = little_bytes 8 (get_or ns i d).length ++ little_bytes 8 (get_or ns i d).nulls in
+    let pair = little_bytes 8 (get_or ns i d).length ++ little_bytes 8 (low_bytes w64 8 (get_or ns i d).nulls) in
     append_assoc out pair (node_bytes (drop (i + 1) ns)) ∙ ap (λ xs. out ++ node_bytes xs) (sym (drop_more ns i d h))
 
 pub spans-more : (out : List ℕ) (ss : List Span) (i : ℕ) (d : Span) → i < length ss →
-    (out ++ (little_bytes 8 (get_or ss i d).offset ++ little_bytes 8 (get_or ss i d).length)) ++ span_bytes (drop (i + 1) ss) ≡ out ++ span_bytes (drop i ss)
+    (out ++ (little_bytes 8 (get_or ss i d).from ++ little_bytes 8 (get_or ss i d).len)) ++ span_bytes (drop (i + 1) ss) ≡ out ++ span_bytes (drop i ss)
 spans-more out ss i d h =
-    let pair = little_bytes 8 (get_or ss i d).offset ++ little_bytes 8 (get_or ss i d).length in
+    let pair = little_bytes 8 (get_or ss i d).from ++ little_bytes 8 (get_or ss i d).len in
     append_assoc out pair (span_bytes (drop (i + 1) ss)) ∙ ap (λ xs. out ++ span_bytes xs) (sym (drop_more ss i d h))

@@ -7,99 +7,102 @@ use Rattle.std.proofs.lemmas.List.{take-append-drop, take-take, length-take}
 use Rattle.std.proofs.Math.Seq.{take-add}
 use Rattle.std.proofs.lemmas.List.Elements.{All-drop}
 use Rattle.values.specs.Datum.{Datum}
-use Rattle.values.specs.Logical.{LogicalField}
+use Rattle.values.specs.Rose.{Rose, Roses}
+use Rattle.values.specs.Layouts.{AreLayouts}
+use Rattle.values.specs.declared.layout.Layout.{Layout}
+use Rattle.field_types.specs.Logical.{LogicalField}
 use Rattle.schema_meta.specs.SchemaTree.{AreColumns}
-use Rattle.body_writer.specs.Weights.{row_weight, rows_weight}
-use Rattle.stream_writer.specs.Stream.{batch_message, beginning, batch_len, batches}
+use Rattle.body_writer.specs.Batch.{row_weight, rows_weight}
+use Rattle.stream_writer.specs.Stream.{batch_message, beginning, batch_len, batches, trees}
 use Rattle.stream_writer.specs.Table.{IsRow}
 use Rattle.stream_writer.specs.CutLaw.{cut, IsFull, AreBatches, CutLaw}
 use Rattle.stream_writer.proofs.Cut.{taken, beginning-heavy, batch_len-within, batch-some, batch-sound}
 
-cut-bytes : (fs : List LogicalField) (most : ℕ) (rows : List (List Datum)) → batches fs most rows ≡ flat_map (batch_message fs) (cut fs most rows)
+cut-bytes : (ls : Roses Layout) (most : ℕ) (rows : List (List Datum)) → batches ls most rows ≡ flat_map (batch_message ls) (cut ls most rows)
 unfolding batches cut
-cut-bytes fs zero rows = refl
-cut-bytes fs (suc most) [] = refl
-cut-bytes fs (suc most) (row ∷ rows) =
-    let n : ℕ = batch_len fs (row ∷ rows) in
-    ap (λ rest. batch_message fs (take n (row ∷ rows)) ++ rest) (cut-bytes fs most (drop n (row ∷ rows)))
+cut-bytes ls zero rows = refl
+cut-bytes ls (suc most) [] = refl
+cut-bytes ls (suc most) (row ∷ rows) =
+    let n : ℕ = batch_len ls (row ∷ rows) in
+    ap (λ rest. batch_message ls (take n (row ∷ rows)) ++ rest) (cut-bytes ls most (drop n (row ∷ rows)))
 
-cut-joined : (fs : List LogicalField) (most : ℕ) (rows : List (List Datum)) → length rows ≤ most → All (IsRow fs) rows → flat_map (λ piece. piece) (cut fs most rows) ≡ rows
+cut-joined : (fs : List (Rose LogicalField)) (most : ℕ) (rows : List (List Datum)) → length rows ≤ most → All (IsRow fs) rows → flat_map (λ piece. piece) (cut (trees fs) most rows) ≡ rows
 unfolding cut
 cut-joined fs zero [] few sound = refl
 cut-joined fs zero (row ∷ rows) few sound = absurd (omega (arith, few))
 cut-joined fs (suc most) [] few sound = refl
 cut-joined fs (suc most) (row ∷ rows) few sound =
-    let n : ℕ = batch_len fs (row ∷ rows) in
+    let n : ℕ = batch_len (trees fs) (row ∷ rows) in
     let some = batch-some fs (row ∷ rows) (omega arith) sound in
     let left = length-drop n (row ∷ rows) in
     ap (λ rest. take n (row ∷ rows) ++ rest) (cut-joined fs most (drop n (row ∷ rows)) (omega (arith, few, some, left)) (All-drop (IsRow fs) n (row ∷ rows) sound))
     ∙ take-append-drop n (row ∷ rows)
 
 -- the beginning stops at the number, at the end of the rows, or before a row that is too heavy
-beginning-full : (fs : List LogicalField) (n room : ℕ) (rows : List (List Datum)) → beginning fs n room rows < length rows →
-    (beginning fs n room rows ≡ n) ⊎ (room < rows_weight fs (take (beginning fs n room rows + 1) rows))
-beginning-full fs zero room rows h = inl refl
-beginning-full fs (suc n) room [] h = absurd (omega (arith, h))
-beginning-full fs (suc n) room (row ∷ rows) h =
-    let w : ℕ = row_weight fs row in
-    let m : ℕ = beginning fs n (room - w) rows in
-    let P : ℕ → Type 0 = λ k. (k ≡ suc n) ⊎ (room < rows_weight fs (take (k + 1) (row ∷ rows))) in
+beginning-full : (ls : Roses Layout) (n room : ℕ) (rows : List (List Datum)) → beginning ls n room rows < length rows →
+    (beginning ls n room rows ≡ n) ⊎ (room < rows_weight ls (take (beginning ls n room rows + 1) rows))
+beginning-full ls zero room rows h = inl refl
+beginning-full ls (suc n) room [] h = absurd (omega (arith, h))
+beginning-full ls (suc n) room (row ∷ rows) h =
+    let w : ℕ = row_weight ls row in
+    let m : ℕ = beginning ls n (room - w) rows in
+    let P : ℕ → Type 0 = λ k. (k ≡ suc n) ⊎ (room < rows_weight ls (take (k + 1) (row ∷ rows))) in
     elim (cases_lt room w) [
-      | inl heavy ↦ subst P (sym (beginning-heavy fs (suc n) room row rows heavy)) (inr (omega (arith, heavy)))
+      | inl heavy ↦ subst P (sym (beginning-heavy ls (suc n) room row rows heavy)) (inr (omega (arith, heavy)))
       | inr light ↦
           (let is = taken w room m light in
           let one : 1 + m ≡ suc m = omega arith in
           let next : suc m + 1 ≡ suc (m + 1) = omega arith in
-          let Q : ℕ → Type 0 = λ k. room < rows_weight fs (take k (row ∷ rows)) in
-          subst P (sym (is ∙ one)) (elim (beginning-full fs n (room - w) rows (omega (arith, h, is))) [
+          let Q : ℕ → Type 0 = λ k. room < rows_weight ls (take k (row ∷ rows)) in
+          subst P (sym (is ∙ one)) (elim (beginning-full ls n (room - w) rows (omega (arith, h, is))) [
             | inl all ↦ inl (ap suc all)
             | inr heavy ↦ inr (subst Q (sym next) (omega (arith, heavy, light)))
           ]))
     ]
 
-batch_len-full : (fs : List LogicalField) (rows : List (List Datum)) → batch_len fs rows < length rows →
-    (batch_len fs rows ≡ 1024) ⊎ (2 ^ 27 < rows_weight fs (take (batch_len fs rows + 1) rows))
+batch_len-full : (ls : Roses Layout) (rows : List (List Datum)) → batch_len ls rows < length rows →
+    (batch_len ls rows ≡ 1024) ⊎ (2 ^ 27 < rows_weight ls (take (batch_len ls rows + 1) rows))
 unfolding batch_len
-batch_len-full fs rows h = beginning-full fs 1024 (2 ^ 27) rows h
+batch_len-full ls rows h = beginning-full ls 1024 (2 ^ 27) rows h
 
-full : (fs : List LogicalField) (most : ℕ) (rows left : List (List Datum)) → All (IsRow fs) left → drop (batch_len fs rows) rows ≡ left → IsFull fs (take (batch_len fs rows) rows) (cut fs most left)
+full : (fs : List (Rose LogicalField)) (most : ℕ) (rows left : List (List Datum)) → All (IsRow fs) left → drop (batch_len (trees fs) rows) rows ≡ left → IsFull (trees fs) (take (batch_len (trees fs) rows) rows) (cut (trees fs) most left)
 unfolding cut
 full fs zero rows left sound e = tt
 full fs (suc most) rows [] sound e = tt
 full fs (suc most) rows (x ∷ xs) sound e =
-    let n : ℕ = batch_len fs rows in
+    let n : ℕ = batch_len (trees fs) rows in
     let some = batch-some fs (x ∷ xs) (omega arith) sound in
-    let first : take 1 (take (batch_len fs (x ∷ xs)) (x ∷ xs)) ≡ x ∷ [] = take-take 1 (batch_len fs (x ∷ xs)) (x ∷ xs) (omega (arith, some)) in
+    let first : take 1 (take (batch_len (trees fs) (x ∷ xs)) (x ∷ xs)) ≡ x ∷ [] = take-take 1 (batch_len (trees fs) (x ∷ xs)) (x ∷ xs) (omega (arith, some)) in
     let left = ap length e in
     let behind = length-drop n rows in
     let size = length-take n rows in
-    let joined : take (n + 1) rows ≡ take n rows ++ take 1 (take (batch_len fs (x ∷ xs)) (x ∷ xs)) =
+    let joined : take (n + 1) rows ≡ take n rows ++ take 1 (take (batch_len (trees fs) (x ∷ xs)) (x ∷ xs)) =
     take-add n 1 rows ∙ ap (λ zs. take n rows ++ take 1 zs) e ∙ ap (λ zs. take n rows ++ zs) (sym first) in
-    let Q : List (List Datum) → Type 0 = λ zs. 2 ^ 27 < rows_weight fs zs in
-    elim (batch_len-full fs rows (omega (arith, left, behind))) [
+    let Q : List (List Datum) → Type 0 = λ zs. 2 ^ 27 < rows_weight (trees fs) zs in
+    elim (batch_len-full (trees fs) rows (omega (arith, left, behind))) [
       | inl all ↦ inl (omega (arith, all, size, left, behind))
       | inr heavy ↦ inr (subst Q joined heavy)
     ]
 
-cut-sound : (fs : List LogicalField) (most : ℕ) (rows : List (List Datum)) → AreColumns fs → All (IsRow fs) rows → AreBatches fs (cut fs most rows)
+cut-sound : (fs : List (Rose LogicalField)) (most : ℕ) (rows : List (List Datum)) → AreColumns fs → AreLayouts (trees fs) → All (IsRow fs) rows → AreBatches (trees fs) (cut (trees fs) most rows)
 unfolding cut
-cut-sound fs zero rows columns sound = tt
-cut-sound fs (suc most) [] columns sound = tt
-cut-sound fs (suc most) (row ∷ rows) columns sound =
-    let n : ℕ = batch_len fs (row ∷ rows) in
+cut-sound fs zero rows columns layouts sound = tt
+cut-sound fs (suc most) [] columns layouts sound = tt
+cut-sound fs (suc most) (row ∷ rows) columns layouts sound =
+    let n : ℕ = batch_len (trees fs) (row ∷ rows) in
     let some = batch-some fs (row ∷ rows) (omega arith) sound in
     let size = length-take n (row ∷ rows) in
-    let inside = (batch_len-within fs (row ∷ rows)).0 in
+    let inside = (batch_len-within (trees fs) (row ∷ rows)).0 in
     let left = All-drop (IsRow fs) n (row ∷ rows) sound in (
       omega (arith, some, size, inside),
-      batch-sound fs (row ∷ rows) columns sound,
+      batch-sound fs (row ∷ rows) columns layouts sound,
       full fs most (row ∷ rows) (drop n (row ∷ rows)) left refl,
-      cut-sound fs most (drop n (row ∷ rows)) columns left,
+      cut-sound fs most (drop n (row ∷ rows)) columns layouts left,
     )
 
 pub cut-law : CutLaw
 cut-law fields rows table = record {
-  bytes = cut-bytes fields (length rows) rows;
+  bytes = cut-bytes (trees fields) (length rows) rows;
   joined = cut-joined fields (length rows) rows (omega arith) table.sound;
-  sound = cut-sound fields (length rows) rows table.columns table.sound;
+  sound = cut-sound fields (length rows) rows table.columns table.layouts table.sound;
 }

@@ -1,14 +1,15 @@
 pub mod Puts
 pub mod Going
+pub mod Counts
 pub mod BatchFits
 pub mod Cut
 pub mod Whole
-mod Sample
 pub mod CutBack
-pub mod BatchRead
-pub mod FramingRead
-pub mod Bitmaps
-pub mod RowsRead
-pub mod CellsRead
-pub mod StreamRead
+pub mod Trees
 pub mod AboveZero
+pub mod FramingRead
+pub mod Lengths
+pub mod BatchRead
+pub mod RowsRead
+pub mod StreamRead
+mod Sample

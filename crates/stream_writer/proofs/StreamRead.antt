@@ -2,13 +2,15 @@
 use Rattle.std.proofs.Common.{Option, ◌≡◌, ℕ, zero, suc, ◌+◌, ◌*◌, ◌/◌, ◌-◌, ◌^◌, ◌<◌, ◌≤◌, List, [], ◌∷◌, ◌++◌, length, take, drop, Some, None, Ok, refl, ap, sym, subst, ◌∙◌, arith, append_assoc, length-append, length-drop}
 use Rattle.std.specs.Prelude.{All, slice_range}
 use Rattle.std.proofs.lemmas.List.{take-append-drop}
-use Rattle.std.proofs.lemmas.List.Elements.{All-take, All-drop}
+use Rattle.std.proofs.lemmas.List.Elements.{All-drop}
 use Rattle.flatbuf.specs.Tree.{Nodes, table}
 use Rattle.flatbuf.specs.Written.{whole, object_end, IsWritable}
 use Rattle.flatbuf.proofs.Ends.{object_end-le}
 use Rattle.flatbuf.proofs.Lengths.{whole-length}
 use Rattle.values.specs.Datum.{Datum}
-use Rattle.values.specs.Logical.{LogicalField}
+use Rattle.values.specs.Rose.{Rose, kids_of}
+use Rattle.values.specs.Layouts.{AreLayouts}
+use Rattle.field_types.specs.Logical.{LogicalField}
 use Rattle.schema_meta.specs.declared.write.HeaderKind.TheVariants.{Schema, RecordBatch}
 use Rattle.schema_meta.specs.Stage.{Known, Meta, Whole, end_of}
 use Rattle.schema_meta.specs.Sound.{after}
@@ -21,15 +23,13 @@ use Rattle.schema_meta.specs.Story.{Story, knowing, told_by, told, story, story_
 use Rattle.schema_meta.specs.Means.{Means}
 use Rattle.schema_meta.proofs.SchemaFits.{schema-end, schema-writable}
 use Rattle.schema_meta.proofs.SchemaRead.{schema-law, columns-law}
-use Rattle.body_writer.specs.Body.{body_bytes, body_nodes, body_spans}
-use Rattle.body_writer.specs.Weights.{IsBatch}
-use Rattle.body_writer.proofs.Sizes.{body_nodes-few, body_spans-few}
-use Rattle.body_writer.proofs.Short.{short-body}
+use Rattle.body_writer.specs.Batch.{IsBatch, body_bytes, body_nodes, body_spans}
+use Rattle.body_writer.proofs.Rows.{body-short}
+use Rattle.stream_writer.proofs.Counts.{body_nodes-few, body_spans-few}
 use Rattle.stream_writer.specs.Batch.{batch_slots, batch_metadata}
 use Rattle.stream_writer.specs.BatchLaw.{head}
-use Rattle.stream_writer.specs.Stream.{message, end_mark, schema_message, batch_message, batch_len, batches, canon}
+use Rattle.stream_writer.specs.Stream.{message, end_mark, schema_message, batch_message, batch_len, batches, canon, trees}
 use Rattle.stream_writer.specs.Table.{IsRow, IsTable}
-use Rattle.stream_writer.specs.RowsLaw.{AreTyped}
 use Rattle.stream_writer.specs.RoundTrip.{MeansItsTable, DeclaredMeansItsTable, whole_story, RoundTrip, DeclaredTrip}
 use Rattle.stream_writer.proofs.BatchFits.{batch-end, batch-writable}
 use Rattle.stream_writer.proofs.Cut.{batch-some, batch-sound}
@@ -44,29 +44,29 @@ record IsShort (metadata : List ℕ) : Type 0 where
   some : 0 < length metadata
   small : length metadata ≤ 2 ^ 24
 
-whole-short : (s : Nodes) → IsWritable s → object_end 4 (table s) < 2 ^ 23 → IsShort (whole s)
+whole-short : (s : Nodes) → IsWritable s → object_end 4 (table s) < 2 ^ 24 - 8 → IsShort (whole s)
 whole-short s h end =
     let n : ℕ = object_end 4 (table s) in
     let low : 4 ≤ n = object_end-le 4 (table s) h.fits in
-    let high : n < 2 ^ 23 = end in
+    let high : n < 2 ^ 24 - 8 = end in
     let long : length (whole s) ≡ (n + (8 - 1)) / 8 * 8 = whole-length s h.fits in
     record { some = omega (arith, low, long); small = omega (arith, high, long) }
 
-schema-short : (fs : List LogicalField) → AreColumns fs → IsShort (schema_metadata fs)
+schema-short : (fs : List (Rose LogicalField)) → AreColumns fs → IsShort (schema_metadata fs)
 unfolding schema_metadata
-schema-short fs h = whole-short (message_slots Schema (schema_slots fs) 0) (schema-writable fs h) (schema-end fs h)
+schema-short fs h = whole-short (message_slots Schema (schema_slots (kids_of fs)) 0) (schema-writable fs h) (schema-end fs h)
 
-batch-short : (fs : List LogicalField) (rows : List (List Datum)) → IsBatch fs rows → IsShort (batch_metadata fs rows)
+batch-short : (fs : List (Rose LogicalField)) (rows : List (List Datum)) → IsBatch (trees fs) rows → IsShort (batch_metadata (trees fs) rows)
 unfolding batch_metadata
 batch-short fs rows b =
     let few = b.few in
-    let short = short-body fs rows b in
-    let ns = body_nodes fs rows in
-    let ss = body_spans fs rows in
-    let body : ℕ = length (body_bytes fs rows) in
-    let end = batch-end (length rows) body ns ss (body_nodes-few fs rows b) (body_spans-few fs rows b) in
+    let short = body-short (trees fs) rows b in
+    let ns = body_nodes (trees fs) rows in
+    let ss = body_spans (trees fs) rows in
+    let body : ℕ = length (body_bytes (trees fs) rows) in
+    let end = batch-end (length rows) body ns ss (body_nodes-few (trees fs) rows b) (body_spans-few (trees fs) rows b) in
     whole-short (message_slots RecordBatch (batch_slots (length rows) ns ss) body)
-    (batch-writable (length rows) body ns ss (body_nodes-few fs rows b) (body_spans-few fs rows b) (omega (arith, few)) (omega (arith, short)))
+    (batch-writable (length rows) body ns ss (body_nodes-few (trees fs) rows b) (body_spans-few (trees fs) rows b) (omega (arith, few)) (omega (arith, short)))
     (omega (arith, end))
 
 -- one message
@@ -94,94 +94,94 @@ message-told n known metadata body rest m short e read =
     (first-law known metadata body rest m short.some short.small e read) (told-whole n known bytes body rest w cut left)
 
 -- what is known once the schema came
-abbrev begun : Option (List LogicalField) → List LogicalField → Known
+abbrev begun : Option (List (Rose LogicalField)) → List (Rose LogicalField) → Known
 begun declared fs = record { declared = declared; schema = Some (stored_fields fs) }
 
-end-told : (n : ℕ) (declared : Option (List LogicalField)) (fs : List LogicalField) → story (suc n) (begun declared fs) end_mark ≡ whole_story fs []
+end-told : (n : ℕ) (declared : Option (List (Rose LogicalField))) (fs : List (Rose LogicalField)) → story (suc n) (begun declared fs) end_mark ≡ whole_story fs []
 unfolding story told
 end-told n declared fs = rw (last-law (begun declared fs) refl) refl
 
-batch-told : (n : ℕ) (declared : Option (List LogicalField)) (fs : List LogicalField) (rows more : List (List Datum)) (rest : List ℕ) → IsBatch fs rows → All (AreTyped fs) rows →
-    story n (begun declared fs) rest ≡ whole_story fs more → story (suc n) (begun declared fs) (batch_message fs rows ++ rest) ≡ whole_story fs (rows ++ more)
+batch-told : (n : ℕ) (declared : Option (List (Rose LogicalField))) (fs : List (Rose LogicalField)) (rows more : List (List Datum)) (rest : List ℕ) → IsBatch (trees fs) rows →
+    story n (begun declared fs) rest ≡ whole_story fs more → story (suc n) (begun declared fs) (batch_message (trees fs) rows ++ rest) ≡ whole_story fs (rows ++ more)
 unfolding batch_message
-batch-told n declared fs rows more rest b typed e =
-    message-told n (begun declared fs) (batch_metadata fs rows) (body_bytes fs rows) rest (brings_batch (length (body_bytes fs rows)) (head fs rows)) (batch-short fs rows b) refl (batch-law (begun declared fs) fs rows b refl)
-    ∙ rw (rows-law fs rows b typed, e) refl
+batch-told n declared fs rows more rest b e =
+    message-told n (begun declared fs) (batch_metadata (trees fs) rows) (body_bytes (trees fs) rows) rest (brings_batch (length (body_bytes (trees fs) rows)) (head fs rows)) (batch-short fs rows b) refl (batch-law (begun declared fs) fs rows b refl)
+    ∙ rw (rows-law fs rows b, e) refl
 
 -- all batches, and the end mark
 
 message-long : (metadata body : List ℕ) → 8 ≤ length (message metadata body)
 message-long metadata body = omega arith
 
-batch-long : (fs : List LogicalField) (rows : List (List Datum)) → 8 ≤ length (batch_message fs rows)
+batch-long : (fs : List (Rose LogicalField)) (rows : List (List Datum)) → 8 ≤ length (batch_message (trees fs) rows)
 unfolding batch_message
-batch-long fs rows = message-long (batch_metadata fs rows) (body_bytes fs rows)
+batch-long fs rows = message-long (batch_metadata (trees fs) rows) (body_bytes (trees fs) rows)
 
-batches-told : (n most : ℕ) (declared : Option (List LogicalField)) (fs : List LogicalField) (rows : List (List Datum)) → length rows ≤ most → length (batches fs most rows ++ end_mark) ≤ n →
-    AreColumns fs → All (IsRow fs) rows → All (AreTyped fs) rows → story n (begun declared fs) (batches fs most rows ++ end_mark) ≡ whole_story fs rows
+batches-told : (n most : ℕ) (declared : Option (List (Rose LogicalField))) (fs : List (Rose LogicalField)) (rows : List (List Datum)) → length rows ≤ most → length (batches (trees fs) most rows ++ end_mark) ≤ n →
+    AreColumns fs → AreLayouts (trees fs) → All (IsRow fs) rows → story n (begun declared fs) (batches (trees fs) most rows ++ end_mark) ≡ whole_story fs rows
 unfolding batches
-batches-told zero most declared fs rows few room columns sound typed = absurd (omega (arith, room, length-append (batches fs most rows) end_mark))
-batches-told (suc n) zero declared fs [] few room columns sound typed = end-told n declared fs
-batches-told (suc n) zero declared fs (row ∷ rows) few room columns sound typed = absurd (omega (arith, few))
-batches-told (suc n) (suc most) declared fs [] few room columns sound typed = end-told n declared fs
-batches-told (suc n) (suc most) declared fs (row ∷ rows) few room columns sound typed =
+batches-told zero most declared fs rows few room columns layouts sound = absurd (omega (arith, room, length-append (batches (trees fs) most rows) end_mark))
+batches-told (suc n) zero declared fs [] few room columns layouts sound = end-told n declared fs
+batches-told (suc n) zero declared fs (row ∷ rows) few room columns layouts sound = absurd (omega (arith, few))
+batches-told (suc n) (suc most) declared fs [] few room columns layouts sound = end-told n declared fs
+batches-told (suc n) (suc most) declared fs (row ∷ rows) few room columns layouts sound =
     let all : List (List Datum) = row ∷ rows in
-    let k : ℕ = batch_len fs all in
-    let mine = batch_message fs (take k all) in
-    let others = batches fs most (drop k all) in
+    let k : ℕ = batch_len (trees fs) all in
+    let mine = batch_message (trees fs) (take k all) in
+    let others = batches (trees fs) most (drop k all) in
     let one = batch-some fs all (omega arith) sound in
     let left = length-drop k all in
     let long = batch-long fs (take k all) in
     let sum = length-append (mine ++ others) end_mark in
     let sum' = length-append mine others in
     let sum'' = length-append others end_mark in
-    let rest = batches-told n most declared fs (drop k all) (omega (arith, few, one, left)) (omega (arith, room, long, sum, sum', sum'')) columns (All-drop (IsRow fs) k all sound) (All-drop (AreTyped fs) k all typed) in
+    let rest = batches-told n most declared fs (drop k all) (omega (arith, few, one, left)) (omega (arith, room, long, sum, sum', sum'')) columns layouts (All-drop (IsRow fs) k all sound) in
     ap (story (suc n) (begun declared fs)) (append_assoc mine others end_mark)
-    ∙ batch-told n declared fs (take k all) (drop k all) (others ++ end_mark) (batch-sound fs all columns sound) (All-take (AreTyped fs) k all typed) rest
+    ∙ batch-told n declared fs (take k all) (drop k all) (others ++ end_mark) (batch-sound fs all columns layouts sound) rest
     ∙ ap (whole_story fs) (take-append-drop k all)
 
-schema-told : (n : ℕ) (declared : Option (List LogicalField)) (fs : List LogicalField) (rows : List (List Datum)) (rest : List ℕ) → AreColumns fs → AreNamed fs → AreExpected declared fs →
+schema-told : (n : ℕ) (declared : Option (List (Rose LogicalField))) (fs : List (Rose LogicalField)) (rows : List (List Datum)) (rest : List ℕ) → AreColumns fs → AreNamed fs → AreExpected declared fs →
     story n (begun declared fs) rest ≡ whole_story fs rows → story (suc n) (before declared) (schema_message fs ++ rest) ≡ whole_story fs rows
 unfolding schema_message
 schema-told n declared fs rows rest columns named same e =
     message-told n (before declared) (schema_metadata fs) [] rest (brings_schema 0 (stored_fields fs)) (schema-short fs columns) refl (schema-law declared fs columns named same) ∙ e
 
-schema-long : (fs : List LogicalField) → 8 ≤ length (schema_message fs)
+schema-long : (fs : List (Rose LogicalField)) → 8 ≤ length (schema_message fs)
 unfolding schema_message
 schema-long fs = message-long (schema_metadata fs) []
 
 trip :
-    (declared : Option (List LogicalField)) (fs : List LogicalField) (rows : List (List Datum)) → IsTable fs rows → AreNamed fs
-    → All (AreTyped fs) rows → AreExpected declared fs
+    (declared : Option (List (Rose LogicalField))) (fs : List (Rose LogicalField)) (rows : List (List Datum)) → IsTable fs rows → AreNamed fs
+    → AreExpected declared fs
     → story (length (canon fs rows)) (before declared) (canon fs rows) ≡ whole_story fs rows
 unfolding canon
-trip declared fs rows t named typed same =
-    let rest = batches fs (length rows) rows ++ end_mark in
+trip declared fs rows t named same =
+    let rest = batches (trees fs) (length rows) rows ++ end_mark in
     let bytes = schema_message fs ++ rest in
     let n : ℕ = length bytes - 1 in
     let long = schema-long fs in
     let sum = length-append (schema_message fs) rest in
     let fuel : suc n ≡ length bytes = omega (arith, long, sum) in
     let P : ℕ → Type 0 = λ k. story k (before declared) bytes ≡ whole_story fs rows in
-    subst P fuel (schema-told n declared fs rows rest t.columns named same (batches-told n (length rows) declared fs rows (omega arith) (omega (arith, long, sum)) t.columns t.sound typed))
+    subst P fuel (schema-told n declared fs rows rest t.columns named same (batches-told n (length rows) declared fs rows (omega arith) (omega (arith, long, sum)) t.columns t.layouts t.sound))
 
 pub round-trip : RoundTrip
 unfolding story_of
-round-trip fs rows t named typed = trip None fs rows t named typed tt
+round-trip fs rows t named = trip None fs rows t named tt
 
 pub declared-trip : DeclaredTrip
-declared-trip fs rows t named typed = trip (Some fs) fs rows t named typed refl
+declared-trip fs rows t named = trip (Some fs) fs rows t named refl
 
 -- the story of a whole stream of a table means the table
 
-told-means : (s : Story) (fs : List LogicalField) (rows : List (List Datum)) → s ≡ whole_story fs rows → Means s fs rows
-told-means s fs rows e =
+told-means : (s : Story) (fs : List (Rose LogicalField)) (rows : List (List Datum)) → AreNamed fs → s ≡ whole_story fs rows → Means s fs rows
+told-means s fs rows named e =
     let P : Story → Type 0 = λ story. Means story fs rows in
-    subst P (sym e) (record { whole = refl; columns = ap (λ columns. Some columns) (columns-law fs); cells = refl })
+    subst P (sym e) (record { whole = refl; columns = ap (λ columns. Some columns) (columns-law fs named); cells = refl })
 
 pub means-its-table : MeansItsTable
-means-its-table fs rows t named typed = told-means (story_of (canon fs rows)) fs rows (round-trip fs rows t named typed)
+means-its-table fs rows t named = told-means (story_of (canon fs rows)) fs rows named (round-trip fs rows t named)
 
 pub declared-means-its-table : DeclaredMeansItsTable
-declared-means-its-table fs rows t named typed =
-    told-means (story (length (canon fs rows)) (before (Some fs)) (canon fs rows)) fs rows (declared-trip fs rows t named typed)
+declared-means-its-table fs rows t named =
+    told-means (story (length (canon fs rows)) (before (Some fs)) (canon fs rows)) fs rows named (declared-trip fs rows t named)

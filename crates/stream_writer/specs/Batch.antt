@@ -1,24 +1,26 @@
 -- Arrow's RecordBatch table (Message.fbs) as a tree, and its message's metadata.
 use Rattle.std.specs.Prelude.{ℕ, List, [], ◌∷◌, ◌++◌, length}
 use Rattle.std.specs.List.{flat_map}
-use Rattle.byteorder.specs.Endian.{little_bytes}
+use Rattle.std.specs.Int.{w64}
+use Rattle.byteorder.specs.Endian.{little_bytes, low_bytes}
 use Rattle.flatbuf.specs.Tree.{number, structs, Nodes, nodes_of}
 use Rattle.flatbuf.specs.Written.{whole}
 use Rattle.values.specs.Datum.{Datum}
-use Rattle.values.specs.Logical.{LogicalField}
+use Rattle.values.specs.Rose.{Roses}
+use Rattle.values.specs.declared.layout.Layout.{Layout}
 use Rattle.schema_meta.specs.declared.write.HeaderKind.TheVariants.{RecordBatch}
 use Rattle.schema_meta.specs.MessageTree.{message_slots}
-use Rattle.body_writer.specs.Body.{body_bytes, body_spans, body_nodes}
-use Rattle.body_writer.specs.declared.body.Node.{Node}
-use Rattle.body_writer.specs.declared.body.Span.{Span}
+use Rattle.body_writer.specs.Batch.{body_bytes, body_nodes, body_spans}
+use Rattle.array_layout.specs.declared.array.Node.{Node}
+use Rattle.array_layout.specs.declared.array.Span.{Span}
 
 -- FieldNode: length, null_count
 abbrev pub node_bytes : List Node → List ℕ
-node_bytes ns = flat_map (λ n. little_bytes 8 n.length ++ little_bytes 8 n.nulls) ns
+node_bytes ns = flat_map (λ n. little_bytes 8 n.length ++ little_bytes 8 (low_bytes w64 8 n.nulls)) ns
 
 -- Buffer: offset, length
 abbrev pub span_bytes : List Span → List ℕ
-span_bytes ss = flat_map (λ s. little_bytes 8 s.offset ++ little_bytes 8 s.length) ss
+span_bytes ss = flat_map (λ s. little_bytes 8 s.from ++ little_bytes 8 s.len) ss
 
 -- length, nodes, buffers
 abbrev pub batch_slots : ℕ → List Node → List Span → Nodes
@@ -29,5 +31,5 @@ batch_slots rows nodes spans =
 abbrev pub batch_whole : ℕ → List Node → List Span → ℕ → List ℕ
 batch_whole rows nodes spans body_len = whole (message_slots RecordBatch (batch_slots rows nodes spans) body_len)
 
-unfoldable pub batch_metadata : List LogicalField → List (List Datum) → List ℕ
-batch_metadata fs rows = batch_whole (length rows) (body_nodes fs rows) (body_spans fs rows) (length (body_bytes fs rows))
+unfoldable pub batch_metadata : Roses Layout → List (List Datum) → List ℕ
+batch_metadata ls rows = batch_whole (length rows) (body_nodes ls rows) (body_spans ls rows) (length (body_bytes ls rows))

@@ -3,31 +3,33 @@
 use Rattle.std.specs.Prelude.{◌≡◌, ℕ, zero, suc, ◌^◌, ◌<◌, ◌⊎◌, List, [], ◌∷◌, ◌++◌, length, take, drop, ⊤}
 use Rattle.std.specs.List.{flat_map}
 use Rattle.values.specs.Datum.{Datum}
-use Rattle.values.specs.Logical.{LogicalField}
-use Rattle.body_writer.specs.Weights.{rows_weight, IsBatch}
-use Rattle.stream_writer.specs.Stream.{batch_message, batch_len, batches}
+use Rattle.values.specs.Rose.{Rose, Roses}
+use Rattle.values.specs.declared.layout.Layout.{Layout}
+use Rattle.field_types.specs.Logical.{LogicalField}
+use Rattle.body_writer.specs.Batch.{IsBatch, rows_weight}
+use Rattle.stream_writer.specs.Stream.{batch_message, batch_len, batches, trees}
 use Rattle.stream_writer.specs.Table.{IsTable}
 
 -- the rows of each batch
-unfoldable pub cut : List LogicalField → ℕ → List (List Datum) → List (List (List Datum))
-cut fs zero rows = []
-cut fs (suc most) [] = []
-cut fs (suc most) (row ∷ rows) =
-    take (batch_len fs (row ∷ rows)) (row ∷ rows) ∷ cut fs most (drop (batch_len fs (row ∷ rows)) (row ∷ rows))
+unfoldable pub cut : Roses Layout → ℕ → List (List Datum) → List (List (List Datum))
+cut ls zero rows = []
+cut ls (suc most) [] = []
+cut ls (suc most) (row ∷ rows) =
+    take (batch_len ls (row ∷ rows)) (row ∷ rows) ∷ cut ls most (drop (batch_len ls (row ∷ rows)) (row ∷ rows))
 
 -- with one row more it would be too long or too heavy
-abbrev pub IsFull : List LogicalField → List (List Datum) → List (List (List Datum)) → Type 0
-IsFull fs batch [] = ⊤
-IsFull fs batch (next ∷ later) = (length batch ≡ 1024) ⊎ (2 ^ 27 < rows_weight fs (batch ++ take 1 next))
+abbrev pub IsFull : Roses Layout → List (List Datum) → List (List (List Datum)) → Type 0
+IsFull ls batch [] = ⊤
+IsFull ls batch (next ∷ later) = (length batch ≡ 1024) ⊎ (2 ^ 27 < rows_weight ls (batch ++ take 1 next))
 
-abbrev pub AreBatches : List LogicalField → List (List (List Datum)) → Type 0
-AreBatches fs [] = ⊤
-AreBatches fs (batch ∷ later) = (0 < length batch) × IsBatch fs batch × IsFull fs batch later × AreBatches fs later
+abbrev pub AreBatches : Roses Layout → List (List (List Datum)) → Type 0
+AreBatches ls [] = ⊤
+AreBatches ls (batch ∷ later) = (0 < length batch) × IsBatch ls batch × IsFull ls batch later × AreBatches ls later
 
-pub record IsCut (fs : List LogicalField) (rows : List (List Datum)) (pieces : List (List (List Datum))) : Type 0 where
-  pub bytes : batches fs (length rows) rows ≡ flat_map (batch_message fs) pieces
+pub record IsCut (ls : Roses Layout) (rows : List (List Datum)) (pieces : List (List (List Datum))) : Type 0 where
+  pub bytes : batches ls (length rows) rows ≡ flat_map (batch_message ls) pieces
   pub joined : flat_map (λ piece. piece) pieces ≡ rows
-  pub sound : AreBatches fs pieces
+  pub sound : AreBatches ls pieces
 
 abbrev pub CutLaw : Type 0
-CutLaw = (fields : List LogicalField) (rows : List (List Datum)) → IsTable fields rows → IsCut fields rows (cut fields (length rows) rows)
+CutLaw = (fields : List (Rose LogicalField)) (rows : List (List Datum)) → IsTable fields rows → IsCut (trees fields) rows (cut (trees fields) (length rows) rows)

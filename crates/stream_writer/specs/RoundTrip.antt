@@ -1,37 +1,37 @@
 -- The canonical stream of a table is read as the table.
-use Rattle.std.specs.Prelude.{◌≡◌, List, length, All, Some, Ok}
+use Rattle.std.specs.Prelude.{◌≡◌, List, length, Some, Ok}
 use Rattle.values.specs.Datum.{Datum}
-use Rattle.values.specs.Logical.{LogicalField}
+use Rattle.values.specs.Rose.{Rose}
+use Rattle.field_types.specs.Logical.{LogicalField}
 use Rattle.schema_meta.specs.SchemaLaw.{stored_fields, AreNamed, before}
 use Rattle.schema_meta.specs.Story.{Story, story, story_of}
 use Rattle.schema_meta.specs.Means.{Means}
 use Rattle.stream_writer.specs.Stream.{canon}
 use Rattle.stream_writer.specs.Table.{IsTable}
-use Rattle.stream_writer.specs.RowsLaw.{AreTyped}
 
 -- the columns, the rows in order, and an end without fault
-abbrev pub whole_story : List LogicalField → List (List Datum) → Story
+abbrev pub whole_story : List (Rose LogicalField) → List (List Datum) → Story
 whole_story fs rows = record { schema = Some (stored_fields fs); rows = rows; end = Ok tt }
 
 abbrev pub RoundTrip : Type 0
 RoundTrip =
-    (fs : List LogicalField) (rows : List (List Datum)) → IsTable fs rows → AreNamed fs → All (AreTyped fs) rows
+    (fs : List (Rose LogicalField)) (rows : List (List Datum)) → IsTable fs rows → AreNamed fs
     → story_of (canon fs rows) ≡ whole_story fs rows
 
 -- the same where these columns were declared for the stream
 abbrev pub DeclaredTrip : Type 0
 DeclaredTrip =
-    (fs : List LogicalField) (rows : List (List Datum)) → IsTable fs rows → AreNamed fs → All (AreTyped fs) rows
+    (fs : List (Rose LogicalField)) (rows : List (List Datum)) → IsTable fs rows → AreNamed fs
     → story (length (canon fs rows)) (before (Some fs)) (canon fs rows) ≡ whole_story fs rows
 
 -- Reading the canonical stream of a table gives the table: no fault stands, and its columns and its rows come back.
 abbrev pub MeansItsTable : Type 0
 MeansItsTable =
-    (fs : List LogicalField) (rows : List (List Datum)) → IsTable fs rows → AreNamed fs → All (AreTyped fs) rows
+    (fs : List (Rose LogicalField)) (rows : List (List Datum)) → IsTable fs rows → AreNamed fs
     → Means (story_of (canon fs rows)) fs rows
 
 -- the same where these columns were declared for the stream
 abbrev pub DeclaredMeansItsTable : Type 0
 DeclaredMeansItsTable =
-    (fs : List LogicalField) (rows : List (List Datum)) → IsTable fs rows → AreNamed fs → All (AreTyped fs) rows
+    (fs : List (Rose LogicalField)) (rows : List (List Datum)) → IsTable fs rows → AreNamed fs
     → Means (story (length (canon fs rows)) (before (Some fs)) (canon fs rows)) fs rows

@@ -6,10 +6,11 @@
 use Rattle.std.specs.Prelude.{ℕ, zero, suc, ◌+◌, ◌-◌, ◌^◌, nat_le, if◌then◌else◌, List, [], ◌∷◌, ◌++◌, length, take, drop}
 use Rattle.byteorder.specs.Endian.{little_bytes}
 use Rattle.values.specs.Datum.{Datum}
-use Rattle.values.specs.Logical.{LogicalField}
+use Rattle.values.specs.Rose.{Rose, Roses, kids_of}
+use Rattle.values.specs.declared.layout.Layout.{Layout}
+use Rattle.field_types.specs.Logical.{LogicalField, trees_of}
 use Rattle.schema_meta.specs.SchemaTree.{schema_metadata}
-use Rattle.body_writer.specs.Body.{body_bytes}
-use Rattle.body_writer.specs.Weights.{row_weight}
+use Rattle.body_writer.specs.Batch.{body_bytes, row_weight}
 use Rattle.stream_writer.specs.Batch.{batch_metadata}
 
 -- "Encapsulated message format": the continuation, the metadata's size, the metadata, the body
@@ -19,29 +20,33 @@ message metadata body = (255 ∷ 255 ∷ 255 ∷ 255 ∷ []) ++ (little_bytes 4 
 abbrev pub end_mark : List ℕ
 end_mark = 255 ∷ 255 ∷ 255 ∷ 255 ∷ 0 ∷ 0 ∷ 0 ∷ 0 ∷ []
 
-unfoldable pub schema_message : List LogicalField → List ℕ
+unfoldable pub schema_message : List (Rose LogicalField) → List ℕ
 schema_message fs = message (schema_metadata fs) []
 
-unfoldable pub batch_message : List LogicalField → List (List Datum) → List ℕ
-batch_message fs rows = message (batch_metadata fs rows) (body_bytes fs rows)
+unfoldable pub batch_message : Roses Layout → List (List Datum) → List ℕ
+batch_message ls rows = message (batch_metadata ls rows) (body_bytes ls rows)
 
 -- how many rows the longest beginning has, of at most n rows and a weight of at most `room`
-abbrev pub beginning : List LogicalField → ℕ → ℕ → List (List Datum) → ℕ
-beginning fs zero room rows = 0
-beginning fs (suc n) room [] = 0
-beginning fs (suc n) room (row ∷ rows) =
-    if nat_le (row_weight fs row) room then 1 + beginning fs n (room - row_weight fs row) rows else 0
+abbrev pub beginning : Roses Layout → ℕ → ℕ → List (List Datum) → ℕ
+beginning ls zero room rows = 0
+beginning ls (suc n) room [] = 0
+beginning ls (suc n) room (row ∷ rows) =
+    if nat_le (row_weight ls row) room then 1 + beginning ls n (room - row_weight ls row) rows else 0
 
 -- how many rows the next batch has
-unfoldable pub batch_len : List LogicalField → List (List Datum) → ℕ
-batch_len fs rows = beginning fs 1024 (2 ^ 27) rows
+unfoldable pub batch_len : Roses Layout → List (List Datum) → ℕ
+batch_len ls rows = beginning ls 1024 (2 ^ 27) rows
 
 -- the batches of these rows, at most so many
-unfoldable pub batches : List LogicalField → ℕ → List (List Datum) → List ℕ
-batches fs zero rows = []
-batches fs (suc most) [] = []
-batches fs (suc most) (row ∷ rows) =
-    batch_message fs (take (batch_len fs (row ∷ rows)) (row ∷ rows)) ++ batches fs most (drop (batch_len fs (row ∷ rows)) (row ∷ rows))
+unfoldable pub batches : Roses Layout → ℕ → List (List Datum) → List ℕ
+batches ls zero rows = []
+batches ls (suc most) [] = []
+batches ls (suc most) (row ∷ rows) =
+    batch_message ls (take (batch_len ls (row ∷ rows)) (row ∷ rows)) ++ batches ls most (drop (batch_len ls (row ∷ rows)) (row ∷ rows))
 
-unfoldable pub canon : List LogicalField → List (List Datum) → List ℕ
-canon fs rows = schema_message fs ++ (batches fs (length rows) rows ++ end_mark)
+-- how the columns lie in memory
+abbrev pub trees : List (Rose LogicalField) → Roses Layout
+trees fs = trees_of (kids_of fs)
+
+unfoldable pub canon : List (Rose LogicalField) → List (List Datum) → List ℕ
+canon fs rows = schema_message fs ++ (batches (trees fs) (length rows) rows ++ end_mark)

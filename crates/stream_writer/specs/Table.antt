@@ -1,16 +1,20 @@
 -- A table within the limits.
-use Rattle.std.specs.Prelude.{◌≡◌, ◌^◌, ◌≤◌, List, length, All}
-use Rattle.values.specs.Datum.{Datum}
-use Rattle.values.specs.Logical.{LogicalField}
+use Rattle.std.specs.Prelude.{◌^◌, ◌≤◌, All, List, length}
+use Rattle.values.specs.Rose.{Rose}
+use Rattle.values.specs.Datum.{Datum, items_of}
+use Rattle.values.specs.Layouts.{AreLayouts, HoldsEach}
+use Rattle.field_types.specs.Logical.{LogicalField}
 use Rattle.schema_meta.specs.SchemaTree.{AreColumns}
-use Rattle.body_writer.specs.Weights.{row_weight}
+use Rattle.body_writer.specs.Batch.{row_weight}
+use Rattle.stream_writer.specs.Stream.{trees}
 
--- a cell a column, and not too heavy
-pub record IsRow (fields : List LogicalField) (row : List Datum) : Type 0 where
-  pub complete : length row ≡ length fields
-  pub light : row_weight fields row ≤ 2 ^ 26
+-- a cell a column, of the column's type, and not too heavy
+pub record IsRow (fields : List (Rose LogicalField)) (row : List Datum) : Type 0 where
+  pub held : HoldsEach (trees fields) (items_of row)
+  pub light : row_weight (trees fields) row ≤ 2 ^ 26
 
-pub record IsTable (fields : List LogicalField) (rows : List (List Datum)) : Type 0 where
+pub record IsTable (fields : List (Rose LogicalField)) (rows : List (List Datum)) : Type 0 where
   pub columns : AreColumns fields
+  pub layouts : AreLayouts (trees fields)
   pub few : length rows ≤ 2 ^ 24
   pub sound : All (IsRow fields) rows

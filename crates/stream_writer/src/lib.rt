@@ -6,6 +6,7 @@
 
 mod faults;
 mod laws;
+mod layouts;
 mod memory;
 mod messages;
 mod sink;
@@ -13,6 +14,7 @@ mod table;
 
 pub use faults::WriteFault;
 pub use laws::{batch_law, canon_law, cut_law, framing_law, rows_law};
+pub use layouts::layouts_of;
 pub use memory::MemorySink;
 pub use sink::{DeviceFault, Sink, put_all};
 pub use table::write_table;

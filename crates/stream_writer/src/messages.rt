@@ -1,20 +1,23 @@
 //! The messages of a stream, each as its bytes.
 
-ghost use Rattle.std.specs.Prelude.{ℕ, ◌≡◌, ◌+◌, ◌*◌, ◌^◌, ◌<◌, ◌≤◌, ◌++◌, IfOk, length};
-ghost use Rattle.byteorder.specs.Endian.{little_bytes};
+ghost use Rattle.std.specs.Prelude.{ℕ, ◌≡◌, ◌+◌, ◌*◌, ◌^◌, ◌<◌, ◌≤◌, ◌++◌, IfOk, length, map};
+ghost use Rattle.std.specs.Int.{w64};
+ghost use Rattle.byteorder.specs.Endian.{little_bytes, low_bytes};
 ghost use Rattle.flatbuf.specs.Built.{slots};
 ghost use Rattle.schema_meta.specs.SchemaTree.{AreColumns};
-ghost use Rattle.body_writer.specs.Body.{cells, body_bytes, body_nodes, body_spans};
-ghost use Rattle.body_writer.specs.Weights.{IsBatch};
+ghost use Rattle.values.specs.Rose.{kids_of};
+ghost use Rattle.body_writer.specs.Batch.{IsBatch};
 ghost use Rattle.stream_writer.specs.Batch.{node_bytes as nodes_as, span_bytes as spans_as, batch_slots, batch_whole};
 ghost use Rattle.stream_writer.specs.Stream as stream;
 
-use body_writer::{Body, Node, Span, write_body};
+use array_layout::{Node, Span};
+use body_writer::{Body, write_body};
 use byteorder::{ByteOrder, LittleEndian};
+use field_types::Schema;
 use flatbuf::Builder;
 use schema_meta::{HeaderKind, write_message, write_schema};
 use std::alloc::{AllocError, Global};
-use values::{Row, Schema};
+use values::{LayoutTree, Row};
 
 /// A message of this metadata and body.
 fn message(alloc: Global, metadata: &[u8], body: &[u8]) -> Result<Vec<u8>, AllocError>
@@ -49,7 +52,7 @@ fn node_bytes(alloc: Global, nodes: &[Node]) -> Result<Vec<u8>, AllocError>
 {
     let mut bytes = Vec::with_capacity(alloc, 16 * nodes.len())?;
     for node in nodes {
-        bytes.extend_from_slice(&pair(node.length, node.nulls))?;
+        bytes.extend_from_slice(&node_pair(node))?;
     }
     Ok(bytes)
 }
@@ -60,29 +63,43 @@ fn span_bytes(alloc: Global, spans: &[Span]) -> Result<Vec<u8>, AllocError>
 {
     let mut bytes = Vec::with_capacity(alloc, 16 * spans.len())?;
     for span in spans {
-        bytes.extend_from_slice(&pair(span.offset, span.length))?;
+        bytes.extend_from_slice(&span_pair(span))?;
     }
     Ok(bytes)
 }
 
-/// A struct of two numbers of 64 bits.
-fn pair(first: u64, second: u64) -> [u8; 16]
-    ensures { result ≡ little_bytes 8 first ++ little_bytes 8 second }
+/// `FieldNode`: two numbers of 64 bits.
+fn node_pair(node: &Node) -> [u8; 16]
+    ensures { result ≡ little_bytes 8 node.now.length ++ little_bytes 8 (low_bytes w64 8 node.now.nulls) }
 {
     let mut bytes = [0u8; 16];
-    LittleEndian::write_u64(&mut bytes, first);
-    LittleEndian::write_u64(&mut bytes[8..], second);
+    LittleEndian::write_u64(&mut bytes, node.length as u64);
+    LittleEndian::write_int(&mut bytes[8..], node.nulls, 8);
+    bytes
+}
+
+/// `Buffer`: two numbers of 64 bits.
+fn span_pair(span: &Span) -> [u8; 16]
+    ensures { result ≡ little_bytes 8 span.now.from ++ little_bytes 8 span.now.len }
+{
+    let mut bytes = [0u8; 16];
+    LittleEndian::write_u64(&mut bytes, span.from as u64);
+    LittleEndian::write_u64(&mut bytes[8..], span.len as u64);
     bytes
 }
 
 /// The record batch of these rows.
 #[tactic(auto, using(crate::proofs::BatchFits::batch_fits), unfolding(crate::specs::Stream::batch_message, crate::specs::Batch::batch_metadata))]
-pub fn batch_message(alloc: Global, schema: &Schema, rows: &[Row]) -> Result<Vec<u8>, AllocError>
-    requires { IsBatch schema.now.fields.items (cells rows.now) }
-    ensures bytes { IfOk result (λ bytes. bytes.items ≡ stream.batch_message schema.now.fields.items (cells rows.now)) }
+pub fn batch_message(
+    alloc: Global,
+    layouts: &[LayoutTree],
+    rows: &[Row],
+) -> Result<Vec<u8>, AllocError>
+    requires { IsBatch (kids_of layouts.now) (map (λ row. row.items) rows.now) }
+    ensures bytes { IfOk result (λ bytes. bytes.items ≡ stream.batch_message (kids_of layouts.now) (map (λ row. row.items) rows.now)) }
     ensures size { IfOk result (λ bytes. length bytes.items ≤ 2 ^ 39) }
 {
-    let body = write_body(alloc, schema, rows)?;
+    let body = write_body(alloc, layouts, rows)?;
     let metadata = batch_metadata(alloc, rows.len() as u64, &body)?;
     let bytes = message(alloc, &metadata, &body.bytes)?;
     Ok(bytes)

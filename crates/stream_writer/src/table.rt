@@ -1,20 +1,22 @@
 //! Writing a table, message by message.
 
-ghost use Rattle.std.specs.Prelude.{ℕ, ◌≡◌, ◌+◌, ◌*◌, ◌^◌, ◌<◌, ◌≤◌, ◌++◌, All, IfOk, MatchResult, Err, List, length};
-ghost use Rattle.body_writer.specs.Body.{cells};
-ghost use Rattle.body_writer.specs.Weights.{row_weight};
-ghost use Rattle.schema_meta.specs.SchemaTree.{AreColumns};
+ghost use Rattle.std.specs.Prelude.{ℕ, ◌≡◌, ◌+◌, ◌*◌, ◌^◌, ◌<◌, ◌≤◌, ◌++◌, All, IfOk, MatchResult, Err, List, length, map};
+ghost use Rattle.values.specs.Rose.{kids_of};
+ghost use Rattle.body_writer.specs.Batch.{row_weight};
 ghost use Rattle.stream_writer.specs.Sinks.{Sunk, Writes};
-ghost use Rattle.stream_writer.specs.Stream.{schema_message, batch_message, end_mark, batch_len, batches, canon};
-ghost use Rattle.stream_writer.specs.Table.{IsRow, IsTable};
+ghost use Rattle.stream_writer.specs.Stream.{schema_message, batch_message, end_mark, batch_len, trees, canon};
+ghost use Rattle.stream_writer.specs.Table.{IsTable};
 ghost use Rattle.stream_writer.specs.Went.{Went};
 
 use crate::faults::WriteFault;
+use crate::layouts::layouts_of;
 use crate::messages;
 use crate::sink::{Sink, put_all};
+use body_writer::row_weight;
+use field_types::Schema;
 use std::alloc::Global;
 use values::limits::{MAX_BATCH_ROWS, MAX_BATCH_WEIGHT};
-use values::{Row, Schema, weight};
+use values::{LayoutTree, Row};
 
 /// No more bytes follow.
 const END_MARK: [u8; 8] = [255, 255, 255, 255, 0, 0, 0, 0];
@@ -28,8 +30,26 @@ pub fn write_table<S: Sink>(
     schema: &Schema,
     rows: &[Row],
 ) -> Result<u64, WriteFault>
-    requires { IsTable schema.now.fields.items (cells rows.now) }
-    ensures { Writes (S.sunk sink.old) (S.sunk sink.new) result (canon schema.now.fields.items (cells rows.now)) }
+    requires { IsTable schema.now.fields.items (map (λ row. row.items) rows.now) }
+    ensures { Writes (S.sunk sink.old) (S.sunk sink.new) result (canon schema.now.fields.items (map (λ row. row.items) rows.now)) }
+{
+    let Ok(layouts) = layouts_of(alloc, schema) else {
+        return Err(WriteFault::Memory { written: 0 });
+    };
+    write_messages(alloc, sink, schema, &layouts, rows)
+}
+
+/// Writes the messages of a table whose columns have these layouts.
+fn write_messages<S: Sink>(
+    alloc: Global,
+    sink: &mut S,
+    schema: &Schema,
+    layouts: &[LayoutTree],
+    rows: &[Row],
+) -> Result<u64, WriteFault>
+    requires layouts { kids_of layouts.now ≡ trees schema.now.fields.items }
+    requires table { IsTable schema.now.fields.items (map (λ row. row.items) rows.now) }
+    ensures { Writes (S.sunk sink.old) (S.sunk sink.new) result (canon schema.now.fields.items (map (λ row. row.items) rows.now)) }
 {
     let Ok(message) = messages::schema_message(alloc, schema) else {
         return Err(WriteFault::Memory { written: 0 });
@@ -37,8 +57,8 @@ pub fn write_table<S: Sink>(
     let mut written = put_after(sink, &message, 0)?;
     let mut left = rows;
     while !left.is_empty() {
-        let count = len_of_batch(schema, left);
-        let Ok(message) = messages::batch_message(alloc, schema, &left[..count]) else {
+        let count = len_of_batch(layouts, left);
+        let Ok(message) = messages::batch_message(alloc, layouts, &left[..count]) else {
             return Err(WriteFault::Memory { written });
         };
         written = put_after(sink, &message, written)?;
@@ -62,9 +82,9 @@ fn put_after<S: Sink>(sink: &mut S, bytes: &[u8], written: u64) -> Result<u64, W
 
 /// How many rows the next batch has.
 #[tactic(auto, unfolding(crate::specs::Stream::batch_len))]
-fn len_of_batch(schema: &Schema, rows: &[Row]) -> usize
-    requires { All (IsRow schema.now.fields.items) (cells rows.now) }
-    ensures value { result ≡ batch_len schema.now.fields.items (cells rows.now) }
+fn len_of_batch(layouts: &[LayoutTree], rows: &[Row]) -> usize
+    requires { All (λ row. row_weight (kids_of layouts.now) row ≤ 2 ^ 26) (map (λ row. row.items) rows.now) }
+    ensures value { result ≡ batch_len (kids_of layouts.now) (map (λ row. row.items) rows.now) }
     ensures bound { result ≤ length rows.now }
 {
     let mut count = 0;
@@ -73,7 +93,7 @@ fn len_of_batch(schema: &Schema, rows: &[Row]) -> usize
         if count == MAX_BATCH_ROWS {
             return count;
         }
-        let weight = weigh(schema, row);
+        let weight = row_weight(layouts, row);
         if room < weight {
             return count;
         }
@@ -81,16 +101,4 @@ fn len_of_batch(schema: &Schema, rows: &[Row]) -> usize
         count += 1;
     }
     count
-}
-
-/// What a row weighs.
-fn weigh(schema: &Schema, row: &Row) -> u64
-    requires { IsRow schema.now.fields.items row.now.items }
-    ensures { result ≡ row_weight schema.now.fields.items row.now.items }
-{
-    let mut total = 0;
-    for j in 0..schema.fields.len() {
-        total += weight(&schema.fields[j].col_type, &row[j]);
-    }
-    total
 }

@@ -1,21 +1,26 @@
 //! Sinks that fail, and a stream that is known from outside.
 
-ghost use Rattle.std.specs.Prelude.{◌≡◌, ◌∷◌, [], IfOk};
-ghost use Rattle.body_writer.specs.Body.{cells};
+ghost use Rattle.std.specs.Prelude.{◌≡◌, ◌∷◌, [], IfOk, map, true};
+ghost use Rattle.values.specs.Rose.{node, none};
 ghost use Rattle.values.specs.Kinds.{datum_of};
 ghost use Rattle.stream_writer.specs.Sample as sample;
 
 use crate::{MemorySink, WriteFault, write_table};
+use field_types::{Named, Schema, StoredType};
 use std::alloc::{AllocError, Global};
 use std::test::Fail;
-use values::{ColType, Kind, Named, Row, Schema, Value};
+use values::{IntWidth, Kind, Row, Value};
 
 fn column(alloc: Global, name: &str) -> Result<Named, AllocError>
-    ensures { IfOk result (λ field. field ≡ record { name = name.now; col_type = ColType.Int64 }) }
+    ensures { IfOk result (λ field. field ≡ node (record { name = name.now; col_type = StoredType.Int IntWidth.Bits64 true }) none) }
 {
     Ok(Named {
         name: String::from_str(alloc, name)?,
-        col_type: ColType::Int64,
+        col_type: StoredType::Int {
+            width: IntWidth::Bits64,
+            signed: true,
+        },
+        children: Vec::new(alloc),
     })
 }
 
@@ -38,7 +43,7 @@ fn row(alloc: Global, first: Kind, second: Kind) -> Result<Row, AllocError>
 }
 
 fn sample_rows(alloc: Global) -> Result<Vec<Row>, AllocError>
-    ensures { IfOk result (λ rows. cells rows.items ≡ sample.sample_rows) }
+    ensures { IfOk result (λ rows. map (λ row. row.items) rows.items ≡ sample.sample_rows) }
 {
     let mut rows = Vec::new(alloc);
     rows.push(row(alloc, Kind::Whole(1), Kind::Whole(10))?)?;

@@ -1,16 +1,16 @@
 use Rattle.std.proofs.Common.{◌≤◌, ◌+◌, ◌*◌, ◌^◌, ◌++◌, length}
 use Rattle.std.specs.Prelude.{All}
-use Rattle.body_writer.specs.Body.{cells}
-use Rattle.stream_writer.specs.Stream.{batches, canon, end_mark}
+use Rattle.body_writer.proofs.Rows.{cells_in}
+use Rattle.stream_writer.specs.Stream.{batches, canon, end_mark, trees}
 use Rattle.stream_writer.specs.Table.{IsRow}
 use Rattle.stream_writer.specs.Went.{Went}
-use Rattle.stream_writer.proofs.table.write_table.Given as goal
+use Rattle.stream_writer.proofs.table.write_messages.Given as goal
 
 abbrev pub invariant-loop-left : goal.invariant-loop-left
 invariant-loop-left g l = record {
-  went : Went (g.S.Sink.sunk l.fn.sink) (g.S.Sink.sunk l.sink) l.written (canon l.schema.fields.items (cells l.rows))
-      (batches l.schema.fields.items (length (cells l.left)) (cells l.left) ++ end_mark);
-  sound : All (IsRow l.schema.fields.items) (cells l.left);
+  went : Went (g.S.Sink.sunk l.fn.sink) (g.S.Sink.sunk l.sink) l.written (canon l.schema.fields.items (cells_in l.rows))
+      (batches (trees l.schema.fields.items) (length (cells_in l.left)) (cells_in l.left) ++ end_mark);
+  sound : All (IsRow l.schema.fields.items) (cells_in l.left);
   short : l.written + 2 ^ 39 * length l.left ≤ 2 ^ 39 * (2 ^ 24 + 1);
 }
 

@@ -1,0 +1,37 @@
+//! How the columns of a schema lie in memory.
+
+ghost use Rattle.std.specs.Prelude.{◌≡◌, IfOk};
+ghost use Rattle.values.specs.Rose.{kids_of};
+ghost use Rattle.field_types.specs.Logical.{tree_of, trees_of};
+
+use field_types::{Named, Schema};
+use std::alloc::{AllocError, Global};
+use values::LayoutTree;
+
+#[cycle(layouts)]
+fn layout_tree(alloc: Global, field: &Named) -> Result<LayoutTree, AllocError>
+    ensures { IfOk result (λ tree. tree ≡ tree_of field.now) }
+{
+    let layout = field.col_type.layout();
+    let children = layout_trees(alloc, &field.children)?;
+    Ok(LayoutTree { layout, children })
+}
+
+#[cycle(layouts)]
+#[tactic(auto, using(crate::proofs::Trees::tree_steps))]
+fn layout_trees(alloc: Global, fields: &[Named]) -> Result<Vec<LayoutTree>, AllocError>
+    ensures { IfOk result (λ trees. kids_of trees.items ≡ trees_of (kids_of fields.now)) }
+{
+    let mut trees = Vec::with_capacity(alloc, fields.len())?;
+    for field in fields {
+        trees.push(layout_tree(alloc, field)?)?;
+    }
+    Ok(trees)
+}
+
+/// The layouts of the columns, in order.
+pub fn layouts_of(alloc: Global, schema: &Schema) -> Result<Vec<LayoutTree>, AllocError>
+    ensures { IfOk result (λ layouts. kids_of layouts.items ≡ trees_of (kids_of schema.now.fields.items)) }
+{
+    layout_trees(alloc, &schema.fields)
+}
