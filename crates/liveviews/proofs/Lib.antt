@@ -1,10 +1,6 @@
-pub mod Rising
-pub mod Texts
-pub mod ColumnCells
 pub mod Batches
 pub mod Weighing
 pub mod Taking
-pub mod Placing
 pub mod Batching
 pub mod Stories
 pub mod Tables

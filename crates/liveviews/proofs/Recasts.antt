@@ -1,7 +1,8 @@
 -- From the table that was read to the bytes that are put.
 use Rattle.std.proofs.Common.{◌≡◌, inl, ℕ, List, Result, refl}
 use Rattle.values.specs.Datum.{Datum}
-use Rattle.values.specs.Logical.{LogicalField}
+use Rattle.values.specs.Rose.{Rose}
+use Rattle.field_types.specs.Logical.{LogicalField}
 use Rattle.values.specs.declared.causes.Cause.{Cause}
 use Rattle.values.specs.declared.causes.Cause.TheVariants as cause
 use Rattle.values.specs.StreamCauses.{cause_of}
@@ -106,7 +107,7 @@ refused-stops old cause.OverLimit s h = (untouched old, h)
 refused-stops old cause.Shape s h = (untouched old, h)
 
 pub written-table :
-    (old new : Sunk) (answer : Result ℕ WriteFault) (s : Story) (fields : List LogicalField) (rows : List (List Datum)) → Means s fields rows
+    (old new : Sunk) (answer : Result ℕ WriteFault) (s : Story) (fields : List (Rose LogicalField)) (rows : List (List Datum)) → Means s fields rows
     → Writes old new answer (canon fields rows) → WritesTable old new answer s
 written-table old new answer s fields rows means writes = record { fields = fields; rows = rows; means = means; writes = writes }
 

@@ -1,10 +1,10 @@
 -- The story of a stream, message by message.
-use Rattle.std.proofs.Common.{◌≡◌, ◌≢◌, ◌⊎◌, inl, inr, ℕ, zero, suc, ◌+◌, ◌-◌, ◌<◌, ◌≤◌, Bool, true, false, Option, None, Some, Ok, Err, List, [], ◌++◌, length, drop, map, Any, refl, ap, sym, subst, ◌∙◌, arith, append_assoc, length-append, length-drop}
+use Rattle.std.proofs.Common.{◌≡◌, ◌≢◌, ◌⊎◌, inl, inr, ℕ, zero, suc, ◌+◌, ◌-◌, ◌<◌, ◌≤◌, Bool, true, false, Option, None, Some, Ok, Err, List, [], ◌++◌, length, drop, Any, refl, ap, sym, subst, ◌∙◌, arith, append_assoc, length-append, length-drop}
 use Rattle.std.specs.Prelude.{slice_range, unwrap_or, ◌==◌}
 use Rattle.std.proofs.lemmas.Bool.{eqb-true, eqb-false, cases_lt}
 use Rattle.values.specs.Datum.{Datum}
 use Rattle.values.specs.Reading.{Reading, Stands, Fails, with_front, one}
-use Rattle.values.specs.Rose.{Rose}
+use Rattle.values.specs.Rose.{Rose, Roses}
 use Rattle.values.specs.declared.faults.StreamFault.{StreamFault}
 use Rattle.values.specs.declared.faults.StreamFault.TheVariants as fault
 use Rattle.values.specs.declared.causes.Cause.{Cause}
@@ -14,6 +14,7 @@ use Rattle.schema_meta.specs.declared.header.Header.{Header}
 use Rattle.schema_meta.specs.declared.header.Header.TheVariants as header
 use Rattle.schema_meta.specs.Stage.{Known, Whole, end_of}
 use Rattle.schema_meta.specs.Sound.{after, schema_after}
+use Rattle.schema_meta.specs.FieldLayouts.{layouts_of}
 use Rattle.schema_meta.specs.Framing.{first}
 use Rattle.schema_meta.specs.Rows.{rows_of}
 use Rattle.schema_meta.specs.Story.{Story, story, told, knowing, ends, at_end_mark, after_rows, after_batch, told_by}
@@ -24,12 +25,11 @@ use Rattle.messages.specs.declared.headers.Framed.{Framed}
 use Rattle.values.specs.StreamCauses.{cause_of}
 use Rattle.values.proofs.Readings.{fails_along}
 use Rattle.liveviews.specs.Steps.{Tells, Refuses, HasHeavyRow, IsSound, AreTakenSo, ReadsRows, RefusesRowsOf}
-use Rattle.liveviews.specs.Refused.{RefusesBatch, types_of}
+use Rattle.liveviews.specs.Refused.{RefusesBatch}
 use Rattle.liveviews.specs.Heavy.{IsHeavy}
 use Rattle.liveviews.specs.Taken.{AreTaken}
-use Rattle.schema_meta.specs.Logical.{logical_field}
-use Rattle.values.specs.declared.types.ColType.{ColType}
-use Rattle.std.proofs.lemmas.List.{length-map, get_or_append_left, get_or-append-add}
+use Rattle.values.specs.declared.layout.Layout.{Layout}
+use Rattle.std.proofs.lemmas.List.{get_or_append_left, get_or-append-add}
 use Rattle.messages.specs.MessageLaw.{Brings, BringsSchema, MessageLaw}
 
 -- The law of messages is handed in: it is the contract of `message_law`.
@@ -390,7 +390,7 @@ module _ (law : MessageLaw) where
   batch-refused-by :
       (s : Story) (rows : List (List Datum)) (before : ℕ) (known next : Known) (bytes : List ℕ) (used : ℕ) (v : MessageView) (head : BatchHead)
       (fields : List (Rose Entry)) (k : Cause) → before ≡ length rows → Came known bytes used v next → v.header ≡ header.Batch head
-      → known.schema ≡ Some fields → RefusesBatch (types_of fields) (rows_of fields head v.body) before k → Tells s rows known bytes → Refuses s k
+      → known.schema ≡ Some fields → RefusesBatch (layouts_of fields) (rows_of fields head v.body) before k → Tells s rows known bytes → Refuses s k
   batch-refused-by s rows before known next bytes used v head fields cause.Memory size c is there refused tells = tt
   batch-refused-by s rows before known next bytes used v head fields cause.TooManyRows size c is there (got, good, many) tells =
       let told = batch-good s rows got known next bytes used v head fields c is there good tells in
@@ -399,7 +399,7 @@ module _ (law : MessageLaw) where
       omega (arith, many, size, long)
   batch-refused-by s rows before known next bytes used v head fields cause.CellTooHeavy size c is there (got, good, heavy) tells =
       let told = batch-good s rows got known next bytes used v head fields c is there good tells in
-      let P : List Datum → Type 0 = IsHeavy (types_of fields) in
+      let P : List Datum → Type 0 = IsHeavy (layouts_of fields) in
       let here : Any P (rows ++ (got ++ told.0)) = any-right P rows (got ++ told.0) (any-left P got told.0 heavy) in
       let Q : Option (List (Rose Entry)) → Type 0 = λ o. HasHeavyRow o s.rows in
       subst Q (sym told.2) (subst (Any P) (sym told.1) here)
@@ -501,7 +501,7 @@ module _ (law : MessageLaw) where
   pub batch-stops :
       (s : Story) (rows : List (List Datum)) (before : ℕ) (known next : Known) (bytes : List ℕ) (used : ℕ) (v : MessageView) (head : BatchHead)
       (fields : List (Rose Entry)) (k : Cause) → before ≡ length rows → Came known bytes used v next → v.header ≡ header.Batch head
-      → known.schema ≡ Some fields → RefusesBatch (types_of fields) (rows_of fields head v.body) before k → Tells s rows known bytes → Refuses s k
+      → known.schema ≡ Some fields → RefusesBatch (layouts_of fields) (rows_of fields head v.body) before k → Tells s rows known bytes → Refuses s k
   batch-stops = batch-refused-by
 
   -- what is known after a message is within the limits
@@ -516,7 +516,7 @@ module _ (law : MessageLaw) where
 
         by_header : (h : Header) → Brings known.schema brought h → IsSound (schema_after known.schema brought)
         by_header header.Schema b =
-            subst (λ (o : Option (List (Rose Entry))). IsSound (schema_after known.schema o)) (sym b.is) b.sound
+            subst (λ (o : Option (List (Rose Entry))). IsSound (schema_after known.schema o)) (sym b.is) (b.read, b.sound)
         by_header (header.Batch head) b = kept b
         by_header header.End b = kept b
 
@@ -528,9 +528,9 @@ module _ (law : MessageLaw) where
       let none : rows ≡ [] = subst (λ (o : Option (List (Rose Entry))). AreTakenSo o rows) b.new taken in
       let P : Option (List (Rose Entry)) → Type 0 = λ o. AreTakenSo (schema_after known.schema o) rows in
       let Q : Known → Type 0 = λ k. AreTakenSo k.schema rows in
-      subst Q (sym c.learned) (subst P (sym b.is) (none-taken (types_of b.fields) rows none)) where
-        none-taken : (types : List ColType) (rows : List (List Datum)) → rows ≡ [] → AreTaken types rows
-        none-taken types rows none = subst (AreTaken types) (sym none) (record { few = omega arith; each = λ k d below. absurd (omega (arith, below)) })
+      subst Q (sym c.learned) (subst P (sym b.is) (none-taken (layouts_of b.fields) rows none)) where
+        none-taken : (ls : Roses Layout) (rows : List (List Datum)) → rows ≡ [] → AreTaken ls rows
+        none-taken ls rows none = subst (AreTaken ls) (sym none) (record { few = omega arith; each = λ k d below. absurd (omega (arith, below)) })
 
   pub same-after :
       (known next : Known) (bytes : List ℕ) (used : ℕ) (v : MessageView) → Came known bytes used v next → v.header ≢ header.Schema → next ≡ known
@@ -595,13 +595,4 @@ module _ (law : MessageLaw) where
     by_schema None there r = absurd r
     by_schema (Some fields) there r =
         batch-stops s rows before known next bytes used v head fields k size c is there
-        (subst (λ (b : List ℕ). RefusesBatch (types_of fields) (rows_of fields head b) before k) (sym seen) r) tells
-
-  -- a batch where a schema is known
-  pub known-few : (o : Option (List (Rose Entry))) (fields : List (Rose Entry)) → o ≡ Some fields → IsSound o → length fields ≤ 1024
-  known-few o fields is sound =
-      let here : IsSound (Some fields) = subst IsSound is sound in
-      let same : length (map logical_field fields) ≡ length fields = length-map fields logical_field in
-      omega (arith, here.few, same)
-
-  pub ruleset batches_known = (known-few)
+        (subst (λ (b : List ℕ). RefusesBatch (layouts_of fields) (rows_of fields head b) before k) (sym seen) r) tells

@@ -1,63 +1,64 @@
 -- The table at the end of a stream.
-use Rattle.std.proofs.Common.{◌≡◌, ℕ, ◌+◌, ◌-◌, ◌<◌, ◌≤◌, Bool, true, false, Option, None, Some, Result, Ok, Err, OnOk, List, [], ◌∷◌, length, take, drop, map, refl, ap, sym, subst, ◌∙◌, arith, append-nil, length-drop}
+use Rattle.std.proofs.Common.{◌≡◌, ℕ, ◌-◌, ◌^◌, ◌<◌, ◌≤◌, Bool, true, false, Option, None, Some, Result, Ok, Err, OnOk, List, [], ◌∷◌, length, take, drop, map, refl, ap, sym, subst, ◌∙◌, arith, append-nil, length-drop}
 use Rattle.std.specs.Prelude.{IsSome, if◌then◌else◌, ◌==◌}
 use Rattle.std.specs.Option.{option_map}
-use Rattle.std.proofs.lemmas.List.{length-map, take_all}
+use Rattle.std.proofs.lemmas.List.{take_all}
 use Rattle.std.proofs.lemmas.Bool.{eqb-true}
-use Rattle.values.specs.Datum.{Datum}
-use Rattle.values.specs.Logical.{LogicalField}
+use Rattle.values.specs.Datum.{Datum, items_of}
+use Rattle.values.specs.Layouts.{AreLayouts, HoldsEach, row_weight}
+use Rattle.field_types.specs.Logical.{LogicalField}
 use Rattle.values.specs.Reading.{Reading, Stands, one}
-use Rattle.values.specs.Rose.{Rose}
-use Rattle.values.specs.Weight.{weight_of}
+use Rattle.values.specs.Rose.{Rose, Roses}
+use Rattle.values.specs.declared.layout.Layout.{Layout}
 use Rattle.values.specs.declared.faults.StreamFault.TheVariants as fault
 use Rattle.values.specs.declared.causes.Cause.{Cause}
 use Rattle.values.specs.declared.causes.Cause.TheVariants as cause
 use Rattle.schema_meta.specs.Entry.{Entry}
+use Rattle.schema_meta.specs.FieldLayouts.{layouts_of}
 use Rattle.schema_meta.specs.Logical.{logical_field}
+use Rattle.schema_meta.specs.LogicalLaw.{logical_trees, narrow_trees}
+use Rattle.schema_meta.proofs.Narrowing.{logical-trees, narrow-fits, narrow-holds-each, narrow-row-weighs}
 use Rattle.schema_meta.specs.Stage.{Known}
 use Rattle.schema_meta.specs.Story.{Story, story, story_of, ends, at_input_end, at_end_mark, after_rows, nothing_known}
 use Rattle.schema_meta.specs.Means.{Means}
-use Rattle.body_writer.specs.Weights.{row_weight}
 use Rattle.stream_writer.specs.Table.{IsRow, IsTable}
-use Rattle.liveviews.specs.Heavy as heavy
 use Rattle.liveviews.specs.Taken.{AreTaken, IsTakenRow}
-use Rattle.liveviews.specs.Refused.{types_of}
 use Rattle.liveviews.specs.Steps.{Tells, Refuses, IsSound, AreTakenSo, HasTold, IsTableOf, Lacks}
 
-weights-same : (fields : List (Rose Entry)) (row : List Datum) → row_weight (map logical_field fields) row ≡ heavy.row_weight (types_of fields) row
-weights-same [] row = refl
-weights-same (f ∷ fs) [] = refl
-weights-same (f ∷ fs) (c ∷ cs) = ap (λ n. weight_of (logical_field f).col_type c + n) (weights-same fs cs)
-
-row-fits : (fields : List (Rose Entry)) (row : List Datum) → IsTakenRow (types_of fields) row → IsRow (map logical_field fields) row
+-- rows that the columns hold as they are stored are rows of the logical columns
+row-fits : (fields : List (Rose Entry)) (row : List Datum) → IsTakenRow (layouts_of fields) row → IsRow (map logical_field fields) row
 row-fits fields row taken =
-    let f : Rose Entry → _ = λ x. (logical_field x).col_type in
-    let widths : length (types_of fields) ≡ length (map logical_field fields) = length-map fields f ∙ sym (length-map fields logical_field) in
-    let same : row_weight (map logical_field fields) row ≡ heavy.row_weight (types_of fields) row = weights-same fields row in
-    record { complete = taken.complete ∙ widths; light = omega (arith, same, taken.light.whole) }
+    let ls : Roses Layout = layouts_of fields in
+    let same : logical_trees fields ≡ narrow_trees ls = logical-trees fields in
+    let P : Roses Layout → Type 0 = λ ts. HoldsEach ts (items_of row) in
+    let Q : Roses Layout → Type 0 = λ ts. row_weight ts (items_of row) ≤ 2 ^ 26 in
+    let narrow : row_weight (narrow_trees ls) (items_of row) ≡ row_weight ls (items_of row) = narrow-row-weighs ls (items_of row) in
+    let light : row_weight (narrow_trees ls) (items_of row) ≤ 2 ^ 26 = omega (arith, narrow, taken.light.whole) in
+    record { held = subst P (sym same) (narrow-holds-each ls (items_of row) taken.held); light = subst Q (sym same) light }
 
 table-fits :
-    (fields : List (Rose Entry)) (rows : List (List Datum)) → IsSound (Some fields) → AreTaken (types_of fields) rows
+    (fields : List (Rose Entry)) (rows : List (List Datum)) → IsSound (Some fields) → AreTaken (layouts_of fields) rows
     → IsTable (map logical_field fields) rows
 table-fits fields rows sound taken = record {
-  columns = sound;
+  columns = sound.1;
+  layouts = subst AreLayouts (sym (logical-trees fields)) (narrow-fits (layouts_of fields) sound.0.layouts);
   few = taken.few;
   sound = λ k d below. row-fits fields _ (taken.each k d below);
 }
 
 -- the table that is finished
 pub finish-table :
-    (schema : Option (List (Rose Entry))) (fs : List (Rose Entry)) (rows : List (List Datum)) (fields : List LogicalField) → schema ≡ Some fs
+    (schema : Option (List (Rose Entry))) (fs : List (Rose Entry)) (rows : List (List Datum)) (fields : List (Rose LogicalField)) → schema ≡ Some fs
     → fields ≡ map logical_field fs → IsTableOf schema rows fields rows
 finish-table schema fs rows fields is named = subst (λ (o : Option (List (Rose Entry))). IsTableOf o rows fields rows) (sym is) (named, refl)
 
 pub finish-within :
-    (schema : Option (List (Rose Entry))) (fs : List (Rose Entry)) (rows : List (List Datum)) (fields : List LogicalField) → schema ≡ Some fs
+    (schema : Option (List (Rose Entry))) (fs : List (Rose Entry)) (rows : List (List Datum)) (fields : List (Rose LogicalField)) → schema ≡ Some fs
     → fields ≡ map logical_field fs → IsSound schema → AreTakenSo schema rows → IsTable fields rows
 finish-within schema fs rows fields is named sound taken =
     let s : IsSound (Some fs) = subst IsSound is sound in
     let t : AreTakenSo (Some fs) rows = subst (λ (o : Option (List (Rose Entry))). AreTakenSo o rows) is taken in
-    subst (λ (xs : List LogicalField). IsTable xs rows) (sym named) (table-fits fs rows s t)
+    subst (λ (xs : List (Rose LogicalField)). IsTable xs rows) (sym named) (table-fits fs rows s t)
 
 pub finish-none : (schema : Option (List (Rose Entry))) → schema ≡ None → Lacks schema cause.NoSchema
 finish-none schema is = subst (λ (o : Option (List (Rose Entry))). Lacks o cause.NoSchema) (sym is) tt
@@ -68,7 +69,7 @@ pub ruleset finishing = (finish-table, finish-within, finish-none)
 pub known-nothing : (k : Known) → k.declared ≡ None → k.schema ≡ None → k ≡ nothing_known
 known-nothing k declared schema =
     ap (λ d. known_with d k.schema) declared ∙ ap (λ o. known_with None o) schema where
-      known_with : Option (List LogicalField) → Option (List (Rose Entry)) → Known
+      known_with : Option (List (Rose LogicalField)) → Option (List (Rose Entry)) → Known
       known_with d o = record { declared = d; schema = o }
 
 pub tells-all : (k : Known) (bytes : List ℕ) (rows : List (List Datum)) → k.declared ≡ None → k.schema ≡ None → rows ≡ [] → Tells (story_of bytes) rows k bytes
@@ -122,7 +123,7 @@ mark-before s rows k bytes n tells more =
 
 -- the table, or none
 pub means-table :
-    (s : Story) (rows : List (List Datum)) (k : Known) (end : Reading (Unit {0})) (fields : List LogicalField) (cells : List (List Datum))
+    (s : Story) (rows : List (List Datum)) (k : Known) (end : Reading (Unit {0})) (fields : List (Rose LogicalField)) (cells : List (List Datum))
     → s ≡ after_rows rows (ends k end) → IsTableOf k.schema rows fields cells → ((fs : List (Rose Entry)) → k.schema ≡ Some fs → end ≡ Ok tt)
     → Means s fields cells
 means-table s rows k end fields cells tells table good = by_schema k.schema refl table where
@@ -177,7 +178,7 @@ mark-told s rows k bytes n tells all some =
 pub ruleset reading = (mark-before)
 
 pub told-means :
-    (s : Story) (rows : List (List Datum)) (k : Known) (fields : List LogicalField) (cells : List (List Datum)) → HasTold s rows k
+    (s : Story) (rows : List (List Datum)) (k : Known) (fields : List (Rose LogicalField)) (cells : List (List Datum)) → HasTold s rows k
     → IsTableOf k.schema rows fields cells → Means s fields cells
 told-means s rows k fields cells told table = means-table s rows k (at_input_end k.schema) fields cells told table (λ fs. input-good k fs)
 

@@ -3,11 +3,13 @@ use Rattle.std.proofs.Common.{◌≡◌, inl, inr, ℕ, suc, List, [], ◌∷◌
 use Rattle.std.proofs.lemmas.List.{map-append}
 use Rattle.std.proofs.lemmas.Bool.{cases_lt}
 use Rattle.std.specs.declared.alloc.Global.{Global}
-use Rattle.values.specs.Datum.{Datum}
-use Rattle.values.specs.declared.types.ColType.{ColType}
+use Rattle.values.specs.Datum.{Datum, items_of}
+use Rattle.values.specs.Layouts.{HoldsEach}
+use Rattle.values.specs.Rose.{Roses}
+use Rattle.values.specs.declared.layout.Layout.{Layout}
 use Rattle.schema_meta.specs.Rows.{row_at, rows_from}
 use Rattle.liveviews.specs.Heavy.{IsLight}
-use Rattle.liveviews.specs.Taken.{AreLight, cells_of_rows}
+use Rattle.liveviews.specs.Taken.{AreFit, IsTakenRow, cells_of_rows}
 
 rows_from-step :
     (columns : List (List Datum)) (i n : ℕ) → i < n → rows_from columns i (n - i) ≡ row_at columns i ∷ rows_from columns (i + 1) (n - (i + 1))
@@ -37,20 +39,22 @@ taken-end columns i n rows whole all is =
     let P : ℕ → Type 0 = λ k. cells_of_rows rows ++ rows_from columns i k ≡ whole in
     sym (append-nil (cells_of_rows rows)) ∙ subst P none is
 
-pub light-none : (types : List ColType) (columns : List (List Datum)) → AreLight types columns 0
-light-none types columns k below = absurd (omega (arith, below))
+pub fit-none : (ls : Roses Layout) (columns : List (List Datum)) → AreFit ls columns 0
+fit-none ls columns k below = absurd (omega (arith, below))
 
-pub light-more :
-    (types : List ColType) (columns : List (List Datum)) (i : ℕ) → AreLight types columns i → IsLight types (row_at columns i)
-    → AreLight types columns (i + 1)
-light-more types columns i before here k below = elim (cases_lt k i) [
+pub fit-more :
+    (ls : Roses Layout) (columns : List (List Datum)) (i : ℕ) (row : List Datum) → AreFit ls columns i → row ≡ row_at columns i
+    → HoldsEach ls (items_of row) → IsLight ls (row_at columns i) → AreFit ls columns (i + 1)
+fit-more ls columns i row before is held light k below = elim (cases_lt k i) [
   | inl less ↦ before k less
   | inr least ↦
       let same : i ≡ k = omega (arith, below, least) in
-      let P : ℕ → Type 0 = λ j. IsLight types (row_at columns j) in subst P same here
+      let P : ℕ → Type 0 = λ j. IsTakenRow ls (row_at columns j) in
+      let Q : List Datum → Type 0 = λ r. HoldsEach ls (items_of r) in
+      subst P same (record { held = subst Q is held; light = light })
 ]
 
-pub light-end : (types : List ColType) (columns : List (List Datum)) (i n : ℕ) → AreLight types columns i → n ≤ i → AreLight types columns n
-light-end types columns i n light all k below = light k (omega (arith, below, all))
+pub fit-end : (ls : Roses Layout) (columns : List (List Datum)) (i n : ℕ) → AreFit ls columns i → n ≤ i → AreFit ls columns n
+fit-end ls columns i n fit all k below = fit k (omega (arith, below, all))
 
-pub ruleset taking = (taken-more, taken-end, light-none, light-more, light-end)
+pub ruleset taking = (taken-more, taken-end, fit-none, fit-more, fit-end)

@@ -4,25 +4,27 @@ use Rattle.std.proofs.lemmas.List.{drop_more, drop_all}
 use Rattle.std.proofs.lemmas.Option.{slice_get-get_or}
 use Rattle.std.proofs.lemmas.List.Elements.{All-get_or}
 use Rattle.values.specs.Datum.{null}
-use Rattle.values.specs.Weight.{weight_of}
+use Rattle.values.specs.Layouts.{weight}
+use Rattle.arrays.specs.Checked.{CheckedColumn}
+use Rattle.arrays.specs.Weights.{Says}
 use Rattle.schema_meta.specs.Rows.{row_at}
-use Rattle.liveviews.specs.CheckedColumn.{CheckedColumn, cells_in, types_in}
+use Rattle.liveviews.specs.Columns.{cells_in, layouts_in}
 use Rattle.liveviews.specs.Heavy.{row_weight, HasHeavyCell, AreLightCells, IsHeavy, IsLight}
 
 abbrev weight_left : List CheckedColumn → ℕ → ℕ
-weight_left cs k = row_weight (types_in cs) (row_at (cells_in cs) k)
+weight_left cs k = row_weight (layouts_in cs) (row_at (cells_in cs) k)
 
 abbrev heavy_left : List CheckedColumn → ℕ → Type 0
-heavy_left cs k = HasHeavyCell (types_in cs) (row_at (cells_in cs) k)
+heavy_left cs k = HasHeavyCell (layouts_in cs) (row_at (cells_in cs) k)
 
 abbrev light_left : List CheckedColumn → ℕ → Type 0
-light_left cs k = AreLightCells (types_in cs) (row_at (cells_in cs) k)
+light_left cs k = AreLightCells (layouts_in cs) (row_at (cells_in cs) k)
 
 -- What is left of a row, after cells of this sum, decides whether the whole row is heavy.
 pub record Weighs (sum : ℕ) (rest columns : List CheckedColumn) (k : ℕ) : Type 0 where
-  pub cell : heavy_left rest k → IsHeavy (types_in columns) (row_at (cells_in columns) k)
-  pub row : 2 ^ 26 < sum + weight_left rest k → IsHeavy (types_in columns) (row_at (cells_in columns) k)
-  pub light : light_left rest k → sum + weight_left rest k ≤ 2 ^ 26 → IsLight (types_in columns) (row_at (cells_in columns) k)
+  pub cell : heavy_left rest k → IsHeavy (layouts_in columns) (row_at (cells_in columns) k)
+  pub row : 2 ^ 26 < sum + weight_left rest k → IsHeavy (layouts_in columns) (row_at (cells_in columns) k)
+  pub light : light_left rest k → sum + weight_left rest k ≤ 2 ^ 26 → IsLight (layouts_in columns) (row_at (cells_in columns) k)
   pub below : sum ≤ 2 ^ 26
 
 pub weighs-all : (columns : List CheckedColumn) (k : ℕ) → Weighs 0 columns columns k
@@ -47,40 +49,41 @@ cell_there columns i k c is below all =
     let P : CheckedColumn → Type 0 = λ x. k < length x.cells in
     subst P (sym is) (All-get_or P columns i c below all)
 
--- the weight that a column says for the cell
-weight_is :
-    (c : CheckedColumn) (k w : ℕ) → k < length c.cells → IfSome (slice_get c.cells k) (λ d. w ≡ weight_of c.col_type d)
-    → w ≡ weight_of c.col_type (get_or c.cells k null)
-weight_is c k w below says =
-    let P = λ (o : _). IfSome o (λ d. w ≡ weight_of c.col_type d) in
+-- what a column says of the cell's weight
+weight_said :
+    (c : CheckedColumn) (k w : ℕ) → k < length c.cells → IfSome (slice_get c.cells k) (λ d. Says w (weight c.layouts d))
+    → Says w (weight c.layouts (get_or c.cells k null))
+weight_said c k w below says =
+    let P = λ (o : _). IfSome o (λ d. Says w (weight c.layouts d)) in
     subst P (slice_get-get_or c.cells k null below) says
 
 pub weighs-heavy :
     (sum i k w : ℕ) (columns whole : List CheckedColumn) (c : CheckedColumn) → c ≡ get_or columns i c → i < length columns → k < length c.cells
-    → IfSome (slice_get c.cells k) (λ d. w ≡ weight_of c.col_type d) → 2 ^ 20 < w → Weighs sum (drop i columns) whole k
-    → IsHeavy (types_in whole) (row_at (cells_in whole) k)
+    → IfSome (slice_get c.cells k) (λ d. Says w (weight c.layouts d)) → 2 ^ 20 < w → Weighs sum (drop i columns) whole k
+    → IsHeavy (layouts_in whole) (row_at (cells_in whole) k)
 weighs-heavy sum i k w columns whole c is below inside says heavy left =
     let P : List CheckedColumn → Type 0 = λ cs. Weighs sum cs whole k in
     let here : Weighs sum (c ∷ drop (i + 1) columns) whole k = subst P (split_at columns i c is below) left in
-    here.cell (inl (omega (arith, heavy, weight_is c k w inside says)))
+    here.cell (inl ((weight_said c k w inside says).heavy heavy))
 
 pub weighs-over :
     (sum i k w : ℕ) (columns whole : List CheckedColumn) (c : CheckedColumn) → c ≡ get_or columns i c → i < length columns → k < length c.cells
-    → IfSome (slice_get c.cells k) (λ d. w ≡ weight_of c.col_type d) → 2 ^ 26 < sum + w → Weighs sum (drop i columns) whole k
-    → IsHeavy (types_in whole) (row_at (cells_in whole) k)
-weighs-over sum i k w columns whole c is below inside says heavy left =
+    → IfSome (slice_get c.cells k) (λ d. Says w (weight c.layouts d)) → w ≤ 2 ^ 20 → 2 ^ 26 < sum + w → Weighs sum (drop i columns) whole k
+    → IsHeavy (layouts_in whole) (row_at (cells_in whole) k)
+weighs-over sum i k w columns whole c is below inside says light heavy left =
     let P : List CheckedColumn → Type 0 = λ cs. Weighs sum cs whole k in
     let here : Weighs sum (c ∷ drop (i + 1) columns) whole k = subst P (split_at columns i c is below) left in
-    here.row (omega (arith, heavy, weight_is c k w inside says))
+    let same : w ≡ weight c.layouts (get_or c.cells k null) = (weight_said c k w inside says).exact light in
+    here.row (omega (arith, heavy, same))
 
 pub weighs-more :
     (sum i k w : ℕ) (columns whole : List CheckedColumn) (c : CheckedColumn) → c ≡ get_or columns i c → i < length columns → k < length c.cells
-    → IfSome (slice_get c.cells k) (λ d. w ≡ weight_of c.col_type d) → w ≤ 2 ^ 20 → sum + w ≤ 2 ^ 26 → Weighs sum (drop i columns) whole k
+    → IfSome (slice_get c.cells k) (λ d. Says w (weight c.layouts d)) → w ≤ 2 ^ 20 → sum + w ≤ 2 ^ 26 → Weighs sum (drop i columns) whole k
     → Weighs (sum + w) (drop (i + 1) columns) whole k
 weighs-more sum i k w columns whole c is below inside says light within left =
     let P : List CheckedColumn → Type 0 = λ cs. Weighs sum cs whole k in
     let here : Weighs sum (c ∷ drop (i + 1) columns) whole k = subst P (split_at columns i c is below) left in
-    let same : w ≡ weight_of c.col_type (get_or c.cells k null) = weight_is c k w inside says in
+    let same : w ≡ weight c.layouts (get_or c.cells k null) = (weight_said c k w inside says).exact light in
     record {
       cell = λ h. here.cell (inr h);
       row = λ h. here.row (omega (arith, h, same));
@@ -90,7 +93,7 @@ weighs-more sum i k w columns whole c is below inside says light within left =
 
 pub weighs-end :
     (sum i k : ℕ) (columns whole : List CheckedColumn) → length columns ≤ i → Weighs sum (drop i columns) whole k
-    → IsLight (types_in whole) (row_at (cells_in whole) k)
+    → IsLight (layouts_in whole) (row_at (cells_in whole) k)
 weighs-end sum i k columns whole all left =
     let P : List CheckedColumn → Type 0 = λ cs. Weighs sum cs whole k in
     let here : Weighs sum [] whole k = subst P (drop_all i columns all) left in

@@ -1,4 +1,4 @@
-pub mod CheckedColumn
+pub mod Columns
 pub mod Heavy
 pub mod Taken
 pub mod Refused

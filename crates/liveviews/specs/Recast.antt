@@ -1,7 +1,8 @@
 -- What `recast` answers, and what it puts.
 use Rattle.std.specs.Prelude.{◌≡◌, ◌⊎◌, ℕ, List, Result, Ok, Err}
 use Rattle.values.specs.Datum.{Datum}
-use Rattle.values.specs.Logical.{LogicalField}
+use Rattle.values.specs.Rose.{Rose}
+use Rattle.field_types.specs.Logical.{LogicalField}
 use Rattle.values.specs.declared.causes.Cause.{Cause}
 use Rattle.values.specs.declared.causes.Cause.TheVariants as cause
 use Rattle.schema_meta.specs.Story.{Story}
@@ -15,7 +16,7 @@ use Rattle.liveviews.specs.declared.recasting.RecastFault.{RecastFault}
 
 -- The stream means a table, and this came of writing the table's canonical stream.
 pub record WritesTable (old new : Sunk) (answer : Result ℕ WriteFault) (s : Story) : Type 0 where
-  pub fields : List LogicalField
+  pub fields : List (Rose LogicalField)
   pub rows : List (List Datum)
   pub means : Means s fields rows
   pub writes : Writes old new answer (canon fields rows)

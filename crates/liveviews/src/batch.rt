@@ -1,17 +1,20 @@
 //! The rows of a record batch.
 
-ghost use Rattle.std.specs.Prelude.{◌≡◌, ◌<◌, ◌++◌, All, map, IfOk, IfErr, OnOk, length, true, false};
+ghost use Rattle.std.specs.Prelude.{◌≡◌, ◌<◌, ◌++◌, All, IfOk, IfErr, OnOk, length, true, false};
+ghost use Rattle.values.specs.Datum.{items_of};
+ghost use Rattle.values.specs.Layouts.{HoldsEach};
 ghost use Rattle.values.specs.Reading.{Answers};
-ghost use Rattle.liveviews.specs.CheckedColumn.{cells_in, types_in};
-ghost use Rattle.liveviews.specs.Heavy.{IsHeavy, IsLight};
-ghost use Rattle.liveviews.specs.Taken.{AreLight, RefusesRows, cells_of_rows};
-ghost use Rattle.schema_meta.specs.BodyLayout.{IsWithin};
+ghost use Rattle.values.specs.Rose.{kids_of};
+ghost use Rattle.array_layout.specs.Cells.{column_of};
+ghost use Rattle.array_layout.specs.Placing.{layout_of, layouts_of};
+ghost use Rattle.array_layout.specs.Sound.{ArePlaced, IsPlaced};
 ghost use Rattle.schema_meta.specs.Rows.{columns_in, row_at, rows_in};
-ghost use Rattle.schema_meta.specs.Cells.{column_of};
-ghost use Rattle.schema_meta.specs.Logical.{logical_type};
+ghost use Rattle.liveviews.specs.Columns.{cells_in, layouts_in};
+ghost use Rattle.liveviews.specs.Heavy.{IsHeavy, IsLight};
+ghost use Rattle.liveviews.specs.Taken.{AreFit, RefusesRows, cells_of_rows};
 
-use crate::columns::Column;
-use schema_meta::Part;
+use array_layout::Array;
+use arrays::Column;
 use std::alloc::{AllocError, Global};
 use std::rc::Rc;
 use values::limits::{MAX_CELL_WEIGHT, MAX_ROW_WEIGHT};
@@ -19,28 +22,28 @@ use values::{Cause, Row, StreamFault};
 
 /// One column of a batch.
 #[tactic(auto, using(values::proofs::Readings::failing))]
-fn check_column(body: &Rc<Vec<u8>>, part: &Part) -> Result<Column, StreamFault>
-    requires { IsWithin body.now.value.items part.now }
-    ensures reading { Answers (λ c. c.cells) result (column_of body.now.value.items part.now) }
-    ensures typed { IfOk result (λ c. c.col_type ≡ logical_type part.now.stored) }
+fn check_column(body: &Rc<Vec<u8>>, array: Array) -> Result<Column, StreamFault>
+    requires { IsPlaced body.now.value.items array }
+    ensures reading { Answers (λ c. c.cells) result (column_of body.now.value.items array) }
+    ensures typed { IfOk result (λ c. c.layouts ≡ layout_of array) }
 {
-    Column::check(body.clone()?, *part)
+    Column::of(body.clone()?, array)
 }
 
-/// The columns of a batch, each judged by itself: 22 to 25.
+/// The columns of a batch, each judged by itself: 22 to 25 and 27.
 #[tactic(auto, using(crate::proofs::Batches::columns))]
 pub(crate) fn check_columns(
     alloc: Global,
     body: &Rc<Vec<u8>>,
-    parts: &[Part],
+    arrays: Vec<Array>,
 ) -> Result<Vec<Column>, StreamFault>
-    requires { All (λ p. IsWithin body.now.value.items p) parts.now }
-    ensures reading { Answers (λ cs. cells_in cs.items) result (columns_in body.now.value.items parts.now) }
-    ensures typed { IfOk result (λ cs. types_in cs.items ≡ map (λ p. logical_type p.stored) parts.now) }
+    requires { ArePlaced body.now.value.items (kids_of arrays.items) }
+    ensures reading { Answers (λ cs. cells_in cs.items) result (columns_in body.now.value.items (kids_of arrays.items)) }
+    ensures typed { IfOk result (λ cs. layouts_in cs.items ≡ layouts_of (kids_of arrays.items)) }
 {
-    let mut columns = Vec::with_capacity(alloc, parts.len())?;
-    for part in parts {
-        columns.push(check_column(body, part)?)?;
+    let mut columns = Vec::with_capacity(alloc, arrays.len())?;
+    for array in arrays {
+        columns.push(check_column(body, array)?)?;
     }
     Ok(columns)
 }
@@ -49,7 +52,8 @@ pub(crate) fn check_columns(
 #[tactic(auto, using(crate::proofs::Batches::cells))]
 pub(crate) fn read_row(alloc: Global, columns: &[Column], index: usize) -> Result<Row, AllocError>
     requires { All (λ c. index < length c.cells) columns.now }
-    ensures { IfOk result (λ r. r.items ≡ row_at (cells_in columns.now) index) }
+    ensures row { IfOk result (λ r. r.items ≡ row_at (cells_in columns.now) index) }
+    ensures held { IfOk result (λ r. HoldsEach (layouts_in columns.now) (items_of r.items)) }
 {
     let mut row = Vec::with_capacity(alloc, columns.len())?;
     for column in columns {
@@ -62,8 +66,8 @@ pub(crate) fn read_row(alloc: Global, columns: &[Column], index: usize) -> Resul
 #[tactic(auto, using(crate::proofs::Weighing::weighing))]
 fn is_heavy(columns: &[Column], index: usize) -> bool
     requires { All (λ c. index < length c.cells) columns.now }
-    ensures heavy { result ≡ true → IsHeavy (types_in columns.now) (row_at (cells_in columns.now) index) }
-    ensures light { result ≡ false → IsLight (types_in columns.now) (row_at (cells_in columns.now) index) }
+    ensures heavy { result ≡ true → IsHeavy (layouts_in columns.now) (row_at (cells_in columns.now) index) }
+    ensures light { result ≡ false → IsLight (layouts_in columns.now) (row_at (cells_in columns.now) index) }
 {
     let mut sum = 0;
     for column in columns {
@@ -89,8 +93,8 @@ pub(crate) fn add_rows(
 ) -> Result<(), Cause>
     requires { All (λ c. length c.cells ≡ count) columns.now }
     ensures rows { OnOk result (cells_of_rows rows.new.items ≡ cells_of_rows rows.old.items ++ rows_in count (cells_in columns.now)) }
-    ensures light { OnOk result (AreLight (types_in columns.now) (cells_in columns.now) count) }
-    ensures refused { IfErr result (λ c. RefusesRows (types_in columns.now) (cells_in columns.now) count c) }
+    ensures fit { OnOk result (AreFit (layouts_in columns.now) (cells_in columns.now) count) }
+    ensures refused { IfErr result (λ c. RefusesRows (layouts_in columns.now) (cells_in columns.now) count c) }
 {
     for index in 0..count {
         if is_heavy(columns, index) {

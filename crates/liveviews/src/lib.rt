@@ -2,7 +2,6 @@
 #![tactic(auto)]
 
 mod batch;
-mod columns;
 mod files;
 mod program;
 mod recasting;

@@ -1,25 +1,30 @@
 //! The table that a whole stream means.
 
-ghost use Rattle.std.specs.Prelude.{◌≡◌, ◌^◌, ◌≤◌, ◌<◌, [], All, IfErr, IfOk, IsSomeAnd, OnOk, Ok, length, map, slice_range};
+ghost use Rattle.std.specs.Prelude.{◌≡◌, ◌≤◌, ◌<◌, [], IfErr, IfOk, IsSomeAnd, OnOk, Ok, length};
 ghost use Rattle.values.specs.Reading.{mapped, with_front};
+ghost use Rattle.values.specs.Rose.{kids_of};
+ghost use Rattle.array_layout.specs.Placing.{layouts_of as layouts_of_arrays};
+ghost use Rattle.array_layout.specs.Sound.{ArePlaced};
+ghost use Rattle.schema_meta.specs.FieldLayouts.{layouts_of};
+ghost use Rattle.schema_meta.specs.PlaceLaw.{HaveLength};
 ghost use Rattle.schema_meta.specs.Rows.{columns_in, rows_in, rows_of};
-ghost use Rattle.schema_meta.specs.BodyLayout.{IsWithin};
 ghost use Rattle.schema_meta.specs.Sound.{Fits};
-ghost use Rattle.schema_meta.specs.Logical.{logical_field};
 ghost use Rattle.liveviews.specs.Taken.{AreTaken, cells_of_rows};
 ghost use Rattle.schema_meta.specs.Story.{Story, story_of};
 ghost use Rattle.schema_meta.specs.Means.{Means};
 ghost use Rattle.stream_writer.specs.Table.{IsTable};
 ghost use Rattle.liveviews.specs.Steps.{AreTakenSo, HasEnded, HasTold, IsSound, IsTableOf, Lacks, ReadsRows, Refuses, RefusesRowsOf, Tells, TellsAfter, length_of};
-ghost use Rattle.liveviews.specs.Refused.{RefusesBatch, types_of, types_of_parts};
+ghost use Rattle.liveviews.specs.Refused.{RefusesBatch};
 
 use crate::batch::{add_rows, check_columns};
+use array_layout::Array;
+use field_types::Schema;
 use messages::{Framed, Framer, Message, message_law};
-use schema_meta::{BatchHeader, Header, Part, StreamSchema, place_parts};
+use schema_meta::{BatchHeader, Header, StreamSchema, place_arrays};
 use std::alloc::Global;
 use std::rc::Rc;
 use values::limits::MAX_MAIN_ROWS;
-use values::{Cause, Row, Schema};
+use values::{Cause, Row};
 
 /// A table: its columns and its rows.
 #[derive(Drop)]
@@ -28,23 +33,24 @@ pub(crate) struct Table {
     pub rows: Vec<Row>,
 }
 
-/// Adds the `count` rows of arrays that lie in `body` to `rows`: 22 to 25, 44 where there would be too many rows, 45 where one is too heavy.
+/// Adds the `count` rows of arrays that lie in `body` to `rows`: 22 to 25 and 27, 44 where there would be too many rows, 45 where one is too heavy.
 #[tactic(auto, using(crate::proofs::Batching::batching))]
 fn take_rows(
     alloc: Global,
     body: &Rc<Vec<u8>>,
-    parts: &[Part],
+    arrays: Vec<Array>,
     count: usize,
     rows: &mut Vec<Row>,
 ) -> Result<(), Cause>
-    requires within { All (IsWithin body.now.value.items) parts.now }
-    requires whole { All (λ p. p.len ≡ count) parts.now }
-    ensures rows { OnOk result (with_front (cells_of_rows rows.old.items) (mapped (rows_in count) (columns_in body.now.value.items parts.now))
+    requires placed { ArePlaced body.now.value.items (kids_of arrays.items) }
+    requires whole { HaveLength count (kids_of arrays.items) }
+    ensures rows { OnOk result (with_front (cells_of_rows rows.old.items) (mapped (rows_in count) (columns_in body.now.value.items (kids_of arrays.items)))
         ≡ Ok (cells_of_rows rows.new.items)) }
-    ensures taken { OnOk result (AreTaken (types_of_parts parts.now) (cells_of_rows rows.old.items) → AreTaken (types_of_parts parts.now) (cells_of_rows rows.new.items)) }
-    ensures refused { IfErr result (RefusesBatch (types_of_parts parts.now) (mapped (rows_in count) (columns_in body.now.value.items parts.now)) (length rows.old.items)) }
+    ensures taken { OnOk result (AreTaken (layouts_of_arrays (kids_of arrays.items)) (cells_of_rows rows.old.items)
+        → AreTaken (layouts_of_arrays (kids_of arrays.items)) (cells_of_rows rows.new.items)) }
+    ensures refused { IfErr result (RefusesBatch (layouts_of_arrays (kids_of arrays.items)) (mapped (rows_in count) (columns_in body.now.value.items (kids_of arrays.items))) (length rows.old.items)) }
 {
-    let columns = match check_columns(alloc, body, parts) {
+    let columns = match check_columns(alloc, body, arrays) {
         Ok(columns) => columns,
         Err(fault) => return Err(fault.cause()),
     };
@@ -70,21 +76,20 @@ fn take_batch(
     body: Vec<u8>,
     rows: &mut Vec<Row>,
 ) -> Result<(), Cause>
-    requires few { length schema.now.fields.items ≤ 1024 }
-    requires fits { Fits schema.now.fields.items (length body.items) header.now }
+    requires { Fits schema.now.fields.items (length body.items) header.now }
     ensures rows { OnOk result (with_front (cells_of_rows rows.old.items) (rows_of schema.now.fields.items header.now body.items)
         ≡ Ok (cells_of_rows rows.new.items)) }
-    ensures taken { OnOk result (AreTaken (types_of schema.now.fields.items) (cells_of_rows rows.old.items)
-        → AreTaken (types_of schema.now.fields.items) (cells_of_rows rows.new.items)) }
-    ensures refused { IfErr result (RefusesBatch (types_of schema.now.fields.items) (rows_of schema.now.fields.items header.now body.items) (length rows.old.items)) }
+    ensures taken { OnOk result (AreTaken (layouts_of schema.now.fields.items) (cells_of_rows rows.old.items)
+        → AreTaken (layouts_of schema.now.fields.items) (cells_of_rows rows.new.items)) }
+    ensures refused { IfErr result (RefusesBatch (layouts_of schema.now.fields.items) (rows_of schema.now.fields.items header.now body.items) (length rows.old.items)) }
 {
-    let Ok(parts) = place_parts(alloc, schema, header) else {
+    let Ok(arrays) = place_arrays(alloc, schema, header) else {
         return Err(Cause::Memory);
     };
     let Ok(body) = Rc::new(alloc, body) else {
         return Err(Cause::Memory);
     };
-    take_rows(alloc, &body, parts.as_slice(), row_count(header), rows)
+    take_rows(alloc, &body, arrays, row_count(header), rows)
 }
 
 /// What a message made of the bytes before which it stands: so many of them are taken, and a stream goes on or has ended.
@@ -94,7 +99,6 @@ enum Step {
 }
 
 /// Adds the rows of a batch of the stream to `rows`.
-#[tactic(auto, using(crate::proofs::Stories::batches_known))]
 fn take_known_batch(
     alloc: Global,
     framer: &Framer,
@@ -102,8 +106,7 @@ fn take_known_batch(
     body: Vec<u8>,
     rows: &mut Vec<Row>,
 ) -> Result<(), Cause>
-    requires sound { IsSound framer.now.known.schema }
-    requires fits { IsSomeAnd framer.now.known.schema (λ fields. Fits fields (length body.items) header.now) }
+    requires { IsSomeAnd framer.now.known.schema (λ fields. Fits fields (length body.items) header.now) }
     ensures rows { OnOk result (ReadsRows framer.now.known.schema header.now body.items (cells_of_rows rows.old.items) (cells_of_rows rows.new.items)) }
     ensures taken { OnOk result (AreTakenSo framer.now.known.schema (cells_of_rows rows.old.items) → AreTakenSo framer.now.known.schema (cells_of_rows rows.new.items)) }
     ensures refused { IfErr result (RefusesRowsOf framer.now.known.schema header.now body.items (length rows.old.items)) }

@@ -1,11 +1,11 @@
 use Rattle.std.proofs.Common.{◌≡◌, ◌++◌, ◌-◌}
 use Rattle.schema_meta.specs.Rows.{rows_from, rows_in}
-use Rattle.liveviews.specs.CheckedColumn.{cells_in, types_in}
-use Rattle.liveviews.specs.Taken.{AreLight, cells_of_rows}
+use Rattle.liveviews.specs.Columns.{cells_in, layouts_in}
+use Rattle.liveviews.specs.Taken.{AreFit, cells_of_rows}
 use Rattle.liveviews.proofs.batch.add_rows.Given as goal
 
 abbrev pub invariant-loop-index : goal.invariant-loop-index
 invariant-loop-index l =
     (cells_of_rows l.rows.items ++ rows_from (cells_in l.columns) l.index (l.count - l.index)
     ≡ cells_of_rows l.initial.rows.items ++ rows_in l.count (cells_in l.columns))
-    × AreLight (types_in l.columns) (cells_in l.columns) l.index
+    × AreFit (layouts_in l.columns) (cells_in l.columns) l.index

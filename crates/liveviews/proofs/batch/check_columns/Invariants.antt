@@ -1,11 +1,18 @@
-use Rattle.std.proofs.Common.{◌≡◌, ◌++◌, map, drop}
+use Rattle.std.proofs.Common.{◌≡◌, length}
+use Rattle.std.specs.Vec.Iter.{into_iter_items, into_iter_len}
 use Rattle.values.specs.Reading.{with_front}
-use Rattle.schema_meta.specs.Logical.{logical_type}
+use Rattle.values.specs.Rose.{kids_of}
+use Rattle.array_layout.specs.Placing.{layouts_of}
+use Rattle.array_layout.specs.Sound.{ArePlaced}
 use Rattle.schema_meta.specs.Rows.{columns_in}
-use Rattle.liveviews.specs.CheckedColumn.{cells_in, types_in}
+use Rattle.liveviews.specs.Columns.{cells_in}
+use Rattle.liveviews.proofs.Batches.{layouts_before}
 use Rattle.liveviews.proofs.batch.check_columns.Given as goal
 
-abbrev pub invariant-loop-part : goal.invariant-loop-part
-invariant-loop-part l =
-    (with_front (cells_in l.columns.items) (columns_in l.body.value.items (drop l.part-index l.parts)) ≡ columns_in l.body.value.items l.parts)
-    × (types_in l.columns.items ++ map (λ p. logical_type p.stored) (drop l.part-index l.parts) ≡ map (λ p. logical_type p.stored) l.parts)
+abbrev pub invariant-loop-array : goal.invariant-loop-array
+invariant-loop-array l =
+    (with_front (cells_in l.columns.items) (columns_in l.body.value.items (kids_of (into_iter_items l.array-iterator)))
+    ≡ columns_in l.body.value.items (kids_of l.fn.arrays.items))
+    × (layouts_before l.columns.items (layouts_of (kids_of (into_iter_items l.array-iterator))) ≡ layouts_of (kids_of l.fn.arrays.items))
+    × ArePlaced l.body.value.items (kids_of (into_iter_items l.array-iterator))
+    × (into_iter_len l.array-iterator ≡ length (into_iter_items l.array-iterator))

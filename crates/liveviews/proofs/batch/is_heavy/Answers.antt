@@ -12,7 +12,7 @@ pub returns-then-sum-gt-MAX_ROW_WEIGHT-clause-heavy : goal.returns-then-sum-gt-M
 returns-then-sum-gt-MAX_ROW_WEIGHT-clause-heavy c = λ same.
     weighs-over c.loop-column.sum c.loop-column.column-index c.args.index c.weight-weight.result c.args.columns.now c.args.columns.now
     c.column-item.result c.column-item.is c.loop-column-test.true
-    (cell_there _ _ _ _ c.column-item.is c.loop-column-test.true c.requires) c.weight-weight.ensures (omega arith) c.loop-column.invariant
+    (cell_there _ _ _ _ c.column-item.is c.loop-column-test.true c.requires) c.weight-weight.ensures (omega arith) (omega arith) c.loop-column.invariant
 
 pub loop-column-preserved : goal.loop-column-preserved
 loop-column-preserved c =

@@ -1,7 +1,10 @@
-use Rattle.std.proofs.Common.{◌≡◌, ◌++◌, map, drop}
+use Rattle.std.proofs.Common.{◌≡◌, ◌++◌, drop}
 use Rattle.schema_meta.specs.Rows.{row_at}
+use Rattle.liveviews.specs.Columns.{cells_in}
+use Rattle.liveviews.proofs.Batches.{Leads}
 use Rattle.liveviews.proofs.batch.read_row.Given as goal
 
 abbrev pub invariant-loop-column : goal.invariant-loop-column
 invariant-loop-column l =
-    l.row.items ++ row_at (map (λ c. c.cells) (drop l.column-index l.columns)) l.index ≡ row_at (map (λ c. c.cells) l.columns) l.index
+    (l.row.items ++ row_at (cells_in (drop l.column-index l.columns)) l.index ≡ row_at (cells_in l.columns) l.index)
+    × Leads l.row.items (drop l.column-index l.columns) l.columns

@@ -17,9 +17,6 @@ returns-in_default-clause-refused c = λ s tells.
     push-partial c.message_law.ensures s (cells_of_rows c.args.rows.now.items) c.args.framer.now.known c.args.bytes.now c.requires.some
     (partial c.message_law.ensures c.args.framer.now c.push.new.self c.args.bytes.now c.in-Ok.framed c.requires.held c.in-Ok.ensures.ok c.in_default.is) tells
 
-pub take_known_batch-requires-clause-sound : goal.take_known_batch-requires-clause-sound
-take_known_batch-requires-clause-sound c = sound-after c.message_law.ensures c.args.framer.now.known c.push.new.self.known c.args.bytes.now c.in-Ok.framed.used c.in-Some.message (came c.message_law.ensures c.args.framer.now c.push.new.self c.args.bytes.now c.in-Ok.framed c.in-Some.message c.requires.held c.in-Ok.ensures.ok c.in-Some.is).0 c.requires.sound
-
 pub returns-in-Schema-clause-sound : goal.returns-in-Schema-clause-sound
 returns-in-Schema-clause-sound c = sound-after c.message_law.ensures c.args.framer.now.known c.push.new.self.known c.args.bytes.now c.in-Ok.framed.used c.in-Some.message (came c.message_law.ensures c.args.framer.now c.push.new.self c.args.bytes.now c.in-Ok.framed c.in-Some.message c.requires.held c.in-Ok.ensures.ok c.in-Some.is).0 c.requires.sound
 

@@ -1,4 +1,0 @@
--- UTF-8 as a test and as a fact.
-use Rattle.std.proofs.lemmas.Str.{IsUtf8-from_is_utf8, is_utf8-from_IsUtf8}
-
-pub ruleset text_tests = (IsUtf8-from_is_utf8, is_utf8-from_IsUtf8)
