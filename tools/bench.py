@@ -94,10 +94,79 @@ def utf8_stream(size):
     return write
 
 
+def word(number):
+    return struct.pack("<I", number)
+
+
+def field(kind, *parameters):
+    """A field `c` of a type with parameters of four bytes each."""
+    count = len(parameters)
+    slots = struct.pack(f"<{count + 2}H", 4 + 2 * count, 4 + 4 * count, *range(4, 4 + 4 * count, 4))
+    table = word(len(slots)) + b"".join(map(word, parameters))
+    own = bytes([16, 0, 20, 0, 4, 0, 8, 0, 9, 0, 12, 0, 0, 0, 16, 0, 16, 0, 0, 0, 16, 0, 0, 0, 1, kind, 0, 0])
+    places = word(len(slots) + 16) + word(len(slots) + len(table) + 12)
+    return own + places + word(1) + b"c\0\0\0" + slots + table + word(0)
+
+
+def schema(fields):
+    """The Schema message of these fields, one after the other."""
+    places, before = b"", 0
+    for index, each in enumerate(fields):
+        places += word(4 * (len(fields) - index) + before + 16)
+        before += len(each)
+    metadata = INT64_SCHEMA[8:76] + word(len(fields)) + places + b"".join(fields)
+    return b"\xff\xff\xff\xff" + word(len(metadata)) + metadata
+
+
+def batch(rows, columns):
+    """A batch of columns without nulls, each of its values."""
+    body, spans = b"", []
+    for values in columns:
+        spans += [len(body), 0, len(body), len(values)]
+        body += filled(values)
+    nodes = [rows, 0] * len(columns)
+    metadata = (
+        groups(0x18000000_00000000, 0x0C001800_04000600, 0x08001000_00000000, 0x10000000_04000300, 0x20000000_00000000)
+        + numbers(len(body))
+        + groups(0x0A001800_08001000, 0x14000000_00000000, 0x10000000_00000000)
+        + numbers(rows)
+        + word(12) + word(8 * len(nodes) + 12) + word(0)
+        + word(len(columns)) + numbers(*nodes) + word(2 * len(columns)) + numbers(*spans)
+    )
+    return b"\xff\xff\xff\xff" + word(len(metadata)) + metadata + body
+
+
+def stream_of(fields, rows, columns):
+    def write(file):
+        file.write(schema(fields))
+        whole = batch(rows, columns)
+        for _ in range(TARGET // len(whole)):
+            file.write(whole)
+        file.write(END_MARK)
+
+    return write
+
+
+ROWS = 1 << 16
+
+FIXED_WIDTH = stream_of(
+    [field(2, 8, 1), field(2, 16, 0), field(8, 0), field(10, 2)],
+    ROWS,
+    [bytes(width * ROWS) for width in (1, 2, 4, 8)],
+)
+
+DECIMALS_AND_BOOLS = stream_of(
+    [field(7, 38, 2), field(6)],
+    ROWS,
+    [b"".join(number.to_bytes(16, "little") for number in range(ROWS)), b"\x55" * (ROWS // 8)],
+)
+
 SHAPES = [
     ("int64", int64_stream),
     ("utf8, texts of 32 bytes", utf8_stream(32)),
     ("utf8, texts of 1,000 bytes", utf8_stream(1000)),
+    ("int8, uint16, date and timestamp, a column each", FIXED_WIDTH),
+    ("decimal and bool, a column each", DECIMALS_AND_BOOLS),
 ]
 
 
@@ -135,7 +204,7 @@ def main():
     os.chdir(os.path.join(os.path.dirname(os.path.abspath(__file__)), ".."))
     if not os.path.exists(LV):
         sys.exit(f"bench: {LV} is not there; make lv builds it")
-    print("| one column of | size | lv recast | its peak | cat | its peak |")
+    print("| columns of | size | lv recast | its peak | cat | its peak |")
     print("|---|---|---|---|---|---|")
     for name, write in SHAPES:
         folder = tempfile.mkdtemp(prefix="lv-bench-")

@@ -4,16 +4,17 @@ use Rattle.std.specs.Prelude.{All}
 use Rattle.stream_writer.specs.Sample.{sample_fields, sample_rows}
 use Rattle.stream_writer.specs.Table.{IsRow, IsTable}
 
-names : All (λ f. length f.name ≤ 4096) sample_fields
-names zero d below = omega arith
-names (suc zero) d below = omega arith
-names (suc (suc k)) d below = absurd (omega (arith, below))
-
 sound : All (IsRow sample_fields) sample_rows
-sound zero d below = record { complete = refl; light = omega arith }
-sound (suc zero) d below = record { complete = refl; light = omega arith }
-sound (suc (suc zero)) d below = record { complete = refl; light = omega arith }
+sound zero d below = record { held = ((omega arith, omega arith), ((omega arith, omega arith), tt)); light = omega arith }
+sound (suc zero) d below = record { held = ((omega arith, omega arith), (tt, tt)); light = omega arith }
+sound (suc (suc zero)) d below = record { held = ((omega arith, omega arith), ((omega arith, omega arith), tt)); light = omega arith }
 sound (suc (suc (suc k))) d below = absurd (omega (arith, below))
 
 pub is_table : IsTable sample_fields sample_rows
-is_table = record { columns = record { few = omega arith; short_names = names }; few = omega arith; sound = sound }
+is_table =
+    record {
+      columns = record { few = omega arith; within = ((omega arith, tt, tt), ((omega arith, tt, tt), tt)) };
+      layouts = ((tt, tt), ((tt, tt), tt));
+      few = omega arith;
+      sound = sound;
+    }

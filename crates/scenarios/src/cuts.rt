@@ -43,7 +43,7 @@ fn r3_sizes(rt: HostRuntime) -> Result<(), Fail> {
 fn r3_places(rt: HostRuntime) {
     refuses(&rt, &changed(&rt, &[(8, 0xDC)]), Cause::BadTable, 8);
     let over = changed(&rt, &[(113, 0x0D), (119, 0x7F), (123, 0x7F)]);
-    refuses(&rt, &over, Cause::UnsupportedType, 113);
+    refuses(&rt, &over, Cause::BadTable, 113);
     let counted = changed(&rt, &[(76, 0xFF), (77, 0xFF), (78, 0xFF), (79, 0x7F)]);
     let mut sink = MemorySink::new(rt.alloc());
     let answer = recast(rt.alloc(), &counted, &mut sink);

@@ -1,8 +1,8 @@
 //! Tests that cross crates: whole streams in, whole streams or a refusal out, each compared byte by byte.
 //!
 //! `sample` is a stored stream, `table` the table that it means, built cell by cell, and `streams` builds
-//! other streams by hand. `checks` compares one answer. The tests are `r1_rows`, what is written and refused
-//! of each kind of stream, `cuts`, the stored stream cut short or bent, and `printed`, what `lv` prints.
+//! other streams by hand, `typed` those of one column of any type. `checks` compares one answer. The tests are `r1_rows`, what is
+//! written and refused of each kind of stream, `r2_rows`, the same of each type, `cuts`, the stored stream cut short or bent, and `printed`, what `lv` prints.
 //! Nothing here is for other crates.
 #![tactic(auto)]
 
@@ -15,8 +15,12 @@ mod printed;
 #[cfg(test)]
 mod r1_rows;
 #[cfg(test)]
+mod r2_rows;
+#[cfg(test)]
 mod sample;
 #[cfg(test)]
 mod streams;
 #[cfg(test)]
 mod table;
+#[cfg(test)]
+mod typed;

@@ -1,21 +1,29 @@
 //! The table of the stored stream, built cell by cell.
 
-ghost use Rattle.std.specs.Prelude.{◌≡◌, IfOk, [], ◌∷◌};
+ghost use Rattle.std.specs.Prelude.{◌≡◌, IfOk, true, [], ◌∷◌};
 ghost use Rattle.values.specs.Kinds.{datum_of};
-ghost use Rattle.values.specs.declared.types.ColType.TheVariants.{Int64};
-ghost use Rattle.body_writer.specs.Body.{cells};
+ghost use Rattle.std.specs.Prelude.{map};
+ghost use Rattle.values.specs.Rose.{none, node};
 ghost use Rattle.stream_writer.specs.Sample.{sample_fields, sample_rows};
 
+use field_types::{Named, Schema, StoredType};
 use std::alloc::{AllocError, Global};
-use values::{ColType, Kind, Named, Row, Schema, Value};
+use values::{IntWidth, Kind, Row, Value};
 
+/// A column of 64 bits with a sign.
 fn int64(alloc: Global, name: &str) -> Result<Named, AllocError>
-    ensures { IfOk result (λ n. n ≡ record { name = name.now; col_type = Int64 }) }
+    ensures { IfOk result (λ n. n ≡ node (record { name = name.now; col_type = StoredType.Int IntWidth.Bits64 true }) none) }
 {
     let name = String::from_str(alloc, name)?;
+    let width = IntWidth::Bits64;
+    let col_type = StoredType::Int {
+        width,
+        signed: true,
+    };
     Ok(Named {
         name,
-        col_type: ColType::Int64,
+        col_type,
+        children: Vec::new(alloc),
     })
 }
 
@@ -40,7 +48,7 @@ fn row(alloc: Global, key: Kind, value: Kind) -> Result<Row, AllocError>
 
 /// (1, 10), (2, null) and (3, 30).
 pub fn rows(alloc: Global) -> Result<Vec<Row>, AllocError>
-    ensures { IfOk result (λ found. cells found.items ≡ sample_rows) }
+    ensures { IfOk result (λ found. map (λ row. row.items) found.items ≡ sample_rows) }
 {
     let mut rows = Vec::new(alloc);
     rows.push(row(alloc, Kind::Whole(1), Kind::Whole(10))?)?;

@@ -1,0 +1,321 @@
+//! Rows of every type: what is read and refused of each, and how it is written.
+
+use crate::checks::{gives, refuses};
+use crate::typed::{PAIR, PLAIN, SINGLE, Table, Two, field, pair, single, stream};
+use liveviews::recast;
+use std::alloc::{AllocError, Global};
+use std::process::Abort;
+use std::test::Fail;
+use stream_writer::MemorySink;
+use values::{Cause, Kind, Value, copy_row};
+
+/// `input` is recast to a stream of one batch with this body, which is canonical.
+fn writes(rt: &(impl Abort + AllocGlobal), input: &[u8], body: &[u8]) {
+    let mut sink = MemorySink::new(rt.alloc());
+    let answer = recast(rt.alloc(), input, &mut sink);
+    let bytes = sink.bytes();
+    assert_eq!(rt; answer, Ok(bytes.len() as u64));
+    assert!(rt; bytes.len() > body.len() && bytes.len() - body.len() > 8);
+    let end = bytes.len() - 8;
+    assert_eq!(rt; &bytes[end - body.len()..end], body);
+    gives(rt, bytes, bytes);
+}
+
+fn bools(alloc: Global, nulls: u64, valid: u8) -> Result<Vec<u8>, AllocError> {
+    let column = field(alloc, b'b', 6, &PLAIN, &[])?;
+    let body = [0xFF, valid, 0x55, 0xFF];
+    stream(alloc, &column, 9, &[(9, nulls)], &[(0, 2), (2, 2)], &body)
+}
+
+#[test]
+fn r2_bools(rt: HostRuntime) -> Result<(), Fail> {
+    let null = bools(rt.alloc(), 1, 0xFE)?;
+    writes(
+        &rt,
+        &null,
+        &[0xFF, 0, 0, 0, 0, 0, 0, 0, 0x55, 0, 0, 0, 0, 0, 0, 0],
+    );
+    refuses(&rt, &bools(rt.alloc(), 0, 0xFE)?, Cause::NullCount, 0);
+    let valid = bools(rt.alloc(), 0, 0xFF)?;
+    writes(&rt, &valid, &[0x55, 1, 0, 0, 0, 0, 0, 0]);
+    Ok(())
+}
+
+#[test]
+fn r2_structs(rt: HostRuntime) -> Result<(), Fail> {
+    let number = pair(8, 1);
+    let int8 = Table {
+        slots: PAIR,
+        bytes: &number,
+    };
+    let a = field(rt.alloc(), b'a', 2, &int8, &[])?;
+    let b = field(rt.alloc(), b'b', 5, &PLAIN, &[])?;
+    let column = field(rt.alloc(), b's', 13, &PLAIN, &[&a, &b])?;
+    let spans = [(0, 1), (1, 0), (1, 2), (3, 0), (3, 12), (15, 3)];
+    let body = [
+        1, 5, 6, 0, 0, 0, 0, 1, 0, 0, 0, 3, 0, 0, 0, 0x78, 0xFF, 0xFF,
+    ];
+    let input = stream(
+        rt.alloc(),
+        &column,
+        2,
+        &[(2, 1), (2, 0), (2, 0)],
+        &spans,
+        &body,
+    )?;
+    let mut want = [0; 56];
+    for (place, byte) in [
+        (0, 1),
+        (8, 1),
+        (16, 5),
+        (24, 1),
+        (36, 1),
+        (40, 1),
+        (48, 0x78),
+    ] {
+        want[place] = byte;
+    }
+    writes(&rt, &input, &want);
+    let longer = stream(
+        rt.alloc(),
+        &column,
+        2,
+        &[(2, 1), (3, 0), (2, 0)],
+        &[(0, 1), (1, 0), (1, 3), (3, 0), (3, 12), (15, 3)],
+        &body,
+    )?;
+    writes(&rt, &longer, &want);
+    let shorter = stream(
+        rt.alloc(),
+        &column,
+        2,
+        &[(2, 1), (1, 0), (2, 0)],
+        &spans,
+        &body,
+    )?;
+    refuses(&rt, &shorter, Cause::BadLength, 1);
+    Ok(())
+}
+
+#[test]
+fn r2_lists(rt: HostRuntime) -> Result<(), Fail> {
+    let number = pair(16, 1);
+    let int16 = Table {
+        slots: PAIR,
+        bytes: &number,
+    };
+    let item = field(rt.alloc(), b'x', 2, &int16, &[])?;
+    let column = field(rt.alloc(), b'l', 12, &PLAIN, &[&item])?;
+    let spans = [(0, 0), (0, 12), (12, 0), (12, 6)];
+    let mut body = [1, 0, 0, 0, 3, 0, 0, 0, 3, 0, 0, 0, 1, 0, 2, 0, 3, 0];
+    let nodes: [Two; 2] = [(2, 0), (3, 0)];
+    let input = stream(rt.alloc(), &column, 2, &nodes, &spans, &body)?;
+    let want = [
+        0, 0, 0, 0, 2, 0, 0, 0, 2, 0, 0, 0, 0, 0, 0, 0, 2, 0, 3, 0, 0, 0, 0, 0,
+    ];
+    writes(&rt, &input, &want);
+    body[4] = 4;
+    body[8] = 4;
+    let past = stream(rt.alloc(), &column, 2, &nodes, &spans, &body)?;
+    refuses(&rt, &past, Cause::Offsets, 4);
+    Ok(())
+}
+
+/// A column of one decimal, with the number in its slot, which is null or not.
+fn decimal(alloc: Global, precision: u8, number: i128, null: bool) -> Result<Vec<u8>, AllocError> {
+    let digits = pair(precision, 1);
+    let table = Table {
+        slots: PAIR,
+        bytes: &digits,
+    };
+    let column = field(alloc, b'd', 7, &table, &[])?;
+    let mut body = Vec::new(alloc);
+    body.push(!null as u8)?;
+    body.extend_from_slice(&number.to_le_bytes())?;
+    stream(
+        alloc,
+        &column,
+        1,
+        &[(1, null as u64)],
+        &[(0, 1), (1, 16)],
+        &body,
+    )
+}
+
+#[test]
+fn r2_decimals(rt: HostRuntime) -> Result<(), Fail> {
+    let great = 10_000_000_000_000_000_000_000_000_000;
+    for (precision, number) in [(3, 999), (3, -999), (28, great - 1), (28, 1 - great)] {
+        let input = decimal(rt.alloc(), precision, number, false)?;
+        writes(&rt, &input, &number.to_le_bytes());
+    }
+    for (precision, number) in [(3, 1000), (3, -1000), (28, great), (28, -great)] {
+        let input = decimal(rt.alloc(), precision, number, false)?;
+        refuses(&rt, &input, Cause::DecimalRange, precision as usize);
+    }
+    let null = decimal(rt.alloc(), 3, 1000, true)?;
+    writes(&rt, &null, &[0; 24]);
+    Ok(())
+}
+
+/// A stream of two values of a type without children, with `width` bytes a slot, the first of them null: the first slot's bytes
+/// have no meaning.
+fn numbers(alloc: Global, kind: u8, table: &Table, width: usize) -> Result<Vec<u8>, AllocError> {
+    let column = field(alloc, b'n', kind, table, &[])?;
+    let mut body = Vec::new(alloc);
+    body.push(2)?;
+    for place in 0..width.wrapping_mul(2) {
+        body.push((place % 256) as u8)?;
+    }
+    let size = width.wrapping_mul(2) as u64;
+    stream(alloc, &column, 2, &[(2, 1)], &[(0, 1), (1, size)], &body)
+}
+
+/// What is written of it.
+fn written(alloc: Global, width: usize) -> Result<Vec<u8>, AllocError> {
+    let mut body = Vec::new(alloc);
+    body.extend_from_slice(&[2, 0, 0, 0, 0, 0, 0, 0])?;
+    for place in 0..width.wrapping_mul(2) {
+        body.push(if place < width {
+            0
+        } else {
+            (place % 256) as u8
+        })?;
+    }
+    for _ in 0..(8 - body.len() % 8) % 8 {
+        body.push(0)?;
+    }
+    Ok(body)
+}
+
+/// Each type of numbers or bytes of one width: its kind, its table, and the width of a slot.
+#[test]
+fn r2_fixed_width(rt: HostRuntime) -> Result<(), Fail> {
+    for (kind, first, second, width) in [
+        (2, 8, 0, 1),
+        (2, 16, 0, 2),
+        (2, 32, 0, 4),
+        (2, 64, 0, 8),
+        (2, 8, 1, 1),
+        (2, 16, 1, 2),
+        (2, 32, 1, 4),
+        (2, 64, 1, 8),
+        (9, 0, 32, 4),
+        (9, 1, 32, 4),
+        (9, 2, 64, 8),
+        (9, 3, 64, 8),
+    ] {
+        let bytes = pair(first, second);
+        let table = Table {
+            slots: PAIR,
+            bytes: &bytes,
+        };
+        let input = numbers(rt.alloc(), kind, &table, width)?;
+        writes(&rt, &input, &written(rt.alloc(), width)?);
+    }
+    for (kind, number, width) in [
+        (8, 0, 4),
+        (8, 1, 8),
+        (10, 0, 8),
+        (10, 3, 8),
+        (18, 2, 8),
+        (15, 5, 5),
+        (15, 0, 0),
+    ] {
+        let bytes = single(number);
+        let table = Table {
+            slots: SINGLE,
+            bytes: &bytes,
+        };
+        let input = numbers(rt.alloc(), kind, &table, width)?;
+        writes(&rt, &input, &written(rt.alloc(), width)?);
+    }
+    Ok(())
+}
+
+/// Texts and bytes, with offsets of 32 and of 64 bits: `ab` and `c`.
+#[test]
+fn r2_texts_and_bytes(rt: HostRuntime) -> Result<(), Fail> {
+    let want = [
+        0, 0, 0, 0, 2, 0, 0, 0, 3, 0, 0, 0, 0, 0, 0, 0, b'a', b'b', b'c', 0, 0, 0, 0, 0,
+    ];
+    let narrow = [1, 0, 0, 0, 3, 0, 0, 0, 4, 0, 0, 0, b'x', b'a', b'b', b'c'];
+    for kind in [4, 5] {
+        let column = field(rt.alloc(), b't', kind, &PLAIN, &[])?;
+        let spans = [(0, 0), (0, 12), (12, 4)];
+        let input = stream(rt.alloc(), &column, 2, &[(2, 0)], &spans, &narrow)?;
+        writes(&rt, &input, &want);
+    }
+    let mut wide = [0; 28];
+    wide[..8].copy_from_slice(&1u64.to_le_bytes());
+    wide[8..16].copy_from_slice(&3u64.to_le_bytes());
+    wide[16..24].copy_from_slice(&4u64.to_le_bytes());
+    wide[24..].copy_from_slice(b"xabc");
+    for kind in [19, 20] {
+        let column = field(rt.alloc(), b't', kind, &PLAIN, &[])?;
+        let spans = [(0, 0), (0, 24), (24, 4)];
+        let input = stream(rt.alloc(), &column, 2, &[(2, 0)], &spans, &wide)?;
+        writes(&rt, &input, &want);
+    }
+    Ok(())
+}
+
+/// A list that claims as many items as there can be, none of which has a byte.
+#[test]
+fn r2_items_without_bytes(rt: HostRuntime) -> Result<(), Fail> {
+    let none = single(0);
+    let fixed = Table {
+        slots: SINGLE,
+        bytes: &none,
+    };
+    let empty = field(rt.alloc(), b'x', 13, &PLAIN, &[])?;
+    let nothing = field(rt.alloc(), b'x', 15, &fixed, &[])?;
+    let body = [0, 0, 0, 0, 0xFF, 0xFF, 0xFF, 0x7F];
+    let nodes = [(1, 0), (0x7FFF_FFFF, 0)];
+    let column = field(rt.alloc(), b'l', 12, &PLAIN, &[&empty])?;
+    let spans = [(0, 0), (0, 8), (8, 0)];
+    let structs = stream(rt.alloc(), &column, 1, &nodes, &spans, &body)?;
+    refuses(&rt, &structs, Cause::CellTooHeavy, 13);
+    let column = field(rt.alloc(), b'l', 12, &PLAIN, &[&nothing])?;
+    let spans = [(0, 0), (0, 8), (8, 0), (8, 0)];
+    let bytes = stream(rt.alloc(), &column, 1, &nodes, &spans, &body)?;
+    refuses(&rt, &bytes, Cause::CellTooHeavy, 15);
+    Ok(())
+}
+
+/// A row of each kind of value, and a copy of it and of each of its cells.
+#[test]
+fn r2_rows(rt: HostRuntime) -> Result<(), Fail> {
+    let mut item = Vec::new(rt.alloc());
+    item.push(Value {
+        kind: Kind::Truth(true),
+    })?;
+    let mut row = Vec::new(rt.alloc());
+    row.push(Value { kind: Kind::Null })?;
+    row.push(Value {
+        kind: Kind::Whole(-7),
+    })?;
+    row.push(Value {
+        kind: Kind::Text(String::from_str(rt.alloc(), "x")?),
+    })?;
+    row.push(Value {
+        kind: Kind::Bytes([0xFF].to_vec(rt.alloc())?),
+    })?;
+    row.push(Value {
+        kind: Kind::List(copy_row(rt.alloc(), &item)?),
+    })?;
+    row.push(Value {
+        kind: Kind::Struct(item),
+    })?;
+    let copies = copy_row(rt.alloc(), &row)?;
+    assert_eq!(rt; copies.len(), 6);
+    for value in &row {
+        let copy = value.copy(rt.alloc())?;
+        assert_eq!(rt; is_null(&copy), is_null(value));
+    }
+    Ok(())
+}
+
+fn is_null(value: &Value) -> bool {
+    matches!(&value.kind, Kind::Null)
+}
