@@ -66,7 +66,7 @@ fn read_cell(alloc: Global, body: &[u8], array: &Array, i: usize) -> Result<Valu
 #[tactic(auto, using(crate::proofs::ColumnCells::column_laws))]
 impl Column {
     /// Judges the buffers and the cells of one column: 22 to 25 and 27.
-    pub fn of(body: Rc<Vec<u8>>, array: Array) -> Result<Column, StreamFault>
+    pub fn check(body: Rc<Vec<u8>>, array: Array) -> Result<Column, StreamFault>
         requires { IsPlaced body.value.items array }
         ensures reading { Judges (λ c. c.cells) result (column_of body.value.items array) }
         ensures typed { IfOk result (λ c. c.layouts ≡ layout_of array) }

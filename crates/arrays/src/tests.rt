@@ -74,7 +74,7 @@ fn the_ninth_bit_is_null(rt: HostRuntime) -> Result<(), Fail> {
         part,
         children: Vec::new(alloc),
     };
-    let column = Column::of(body, root)?;
+    let column = Column::check(body, root)?;
     assert_eq!(rt; column.len(), 9);
     for i in 0..8 {
         assert!(rt; has_truth(&column, alloc, i, i % 2 == 0)?);
@@ -134,7 +134,7 @@ fn a_text_under_a_null_is_not_reached(rt: HostRuntime) -> Result<(), Fail> {
         part,
         children: vec![in alloc; number_child, text_child]?,
     };
-    let column = Column::of(body, root)?;
+    let column = Column::check(body, root)?;
     assert_eq!(rt; column.len(), 2);
     assert!(rt; has_null(&column, alloc, 1)?);
     assert_eq!(rt; weight_at(&column, 0), 9);
@@ -173,7 +173,7 @@ fn list_of(alloc: Global, layout: Layout) -> Result<Column, Fail>
         part,
         children: vec![in alloc; child]?,
     };
-    Ok(Column::of(body, root)?)
+    Ok(Column::check(body, root)?)
 }
 
 #[test]

@@ -27,7 +27,7 @@ fn check_column(body: &Rc<Vec<u8>>, array: Array) -> Result<Column, StreamFault>
     ensures reading { Answers (λ c. c.cells) result (column_of body.now.value.items array) }
     ensures typed { IfOk result (λ c. c.layouts ≡ layout_of array) }
 {
-    Column::of(body.clone()?, array)
+    Column::check(body.clone()?, array)
 }
 
 /// The columns of a batch, each judged by itself: 22 to 25 and 27.

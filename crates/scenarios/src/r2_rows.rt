@@ -114,6 +114,15 @@ fn r2_lists(rt: HostRuntime) -> Result<(), Fail> {
         0, 0, 0, 0, 2, 0, 0, 0, 2, 0, 0, 0, 0, 0, 0, 0, 2, 0, 3, 0, 0, 0, 0, 0,
     ];
     writes(&rt, &input, &want);
+    let mut wide = [0; 30];
+    wide[..8].copy_from_slice(&1u64.to_le_bytes());
+    wide[8..16].copy_from_slice(&3u64.to_le_bytes());
+    wide[16..24].copy_from_slice(&3u64.to_le_bytes());
+    wide[24..].copy_from_slice(&body[12..]);
+    let large = field(rt.alloc(), b'l', 21, &PLAIN, &[&item])?;
+    let wide_spans = [(0, 0), (0, 24), (24, 0), (24, 6)];
+    let input = stream(rt.alloc(), &large, 2, &nodes, &wide_spans, &wide)?;
+    writes(&rt, &input, &want);
     body[4] = 4;
     body[8] = 4;
     let past = stream(rt.alloc(), &column, 2, &nodes, &spans, &body)?;
@@ -230,6 +239,20 @@ fn r2_fixed_width(rt: HostRuntime) -> Result<(), Fail> {
         let input = numbers(rt.alloc(), kind, &table, width)?;
         writes(&rt, &input, &written(rt.alloc(), width)?);
     }
+    Ok(())
+}
+
+/// A timestamp with the zone `UTC`.
+#[test]
+fn r2_zones(rt: HostRuntime) -> Result<(), Fail> {
+    let zoned = Table {
+        slots: PAIR,
+        bytes: &[
+            8, 0, 0, 0, 3, 0, 0, 0, 4, 0, 0, 0, 3, 0, 0, 0, b'U', b'T', b'C', 0,
+        ],
+    };
+    let input = numbers(rt.alloc(), 10, &zoned, 8)?;
+    writes(&rt, &input, &written(rt.alloc(), 8)?);
     Ok(())
 }
 
