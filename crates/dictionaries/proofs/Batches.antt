@@ -9,7 +9,7 @@ use Rattle.std.proofs.lemmas.List.Elements.{filter-append}
 use Rattle.values.specs.Datum.{Datum}
 use Rattle.dictionaries.specs.Batches.{DictionaryBatch, is_of, is_whole, since_last_whole, dictionary_after, found_after}
 use Rattle.dictionaries.specs.Table.{found}
-use Rattle.dictionaries.specs.Law.{NoneAtFirst, TakingIsOneMore}
+use Rattle.dictionaries.specs.Law.{NoneAtFirst, OneMore, TakingIsOneMore, ValuesAfter}
 
 or-true : (t u : Bool) → u ≡ true → (t || u) ≡ true
 or-true true u e = refl
@@ -53,38 +53,41 @@ delta-last (c ∷ bs) b e =
     ap (λ t. if t then since_last_whole (bs ++ b ∷ []) else c ∷ (bs ++ b ∷ [])) (any-push-false is_whole bs b (ap not e))
     ∙ pushed-either (list_any is_whole bs) b (since_last_whole (bs ++ b ∷ [])) (since_last_whole bs) (c ∷ bs) (delta-last bs b e)
 
-abbrev values_in : List DictionaryBatch → List Datum
-values_in bs = flat_map (λ b. b.values) bs
+abbrev all_values : List DictionaryBatch → List Datum
+all_values bs = flat_map (λ b. b.values) bs
 
 -- the values of the batches of one id, after one more of them
-last-values : (bs : List DictionaryBatch) (b : DictionaryBatch) (t : Bool) → b.is_delta ≡ t → values_in (since_last_whole (bs ++ b ∷ [])) ≡ (if t then values_in (since_last_whole bs) ++ b.values else b.values)
+last-values : (bs : List DictionaryBatch) (b : DictionaryBatch) (t : Bool) → b.is_delta ≡ t → all_values (since_last_whole (bs ++ b ∷ [])) ≡ (if t then all_values (since_last_whole bs) ++ b.values else b.values)
 last-values bs b true e =
-    ap values_in (delta-last bs b e) ∙ flat_map-append (λ c. c.values) (since_last_whole bs) (b ∷ []) ∙ ap (λ vs. values_in (since_last_whole bs) ++ vs) (append-nil b.values)
-last-values bs b false e = ap values_in (whole-last bs b e) ∙ append-nil b.values
+    ap all_values (delta-last bs b e) ∙ flat_map-append (λ c. c.values) (since_last_whole bs) (b ∷ []) ∙ ap (λ vs. all_values (since_last_whole bs) ++ vs) (append-nil b.values)
+last-values bs b false e = ap all_values (whole-last bs b e) ∙ append-nil b.values
 
 found-or-none : (bs : List DictionaryBatch) (id : ℤ) (t : Bool) → list_any (is_of id) bs ≡ t → unwrap_or (if t then Some (dictionary_after bs id) else None) [] ≡ dictionary_after bs id
 found-or-none bs id true e = refl
-found-or-none bs id false e = sym (ap (λ cs. values_in (since_last_whole cs)) (filter-none (is_of id) bs e))
+found-or-none bs id false e = sym (ap (λ cs. all_values (since_last_whole cs)) (filter-none (is_of id) bs e))
 
 -- what an id has after one more batch, by whether the batch is of the id
 of-the-id : (bs : List DictionaryBatch) (b : DictionaryBatch) (id : ℤ) → int_eq b.id id ≡ true
     → found_after (bs ++ b ∷ []) id ≡ Some (if b.is_delta then unwrap_or (found_after bs id) [] ++ b.values else b.values)
 of-the-id bs b id e =
     ap (λ t. if t then Some (dictionary_after (bs ++ b ∷ []) id) else None) (any-push-true (is_of id) bs b e)
-    ∙ ap (λ cs. Some (values_in (since_last_whole cs))) (filter-push-true (is_of id) bs b e)
+    ∙ ap (λ cs. Some (all_values (since_last_whole cs))) (filter-push-true (is_of id) bs b e)
     ∙ ap Some (last-values (filter (is_of id) bs) b b.is_delta refl)
     ∙ ap (λ vs. Some (if b.is_delta then vs ++ b.values else b.values)) (sym (found-or-none bs id (list_any (is_of id) bs) refl))
 
 of-another : (bs : List DictionaryBatch) (b : DictionaryBatch) (id : ℤ) → int_eq b.id id ≡ false → found_after (bs ++ b ∷ []) id ≡ found_after bs id
 of-another bs b id e =
     ap (λ t. if t then Some (dictionary_after (bs ++ b ∷ []) id) else None) (any-push-false (is_of id) bs b e)
-    ∙ ap (λ cs. if list_any (is_of id) bs then Some (values_in (since_last_whole cs)) else None) (filter-push-false (is_of id) bs b e)
+    ∙ ap (λ cs. if list_any (is_of id) bs then Some (all_values (since_last_whole cs)) else None) (filter-push-false (is_of id) bs b e)
 
 one-more : (bs : List DictionaryBatch) (b : DictionaryBatch) (id : ℤ) (t : Bool) → int_eq b.id id ≡ t
     → found_after (bs ++ b ∷ []) id ≡ (if t then Some (if b.is_delta then unwrap_or (found_after bs b.id) [] ++ b.values else b.values) else found_after bs id)
 one-more bs b id true e =
     of-the-id bs b id e ∙ ap (λ k. Some (if b.is_delta then unwrap_or (found_after bs k) [] ++ b.values else b.values)) (sym ((signed_Decides b.id id).0 e))
 one-more bs b id false e = of-another bs b id e
+
+pub step_after : OneMore
+step_after bs b id = one-more bs b id (int_eq b.id id) refl
 
 pub none_at_first : NoneAtFirst
 none_at_first t e id = rw e refl
@@ -95,3 +98,6 @@ taking_is_one_more bs b old new stands takes id =
     ∙ ap (λ f. if int_eq b.id id then Some (if b.is_delta then unwrap_or f [] ++ b.values else b.values) else found old id) (stands b.id)
     ∙ ap (λ f. if int_eq b.id id then Some (if b.is_delta then unwrap_or (found_after bs b.id) [] ++ b.values else b.values) else f) (stands id)
     ∙ sym (one-more bs b id (int_eq b.id id) refl)
+
+pub values_after : ValuesAfter
+values_after bs t stands id = ap (λ f. unwrap_or f []) (stands id) ∙ found-or-none bs id (list_any (is_of id) bs) refl

@@ -1,7 +1,8 @@
 -- Dictionaries that take each batch in turn stand as the definition says.
-use Rattle.std.specs.Prelude.{◌≡◌, ℤ, List, [], ◌∷◌, ◌++◌}
-use Rattle.dictionaries.specs.Batches.{DictionaryBatch, found_after}
-use Rattle.dictionaries.specs.Table.{Table, Takes, found}
+use Rattle.std.specs.Prelude.{◌≡◌, ℤ, List, [], ◌∷◌, ◌++◌, Some, if◌then◌else◌, unwrap_or}
+use Rattle.std.specs.Ordering.{int_eq}
+use Rattle.dictionaries.specs.Batches.{DictionaryBatch, dictionary_after, found_after}
+use Rattle.dictionaries.specs.Table.{Table, Takes, found, values_in}
 
 -- each id has its values after the batches
 abbrev pub StandsAfter : List DictionaryBatch → Table → Type 0
@@ -12,3 +13,14 @@ NoneAtFirst = (t : Table) → t.entries ≡ [] → StandsAfter [] t
 
 abbrev pub TakingIsOneMore : Type 0
 TakingIsOneMore = (bs : List DictionaryBatch) (b : DictionaryBatch) (old new : Table) → StandsAfter bs old → Takes old new b → StandsAfter (bs ++ b ∷ []) new
+
+-- what an id has after one more batch
+abbrev pub OneMore : Type 0
+OneMore =
+    (bs : List DictionaryBatch) (b : DictionaryBatch) (id : ℤ)
+    → found_after (bs ++ b ∷ []) id
+    ≡ (if int_eq b.id id then Some (if b.is_delta then unwrap_or (found_after bs b.id) [] ++ b.values else b.values) else found_after bs id)
+
+-- and what is handed out for it are these values
+abbrev pub ValuesAfter : Type 0
+ValuesAfter = (bs : List DictionaryBatch) (t : Table) → StandsAfter bs t → (id : ℤ) → values_in t id ≡ dictionary_after bs id

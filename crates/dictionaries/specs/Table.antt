@@ -35,9 +35,13 @@ HasRoom t = 0 < t.room
 abbrev pub found : Table → ℤ → Option (List Datum)
 found t id = lookup (int_eq id) t.entries
 
+-- the values of an id, none where no batch came
+abbrev pub values_in : Table → ℤ → List Datum
+values_in t id = unwrap_or (found t id) []
+
 -- a delta adds to the values that are there, or to none
 abbrev pub change_of : Table → DictionaryBatch → Change
-change_of t b = change b.id (if b.is_delta then unwrap_or (found t b.id) [] ++ b.values else b.values)
+change_of t b = change b.id (if b.is_delta then values_in t b.id ++ b.values else b.values)
 
 -- the id has those values, and each other id has what it had
 abbrev pub Changes : Table → Table → Change → Type 0

@@ -3,7 +3,7 @@
 ghost use Rattle.std.specs.Prelude.{◌≡◌, [], IfOk, OnOk, OnErr};
 ghost use Rattle.std.specs.Option.{option_copied};
 ghost use Rattle.dictionaries.specs.Batches.{batch};
-ghost use Rattle.dictionaries.specs.Table.{Changes, Takes, change_of, found, HasRoom};
+ghost use Rattle.dictionaries.specs.Table.{Changes, Takes, change_of, found, values_in, HasRoom};
 
 use crate::dictionary::Dictionary;
 use indexmap::IndexMap;
@@ -64,6 +64,16 @@ impl Dicts {
         ensures { option_copied result ≡ found self.now id }
     {
         self.by_id.get(&id)
+    }
+
+    /// The values of an id as they are now, for one more owner: none where no batch came for it.
+    pub fn share(&self, id: i64) -> Result<Dictionary, AllocError>
+        ensures { IfOk result (λ d. d ≡ values_in self.now id) }
+    {
+        match self.lookup(id) {
+            Some(dictionary) => dictionary.share(),
+            None => Dictionary::of(self.alloc, Vec::new(self.alloc)),
+        }
     }
 
     /// Makes what `commit` needs to take a batch, and changes no dictionary.

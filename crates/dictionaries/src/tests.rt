@@ -101,6 +101,16 @@ fn what_was_handed_out_stays(rt: HostRuntime) -> Result<(), Fail> {
 }
 
 #[test]
+fn an_unknown_id_is_empty(rt: HostRuntime) -> Result<(), Fail> {
+    let alloc = rt.alloc();
+    let mut dictionaries = Dicts::new(alloc);
+    bring(&mut dictionaries, alloc, 7, false, &[1, 2])?;
+    assert!(rt; holds(&dictionaries.share(7)?, &[1, 2]));
+    assert!(rt; dictionaries.share(8)?.is_empty());
+    Ok(())
+}
+
+#[test]
 fn what_is_prepared_comes_with_commit(rt: HostRuntime) -> Result<(), Fail> {
     let alloc = rt.alloc();
     let mut dictionaries = Dicts::new(alloc);
