@@ -1,5 +1,5 @@
 -- The rows of the format's own examples, as the definitions answer them.
-use Rattle.std.specs.Prelude.{◌≡◌, ℕ, pos, neg_ℤ, ◌-◌, ◌^◌, true, false, List, [], ◌∷◌, Ok, Err, refl}
+use Rattle.std.specs.Prelude.{◌≡◌, ℕ, pos, neg_ℤ, ◌-◌, ◌^◌, true, false, List, [], ◌∷◌, Some, Ok, Err, refl}
 use Rattle.std.specs.Str.{is_utf8, chars}
 use Rattle.std.proofs.Math.Utf8.{encode}
 use Rattle.byteorder.specs.Endian.{little_bytes}
@@ -14,6 +14,7 @@ use Rattle.values.specs.declared.layout.Layout.TheVariants.{Bits, Number, Decima
 use Rattle.bitmaps.specs.Bits.{bits_at, ones}
 use Rattle.array_layout.specs.declared.array.Node.{Node}
 use Rattle.array_layout.specs.declared.array.Span.{Span}
+use Rattle.array_layout.specs.declared.array.Words.{Words}
 use Rattle.array_layout.specs.Placing.{placed}
 use Rattle.array_layout.specs.Cells.{column_of, cells, cell_by}
 use Rattle.array_layout.specs.Sound.{own_faults, validity_of, bits_of, slots_of, offsets_of}
@@ -106,3 +107,35 @@ digits_taken = refl
 pub digits_too_many : decimal_slot 28 1 (10 ^ 28) ≡ Err (one fault.DecimalRange)
 unfolding column_of own_faults validity_of zeros ones bits_at slots_of cells each cell_by is_null number_at word_at
 digits_too_many = refl
+
+-- two int8 indices into the values a and b, and the bits of the slots that are valid
+abbrev letters : Words
+letters = record { layout = Text offset.Bits32; values = text (97 ∷ []) ∷ text (98 ∷ []) ∷ [] }
+
+abbrev coded_slots : ℕ → ℕ → ℕ → ℕ → Reading (List Datum)
+coded_slots valid nulls first second =
+    column_of (valid ∷ first ∷ second ∷ []) (node (record {
+      layout = Number int.Bits8 true;
+      words = Some letters;
+      len = 2;
+      nulls = pos nulls;
+      validity = at 0 1;
+      offsets = at 0 0;
+      values = at 1 2;
+    }) none)
+
+pub indices_taken : coded_slots 3 0 1 0 ≡ Ok (text (98 ∷ []) ∷ text (97 ∷ []) ∷ [])
+unfolding column_of own_faults validity_of zeros ones bits_at slots_of cells each cell_by is_null number_at word_at
+indices_taken = refl
+
+pub negative_index : coded_slots 3 0 255 0 ≡ Err (one fault.DictionaryIndex)
+unfolding column_of own_faults validity_of zeros ones bits_at slots_of cells each cell_by is_null number_at word_at
+negative_index = refl
+
+pub index_above : coded_slots 3 0 1 2 ≡ Err (one fault.DictionaryIndex)
+unfolding column_of own_faults validity_of zeros ones bits_at slots_of cells each cell_by is_null number_at word_at
+index_above = refl
+
+pub index_of_null : coded_slots 2 1 255 0 ≡ Ok (null ∷ text (97 ∷ []) ∷ [])
+unfolding column_of own_faults validity_of zeros ones bits_at slots_of cells each cell_by is_null number_at word_at
+index_of_null = refl

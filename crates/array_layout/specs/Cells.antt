@@ -1,8 +1,9 @@
--- The cells of an array. A cell is a reading: of the slots that it reaches, a text that isn't UTF-8 is 25 NotUtf8, and a decimal with more
--- digits than its precision is 27 DecimalRange. Slots that no cell reaches have no meaning.
-use Rattle.std.specs.Prelude.{ℕ, ℤ, true, List, [], ◌+◌, ◌-◌, ◌^◌, Ok, Err, if◌then◌else◌, nat_lt, nat_abs}
+-- The cells of an array. A cell is a reading: of the slots that it reaches, a text that isn't UTF-8 is 25 NotUtf8, an index that no value of
+-- its dictionary has is 26 DictionaryIndex, and a decimal with more digits than its precision is 27 DecimalRange. Slots that no cell reaches
+-- have no meaning.
+use Rattle.std.specs.Prelude.{ℕ, ℤ, pos, negsuc, true, List, [], ◌+◌, ◌-◌, ◌^◌, Option, None, Some, Ok, Err, if◌then◌else◌, nat_lt, nat_abs, slice_get}
 use Rattle.std.specs.Str.{is_utf8}
-use Rattle.values.specs.Reading.{Reading, ◌>>=◌, one, each, both, cons, mapped}
+use Rattle.values.specs.Reading.{Reading, ◌>>=◌, one, each, both, cons, mapped, must}
 use Rattle.values.specs.Rose.{Rose, node, Roses, none, more}
 use Rattle.values.specs.Datum.{Datum, null, truth, whole, text, bytes, list, structure, items_of}
 use Rattle.values.specs.declared.faults.StreamFault.TheVariants as fault
@@ -11,6 +12,7 @@ use Rattle.values.specs.declared.layout.Layout.{Layout}
 use Rattle.values.specs.declared.layout.Layout.TheVariants.{Bits, Number, Decimal, Fixed, Text, Bytes, List as Listed, Struct}
 use Rattle.values.specs.Layouts.{bytes_in}
 use Rattle.bitmaps.specs.Bits.{bit_at}
+use Rattle.array_layout.specs.declared.array.Words.{Words}
 use Rattle.array_layout.specs.declared.array.Part.{Part}
 use Rattle.array_layout.specs.Placing.{bytes_of}
 use Rattle.array_layout.specs.Buffers.{is_null, number_at, fixed_at, offset_at, slice_at}
@@ -33,7 +35,17 @@ structure_of m = mapped (λ ds. structure (items_of ds)) m
 abbrev pub items_at : (ℕ → Reading Datum) → OffsetWidth → List ℕ → ℕ → Reading (List Datum)
 items_at item o offsets i = each item (offset_at o offsets i) (offset_at o offsets (i + 1) - offset_at o offsets i)
 
--- A valid slot, by layout: `item` reads the slots of the first child, `row` those of all children at one place.
+-- the value of a dictionary that has this index (Arrow Columnar Format, "Dictionary-encoded Layout")
+abbrev pub indexed : List Datum → ℤ → Reading Datum
+indexed values (pos n) = must fault.DictionaryIndex (slice_get values n)
+indexed values (negsuc n) = Err (one fault.DictionaryIndex)
+
+-- A valid slot of an array of indices. Indices are whole numbers.
+abbrev pub coded_by : Layout → List Datum → List ℕ → ℕ → Reading Datum
+coded_by (Number w s) values indices i = indexed values (number_at s (bytes_in w) indices i)
+coded_by l values indices i = Err (one fault.DictionaryIndex)
+
+-- A valid slot of an array of values, by layout: `item` reads the slots of the first child, `row` those of all children at one place.
 abbrev pub value_by : Layout → List ℕ → Part → (ℕ → Reading Datum) → (ℕ → Reading (List Datum)) → ℕ → Reading Datum
 value_by Bits body p item row i = Ok (truth (bit_at (bytes_of body p.values) i))
 value_by (Number w s) body p item row i = Ok (whole (number_at s (bytes_in w) (bytes_of body p.values) i))
@@ -44,8 +56,13 @@ value_by (Bytes o) body p item row i = Ok (bytes (slice_at o (bytes_of body p.of
 value_by (Listed o) body p item row i = list_of (items_at item o (bytes_of body p.offsets) i)
 value_by Struct body p item row i = structure_of (row i)
 
+-- a valid slot
+abbrev pub slot_by : Option Words → List ℕ → Part → (ℕ → Reading Datum) → (ℕ → Reading (List Datum)) → ℕ → Reading Datum
+slot_by None body p item row i = value_by p.layout body p item row i
+slot_by (Some w) body p item row i = coded_by p.layout w.values (bytes_of body p.values) i
+
 unfoldable pub cell_by : List ℕ → Part → (ℕ → Reading Datum) → (ℕ → Reading (List Datum)) → ℕ → Reading Datum
-cell_by body p item row i = if is_null (bytes_of body p.validity) i then Ok null else value_by p.layout body p item row i
+cell_by body p item row i = if is_null (bytes_of body p.validity) i then Ok null else slot_by p.words body p item row i
 
 -- the cell of slot i
 abbrev mutual

@@ -2,3 +2,4 @@ pub mod Placing
 pub mod Buffers
 pub mod Sound
 pub mod Cells
+pub mod Typed

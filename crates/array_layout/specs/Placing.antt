@@ -1,11 +1,12 @@
 -- Where the arrays of a batch lie: Arrow Columnar Format, "RecordBatch message". Nodes and buffers stand in preorder over the fields, so
 -- the place of each is a count of those before it.
-use Rattle.std.specs.Prelude.{ℕ, pos, ◌+◌, List, slice_get, slice_range, unwrap_or}
+use Rattle.std.specs.Prelude.{ℕ, pos, ◌+◌, List, Option, None, Some, slice_get, slice_range, unwrap_or}
 use Rattle.values.specs.Rose.{Rose, node, Roses, none, more, rose_size}
 use Rattle.values.specs.declared.layout.Layout.{Layout}
 use Rattle.values.specs.declared.layout.Layout.TheVariants.{Bits, Number, Decimal, Fixed, Text, Bytes, List as Listed, Struct}
 use Rattle.array_layout.specs.declared.array.Node.{Node}
 use Rattle.array_layout.specs.declared.array.Span.{Span}
+use Rattle.array_layout.specs.declared.array.Words.{Words}
 use Rattle.array_layout.specs.declared.array.Part.{Part}
 
 abbrev pub nowhere : Span
@@ -60,10 +61,11 @@ values_at (Bytes o) spans b = span_at spans (b + 2)
 values_at (Listed o) spans b = nowhere
 values_at Struct spans b = nowhere
 
--- the part of this layout whose node is number n, and whose first buffer is number b
+-- the part of this layout, without a dictionary, whose node is number n, and whose first buffer is number b
 abbrev pub part_at : List Node → List Span → ℕ → ℕ → Layout → Part
 part_at nodes spans n b l = record {
   layout = l;
+  words = None;
   len = (node_at nodes n).length;
   nulls = (node_at nodes n).nulls;
   validity = span_at spans b;
@@ -82,10 +84,15 @@ abbrev mutual
   placed_all nodes spans n b (more t ts) =
       more (placed nodes spans n b t) (placed_all nodes spans (n + rose_size t) (b + spans_in t) ts)
 
--- the layouts of an array
+-- how the values of an array's cells lie: where it has a dictionary, those of the dictionary
+abbrev pub layout_by : Option Words → Layout → Layout
+layout_by None l = l
+layout_by (Some w) l = w.layout
+
+-- the layouts of an array's values
 abbrev mutual
   pub layout_of : Rose Part → Rose Layout
-  layout_of (node p kids) = node p.layout (layouts_of kids)
+  layout_of (node p kids) = node (layout_by p.words p.layout) (layouts_of kids)
 
   pub layouts_of : Roses Part → Roses Layout
   layouts_of none = none

@@ -1,5 +1,6 @@
 //! Arrays, as a record batch's header tells them.
 
+use dictionaries::Dictionary;
 use std::marker::Model;
 use values::Layout;
 
@@ -18,10 +19,20 @@ pub struct Span {
     pub len: usize,
 }
 
-/// What an array has of its own: its layout, its node, and where its buffers lie in the body.
-#[derive(Clone, Copy, Debug, PartialEq, Eq)]
-pub struct Part {
+/// The values of a dictionary, and how they would lie in an array of their own.
+#[derive(Drop)]
+pub struct Words {
     pub layout: Layout,
+    pub values: Dictionary,
+}
+
+/// What an array has of its own: its layout, its node, and where its buffers lie in the body.
+#[derive(Drop)]
+pub struct Part {
+    /// How its slots lie: of indices into a dictionary, where it has one.
+    pub layout: Layout,
+    /// The dictionary whose values its slots stand for, as it is for this batch.
+    pub words: Option<Words>,
     /// The number of slots.
     pub len: usize,
     /// How many of them are said to be null.
@@ -36,7 +47,7 @@ pub struct Part {
 /// An array with its children.
 ///
 /// Contracts see it as a tree with a `Part` at each node.
-#[derive(Debug, Drop)]
+#[derive(Drop)]
 pub struct Array {
     pub part: Part,
     pub children: Vec<Array>,

@@ -1,14 +1,15 @@
 //! Arrays over the body of a record batch: where their buffers lie, and whether the buffers are sound.
 //!
 //! An [`Array`] is a tree, as its type is. `specs/Placing.antt` says where the buffers of each array lie, `specs/Buffers.antt` what stands
-//! in them, `specs/Sound.antt` which faults stand in them, and `specs/Cells.antt` what the array's cells are.
+//! in them, `specs/Sound.antt` which faults stand in them, `specs/Cells.antt` what the array's cells are, and `specs/Typed.antt` which values
+//! its dictionaries hold.
 #![tactic(auto)]
 
 mod array;
 mod buffers;
 mod check;
 
-pub use array::{Array, Node, Part, Span};
+pub use array::{Array, Node, Part, Span, Words};
 pub use buffers::{
     bit, buffer, decimal, fixed, is_null_at, number, number_width, offset, offset_width, slice,
 };
