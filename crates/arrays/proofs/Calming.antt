@@ -1,16 +1,17 @@
 -- No cell of a calm array is at fault.
 use Rattle.std.proofs.Common.{◌≡◌, ℕ, List, ◌+◌, ◌<◌, ◌≤◌, Bool, true, false, ◌&&◌, length, drop, get_or, refl, ap, sym, ◌∙◌}
-use Rattle.std.specs.Prelude.{Ok, Err, zero, suc, if◌then◌else◌}
+use Rattle.std.specs.Prelude.{Option, None, Some, Ok, Err, zero, suc, if◌then◌else◌}
 use Rattle.values.specs.Reading.{Reading, cons, mapped, each, IsGood}
 use Rattle.values.proofs.Readings.{both_good}
 use Rattle.values.specs.Datum.{Datum, null}
 use Rattle.values.specs.declared.layout.Layout.{Layout}
 use Rattle.values.specs.declared.layout.Layout.TheVariants.{Bits, Number, Decimal, Fixed, Text, Bytes, List as Listed, Struct}
-use Rattle.array_layout.specs.Cells.{cell, first_cell, row, cell_by, value_by}
+use Rattle.array_layout.specs.declared.array.Words.{Words}
+use Rattle.array_layout.specs.Cells.{cell, first_cell, row, cell_by, slot_by, value_by}
 use Rattle.values.specs.Rose.{Rose, node, Roses, none, more, kids_of}
 use Rattle.values.proofs.Roses.{kids_step, kids_end}
 use Rattle.array_layout.specs.declared.array.Part.{Part}
-use Rattle.arrays.specs.Calm.{is_calm, are_calm, is_calm_layout}
+use Rattle.arrays.specs.Calm.{is_calm, are_calm, is_calm_layout, is_calm_part}
 
 and_true : (a b c : Bool) → a ≡ true → (a && b) ≡ c → b ≡ c
 and_true true b c h e = e
@@ -62,6 +63,12 @@ value_good (Bytes o) b p here beside i calm each_is row_is = tt
 value_good (Listed o) b p here beside i calm each_is row_is = good_mapped _ _ (each_good here each_is _ _)
 value_good Struct b p here beside i calm each_is row_is = good_mapped _ _ row_is
 
+slot_good :
+    (o : Option Words) (b : List ℕ) (p : Part) (here : ℕ → Reading Datum) (beside : ℕ → Reading (List Datum)) (i : ℕ)
+    → is_calm_part o p.layout ≡ true → ((j : ℕ) → IsGood (here j)) → IsGood (beside i) → IsGood (slot_by o b p here beside i)
+slot_good None b p here beside i calm each_is row_is = value_good p.layout b p here beside i calm each_is row_is
+slot_good (Some w) b p here beside i calm each_is row_is = cc
+
 null_or : (n : Bool) (m : Reading Datum) → IsGood m → IsGood (if n then Ok null else m)
 null_or true m h = tt
 null_or false m h = h
@@ -71,8 +78,8 @@ mutual
 
   pub calm_cell : (b : List ℕ) (t : Rose Part) (i : ℕ) → is_calm t ≡ true → IsGood (cell b t i)
   calm_cell b (node p kids) i calm =
-      let both_are = both_true (is_calm_layout p.layout) (are_calm kids) calm in
-      null_or _ _ (value_good p.layout b p (λ j. first_cell b kids j) (λ j. row b kids j) i both_are.0 (λ j. calm_first b kids j both_are.1)
+      let both_are = both_true (is_calm_part p.words p.layout) (are_calm kids) calm in
+      null_or _ _ (slot_good p.words b p (λ j. first_cell b kids j) (λ j. row b kids j) i both_are.0 (λ j. calm_first b kids j both_are.1)
       (calm_row b kids i both_are.1))
 
   calm_first : (b : List ℕ) (ts : Roses Part) (i : ℕ) → are_calm ts ≡ true → IsGood (first_cell b ts i)

@@ -1,6 +1,6 @@
 -- How cells that are good are copied.
 use Rattle.std.proofs.Common.{◌≡◌, ℕ, ℤ, List, [], ◌∷◌, ◌++◌, ◌+◌, ◌*◌, ◌-◌, ◌^◌, ◌<◌, ◌≤◌, length, drop, get_or, refl, ap, sym, subst, ◌∙◌, arith, append_assoc, append-nil}
-use Rattle.std.specs.Prelude.{Ok, Err, Bool, true, false, if◌then◌else◌, nat_lt, nat_abs}
+use Rattle.std.specs.Prelude.{Option, None, Some, Ok, Err, Bool, true, false, if◌then◌else◌, nat_lt, nat_abs}
 use Rattle.std.specs.Str.{is_utf8}
 use Rattle.std.proofs.Math.Nat.{mul-le-mul_left}
 use Rattle.values.specs.declared.faults.StreamFault.TheVariants as fault
@@ -14,24 +14,39 @@ use Rattle.values.specs.declared.layout.OffsetWidth.{OffsetWidth}
 use Rattle.values.specs.declared.layout.Layout.{Layout}
 use Rattle.values.specs.declared.layout.Layout.TheVariants.{Bits, Number, Decimal, Fixed, Text, List as Listed, Struct}
 use Rattle.values.specs.Layouts.{bytes_in}
+use Rattle.array_layout.specs.declared.array.Words.{Words}
 use Rattle.array_layout.specs.declared.array.Part.{Part}
 use Rattle.array_layout.specs.Placing.{bytes_of}
 use Rattle.array_layout.specs.Buffers.{is_null, number_at, slice_at}
 use Rattle.array_layout.specs.Sound.{first_len, HasRoom, IsSound}
-use Rattle.array_layout.specs.Cells.{cell, first_cell, row, cell_by, value_by, items_at, list_of, structure_of, text_of, decimal_of}
+use Rattle.array_layout.specs.Cells.{cell, first_cell, row, cell_by, slot_by, coded_by, value_by, items_at, list_of, structure_of, text_of, decimal_of}
 use Rattle.array_layout.proofs.Sounding.{kid_sound}
 use Rattle.values.proofs.Roses.{kid_smaller}
+use Rattle.arrays.proofs.Coding.{index_room}
 use Rattle.arrays.proofs.Judging.{text_fit, bytes_fit, list_fit, decimal_room, struct_long, kids_sound, list_child, child_sound, child_within, child_smaller, kid_long}
 
--- a good cell that isn't null is a good value
+-- a good cell that isn't null is a good slot
+good_slot :
+    (b : List ℕ) (p : Part) (here : ℕ → Reading Datum) (beside : ℕ → Reading (List Datum)) (o : Option Words) (i : ℕ)
+    → is_null (bytes_of b p.validity) i ≡ false → p.words ≡ o → IsGood (cell_by b p here beside i) → IsGood (slot_by o b p here beside i)
+unfolding cell_by
+good_slot b p here beside o i there is good =
+    let P : Option Words → Type 0 = λ w. IsGood (slot_by w b p here beside i) in
+    let Q : Bool → Type 0 = λ n. IsGood (if n then Ok null else slot_by p.words b p here beside i) in
+    subst P is (subst Q there good)
+
 pub good_value :
     (b : List ℕ) (p : Part) (here : ℕ → Reading Datum) (beside : ℕ → Reading (List Datum)) (i : ℕ) → is_null (bytes_of b p.validity) i ≡ false
-    → IsGood (cell_by b p here beside i) → IsGood (value_by p.layout b p here beside i)
-unfolding cell_by
-good_value b p here beside i there good =
-    let Q : Bool → Type 0 = λ n. IsGood (if n then Ok null else value_by p.layout b p here beside i) in subst Q there good
+    → p.words ≡ None → IsGood (cell_by b p here beside i) → IsGood (value_by p.layout b p here beside i)
+good_value b p here beside i there is good = good_slot b p here beside None i there is good
 
-pub ruleset null_laws = (good_value)
+pub good_word :
+    (b : List ℕ) (p : Part) (here : ℕ → Reading Datum) (beside : ℕ → Reading (List Datum)) (w : Words) (i : ℕ)
+    → is_null (bytes_of b p.validity) i ≡ false → p.words ≡ Some w → IsGood (cell_by b p here beside i)
+    → IsGood (coded_by p.layout w.values (bytes_of b p.values) i)
+good_word b p here beside w i there is good = good_slot b p here beside (Some w) i there is good
+
+pub ruleset null_laws = (good_value, good_word, index_room)
 
 -- room by layout
 pub bits_room : (b : List ℕ) (p : Part) (kids : Roses Part) → IsSound b (node p kids) → p.layout ≡ Bits → p.len ≤ 8 * p.values.len

@@ -1,6 +1,6 @@
 -- What is known of a slot of a sound array, and how its cell is judged from those that it reaches.
 use Rattle.std.proofs.Common.{◌≡◌, ℕ, List, [], ◌∷◌, ◌+◌, ◌*◌, ◌<◌, ◌≤◌, length, drop, get_or, ap, sym, subst, arith}
-use Rattle.std.specs.Prelude.{Result, Ok, Err, Bool, false, if◌then◌else◌}
+use Rattle.std.specs.Prelude.{Result, Option, None, Some, Ok, Err, Bool, false, if◌then◌else◌}
 use Rattle.values.specs.declared.faults.StreamFault.{StreamFault}
 use Rattle.values.specs.Reading.{Reading, cons, mapped, each, Stands, IsGood, Passes, Decides}
 use Rattle.values.proofs.Readings.{decides_both, decides_both_fault, stands_mapped}
@@ -11,12 +11,14 @@ use Rattle.values.specs.declared.layout.OffsetWidth.{OffsetWidth}
 use Rattle.values.specs.declared.layout.Layout.{Layout}
 use Rattle.values.specs.declared.layout.Layout.TheVariants.{Decimal, Text, Bytes, List as Listed, Struct}
 use Rattle.values.specs.Layouts.{IsNode}
+use Rattle.array_layout.specs.declared.array.Words.{Words}
 use Rattle.array_layout.specs.declared.array.Part.{Part}
 use Rattle.array_layout.specs.Placing.{bytes_of, layouts_of}
 use Rattle.array_layout.specs.Buffers.{is_null, offset_at}
 use Rattle.array_layout.specs.Sound.{first_len, HasRoom, AreFit, AreLong, IsSound, AreSound}
-use Rattle.array_layout.specs.Cells.{cell, first_cell, row, len_of, cell_by, value_by, items_at}
+use Rattle.array_layout.specs.Cells.{cell, first_cell, row, len_of, cell_by, slot_by, coded_by, value_by, items_at}
 use Rattle.array_layout.proofs.Sounding.{kid_sound}
+use Rattle.arrays.proofs.Coding.{index_room}
 
 -- what a layout says of the buffers
 pub text_fit :
@@ -78,17 +80,40 @@ passes_mapped (Ok u) f (Err fs) h = absurd h
 passes_mapped (Err c) f m h = stands_mapped f m c h
 
 pub passes_list :
-    (r : Result (Unit {0}) StreamFault) (b : List ℕ) (p : Part) (kids : Roses Part) (o : OffsetWidth) (i : ℕ)
-    → is_null (bytes_of b p.validity) i ≡ false → p.layout ≡ Listed o → Passes r (items_at (λ j. first_cell b kids j) o (bytes_of b p.offsets) i)
+    (r : Result (Unit {0}) StreamFault) (b : List ℕ) (p : Part) (kids : Roses Part) (o : OffsetWidth) (i : ℕ) → p.layout ≡ Listed o
+    → Passes r (items_at (λ j. first_cell b kids j) o (bytes_of b p.offsets) i)
+    → Passes r (value_by p.layout b p (λ j. first_cell b kids j) (λ j. row b kids j) i)
+passes_list r b p kids o i is h =
+    let P : Layout → Type 0 = λ l. Passes r (value_by l b p (λ j. first_cell b kids j) (λ j. row b kids j) i) in
+    subst P (sym is) (passes_mapped r _ (items_at (λ j. first_cell b kids j) o (bytes_of b p.offsets) i) h)
+
+pub ruleset value_laws = (passes_list, text_fit, decimal_room, decimal_digits, struct_long, kids_sound, passes_mapped)
+
+-- a check of a valid slot is one of the cell
+passes_slot :
+    (r : Result (Unit {0}) StreamFault) (b : List ℕ) (p : Part) (kids : Roses Part) (o : Option Words) (i : ℕ)
+    → is_null (bytes_of b p.validity) i ≡ false → p.words ≡ o → Passes r (slot_by o b p (λ j. first_cell b kids j) (λ j. row b kids j) i)
     → Passes r (cell_by b p (λ j. first_cell b kids j) (λ j. row b kids j) i)
 unfolding cell_by
-passes_list r b p kids o i there is h =
-    let value : Layout → Reading Datum = λ l. value_by l b p (λ j. first_cell b kids j) (λ j. row b kids j) i in
-    let P : Layout → Type 0 = λ l. Passes r (value l) in
-    let Q : Bool → Type 0 = λ n. Passes r (if n then Ok null else value p.layout) in
-    subst Q (sym there) (subst P (sym is) (passes_mapped r _ (items_at (λ j. first_cell b kids j) o (bytes_of b p.offsets) i) h))
+passes_slot r b p kids o i there is h =
+    let slot : Option Words → Reading Datum = λ w. slot_by w b p (λ j. first_cell b kids j) (λ j. row b kids j) i in
+    let P : Option Words → Type 0 = λ w. Passes r (slot w) in
+    let Q : Bool → Type 0 = λ n. Passes r (if n then Ok null else slot p.words) in
+    subst Q (sym there) (subst P (sym is) h)
 
-pub ruleset slot_laws = (passes_list, text_fit, decimal_room, decimal_digits, struct_long, kids_sound, passes_mapped)
+pub passes_word :
+    (r : Result (Unit {0}) StreamFault) (b : List ℕ) (p : Part) (kids : Roses Part) (w : Words) (i : ℕ)
+    → is_null (bytes_of b p.validity) i ≡ false → p.words ≡ Some w → Passes r (coded_by p.layout w.values (bytes_of b p.values) i)
+    → Passes r (cell_by b p (λ j. first_cell b kids j) (λ j. row b kids j) i)
+passes_word r b p kids w i there is h = passes_slot r b p kids (Some w) i there is h
+
+pub passes_value :
+    (r : Result (Unit {0}) StreamFault) (b : List ℕ) (p : Part) (kids : Roses Part) (i : ℕ) → is_null (bytes_of b p.validity) i ≡ false
+    → p.words ≡ None → Passes r (value_by p.layout b p (λ j. first_cell b kids j) (λ j. row b kids j) i)
+    → Passes r (cell_by b p (λ j. first_cell b kids j) (λ j. row b kids j) i)
+passes_value r b p kids i there is h = passes_slot r b p kids None i there is h
+
+pub ruleset slot_laws = (passes_word, passes_value, index_room)
 
 -- the child of a list
 pub list_child :

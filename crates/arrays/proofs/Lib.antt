@@ -1,5 +1,6 @@
 pub mod Texts
 pub mod Powers
+pub mod Coding
 pub mod Calming
 pub mod Judging
 pub mod Copying

@@ -1,20 +1,25 @@
 -- A fault stands in a cell exactly where a slot that it reaches has it.
-use Rattle.std.proofs.Common.{◌≡◌, ◌⊎◌, inl, inr, ℕ, ℤ, zero, suc, List, ◌+◌, ◌-◌, ◌^◌, ◌<◌, ◌≤◌, refl, sym, subst, arith}
-use Rattle.std.specs.Prelude.{Ok, Err, Bool, true, false, if◌then◌else◌, nat_lt, nat_abs}
+use Rattle.std.proofs.Common.{◌≡◌, ◌⊎◌, inl, inr, ℕ, ℤ, zero, suc, List, ◌+◌, ◌-◌, ◌^◌, ◌<◌, ◌≤◌, ◌<ℤ◌, ◌≤ℤ◌, pos, negsuc, length, refl, sym, subst, ◌∙◌, arith}
+use Rattle.std.specs.Prelude.{Option, None, Some, Ok, Err, Bool, true, false, if◌then◌else◌, nat_lt, nat_abs, slice_get}
+use Rattle.std.proofs.lemmas.Option.{slice_get-get_or, none-some}
+use Rattle.std.proofs.lemmas.Bool.{cases_lt}
 use Rattle.std.specs.Str.{is_utf8}
 use Rattle.values.specs.declared.faults.StreamFault.{StreamFault}
 use Rattle.values.specs.declared.faults.StreamFault.TheVariants as fault
-use Rattle.values.specs.Reading.{Reading, one, cons, mapped, each, Stands}
+use Rattle.values.specs.Reading.{Reading, one, cons, mapped, must, each, Stands}
 use Rattle.values.proofs.Readings.{both_left, both_right, stands_both, stands_each, stands_mapped}
 use Rattle.values.specs.Rose.{Rose, node, Roses, none, more}
 use Rattle.values.specs.Datum.{Datum, null, whole, text}
 use Rattle.values.specs.declared.layout.Layout.{Layout}
 use Rattle.values.specs.declared.layout.Layout.TheVariants.{Bits, Number, Decimal, Fixed, Text, Bytes, List as Listed, Struct}
+use Rattle.values.specs.Layouts.{bytes_in}
+use Rattle.array_layout.specs.declared.array.Words.{Words}
 use Rattle.array_layout.specs.declared.array.Part.{Part}
 use Rattle.array_layout.specs.Placing.{bytes_of}
 use Rattle.array_layout.specs.Buffers.{is_null, number_at, offset_at, slice_at}
-use Rattle.array_layout.specs.Cells.{cell, first_cell, row, cell_by, value_by, text_of, decimal_of}
-use Rattle.arrays.specs.Reached.{Below, Reaches, ReachesFirst, ReachesBeside, OwnFault, HasFault, Found}
+use Rattle.array_layout.specs.Cells.{cell, first_cell, row, cell_by, slot_by, coded_by, indexed, value_by, text_of, decimal_of}
+use Rattle.arrays.proofs.Coding.{index_negative, index_past}
+use Rattle.arrays.specs.Reached.{Below, BelowSlot, Reaches, ReachesFirst, ReachesBeside, OwnFault, HasNoValue, SlotFault, HasFault, Found}
 
 unmapped : {X Y : Type 0} (f : X → Y) (m : Reading X) (c : StreamFault) → Stands (mapped f m) c → Stands m c
 unmapped f (Ok x) c h = h
@@ -107,6 +112,78 @@ below_stands (Listed o) b p here beside i c F G f g h =
     (each_stands here from (to - from) (h.0 - from) c (omega (arith, low, high)) (subst P same (f h.0 h.3)))
 below_stands Struct b p here beside i c F G f g h = stands_mapped _ (beside i) c (g h)
 
+-- the same of an index
+past : (ds : List Datum) (n : ℕ) → slice_get ds n ≡ None → pos (length ds) ≤ℤ pos n
+past ds n none_there = elim (cases_lt n (length ds)) [
+  | inl below ↦ let there = slice_get-get_or ds n null below in absurd (none-some _ (sym none_there ∙ there))
+  | inr above ↦ grind arith
+]
+
+indexed_fault :
+    (ds : List Datum) (z : ℤ) (c : StreamFault) → Stands (indexed ds z) c
+    → ((z <ℤ pos 0) ⊎ (pos (length ds) ≤ℤ z)) × (fault.DictionaryIndex ≡ c)
+indexed_fault ds (pos n) c h = by_cases (slice_get ds n) refl h where
+  by_cases :
+      (o : Option Datum) → slice_get ds n ≡ o → Stands (must fault.DictionaryIndex o) c
+      → ((pos n <ℤ pos 0) ⊎ (pos (length ds) ≤ℤ pos n)) × (fault.DictionaryIndex ≡ c)
+  by_cases None none_there stands = (inr (past ds n none_there), stands)
+  by_cases (Some d) there stands = absurd stands
+indexed_fault ds (negsuc n) c h = (inl (grind arith), h)
+
+fault_indexed :
+    (ds : List Datum) (z : ℤ) (c : StreamFault) → (z <ℤ pos 0) ⊎ (pos (length ds) ≤ℤ z) → fault.DictionaryIndex ≡ c → Stands (indexed ds z) c
+fault_indexed ds z c none_there is =
+    let P : Reading Datum → Type 0 = λ m. Stands m c in
+    elim none_there [
+      | inl h ↦ subst P (index_negative ds z h) is
+      | inr h ↦ subst P (index_past ds z h) is
+    ]
+
+coded_fault :
+    (l : Layout) (ds : List Datum) (indices : List ℕ) (i : ℕ) (c : StreamFault) → Stands (coded_by l ds indices i) c
+    → HasNoValue l ds indices i × (fault.DictionaryIndex ≡ c)
+coded_fault Bits ds indices i c h = (tt, h)
+coded_fault (Number w s) ds indices i c h = indexed_fault ds (number_at s (bytes_in w) indices i) c h
+coded_fault (Decimal d) ds indices i c h = (tt, h)
+coded_fault (Fixed w) ds indices i c h = (tt, h)
+coded_fault (Text o) ds indices i c h = (tt, h)
+coded_fault (Bytes o) ds indices i c h = (tt, h)
+coded_fault (Listed o) ds indices i c h = (tt, h)
+coded_fault Struct ds indices i c h = (tt, h)
+
+fault_coded :
+    (l : Layout) (ds : List Datum) (indices : List ℕ) (i : ℕ) (c : StreamFault) → HasNoValue l ds indices i → fault.DictionaryIndex ≡ c
+    → Stands (coded_by l ds indices i) c
+fault_coded Bits ds indices i c h is = is
+fault_coded (Number w s) ds indices i c h is = fault_indexed ds (number_at s (bytes_in w) indices i) c h is
+fault_coded (Decimal d) ds indices i c h is = is
+fault_coded (Fixed w) ds indices i c h is = is
+fault_coded (Text o) ds indices i c h is = is
+fault_coded (Bytes o) ds indices i c h is = is
+fault_coded (Listed o) ds indices i c h is = is
+fault_coded Struct ds indices i c h is = is
+
+-- and of any valid slot
+slot_found :
+    (o : Option Words) (b : List ℕ) (p : Part) (here : ℕ → Reading Datum) (beside : ℕ → Reading (List Datum)) (i : ℕ) (c : StreamFault)
+    (F : ℕ → Type 0) (G : Type 0) → ((k : ℕ) → Stands (here k) c → F k) → (Stands (beside i) c → G)
+    → Stands (slot_by o b p here beside i) c → SlotFault o b p i c ⊎ BelowSlot o p.layout (bytes_of b p.offsets) F G i
+slot_found None b p here beside i c F G f g h = value_found p.layout b p here beside i c F G f g h
+slot_found (Some w) b p here beside i c F G f g h = inl (coded_fault p.layout w.values (bytes_of b p.values) i c h)
+
+slot_own :
+    (o : Option Words) (b : List ℕ) (p : Part) (here : ℕ → Reading Datum) (beside : ℕ → Reading (List Datum)) (i : ℕ) (c : StreamFault)
+    → SlotFault o b p i c → Stands (slot_by o b p here beside i) c
+slot_own None b p here beside i c h = own_stands p.layout b p here beside i c h
+slot_own (Some w) b p here beside i c h = fault_coded p.layout w.values (bytes_of b p.values) i c h.0 h.1
+
+slot_below :
+    (o : Option Words) (b : List ℕ) (p : Part) (here : ℕ → Reading Datum) (beside : ℕ → Reading (List Datum)) (i : ℕ) (c : StreamFault)
+    (F : ℕ → Type 0) (G : Type 0) → ((k : ℕ) → F k → Stands (here k) c) → (G → Stands (beside i) c)
+    → BelowSlot o p.layout (bytes_of b p.offsets) F G i → Stands (slot_by o b p here beside i) c
+slot_below None b p here beside i c F G f g h = below_stands p.layout b p here beside i c F G f g h
+slot_below (Some w) b p here beside i c F G f g h = absurd h
+
 null_found : (n : Bool) (m : Reading Datum) (c : StreamFault) → Stands (if n then Ok null else m) c → (n ≡ false) × Stands m c
 null_found true m c h = absurd h
 null_found false m c h = (refl, h)
@@ -133,17 +210,24 @@ below_found (Listed o) b offsets kids i c h =
     (found.0, found.1, (h.0, h.1, h.2, found.2), found.3)
 below_found Struct b offsets kids i c h = h
 
+slot_below_found :
+    (o : Option Words) (l : Layout) (b offsets : List ℕ) (kids : Roses Part) (i : ℕ) (c : StreamFault)
+    → BelowSlot o l offsets (λ k. FoundFirst b kids k c) (FoundBeside b kids i c) i
+    → (u : Rose Part) × (j : ℕ) × BelowSlot o l offsets (λ k. ReachesFirst b kids k u j) (ReachesBeside b kids i u j) i × HasFault b u j c
+slot_below_found None l b offsets kids i c h = below_found l b offsets kids i c h
+slot_below_found (Some w) l b offsets kids i c h = absurd h
+
 mutual
   unfolding cell_by
 
   pub found_cell : (b : List ℕ) (t : Rose Part) (i : ℕ) (c : StreamFault) → Stands (cell b t i) c → Found b t i c
   found_cell b (node p kids) i c stands =
-      let valid = null_found (is_null (bytes_of b p.validity) i) (value_by p.layout b p (λ j. first_cell b kids j) (λ j. row b kids j) i) c stands in
-      elim (value_found p.layout b p (λ j. first_cell b kids j) (λ j. row b kids j) i c (λ k. FoundFirst b kids k c) (FoundBeside b kids i c)
+      let valid = null_found (is_null (bytes_of b p.validity) i) (slot_by p.words b p (λ j. first_cell b kids j) (λ j. row b kids j) i) c stands in
+      elim (slot_found p.words b p (λ j. first_cell b kids j) (λ j. row b kids j) i c (λ k. FoundFirst b kids k c) (FoundBeside b kids i c)
       (λ k h. found_first b kids k c h) (λ h. found_beside b kids i c h) valid.1) [
         | inl own ↦ (node p kids, i, inl (refl, refl), (valid.0, own))
         | inr below ↦
-            let found = below_found p.layout b (bytes_of b p.offsets) kids i c below in
+            let found = slot_below_found p.words p.layout b (bytes_of b p.offsets) kids i c below in
             (found.0, found.1, inr (valid.0, found.2), found.3)
       ]
 
@@ -173,10 +257,10 @@ mutual
             let P : Rose Part → Type 0 = λ v. HasFault b v j c in
             let Q : ℕ → Type 0 = λ k. HasFault b (node p kids) k c in
             let own : HasFault b (node p kids) i c = subst Q (sym same.1) (subst P (sym same.0) has) in
-            null_stands _ _ c own.0 (own_stands p.layout b p (λ k. first_cell b kids k) (λ k. row b kids k) i c own.1)
+            null_stands _ _ c own.0 (slot_own p.words b p (λ k. first_cell b kids k) (λ k. row b kids k) i c own.1)
         | inr below ↦
             null_stands _ _ c below.0
-            (below_stands p.layout b p (λ k. first_cell b kids k) (λ k. row b kids k) i c (λ k. ReachesFirst b kids k u j) (ReachesBeside b kids i u j)
+            (slot_below p.words b p (λ k. first_cell b kids k) (λ k. row b kids k) i c (λ k. ReachesFirst b kids k u j) (ReachesBeside b kids i u j)
             (λ k h. first_stands b kids k u j c h has) (λ h. beside_stands b kids i u j c h has) below.1)
       ]
 

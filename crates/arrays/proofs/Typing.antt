@@ -1,6 +1,6 @@
 -- The value of a slot is one that its layout holds.
 use Rattle.std.proofs.Common.{◌≡◌, ◌⊎◌, inl, inr, ℕ, ℤ, pos, zero, suc, List, [], ◌∷◌, ◌+◌, ◌*◌, ◌-◌, ◌^◌, ◌<◌, ◌≤◌, ◌≤ℤ◌, ◌<ℤ◌, ◌-ℤ◌, neg_ℤ, length, drop, take, refl, ap, sym, subst, arith}
-use Rattle.std.specs.Prelude.{Result, Ok, Err, IfOk, Bool, true, false, if◌then◌else◌, nat_lt, nat_abs, slice_index, slice_range}
+use Rattle.std.specs.Prelude.{Result, Option, None, Some, Ok, Err, IfOk, Bool, true, false, if◌then◌else◌, nat_lt, nat_abs, slice_index, slice_range}
 use Rattle.std.proofs.lemmas.List.{get_or-drop}
 use Rattle.std.proofs.Common.{length-drop}
 use Rattle.arrays.proofs.Judging.{struct_long, at_least, and_rest}
@@ -19,11 +19,14 @@ use Rattle.values.specs.declared.layout.OffsetWidth.{OffsetWidth}
 use Rattle.values.specs.declared.layout.Layout.{Layout}
 use Rattle.values.specs.declared.layout.Layout.TheVariants.{Bits, Number, Decimal, Fixed, Text, Bytes, List as Listed, Struct}
 use Rattle.values.specs.Layouts.{bytes_in, IsNode, FitsIn, Holds, HoldsAll, HoldsEach}
+use Rattle.array_layout.specs.declared.array.Words.{Words}
 use Rattle.array_layout.specs.declared.array.Part.{Part}
-use Rattle.array_layout.specs.Placing.{bytes_of, layout_of, layouts_of}
+use Rattle.array_layout.specs.Placing.{bytes_of, layout_by, layout_of, layouts_of}
 use Rattle.array_layout.specs.Buffers.{number_at, number_by, word_at, slice_at, fixed_at, offset_at}
 use Rattle.array_layout.specs.Sound.{first_len, HasRoom, AreFit, AreLong, IsSound, AreSound}
-use Rattle.array_layout.specs.Cells.{cell, first_cell, row, cell_by, value_by, items_at, text_of, decimal_of, len_of}
+use Rattle.array_layout.specs.Cells.{cell, first_cell, row, cell_by, slot_by, value_by, items_at, text_of, decimal_of, len_of}
+use Rattle.array_layout.specs.Typed.{AreWords, IsTyped, AreTyped}
+use Rattle.arrays.proofs.Coding.{coded_holds}
 
 -- bytes are below 256, wherever they are read
 abbrev pub AreBytes : List ℕ → Type 0
@@ -181,6 +184,16 @@ value_holds Struct b p kids i d is small sound below held rows read =
     let parts = mapped_Ok (λ ds. structure (items_of ds)) (row b kids i) d read in
     subst (λ (e : Datum). Holds (node Struct (layouts_of kids)) e) parts.2 (rows parts.0 (struct_long b p kids i sound is below) parts.1)
 
+slot_holds :
+    (o : Option Words) (b : List ℕ) (p : Part) (kids : Roses Part) (i : ℕ) (d : Datum) → AreWords o → AreBytes b → IsSound b (node p kids)
+    → i < p.len → HeldItems b kids
+    → ((ds : List Datum) → AreLong Struct (i + 1) kids → row b kids i ≡ Ok ds → HoldsEach (layouts_of kids) (items_of ds))
+    → slot_by o b p (λ j. first_cell b kids j) (λ j. row b kids j) i ≡ Ok d → Holds (node (layout_by o p.layout) (layouts_of kids)) d
+slot_holds None b p kids i d words small sound below held rows read =
+    value_holds p.layout b p kids i d refl small sound below held rows read
+slot_holds (Some w) b p kids i d words small sound below held rows read =
+    coded_holds p.layout w (bytes_of b p.values) i d (layouts_of kids) read sound.0.part.kids_fit words
+
 pub null_or_value : (n : Bool) (m : Reading Datum) (d : Datum) → (if n then Ok null else m) ≡ Ok d → (null ≡ d) ⊎ (m ≡ Ok d)
 null_or_value true m d e = inl cc
 null_or_value false m d e = inr e
@@ -189,34 +202,36 @@ mutual
   unfolding cell_by
 
   pub holds_cell :
-      (b : List ℕ) (t : Rose Part) (i : ℕ) (d : Datum) → AreBytes b → IsSound b t → i < len_of t → cell b t i ≡ Ok d → Holds (layout_of t) d
-  holds_cell b (node p kids) i d small sound below read =
+      (b : List ℕ) (t : Rose Part) (i : ℕ) (d : Datum) → IsTyped t → AreBytes b → IsSound b t → i < len_of t → cell b t i ≡ Ok d
+      → Holds (layout_of t) d
+  holds_cell b (node p kids) i d typed small sound below read =
+      let l : Rose Layout = node (layout_by p.words p.layout) (layouts_of kids) in
       elim (null_or_value _ _ d read) [
-        | inl e ↦ subst (λ (x : Datum). Holds (node p.layout (layouts_of kids)) x) e (nullable (node p.layout (layouts_of kids)))
+        | inl e ↦ subst (λ (x : Datum). Holds l x) e (nullable l)
         | inr e ↦
-            value_holds p.layout b p kids i d refl small sound below (holds_items b kids small sound.2)
-            (λ ds long. holds_row b kids i ds small sound.2 long) e
+            slot_holds p.words b p kids i d typed.0 small sound below (holds_items b kids typed.1 small sound.2)
+            (λ ds long. holds_row b kids i ds typed.1 small sound.2 long) e
       ]
 
-  holds_items : (b : List ℕ) (kids : Roses Part) → AreBytes b → AreSound b kids → HeldItems b kids
-  holds_items b none small sound = tt
-  holds_items b (more t ts) small sound = λ j d below. holds_cell b t j d small sound.0 below
+  holds_items : (b : List ℕ) (kids : Roses Part) → AreTyped kids → AreBytes b → AreSound b kids → HeldItems b kids
+  holds_items b none typed small sound = tt
+  holds_items b (more t ts) typed small sound = λ j d below. holds_cell b t j d typed.0 small sound.0 below
 
   holds_row :
-      (b : List ℕ) (kids : Roses Part) (i : ℕ) (ds : List Datum) → AreBytes b → AreSound b kids → AreLong Struct (i + 1) kids → row b kids i ≡ Ok ds
-      → HoldsEach (layouts_of kids) (items_of ds)
-  holds_row b none i ds small sound long read =
+      (b : List ℕ) (kids : Roses Part) (i : ℕ) (ds : List Datum) → AreTyped kids → AreBytes b → AreSound b kids → AreLong Struct (i + 1) kids
+      → row b kids i ≡ Ok ds → HoldsEach (layouts_of kids) (items_of ds)
+  holds_row b none i ds typed small sound long read =
       let same : [] ≡ ds = cc in subst (λ (es : List Datum). HoldsEach none (items_of es)) same tt
-  holds_row b (more t ts) i ds small sound long read =
+  holds_row b (more t ts) i ds typed small sound long read =
       let parts = both_Ok cons (cell b t i) (row b ts i) ds read in
       let below : i < len_of t = first_long i t ts long in
       subst (λ (es : List Datum). HoldsEach (more (layout_of t) (layouts_of ts)) (items_of es)) parts.4
-      (holds_cell b t i parts.0 small sound.0 below parts.2, holds_row b ts i parts.1 small sound.1 (and_rest (i + 1) t ts long) parts.3)
+      (holds_cell b t i parts.0 typed.0 small sound.0 below parts.2, holds_row b ts i parts.1 typed.1 small sound.1 (and_rest (i + 1) t ts long) parts.3)
 
 pub read_holds :
-    {E : Type 0} (r : Result Datum E) (b : List ℕ) (t : Rose Part) (i : ℕ) → AreBytes b → IsSound b t → i < len_of t
+    {E : Type 0} (r : Result Datum E) (b : List ℕ) (t : Rose Part) (i : ℕ) → IsTyped t → AreBytes b → IsSound b t → i < len_of t
     → IfOk r (λ v. cell b t i ≡ Ok v) → IfOk r (λ v. Holds (layout_of t) v)
-read_holds (Ok d) b t i small sound below read = holds_cell b t i d small sound below read
-read_holds (Err e) b t i small sound below read = tt
+read_holds (Ok d) b t i typed small sound below read = holds_cell b t i d typed small sound below read
+read_holds (Err e) b t i typed small sound below read = tt
 
 pub ruleset typing = (read_holds)

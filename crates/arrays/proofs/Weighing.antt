@@ -1,17 +1,20 @@
 -- How a weight is summed up to a limit.
 use Rattle.std.proofs.Common.{◌≡◌, ℕ, suc, List, [], ◌∷◌, ◌+◌, ◌-◌, ◌^◌, ◌<◌, ◌≤◌, length, drop, get_or, refl, ap, sym, subst, ◌∙◌, arith}
-use Rattle.std.specs.Prelude.{Bool, false, if◌then◌else◌}
-use Rattle.values.specs.Rose.{Rose, Roses, kids_of}
+use Rattle.std.specs.Prelude.{Option, None, Some, Bool, false, if◌then◌else◌}
+use Rattle.values.specs.Rose.{Rose, node, Roses, kids_of}
 use Rattle.values.proofs.Roses.{kids_step, kids_end, kid_smaller}
 use Rattle.values.specs.declared.layout.OffsetWidth.{OffsetWidth}
 use Rattle.values.specs.declared.layout.Layout.{Layout}
 use Rattle.values.specs.declared.layout.Layout.TheVariants.{List as Listed}
 use Rattle.values.specs.Layouts.{slot, slots}
+use Rattle.array_layout.specs.declared.array.Words.{Words}
 use Rattle.array_layout.specs.declared.array.Part.{Part}
-use Rattle.array_layout.specs.Placing.{bytes_of, layout_of, layouts_of}
+use Rattle.array_layout.specs.Placing.{bytes_of, layout_by, layout_of, layouts_of}
 use Rattle.array_layout.specs.Buffers.{is_null, offset_at}
+use Rattle.array_layout.specs.Cells.{coded_by}
 use Rattle.array_layout.proofs.Sounding.{kid_sound}
-use Rattle.arrays.specs.Weights.{capped, extent, sum_from, weight_in, weight_by, weight_at, first_weight, weight_beside}
+use Rattle.arrays.proofs.Coding.{index_room}
+use Rattle.arrays.specs.Weights.{capped, extent, sum_from, weight_in, weight_by, word_weight, slot_weight, weight_at, first_weight, weight_beside}
 use Rattle.arrays.proofs.Judging.{text_fit, bytes_fit, list_fit, struct_long, kids_sound, list_child, child_sound, child_within, child_smaller, kid_long}
 
 capped_sum : (s a r : ℕ) → capped (capped (s + capped a) + r) ≡ capped (s + (a + r))
@@ -128,17 +131,45 @@ items_weigh b (t ∷ ts) e d i n r is some h =
 pub ruleset list_laws = (list_fit, list_child, child_sound, child_within, child_smaller, items_weigh)
 
 pub list_weighs :
-    (r : ℕ) (b : List ℕ) (p : Part) (bare : ℕ) (kids : Roses Part) (o : OffsetWidth) (i : ℕ) → is_null (bytes_of b p.validity) i ≡ false
-    → p.layout ≡ Listed o
+    (r : ℕ) (b : List ℕ) (p : Part) (bare : ℕ) (kids : Roses Part) (o : OffsetWidth) (i : ℕ) → p.layout ≡ Listed o
     → r ≡ capped (5 + sum_from (λ j. first_weight b kids j) (offset_at o (bytes_of b p.offsets) i) (extent o (bytes_of b p.offsets) i))
+    → r ≡ capped (weight_by p.layout b p bare (λ j. first_weight b kids j) (λ j. weight_beside b kids j) i)
+list_weighs r b p bare kids o i is h =
+    let P : Layout → Type 0 = λ l. r ≡ capped (weight_by l b p bare (λ j. first_weight b kids j) (λ j. weight_beside b kids j) i) in
+    subst P (sym is) h
+
+pub ruleset value_laws = (list_weighs, text_fit, bytes_fit, struct_long, kids_sound)
+
+-- the weight of a valid slot is that of the cell
+abbrev here : List ℕ → Part → ℕ → Roses Part → ℕ → Option Words → ℕ
+here b p bare kids i o = slot_weight o b p bare (λ j. first_weight b kids j) (λ j. weight_beside b kids j) i
+
+slot_weighs :
+    (r : ℕ) (b : List ℕ) (p : Part) (bare : ℕ) (kids : Roses Part) (o : Option Words) (i : ℕ) → is_null (bytes_of b p.validity) i ≡ false
+    → p.words ≡ o → r ≡ capped (here b p bare kids i o)
     → r ≡ capped (weight_in b p bare (λ j. first_weight b kids j) (λ j. weight_beside b kids j) i)
 unfolding weight_in
-list_weighs r b p bare kids o i there is h =
-    let value : Layout → ℕ = λ l. weight_by l b p bare (λ j. first_weight b kids j) (λ j. weight_beside b kids j) i in
-    let P : Layout → Type 0 = λ l. r ≡ capped (value l) in
-    let Q : Bool → Type 0 = λ n. r ≡ capped (if n then bare else value p.layout) in
+slot_weighs r b p bare kids o i there is h =
+    let P : Option Words → Type 0 = λ w. r ≡ capped (here b p bare kids i w) in
+    let Q : Bool → Type 0 = λ n. r ≡ capped (if n then bare else here b p bare kids i p.words) in
     subst Q (sym there) (subst P (sym is) h)
 
-pub ruleset weight_laws = (list_weighs, text_fit, bytes_fit, struct_long, kids_sound)
+pub word_weighs :
+    (r : ℕ) (b : List ℕ) (p : Part) (kids : Roses Part) (w : Words) (i : ℕ) → is_null (bytes_of b p.validity) i ≡ false → p.words ≡ Some w
+    → r ≡ capped (word_weight w.layout (coded_by p.layout w.values (bytes_of b p.values) i)) → r ≡ capped (weight_at b (node p kids) i)
+word_weighs r b p kids w i there is h = slot_weighs r b p _ kids (Some w) i there is h
+
+abbrev slot_by_words : Part → Roses Part → Option Words → ℕ
+slot_by_words p kids o = slot (node (layout_by o p.layout) (layouts_of kids))
+
+pub value_weighs :
+    (r : ℕ) (b : List ℕ) (p : Part) (kids : Roses Part) (i : ℕ) → is_null (bytes_of b p.validity) i ≡ false → p.words ≡ None
+    → r ≡ capped (weight_by p.layout b p (slot (node p.layout (layouts_of kids))) (λ j. first_weight b kids j) (λ j. weight_beside b kids j) i)
+    → r ≡ capped (weight_at b (node p kids) i)
+value_weighs r b p kids i there is h =
+    let P : Option Words → Type 0 = λ o. r ≡ capped (weight_by p.layout b p (slot_by_words p kids o) (λ j. first_weight b kids j) (λ j. weight_beside b kids j) i) in
+    slot_weighs r b p (slot_by_words p kids p.words) kids None i there is (subst P (sym is) h)
+
+pub ruleset weight_laws = (word_weighs, value_weighs, index_room)
 
 pub ruleset bytes_laws = (capped_here)

@@ -1,7 +1,7 @@
 -- The weight of a cell where it lies is the weight of its value.
 use Rattle.std.proofs.Common.{◌≡◌, ℕ, zero, suc, List, [], ◌+◌, ◌-◌, ◌<◌, ◌≤◌, length, drop, refl, ap, sym, subst, arith}
 use Rattle.std.proofs.Common.{length-drop}
-use Rattle.std.specs.Prelude.{Ok, Bool, true, false, if◌then◌else◌}
+use Rattle.std.specs.Prelude.{Option, None, Some, Ok, Bool, true, false, if◌then◌else◌}
 use Rattle.values.specs.Reading.{Reading, cons, each}
 use Rattle.values.proofs.Readings.{both_Ok, mapped_Ok}
 use Rattle.values.specs.Rose.{Rose, node, Roses, none, more}
@@ -11,12 +11,14 @@ use Rattle.values.specs.declared.layout.Layout.{Layout}
 use Rattle.values.specs.declared.layout.Layout.TheVariants.{Bits, Number, Decimal, Fixed, Text, Bytes, List as Listed, Struct}
 use Rattle.values.specs.Layouts.{bytes_in, IsNode, slot, weight, items_weight, row_weight}
 use Rattle.bitmaps.specs.Bits.{bit_at}
+use Rattle.array_layout.specs.declared.array.Words.{Words}
 use Rattle.array_layout.specs.declared.array.Part.{Part}
-use Rattle.array_layout.specs.Placing.{bytes_of, layout_of, layouts_of}
+use Rattle.array_layout.specs.Placing.{bytes_of, layout_by, layout_of, layouts_of}
 use Rattle.array_layout.specs.Buffers.{is_null, number_at, slice_at, fixed_at, offset_at}
 use Rattle.array_layout.specs.Sound.{first_len, HasRoom, AreFit, AreLong, IsSound, AreSound}
-use Rattle.array_layout.specs.Cells.{cell, first_cell, row, cell_by, value_by, items_at, len_of}
-use Rattle.arrays.specs.Weights.{extent, sum_from, weight_by, weight_in, weight_at, first_weight, weight_beside}
+use Rattle.array_layout.specs.Cells.{cell, first_cell, row, cell_by, slot_by, value_by, items_at, len_of}
+use Rattle.arrays.proofs.Coding.{coded_weighs}
+use Rattle.arrays.specs.Weights.{extent, sum_from, weight_by, slot_weight, weight_in, weight_at, first_weight, weight_beside}
 use Rattle.arrays.proofs.Judging.{text_fit, bytes_fit, struct_long, and_rest}
 use Rattle.arrays.proofs.Typing.{text_holds, decimal_holds, first_is, first_long, some_child, length_take}
 
@@ -123,6 +125,16 @@ value_weighs Struct b p kids i d is sound below weighed rows read =
     subst (λ (e : Datum). weight_here Struct b p kids i ≡ weight (node Struct (layouts_of kids)) e) parts.2
     (ap (λ n. 1 + n) (rows parts.0 (struct_long b p kids i sound is below) parts.1))
 
+word_or_value :
+    (o : Option Words) (b : List ℕ) (p : Part) (kids : Roses Part) (i : ℕ) (d : Datum) → IsSound b (node p kids) → i < p.len → WeighedItems b kids
+    → ((ds : List Datum) → AreLong Struct (i + 1) kids → row b kids i ≡ Ok ds → weight_beside b kids i ≡ row_weight (layouts_of kids) (items_of ds))
+    → slot_by o b p (λ j. first_cell b kids j) (λ j. row b kids j) i ≡ Ok d
+    → slot_weight o b p (bare (layout_by o p.layout) kids) (λ j. first_weight b kids j) (λ j. weight_beside b kids j) i
+    ≡ weight (node (layout_by o p.layout) (layouts_of kids)) d
+word_or_value None b p kids i d sound below weighed rows read = value_weighs p.layout b p kids i d refl sound below weighed rows read
+word_or_value (Some w) b p kids i d sound below weighed rows read =
+    coded_weighs p.layout w (bytes_of b p.values) i d (layouts_of kids) read sound.0.part.kids_fit
+
 slot_weighs :
     (n : Bool) (t : Rose Layout) (m : Reading Datum) (w : ℕ) (d : Datum) → (m ≡ Ok d → w ≡ weight t d) → (if n then Ok null else m) ≡ Ok d
     → (if n then slot t else w) ≡ weight t d
@@ -135,9 +147,10 @@ mutual
   pub cell_weighs :
       (b : List ℕ) (t : Rose Part) (i : ℕ) (d : Datum) → IsSound b t → i < len_of t → cell b t i ≡ Ok d → weight_at b t i ≡ weight (layout_of t) d
   cell_weighs b (node p kids) i d sound below read =
-      slot_weighs (is_null (bytes_of b p.validity) i) (node p.layout (layouts_of kids))
-      (value_by p.layout b p (λ j. first_cell b kids j) (λ j. row b kids j) i) (weight_here p.layout b p kids i) d
-      (λ e. value_weighs p.layout b p kids i d refl sound below (items_weigh b kids sound.2) (λ ds long. row_weighs b kids i ds sound.2 long) e) read
+      slot_weighs (is_null (bytes_of b p.validity) i) (node (layout_by p.words p.layout) (layouts_of kids))
+      (slot_by p.words b p (λ j. first_cell b kids j) (λ j. row b kids j) i)
+      (slot_weight p.words b p (bare (layout_by p.words p.layout) kids) (λ j. first_weight b kids j) (λ j. weight_beside b kids j) i) d
+      (λ e. word_or_value p.words b p kids i d sound below (items_weigh b kids sound.2) (λ ds long. row_weighs b kids i ds sound.2 long) e) read
 
   items_weigh : (b : List ℕ) (kids : Roses Part) → AreSound b kids → WeighedItems b kids
   items_weigh b none sound = tt

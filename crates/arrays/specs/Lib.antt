@@ -3,3 +3,4 @@ pub mod Checked
 pub mod Weights
 pub mod Laws
 pub mod Reached
+pub mod Coded

@@ -1,13 +1,16 @@
 -- Which slots a cell reaches: itself, and where it is valid, of a list the items between its offsets, and of a struct the children's slots
 -- at the same place. A slot under a null is not reached (Arrow Columnar Format, "Struct Layout", "Variable-size List Layout").
-use Rattle.std.specs.Prelude.{◌≡◌, ◌⊎◌, ℕ, ◌+◌, ◌^◌, ◌<◌, ◌≤◌, true, false, List, nat_abs}
+use Rattle.std.specs.Prelude.{◌≡◌, ◌⊎◌, ℕ, pos, ◌+◌, ◌^◌, ◌<◌, ◌≤◌, ◌<ℤ◌, ◌≤ℤ◌, true, false, List, Option, None, Some, length, nat_abs}
 use Rattle.std.specs.Str.{is_utf8}
 use Rattle.values.specs.Rose.{Rose, node, Roses, none, more}
 use Rattle.values.specs.Reading.{Stands}
 use Rattle.values.specs.declared.faults.StreamFault.{StreamFault}
 use Rattle.values.specs.declared.faults.StreamFault.TheVariants as fault
 use Rattle.values.specs.declared.layout.Layout.{Layout}
-use Rattle.values.specs.declared.layout.Layout.TheVariants.{Decimal, Text, List as Listed, Struct}
+use Rattle.values.specs.declared.layout.Layout.TheVariants.{Number, Decimal, Text, List as Listed, Struct}
+use Rattle.values.specs.Layouts.{bytes_in}
+use Rattle.values.specs.Datum.{Datum}
+use Rattle.array_layout.specs.declared.array.Words.{Words}
 use Rattle.array_layout.specs.declared.array.Part.{Part}
 use Rattle.array_layout.specs.Placing.{bytes_of}
 use Rattle.array_layout.specs.Buffers.{is_null, number_at, offset_at, slice_at}
@@ -22,12 +25,17 @@ Below (Listed o) offsets item child i = (k : ℕ) × (offset_at o offsets i ≤ 
 Below Struct offsets item child i = child
 Below l offsets item child i = ⊥
 
+-- an index reaches no other slot
+abbrev pub BelowSlot : Option Words → Layout → List ℕ → (ℕ → Type 0) → Type 0 → ℕ → Type 0
+BelowSlot None l offsets item child i = Below l offsets item child i
+BelowSlot (Some w) l offsets item child i = ⊥
+
 -- slot i of an array reaches slot j of the array u
 abbrev mutual
   pub Reaches : List ℕ → Rose Part → ℕ → Rose Part → ℕ → Type 0
   Reaches body (node p kids) i u j =
       ((node p kids ≡ u) × (i ≡ j))
-      ⊎ (IsValid body p i × Below p.layout (bytes_of body p.offsets) (λ k. ReachesFirst body kids k u j) (ReachesBeside body kids i u j) i)
+      ⊎ (IsValid body p i × BelowSlot p.words p.layout (bytes_of body p.offsets) (λ k. ReachesFirst body kids k u j) (ReachesBeside body kids i u j) i)
 
   -- from a slot of the first child
   pub ReachesFirst : List ℕ → Roses Part → ℕ → Rose Part → ℕ → Type 0
@@ -45,8 +53,18 @@ OwnFault (Decimal d) body p i c = (10 ^ d ≤ nat_abs (number_at true 16 (bytes_
 OwnFault (Text o) body p i c = (is_utf8 (slice_at o (bytes_of body p.offsets) (bytes_of body p.values) i) ≡ false) × (fault.NotUtf8 ≡ c)
 OwnFault l body p i c = ⊥
 
+-- No value has this slot's index: it is negative, or there are no more values than it says.
+abbrev pub HasNoValue : Layout → List Datum → List ℕ → ℕ → Type 0
+HasNoValue (Number w s) values indices i =
+    (number_at s (bytes_in w) indices i <ℤ pos 0) ⊎ (pos (length values) ≤ℤ number_at s (bytes_in w) indices i)
+HasNoValue l values indices i = Unit {0}
+
+abbrev pub SlotFault : Option Words → List ℕ → Part → ℕ → StreamFault → Type 0
+SlotFault None body p i c = OwnFault p.layout body p i c
+SlotFault (Some w) body p i c = HasNoValue p.layout w.values (bytes_of body p.values) i × (fault.DictionaryIndex ≡ c)
+
 abbrev pub HasFault : List ℕ → Rose Part → ℕ → StreamFault → Type 0
-HasFault body (node p kids) i c = IsValid body p i × OwnFault p.layout body p i c
+HasFault body (node p kids) i c = IsValid body p i × SlotFault p.words body p i c
 
 -- a slot with this fault is reached
 abbrev pub Found : List ℕ → Rose Part → ℕ → StreamFault → Type 0

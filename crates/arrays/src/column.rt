@@ -6,6 +6,7 @@ ghost use Rattle.values.specs.Layouts.{Holds, weight};
 ghost use Rattle.array_layout.specs.Placing.{layout_of};
 ghost use Rattle.array_layout.specs.Sound.{IsPlaced, IsSound};
 ghost use Rattle.array_layout.specs.Cells.{cell, cells, column_of, len_of};
+ghost use Rattle.array_layout.specs.Typed.{IsTyped};
 ghost use Rattle.arrays.specs.Weights.{Says};
 
 use crate::judge::judge_items;
@@ -31,6 +32,7 @@ impl Model for Column {
     ghost use Rattle.array_layout.specs.Placing.{layout_of};
     ghost use Rattle.array_layout.specs.Sound.{IsSound};
     ghost use Rattle.array_layout.specs.Cells.{cells};
+    ghost use Rattle.array_layout.specs.Typed.{IsTyped};
     ghost use Rattle.arrays.specs.Checked.{CheckedColumn, column_code, good_of};
 
     ghost Value = { CheckedColumn };
@@ -39,7 +41,7 @@ impl Model for Column {
 
     ghost view = { λ c. record { layouts = layout_of c.root; cells = good_of (cells c.body.value.items c.root) } };
 
-    ghost invariant = { λ c. IsSound c.body.value.items c.root × IsGood (cells c.body.value.items c.root) };
+    ghost invariant = { λ c. IsSound c.body.value.items c.root × IsGood (cells c.body.value.items c.root) × IsTyped c.root };
 }
 
 /// Judges all cells of an array.
@@ -57,6 +59,7 @@ fn read_cell(alloc: Global, body: &[u8], array: &Array, i: usize) -> Result<Valu
     requires sound { IsSound body.now array.now }
     requires below { i < len_of array.now }
     requires good { IsGood (cell body.now array.now i) }
+    requires words { IsTyped array.now }
     ensures value { IfOk result (λ v. cell body.now array.now i ≡ Ok v) }
     ensures typed { IfOk result (λ v. Holds (layout_of array.now) v) }
 {
@@ -65,9 +68,10 @@ fn read_cell(alloc: Global, body: &[u8], array: &Array, i: usize) -> Result<Valu
 
 #[tactic(auto, using(crate::proofs::ColumnCells::column_laws))]
 impl Column {
-    /// Judges the buffers and the cells of one column: 22 to 25 and 27.
+    /// Judges the buffers and the cells of one column: 22 to 27.
     pub fn check(body: Rc<Vec<u8>>, array: Array) -> Result<Column, StreamFault>
-        requires { IsPlaced body.value.items array }
+        requires placed { IsPlaced body.value.items array }
+        requires words { IsTyped array }
         ensures reading { Judges (λ c. c.cells) result (column_of body.value.items array) }
         ensures typed { IfOk result (λ c. c.layouts ≡ layout_of array) }
     {

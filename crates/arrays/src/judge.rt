@@ -1,4 +1,4 @@
-//! Judging cells: a slot's own faults and those of all slots that it reaches, 25 NotUtf8 and 27 DecimalRange.
+//! Judging cells: a slot's own faults and those of all slots that it reaches, 25 NotUtf8, 26 DictionaryIndex and 27 DecimalRange.
 
 ghost use Rattle.std.specs.Prelude.{◌≡◌, ◌+◌, ◌-◌, ◌<◌, ◌≤◌, length, get_or};
 ghost use Rattle.values.specs.Reading.{Passes, each};
@@ -7,10 +7,11 @@ ghost use Rattle.values.specs.declared.layout.Layout.TheVariants.{List as Listed
 ghost use Rattle.array_layout.specs.Placing.{bytes_of};
 ghost use Rattle.array_layout.specs.Buffers.{offset_at};
 ghost use Rattle.array_layout.specs.Sound.{IsSound, AreSound, AreLong};
-ghost use Rattle.array_layout.specs.Cells.{cell, first_cell, row, len_of};
+ghost use Rattle.array_layout.specs.Cells.{cell, first_cell, row, len_of, value_by};
 
 use crate::calm::is_calm;
 use crate::slots::{bytes_slot, is_null_slot, judge_decimal, judge_text};
+use crate::words::judge_word;
 use array_layout::{Array, Part, buffer, decimal, offset};
 use values::{Layout, OffsetWidth, StreamFault};
 
@@ -45,6 +46,20 @@ fn judge_slot(body: &[u8], part: &Part, children: &[Array], i: usize) -> Result<
     if is_null_slot(body, part, i) {
         return Ok(());
     }
+    match &part.words {
+        Some(words) => judge_word(body, part, words, i),
+        None => judge_value(body, part, children, i),
+    }
+}
+
+/// Judges a slot that isn't null, of an array without a dictionary.
+#[cycle(judge)]
+#[tactic(auto, using(crate::proofs::Judging::value_laws))]
+fn judge_value(body: &[u8], part: &Part, children: &[Array], i: usize) -> Result<(), StreamFault>
+    requires sound { IsSound body.now (node part.now (kids_of children.now)) }
+    requires below { i < part.now.len }
+    ensures { Passes result (value_by part.now.layout body.now part.now (λ j. first_cell body.now (kids_of children.now) j) (λ j. row body.now (kids_of children.now) j) i) }
+{
     match part.layout {
         Layout::Bits | Layout::Number { .. } | Layout::Fixed { .. } | Layout::Bytes { .. } => Ok(
             (),

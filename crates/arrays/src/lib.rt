@@ -12,6 +12,7 @@ mod slots;
 #[cfg(test)]
 mod tests;
 mod weigh;
+mod words;
 
 pub use column::Column;
 pub use laws::{reached_law, weight_law};

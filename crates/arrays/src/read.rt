@@ -10,6 +10,7 @@ ghost use Rattle.array_layout.specs.Cells.{cell, first_cell, row, value_by, item
 
 use crate::judge::items_array;
 use crate::slots::{bytes_slot, is_null_slot, text_from};
+use crate::words::copy_word;
 use array_layout::{Array, Part, bit, buffer, decimal, fixed, number, offset};
 use std::alloc::{AllocError, Global};
 use values::{Kind, Layout, OffsetWidth, Value};
@@ -40,13 +41,15 @@ fn read_slot(
     ensures { IfOk result (λ v. cell body.now (node part.now (kids_of children.now)) i ≡ Ok v) }
 {
     if is_null_slot(body, part, i) {
-        Ok(Value { kind: Kind::Null })
-    } else {
-        read_value(alloc, body, part, children, i)
+        return Ok(Value { kind: Kind::Null });
+    }
+    match &part.words {
+        Some(words) => copy_word(alloc, body, part, words, i),
+        None => read_value(alloc, body, part, children, i),
     }
 }
 
-/// The value of a slot that isn't null.
+/// The value of a slot that isn't null, of an array without a dictionary.
 #[cycle(read)]
 #[tactic(auto, using(crate::proofs::Copying::value_laws))]
 fn read_value(

@@ -1,15 +1,19 @@
 //! Columns over bytes that were written by hand.
 
-ghost use Rattle.values.specs.Rose.{none};
-ghost use Rattle.values.specs.Layouts.{IsNode};
+ghost use Rattle.std.specs.Prelude.{All, IfOk};
+ghost use Rattle.values.specs.Rose.{node, none};
+ghost use Rattle.values.specs.declared.layout.OffsetWidth.TheVariants as offset;
+ghost use Rattle.values.specs.declared.layout.Layout.TheVariants.{Bytes};
+ghost use Rattle.values.specs.Layouts.{IsNode, Holds};
 
 use crate::Column;
-use array_layout::{Array, Part, Span};
+use array_layout::{Array, Part, Span, Words};
+use dictionaries::{Dictionary, Dicts};
 use std::alloc::{AllocError, Global};
 use std::rc::Rc;
 use std::test::Fail;
 use values::limits::{MAX_CELL_WEIGHT, MAX_NODE_LENGTH};
-use values::{IntWidth, Kind, Layout, OffsetWidth, Value};
+use values::{IntWidth, Kind, Layout, OffsetWidth, StreamFault, Value};
 
 const NOWHERE: Span = Span { from: 0, len: 0 };
 
@@ -64,6 +68,7 @@ fn the_ninth_bit_is_null(rt: HostRuntime) -> Result<(), Fail> {
     let body = Rc::new(alloc, vec![in alloc; 0xFF, 0xFE, 0x55, 0xFF]?)?;
     let part = Part {
         layout: Layout::Bits,
+        words: None,
         len: 9,
         nulls: 1,
         validity: Span { from: 0, len: 2 },
@@ -98,6 +103,7 @@ fn a_text_under_a_null_is_not_reached(rt: HostRuntime) -> Result<(), Fail> {
             width: IntWidth::Bits8,
             signed: true,
         },
+        words: None,
         len: 2,
         nulls: 0,
         validity: NOWHERE,
@@ -108,6 +114,7 @@ fn a_text_under_a_null_is_not_reached(rt: HostRuntime) -> Result<(), Fail> {
         layout: Layout::Text {
             offsets: OffsetWidth::Bits32,
         },
+        words: None,
         len: 2,
         nulls: 0,
         validity: NOWHERE,
@@ -116,6 +123,7 @@ fn a_text_under_a_null_is_not_reached(rt: HostRuntime) -> Result<(), Fail> {
     };
     let part = Part {
         layout: Layout::Struct,
+        words: None,
         len: 2,
         nulls: 1,
         validity: Span { from: 0, len: 1 },
@@ -149,6 +157,7 @@ fn list_of(alloc: Global, layout: Layout) -> Result<Column, Fail>
     let body = Rc::new(alloc, vec![in alloc; 0, 0, 0, 0, 0xFF, 0xFF, 0xFF, 0x7F]?)?;
     let items = Part {
         layout,
+        words: None,
         len: MAX_NODE_LENGTH,
         nulls: 0,
         validity: NOWHERE,
@@ -159,6 +168,7 @@ fn list_of(alloc: Global, layout: Layout) -> Result<Column, Fail>
         layout: Layout::List {
             offsets: OffsetWidth::Bits32,
         },
+        words: None,
         len: 1,
         nulls: 0,
         validity: NOWHERE,
@@ -183,5 +193,101 @@ fn items_without_bytes_are_weighed_at_once(rt: HostRuntime) -> Result<(), Fail> 
     assert!(rt; weight_at(&empty, 0) > MAX_CELL_WEIGHT);
     let bare = list_of(alloc, Layout::Struct)?;
     assert!(rt; weight_at(&bare, 0) > MAX_CELL_WEIGHT);
+    Ok(())
+}
+
+fn bytes_value(alloc: Global, bytes: &[u8]) -> Result<Value, AllocError>
+    ensures { IfOk result (λ v. Holds (node (Bytes offset.Bits32) none) v) }
+{
+    Ok(Value {
+        kind: Kind::Bytes(Vec::from_slice(alloc, bytes)?),
+    })
+}
+
+/// A dictionary of the values 1 and 2, 3.
+fn dictionary(alloc: Global) -> Result<Dictionary, Fail>
+    ensures { IfOk result (λ d. All (Holds (node (Bytes offset.Bits32) none)) d) }
+{
+    let short = bytes_value(alloc, &[1])?;
+    let long = bytes_value(alloc, &[2, 3])?;
+    let mut dictionaries = Dicts::new(alloc);
+    dictionaries.apply(7, false, vec![in alloc; short, long]?)?;
+    let dictionary = dictionaries.lookup(7).ok_or("none")?;
+    Ok(dictionary.share()?)
+}
+
+/// Two indices of eight bits into the dictionary, and which of the slots are valid.
+fn coded(
+    alloc: Global,
+    valid: u8,
+    nulls: i64,
+    first: u8,
+    second: u8,
+) -> Result<Result<Column, StreamFault>, Fail> {
+    let body = Rc::new(alloc, vec![in alloc; valid, first, second]?)?;
+    let words = Words {
+        layout: Layout::Bytes {
+            offsets: OffsetWidth::Bits32,
+        },
+        values: dictionary(alloc)?,
+    };
+    let part = Part {
+        layout: Layout::Number {
+            width: IntWidth::Bits8,
+            signed: true,
+        },
+        words: Some(words),
+        len: 2,
+        nulls,
+        validity: Span { from: 0, len: 1 },
+        offsets: NOWHERE,
+        values: Span { from: 1, len: 2 },
+    };
+    let root = Array {
+        part,
+        children: Vec::new(alloc),
+    };
+    Ok(Column::check(body, root))
+}
+
+fn has_bytes(column: &Column, alloc: Global, i: usize, wanted: &[u8]) -> Result<bool, AllocError> {
+    match cell_at(column, alloc, i)? {
+        Some(value) => match &value.kind {
+            Kind::Bytes(bytes) => Ok(bytes.as_slice() == wanted),
+            _ => Ok(false),
+        },
+        None => Ok(false),
+    }
+}
+
+#[test]
+fn an_index_stands_for_its_value(rt: HostRuntime) -> Result<(), Fail> {
+    let alloc = rt.alloc();
+    let column = coded(alloc, 3, 0, 1, 0)??;
+    assert_eq!(rt; column.len(), 2);
+    assert!(rt; has_bytes(&column, alloc, 0, &[2, 3])?);
+    assert!(rt; has_bytes(&column, alloc, 1, &[1])?);
+    assert_eq!(rt; weight_at(&column, 0), 7);
+    assert_eq!(rt; weight_at(&column, 1), 6);
+    Ok(())
+}
+
+#[test]
+fn an_index_without_a_value_is_refused(rt: HostRuntime) -> Result<(), Fail> {
+    let alloc = rt.alloc();
+    let negative = coded(alloc, 3, 0, 0xFF, 0)?;
+    assert!(rt; matches!(negative, Err(StreamFault::DictionaryIndex)));
+    let above = coded(alloc, 3, 0, 0, 2)?;
+    assert!(rt; matches!(above, Err(StreamFault::DictionaryIndex)));
+    Ok(())
+}
+
+#[test]
+fn the_index_of_a_null_is_not_read(rt: HostRuntime) -> Result<(), Fail> {
+    let alloc = rt.alloc();
+    let column = coded(alloc, 2, 1, 0xFF, 0)??;
+    assert!(rt; has_null(&column, alloc, 0)?);
+    assert!(rt; has_bytes(&column, alloc, 1, &[1])?);
+    assert_eq!(rt; weight_at(&column, 0), 5);
     Ok(())
 }

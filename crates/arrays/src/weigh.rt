@@ -1,20 +1,22 @@
 //! The weight of a cell, which is not copied for it.
 
-ghost use Rattle.std.specs.Prelude.{◌≡◌, ◌+◌, ◌-◌, ◌<◌, ◌≤◌, ◌^◌};
-ghost use Rattle.values.specs.Rose.{node, kids_of};
+ghost use Rattle.std.specs.Prelude.{◌≡◌, ◌+◌, ◌-◌, ◌<◌, ◌≤◌, ◌^◌, length};
+ghost use Rattle.values.specs.Rose.{node, none, kids_of};
 ghost use Rattle.values.specs.declared.layout.Layout.TheVariants.{List as Listed, Struct};
-ghost use Rattle.values.specs.Layouts.{slot, slots};
-ghost use Rattle.array_layout.specs.Placing.{bytes_of, layout_of, layouts_of};
+ghost use Rattle.values.specs.Layouts.{slot, slots, weight};
+ghost use Rattle.array_layout.specs.Placing.{bytes_of, layout_by, layout_of, layouts_of};
 ghost use Rattle.array_layout.specs.Sound.{LiesIn, AreFit, IsSound, AreSound, AreLong};
 ghost use Rattle.array_layout.specs.Buffers.{offset_at};
-ghost use Rattle.array_layout.specs.Cells.{len_of};
-ghost use Rattle.arrays.specs.Weights.{capped, extent, first_weight, sum_from, weight_at, weight_beside};
+ghost use Rattle.array_layout.specs.Cells.{coded_by, len_of};
+ghost use Rattle.arrays.specs.Coded.{HasIndex, blob_in, text_in};
+ghost use Rattle.arrays.specs.Weights.{capped, extent, first_weight, sum_from, weight_at, weight_beside, weight_by, word_weight};
 
 use crate::judge::items_array;
 use crate::slots::{bytes_slot, is_null_slot};
-use array_layout::{Array, Part, buffer, number_width, offset};
+use crate::words::find_word;
+use array_layout::{Array, Part, Words, buffer, number_width, offset};
 use values::limits::MAX_CELL_WEIGHT;
-use values::{Layout, OffsetWidth};
+use values::{Kind, Layout, OffsetWidth, Value};
 
 /// Above what a cell may weigh, so that more need not be told.
 const TOO_HEAVY: u64 = MAX_CELL_WEIGHT + 1;
@@ -31,13 +33,23 @@ fn cap(weight: u64) -> u64
     }
 }
 
+/// How the values of the slots lie.
+fn value_layout(part: &Part) -> Layout
+    ensures { result ≡ layout_by part.now.words part.now.layout }
+{
+    match &part.words {
+        Some(words) => words.layout,
+        None => part.layout,
+    }
+}
+
 /// The weight of a null.
 #[cycle(slot)]
 fn slot(array: &Array) -> u64
     ensures value { result ≡ capped (slot (layout_of array.now)) }
     ensures bound { result ≤ 2 ^ 20 + 1 }
 {
-    slot_of(array.part.layout, &array.children)
+    slot_of(value_layout(&array.part), &array.children)
 }
 
 #[cycle(slot)]
@@ -68,6 +80,58 @@ fn slots(children: &[Array]) -> u64
     sum
 }
 
+fn text_len(value: &Value) -> usize
+    ensures value { result ≡ length (text_in value.now) }
+    ensures bound { result < 2 ^ 63 }
+{
+    match &value.kind {
+        Kind::Text(text) => text.len(),
+        _ => 0,
+    }
+}
+
+fn blob_len(value: &Value) -> usize
+    ensures value { result ≡ length (blob_in value.now) }
+    ensures bound { result < 2 ^ 63 }
+{
+    match &value.kind {
+        Kind::Bytes(bytes) => bytes.len(),
+        _ => 0,
+    }
+}
+
+/// The weight of a dictionary's value.
+#[tactic(auto, using(crate::proofs::Coding::datum_laws))]
+fn weigh_datum(layout: Layout, value: &Value) -> u64
+    ensures value { result ≡ capped (weight (node layout none) value.now) }
+    ensures bound { result ≤ 2 ^ 20 + 1 }
+{
+    match layout {
+        Layout::Text { .. } => cap(5 + text_len(value) as u64),
+        Layout::Bytes { .. } => cap(5 + blob_len(value) as u64),
+        Layout::Bits
+        | Layout::Number { .. }
+        | Layout::Decimal { .. }
+        | Layout::Fixed { .. }
+        | Layout::List { .. }
+        | Layout::Struct => slot_of(layout, &[]),
+    }
+}
+
+/// A slot that stands for a value of a dictionary.
+#[tactic(auto, using(crate::proofs::Coding::weight_laws))]
+fn weigh_word(body: &[u8], part: &Part, words: &Words, i: usize) -> u64
+    requires lies { LiesIn body.now part.now.values }
+    requires room { HasIndex part.now.layout part.now i }
+    ensures value { result ≡ capped (word_weight words.now.layout (coded_by part.now.layout words.now.values (bytes_of body.now part.now.values) i)) }
+    ensures bound { result ≤ 2 ^ 20 + 1 }
+{
+    match find_word(body, part, words, i) {
+        Some(value) => weigh_datum(words.layout, value),
+        None => slot_of(words.layout, &[]),
+    }
+}
+
 /// The weight of the cell of slot `i`.
 #[cycle(weigh)]
 pub(crate) fn weigh(body: &[u8], array: &Array, i: usize) -> u64
@@ -88,8 +152,23 @@ fn weigh_slot(body: &[u8], part: &Part, children: &[Array], i: usize) -> u64
     ensures bound { result ≤ 2 ^ 20 + 1 }
 {
     if is_null_slot(body, part, i) {
-        return slot_of(part.layout, children);
+        return slot_of(value_layout(part), children);
     }
+    match &part.words {
+        Some(words) => weigh_word(body, part, words, i),
+        None => weigh_value(body, part, children, i),
+    }
+}
+
+/// A slot that isn't null, of an array without a dictionary.
+#[cycle(weigh)]
+#[tactic(auto, using(crate::proofs::Weighing::value_laws))]
+fn weigh_value(body: &[u8], part: &Part, children: &[Array], i: usize) -> u64
+    requires sound { IsSound body.now (node part.now (kids_of children.now)) }
+    requires below { i < part.now.len }
+    ensures value { result ≡ capped (weight_by part.now.layout body.now part.now (slot (node part.now.layout (layouts_of (kids_of children.now)))) (λ j. first_weight body.now (kids_of children.now) j) (λ j. weight_beside body.now (kids_of children.now) j) i) }
+    ensures bound { result ≤ 2 ^ 20 + 1 }
+{
     match part.layout {
         Layout::Bits | Layout::Number { .. } | Layout::Decimal { .. } | Layout::Fixed { .. } =>
             slot_of(part.layout, children),

@@ -4,19 +4,22 @@ use Rattle.arrays.specs.Weights.{capped, sum_from, weight_at, weight_beside}
 use Rattle.arrays.proofs.weigh.+weigh.Given as goal
 
 abbrev pub decreases-weigh : goal.decreases-weigh
-decreases-weigh l = 4 * rose_size l.array.now + 1
+decreases-weigh l = 5 * rose_size l.array.now + 1
 
 abbrev pub decreases-weigh_slot : goal.decreases-weigh_slot
-decreases-weigh_slot l = 4 * suc (roses_size (kids_of l.children.now))
+decreases-weigh_slot l = 5 * suc (roses_size (kids_of l.children.now))
+
+abbrev pub decreases-weigh_value : goal.decreases-weigh_value
+decreases-weigh_value l = 5 * roses_size (kids_of l.children.now) + 4
 
 abbrev pub decreases-weigh_list : goal.decreases-weigh_list
-decreases-weigh_list l = 4 * roses_size (kids_of l.children.now) + 3
+decreases-weigh_list l = 5 * roses_size (kids_of l.children.now) + 3
 
 abbrev pub decreases-weigh_items : goal.decreases-weigh_items
-decreases-weigh_items l = 4 * rose_size l.array.now + 2
+decreases-weigh_items l = 5 * rose_size l.array.now + 2
 
 abbrev pub decreases-weigh_row : goal.decreases-weigh_row
-decreases-weigh_row l = 4 * roses_size (kids_of l.children.now) + 3
+decreases-weigh_row l = 5 * roses_size (kids_of l.children.now) + 3
 
 abbrev pub invariant-weigh_items-loop-i : goal.invariant-weigh_items-loop-i
 invariant-weigh_items-loop-i l =

@@ -1,0 +1,212 @@
+-- What slots that stand for values of a dictionary read as.
+use Rattle.std.proofs.Common.{◌≡◌, ℕ, ℤ, pos, negsuc, List, ◌+◌, ◌*◌, ◌<◌, ◌≤◌, ◌<ℤ◌, ◌≤ℤ◌, length, All, refl, ap, sym, subst, ◌∙◌, arith}
+use Rattle.std.specs.Prelude.{Option, None, Some, Ok, Err, Bool, slice_get}
+use Rattle.std.proofs.lemmas.Option.{slice_get_past, slice_get_within, get_or_from_slice_get}
+use Rattle.std.proofs.lemmas.List.Elements.{All-get_or}
+use Rattle.std.proofs.Math.Nat.{mul-le-mul_left}
+use Rattle.values.specs.declared.faults.StreamFault.TheVariants as fault
+use Rattle.values.specs.Reading.{Reading, one, must, Stands, IsGood}
+use Rattle.values.proofs.Readings.{must_Ok}
+use Rattle.values.specs.Rose.{node, Roses, none, more}
+use Rattle.values.specs.Datum.{Datum, null, truth, whole, text, bytes, list, structure}
+use Rattle.values.specs.declared.layout.IntWidth.{IntWidth}
+use Rattle.values.specs.declared.layout.OffsetWidth.{OffsetWidth}
+use Rattle.values.specs.declared.layout.Layout.{Layout}
+use Rattle.values.specs.declared.layout.Layout.TheVariants.{Bits, Number, Decimal, Fixed, Text, Bytes, List as Listed, Struct}
+use Rattle.values.specs.Layouts.{bytes_in, IsNode, Holds, slot, weight}
+use Rattle.array_layout.specs.declared.array.Words.{Words}
+use Rattle.array_layout.specs.declared.array.Part.{Part}
+use Rattle.array_layout.specs.Buffers.{number_at}
+use Rattle.array_layout.specs.Sound.{first_len, HasRoom, IsSound}
+use Rattle.array_layout.specs.Cells.{coded_by, indexed}
+use Rattle.arrays.specs.Coded.{HasIndex, text_in, blob_in}
+use Rattle.arrays.specs.Weights.{capped, word_weight}
+
+-- an index and its value
+pub index_negative : (ds : List Datum) (z : ℤ) → z <ℤ pos 0 → Err (one fault.DictionaryIndex) ≡ indexed ds z
+index_negative ds (pos n) h = absurd (grind arith)
+index_negative ds (negsuc n) h = refl
+
+pub index_past : (ds : List Datum) (z : ℤ) → pos (length ds) ≤ℤ z → Err (one fault.DictionaryIndex) ≡ indexed ds z
+index_past ds (pos n) h = ap (must fault.DictionaryIndex) (sym (slice_get_past ds n (grind arith)))
+index_past ds (negsuc n) h = absurd (grind arith)
+
+pub index_here :
+    (ds : List Datum) (z : ℤ) (n : ℕ) (o : Option Datum) → pos n ≡ z → o ≡ slice_get ds n → must fault.DictionaryIndex o ≡ indexed ds z
+index_here ds z n o is found =
+    let P : ℤ → Type 0 = λ x. must fault.DictionaryIndex o ≡ indexed ds x in subst P is (ap (must fault.DictionaryIndex) found)
+
+pub ruleset index_laws = (index_negative, index_past, index_here)
+
+-- the index of a slot
+pub number_here : (p : Part) (w : IntWidth) (s : Bool) (i : ℕ) → HasIndex p.layout p i → p.layout ≡ Number w s → bytes_in w * (i + 1) ≤ p.values.len
+number_here p w s i room is = let P : Layout → Type 0 = λ l. HasIndex l p i in subst P is room
+
+pub coded_number :
+    (l : Layout) (ds : List Datum) (indices : List ℕ) (i : ℕ) (w : IntWidth) (s : Bool) (z : ℤ) (m : Reading Datum) → l ≡ Number w s
+    → z ≡ number_at s (bytes_in w) indices i → m ≡ indexed ds z → m ≡ coded_by l ds indices i
+coded_number l ds indices i w s z m is same read =
+    let P : Layout → Type 0 = λ k. m ≡ coded_by k ds indices i in
+    let Q : ℤ → Type 0 = λ x. m ≡ indexed ds x in
+    subst P (sym is) (subst Q same read)
+
+pub ruleset word_laws = (number_here, coded_number)
+
+-- a slot has its value where the reading is good
+pub word_good : (o : Option Datum) (m : Reading Datum) (d : Datum) → must fault.DictionaryIndex o ≡ m → o ≡ Some d → IsGood m
+word_good o m d is some =
+    let P : Option Datum → Type 0 = λ x. must fault.DictionaryIndex x ≡ m in
+    let read : Ok d ≡ m = subst P some is in
+    subst IsGood read tt
+
+pub word_missing : (o : Option Datum) (m : Reading Datum) → must fault.DictionaryIndex o ≡ m → o ≡ None → Stands m fault.DictionaryIndex
+word_missing o m is missing =
+    let P : Option Datum → Type 0 = λ x. must fault.DictionaryIndex x ≡ m in
+    let read : Err (one fault.DictionaryIndex) ≡ m = subst P missing is in
+    let Q : Reading Datum → Type 0 = λ x. Stands x fault.DictionaryIndex in
+    subst Q read refl
+
+pub ruleset judge_laws = (word_good, word_missing)
+
+-- where there is an index for each slot
+room_by_layout :
+    (l : Layout) (b : List ℕ) (p : Part) (n i : ℕ) → HasRoom l b p n → i < p.len → HasIndex l p i
+room_by_layout Bits b p n i room below = tt
+room_by_layout (Number w s) b p n i room below =
+    let less : i + 1 ≤ p.len = omega (arith, below) in
+    let most : bytes_in w * (i + 1) ≤ bytes_in w * p.len = mul-le-mul_left (bytes_in w) less in
+    omega (arith, room, most)
+room_by_layout (Decimal d) b p n i room below = tt
+room_by_layout (Fixed w) b p n i room below = tt
+room_by_layout (Text o) b p n i room below = tt
+room_by_layout (Bytes o) b p n i room below = tt
+room_by_layout (Listed o) b p n i room below = tt
+room_by_layout Struct b p n i room below = tt
+
+pub index_room : (b : List ℕ) (p : Part) (kids : Roses Part) (i : ℕ) → IsSound b (node p kids) → i < p.len → HasIndex p.layout p i
+index_room b p kids i sound below = room_by_layout p.layout b p (first_len kids) i sound.0.room below
+
+-- an array of indices has no children
+indexed_Ok : (ds : List Datum) (z : ℤ) (d : Datum) → indexed ds z ≡ Ok d → (n : ℕ) × (slice_get ds n ≡ Some d)
+indexed_Ok ds (pos n) d read = (n, must_Ok fault.DictionaryIndex (slice_get ds n) d read)
+indexed_Ok ds (negsuc n) d read = cc
+
+pub coded_leaf :
+    (l : Layout) (ds : List Datum) (indices : List ℕ) (i : ℕ) (d : Datum) (kids : Roses Layout) → coded_by l ds indices i ≡ Ok d → IsNode l kids
+    → (kids ≡ none) × ((n : ℕ) × (slice_get ds n ≡ Some d))
+coded_leaf Bits ds indices i d kids read is = cc
+coded_leaf (Number w s) ds indices i d none read is = (refl, indexed_Ok ds (number_at s (bytes_in w) indices i) d read)
+coded_leaf (Number w s) ds indices i d (more t ts) read is = absurd is
+coded_leaf (Decimal p) ds indices i d kids read is = cc
+coded_leaf (Fixed w) ds indices i d kids read is = cc
+coded_leaf (Text o) ds indices i d kids read is = cc
+coded_leaf (Bytes o) ds indices i d kids read is = cc
+coded_leaf (Listed o) ds indices i d kids read is = cc
+coded_leaf Struct ds indices i d kids read is = cc
+
+all_get : (P : Datum → Type 0) (ds : List Datum) (n : ℕ) (d : Datum) → All P ds → slice_get ds n ≡ Some d → P d
+all_get P ds n d all found =
+    subst P (get_or_from_slice_get ds n d d found) (All-get_or P ds n d (slice_get_within ds n d found) all)
+
+pub coded_holds :
+    (l : Layout) (w : Words) (indices : List ℕ) (i : ℕ) (d : Datum) (kids : Roses Layout) → coded_by l w.values indices i ≡ Ok d → IsNode l kids
+    → All (Holds (node w.layout none)) w.values → Holds (node w.layout kids) d
+coded_holds l w indices i d kids read is held =
+    let facts = coded_leaf l w.values indices i d kids read is in
+    let P : Roses Layout → Type 0 = λ ks. Holds (node w.layout ks) d in
+    subst P (sym facts.0) (all_get (Holds (node w.layout none)) w.values facts.1.0 d held facts.1.1)
+
+pub coded_weighs :
+    (l : Layout) (w : Words) (indices : List ℕ) (i : ℕ) (d : Datum) (kids : Roses Layout) → coded_by l w.values indices i ≡ Ok d → IsNode l kids
+    → word_weight w.layout (coded_by l w.values indices i) ≡ weight (node w.layout kids) d
+coded_weighs l w indices i d kids read is =
+    let facts = coded_leaf l w.values indices i d kids read is in
+    let P : Roses Layout → Type 0 = λ ks. word_weight w.layout (coded_by l w.values indices i) ≡ weight (node w.layout ks) d in
+    subst P (sym facts.0) (ap (word_weight w.layout) read)
+
+-- the weight of a value that has no children
+text_slot : (o : OffsetWidth) (d : Datum) → 5 + length (text_in d) ≡ weight (node (Text o) none) d
+text_slot o null = refl
+text_slot o (truth b) = refl
+text_slot o (whole z) = refl
+text_slot o (text t) = refl
+text_slot o (bytes b) = refl
+text_slot o (list es) = refl
+text_slot o (structure es) = refl
+
+blob_slot : (o : OffsetWidth) (d : Datum) → 5 + length (blob_in d) ≡ weight (node (Bytes o) none) d
+blob_slot o null = refl
+blob_slot o (truth b) = refl
+blob_slot o (whole z) = refl
+blob_slot o (text t) = refl
+blob_slot o (bytes b) = refl
+blob_slot o (list es) = refl
+blob_slot o (structure es) = refl
+
+list_slot : (o : OffsetWidth) (d : Datum) → 5 ≡ weight (node (Listed o) none) d
+list_slot o null = refl
+list_slot o (truth b) = refl
+list_slot o (whole z) = refl
+list_slot o (text t) = refl
+list_slot o (bytes b) = refl
+list_slot o (list es) = refl
+list_slot o (structure es) = refl
+
+struct_slot : (d : Datum) → 1 ≡ weight (node Struct none) d
+struct_slot null = refl
+struct_slot (truth b) = refl
+struct_slot (whole z) = refl
+struct_slot (text t) = refl
+struct_slot (bytes b) = refl
+struct_slot (list es) = refl
+struct_slot (structure es) = refl
+
+pub text_weighs :
+    (l : Layout) (o : OffsetWidth) (d : Datum) (r : ℕ) → l ≡ Text o → r ≡ capped (5 + length (text_in d)) → r ≡ capped (weight (node l none) d)
+text_weighs l o d r is h =
+    let P : Layout → Type 0 = λ k. r ≡ capped (weight (node k none) d) in subst P (sym is) (h ∙ ap capped (text_slot o d))
+
+pub blob_weighs :
+    (l : Layout) (o : OffsetWidth) (d : Datum) (r : ℕ) → l ≡ Bytes o → r ≡ capped (5 + length (blob_in d)) → r ≡ capped (weight (node l none) d)
+blob_weighs l o d r is h =
+    let P : Layout → Type 0 = λ k. r ≡ capped (weight (node k none) d) in subst P (sym is) (h ∙ ap capped (blob_slot o d))
+
+pub list_weighs :
+    (l : Layout) (o : OffsetWidth) (d : Datum) (r : ℕ) → l ≡ Listed o → r ≡ capped (slot (node l none)) → r ≡ capped (weight (node l none) d)
+list_weighs l o d r is h =
+    let P : Layout → Type 0 = λ k. r ≡ capped (slot (node k none)) → r ≡ capped (weight (node k none) d) in
+    subst P (sym is) (λ e. e ∙ ap capped (list_slot o d)) h
+
+pub struct_weighs :
+    (l : Layout) (d : Datum) (r : ℕ) → l ≡ Struct → r ≡ capped (slot (node l none)) → r ≡ capped (weight (node l none) d)
+struct_weighs l d r is h =
+    let P : Layout → Type 0 = λ k. r ≡ capped (slot (node k none)) → r ≡ capped (weight (node k none) d) in
+    subst P (sym is) (λ e. e ∙ ap capped (struct_slot d)) h
+
+pub ruleset datum_laws = (text_weighs, blob_weighs, list_weighs, struct_weighs)
+
+-- the weight of a slot is that of its value, or that of a null where it has none
+pub found_weighs :
+    (l : Layout) (o : Option Datum) (d : Datum) (m : Reading Datum) (r : ℕ) → must fault.DictionaryIndex o ≡ m → o ≡ Some d
+    → r ≡ capped (weight (node l none) d) → r ≡ capped (word_weight l m)
+found_weighs l o d m r is some h =
+    let P : Option Datum → Type 0 = λ x. must fault.DictionaryIndex x ≡ m in
+    let read : Ok d ≡ m = subst P some is in
+    h ∙ ap (λ x. capped (word_weight l x)) read
+
+pub missing_weighs :
+    (l : Layout) (o : Option Datum) (m : Reading Datum) (r : ℕ) → must fault.DictionaryIndex o ≡ m → o ≡ None → r ≡ capped (slot (node l none))
+    → r ≡ capped (word_weight l m)
+missing_weighs l o m r is missing h =
+    let P : Option Datum → Type 0 = λ x. must fault.DictionaryIndex x ≡ m in
+    let read : Err (one fault.DictionaryIndex) ≡ m = subst P missing is in
+    h ∙ ap (λ x. capped (word_weight l x)) read
+
+pub ruleset weight_laws = (found_weighs, missing_weighs)
+
+-- a good slot has a value
+pub word_some : (o : Option Datum) (m : Reading Datum) → must fault.DictionaryIndex o ≡ m → IsGood m → (d : Datum) × (o ≡ Some d) × (m ≡ Ok d)
+word_some None m is good = absurd (subst IsGood (sym is) good)
+word_some (Some d) m is good = (d, refl, sym is)
+
+pub ruleset copy_laws = (word_some)
