@@ -43,6 +43,12 @@ kind_of_type (stored.Fixed w) = kind.Fixed
 kind_of_type (stored.List o) = kind.List o
 kind_of_type stored.Struct = kind.Struct
 
+-- a type without children, which the values of a dictionary may have
+abbrev pub IsSingle : StoredType → Type 0
+IsSingle (stored.List o) = ⊥
+IsSingle stored.Struct = ⊥
+IsSingle s = Unit {0}
+
 -- enum DateUnit: days have 32 bits, milliseconds 64
 abbrev pub width_of_date : DateUnit → IntWidth
 width_of_date date.Day = int.Bits32

@@ -11,6 +11,7 @@ use Rattle.field_types.specs.declared.units.DateUnit.{DateUnit}
 use Rattle.field_types.specs.declared.units.DateUnit.TheVariants as date
 use Rattle.field_types.specs.declared.units.TimeUnit.{TimeUnit}
 use Rattle.field_types.specs.declared.units.TimeUnit.TheVariants as time
+use Rattle.field_types.specs.declared.index.IndexType.{IndexType}
 use Rattle.field_types.specs.declared.kinds.TypeKind.{TypeKind}
 use Rattle.field_types.specs.declared.kinds.TypeKind.TheVariants as kind
 use Rattle.field_types.specs.declared.stored_type.StoredType.{StoredType}
@@ -36,6 +37,13 @@ int_type width signed = stored.Int width signed
 
 unfoldable pub int_of : Table → Reading StoredType
 int_of t = both int_type (width_of t) (bool_of t slot.is_signed)
+
+-- the indices into a dictionary, which are whole numbers too
+abbrev pub index_type : IntWidth → Bool → IndexType
+index_type width signed = record { width = width; signed = signed }
+
+unfoldable pub index_of : Table → Reading IndexType
+index_of t = both index_type (width_of t) (bool_of t slot.is_signed)
 
 -- table Decimal: 1 to 38 digits, none or some or all of them after the point. Only decimals of 128 bits are taken.
 unfoldable pub precision_of : Table → Reading ℕ

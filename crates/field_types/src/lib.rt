@@ -4,6 +4,7 @@
 //! their values lie in memory, `specs/TypeTree.antt` what is written for each, and `specs/Text.antt` how it is printed.
 #![tactic(auto)]
 
+mod index;
 mod kinds;
 mod laws;
 mod named;
@@ -18,6 +19,7 @@ mod units;
 mod write;
 mod zone;
 
+pub use index::{IndexType, read_index_type};
 pub use kinds::{TypeKind, may_have, read_bool, read_kind, unreadable};
 pub use laws::{stored_law, type_law};
 pub use named::{Named, Schema};

@@ -1,0 +1,27 @@
+//! The indices into a dictionary: Schema.fbs, table `Int` in a `DictionaryEncoding`.
+
+ghost use Rattle.values.specs.Reading.{Judges};
+ghost use Rattle.field_types.specs.Types.{index_of};
+
+use crate::kinds::read_bool;
+use crate::parameters::read_width;
+use crate::slots::INT_IS_SIGNED;
+use flatbuf::TableRef;
+use values::{IntWidth, StreamFault};
+
+/// The whole numbers that indices are.
+#[derive(Clone, Copy, Debug, PartialEq, Eq)]
+pub struct IndexType {
+    pub width: IntWidth,
+    pub signed: bool,
+}
+
+/// The indices that a table `Int` says; another width than 8, 16, 32 or 64 bits is `BadType`.
+#[tactic(auto, using(crate::proofs::Faults::faults), unfolding(crate::specs::Types::index_of))]
+pub fn read_index_type(table: &TableRef) -> Result<IndexType, StreamFault>
+    ensures { Judges (λ t. t) result (index_of table.now) }
+{
+    let width = read_width(table)?;
+    let signed = read_bool(table, INT_IS_SIGNED)?;
+    Ok(IndexType { width, signed })
+}
