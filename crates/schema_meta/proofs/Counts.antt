@@ -4,13 +4,13 @@ use Rattle.values.specs.Rose.{Rose, node, Roses, none, more, kids_of, rose_size,
 use Rattle.values.proofs.Roses.{kids_step, kids_end, kid_smaller}
 use Rattle.array_layout.specs.Placing.{spans_in, spans_below}
 use Rattle.schema_meta.specs.Entry.{Entry}
-use Rattle.schema_meta.specs.FieldLayouts.{layout_of, layouts_below}
+use Rattle.schema_meta.specs.FieldLayouts.{slot_layout_of, slot_layouts_below}
 
 mutual
-  pub size_same : (f : Rose Entry) → rose_size (layout_of f) ≡ rose_size f
+  pub size_same : (f : Rose Entry) → rose_size (slot_layout_of f) ≡ rose_size f
   size_same (node e kids) = ap suc (sizes_same kids)
 
-  pub sizes_same : (fs : Roses Entry) → roses_size (layouts_below fs) ≡ roses_size fs
+  pub sizes_same : (fs : Roses Entry) → roses_size (slot_layouts_below fs) ≡ roses_size fs
   sizes_same none = refl
   sizes_same (more f fs) = let here = size_same f in let rest = sizes_same fs in omega (arith, here, rest)
 
@@ -22,24 +22,24 @@ length_le (node e kids ∷ fs) = let rest = length_le fs in omega (arith, rest)
 -- what the next field and those behind it have
 pub nodes_step :
     (fs : List (Rose Entry)) (k : ℕ) (e d : Rose Entry) → e ≡ get_or fs k d → k < length fs
-    → roses_size (layouts_below (kids_of (drop k fs))) ≡ rose_size (layout_of e) + roses_size (layouts_below (kids_of (drop (k + 1) fs)))
-nodes_step fs k e d is below = ap (λ ts. roses_size (layouts_below ts)) (kids_step fs k e d is below)
+    → roses_size (slot_layouts_below (kids_of (drop k fs))) ≡ rose_size (slot_layout_of e) + roses_size (slot_layouts_below (kids_of (drop (k + 1) fs)))
+nodes_step fs k e d is below = ap (λ ts. roses_size (slot_layouts_below ts)) (kids_step fs k e d is below)
 
 pub spans_step :
     (fs : List (Rose Entry)) (k : ℕ) (e d : Rose Entry) → e ≡ get_or fs k d → k < length fs
-    → spans_below (layouts_below (kids_of (drop k fs))) ≡ spans_in (layout_of e) + spans_below (layouts_below (kids_of (drop (k + 1) fs)))
-spans_step fs k e d is below = ap (λ ts. spans_below (layouts_below ts)) (kids_step fs k e d is below)
+    → spans_below (slot_layouts_below (kids_of (drop k fs))) ≡ spans_in (slot_layout_of e) + spans_below (slot_layouts_below (kids_of (drop (k + 1) fs)))
+spans_step fs k e d is below = ap (λ ts. spans_below (slot_layouts_below ts)) (kids_step fs k e d is below)
 
 pub fields_step :
     (fs : List (Rose Entry)) (k : ℕ) (e d : Rose Entry) → e ≡ get_or fs k d → k < length fs
     → roses_size (kids_of (drop k fs)) ≡ rose_size e + roses_size (kids_of (drop (k + 1) fs))
 fields_step fs k e d is below = ap roses_size (kids_step fs k e d is below)
 
-pub nodes_end : (fs : List (Rose Entry)) (k : ℕ) → length fs ≤ k → roses_size (layouts_below (kids_of (drop k fs))) ≡ 0
-nodes_end fs k all = ap (λ ts. roses_size (layouts_below ts)) (kids_end fs k all)
+pub nodes_end : (fs : List (Rose Entry)) (k : ℕ) → length fs ≤ k → roses_size (slot_layouts_below (kids_of (drop k fs))) ≡ 0
+nodes_end fs k all = ap (λ ts. roses_size (slot_layouts_below ts)) (kids_end fs k all)
 
-pub spans_end : (fs : List (Rose Entry)) (k : ℕ) → length fs ≤ k → spans_below (layouts_below (kids_of (drop k fs))) ≡ 0
-spans_end fs k all = ap (λ ts. spans_below (layouts_below ts)) (kids_end fs k all)
+pub spans_end : (fs : List (Rose Entry)) (k : ℕ) → length fs ≤ k → spans_below (slot_layouts_below (kids_of (drop k fs))) ≡ 0
+spans_end fs k all = ap (λ ts. spans_below (slot_layouts_below ts)) (kids_end fs k all)
 
 -- the children of a field are fewer than the fields
 pub kids_fewer :

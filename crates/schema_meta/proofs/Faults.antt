@@ -3,7 +3,7 @@ use Rattle.std.proofs.Common.{◌≡◌, ◌⊎◌, inl, inr, Bool, true, false,
 use Rattle.values.specs.declared.faults.StreamFault.{StreamFault}
 use Rattle.values.specs.Reading.{Reading, ◌>>=◌, Stands}
 use Rattle.values.proofs.Readings.{both_left, both_right}
-use Rattle.field_types.specs.Reads.{readable, needs}
+use Rattle.field_types.specs.Reads.{readable, needs, checked}
 
 pub bind_left : {X Y : Type 0} (m : Reading X) (f : X → Reading Y) (c : StreamFault) → Stands m c → Stands (m >>= f) c
 bind_left (Ok x) f c h = absurd h
@@ -26,6 +26,22 @@ needs_found d false c h = (refl, h)
 pub needs_stands : (d : StreamFault) (b : Bool) (c : StreamFault) → b ≡ false → d ≡ c → Stands (needs d b) c
 needs_stands d true c e h = absurd (cc)
 needs_stands d false c e h = h
+
+pub needed : (c : StreamFault) (b : Bool) (u : Unit {0}) → needs c b ≡ Ok u → b ≡ true
+needed c true u e = refl
+needed c false u e = absurd (cc)
+
+pub passed : {X : Type 0} (c : StreamFault) (b : Bool) (x y : X) → checked c b x ≡ Ok y → (b ≡ true) × (x ≡ y)
+passed c true x y e = (refl, cc)
+passed c false x y e = absurd (cc)
+
+pub checked_found : {X : Type 0} (d : StreamFault) (b : Bool) (x : X) (c : StreamFault) → Stands (checked d b x) c → (b ≡ false) × (d ≡ c)
+checked_found d true x c h = absurd h
+checked_found d false x c h = (refl, h)
+
+pub checked_stands : {X : Type 0} (d : StreamFault) (b : Bool) (x : X) (c : StreamFault) → b ≡ false → d ≡ c → Stands (checked d b x) c
+checked_stands d true x c e h = absurd (cc)
+checked_stands d false x c e h = h
 
 pub readable_found : {X : Type 0} (o : Option X) (x : X) → readable o ≡ Ok x → o ≡ Some x
 readable_found None x e = absurd (cc)

@@ -3,20 +3,26 @@ use Rattle.std.proofs.Common.{◌≡◌, ℕ, zero, suc, ◌+◌, ◌≤◌, Boo
 use Rattle.std.specs.Prelude.{nat_le, ◌==◌, ◌&&◌, if◌then◌else◌}
 use Rattle.std.proofs.lemmas.Bool.{and_parts, leb-true}
 use Rattle.std.proofs.lemmas.Bool.Decides.{nat_tests}
-use Rattle.flatbuf.specs.Layout.{Table, Vector, text_of, vector_of, entry_of}
-use Rattle.values.specs.Reading.{Reading, ◌>>=◌, both, first, second, each, one, cons}
-use Rattle.values.specs.declared.faults.StreamFault.{StreamFault}
+use Rattle.flatbuf.specs.Layout.{Table, Vector, text_of, subtable_of, vector_of, entry_of}
+use Rattle.values.specs.Reading.{Reading, ◌>>=◌, both, second, mapped, each, one, cons}
 use Rattle.values.specs.declared.faults.StreamFault.TheVariants as fault
-use Rattle.values.specs.Rose.{Rose, node, kids_of, rose_size, roses_size}
+use Rattle.values.specs.Rose.{Rose, node, Roses, none, more, kids_of, rose_size, roses_size}
 use Rattle.values.specs.Layouts.{IsNode, IsLayout, AreLayouts}
-use Rattle.values.proofs.Readings.{both_Ok, bind_Ok, must_Ok}
+use Rattle.values.specs.declared.layout.IntWidth.{IntWidth}
+use Rattle.values.specs.declared.layout.Layout.{Layout}
+use Rattle.values.specs.declared.layout.Layout.TheVariants.{Number}
+use Rattle.values.proofs.Readings.{both_Ok, bind_Ok, mapped_Ok, must_Ok}
 use Rattle.schema_meta.specs.Entry.{Entry}
-use Rattle.field_types.specs.Stored.{kind_of_type, layout_of as layout_by}
+use Rattle.field_types.specs.Stored.{IsSingle, kind_of_type, layout_of as layout_by}
+use Rattle.field_types.specs.declared.stored_type.StoredType.TheVariants as stored
 use Rattle.field_types.specs.StoredLaws.{kids_count}
 use Rattle.field_types.proofs.TypeFacts.{read-is-type}
 use Rattle.field_types.proofs.Children.{children-fit}
-use Rattle.schema_meta.specs.FieldLayouts.{layout_of, layouts_of, are_slim}
-use Rattle.schema_meta.specs.FieldsLaw.{AreFields, FieldsLaw, IsGoodField, AreGoodFields}
+use Rattle.schema_meta.specs.FieldLayouts.{layout_of, layouts_of, slot_layout, slot_layout_of, slot_layouts_of, are_slim}
+use Rattle.schema_meta.specs.declared.coding.Coding.{Coding}
+use Rattle.schema_meta.specs.Dictionaries.{is_clear}
+use Rattle.schema_meta.specs.Encoding.{coding_of, coded_by, encoding_of, may_be_coded}
+use Rattle.schema_meta.specs.FieldsLaw.{AreFields, FieldsLaw, IsCoded, IsGoodField, AreGoodFields}
 use Rattle.std.specs.Str.{is_utf8}
 use Rattle.std.proofs.lemmas.Str.{is_utf8-from_IsUtf8, IsUtf8-from_ascii}
 use Rattle.schema_meta.specs.Slots as slot
@@ -25,9 +31,10 @@ use Rattle.field_types.specs.declared.stored_type.StoredType.{StoredType}
 use Rattle.field_types.specs.Reads.{readable, needs, checked, bool_of}
 use Rattle.field_types.specs.Kinds.{kind_of, may_have}
 use Rattle.field_types.specs.Types.{type_of}
-use Rattle.schema_meta.specs.Fields.{Label, label, label_of, name_in, name_of, Content, content, content_of, field, field_of, children_of, count_in, fields_in, entry_by, child_at, forest, plain_of}
+use Rattle.schema_meta.specs.Fields.{Label, label, label_of, name_in, name_of, Storage, storage, Content, content, content_of, field, field_of, children_of, count_in, fields_in, entry_by, child_at, forest}
 use Rattle.schema_meta.specs.Totals.{sum_from, total, total_at, total_in}
-use Rattle.schema_meta.specs.Schema.{columns_of, endianness_of, schema_of, slim}
+use Rattle.schema_meta.specs.Schema.{columns_of, endianness_of, schema_of, judged}
+use Rattle.schema_meta.proofs.Faults.{needed, passed}
 
 -- the children that a kind may have are those that the layouts of its types want
 
@@ -35,34 +42,88 @@ kids_of_all : (kids : List (Rose Entry)) → kids_count (layouts_of kids) ≡ le
 kids_of_all [] = refl
 kids_of_all (node e below ∷ kids) = ap suc (kids_of_all kids)
 
+slots_of_all : (kids : List (Rose Entry)) → kids_count (slot_layouts_of kids) ≡ length kids
+slots_of_all [] = refl
+slots_of_all (node e below ∷ kids) = ap suc (slots_of_all kids)
+
 fit_node :
-    (k : TypeKind) (t : Table) (s : StoredType) (kids : List (Rose Entry)) → type_of k t ≡ Ok s → may_have k (length kids) ≡ true
-    → IsNode (layout_by s) (layouts_of kids)
+    (k : TypeKind) (t : Table) (s : StoredType) (kids : Roses Layout) → type_of k t ≡ Ok s → may_have k (kids_count kids) ≡ true
+    → IsNode (layout_by s) kids
 fit_node k t s kids read may =
     let is = read-is-type k t s read in
-    let P : TypeKind → Type 0 = λ j. may_have j (length kids) ≡ true in
-    let Q : ℕ → Type 0 = λ n. may_have (kind_of_type s) n ≡ true in
-    (children-fit s is.0 (layouts_of kids)).1 (subst Q (sym (kids_of_all kids)) (subst P (sym is.1) may))
+    let P : TypeKind → Type 0 = λ j. may_have j (kids_count kids) ≡ true in
+    (children-fit s is.0 kids).1 (subst P (sym is.1) may)
 
--- what is known of the fields of a vector that `below` reads
-pub record Known (count : Vector → ℕ) (v : Vector) (fs : List (Rose Entry)) : Type 0 where
-  pub long : length fs ≡ v.count
-  pub size : roses_size (kids_of fs) ≡ count v
+-- lists and structs have no dictionary
+single : (s : StoredType) → may_be_coded (kind_of_type s) ≡ true → IsSingle s
+single stored.Bool e = tt
+single (stored.Int w s) e = tt
+single (stored.Decimal p s) e = tt
+single (stored.Date u) e = tt
+single (stored.Time u) e = tt
+single (stored.Timestamp u z) e = tt
+single (stored.Duration u) e = tt
+single (stored.Utf8 o) e = tt
+single (stored.Binary o) e = tt
+single (stored.Fixed w) e = tt
+single (stored.List o) e = absurd (cc)
+single stored.Struct e = absurd (cc)
+
+coded_good : (k : TypeKind) (o : Option Table) (s : StoredType) (c : Option Coding) → coded_by k o ≡ Ok c → kind_of_type s ≡ k → IsCoded c s
+coded_good k None s c e is = let none : None ≡ c = cc in let P : Option Coding → Type 0 = λ d. IsCoded d s in subst P none tt
+coded_good k (Some t) s c e is =
+    let parts = both_Ok second (needs fault.UnsupportedType (may_be_coded k)) (mapped Some (encoding_of t)) c e in
+    let may = needed fault.UnsupportedType (may_be_coded k) parts.0 parts.2 in
+    let made = mapped_Ok Some (encoding_of t) parts.1 parts.3 in
+    let P : Option Coding → Type 0 = λ d. IsCoded d s in
+    let Q : TypeKind → Type 0 = λ j. may_be_coded j ≡ true in
+    subst P (made.2 ∙ parts.4) (single s (subst Q (sym is) may))
+
+coding_good : (k : TypeKind) (t : Table) (s : StoredType) (c : Option Coding) → coding_of k t ≡ Ok c → kind_of_type s ≡ k → IsCoded c s
+unfolding coding_of
+coding_good k t s c e is =
+    let read = bind_Ok (readable (subtable_of t slot.dictionary)) (coded_by k) c e in coded_good k read.0 s c read.2 is
+
+-- indices have no children, and nor have the values that they stand for
+single_node : (s : StoredType) (w : IntWidth) (b : Bool) (kids : Roses Layout) → IsSingle s → IsNode (layout_by s) kids → IsNode (Number w b) kids
+single_node s w b none is h = tt
+single_node stored.Bool w b (more t ts) is h = h
+single_node (stored.Int v s) w b (more t ts) is h = h
+single_node (stored.Decimal p s) w b (more t ts) is h = h
+single_node (stored.Date u) w b (more t ts) is h = h
+single_node (stored.Time u) w b (more t ts) is h = h
+single_node (stored.Timestamp u z) w b (more t ts) is h = h
+single_node (stored.Duration u) w b (more t ts) is h = h
+single_node (stored.Utf8 o) w b (more t ts) is h = h
+single_node (stored.Binary o) w b (more t ts) is h = h
+single_node (stored.Fixed v) w b (more t ts) is h = h
+single_node (stored.List o) w b (more t ts) is h = absurd is
+single_node stored.Struct w b (more t ts) is h = absurd is
+
+slot_node : (c : Option Coding) (s : StoredType) (kids : Roses Layout) → IsCoded c s → IsNode (layout_by s) kids → IsNode (slot_layout c s) kids
+slot_node None s kids is h = h
+slot_node (Some c) s kids is h = single_node s c.index.width c.index.signed kids is h
+
+-- what is known of the fields of a vector that was read: how many they are, and with those below them
+pub record AreKnown (n total : ℕ) (fs : List (Rose Entry)) : Type 0 where
+  pub long : length fs ≡ n
+  pub size : roses_size (kids_of fs) ≡ total
   pub layouts : AreLayouts (layouts_of fs)
+  pub slots : AreLayouts (slot_layouts_of fs)
   pub good : AreGoodFields (kids_of fs)
+
+abbrev pub Known : (Vector → ℕ) → Vector → List (Rose Entry) → Type 0
+Known count v fs = AreKnown v.count (count v) fs
 
 is_zero : (n : ℕ) → (n == 0) ≡ true → n ≡ 0
 is_zero n e = grind (arith, nat_tests, e)
-
-needed : (c : StreamFault) (b : Bool) (u : Unit {0}) → needs c b ≡ Ok u → b ≡ true
-needed c true u e = refl
-needed c false u e = absurd (cc)
 
 -- the children of a field
 pub record Below (count : Vector → ℕ) (k : TypeKind) (o : Option Vector) (fs : List (Rose Entry)) : Type 0 where
   pub may : may_have k (length fs) ≡ true
   pub size : roses_size (kids_of fs) ≡ total_in count o
   pub layouts : AreLayouts (layouts_of fs)
+  pub slots : AreLayouts (slot_layouts_of fs)
   pub good : AreGoodFields (kids_of fs)
 
 below_in :
@@ -72,11 +133,11 @@ below_in :
 below_in below count k None fs known may e =
     let P : List (Rose Entry) → Type 0 = λ gs. Below count k None gs in
     let is : [] ≡ fs = cc in
-    subst P is (record { may = may; size = refl; layouts = tt; good = tt })
+    subst P is (record { may = may; size = refl; layouts = tt; slots = tt; good = tt })
 below_in below count k (Some v) fs known may e =
     let here = known v fs e in
     let P : ℕ → Type 0 = λ n. may_have k n ≡ true in
-    record { may = subst P (sym here.long) may; size = here.size; layouts = here.layouts; good = here.good }
+    record { may = subst P (sym here.long) may; size = here.size; layouts = here.layouts; slots = here.slots; good = here.good }
 
 children_known :
     (below : Vector → Reading (List (Rose Entry))) (count : Vector → ℕ) (k : TypeKind) (t : Table) (fs : List (Rose Entry))
@@ -96,11 +157,8 @@ children_known below count k t fs known e =
 pub record IsKnown (count : Vector → ℕ) (v : Vector) (i : ℕ) (f : Rose Entry) : Type 0 where
   pub size : rose_size f ≡ 1 + total_at count v i
   pub layout : IsLayout (layout_of f)
+  pub slots : IsLayout (slot_layout_of f)
   pub good : IsGoodField f
-
-passed : (c : StreamFault) (b : Bool) (x y : List ℕ) → checked c b x ≡ Ok y → (b ≡ true) × (x ≡ y)
-passed c true x y e = (refl, cc)
-passed c false x y e = absurd (cc)
 
 -- names are short texts
 IsName : List ℕ → Type 0
@@ -133,6 +191,15 @@ sum_is : (count : Vector → ℕ) (v : Vector) (i : ℕ) (o : Option Vector) →
 unfolding total_at
 sum_is count v i o is = ap (total_in count) is
 
+-- a field of parts that were read
+made_known :
+    (count : Vector → ℕ) (v : Vector) (i : ℕ) (f : Rose Entry) (l : Label) (c : Content) (u : Storage) (s : StoredType) (d : Option Coding)
+    (kids : List (Rose Entry)) → storage s d ≡ u → content u kids ≡ c → field l c ≡ f
+    → IsKnown count v i (field l (content (storage s d) kids)) → IsKnown count v i f
+made_known count v i f l c u s d kids stores made is known =
+    let P : Rose Entry → Type 0 = λ g. IsKnown count v i g in
+    subst P (ap (λ x. field l (content x kids)) stores ∙ ap (field l) made ∙ is) known
+
 entry_known :
     (below : Vector → Reading (List (Rose Entry))) (count : Vector → ℕ) (v : Vector) (i : ℕ) (f : Rose Entry)
     → ((w : Vector) (gs : List (Rose Entry)) → below w ≡ Ok gs → Known count w gs) → entry_by below v i ≡ Ok f → IsKnown count v i f
@@ -142,38 +209,48 @@ entry_known below count v i f known e =
     let t : Table = entry.0 in
     let here : entry_of v i ≡ Some t = must_Ok fault.BadTable (entry_of v i) t entry.1 in
     let parts = both_Ok field (label_of t) (content_of below t) f entry.2 in
-    let kinds = bind_Ok (kind_of t) (λ k. both content (both first (type_of k t) (plain_of t)) (children_of below k t)) parts.1 parts.3 in
+    let of : TypeKind → Reading Content = λ k. both content (both storage (type_of k t) (coding_of k t)) (children_of below k t) in
+    let kinds = bind_Ok (kind_of t) of parts.1 parts.3 in
     let k : TypeKind = kinds.0 in
-    let typed = both_Ok content (both first (type_of k t) (plain_of t)) (children_of below k t) parts.1 kinds.2 in
+    let made = both_Ok content (both storage (type_of k t) (coding_of k t)) (children_of below k t) parts.1 kinds.2 in
+    let stores = both_Ok storage (type_of k t) (coding_of k t) made.0 made.2 in
     let name = label_good t parts.0 parts.2 in
-    let label_type = both_Ok first (type_of k t) (plain_of t) typed.0 typed.2 in
-    let typed_type : type_of k t ≡ Ok typed.0 = label_type.2 ∙ ap (λ x. Ok x) label_type.4 in
-    let kids = children_known below count k t typed.1 known typed.3 in
+    let typed = read-is-type k t stores.0 stores.2 in
+    let coded = coding_good k t stores.0 stores.1 stores.3 typed.1 in
+    let kids = children_known below count k t made.1 known made.3 in
     let sum = sum_is count v i kids.0 (child_is v i t k kids.0 here kinds.1 kids.1) in
-    let P : Rose Entry → Type 0 = λ g. IsKnown count v i g in
-    let Q : Content → Type 0 = λ c. IsKnown count v i (field parts.0 c) in
-    subst P parts.4 (subst Q typed.4 (record {
+    let May : ℕ → Type 0 = λ n. may_have k n ≡ true in
+    let values = fit_node k t stores.0 (layouts_of made.1) stores.2 (subst May (sym (kids_of_all made.1)) kids.2.may) in
+    let indices = fit_node k t stores.0 (slot_layouts_of made.1) stores.2 (subst May (sym (slots_of_all made.1)) kids.2.may) in
+    made_known count v i f parts.0 parts.1 made.0 stores.0 stores.1 made.1 stores.4 made.4 parts.4 (record {
       size = omega (arith, kids.2.size, sum);
-      layout = (fit_node k t typed.0 typed.1 typed_type kids.2.may, kids.2.layouts);
-      good = (name.0, name.1, (read-is-type k t typed.0 typed_type).0, kids.2.good);
-    }))
+      layout = (values, kids.2.layouts);
+      slots = (slot_node stores.1 stores.0 (slot_layouts_of made.1) coded indices, kids.2.slots);
+      good = (name.0, name.1, typed.0, coded, kids.2.good);
+    })
 
 each_known :
     (below : Vector → Reading (List (Rose Entry))) (count : Vector → ℕ) (v : Vector) (i n : ℕ) (fs : List (Rose Entry))
     → ((w : Vector) (gs : List (Rose Entry)) → below w ≡ Ok gs → Known count w gs) → each (entry_by below v) i n ≡ Ok fs
-    → (length fs ≡ n) × (roses_size (kids_of fs) ≡ n + sum_from (total_at count v) i n) × AreLayouts (layouts_of fs) × AreGoodFields (kids_of fs)
+    → AreKnown n (n + sum_from (total_at count v) i n) fs
 unfolding each sum_from
 each_known below count v i zero fs known e =
     let none : [] ≡ fs = cc in
-    let P : List (Rose Entry) → Type 0 = λ gs. (length gs ≡ 0) × (roses_size (kids_of gs) ≡ 0) × AreLayouts (layouts_of gs) × AreGoodFields (kids_of gs) in
-    subst P none (refl, refl, tt, tt)
+    let P : List (Rose Entry) → Type 0 = λ gs. AreKnown 0 0 gs in
+    subst P none (record { long = refl; size = refl; layouts = tt; slots = tt; good = tt })
 each_known below count v i (suc n) fs known e =
     let parts = both_Ok cons (entry_by below v i) (each (entry_by below v) (i + 1) n) fs e in
     let here = entry_known below count v i parts.0 known parts.2 in
     let rest = each_known below count v (i + 1) n parts.1 known parts.3 in
     let P : List (Rose Entry) → Type 0 =
-    λ gs. (length gs ≡ suc n) × (roses_size (kids_of gs) ≡ suc n + (total_at count v i + sum_from (total_at count v) (i + 1) n)) × AreLayouts (layouts_of gs) × AreGoodFields (kids_of gs) in
-    subst P parts.4 (ap suc rest.0, omega (arith, here.size, rest.1), (here.layout, rest.2), (here.good, rest.3))
+    λ gs. AreKnown (suc n) (suc n + (total_at count v i + sum_from (total_at count v) (i + 1) n)) gs in
+    subst P parts.4 (record {
+      long = ap suc rest.long;
+      size = omega (arith, here.size, rest.size);
+      layouts = (here.layout, rest.layouts);
+      slots = (here.slots, rest.slots);
+      good = (here.good, rest.good);
+    })
 
 forest_known : (depth : ℕ) (v : Vector) (fs : List (Rose Entry)) → forest depth v ≡ Ok fs → Known (total depth) v fs
 unfolding forest total
@@ -182,38 +259,45 @@ forest_known zero v fs e = by_count (v.count == 0) refl e where
   by_count true empty e =
       let is : [] ≡ fs = cc in
       let P : List (Rose Entry) → Type 0 = λ gs. Known (total zero) v gs in
-      subst P is (record { long = sym (is_zero v.count empty); size = refl; layouts = tt; good = tt })
+      subst P is (record { long = sym (is_zero v.count empty); size = refl; layouts = tt; slots = tt; good = tt })
   by_count false some e = absurd (cc)
 forest_known (suc depth) v fs e =
-    let all = each_known (forest depth) (total depth) v 0 v.count fs (forest_known depth) e in
-    record { long = all.0; size = all.1; layouts = all.2; good = all.3 }
+    each_known (forest depth) (total depth) v 0 v.count fs (forest_known depth) e
 
 pub few_read : (v : Vector) (fs : List (Rose Entry)) (left room : ℕ) → forest 16 v ≡ Ok fs → left + total 16 v ≡ room → roses_size (kids_of fs) ≤ room
 few_read v fs left room read count = omega (arith, (forest_known 16 v fs read).size, count)
 
-slim_is : (fs gs : List (Rose Entry)) → slim fs ≡ Ok gs → (are_slim (layouts_of fs) ≡ true) × (fs ≡ gs)
-slim_is fs gs e = by_test (are_slim (layouts_of fs)) refl e where
-  by_test :
-      (b : Bool) → are_slim (layouts_of fs) ≡ b → checked fault.BadType b fs ≡ Ok gs → (are_slim (layouts_of fs) ≡ true) × (fs ≡ gs)
-  by_test true is e = (is, cc)
-  by_test false is e = absurd (cc)
+judged_is : (fs gs : List (Rose Entry)) → judged fs ≡ Ok gs → (are_slim (layouts_of fs) ≡ true) × (is_clear fs ≡ true) × (fs ≡ gs)
+unfolding judged
+judged_is fs gs e =
+    let parts = both_Ok second (needs fault.BadType (are_slim (layouts_of fs))) (checked fault.DictionaryClash (is_clear fs) fs) gs e in
+    let clear = passed fault.DictionaryClash (is_clear fs) fs parts.1 parts.3 in
+    (needed fault.BadType (are_slim (layouts_of fs)) parts.0 parts.2, clear.0, clear.1 ∙ parts.4)
 
 columns_known : (v : Vector) (fs : List (Rose Entry)) → columns_of v ≡ Ok fs → AreFields fs
 unfolding columns_of
 columns_known v fs e =
-    let parts = both_Ok second (needs fault.TooManyFields (nat_le (total 16 v) 1024)) (forest 16 v >>= slim) fs e in
+    let parts = both_Ok second (needs fault.TooManyFields (nat_le (total 16 v) 1024)) (forest 16 v >>= judged) fs e in
     let few : total 16 v ≤ 1024 = leb-true (total 16 v) 1024 (needed fault.TooManyFields (nat_le (total 16 v) 1024) parts.0 parts.2) in
-    let read = bind_Ok (forest 16 v) slim parts.1 parts.3 in
+    let read = bind_Ok (forest 16 v) judged parts.1 parts.3 in
     let known = forest_known 16 v read.0 read.1 in
-    let narrow = slim_is read.0 parts.1 read.2 in
+    let are = judged_is read.0 parts.1 read.2 in
     let P : List (Rose Entry) → Type 0 = λ gs. AreFields gs in
-    subst P (narrow.1 ∙ parts.4) (record { few = omega (arith, known.size, few); layouts = known.layouts; slim = narrow.0; good = known.good })
+    subst P (are.2 ∙ parts.4) (record {
+      few = omega (arith, known.size, few);
+      layouts = known.layouts;
+      slots = known.slots;
+      slim = are.0;
+      clear = are.1;
+      good = known.good;
+    })
 
 in_known : (o : Option Vector) (fs : List (Rose Entry)) → fields_in columns_of o ≡ Ok fs → AreFields fs
+unfolding is_clear
 in_known None fs e =
     let none : [] ≡ fs = cc in
     let P : List (Rose Entry) → Type 0 = λ gs. AreFields gs in
-    subst P none (record { few = omega arith; layouts = tt; slim = refl; good = tt })
+    subst P none (record { few = omega arith; layouts = tt; slots = tt; slim = refl; clear = refl; good = tt })
 in_known (Some v) fs e = columns_known v fs e
 
 pub fields_known : FieldsLaw

@@ -16,9 +16,10 @@ use Rattle.field_types.specs.StoredLaws.{kids_count}
 use Rattle.field_types.specs.declared.kinds.TypeKind.{TypeKind}
 use Rattle.field_types.specs.declared.stored_type.StoredType.{StoredType}
 use Rattle.field_types.proofs.TypeRead.{type-is-read}
+use Rattle.schema_meta.specs.Encoding.{coding_of}
 use Rattle.schema_meta.specs.Entry.{Entry}
 use Rattle.schema_meta.specs.Slots as slot
-use Rattle.schema_meta.specs.Fields.{name_of, plain_of, children_of, label_of, content_of, field_of, entry_by, child_at, label, content, forest}
+use Rattle.schema_meta.specs.Fields.{name_of, children_of, label_of, content_of, field_of, entry_by, child_at, label, storage, content, forest}
 use Rattle.schema_meta.specs.Totals.{sum_from, total_at, total}
 use Rattle.schema_meta.specs.SchemaTree.{field_slots, field_tables}
 use Rattle.schema_meta.specs.SchemaLaw.{stored_field}
@@ -32,9 +33,9 @@ bool-read : (t : Table) (k : ℕ) → NodeHeld t.bytes (slot_of t k) (number 1 1
 unfolding bool_of
 bool-read t k h = rw (number-read 1 1 t k h) refl
 
-plain-read : (t : Table) → slot_of t slot.dictionary ≡ Some None → plain_of t ≡ Ok tt
-unfolding plain_of
-plain-read t h = rw (subtable-absent t slot.dictionary h) refl
+plain-read : (t : Table) (k : TypeKind) → slot_of t slot.dictionary ≡ Some None → coding_of k t ≡ Ok None
+unfolding coding_of
+plain-read t k h = rw (subtable-absent t slot.dictionary h) refl
 
 -- the fields of a vector that holds these are read as they are
 abbrev pub Reads : (Vector → Reading (List (Rose Entry))) → Roses LogicalField → Type 0
@@ -65,11 +66,11 @@ label-read t f kids short utf8 h = rw (name-read t f.name short utf8 h.0, bool-r
 content-read :
     (below : Vector → Reading (List (Rose Entry))) (t : Table) (d : ℕ) (p : StoredType) (f : LogicalField) (kids fs : Roses LogicalField)
     → Sound d p (more (node f kids) fs) → Reads below kids → Held t.bytes (slot_of t) 0 (field_slots (node f kids))
-    → content_of below t ≡ Ok (content f.col_type (entries kids))
+    → content_of below t ≡ Ok (content (storage f.col_type None) (entries kids))
 unfolding content_of
 content-read below t d p f kids fs s reads h =
     let typed = type-is-read f.col_type s.within.0.1 t h.1.1.0 h.1.1.1.0 in
-    rw (typed.0, typed.1, plain-read t h.1.1.1.1.0, children-read below t (kind_of_type f.col_type) kids (may-have d p f kids fs s) reads h.1.1.1.1.1.0) refl
+    rw (typed.0, typed.1, plain-read t (kind_of_type f.col_type) h.1.1.1.1.0, children-read below t (kind_of_type f.col_type) kids (may-have d p f kids fs s) reads h.1.1.1.1.1.0) refl
 
 field-read :
     (below : Vector → Reading (List (Rose Entry))) (t : Table) (d : ℕ) (p : StoredType) (f : LogicalField) (kids fs : Roses LogicalField)

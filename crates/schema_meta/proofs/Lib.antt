@@ -5,6 +5,10 @@ pub mod Names
 pub mod PathLemmas
 pub mod Logicals
 pub mod Counts
+pub mod Clashes
+pub mod Plain
+pub mod OneType
+pub mod ValuesFit
 pub mod Places
 pub mod Slims
 pub mod FieldFacts

@@ -41,7 +41,7 @@ child-name stored.Struct n h = h
 below-within : (s : StoredType) (fs : Roses Entry) → AreGoodFields fs → AreWithin (logical_below s fs)
 below-within s none h = tt
 below-within s (more (node e kids) fs) h =
-    ((child-name s e.name h.0.0, narrow-type e.stored h.0.2, below-within e.stored kids h.0.3), below-within s fs h.1)
+    ((child-name s e.name h.0.0, narrow-type e.stored h.0.2, below-within e.stored kids h.0.4), below-within s fs h.1)
 
 below-size : (s : StoredType) (fs : Roses Entry) → roses_size (logical_below s fs) ≡ roses_size fs
 below-size s none = refl
@@ -50,7 +50,7 @@ below-size s (more (node e kids) fs) =
 
 all-within : (fs : List (Rose Entry)) → AreGoodFields (kids_of fs) → AreWithin (kids_of (map logical_field fs))
 all-within [] h = tt
-all-within (node e kids ∷ fs) h = ((h.0.0, narrow-type e.stored h.0.2, below-within e.stored kids h.0.3), all-within fs h.1)
+all-within (node e kids ∷ fs) h = ((h.0.0, narrow-type e.stored h.0.2, below-within e.stored kids h.0.4), all-within fs h.1)
 
 pub all-size : (fs : List (Rose Entry)) → roses_size (kids_of (map logical_field fs)) ≡ roses_size (kids_of fs)
 all-size [] = refl

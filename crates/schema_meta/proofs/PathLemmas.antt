@@ -1,9 +1,9 @@
 -- A fault is in the schema's reading exactly where it stands by a path.
-use Rattle.std.proofs.Common.{◌≡◌, ◌⊎◌, inl, inr, ℕ, zero, suc, ◌+◌, ◌<◌, Bool, true, false, Option, None, Some, Ok, Err, List, [], ◌∷◌, length, refl, ap, sym, subst, arith, nat_le}
+use Rattle.std.proofs.Common.{◌≡◌, ◌⊎◌, inl, inr, ℕ, zero, suc, ◌+◌, ◌<◌, Bool, true, false, Option, None, Some, Ok, Err, List, [], ◌∷◌, length, refl, ap, subst, arith, nat_le}
 use Rattle.std.proofs.lemmas.Bool.Decides.{nat_tests}
 use Rattle.std.specs.Prelude.{◌==◌, if◌then◌else◌}
 use Rattle.flatbuf.specs.Layout.{Table, Vector, vector_of, entry_of}
-use Rattle.values.specs.Reading.{Reading, ◌>>=◌, both, first, second, cons, each, one, Stands}
+use Rattle.values.specs.Reading.{Reading, ◌>>=◌, both, second, cons, each, one, Stands}
 use Rattle.values.specs.Rose.{Rose}
 use Rattle.values.specs.declared.faults.StreamFault.{StreamFault}
 use Rattle.values.specs.declared.faults.StreamFault.TheVariants as fault
@@ -15,11 +15,13 @@ use Rattle.field_types.specs.Reads.{readable, needs, checked, bool_of}
 use Rattle.field_types.specs.Kinds.{kind_of, may_have}
 use Rattle.field_types.specs.Types.{type_of}
 use Rattle.schema_meta.specs.FieldLayouts.{are_slim, layouts_of}
-use Rattle.schema_meta.specs.Fields.{name_of, plain_of, count_in, fields_in, children_of, label, content, field, label_of, content_of, field_of, entry_by, forest, children_by, children_at, child_at}
+use Rattle.schema_meta.specs.Dictionaries.{is_clear}
+use Rattle.schema_meta.specs.Encoding.{coding_of}
+use Rattle.schema_meta.specs.Fields.{name_of, count_in, fields_in, children_of, label, storage, content, field, label_of, content_of, field_of, entry_by, forest, children_by, children_at, child_at}
 use Rattle.schema_meta.specs.Totals.{total}
-use Rattle.schema_meta.specs.Schema.{endianness_of, columns_of, schema_of, slim}
-use Rattle.schema_meta.specs.Paths.{FaultOfField, FaultOfEntry, Leads, StandsBelow, IsDeeper, FaultOfColumns, FaultOfSchema, in_name, in_nullable, in_kind, in_type, in_dictionary, in_children, in_number, by_path, by_depth, by_count, by_slot, in_endianness, in_fields, in_columns}
-use Rattle.schema_meta.proofs.Faults.{bind_left, bind_right, bind_found, needs_found, needs_stands, readable_found, readable_some}
+use Rattle.schema_meta.specs.Schema.{endianness_of, columns_of, schema_of, judged}
+use Rattle.schema_meta.specs.Paths.{FaultOfField, FaultOfEntry, Leads, StandsBelow, IsDeeper, FaultOfColumns, FaultOfSchema, in_name, in_nullable, in_kind, in_type, in_dictionary, in_children, in_number, by_path, by_depth, by_count, by_slot, by_clash, in_endianness, in_fields, in_columns}
+use Rattle.schema_meta.proofs.Faults.{bind_left, bind_right, bind_found, needs_found, needs_stands, checked_found, checked_stands, readable_found, readable_some}
 
 -- The children of a field have the fault.
 abbrev Below : Type 0
@@ -53,11 +55,11 @@ children_found below t c k e h =
 
 content_found :
     (below : Below) (t : Table) (c : StreamFault) (k : TypeKind) → kind_of t ≡ Ok k
-    → Stands (both content (both first (type_of k t) (plain_of t)) (children_of below k t)) c
+    → Stands (both content (both storage (type_of k t) (coding_of k t)) (children_of below k t)) c
     → FaultOfField t c ⊎ IsInChildren below t c
 content_found below t c k e h =
-    elim (stands_both content (both first (type_of k t) (plain_of t)) (children_of below k t) c h) [
-      | inl a ↦ inl (elim (stands_both first (type_of k t) (plain_of t) c a) [ inl x ↦ in_type k e x | inr y ↦ in_dictionary k e y ])
+    elim (stands_both content (both storage (type_of k t) (coding_of k t)) (children_of below k t) c h) [
+      | inl a ↦ inl (elim (stands_both storage (type_of k t) (coding_of k t) c a) [ inl x ↦ in_type k e x | inr y ↦ in_dictionary k e y ])
       | inr b ↦ children_found below t c k e b
     ]
 
@@ -68,7 +70,7 @@ field_found below t c h =
     elim (stands_both field (label_of t) (content_of below t) c h) [
       | inl a ↦ inl (elim (stands_both label (name_of t) (bool_of t slot.nullable) c a) [ inl x ↦ in_name x | inr y ↦ in_nullable y ])
       | inr b ↦
-          elim (bind_found (kind_of t) (λ k. both content (both first (type_of k t) (plain_of t)) (children_of below k t)) c b) [
+          elim (bind_found (kind_of t) (λ k. both content (both storage (type_of k t) (coding_of k t)) (children_of below k t)) c b) [
             | inl x ↦ inl (in_kind x)
             | inr y ↦ content_found below t c y.0 y.1 y.2
           ]
@@ -137,23 +139,36 @@ forest_found (suc depth) v c h =
           ]
     ]
 
-slim_found : (fs : List (Rose Entry)) (c : StreamFault) → Stands (slim fs) c → (are_slim (layouts_of fs) ≡ false) × (fault.BadType ≡ c)
-slim_found fs c h = by_test (are_slim (layouts_of fs)) refl h where
-  by_test :
-      (b : Bool) → are_slim (layouts_of fs) ≡ b → Stands (checked fault.BadType b fs) c
-      → (are_slim (layouts_of fs) ≡ false) × (fault.BadType ≡ c)
-  by_test true is h = absurd h
-  by_test false is h = (is, h)
+-- the tests of fields that are all known
+abbrev slim_test : List (Rose Entry) → Reading (Unit {0})
+slim_test fs = needs fault.BadType (are_slim (layouts_of fs))
+
+abbrev clear_test : List (Rose Entry) → Reading (List (Rose Entry))
+clear_test fs = checked fault.DictionaryClash (is_clear fs) fs
+
+judged_found :
+    (fs : List (Rose Entry)) (c : StreamFault) → Stands (judged fs) c
+    → ((are_slim (layouts_of fs) ≡ false) × (fault.BadType ≡ c)) ⊎ ((is_clear fs ≡ false) × (fault.DictionaryClash ≡ c))
+unfolding judged
+judged_found fs c h =
+    elim (stands_both second (slim_test fs) (clear_test fs) c h) [
+      | inl a ↦ inl (needs_found fault.BadType (are_slim (layouts_of fs)) c a)
+      | inr b ↦ inr (checked_found fault.DictionaryClash (is_clear fs) fs c b)
+    ]
+
+judged_columns : (v : Vector) (fs : List (Rose Entry)) (c : StreamFault) → forest 16 v ≡ Ok fs → Stands (judged fs) c → FaultOfColumns v c
+judged_columns v fs c read h =
+    elim (judged_found fs c h) [ inl a ↦ by_slot fs read a.0 a.1 | inr b ↦ by_clash fs read b.0 b.1 ]
 
 columns_found : (v : Vector) (c : StreamFault) → Stands (columns_of v) c → FaultOfColumns v c
 unfolding columns_of
 columns_found v c h =
-    elim (stands_both second (needs fault.TooManyFields (nat_le (total 16 v) 1024)) (forest 16 v >>= slim) c h) [
+    elim (stands_both second (needs fault.TooManyFields (nat_le (total 16 v) 1024)) (forest 16 v >>= judged) c h) [
       | inl a ↦ let n = needs_found fault.TooManyFields (nat_le (total 16 v) 1024) c a in by_count (above (total 16 v) 1024 n.0) n.1
       | inr b ↦
-          elim (bind_found (forest 16 v) slim c b) [
+          elim (bind_found (forest 16 v) judged c b) [
             | inl p ↦ elim (forest_found 16 v c p) [ inl x ↦ by_path x | inr y ↦ by_depth y.0 y.1 ]
-            | inr q ↦ let wide = slim_found q.0 c q.2 in by_slot q.0 q.1 wide.0 wide.1
+            | inr q ↦ judged_columns v q.0 c q.1 q.2
           ]
     ]
 
@@ -178,10 +193,10 @@ found_by_paths t c h =
 -- from paths to the reading
 in_content :
     (below : Below) (t : Table) (c : StreamFault) (k : TypeKind) → kind_of t ≡ Ok k
-    → Stands (both content (both first (type_of k t) (plain_of t)) (children_of below k t)) c → Stands (field_of below t) c
+    → Stands (both content (both storage (type_of k t) (coding_of k t)) (children_of below k t)) c → Stands (field_of below t) c
 unfolding field_of content_of
 in_content below t c k e h =
-    let of : TypeKind → Reading _ = λ j. both content (both first (type_of j t) (plain_of t)) (children_of below j t) in
+    let of : TypeKind → Reading _ = λ j. both content (both storage (type_of j t) (coding_of j t)) (children_of below j t) in
     both_right field (label_of t) (content_of below t) c (bind_right (kind_of t) of c k e h)
 
 in_label : (below : Below) (t : Table) (c : StreamFault) → Stands (label_of t) c → Stands (field_of below t) c
@@ -191,20 +206,20 @@ in_label below t c h = both_left field (label_of t) (content_of below t) c h
 in_unkind : (below : Below) (t : Table) (c : StreamFault) → Stands (kind_of t) c → Stands (field_of below t) c
 unfolding field_of content_of
 in_unkind below t c h =
-    let of : TypeKind → Reading _ = λ j. both content (both first (type_of j t) (plain_of t)) (children_of below j t) in
+    let of : TypeKind → Reading _ = λ j. both content (both storage (type_of j t) (coding_of j t)) (children_of below j t) in
     both_right field (label_of t) (content_of below t) c (bind_left (kind_of t) of c h)
 
 in_typed :
-    (below : Below) (t : Table) (c : StreamFault) (k : TypeKind) → kind_of t ≡ Ok k → Stands (both first (type_of k t) (plain_of t)) c
+    (below : Below) (t : Table) (c : StreamFault) (k : TypeKind) → kind_of t ≡ Ok k → Stands (both storage (type_of k t) (coding_of k t)) c
     → Stands (field_of below t) c
 in_typed below t c k e h =
-    in_content below t c k e (both_left content (both first (type_of k t) (plain_of t)) (children_of below k t) c h)
+    in_content below t c k e (both_left content (both storage (type_of k t) (coding_of k t)) (children_of below k t) c h)
 
 in_vectors :
     (below : Below) (t : Table) (c : StreamFault) (k : TypeKind) → kind_of t ≡ Ok k → Stands (children_of below k t) c
     → Stands (field_of below t) c
 in_vectors below t c k e h =
-    in_content below t c k e (both_right content (both first (type_of k t) (plain_of t)) (children_of below k t) c h)
+    in_content below t c k e (both_right content (both storage (type_of k t) (coding_of k t)) (children_of below k t) c h)
 
 in_some :
     (below : Below) (t : Table) (c : StreamFault) (k : TypeKind) (v : Option Vector) → kind_of t ≡ Ok k
@@ -220,8 +235,8 @@ unfolding label_of children_of
 field_stands below t c (in_name h) = in_label below t c (both_left label (name_of t) (bool_of t slot.nullable) c h)
 field_stands below t c (in_nullable h) = in_label below t c (both_right label (name_of t) (bool_of t slot.nullable) c h)
 field_stands below t c (in_kind h) = in_unkind below t c h
-field_stands below t c (in_type k e h) = in_typed below t c k e (both_left first (type_of k t) (plain_of t) c h)
-field_stands below t c (in_dictionary k e h) = in_typed below t c k e (both_right first (type_of k t) (plain_of t) c h)
+field_stands below t c (in_type k e h) = in_typed below t c k e (both_left storage (type_of k t) (coding_of k t) c h)
+field_stands below t c (in_dictionary k e h) = in_typed below t c k e (both_right storage (type_of k t) (coding_of k t) c h)
 field_stands below t c (in_children k e h) =
     let of : Option Vector → Reading _ = λ u. both second (needs fault.BadType (may_have k (count_in u))) (fields_in below u) in
     in_vectors below t c k e (bind_left (readable (vector_of t slot.children)) of c h)
@@ -295,13 +310,20 @@ depth_stands (j ∷ p) (suc depth) v w l e n =
     at_stands (forest depth) v v.count j fault.TooManyFields l.0
     (child_stands (forest depth) (entry_of v j) fault.TooManyFields l.1.0 l.1.1 (depth_stands p depth l.1.0 w l.1.2 (omega (arith, e)) n))
 
-slim_stands : (fs : List (Rose Entry)) (c : StreamFault) → are_slim (layouts_of fs) ≡ false → fault.BadType ≡ c → Stands (slim fs) c
-slim_stands fs c wide e = let P : Bool → Type 0 = λ b. Stands (checked fault.BadType b fs) c in subst P (sym wide) e
+slim_stands : (fs : List (Rose Entry)) (c : StreamFault) → are_slim (layouts_of fs) ≡ false → fault.BadType ≡ c → Stands (judged fs) c
+unfolding judged
+slim_stands fs c wide e =
+    both_left second (slim_test fs) (clear_test fs) c (needs_stands fault.BadType (are_slim (layouts_of fs)) c wide e)
+
+clash_stands : (fs : List (Rose Entry)) (c : StreamFault) → is_clear fs ≡ false → fault.DictionaryClash ≡ c → Stands (judged fs) c
+unfolding judged
+clash_stands fs c unclear e =
+    both_right second (slim_test fs) (clear_test fs) c (checked_stands fault.DictionaryClash (is_clear fs) fs c unclear e)
 
 in_forest : (v : Vector) (c : StreamFault) → Stands (forest 16 v) c → Stands (columns_of v) c
 unfolding columns_of
 in_forest v c h =
-    both_right second (needs fault.TooManyFields (nat_le (total 16 v) 1024)) (forest 16 v >>= slim) c (bind_left (forest 16 v) slim c h)
+    both_right second (needs fault.TooManyFields (nat_le (total 16 v) 1024)) (forest 16 v >>= judged) c (bind_left (forest 16 v) judged c h)
 
 columns_stands : (v : Vector) (c : StreamFault) → FaultOfColumns v c → Stands (columns_of v) c
 unfolding columns_of
@@ -310,11 +332,14 @@ columns_stands v c (by_depth s e) =
     let P : StreamFault → Type 0 = λ d. Stands (forest 16 v) d in
     in_forest v c (subst P e (depth_stands s.path 16 v s.end s.leads s.long s.some))
 columns_stands v c (by_count m e) =
-    both_left second (needs fault.TooManyFields (nat_le (total 16 v) 1024)) (forest 16 v >>= slim) c
+    both_left second (needs fault.TooManyFields (nat_le (total 16 v) 1024)) (forest 16 v >>= judged) c
     (needs_stands fault.TooManyFields (nat_le (total 16 v) 1024) c (not_above (total 16 v) 1024 m) e)
 columns_stands v c (by_slot fs read wide e) =
-    both_right second (needs fault.TooManyFields (nat_le (total 16 v) 1024)) (forest 16 v >>= slim) c
-    (bind_right (forest 16 v) slim c fs read (slim_stands fs c wide e))
+    both_right second (needs fault.TooManyFields (nat_le (total 16 v) 1024)) (forest 16 v >>= judged) c
+    (bind_right (forest 16 v) judged c fs read (slim_stands fs c wide e))
+columns_stands v c (by_clash fs read unclear e) =
+    both_right second (needs fault.TooManyFields (nat_le (total 16 v) 1024)) (forest 16 v >>= judged) c
+    (bind_right (forest 16 v) judged c fs read (clash_stands fs c unclear e))
 
 pub stands_by_paths : (t : Table) (c : StreamFault) → FaultOfSchema t c → Stands (schema_of t) c
 unfolding schema_of

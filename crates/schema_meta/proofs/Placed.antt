@@ -1,22 +1,33 @@
 -- The arrays of a batch whose header fits its schema and its body.
-use Rattle.std.proofs.Common.{◌≡◌, ℕ, pos, List, ◌+◌, ◌^◌, ◌<◌, ◌≤◌, true, ◌&&◌, length, All, Some, None, Option, slice_get, get_or, unwrap_or, refl, ap, sym, subst, arith}
+use Rattle.std.proofs.Common.{◌≡◌, ℕ, suc, ℤ, pos, List, ◌+◌, ◌^◌, ◌<◌, ◌≤◌, true, ◌&&◌, length, All, Some, None, Option, slice_get, get_or, unwrap_or, refl, ap, sym, subst, arith}
 use Rattle.std.specs.Prelude.{nat_le, ◌==◌}
 use Rattle.std.proofs.lemmas.Bool.{and_parts, leb-true}
 use Rattle.std.proofs.lemmas.Bool.Decides.{nat_tests}
 use Rattle.std.proofs.lemmas.List.Elements.{All-get_or}
 use Rattle.std.proofs.lemmas.Option.{slice_get_within, get_or_from_slice_get}
-use Rattle.values.specs.Rose.{Rose, node, Roses, none, more, rose_size}
+use Rattle.values.specs.Rose.{Rose, node, Roses, none, more, kids_of, rose_size}
+use Rattle.values.specs.Datum.{Datum}
 use Rattle.values.specs.Layouts.{IsNode, IsLayout, AreLayouts}
 use Rattle.values.specs.declared.layout.Layout.{Layout}
 use Rattle.values.specs.declared.layout.Layout.TheVariants.{Bits, Number, Decimal, Fixed, Text, Bytes, List as Listed, Struct}
 use Rattle.array_layout.specs.declared.array.Node.{Node}
 use Rattle.array_layout.specs.declared.array.Span.{Span}
-use Rattle.array_layout.specs.Placing.{nowhere, node_at, span_at, offsets_at, values_at, placed, placed_all, own_spans, spans_in, layout_of, layouts_of}
+use Rattle.array_layout.specs.Placing.{nowhere, node_at, span_at, offsets_at, values_at, placed, placed_all, own_spans, spans_in, layout_by, layout_of, layouts_of}
+use Rattle.array_layout.specs.declared.array.Part.{Part}
+use Rattle.array_layout.specs.Typed.{AreWords, IsTyped, AreTyped}
+use Rattle.field_types.specs.Stored.{layout_of as layout_of_type}
+use Rattle.field_types.specs.StoredLaws.{kids_count}
+use Rattle.field_types.specs.declared.stored_type.StoredType.{StoredType}
+use Rattle.schema_meta.proofs.OneType.{known-type}
 use Rattle.array_layout.specs.Sound.{LiesIn, AreLong, IsPlaced, ArePlaced}
 use Rattle.schema_meta.specs.Batch.{least, is_long, are_long, columns_fit, lengths_fit}
-use Rattle.schema_meta.specs.FieldLayouts.{layouts_of as layouts_of_fields}
-use Rattle.schema_meta.specs.Parts.{arrays_of}
-use Rattle.schema_meta.specs.PlaceLaw.{HaveLength, PlaceLaw}
+use Rattle.schema_meta.specs.declared.coding.Coding.{Coding}
+use Rattle.schema_meta.specs.Dictionaries.{own_agrees, agrees, agree, value_type, is_clear}
+use Rattle.schema_meta.specs.DictionaryBatch.{value_layout, value_layouts}
+use Rattle.schema_meta.specs.Entry.{Entry}
+use Rattle.schema_meta.specs.FieldLayouts.{layout_of as layout_of_field, layouts_below, slot_layout, slot_layout_of, slot_layouts_below}
+use Rattle.schema_meta.specs.Parts.{words_of, decoded, decoded_all, arrays_of, values_array}
+use Rattle.schema_meta.specs.PlaceLaw.{HaveLength, PlaceLaw, AreValues, WordsLaw, SameWords, ValuesLaw}
 
 -- the layouts of what is placed are those that it is placed for
 mutual
@@ -151,8 +162,179 @@ columns-placed body nodes spans n b rows (more (node l kids) ts) small within la
       (equal (node_at nodes n).length rows parts.0, rest.1),
     )
 
+-- Fields say which of these arrays have dictionaries, and nothing else changes.
+
+abbrev slots_placed : List Node → List Span → ℕ → ℕ → Roses Entry → Roses Part
+slots_placed nodes spans n b fs = placed_all nodes spans n b (slot_layouts_below fs)
+
+own-values : (values : ℤ → List Datum) (c : Option Coding) (s : StoredType) → layout_by (words_of values c s) (slot_layout c s) ≡ layout_of_type s
+own-values values None s = refl
+own-values values (Some c) s = refl
+
+mutual
+  array-values :
+      (values : ℤ → List Datum) (nodes : List Node) (spans : List Span) (n b : ℕ) (f : Rose Entry)
+      → layout_of (decoded values f (placed nodes spans n b (slot_layout_of f))) ≡ layout_of_field f
+  array-values values nodes spans n b (node e fs) =
+      rw (own-values values e.coding e.stored, arrays-values values nodes spans (n + 1) (b + own_spans (slot_layout e.coding e.stored)) fs) refl
+
+  arrays-values :
+      (values : ℤ → List Datum) (nodes : List Node) (spans : List Span) (n b : ℕ) (fs : Roses Entry)
+      → layouts_of (decoded_all values fs (slots_placed nodes spans n b fs)) ≡ layouts_below fs
+  arrays-values values nodes spans n b none = refl
+  arrays-values values nodes spans n b (more f fs) =
+      let t : Rose Layout = slot_layout_of f in
+      rw (array-values values nodes spans n b f, arrays-values values nodes spans (n + rose_size t) (b + spans_in t) fs) refl
+
+-- A node is right for any children of the same number.
+node-fits : (l : Layout) (ks ls : Roses Layout) → kids_count ks ≡ kids_count ls → IsNode l ks → IsNode l ls
+node-fits l none none e h = h
+node-fits l none (more t ts) e h = absurd (cc)
+node-fits l (more t ts) none e h = absurd (cc)
+node-fits Bits (more t ts) (more u us) e h = h
+node-fits (Number w s) (more t ts) (more u us) e h = h
+node-fits (Decimal p) (more t ts) (more u us) e h = h
+node-fits (Fixed w) (more t ts) (more u us) e h = h
+node-fits (Text o) (more t ts) (more u us) e h = h
+node-fits (Bytes o) (more t ts) (more u us) e h = h
+node-fits (Listed o) (more t none) (more u none) e h = tt
+node-fits (Listed o) (more t none) (more u (more v vs)) e h = absurd (cc)
+node-fits (Listed o) (more t (more v vs)) (more u us) e h = absurd h
+node-fits Struct (more t ts) (more u us) e h = tt
+
+slots-count : (fs : Roses Entry) → kids_count (slot_layouts_below fs) ≡ kids_count (layouts_below fs)
+slots-count none = refl
+slots-count (more f fs) = ap suc (slots-count fs)
+
+node-decoded :
+    (values : ℤ → List Datum) (nodes : List Node) (spans : List Span) (n b : ℕ) (l : Layout) (fs : Roses Entry)
+    → IsNode l (layouts_of (slots_placed nodes spans n b fs)) → IsNode l (layouts_of (decoded_all values fs (slots_placed nodes spans n b fs)))
+node-decoded values nodes spans n b l fs h =
+    let P : Roses Layout → Type 0 = λ ls. IsNode l ls in
+    let slots : IsNode l (slot_layouts_below fs) = subst P (trees-same nodes spans n b (slot_layouts_below fs)) h in
+    subst P (sym (arrays-values values nodes spans n b fs)) (node-fits l (slot_layouts_below fs) (layouts_below fs) (slots-count fs) slots)
+
+struct-decoded :
+    (values : ℤ → List Datum) (nodes : List Node) (spans : List Span) (n b len : ℕ) (fs : Roses Entry)
+    → AreLong Struct len (slots_placed nodes spans n b fs) → AreLong Struct len (decoded_all values fs (slots_placed nodes spans n b fs))
+struct-decoded values nodes spans n b len none h = tt
+struct-decoded values nodes spans n b len (more (node e kids) fs) h =
+    let t : Rose Layout = slot_layout_of (node e kids) in
+    (h.0, struct-decoded values nodes spans (n + rose_size t) (b + spans_in t) len fs h.1)
+
+long-decoded :
+    (values : ℤ → List Datum) (nodes : List Node) (spans : List Span) (n b len : ℕ) (l : Layout) (fs : Roses Entry)
+    → AreLong l len (slots_placed nodes spans n b fs) → AreLong l len (decoded_all values fs (slots_placed nodes spans n b fs))
+long-decoded values nodes spans n b len Bits fs h = tt
+long-decoded values nodes spans n b len (Number w s) fs h = tt
+long-decoded values nodes spans n b len (Decimal p) fs h = tt
+long-decoded values nodes spans n b len (Fixed w) fs h = tt
+long-decoded values nodes spans n b len (Text o) fs h = tt
+long-decoded values nodes spans n b len (Bytes o) fs h = tt
+long-decoded values nodes spans n b len (Listed o) fs h = tt
+long-decoded values nodes spans n b len Struct fs h = struct-decoded values nodes spans n b len fs h
+
+mutual
+  array-decoded :
+      (values : ℤ → List Datum) (body : List ℕ) (nodes : List Node) (spans : List Span) (n b : ℕ) (f : Rose Entry)
+      → IsPlaced body (placed nodes spans n b (slot_layout_of f)) → IsPlaced body (decoded values f (placed nodes spans n b (slot_layout_of f)))
+  array-decoded values body nodes spans n b (node e fs) h =
+      let l : Layout = slot_layout e.coding e.stored in
+      let m : ℕ = b + own_spans l in (
+        record {
+          validity = h.0.validity;
+          offsets = h.0.offsets;
+          values = h.0.values;
+          small = h.0.small;
+          kids_fit = node-decoded values nodes spans (n + 1) m l fs h.0.kids_fit;
+        },
+        long-decoded values nodes spans (n + 1) m (node_at nodes n).length l fs h.1,
+        arrays-decoded values body nodes spans (n + 1) m fs h.2,
+      )
+
+  arrays-decoded :
+      (values : ℤ → List Datum) (body : List ℕ) (nodes : List Node) (spans : List Span) (n b : ℕ) (fs : Roses Entry)
+      → ArePlaced body (slots_placed nodes spans n b fs) → ArePlaced body (decoded_all values fs (slots_placed nodes spans n b fs))
+  arrays-decoded values body nodes spans n b none h = tt
+  arrays-decoded values body nodes spans n b (more f fs) h =
+      let t : Rose Layout = slot_layout_of f in (
+        array-decoded values body nodes spans n b f h.0,
+        arrays-decoded values body nodes spans (n + rose_size t) (b + spans_in t) fs h.1,
+      )
+
+length-decoded :
+    (values : ℤ → List Datum) (nodes : List Node) (spans : List Span) (n b rows : ℕ) (fs : Roses Entry)
+    → HaveLength rows (slots_placed nodes spans n b fs) → HaveLength rows (decoded_all values fs (slots_placed nodes spans n b fs))
+length-decoded values nodes spans n b rows none h = tt
+length-decoded values nodes spans n b rows (more (node e kids) fs) h =
+    let t : Rose Layout = slot_layout_of (node e kids) in
+    (h.0, length-decoded values nodes spans (n + rose_size t) (b + spans_in t) rows fs h.1)
+
 pub place-law : PlaceLaw
 unfolding arrays_of lengths_fit
-place-law fields body head fits =
-    let both = columns-placed body head.nodes head.spans 0 0 head.rows (layouts_of_fields fields) fits.small fits.within fits.layouts fits.lengths in
-    (both.0, both.1, trees-same head.nodes head.spans 0 0 (layouts_of_fields fields))
+place-law values fields body head fits =
+    let fs : Roses Entry = kids_of fields in
+    let both = columns-placed body head.nodes head.spans 0 0 head.rows (slot_layouts_below fs) fits.small fits.within fits.layouts fits.lengths in (
+      arrays-decoded values body head.nodes head.spans 0 0 fs both.0,
+      length-decoded values head.nodes head.spans 0 0 head.rows fs both.1,
+      arrays-values values head.nodes head.spans 0 0 fs,
+    )
+
+pub values-law : ValuesLaw
+unfolding values_array lengths_fit
+values-law s body head fits =
+    let both = columns-placed body head.nodes head.spans 0 0 head.rows (value_layouts s) fits.small fits.within fits.layouts fits.lengths in
+    (both.0.0, (tt, tt), both.1.0, tree-same head.nodes head.spans 0 0 (value_layout s))
+
+-- The values of dictionaries are of the types of the fields that have them.
+
+own-typed :
+    (values : ℤ → List Datum) (fields : List (Rose Entry)) (c : Option Coding) (s : StoredType) → AreValues fields values
+    → own_agrees (value_type fields) c s ≡ true → AreWords (words_of values c s)
+own-typed values fields None s are e = tt
+own-typed values fields (Some c) s are e = are c.id s (known-type s (value_type fields c.id) e)
+
+mutual
+  array-typed :
+      (values : ℤ → List Datum) (fields : List (Rose Entry)) (f : Rose Entry) (t : Rose Part) → AreValues fields values
+      → agrees (value_type fields) f ≡ true → IsTyped (decoded values f t)
+  array-typed values fields (node e fs) (node p ps) are h =
+      let parts = and_parts (own_agrees (value_type fields) e.coding e.stored) (agree (value_type fields) fs) h in
+      (own-typed values fields e.coding e.stored are parts.0, arrays-typed values fields fs ps are parts.1)
+
+  arrays-typed :
+      (values : ℤ → List Datum) (fields : List (Rose Entry)) (fs : Roses Entry) (ts : Roses Part) → AreValues fields values
+      → agree (value_type fields) fs ≡ true → AreTyped (decoded_all values fs ts)
+  arrays-typed values fields none ts are h = tt
+  arrays-typed values fields (more f fs) none are h = tt
+  arrays-typed values fields (more f fs) (more t ts) are h =
+      let parts = and_parts (agrees (value_type fields) f) (agree (value_type fields) fs) h in
+      (array-typed values fields f t are parts.0, arrays-typed values fields fs ts are parts.1)
+
+pub words-law : WordsLaw
+unfolding arrays_of is_clear
+words-law values fields head known are =
+    arrays-typed values fields (kids_of fields) (slots_placed head.nodes head.spans 0 0 (kids_of fields)) are known.clear
+
+own-same : (values others : ℤ → List Datum) (c : Option Coding) (s : StoredType) → ((id : ℤ) → values id ≡ others id)
+    → words_of values c s ≡ words_of others c s
+own-same values others None s same = refl
+own-same values others (Some c) s same = ap (λ vs. Some (record { layout = layout_of_type s; values = vs })) (same c.id)
+
+mutual
+  array-same :
+      (values others : ℤ → List Datum) (f : Rose Entry) (t : Rose Part) → ((id : ℤ) → values id ≡ others id) → decoded values f t ≡ decoded others f t
+  array-same values others (node e fs) (node p ps) same =
+      rw (own-same values others e.coding e.stored same, arrays-same values others fs ps same) refl
+
+  arrays-same :
+      (values others : ℤ → List Datum) (fs : Roses Entry) (ts : Roses Part) → ((id : ℤ) → values id ≡ others id)
+      → decoded_all values fs ts ≡ decoded_all others fs ts
+  arrays-same values others none ts same = refl
+  arrays-same values others (more f fs) none same = refl
+  arrays-same values others (more f fs) (more t ts) same = rw (array-same values others f t same, arrays-same values others fs ts same) refl
+
+pub same-words : SameWords
+unfolding arrays_of
+same-words values others fields head same =
+    arrays-same values others (kids_of fields) (slots_placed head.nodes head.spans 0 0 (kids_of fields)) same

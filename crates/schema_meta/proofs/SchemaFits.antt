@@ -13,17 +13,17 @@ use Rattle.schema_meta.specs.SchemaTree.{field_slots, field_tables, schema_slots
 pub up8-le : (n : ℕ) → up 8 n ≤ n + 7
 up8-le n = omega arith
 
-items_place-le : (n : ℕ) → items_place n ≤ n + 11
+pub items_place-le : (n : ℕ) → items_place n ≤ n + 11
 items_place-le n = omega arith
 
-table_place-le : (at : ℕ) (s : Nodes) → table_place at s ≤ at + 14 + vtable_len s
+pub table_place-le : (at : ℕ) (s : Nodes) → table_place at s ≤ at + 14 + vtable_len s
 table_place-le at s =
     let vtable : ℕ = up 8 at in
     let first : vtable ≤ at + 7 = up8-le at in
     let second : up 8 (vtable + vtable_len s) ≤ vtable + vtable_len s + 7 = up8-le (vtable + vtable_len s) in
     omega (arith, first, second)
 
-number-fits : (w n : ℕ) → 1 ≤ w → w ≤ 8 → n < 256 ^ w → Fits (number w n)
+pub number-fits : (w n : ℕ) → 1 ≤ w → w ≤ 8 → n < 256 ^ w → Fits (number w n)
 number-fits w n low high fits = (low, high, fits)
 
 fields-refer : (fs : Roses LogicalField) → AreReferences (field_tables fs)

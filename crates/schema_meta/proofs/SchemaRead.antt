@@ -36,6 +36,7 @@ use Rattle.schema_meta.specs.Totals.{total}
 use Rattle.schema_meta.proofs.SchemaFits.{schema-writable}
 use Rattle.schema_meta.proofs.ColumnsRead.{all_read}
 use Rattle.schema_meta.proofs.SoundFields.{Sound, tables-count, entries-fields, layouts-read}
+use Rattle.schema_meta.proofs.Plain.{plain-clear}
 use Rattle.schema_meta.proofs.FieldRead.{forest-read, total-read}
 
 sound-columns : (fs : List (Rose LogicalField)) → AreColumns fs → AreNamed fs → Sound 16 stored.Struct (kids_of fs)
@@ -53,7 +54,7 @@ columns-read v fs e columns named h =
     let few = columns.few in
     let left : 1024 - roses_size (kids_of fs) + total 16 v ≡ 1024 = omega (arith, few, counts) in
     let P : Roses Layout → Type 0 = λ ls. are_slim ls ≡ true in
-    all_read v (stored_fields fs) (1024 - roses_size (kids_of fs)) left read (subst P (sym (layouts-read fs)) named.slim)
+    all_read v (stored_fields fs) (1024 - roses_size (kids_of fs)) left read (subst P (sym (layouts-read fs)) named.slim) (plain-clear fs)
 
 endianness-read : (t : Table) → NodeHeld t.bytes (slot_of t slot.endianness) (number 2 0) → endianness_of t ≡ Ok tt
 unfolding endianness_of

@@ -1,10 +1,15 @@
 -- How the columns of a schema lie in memory.
-use Rattle.std.specs.Prelude.{Bool, true, List, ◌&&◌, ◌^◌, nat_le}
+use Rattle.std.specs.Prelude.{Bool, true, List, Option, None, Some, ◌&&◌, ◌^◌, nat_le}
 use Rattle.values.specs.Rose.{Rose, node, Roses, none, more, kids_of}
 use Rattle.values.specs.Layouts.{slot}
 use Rattle.values.specs.declared.layout.Layout.{Layout}
+use Rattle.values.specs.declared.layout.Layout.TheVariants.{Number}
+use Rattle.field_types.specs.declared.stored_type.StoredType.{StoredType}
 use Rattle.field_types.specs.Stored.{layout_of as layout_by}
+use Rattle.schema_meta.specs.declared.coding.Coding.{Coding}
 use Rattle.schema_meta.specs.Entry.{Entry}
+
+-- the layouts of a field's values, and of those below it
 
 abbrev mutual
   pub layout_of : Rose Entry → Rose Layout
@@ -14,9 +19,29 @@ abbrev mutual
   layouts_below none = none
   layouts_below (more f fs) = more (layout_of f) (layouts_below fs)
 
--- the layouts of the columns
+-- the layouts of the columns' values
 abbrev pub layouts_of : List (Rose Entry) → Roses Layout
 layouts_of fields = layouts_below (kids_of fields)
+
+-- The layout of a field's own slots: those of a field with a dictionary are indices.
+abbrev pub slot_layout : Option Coding → StoredType → Layout
+slot_layout None s = layout_by s
+slot_layout (Some c) s = Number c.index.width c.index.signed
+
+abbrev pub own_layout : Rose Entry → Layout
+own_layout (node e children) = slot_layout e.coding e.stored
+
+abbrev mutual
+  pub slot_layout_of : Rose Entry → Rose Layout
+  slot_layout_of (node e children) = node (slot_layout e.coding e.stored) (slot_layouts_below children)
+
+  pub slot_layouts_below : Roses Entry → Roses Layout
+  slot_layouts_below none = none
+  slot_layouts_below (more f fs) = more (slot_layout_of f) (slot_layouts_below fs)
+
+-- the layouts of the arrays of a batch
+abbrev pub slot_layouts_of : List (Rose Entry) → Roses Layout
+slot_layouts_of fields = slot_layouts_below (kids_of fields)
 
 -- no slot, at any level, is above 2^20
 abbrev mutual

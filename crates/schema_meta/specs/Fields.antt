@@ -1,14 +1,16 @@
 -- Apache Arrow Schema.fbs, table Field: a field with its children, and the faults that stand in it. The parts of a field are read
 -- each by itself.
-use Rattle.std.specs.Prelude.{ℕ, zero, suc, Bool, ◌&&◌, Option, None, Some, Ok, Err, List, [], length, is_none, nat_le, ◌==◌, if◌then◌else◌}
+use Rattle.std.specs.Prelude.{ℕ, zero, suc, Bool, ◌&&◌, Option, None, Some, Ok, Err, List, [], length, nat_le, ◌==◌, if◌then◌else◌}
 use Rattle.std.specs.Str.{is_utf8}
-use Rattle.flatbuf.specs.Layout.{Table, Vector, text_of, subtable_of, vector_of, entry_of}
-use Rattle.values.specs.Reading.{Reading, ◌>>=◌, both, first, second, each, one}
+use Rattle.flatbuf.specs.Layout.{Table, Vector, text_of, vector_of, entry_of}
+use Rattle.values.specs.Reading.{Reading, ◌>>=◌, both, second, each, one}
 use Rattle.values.specs.Rose.{Rose, node, kids_of}
 use Rattle.values.specs.declared.faults.StreamFault.TheVariants as fault
 use Rattle.field_types.specs.declared.kinds.TypeKind.{TypeKind}
 use Rattle.field_types.specs.declared.stored_type.StoredType.{StoredType}
+use Rattle.schema_meta.specs.declared.coding.Coding.{Coding}
 use Rattle.schema_meta.specs.Entry.{Entry}
+use Rattle.schema_meta.specs.Encoding.{coding_of}
 use Rattle.schema_meta.specs.Slots as slot
 use Rattle.field_types.specs.Reads.{readable, checked, needs, bool_of}
 use Rattle.field_types.specs.Kinds.{kind_of, may_have}
@@ -24,10 +26,6 @@ name_in (Some bytes) = checked_name bytes
 
 unfoldable pub name_of : Table → Reading (List ℕ)
 name_of t = readable (text_of t slot.name) >>= name_in
-
--- Columns of dictionary indices aren't taken.
-unfoldable pub plain_of : Table → Reading (Unit {0})
-plain_of t = readable (subtable_of t slot.dictionary) >>= λ dictionary. needs fault.UnsupportedType (is_none dictionary)
 
 -- An absent vector is an empty one.
 abbrev pub count_in : Option Vector → ℕ
@@ -49,18 +47,26 @@ pub record Label : Type 0 where
   pub name : List ℕ
   pub nullable : Bool
 
-pub record Content : Type 0 where
+pub record Storage : Type 0 where
   pub stored : StoredType
+  pub coding : Option Coding
+
+pub record Content : Type 0 where
+  pub storage : Storage
   pub children : List (Rose Entry)
 
 abbrev pub label : List ℕ → Bool → Label
 label name nullable = record { name = name; nullable = nullable }
 
-abbrev pub content : StoredType → List (Rose Entry) → Content
-content stored children = record { stored = stored; children = children }
+abbrev pub storage : StoredType → Option Coding → Storage
+storage stored coding = record { stored = stored; coding = coding }
+
+abbrev pub content : Storage → List (Rose Entry) → Content
+content storage children = record { storage = storage; children = children }
 
 abbrev pub field : Label → Content → Rose Entry
-field l c = node (record { name = l.name; nullable = l.nullable; stored = c.stored }) (kids_of c.children)
+field l c =
+    node (record { name = l.name; nullable = l.nullable; stored = c.storage.stored; coding = c.storage.coding }) (kids_of c.children)
 
 unfoldable pub label_of : Table → Reading Label
 label_of t = both label (name_of t) (bool_of t slot.nullable)
@@ -69,7 +75,7 @@ label_of t = both label (name_of t) (bool_of t slot.nullable)
 unfoldable pub content_of : (Vector → Reading (List (Rose Entry))) → Table → Reading Content
 content_of below t = do
   k ← kind_of t
-  both content (both first (type_of k t) (plain_of t)) (children_of below k t)
+  both content (both storage (type_of k t) (coding_of k t)) (children_of below k t)
 
 unfoldable pub field_of : (Vector → Reading (List (Rose Entry))) → Table → Reading (Rose Entry)
 field_of below t = both field (label_of t) (content_of below t)

@@ -1,30 +1,40 @@
 -- What is known of fields that were read without a fault.
-use Rattle.std.specs.Prelude.{◌≡◌, ◌≤◌, true, List, Ok, length, map}
+use Rattle.std.specs.Prelude.{◌≡◌, ◌≤◌, true, List, Option, None, Some, Ok, length, map}
 use Rattle.std.specs.Str.{is_utf8}
 use Rattle.flatbuf.specs.Layout.{Table}
 use Rattle.values.specs.Rose.{Rose, node, Roses, none, more, kids_of, roses_size}
 use Rattle.values.specs.Layouts.{AreLayouts}
-use Rattle.field_types.specs.Stored.{IsType}
+use Rattle.field_types.specs.Stored.{IsSingle, IsType}
+use Rattle.field_types.specs.declared.stored_type.StoredType.{StoredType}
+use Rattle.schema_meta.specs.declared.coding.Coding.{Coding}
+use Rattle.schema_meta.specs.Dictionaries.{is_clear}
 use Rattle.schema_meta.specs.Entry.{Entry}
-use Rattle.schema_meta.specs.FieldLayouts.{are_slim, layouts_of}
+use Rattle.schema_meta.specs.FieldLayouts.{are_slim, layouts_of, slot_layouts_of}
 use Rattle.schema_meta.specs.Logical.{logical_field}
 use Rattle.schema_meta.specs.Schema.{schema_of}
 use Rattle.schema_meta.specs.SchemaTree.{AreColumns}
 
+-- what a dictionary has is no list or struct
+abbrev pub IsCoded : Option Coding → StoredType → Type 0
+IsCoded None s = Unit {0}
+IsCoded (Some c) s = IsSingle s
+
 -- names that are short texts, and types within their bounds, at all levels
 abbrev mutual
   pub IsGoodField : Rose Entry → Type 0
-  IsGoodField (node e kids) = (length e.name ≤ 4096) × (is_utf8 e.name ≡ true) × IsType e.stored × AreGoodFields kids
+  IsGoodField (node e kids) = (length e.name ≤ 4096) × (is_utf8 e.name ≡ true) × IsType e.stored × IsCoded e.coding e.stored × AreGoodFields kids
 
   pub AreGoodFields : Roses Entry → Type 0
   AreGoodFields none = Unit {0}
   AreGoodFields (more f fs) = IsGoodField f × AreGoodFields fs
 
--- They are few at all levels, each has the children that its layout wants, and no slot is too large.
+-- They are few at all levels, each has the children that its layout wants, no slot is too large, and no ids of dictionaries clash.
 pub record AreFields (fields : List (Rose Entry)) : Type 0 where
   pub few : roses_size (kids_of fields) ≤ 1024
   pub layouts : AreLayouts (layouts_of fields)
+  pub slots : AreLayouts (slot_layouts_of fields)
   pub slim : are_slim (layouts_of fields) ≡ true
+  pub clear : is_clear fields ≡ true
   pub good : AreGoodFields (kids_of fields)
 
 abbrev pub FieldsLaw : Type 0

@@ -25,3 +25,8 @@ pub mod FieldLayouts
 pub mod FieldsLaw
 pub mod LogicalLaw
 pub mod PlaceLaw
+pub mod Encoding
+pub mod Dictionaries
+pub mod DictionaryBatch
+pub mod PlainLaw
+pub mod ClashLaw

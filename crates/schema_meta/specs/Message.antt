@@ -1,8 +1,8 @@
--- The metadata of a message: Message.fbs, tables `Message` and `DictionaryBatch`.
+-- The metadata of a message: Message.fbs, table `Message`.
 -- Not every fault that could be named is collected: what is left out stands only beside one that is kept, so the same
 -- metadata is read.
 use Rattle.std.specs.Prelude.{ℕ, ◌^◌, pos, Ok, Err, List, Option, None, Some, is_some, unwrap_or, ◌==◌, if◌then◌else◌}
-use Rattle.std.specs.Int.{w16, w64}
+use Rattle.std.specs.Int.{w16}
 use Rattle.std.specs.Ordering.{int_eq}
 use Rattle.flatbuf.specs.Layout.{Table, root_of, number_of, signed_of, subtable_of}
 use Rattle.values.specs.declared.faults.StreamFault.TheVariants as fault
@@ -17,7 +17,9 @@ use Rattle.schema_meta.specs.declared.header.Header.TheVariants as header
 use Rattle.schema_meta.specs.Counts.{count_in}
 use Rattle.schema_meta.specs.BatchHead.{BatchHead}
 use Rattle.schema_meta.specs.Batch.{batch_of}
-use Rattle.schema_meta.specs.FieldLayouts.{layouts_of}
+use Rattle.schema_meta.specs.DictionaryBatch.{dictionary_of}
+use Rattle.schema_meta.specs.FieldLayouts.{slot_layouts_of}
+use Rattle.schema_meta.specs.declared.header.DictionaryHeader.{DictionaryHeader}
 use Rattle.schema_meta.specs.Stage.{Known, Meta}
 use Rattle.schema_meta.specs.SameColumns.{is_declared}
 
@@ -48,6 +50,9 @@ brings_schema body fields = record { header = header.Schema; body = body; schema
 abbrev pub brings_batch : ℕ → BatchHead → Meta
 brings_batch body b = record { header = header.Batch b; body = body; schema = None }
 
+abbrev pub brings_dictionary : ℕ → DictionaryHeader → Meta
+brings_dictionary body d = record { header = header.Dictionary d; body = body; schema = None }
+
 -- the declared schema, where one was
 abbrev pub expected : Option (List (Rose LogicalField)) → List (Rose Entry) → Reading (List (Rose Entry))
 expected None fields = Ok fields
@@ -57,20 +62,18 @@ expected (Some columns) fields = if is_declared columns fields then Ok fields el
 unfoldable pub new_schema : Known → Table → Reading (List (Rose Entry))
 new_schema known h = both second (refused_if fault.SecondSchema (is_some known.schema)) (schema_of h >>= expected known.declared)
 
--- No field has a dictionary, so no id is one of the schema's.
-unfoldable pub dictionary_of : Known → Table → Reading Meta
-dictionary_of known t =
-    must fault.NoSchema known.schema >>= λ fields. header_table t >>= λ h. must fault.BadTable (signed_of w64 h 0)
-    >>= λ id. Err (one fault.UnknownDictionary)
+unfoldable pub dictionary_batch : Known → ℕ → Table → Reading DictionaryHeader
+dictionary_batch known body t =
+    must fault.NoSchema known.schema >>= λ fields. header_table t >>= dictionary_of fields known.counts body
 
 unfoldable pub record_batch : Known → ℕ → Table → Reading BatchHead
 record_batch known body t =
-    must fault.NoSchema known.schema >>= λ fields. header_table t >>= batch_of (layouts_of fields) body
+    must fault.NoSchema known.schema >>= λ fields. header_table t >>= batch_of (slot_layouts_of fields) body
 
 -- what the header means, by its kind
 unfoldable pub header_of : Known → Table → MessageKind → ℕ → Reading Meta
 header_of known t kind.Schema body = mapped (brings_schema body) (header_table t >>= new_schema known)
-header_of known t kind.Dictionary body = dictionary_of known t
+header_of known t kind.Dictionary body = mapped (brings_dictionary body) (dictionary_batch known body t)
 header_of known t kind.Batch body = mapped (brings_batch body) (record_batch known body t)
 
 -- Under an unknown kind nothing else is judged. A batch before the schema is refused whatever it holds.

@@ -1,14 +1,21 @@
 -- What a batch's header that fits vouches for of its arrays.
-use Rattle.std.specs.Prelude.{◌≡◌, ℕ, List, length}
+use Rattle.std.specs.Prelude.{◌≡◌, ℕ, ℤ, All, List, length, Some}
+use Rattle.values.specs.Datum.{Datum}
+use Rattle.values.specs.Layouts.{Holds}
 use Rattle.values.specs.Rose.{Rose, Roses, none, more}
 use Rattle.array_layout.specs.declared.array.Part.{Part}
-use Rattle.array_layout.specs.Placing.{layouts_of as layouts_of_arrays}
-use Rattle.array_layout.specs.Sound.{ArePlaced}
+use Rattle.array_layout.specs.Placing.{layout_of as layout_of_array, layouts_of as layouts_of_arrays}
+use Rattle.array_layout.specs.Sound.{ArePlaced, IsPlaced}
+use Rattle.array_layout.specs.Typed.{AreTyped, IsTyped}
+use Rattle.field_types.specs.declared.stored_type.StoredType.{StoredType}
 use Rattle.array_layout.specs.Cells.{len_of}
 use Rattle.schema_meta.specs.Entry.{Entry}
 use Rattle.schema_meta.specs.BatchHead.{BatchHead}
-use Rattle.schema_meta.specs.FieldLayouts.{layouts_of}
-use Rattle.schema_meta.specs.Parts.{arrays_of}
+use Rattle.schema_meta.specs.FieldLayouts.{layouts_of, slot_layouts_of}
+use Rattle.schema_meta.specs.Dictionaries.{value_type}
+use Rattle.schema_meta.specs.DictionaryBatch.{value_layout, value_layouts}
+use Rattle.schema_meta.specs.FieldsLaw.{AreFields}
+use Rattle.schema_meta.specs.Parts.{arrays_of, values_array}
 use Rattle.schema_meta.specs.Sound.{Fits}
 
 -- each of them has so many slots
@@ -16,9 +23,33 @@ abbrev pub HaveLength : ℕ → Roses Part → Type 0
 HaveLength n none = Unit {0}
 HaveLength n (more t ts) = (len_of t ≡ n) × HaveLength n ts
 
--- Their buffers lie in the body, they are long enough, one slot a row, and they lie as their fields want.
+-- Their buffers lie in the body, they are long enough, one slot a row, and their values lie as their fields want.
 abbrev pub PlaceLaw : Type 0
 PlaceLaw =
-    (fields : List (Rose Entry)) (body : List ℕ) (head : BatchHead) → Fits fields (length body) head
-    → ArePlaced body (arrays_of fields head) × HaveLength head.rows (arrays_of fields head)
-    × (layouts_of_arrays (arrays_of fields head) ≡ layouts_of fields)
+    (values : ℤ → List Datum) (fields : List (Rose Entry)) (body : List ℕ) (head : BatchHead)
+    → Fits (slot_layouts_of fields) (length body) head
+    → ArePlaced body (arrays_of values fields head) × HaveLength head.rows (arrays_of values fields head)
+    × (layouts_of_arrays (arrays_of values fields head) ≡ layouts_of fields)
+
+-- The values of each dictionary of a schema are of its type.
+abbrev pub AreValues : List (Rose Entry) → (ℤ → List Datum) → Type 0
+AreValues fields values = (id : ℤ) (s : StoredType) → value_type fields id ≡ Some s → All (Holds (value_layout s)) (values id)
+
+-- Then so are those of the arrays' dictionaries.
+abbrev pub WordsLaw : Type 0
+WordsLaw =
+    (values : ℤ → List Datum) (fields : List (Rose Entry)) (head : BatchHead) → AreFields fields → AreValues fields values
+    → AreTyped (arrays_of values fields head)
+
+-- Of the values of a dictionary no more is used than what they are.
+abbrev pub SameWords : Type 0
+SameWords =
+    (values others : ℤ → List Datum) (fields : List (Rose Entry)) (head : BatchHead) → ((id : ℤ) → values id ≡ others id)
+    → arrays_of values fields head ≡ arrays_of others fields head
+
+-- The array of a dictionary batch lies in the body and has a slot a value.
+abbrev pub ValuesLaw : Type 0
+ValuesLaw =
+    (s : StoredType) (body : List ℕ) (head : BatchHead) → Fits (value_layouts s) (length body) head
+    → IsPlaced body (values_array s head) × IsTyped (values_array s head) × (len_of (values_array s head) ≡ head.rows)
+    × (layout_of_array (values_array s head) ≡ value_layout s)

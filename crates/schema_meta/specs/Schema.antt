@@ -10,6 +10,7 @@ use Rattle.schema_meta.specs.Entry.{Entry}
 use Rattle.schema_meta.specs.Slots as slot
 use Rattle.field_types.specs.Reads.{readable, needs, checked}
 use Rattle.schema_meta.specs.FieldLayouts.{layouts_of, are_slim}
+use Rattle.schema_meta.specs.Dictionaries.{is_clear}
 use Rattle.schema_meta.specs.Fields.{forest, fields_in}
 use Rattle.schema_meta.specs.Totals.{total}
 
@@ -18,13 +19,14 @@ unfoldable pub endianness_of : Table → Reading (Unit {0})
 endianness_of t =
     readable (signed_of w16 t slot.endianness) >>= λ e. needs fault.BigEndian (int_eq (unwrap_or e (pos 0)) (pos 0))
 
--- The slot of a field is judged where all types are known.
-abbrev pub slim : List (Rose Entry) → Reading (List (Rose Entry))
-slim fields = checked fault.BadType (are_slim (layouts_of fields)) fields
+-- The slots of fields, and whether ids clash, are judged where all types are known.
+unfoldable pub judged : List (Rose Entry) → Reading (List (Rose Entry))
+judged fields =
+    both second (needs fault.BadType (are_slim (layouts_of fields))) (checked fault.DictionaryClash (is_clear fields) fields)
 
 -- At most 1,024 fields at all levels, of at most 16 levels.
 unfoldable pub columns_of : Vector → Reading (List (Rose Entry))
-columns_of v = both second (needs fault.TooManyFields (nat_le (total 16 v) 1024)) (forest 16 v >>= slim)
+columns_of v = both second (needs fault.TooManyFields (nat_le (total 16 v) 1024)) (forest 16 v >>= judged)
 
 unfoldable pub schema_of : Table → Reading (List (Rose Entry))
 schema_of t = both second (endianness_of t) (readable (vector_of t slot.fields) >>= fields_in columns_of)

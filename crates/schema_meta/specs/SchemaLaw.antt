@@ -1,5 +1,5 @@
 -- What is written of a logical schema is read as that schema.
-use Rattle.std.specs.Prelude.{◌≡◌, ◌≤◌, ℕ, suc, max, true, List, map, Option, None, Some, Ok, ⊤}
+use Rattle.std.specs.Prelude.{◌≡◌, ◌≤◌, ℕ, suc, max, true, List, [], map, Option, None, Some, Ok, ⊤}
 use Rattle.std.specs.Str.{is_utf8}
 use Rattle.values.specs.Rose.{Rose, node, Roses, none, more, kids_of}
 use Rattle.values.specs.Layouts.{AreLayouts}
@@ -16,7 +16,7 @@ use Rattle.schema_meta.specs.Message.{meta_of, brings_schema}
 -- a column as it is read: it may hold nulls
 abbrev mutual
   pub stored_field : Rose LogicalField → Rose Entry
-  stored_field (node f kids) = node (record { name = f.name; nullable = true; stored = f.col_type }) (stored_below kids)
+  stored_field (node f kids) = node (record { name = f.name; nullable = true; stored = f.col_type; coding = None }) (stored_below kids)
 
   pub stored_below : Roses LogicalField → Roses Entry
   stored_below none = none
@@ -54,7 +54,7 @@ pub record AreNamed (fields : List (Rose LogicalField)) : Type 0 where
 
 -- a stream before its schema, with the columns that are declared for it, if any are
 abbrev pub before : Option (List (Rose LogicalField)) → Known
-before declared = record { declared = declared; schema = None }
+before declared = record { declared = declared; schema = None; counts = [] }
 
 -- These columns, where any are declared, are the schema's.
 abbrev pub AreExpected : Option (List (Rose LogicalField)) → List (Rose LogicalField) → Type 0

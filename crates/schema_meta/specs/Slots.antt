@@ -20,3 +20,13 @@ dictionary = 4
 
 abbrev pub children : ℕ
 children = 5
+
+-- table DictionaryEncoding
+abbrev pub dictionary_id : ℕ
+dictionary_id = 0
+
+abbrev pub index_type : ℕ
+index_type = 1
+
+abbrev pub dictionary_kind : ℕ
+dictionary_kind = 3

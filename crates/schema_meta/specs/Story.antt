@@ -1,17 +1,18 @@
 -- The reading of a whole stream: Arrow Columnar Format, "IPC Streaming Format". Message by message, each in what is known after those
 -- before it.
-use Rattle.std.specs.Prelude.{ℕ, zero, suc, ◌==◌, List, [], ◌++◌, Option, None, Some, Ok, Err, length, drop, slice_range, unwrap_or, if◌then◌else◌}
+use Rattle.std.specs.Prelude.{ℕ, zero, suc, ◌==◌, List, [], ◌∷◌, ◌++◌, Option, None, Some, Ok, Err, length, drop, slice_range, unwrap_or, if◌then◌else◌}
 use Rattle.values.specs.Datum.{Datum}
 use Rattle.values.specs.Reading.{Reading, one}
 use Rattle.values.specs.Rose.{Rose}
 use Rattle.values.specs.declared.faults.StreamFault.TheVariants as fault
+use Rattle.dictionaries.specs.Batches.{DictionaryBatch, batch, dictionary_after}
 use Rattle.schema_meta.specs.Entry.{Entry}
 use Rattle.schema_meta.specs.declared.header.Header.{Header}
 use Rattle.schema_meta.specs.declared.header.Header.TheVariants as header
 use Rattle.schema_meta.specs.Stage.{Known, Whole, end_of}
 use Rattle.schema_meta.specs.Sound.{after}
 use Rattle.schema_meta.specs.Framing.{first}
-use Rattle.schema_meta.specs.Rows.{rows_of}
+use Rattle.schema_meta.specs.Rows.{rows_of, values_of}
 
 -- What a stream tells: the schema that came, the rows of its batches, and then its end, or the faults at which it breaks.
 pub record Story : Type 0 where
@@ -44,33 +45,46 @@ abbrev pub after_batch : Known → Reading (List (List Datum)) → Story → Sto
 after_batch known (Ok rows) rest = after_rows rows rest
 after_batch known (Err fs) rest = ends known (Err fs)
 
--- The message's header says what it tells, with the body and the bytes after the message. `known` holds after it, and `rest` is the story of
--- those bytes.
-abbrev pub told_by : Known → Story → List ℕ → List ℕ → Header → Story
-told_by known rest body bytes header.Schema = rest
-told_by known rest body bytes (header.Batch head) = after_batch known (rows_of (unwrap_or known.schema []) head body) rest
-told_by known rest body bytes header.End = ends known (at_end_mark bytes)
+abbrev pub after_values : Known → Reading (List Datum) → (List Datum → Story) → Story
+after_values known (Ok values) rest = rest values
+after_values known (Err fs) rest = ends known (Err fs)
 
-abbrev pub after_message : (Known → List ℕ → Story) → Known → List ℕ → Whole → Story
-after_message next known bytes w =
-    told_by known (next known (drop (end_of w) bytes)) (slice_range bytes w.front (end_of w)) (drop (end_of w) bytes) w.meta.header
+-- the columns of a stream, none before its schema
+abbrev pub fields_of : Known → List (Rose Entry)
+fields_of known = unwrap_or known.schema []
+
+-- The message's header says what it tells, with the body and the bytes after the message. `known` holds after it, `ds` are the dictionary
+-- batches before it, and `rest` is the story of those bytes after some dictionary batches.
+abbrev pub told_by : Known → (List DictionaryBatch → Story) → List DictionaryBatch → List ℕ → List ℕ → Header → Story
+told_by known rest ds body bytes header.Schema = rest ds
+told_by known rest ds body bytes (header.Dictionary d) =
+    after_values known (values_of (fields_of known) d body) (λ values. rest (ds ++ batch d.id d.is_delta values ∷ []))
+told_by known rest ds body bytes (header.Batch head) =
+    after_batch known (rows_of (dictionary_after ds) (fields_of known) head body) (rest ds)
+told_by known rest ds body bytes header.End = ends known (at_end_mark bytes)
+
+abbrev pub after_message : (Known → List DictionaryBatch → List ℕ → Story) → Known → List DictionaryBatch → List ℕ → Whole → Story
+after_message next known ds bytes w =
+    told_by known (λ es. next known es (drop (end_of w) bytes)) ds (slice_range bytes w.front (end_of w)) (drop (end_of w) bytes)
+    w.meta.header
 
 -- the first message, if it is there and no fault stands in it, and what follows
-unfoldable pub told : (Known → List ℕ → Story) → Known → List ℕ → Reading (Option Whole) → Story
-told next known bytes (Err fs) = ends known (Err fs)
-told next known bytes (Ok None) = ends known (Err (one fault.Truncated))
-told next known bytes (Ok (Some w)) = after_message next (after known w.meta.schema) bytes w
+unfoldable pub told :
+    (Known → List DictionaryBatch → List ℕ → Story) → Known → List DictionaryBatch → List ℕ → Reading (Option Whole) → Story
+told next known ds bytes (Err fs) = ends known (Err fs)
+told next known ds bytes (Ok None) = ends known (Err (one fault.Truncated))
+told next known ds bytes (Ok (Some w)) = after_message next (after known w.meta) ds bytes w
 
--- the story of bytes that have at most this many messages
-unfoldable pub story : ℕ → Known → List ℕ → Story
-story zero known bytes = ends known (at_input_end known.schema)
-story (suc n) known bytes =
+-- the story of bytes that have at most this many messages, after these dictionary batches
+unfoldable pub story : ℕ → Known → List DictionaryBatch → List ℕ → Story
+story zero known ds bytes = ends known (at_input_end known.schema)
+story (suc n) known ds bytes =
     if length bytes == 0 then ends known (at_input_end known.schema)
-    else knowing known.schema (told (story n) known bytes (first known bytes))
+    else knowing known.schema (told (story n) known ds bytes (first known bytes))
 
 abbrev pub nothing_known : Known
-nothing_known = record { declared = None; schema = None }
+nothing_known = record { declared = None; schema = None; counts = [] }
 
 -- A message has a byte at least, so there are no more messages than bytes.
 unfoldable pub story_of : List ℕ → Story
-story_of bytes = story (length bytes) nothing_known bytes
+story_of bytes = story (length bytes) nothing_known [] bytes

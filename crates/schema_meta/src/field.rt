@@ -2,12 +2,14 @@
 ghost use Rattle.std.specs.Prelude.{◌≡◌, IfOk};
 ghost use Rattle.values.specs.Rose.{kids_of};
 ghost use Rattle.field_types.specs.Logical.{child_name, narrow};
+ghost use Rattle.schema_meta.specs.FieldLayouts.{own_layout};
 ghost use Rattle.schema_meta.specs.Logical.{logical_as, logical_below, logical_field};
 
+use crate::coding::Coding;
 use field_types::{Named, StoredType};
 use std::alloc::{AllocError, Global};
 use std::marker::Model;
-use values::OffsetWidth;
+use values::{Layout, OffsetWidth};
 
 /// A field as it is stored: a column, or a part of one.
 ///
@@ -17,7 +19,10 @@ pub struct Field {
     pub name: String,
     /// What the schema says. Values are taken as they come: nulls too where this is `false`.
     pub nullable: bool,
+    /// The type of its values.
     pub stored: StoredType,
+    /// The dictionary that has its values, if it is stored by one.
+    pub coding: Option<Coding>,
     pub children: Vec<Field>,
 }
 
@@ -31,7 +36,7 @@ impl Model for Field {
 
     ghost coded = { rose_code entry_code };
 
-    ghost view = { λ f. node (record { name = string_bytes f.name; nullable = f.nullable; stored = f.stored }) (kids_of f.children.items) };
+    ghost view = { λ f. node (record { name = string_bytes f.name; nullable = f.nullable; stored = f.stored; coding = f.coding }) (kids_of f.children.items) };
 
     ghost size = { rose_size };
 
@@ -39,6 +44,19 @@ impl Model for Field {
 }
 
 impl Field {
+    /// How its slots lie in memory: indices, where it has a dictionary.
+    pub fn slot_layout(&self) -> Layout
+        ensures { result ≡ own_layout self.now }
+    {
+        match self.coding {
+            None => self.stored.layout(),
+            Some(Coding { index, .. }) => Layout::Number {
+                width: index.width,
+                signed: index.signed,
+            },
+        }
+    }
+
     /// The field with the type of its values, whatever they are stored as.
     pub fn logical(&self, alloc: Global) -> Result<Named, AllocError>
         ensures { IfOk result (λ n. n ≡ logical_field self.now) }

@@ -2,10 +2,11 @@
 ghost use Rattle.std.specs.Prelude.{◌≡◌, ◌<◌, ◌↔◌, IsTrue};
 ghost use Rattle.std.specs.Str.{is_utf8};
 ghost use Rattle.values.specs.Reading.{Answers, Judges};
-ghost use Rattle.schema_meta.specs.Fields.{checked_name, children_of, entry_by, field_of, forest, name_of, plain_of};
+ghost use Rattle.schema_meta.specs.Fields.{checked_name, children_of, entry_by, field_of, forest, name_of};
 
+use crate::coding::read_coding;
 use crate::field::Field;
-use crate::slots::{FIELD_CHILDREN, FIELD_DICTIONARY, FIELD_NAME, FIELD_NULLABLE};
+use crate::slots::{FIELD_CHILDREN, FIELD_NAME, FIELD_NULLABLE};
 use crate::unreadable::unreadable;
 use field_types::{TypeKind, may_have, read_bool, read_kind, read_type};
 use flatbuf::{TableRef, VectorRef};
@@ -61,12 +62,13 @@ fn read_field(alloc: Global, table: &TableRef, depth: u8) -> Result<Field, Strea
     let nullable = read_bool(table, FIELD_NULLABLE)?;
     let kind = read_kind(table)?;
     let stored = read_type(alloc, kind, table)?;
-    refuse_dictionary(table)?;
+    let coding = read_coding(kind, table)?;
     let children = read_children(alloc, kind, table, depth)?;
     Ok(Field {
         name: String::from_str(alloc, name)?,
         nullable,
         stored,
+        coding,
         children,
     })
 }
@@ -112,14 +114,5 @@ fn check_name(bytes: &[u8]) -> Result<&str, StreamFault>
     match simdutf8::basic::from_utf8(bytes) {
         Ok(name) => Ok(name),
         Err(_) => Err(StreamFault::BadName),
-    }
-}
-
-fn refuse_dictionary(table: &TableRef) -> Result<(), StreamFault>
-    ensures { Judges (λ u. u) result (plain_of table.now) }
-{
-    match table.table(FIELD_DICTIONARY).map_err(unreadable)? {
-        None => Ok(()),
-        Some(_) => Err(StreamFault::UnsupportedType),
     }
 }

@@ -1,4 +1,4 @@
-//! What the metadata of a message says beside a schema: Message.fbs, tables `Message` and `RecordBatch`.
+//! What the metadata of a message says beside a schema: Message.fbs, tables `Message`, `DictionaryBatch` and `RecordBatch`.
 
 use array_layout::{Node, Span};
 use std::marker::Model;
@@ -27,11 +27,23 @@ impl Model for BatchHeader {
     ghost view = { λ b. record { rows = b.rows; nodes = b.nodes.items; spans = b.spans.items } };
 }
 
+/// The header of a dictionary batch.
+#[derive(Debug, Drop)]
+pub struct DictionaryHeader {
+    pub id: i64,
+    /// Whether its values come behind those that the dictionary has, and not in place of them.
+    pub is_delta: bool,
+    /// It has one column, of the values.
+    pub batch: BatchHeader,
+}
+
 /// What a message is.
 #[derive(Debug, Drop)]
 pub enum Header {
     /// The schema of the stream.
     Schema,
+    /// A dictionary batch.
+    Dictionary(DictionaryHeader),
     /// A record batch.
     Batch(BatchHeader),
     /// The end of the stream.

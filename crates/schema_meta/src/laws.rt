@@ -1,7 +1,9 @@
 //! Laws of the definitions, each the contract of a function that does nothing.
+ghost use Rattle.schema_meta.specs.ClashLaw.{ClashLaw, TypeLaw};
 ghost use Rattle.schema_meta.specs.FieldsLaw.{ColumnsFit, FieldsLaw};
 ghost use Rattle.schema_meta.specs.LogicalLaw.{LogicalTrees, NarrowFits, NarrowHolds, NarrowHoldsEach, NarrowRowWeighs, NarrowWeighs};
-ghost use Rattle.schema_meta.specs.PlaceLaw.{PlaceLaw};
+ghost use Rattle.schema_meta.specs.PlaceLaw.{PlaceLaw, SameWords, ValuesLaw, WordsLaw};
+ghost use Rattle.schema_meta.specs.PlainLaw.{PlainArrays, PlainSlots};
 ghost use Rattle.schema_meta.specs.Paths.{FoundByPaths, StandsByPaths};
 ghost use Rattle.schema_meta.specs.SchemaLaw.{ColumnsLaw, SchemaLaw};
 ghost use Rattle.schema_meta.specs.SignLaw.{SignedLength, SignedOffsets, SignedRange, SignedSize};
@@ -14,7 +16,7 @@ pub fn path_law()
 {}
 
 /// Fields that are read are at most 1,024 at all levels, with short names, types within their bounds, the children that each
-/// layout wants, and slots within the limit; and their logical fields can be written.
+/// layout wants, slots within the limit, and no two dictionaries of one id and of different types; and their logical fields can be written.
 pub fn fields_law()
     ensures read { FieldsLaw }
     ensures fit { ColumnsFit }
@@ -50,8 +52,25 @@ pub fn logical_law()
     ensures row_weights { NarrowRowWeighs }
 {}
 
-/// The arrays of a batch whose header fits its schema lie in the body, are long enough, have a slot a row, and lie as their
-/// fields want.
+/// The arrays of a batch whose header fits its schema lie in the body, are long enough, have a slot a row, and their values lie as
+/// their fields want. The values of their dictionaries are of the fields' types where those of the ids are, and nothing else is used
+/// of these. The array of a dictionary batch lies in the body, has a slot a value, and lies as the type wants.
 pub fn place_law()
-    ensures { PlaceLaw }
+    ensures placed { PlaceLaw }
+    ensures words { WordsLaw }
+    ensures same { SameWords }
+    ensures values { ValuesLaw }
+{}
+
+/// No ids of dictionaries clash exactly where any two fields with one id, at all levels, have the same type; and then the type that
+/// is found for an id is that of the fields with the id, where there are any.
+pub fn clash_law()
+    ensures clash { ClashLaw }
+    ensures types { TypeLaw }
+{}
+
+/// Logical fields have no dictionaries: their slots are their values.
+pub fn plain_law()
+    ensures slots { PlainSlots }
+    ensures arrays { PlainArrays }
 {}

@@ -10,6 +10,7 @@ use crate::fields::read_fields;
 use crate::slot::slots_of;
 use crate::slots::{SCHEMA_ENDIANNESS, SCHEMA_FIELDS};
 use crate::unreadable::unreadable;
+use crate::value_types::is_clear;
 use field_types::Schema;
 use flatbuf::{TableRef, VectorRef};
 use std::alloc::{AllocError, Global};
@@ -38,7 +39,7 @@ impl StreamSchema {
 /// The schema that a Schema table of the metadata means (Apache Arrow Schema.fbs, table Schema).
 ///
 /// The error is a fault that stands in the table, any one where there are several: `BadTable`, `BadName`,
-/// `BigEndian`, `UnsupportedType`, `BadType` or `TooManyFields`. Where none stands only `Memory` is an
+/// `BigEndian`, `UnsupportedType`, `BadType`, `TooManyFields` or `DictionaryClash`. Where none stands only `Memory` is an
 /// error. What lies under a type of a kind that isn't taken is not read.
 pub fn read_schema(alloc: Global, schema: &TableRef) -> Result<StreamSchema, StreamFault>
     ensures reading { Answers (λ s. s.fields.items) result (schema_of schema.now) }
@@ -63,10 +64,13 @@ fn read_columns(alloc: Global, columns: &VectorRef) -> Result<Vec<Field>, Stream
         return Err(StreamFault::TooManyFields);
     };
     let fields = read_fields(alloc, columns, MAX_DEPTH)?;
-    match slots_of(&fields) {
-        None => Err(StreamFault::BadType),
-        Some(_) => Ok(fields),
+    let Some(_) = slots_of(&fields) else {
+        return Err(StreamFault::BadType);
+    };
+    if !is_clear(&fields) {
+        return Err(StreamFault::DictionaryClash);
     }
+    Ok(fields)
 }
 
 fn check_endianness(schema: &TableRef) -> Result<(), StreamFault>

@@ -1,9 +1,9 @@
 //! What a schema wants of its batches: Arrow Columnar Format, "Buffer Listing for Each Layout".
 
 ghost use Rattle.std.specs.Prelude.{◌≡◌, ◌*◌, ◌≤◌};
-ghost use Rattle.values.specs.Rose.{kids_of, rose_size, roses_size};
-ghost use Rattle.array_layout.specs.Placing.{spans_below, spans_in};
-ghost use Rattle.schema_meta.specs.FieldLayouts.{layout_of, layouts_of};
+ghost use Rattle.values.specs.Rose.{kids_of, roses_size};
+ghost use Rattle.array_layout.specs.Placing.{spans_below};
+ghost use Rattle.schema_meta.specs.FieldLayouts.{slot_layouts_of};
 
 use crate::field::Field;
 use crate::parts::own_spans;
@@ -13,7 +13,7 @@ use crate::schema::StreamSchema;
 #[tactic(auto, using(crate::proofs::Counts::counts))]
 fn nodes_of(fields: &[Field]) -> usize
     requires { roses_size (kids_of fields.now) ≤ 1024 }
-    ensures { result ≡ roses_size (layouts_of fields.now) }
+    ensures { result ≡ roses_size (slot_layouts_of fields.now) }
 {
     let mut nodes = 0;
     for field in fields {
@@ -26,12 +26,12 @@ fn nodes_of(fields: &[Field]) -> usize
 #[tactic(auto, using(crate::proofs::Counts::counts))]
 fn spans_of(fields: &[Field]) -> usize
     requires { roses_size (kids_of fields.now) ≤ 1024 }
-    ensures exact { result ≡ spans_below (layouts_of fields.now) }
+    ensures exact { result ≡ spans_below (slot_layouts_of fields.now) }
     ensures bound { result ≤ 3 * roses_size (kids_of fields.now) }
 {
     let mut spans = 0;
     for field in fields {
-        spans += own_spans(field.stored.layout()) + spans_of(&field.children);
+        spans += own_spans(field.slot_layout()) + spans_of(&field.children);
     }
     spans
 }
@@ -40,7 +40,7 @@ impl StreamSchema {
     /// How many nodes each of its batches has.
     pub fn nodes(&self) -> usize
         requires { roses_size (kids_of self.now.fields.items) ≤ 1024 }
-        ensures { result ≡ roses_size (layouts_of self.now.fields.items) }
+        ensures { result ≡ roses_size (slot_layouts_of self.now.fields.items) }
     {
         nodes_of(&self.fields)
     }
@@ -48,7 +48,7 @@ impl StreamSchema {
     /// How many buffers each of its batches has.
     pub fn spans(&self) -> usize
         requires { roses_size (kids_of self.now.fields.items) ≤ 1024 }
-        ensures { result ≡ spans_below (layouts_of self.now.fields.items) }
+        ensures { result ≡ spans_below (slot_layouts_of self.now.fields.items) }
     {
         spans_of(&self.fields)
     }

@@ -1,7 +1,9 @@
 use Rattle.std.proofs.Common.{◌≡◌, ◌+◌, ◌*◌, drop}
 use Rattle.values.specs.Rose.{join, kids_of, rose_size, roses_size}
-use Rattle.array_layout.specs.Placing.{placed_all, spans_below}
-use Rattle.schema_meta.specs.FieldLayouts.{layouts_below}
+use Rattle.array_layout.specs.Placing.{spans_below}
+use Rattle.dictionaries.specs.Table.{values_in}
+use Rattle.schema_meta.specs.FieldLayouts.{slot_layouts_below}
+use Rattle.schema_meta.proofs.Places.{arrays_from}
 use Rattle.schema_meta.proofs.parts.+place.Given as goal
 
 abbrev pub decreases-place : goal.decreases-place
@@ -13,9 +15,9 @@ decreases-place_all l = 2 * roses_size (kids_of l.fields.now) + 1
 -- what was placed, and what is left to place, are the whole
 abbrev pub invariant-place_all-loop-field : goal.invariant-place_all-loop-field
 invariant-place_all-loop-field l =
-    (join l.arrays.items (placed_all l.nodes l.spans l.at.node l.at.span (layouts_below (kids_of (drop l.field-index l.fields))))
-    ≡ placed_all l.nodes l.spans l.initial.at.node l.initial.at.span (layouts_below (kids_of l.fields)))
-    × (l.at.node + roses_size (layouts_below (kids_of (drop l.field-index l.fields)))
-    ≡ l.initial.at.node + roses_size (layouts_below (kids_of l.fields)))
-    × (l.at.span + spans_below (layouts_below (kids_of (drop l.field-index l.fields)))
-    ≡ l.initial.at.span + spans_below (layouts_below (kids_of l.fields)))
+    (join l.arrays.items (arrays_from (values_in l.dicts) l.nodes l.spans l.at.node l.at.span (kids_of (drop l.field-index l.fields)))
+    ≡ arrays_from (values_in l.dicts) l.nodes l.spans l.initial.at.node l.initial.at.span (kids_of l.fields))
+    × (l.at.node + roses_size (slot_layouts_below (kids_of (drop l.field-index l.fields)))
+    ≡ l.initial.at.node + roses_size (slot_layouts_below (kids_of l.fields)))
+    × (l.at.span + spans_below (slot_layouts_below (kids_of (drop l.field-index l.fields)))
+    ≡ l.initial.at.span + spans_below (slot_layouts_below (kids_of l.fields)))

@@ -1,0 +1,88 @@
+//! How fields are stored by dictionaries: Schema.fbs, table `DictionaryEncoding`.
+ghost use Rattle.std.specs.Prelude.{◌≡◌};
+ghost use Rattle.values.specs.Reading.{Judges};
+ghost use Rattle.schema_meta.specs.Encoding.{coding_of, dense_of, encoding_of, id_of, index_type_of, may_be_coded};
+
+use crate::slots::{DICTIONARY_ID, DICTIONARY_INDEX_TYPE, DICTIONARY_KIND, FIELD_DICTIONARY};
+use crate::unreadable::unreadable;
+use field_types::{IndexType, TypeKind, read_index_type};
+use flatbuf::TableRef;
+use values::{IntWidth, StreamFault};
+
+/// The dictionary that a field's slots are indices into, and what the indices are.
+#[derive(Clone, Copy, Debug, PartialEq, Eq)]
+pub struct Coding {
+    /// Fields with the same id share a dictionary.
+    pub id: i64,
+    pub index: IndexType,
+}
+
+fn read_id(encoding: &TableRef) -> Result<i64, StreamFault>
+    ensures { Judges (λ id. id) result (id_of encoding.now) }
+{
+    Ok(
+        encoding
+            .i64(DICTIONARY_ID)
+            .map_err(unreadable)?
+            .unwrap_or(0),
+    )
+}
+
+fn read_index(encoding: &TableRef) -> Result<IndexType, StreamFault>
+    ensures { Judges (λ index. index) result (index_type_of encoding.now) }
+{
+    match encoding.table(DICTIONARY_INDEX_TYPE).map_err(unreadable)? {
+        None => Ok(IndexType {
+            width: IntWidth::Bits32,
+            signed: true,
+        }),
+        Some(table) => read_index_type(&table),
+    }
+}
+
+fn check_dense(encoding: &TableRef) -> Result<(), StreamFault>
+    ensures { Judges (λ u. u) result (dense_of encoding.now) }
+{
+    match encoding
+        .i16(DICTIONARY_KIND)
+        .map_err(unreadable)?
+        .unwrap_or(0)
+    {
+        0 => Ok(()),
+        _ => Err(StreamFault::UnsupportedType),
+    }
+}
+
+#[tactic(auto, using(crate::proofs::Faults::faults), unfolding(crate::specs::Encoding::encoding_of))]
+fn read_encoding(encoding: &TableRef) -> Result<Coding, StreamFault>
+    ensures { Judges (λ c. c) result (encoding_of encoding.now) }
+{
+    let id = read_id(encoding)?;
+    let index = read_index(encoding)?;
+    check_dense(encoding)?;
+    Ok(Coding { id, index })
+}
+
+/// Whether a dictionary may have values of this kind: those of lists and structs are not taken.
+fn may_be_coded(kind: TypeKind) -> bool
+    ensures { result ≡ may_be_coded kind }
+{
+    match kind {
+        TypeKind::List { .. } | TypeKind::Struct => false,
+        _ => true,
+    }
+}
+
+/// The dictionary of a field of this kind, if it has one.
+#[tactic(auto, using(crate::proofs::Faults::faults, values::proofs::Readings::stands_mapped), unfolding(crate::specs::Encoding::coding_of))]
+pub(crate) fn read_coding(kind: TypeKind, field: &TableRef) -> Result<Option<Coding>, StreamFault>
+    ensures { Judges (λ c. c) result (coding_of kind field.now) }
+{
+    let Some(encoding) = field.table(FIELD_DICTIONARY).map_err(unreadable)? else {
+        return Ok(None);
+    };
+    if !may_be_coded(kind) {
+        return Err(StreamFault::UnsupportedType);
+    }
+    Ok(Some(read_encoding(&encoding)?))
+}

@@ -1,0 +1,92 @@
+//! The types of dictionaries' values, by id.
+ghost use Rattle.std.specs.Prelude.{◌≡◌};
+ghost use Rattle.std.specs.Option.{option_copied};
+ghost use Rattle.values.specs.Rose.{kids_of};
+ghost use Rattle.schema_meta.specs.Dictionaries.{agree, agrees, is_clear, is_type, own_agrees, type_below, type_in, value_type};
+
+use crate::coding::Coding;
+use crate::field::Field;
+use crate::schema::StreamSchema;
+use field_types::StoredType;
+
+/// The type of the values of this dictionary, if the field or one below it has it.
+#[cycle(types)]
+#[tactic(auto, using(crate::proofs::Clashes::clashes))]
+fn type_in(field: &Field, id: i64) -> Option<&StoredType>
+    ensures { option_copied result ≡ type_in id field.now }
+{
+    match field.coding {
+        Some(coding) if coding.id == id => Some(&field.stored),
+        _ => type_below(&field.children, id),
+    }
+}
+
+/// The same of the first of these fields that has it.
+#[cycle(types)]
+#[tactic(auto, using(crate::proofs::Clashes::clashes))]
+fn type_below(fields: &[Field], id: i64) -> Option<&StoredType>
+    ensures { option_copied result ≡ type_below id (kids_of fields.now) }
+{
+    for field in fields {
+        if let Some(stored) = type_in(field, id) {
+            return Some(stored);
+        }
+    }
+    None
+}
+
+fn value_type(fields: &[Field], id: i64) -> Option<&StoredType>
+    ensures { option_copied result ≡ value_type fields.now id }
+{
+    type_below(fields, id)
+}
+
+impl StreamSchema {
+    /// The type of the values of the dictionary with this id, if a field has it.
+    pub fn value_type(&self, id: i64) -> Option<&StoredType>
+        ensures { option_copied result ≡ value_type self.now.fields.items id }
+    {
+        value_type(&self.fields, id)
+    }
+}
+
+/// Whether a field's dictionary, if it has one, has values of this type among `all`.
+fn own_agrees(all: &[Field], coding: Option<Coding>, stored: &StoredType) -> bool
+    ensures { result ≡ own_agrees (value_type all.now) coding stored.now }
+{
+    match coding {
+        None => true,
+        Some(coding) => match value_type(all, coding.id) {
+            None => false,
+            Some(known) => stored == known,
+        },
+    }
+}
+
+#[cycle(agreement)]
+#[tactic(auto, using(crate::proofs::Clashes::clashes))]
+fn agrees(all: &[Field], field: &Field) -> bool
+    ensures { result ≡ agrees (value_type all.now) field.now }
+{
+    own_agrees(all, field.coding, &field.stored) && agree(all, &field.children)
+}
+
+#[cycle(agreement)]
+#[tactic(auto, using(crate::proofs::Clashes::clashes))]
+fn agree(all: &[Field], fields: &[Field]) -> bool
+    ensures { result ≡ agree (value_type all.now) (kids_of fields.now) }
+{
+    for field in fields {
+        if !agrees(all, field) {
+            return false;
+        }
+    }
+    true
+}
+
+/// Whether no two of these fields, or of those below them, have dictionaries of one id and of different types.
+pub(crate) fn is_clear(fields: &[Field]) -> bool
+    ensures { result ≡ is_clear fields.now }
+{
+    agree(fields, fields)
+}
