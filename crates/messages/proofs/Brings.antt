@@ -13,13 +13,13 @@ use Rattle.schema_meta.specs.declared.header.MessageKind.{MessageKind}
 use Rattle.schema_meta.specs.declared.header.MessageKind.TheVariants as kind
 use Rattle.schema_meta.specs.declared.header.Header.TheVariants as header
 use Rattle.schema_meta.specs.Stage.{Known, Meta, Whole, end_meta}
-use Rattle.schema_meta.specs.Message.{expected, new_schema, header_table, header_of, record_batch, brings_schema, brings_batch, meta_of}
+use Rattle.schema_meta.specs.Message.{expected, new_schema, header_table, header_of, record_batch, dictionary_batch, brings_schema, brings_batch, brings_dictionary, meta_of}
 use Rattle.schema_meta.specs.Framing.{framed, end_mark, first}
 use Rattle.messages.proofs.Stages.{staged_from}
 use Rattle.schema_meta.specs.Logical.{logical_field}
 use Rattle.schema_meta.specs.SchemaTree.{AreColumns}
 use Rattle.messages.specs.MessageLaw.{Brings, MessageLaw}
-use Rattle.messages.proofs.Facts.{no_dictionary, expected_same, meta_header}
+use Rattle.messages.proofs.Facts.{expected_same, meta_header}
 use Rattle.schema_meta.proofs.FieldFacts.{fields_known}
 use Rattle.schema_meta.proofs.LogicalFits.{columns_fit}
 use Rattle.messages.proofs.Messages.{first_within}
@@ -56,7 +56,9 @@ header_brings known t kind.Schema body m e =
 header_brings known t kind.Batch body m e =
     let p = mapped_Ok (brings_batch body) (record_batch known body t) m e in
     subst (λ (x : Meta). Brings known.schema x.schema x.header) p.2 refl
-header_brings known t kind.Dictionary body m e = absurd (no_dictionary known t m e)
+header_brings known t kind.Dictionary body m e =
+    let p = mapped_Ok (brings_dictionary body) (dictionary_batch known body t) m e in
+    subst (λ (x : Meta). Brings known.schema x.schema x.header) p.2 refl
 
 meta_brings : (known : Known) (bytes : List ℕ) (m : Meta) → meta_of known bytes ≡ Ok m → Brings known.schema m.schema m.header
 meta_brings known bytes m e =

@@ -21,12 +21,20 @@ use Rattle.schema_meta.specs.SameColumns.{is_declared}
 use Rattle.schema_meta.specs.declared.header.MessageKind.{MessageKind}
 use Rattle.schema_meta.specs.declared.header.MessageKind.TheVariants as kind
 use Rattle.schema_meta.specs.Stage.{Known, Meta}
-use Rattle.schema_meta.specs.Message.{expected, new_schema, header_table, header_of, record_batch, dictionary_of, brings_schema, brings_batch, version_of, body_of, kind_of, meta_of}
-use Rattle.schema_meta.specs.Sound.{Fits, IsFitting, schema_after}
+use Rattle.schema_meta.specs.Message.{expected, new_schema, header_table, header_of, record_batch, dictionary_batch, brings_schema, brings_batch, brings_dictionary, version_of, body_of, kind_of, meta_of}
+use Rattle.schema_meta.specs.Dictionaries.{value_type}
+use Rattle.schema_meta.specs.DictionaryBatch.{count_after, data_of, dictionary, dictionary_of, id_of, limited, value_layouts, values_batch}
+use Rattle.schema_meta.specs.declared.header.DictionaryHeader.{DictionaryHeader}
+use Rattle.schema_meta.specs.Sound.{Fits, FitsValues, IsFitting, schema_after}
+use Rattle.messages.specs.Counts.{IsCounted}
 use Rattle.messages.specs.State.{IsRead}
-use Rattle.schema_meta.specs.FieldLayouts.{layouts_of}
+use Rattle.schema_meta.specs.FieldLayouts.{slot_layouts_of}
 use Rattle.schema_meta.specs.FieldsLaw.{AreFields}
 use Rattle.schema_meta.proofs.FieldFacts.{fields_known}
+use Rattle.schema_meta.proofs.ValuesFit.{values-fit}
+use Rattle.values.specs.Layouts.{AreLayouts}
+use Rattle.field_types.specs.Reads.{bool_of, checked}
+use Rattle.field_types.specs.declared.stored_type.StoredType.{StoredType}
 use Rattle.values.specs.declared.layout.Layout.{Layout}
 use Rattle.array_layout.specs.Placing.{spans_below}
 
@@ -115,18 +123,16 @@ spans_facts n body t ss e =
     )
 
 pub batch_fits :
-    (fields : List (Rose Entry)) (body : ℕ) (t : Table) (b : BatchHead) → AreFields fields → batch_of (layouts_of fields) body t ≡ Ok b
-    → Fits fields body b
+    (ls : Roses Layout) (body : ℕ) (t : Table) (b : BatchHead) → AreLayouts ls → batch_of ls body t ≡ Ok b → Fits ls body b
 unfolding batch_of
-batch_fits fields body t b known e =
-    let ls : Roses Layout = layouts_of fields in
+batch_fits ls body t b known e =
     let f : ℕ → Reading BatchHead = λ rows. both (batch rows) (nodes_of ls rows t) (spans_of (spans_below ls) body t) in
     let whole = both_Ok second (plain t) (rows_of t >>= f) b e in
     let some = bind_Ok (rows_of t) f whole.1 whole.3 in
     let parts = both_Ok (batch some.0) (nodes_of ls some.0 t) (spans_of (spans_below ls) body t) whole.1 some.2 in
     let nodes = nodes_facts ls some.0 t parts.0 parts.2 in
     let spans = spans_facts (spans_below ls) body t parts.1 parts.3 in
-    let made : Fits fields body (batch some.0 parts.0 parts.1) =
+    let made : Fits ls body (batch some.0 parts.0 parts.1) =
     record {
       rows = rows_bound t some.0 some.1;
       nodes = nodes.count;
@@ -134,9 +140,9 @@ batch_fits fields body t b known e =
       lengths = nodes.long;
       spans = spans.0;
       within = spans.1;
-      layouts = known.layouts;
+      layouts = known;
     } in
-    subst (λ (x : BatchHead). Fits fields body x) (parts.4 ∙ whole.4) made
+    subst (λ (x : BatchHead). Fits ls body x) (parts.4 ∙ whole.4) made
 
 -- the metadata's header
 declared_same :
@@ -158,38 +164,121 @@ new_known known t fs e =
     let k : q.0 ≡ fs = expected_same known.declared q.0 p.1 q.2 ∙ p.4 in
     subst AreFields k (fields_known t q.0 q.1)
 
-pub no_dictionary : (known : Known) (t : Table) (m : Meta) → ¬ (dictionary_of known t ≡ Ok m)
+-- a dictionary batch
+values_fit :
+    (fields : List (Rose Entry)) (body : ℕ) (t : Table) (id : ℤ) (s : StoredType) (d : DictionaryHeader) → AreFields fields
+    → value_type fields id ≡ Some s → values_batch body t id s ≡ Ok d → FitsValues fields body d
+unfolding values_batch
+values_fit fields body t id s d known type e =
+    let p = both_Ok (dictionary id) (bool_of t 2) (data_of t >>= batch_of (value_layouts s) body) d e in
+    let q = bind_Ok (data_of t) (batch_of (value_layouts s) body) p.1 p.3 in
+    let made : FitsValues fields body (dictionary id p.0 p.1) =
+    record { stored = s; type = type; fits = batch_fits (value_layouts s) body q.0 p.1 (values-fit fields id s known type) q.2 } in
+    subst (λ (x : DictionaryHeader). FitsValues fields body x) p.4 made
+
+limited_by :
+    (n : ℕ) (d e : DictionaryHeader) (b : Bool) → nat_le n (2 ^ 20) ≡ b → checked fault.DictionaryTooLarge b d ≡ Ok e
+    → (d ≡ e) × (n ≤ 2 ^ 20)
+limited_by n d e true few k = (cc, leb-true n (2 ^ 20) few)
+limited_by n d e false few k = absurd (cc)
+
+limited_few :
+    (counts : List (ℤ × ℕ)) (d e : DictionaryHeader) → limited counts d ≡ Ok e
+    → (d ≡ e) × (count_after counts e.id e.is_delta e.batch.rows ≤ 2 ^ 20)
+limited_few counts d e k =
+    let n : ℕ = count_after counts d.id d.is_delta d.batch.rows in
+    let p = limited_by n d e (nat_le n (2 ^ 20)) refl k in
+    (p.0, subst (λ (x : DictionaryHeader). count_after counts x.id x.is_delta x.batch.rows ≤ 2 ^ 20) p.0 p.1)
+
+record DictionaryFacts (fields : List (Rose Entry)) (counts : List (ℤ × ℕ)) (body : ℕ) (t : Table) (d : DictionaryHeader) : Type 0 where
+  id : ℤ
+  stored : StoredType
+  type : value_type fields id ≡ Some stored
+  read : values_batch body t id stored ≡ Ok d
+  few : count_after counts d.id d.is_delta d.batch.rows ≤ 2 ^ 20
+
+dictionary_facts :
+    (fields : List (Rose Entry)) (counts : List (ℤ × ℕ)) (body : ℕ) (t : Table) (d : DictionaryHeader)
+    → dictionary_of fields counts body t ≡ Ok d → DictionaryFacts fields counts body t d
 unfolding dictionary_of
-no_dictionary known t m e =
-    let h : Option ℤ → Reading Meta = λ id. Err (one fault.UnknownDictionary) in
-    let g : Table → Reading Meta = λ t'. must fault.BadTable (signed_of w64 t' 0) >>= h in
-    let f : List (Rose Entry) → Reading Meta = λ fields. header_table t >>= g in
-    let a = bind_Ok (must fault.NoSchema known.schema) f m e in
-    let b = bind_Ok (header_table t) g m a.2 in
-    let c = bind_Ok (must fault.BadTable (signed_of w64 b.0 0)) h m b.2 in
-    let d : Err (one fault.UnknownDictionary) ≡ Ok m = c.2 in
-    absurd (cc)
+dictionary_facts fields counts body t d e =
+    let g : ℤ → StoredType → Reading DictionaryHeader = λ id s. values_batch body t id s >>= limited counts in
+    let f : ℤ → Reading DictionaryHeader = λ id. must fault.UnknownDictionary (value_type fields id) >>= g id in
+    let a = bind_Ok (id_of t) f d e in
+    let b = bind_Ok (must fault.UnknownDictionary (value_type fields a.0)) (g a.0) d a.2 in
+    let c = bind_Ok (values_batch body t a.0 b.0) (limited counts) d b.2 in
+    let k = limited_few counts c.0 d c.2 in
+    record {
+      id = a.0;
+      stored = b.0;
+      type = must_Ok fault.UnknownDictionary (value_type fields a.0) b.0 b.1;
+      read = c.1 ∙ ap (λ x. Ok x) k.0;
+      few = k.1;
+    }
+
+record BatchFacts (known : Known) (body : ℕ) (d : DictionaryHeader) : Type 0 where
+  fields : List (Rose Entry)
+  table : Table
+  here : known.schema ≡ Some fields
+  facts : DictionaryFacts fields known.counts body table d
+
+batch_facts :
+    (known : Known) (body : ℕ) (t : Table) (d : DictionaryHeader) → dictionary_batch known body t ≡ Ok d → BatchFacts known body d
+unfolding dictionary_batch
+batch_facts known body t d e =
+    let f : List (Rose Entry) → Reading DictionaryHeader = λ fields. header_table t >>= dictionary_of fields known.counts body in
+    let q = bind_Ok (must fault.NoSchema known.schema) f d e in
+    let r = bind_Ok (header_table t) (dictionary_of q.0 known.counts body) d q.2 in
+    record {
+      fields = q.0;
+      table = r.0;
+      here = must_Ok fault.NoSchema known.schema q.0 q.1;
+      facts = dictionary_facts q.0 known.counts body r.0 d r.2;
+    }
 
 -- The header that is read fits what is known, and only a schema brings one.
 pub header_sound :
     (known : Known) (t : Table) (k : MessageKind) (body : ℕ) (m : Meta) → IsRead known.schema → header_of known t k body ≡ Ok m
     → IsFitting (schema_after known.schema m.schema) m.header m.body
-unfolding header_of record_batch dictionary_of
+unfolding header_of record_batch
 header_sound known t kind.Schema body m read e =
     let p = mapped_Ok (brings_schema body) (header_table t >>= new_schema known) m e in
     let q = bind_Ok (header_table t) (new_schema known) p.0 p.1 in
     subst (λ (x : Meta). IsFitting (schema_after known.schema x.schema) x.header x.body) p.2 refl
 header_sound known t kind.Batch body m read e =
     let p = mapped_Ok (brings_batch body) (record_batch known body t) m e in
-    let f : List (Rose Entry) → Reading BatchHead = λ fields. header_table t >>= batch_of (layouts_of fields) body in
+    let f : List (Rose Entry) → Reading BatchHead = λ fields. header_table t >>= batch_of (slot_layouts_of fields) body in
     let q = bind_Ok (must fault.NoSchema known.schema) f p.0 p.1 in
-    let r = bind_Ok (header_table t) (batch_of (layouts_of q.0) body) p.0 q.2 in
+    let r = bind_Ok (header_table t) (batch_of (slot_layouts_of q.0) body) p.0 q.2 in
     let here : known.schema ≡ Some q.0 = must_Ok fault.NoSchema known.schema q.0 q.1 in
-    let fits : Fits q.0 body p.0 = batch_fits q.0 body r.0 p.0 (subst IsRead here read) r.2 in
-    let some : IsSomeAnd known.schema (λ fields. Fits fields body p.0) =
-    subst (λ (o : Option (List (Rose Entry))). IsSomeAnd o (λ fields. Fits fields body p.0)) (sym here) fits in
+    let read_so : AreFields q.0 = subst IsRead here read in
+    let fits : Fits (slot_layouts_of q.0) body p.0 = batch_fits (slot_layouts_of q.0) body r.0 p.0 read_so.slots r.2 in
+    let some : IsSomeAnd known.schema (λ fields. Fits (slot_layouts_of fields) body p.0) =
+    subst (λ (o : Option (List (Rose Entry))). IsSomeAnd o (λ fields. Fits (slot_layouts_of fields) body p.0)) (sym here) fits in
     subst (λ (x : Meta). IsFitting (schema_after known.schema x.schema) x.header x.body) p.2 some
-header_sound known t kind.Dictionary body m read e = absurd (no_dictionary known t m e)
+header_sound known t kind.Dictionary body m read e =
+    let p = mapped_Ok (brings_dictionary body) (dictionary_batch known body t) m e in
+    let q = batch_facts known body t p.0 p.1 in
+    let fits : FitsValues q.fields body p.0 =
+    values_fit q.fields body q.table q.facts.id q.facts.stored p.0 (subst IsRead q.here read) q.facts.type q.facts.read in
+    let some : IsSomeAnd known.schema (λ fields. FitsValues fields body p.0) =
+    subst (λ (o : Option (List (Rose Entry))). IsSomeAnd o (λ fields. FitsValues fields body p.0)) (sym q.here) fits in
+    subst (λ (x : Meta). IsFitting (schema_after known.schema x.schema) x.header x.body) p.2 some
+
+-- A dictionary has no more values than it may have.
+header_counted :
+    (known : Known) (t : Table) (k : MessageKind) (body : ℕ) (m : Meta) → header_of known t k body ≡ Ok m → IsCounted known.counts m.header
+unfolding header_of
+header_counted known t kind.Schema body m e =
+    let p = mapped_Ok (brings_schema body) (header_table t >>= new_schema known) m e in
+    subst (λ (x : Meta). IsCounted known.counts x.header) p.2 tt
+header_counted known t kind.Batch body m e =
+    let p = mapped_Ok (brings_batch body) (record_batch known body t) m e in
+    subst (λ (x : Meta). IsCounted known.counts x.header) p.2 tt
+header_counted known t kind.Dictionary body m e =
+    let p = mapped_Ok (brings_dictionary body) (dictionary_batch known body t) m e in
+    let q = batch_facts known body t p.0 p.1 in
+    subst (λ (x : Meta). IsCounted known.counts x.header) p.2 q.facts.few
 
 -- and the fields of a schema that it brings are as they are read
 header_read :
@@ -202,7 +291,9 @@ header_read known t kind.Schema body m e =
 header_read known t kind.Batch body m e =
     let p = mapped_Ok (brings_batch body) (record_batch known body t) m e in
     subst (λ (x : Meta). IsRead x.schema) p.2 tt
-header_read known t kind.Dictionary body m e = absurd (no_dictionary known t m e)
+header_read known t kind.Dictionary body m e =
+    let p = mapped_Ok (brings_dictionary body) (dictionary_batch known body t) m e in
+    subst (λ (x : Meta). IsRead x.schema) p.2 tt
 
 -- the metadata that is read: its header is
 pub meta_header :
@@ -229,3 +320,8 @@ pub meta_read : (known : Known) (bytes : List ℕ) (m : Meta) → meta_of known 
 meta_read known bytes m e =
     let p = meta_header known bytes m e in
     header_read known p.0 p.1 p.2 m p.3
+
+pub meta_counted : (known : Known) (bytes : List ℕ) (m : Meta) → meta_of known bytes ≡ Ok m → IsCounted known.counts m.header
+meta_counted known bytes m e =
+    let p = meta_header known bytes m e in
+    header_counted known p.0 p.1 p.2 m p.3

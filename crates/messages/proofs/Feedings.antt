@@ -28,7 +28,7 @@ enough_by n known bytes (Ok (Some w)) l ih e =
     let rest : List ℕ = drop (end_of w) bytes in
     let k : length rest ≤ n = omega (arith, length-drop (end_of w) bytes, within.0, within.1) in
     run_step (suc n) known bytes (Ok (Some w)) e
-    ∙ (ap (λ r. led_by (message_of w bytes) r) (ih (after known w.meta.schema) rest k) ∙ sym (run_step n known bytes (Ok (Some w)) e))
+    ∙ (ap (λ r. led_by (message_of w bytes) r) (ih (after known w.meta) rest k) ∙ sym (run_step n known bytes (Ok (Some w)) e))
 enough_by n known bytes (Err fs) l ih e = run_step (suc n) known bytes (Err fs) e ∙ sym (run_step n known bytes (Err fs) e)
 
 no_bytes : (known : Known) → run_of 1 known [] ≡ run_of 0 known []
@@ -84,7 +84,7 @@ hands_follow :
     (n : ℕ) (old new : Stream) (piece later : List ℕ) (f : Framed) (w : Whole) (messages : List MessageView)
     (end : End) → first old.known (old.held ++ piece) ≡ Ok (Some w)
     → f.used + length old.held ≡ end_of w → f.message ≡ Some (message_of w (old.held ++ piece))
-    → new ≡ record { known = after old.known w.meta.schema; held = [] } → length (old.held ++ (piece ++ later)) ≤ suc n
+    → new ≡ record { known = after old.known w.meta; held = [] } → length (old.held ++ (piece ++ later)) ≤ suc n
     → ((m : ℕ) → first new.known new.held ≡ Ok None → length (new.held ++ (drop f.used piece ++ later)) ≤ m
     → Follows messages end (run_of (suc m) new.known (new.held ++ (drop f.used piece ++ later))))
     → Follows (handed_on f.message messages) end (run_of (suc (suc n)) old.known (old.held ++ (piece ++ later)))
@@ -104,7 +104,7 @@ hands_follow n old new piece later f w messages end e u m s l ih =
     let P : Option MessageView → Type 0 = λ o. Follows (handed_on o messages) end (run_of (suc (suc n)) old.known bytes) in
     let Q : Run → Type 0 = λ r. Follows (message ∷ messages) end r in
     let t : Follows messages end (run_of (suc n) new.known rest) =
-    ih n (subst E (sym s) (nothing_held (after old.known w.meta.schema))) size in
+    ih n (subst E (sym s) (nothing_held (after old.known w.meta))) size in
     subst P (sym m) (subst Q (sym k) (follows_led message messages end (run_of (suc n) new.known rest) t))
 
 -- a whole message has bytes
@@ -217,7 +217,7 @@ hands_ends :
     → ((s : Stream) (rest : List ℕ) → length rest ≤ n → first s.known s.held ≡ Ok None → Ends s (rest ∷ pieces))
     → Ends old (piece ∷ pieces)
 hands_ends old piece pieces n w l p e later =
-    let new : Stream = record { known = after old.known w.meta.schema; held = [] } in
+    let new : Stream = record { known = after old.known w.meta; held = [] } in
     let used : ℕ = end_of w - length old.held in
     let f : Framed = record { used = used; message = Some (message_of w (old.held ++ piece)) } in
     let beyond = first_beyond old.known old.held piece w p e in
@@ -225,7 +225,7 @@ hands_ends old piece pieces n w l p e later =
     let k : length (drop used piece) ≤ n = omega (arith, l, beyond, length-drop used piece) in
     let P : Reading (Option Whole) → Type 0 = λ r. Frames r old piece f new in
     one_piece old new piece pieces f (subst P (sym e) (u, refl, refl))
-    (later new (drop used piece) k (nothing_held (after old.known w.meta.schema)))
+    (later new (drop used piece) k (nothing_held (after old.known w.meta)))
 
 piece_ends_by :
     (n : ℕ) (old : Stream) (piece : List ℕ) (pieces : List (List ℕ)) (r : Reading (Option Whole)) → length piece ≤ suc n

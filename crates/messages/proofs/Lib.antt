@@ -6,6 +6,7 @@ pub mod Gathering
 pub mod Facts
 pub mod Sounds
 pub mod Streams
+pub mod Framers
 pub mod Brings
 pub mod Lawful
 pub mod Runs

@@ -27,7 +27,7 @@ pub record HandsOn (r : Reading (Option Whole)) (old : Stream) (piece : List ℕ
   pub reading : r ≡ Ok (Some whole)
   pub message : m ≡ message_of whole (old.held ++ piece)
   pub used : f.used + length old.held ≡ end_of whole
-  pub state : new ≡ record { known = after old.known whole.meta.schema; held = [] }
+  pub state : new ≡ record { known = after old.known whole.meta; held = [] }
 
 pub frames_some :
     (r : Reading (Option Whole)) (old new : Stream) (piece : List ℕ) (f : Framed) (m : MessageView) → Frames r old piece f new

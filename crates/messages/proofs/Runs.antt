@@ -44,14 +44,14 @@ rest_behind held piece later used end u l =
 pub push_whole :
     (n : ℕ) (old new : Stream) (piece later : List ℕ) (f : Framed) (w : Whole) → first old.known (old.held ++ piece) ≡ Ok (Some w)
     → f.used + length old.held ≡ end_of w → f.message ≡ Some (message_of w (old.held ++ piece))
-    → new ≡ record { known = after old.known w.meta.schema; held = [] }
+    → new ≡ record { known = after old.known w.meta; held = [] }
     → run_of (suc n) old.known (old.held ++ (piece ++ later))
     ≡ run_behind f.message (λ k. run_of k new.known (new.held ++ (drop f.used piece ++ later))) n
 push_whole n old new piece later f w e u m s =
     let bytes : List ℕ = old.held ++ piece in
     let l = (first_within old.known bytes w e).1 in
     let a : old.held ++ (piece ++ later) ≡ bytes ++ later = sym (append_assoc old.held piece later) in
-    let next : Known = after old.known w.meta.schema in
+    let next : Known = after old.known w.meta in
     let one : run_of (suc n) old.known (bytes ++ later)
     ≡ led_by (message_of w (bytes ++ later)) (run_of n next (drop (end_of w) (bytes ++ later))) =
     run_step n old.known (bytes ++ later) (Ok (Some w)) (whole_stays old.known bytes later w e) in

@@ -38,14 +38,14 @@ message =
     30 ∷ 0 ∷ 0 ∷ 0 ∷ 0 ∷ 0 ∷ 0 ∷ 0 ∷ []
 
 abbrev column : ℕ → Rose Entry
-column letter = node (record { name = letter ∷ []; nullable = true; stored = stored.Int int.Bits64 true }) none
+column letter = node (record { name = letter ∷ []; nullable = true; stored = stored.Int int.Bits64 true; coding = None }) none
 
 -- a stream whose schema came, and one that nothing came of
 abbrev open_stream : Known
-open_stream = record { declared = None; schema = Some (column 107 ∷ column 118 ∷ []) }
+open_stream = record { declared = None; schema = Some (column 107 ∷ column 118 ∷ []); counts = [] }
 
 abbrev new_stream : Known
-new_stream = record { declared = None; schema = None }
+new_stream = record { declared = None; schema = None; counts = [] }
 
 abbrev sample_header : BatchHead
 sample_header =

@@ -21,17 +21,9 @@ fresh_stream known held h s =
     let P : List ℕ → Type 0 = λ bs. first known bs ≡ Ok None in
     record { partial = subst P (sym h) (nothing_held known); small = s; some = omega arith }
 
-small_after : (a b : Option (List (Rose Entry))) → IsRead a → IsRead b → IsRead (schema_after a b)
+pub small_after : (a b : Option (List (Rose Entry))) → IsRead a → IsRead b → IsRead (schema_after a b)
 small_after a None p q = p
 small_after a (Some fields) p q = q
-
-pub next_stream :
-    (known next : Known) (bytes held : List ℕ) (w : Whole) → first known bytes ≡ Ok (Some w) → IsRead known.schema
-    → next ≡ after known w.meta.schema → held ≡ [] → IsStream next held 8
-next_stream known next bytes held w e s n h =
-    let P : Known → Type 0 = λ k. IsRead k.schema in
-    let sound = first_sound known bytes w s e in
-    fresh_stream next held h (subst P (sym n) (small_after known.schema w.meta.schema s sound.1))
 
 body_length :
     (bytes body : List ℕ) (w : Whole) → end_of w ≤ length bytes → body ≡ slice_range bytes w.front (end_of w)
@@ -44,7 +36,7 @@ body_length bytes body w l b =
 
 pub next_fits :
     (known next : Known) (bytes body : List ℕ) (w : Whole) → IsRead known.schema → first known bytes ≡ Ok (Some w)
-    → next ≡ after known w.meta.schema → body ≡ slice_range bytes w.front (end_of w)
+    → next ≡ after known w.meta → body ≡ slice_range bytes w.front (end_of w)
     → IsFitting next.schema w.meta.header (length body)
 next_fits known next bytes body w read e n b =
     let within = first_within known bytes w e in

@@ -1,5 +1,5 @@
 -- What pieces can't change.
-use Rattle.std.specs.Prelude.{◌≡◌, ℕ, suc, ◌≤◌, List, ◌++◌, length, drop, None, Some, Ok, Err}
+use Rattle.std.specs.Prelude.{◌≡◌, ℕ, suc, ◌≤◌, List, [], ◌++◌, length, take, drop, None, Some, Ok, Err}
 use Rattle.std.specs.List.{concat}
 use Rattle.values.specs.declared.faults.StreamFault.{StreamFault}
 use Rattle.values.specs.Reading.{Faults, Judges, Reading, Stands}
@@ -29,6 +29,15 @@ FaultStays =
 abbrev pub FaultsStay : Type 0
 FaultsStay =
     (known : Known) (bytes more : List ℕ) (fs : Faults) → first known bytes ≡ Err fs → first known (bytes ++ more) ≡ Err fs
+
+-- A message's own bytes are enough.
+abbrev pub WholeAlone : Type 0
+WholeAlone =
+    (known : Known) (bytes : List ℕ) (w : Whole) → first known bytes ≡ Ok (Some w) → first known (take (end_of w) bytes) ≡ Ok (Some w)
+
+-- No byte is no message yet.
+abbrev pub NothingYet : Type 0
+NothingYet = (known : Known) → first known [] ≡ Ok None
 
 -- A push changes nothing of the messages of a stream: those of what was held, the piece and all that comes later are the one
 -- that the push hands on, if it does, and those of what is held then, the rest of the piece and all that comes later.

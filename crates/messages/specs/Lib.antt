@@ -1,7 +1,10 @@
 pub mod Handed
+pub mod Counts
+pub mod Columns
 pub mod State
 pub mod Gather
 pub mod Stream
+pub mod Ready
 pub mod Laws
 pub mod Run
 pub mod Feeding

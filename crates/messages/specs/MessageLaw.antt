@@ -21,6 +21,7 @@ pub record BringsSchema (known brought : Option (List (Rose Entry))) : Type 0 wh
 -- No other message brings one.
 abbrev pub Brings : Option (List (Rose Entry)) → Option (List (Rose Entry)) → Header → Type 0
 Brings known brought header.Schema = BringsSchema known brought
+Brings known brought (header.Dictionary d) = brought ≡ None
 Brings known brought (header.Batch b) = brought ≡ None
 Brings known brought header.End = brought ≡ None
 

@@ -1,6 +1,6 @@
--- A stream between two pieces, and what a push makes of it.
-use Rattle.std.specs.Prelude.{◌≡◌, ℕ, ◌+◌, ◌≤◌, List, [], ◌++◌, length, slice_range, Option, None, Some, Ok, Err, refl}
-use Rattle.std.specs.Coded.{Coded, code_by, coded×, coded_ℕ, coded_list, coded_option}
+-- A stream between two pieces, what a push makes of it, and the stream that a piece was made ready for.
+use Rattle.std.specs.Prelude.{◌≡◌, ℕ, ℤ, ◌+◌, ◌≤◌, List, [], ◌++◌, length, slice_range, Option, None, Some, Ok, Err, refl}
+use Rattle.std.specs.Coded.{Coded, code_by, coded×, coded_ℕ, coded_ℤ, coded_list, coded_option}
 use Rattle.field_types.specs.Logical.{LogicalField, logical_code}
 use Rattle.values.specs.Reading.{Reading}
 use Rattle.values.specs.Rose.{Rose, rose_code}
@@ -18,16 +18,27 @@ pub record Stream : Type 0 where
   pub held : List ℕ
 
 abbrev pub Stored : Type 0
-Stored = Option (List (Rose LogicalField)) × (Option (List (Rose Entry)) × List ℕ)
+Stored = Option (List (Rose LogicalField)) × (Option (List (Rose Entry)) × (List (ℤ × ℕ) × List ℕ))
 
 abbrev pub stored_code : Coded Stored
 stored_code =
-    coded× (coded_option (coded_list (rose_code logical_code))) (coded× (coded_option (coded_list (rose_code entry_code))) (coded_list coded_ℕ))
+    coded× (coded_option (coded_list (rose_code logical_code)))
+    (coded× (coded_option (coded_list (rose_code entry_code))) (coded× (coded_list (coded× coded_ℤ coded_ℕ)) (coded_list coded_ℕ)))
 
 abbrev pub stream_code : Coded Stream
 stream_code =
-    code_by Stored stored_code (λ s. (s.known.declared, (s.known.schema, s.held)))
-    (λ p. record { known = record { declared = p.0; schema = p.1.0 }; held = p.1.1 }) (λ _. refl)
+    code_by Stored stored_code (λ s. (s.known.declared, (s.known.schema, (s.known.counts, s.held))))
+    (λ p. record { known = record { declared = p.0; schema = p.1.0; counts = p.1.1.0 }; held = p.1.1.1 }) (λ _. refl)
+
+-- a stream as it stands, and as it will stand once what was made ready is done
+pub record Framing : Type 0 where
+  pub current : Stream
+  pub prepared : Stream
+
+abbrev pub framing_code : Coded Framing
+framing_code =
+    code_by (Stream × Stream) (coded× stream_code stream_code) (λ f. (f.current, f.prepared))
+    (λ p. record { current = p.0; prepared = p.1 }) (λ _. refl)
 
 -- what is held is no whole message, and has no fault
 pub record IsStream (known : Known) (held : List ℕ) (wanted : ℕ) : Type 0 where
@@ -46,5 +57,5 @@ Frames (Ok None) old piece f new =
     (f.used ≡ length piece) × (f.message ≡ None) × (new ≡ record { known = old.known; held = old.held ++ piece })
 Frames (Ok (Some w)) old piece f new =
     (f.used + length old.held ≡ end_of w) × (f.message ≡ Some (message_of w (old.held ++ piece)))
-    × (new ≡ record { known = after old.known w.meta.schema; held = [] })
+    × (new ≡ record { known = after old.known w.meta; held = [] })
 Frames (Err fs) old piece f new = ⊥

@@ -2,16 +2,15 @@
 
 ghost use Rattle.std.specs.Prelude.{◌≡◌, ◌+◌, ◌*◌, ◌^◌, ◌<◌, ◌≤◌, length};
 ghost use Rattle.values.specs.Reading.{Answers, Judges};
-ghost use Rattle.schema_meta.specs.FieldLayouts.{layouts_of};
-ghost use Rattle.schema_meta.specs.FieldsLaw.{AreFields};
+ghost use Rattle.messages.specs.Columns.{AreRead, layouts_wanted};
 ghost use Rattle.schema_meta.specs.Batch.{batch_of, node_of, nodes_in, span_of, spans_in, plain, rows_of, nodes_of, spans_of, structs_in, word_at};
 
+use crate::columns::Columns;
 use crate::fields::{checked, readable};
-use crate::lengths::fit;
 use array_layout::{Node, Span};
 use byteorder::{ByteOrder, LittleEndian};
 use flatbuf::{BadTable, TableRef};
-use schema_meta::{BatchHeader, StreamSchema};
+use schema_meta::BatchHeader;
 use std::alloc::Global;
 use values::StreamFault;
 use values::limits::{MAX_BATCH_LENGTH, MAX_NODE_LENGTH};
@@ -112,21 +111,21 @@ fn structs<'a>(
     Ok(bytes)
 }
 
-/// The nodes of a batch of this schema with `rows` rows.
+/// The nodes of a batch of these columns with `rows` rows.
 #[tactic(auto, using(crate::proofs::LongEnough::counted), unfolding(schema_meta::specs::Batch::nodes_of))]
 fn nodes_of(
     alloc: Global,
     table: &TableRef,
-    schema: &StreamSchema,
+    columns: Columns,
     rows: usize,
 ) -> Result<Vec<Node>, StreamFault>
-    requires { AreFields schema.now.fields.items }
-    ensures { Answers (λ v. v.items) result (nodes_of (layouts_of schema.now.fields.items) rows table.now) }
+    requires { AreRead columns }
+    ensures { Answers (λ v. v.items) result (nodes_of (layouts_wanted columns.entry) rows table.now) }
 {
-    let count = schema.nodes();
+    let count = columns.nodes();
     let bytes = structs(table, 1, count, StreamFault::NodeCount)?;
     let nodes = nodes_in(alloc, bytes, count)?;
-    if fit(schema, &nodes, rows) {
+    if columns.fit(&nodes, rows) {
         Ok(nodes)
     } else {
         Err(StreamFault::BadLength)
@@ -162,21 +161,21 @@ fn uncompressed(table: &TableRef) -> Result<(), StreamFault>
     Ok(())
 }
 
-/// The header that the table `RecordBatch` means under this schema, where the message has a body of `body` bytes.
+/// The header that the table `RecordBatch` means for these columns, where the message has a body of `body` bytes.
 #[tactic(auto, using(values::proofs::Readings::failing), unfolding(schema_meta::specs::Batch::batch_of))]
 pub(crate) fn read_batch_header(
     alloc: Global,
     table: &TableRef,
-    schema: &StreamSchema,
+    columns: Columns,
     body: usize,
 ) -> Result<BatchHeader, StreamFault>
     requires in_range { body ≤ 2 ^ 28 }
-    requires fields { AreFields schema.now.fields.items }
-    ensures { Answers (λ b. b) result (batch_of (layouts_of schema.now.fields.items) body table.now) }
+    requires read { AreRead columns }
+    ensures { Answers (λ b. b) result (batch_of (layouts_wanted columns.entry) body table.now) }
 {
     uncompressed(table)?;
     let rows = rows_of(table)?;
-    let nodes = nodes_of(alloc, table, schema, rows)?;
-    let spans = spans_of(alloc, table, schema.spans(), body)?;
+    let nodes = nodes_of(alloc, table, columns, rows)?;
+    let spans = spans_of(alloc, table, columns.spans(), body)?;
     Ok(BatchHeader { rows, nodes, spans })
 }

@@ -81,7 +81,7 @@ pub(crate) enum Step {
     },
 }
 
-/// Takes the first message out of what is held and the piece, once it is whole. Nothing is held then.
+/// Judges what is held and the piece. All of the piece is held then, or none where it completes a message.
 pub(crate) fn advance(
     alloc: Global,
     state: &State,
@@ -92,8 +92,7 @@ pub(crate) fn advance(
     requires small { IsRead (known_of state.now).schema }
     requires partial { first (known_of state.now) held.old.items ≡ Ok None }
     requires some { 1 ≤ wanted }
-    ensures ok { IfOk result (λ s. Steps (first (known_of state.now) (held.old.items ++ piece.now)) (held.old.items ++ piece.now)
-        (length held.old.items) s held.new.items) }
+    ensures ok { IfOk result (λ s. Steps (first (known_of state.now) (held.old.items ++ piece.now)) held.old.items piece.now s held.new.items) }
     ensures fault { IfErr result (λ e. Fails e (first (known_of state.now) (held.old.items ++ piece.now))) }
     ensures unchanged { OnErr result (held.new.items ≡ held.old.items) }
     ensures empty { piece.now ≡ [] → IsOkAnd result IsWaiting }
@@ -103,20 +102,14 @@ pub(crate) fn advance(
         Progress::Partial { wanted } => Ok(Step::Partial { wanted }),
         Progress::Whole(found) => {
             let end = found.front + found.metadata.body;
-            match Vec::from_slice(alloc, &held[found.front..end]) {
-                Ok(body) => {
-                    held.clear();
-                    Ok(Step::Whole {
-                        used: end - had,
-                        found,
-                        body,
-                    })
-                }
-                Err(refused) => {
-                    held.truncate(had);
-                    Err(StreamFault::from(refused))
-                }
-            }
+            let copied = Vec::from_slice(alloc, &held[found.front..end]);
+            held.truncate(had);
+            let body = copied?;
+            Ok(Step::Whole {
+                used: end - had,
+                found,
+                body,
+            })
         }
     }
 }

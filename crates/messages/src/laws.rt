@@ -1,15 +1,18 @@
 //! Laws of the definitions: functions that do nothing, whose contracts are theorems.
 
 ghost use Rattle.messages.specs.MessageLaw.{MessageLaw};
-ghost use Rattle.messages.specs.Laws.{CutsAgree, FaultStays, FaultsStay, FeedFollowsRun, FeedsEnd, PushKeepsRun, RefusalEndsRun, WholeStays, WholeWithin};
+ghost use Rattle.messages.specs.Laws.{CutsAgree, FaultStays, FaultsStay, FeedFollowsRun, FeedsEnd, NothingYet, PushKeepsRun, RefusalEndsRun, WholeAlone, WholeStays, WholeWithin};
 
-/// More bytes change neither a whole message nor the faults that stand, so neither depends on where the input is cut.
+/// More bytes change neither a whole message nor the faults that stand, so neither depends on where the input is cut; and a
+/// message is whole as soon as its own bytes are there.
 #[tactic(auto, using(crate::proofs::Lawful::laws))]
 pub fn more_bytes_law()
     ensures whole { WholeStays }
     ensures within { WholeWithin }
     ensures fault { FaultStays }
     ensures faults { FaultsStay }
+    ensures alone { WholeAlone }
+    ensures none { NothingYet }
 {}
 
 /// However a stream is cut into pieces, pushing them hands on the messages of its bytes, and a refusal names a fault at

@@ -3,7 +3,7 @@
 ghost use Rattle.std.specs.Prelude.{◌≡◌, ◌+◌, ◌≤◌, MatchOption, length, true, false};
 ghost use Rattle.values.specs.Rose.{rose_size, roses_size};
 ghost use Rattle.array_layout.specs.Placing.{node_at};
-ghost use Rattle.schema_meta.specs.FieldLayouts.{layout_of, layouts_of};
+ghost use Rattle.schema_meta.specs.FieldLayouts.{slot_layout_of, slot_layouts_of};
 ghost use Rattle.schema_meta.specs.Batch.{are_long, is_long, least, lengths_fit};
 
 use array_layout::Node;
@@ -11,7 +11,7 @@ use schema_meta::{Field, StreamSchema};
 use values::Layout;
 
 /// The length of node `index`, 0 where there is none.
-fn length_at(nodes: &[Node], index: usize) -> usize
+pub(crate) fn length_at(nodes: &[Node], index: usize) -> usize
     ensures { result ≡ (node_at nodes.now index).length }
 {
     match nodes.get(index) {
@@ -35,8 +35,8 @@ fn least_below(layout: Layout, len: usize) -> usize
 #[cycle(lengths)]
 #[tactic(auto, using(crate::proofs::LongEnough::lengths))]
 fn behind(field: &Field, nodes: &[Node], index: usize, floor: usize) -> Option<usize>
-    requires { index + rose_size (layout_of field.now) ≤ length nodes.now }
-    ensures { MatchOption result (is_long nodes.now index floor (layout_of field.now) ≡ false) (λ next. (is_long nodes.now index floor (layout_of field.now) ≡ true) × (next ≡ index + rose_size (layout_of field.now))) }
+    requires { index + rose_size (slot_layout_of field.now) ≤ length nodes.now }
+    ensures { MatchOption result (is_long nodes.now index floor (slot_layout_of field.now) ≡ false) (λ next. (is_long nodes.now index floor (slot_layout_of field.now) ≡ true) × (next ≡ index + rose_size (slot_layout_of field.now))) }
 {
     let len = length_at(nodes, index);
     if len < floor {
@@ -46,7 +46,7 @@ fn behind(field: &Field, nodes: &[Node], index: usize, floor: usize) -> Option<u
         &field.children,
         nodes,
         index + 1,
-        least_below(field.stored.layout(), len),
+        least_below(field.slot_layout(), len),
     )
 }
 
@@ -54,8 +54,8 @@ fn behind(field: &Field, nodes: &[Node], index: usize, floor: usize) -> Option<u
 #[cycle(lengths)]
 #[tactic(auto, using(crate::proofs::LongEnough::lengths))]
 fn behind_all(fields: &[Field], nodes: &[Node], index: usize, floor: usize) -> Option<usize>
-    requires { index + roses_size (layouts_of fields.now) ≤ length nodes.now }
-    ensures { MatchOption result (are_long nodes.now index floor (layouts_of fields.now) ≡ false) (λ next. (are_long nodes.now index floor (layouts_of fields.now) ≡ true) × (next ≡ index + roses_size (layouts_of fields.now))) }
+    requires { index + roses_size (slot_layouts_of fields.now) ≤ length nodes.now }
+    ensures { MatchOption result (are_long nodes.now index floor (slot_layouts_of fields.now) ≡ false) (λ next. (are_long nodes.now index floor (slot_layouts_of fields.now) ≡ true) × (next ≡ index + roses_size (slot_layouts_of fields.now))) }
 {
     let mut next = index;
     for field in fields {
@@ -67,8 +67,8 @@ fn behind_all(fields: &[Field], nodes: &[Node], index: usize, floor: usize) -> O
 /// Whether each column is as long as the batch, and all below it are long enough.
 #[tactic(auto, using(crate::proofs::LongEnough::lengths), unfolding(schema_meta::specs::Batch::lengths_fit))]
 pub(crate) fn fit(schema: &StreamSchema, nodes: &[Node], rows: usize) -> bool
-    requires { roses_size (layouts_of schema.now.fields.items) ≤ length nodes.now }
-    ensures { result ≡ lengths_fit rows (layouts_of schema.now.fields.items) nodes.now }
+    requires { roses_size (slot_layouts_of schema.now.fields.items) ≤ length nodes.now }
+    ensures { result ≡ lengths_fit rows (slot_layouts_of schema.now.fields.items) nodes.now }
 {
     let mut next = 0;
     for index in 0..schema.fields.len() {

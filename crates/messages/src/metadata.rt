@@ -3,17 +3,20 @@
 ghost use Rattle.std.specs.Prelude.{◌≡◌, ◌≤◌, ◌^◌, length, IfOk};
 ghost use Rattle.std.specs.Option.{option_map};
 ghost use Rattle.values.specs.Reading.{Answers, Judges};
-ghost use Rattle.schema_meta.specs.Message.{body_of, dictionary_of, expected, header_of, header_table, kind_of, meta_of, new_schema, record_batch, version_of};
+ghost use Rattle.schema_meta.specs.Message.{body_of, dictionary_batch, expected, header_of, header_table, kind_of, meta_of, new_schema, record_batch, version_of};
 ghost use Rattle.messages.specs.State.{IsRead, known_of, meta_seen};
 
 use crate::batch::read_batch_header;
+use crate::columns::Columns;
 use crate::declared::are_same;
+use crate::dictionary::read_dictionary_header;
 use crate::fields::{checked, readable};
 use crate::state::State;
 use field_types::Schema;
 use flatbuf::{Buf, TableRef};
-use schema_meta::{BatchHeader, Header, MessageKind, StreamSchema, read_schema};
+use schema_meta::{BatchHeader, DictionaryHeader, Header, MessageKind, StreamSchema, read_schema};
 use std::alloc::Global;
+use std::rc::Rc;
 use values::StreamFault;
 use values::limits::MAX_BODY_SIZE;
 
@@ -24,7 +27,7 @@ pub(crate) struct Metadata {
     /// The length of the body.
     pub body: usize,
     /// The schema that the message brings, if it is one.
-    pub schema: Option<StreamSchema>,
+    pub schema: Option<Rc<StreamSchema>>,
 }
 
 fn check_version(message: &TableRef) -> Result<(), StreamFault>
@@ -96,16 +99,20 @@ fn new_schema(alloc: Global, state: &State, header: &TableRef) -> Result<StreamS
     Ok(schema)
 }
 
-/// No field that is taken has a dictionary, so there is none that this one could be for.
-fn refuse_dictionary(state: &State, message: &TableRef) -> Result<Metadata, StreamFault>
-    ensures { Judges meta_seen result (dictionary_of (known_of state.now) message.now) }
+fn dictionary_batch(
+    alloc: Global,
+    state: &State,
+    body: usize,
+    message: &TableRef,
+) -> Result<DictionaryHeader, StreamFault>
+    requires { body ≤ 2 ^ 28 }
+    ensures { Answers (λ d. d) result (dictionary_batch (known_of state.now) body message.now) }
 {
-    if state.schema.is_none() {
+    let Some(schema) = &state.schema else {
         return Err(StreamFault::NoSchema);
-    }
+    };
     let header = header_table(message)?;
-    readable(header.i64(0))?;
-    Err(StreamFault::UnknownDictionary)
+    read_dictionary_header(alloc, &header, schema, &state.counts, body)
 }
 
 fn record_batch(
@@ -122,7 +129,7 @@ fn record_batch(
         return Err(StreamFault::NoSchema);
     };
     let header = header_table(message)?;
-    read_batch_header(alloc, &header, schema, body)
+    read_batch_header(alloc, &header, Columns::Fields(schema), body)
 }
 
 #[tactic(auto, using(values::proofs::Readings::failing), unfolding(schema_meta::specs::Message::header_of))]
@@ -144,10 +151,14 @@ fn read_header(
             Ok(Metadata {
                 header: Header::Schema,
                 body,
-                schema: Some(schema),
+                schema: Some(Rc::new(alloc, schema)?),
             })
         }
-        MessageKind::Dictionary => refuse_dictionary(state, message),
+        MessageKind::Dictionary => Ok(Metadata {
+            header: Header::Dictionary(dictionary_batch(alloc, state, body, message)?),
+            body,
+            schema: None,
+        }),
         MessageKind::Batch => Ok(Metadata {
             header: Header::Batch(record_batch(alloc, state, body, message)?),
             body,

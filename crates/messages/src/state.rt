@@ -1,27 +1,53 @@
 //! What is known of a stream between its messages.
 
-ghost use Rattle.std.specs.Prelude.{◌≡◌};
+ghost use Rattle.std.specs.Prelude.{◌≡◌, OnOk, IfOk};
 ghost use Rattle.std.specs.Option.{option_map};
-ghost use Rattle.messages.specs.State.{known_of};
-ghost use Rattle.schema_meta.specs.Sound.{after};
+ghost use Rattle.indexmap.specs.IndexMap.{spare};
+ghost use Rattle.messages.specs.Counts.{HasRoom, IsCounted, counted};
+ghost use Rattle.messages.specs.State.{known_of, learnt};
+ghost use Rattle.schema_meta.specs.DictionaryBatch.{counts_after};
 
+use crate::counts::{Count, count_after};
 use field_types::Schema;
-use schema_meta::StreamSchema;
+use indexmap::IndexMap;
+use schema_meta::{Header, StreamSchema};
+use std::alloc::AllocError;
+use std::rc::Rc;
 
-/// The schema that was declared for the stream, if any, and the one that came, once it has.
+/// The schema that was declared for the stream, if any, the one that came, once it has, and how many values each dictionary has
+/// that a batch came for.
 #[derive(Drop)]
 pub(crate) struct State {
     pub declared: Option<Schema>,
-    pub schema: Option<StreamSchema>,
+    pub schema: Option<Rc<StreamSchema>>,
+    pub counts: IndexMap<i64, usize>,
 }
 
 impl State {
-    /// Keeps the schema that a message brings, if it is one.
-    pub(crate) fn learn(&mut self, schema: Option<StreamSchema>)
-        ensures { known_of self.new ≡ after (known_of self.old) (option_map (λ s. s.fields.items) schema) }
+    /// How many values a dictionary has after a message, if that is a batch of it. It makes the room for `learn`.
+    pub(crate) fn count(&mut self, header: &Header) -> Result<Option<Count>, AllocError>
+        requires { IsCounted (known_of self.old).counts header.now }
+        ensures same { known_of self.new ≡ known_of self.old }
+        ensures counted { IfOk result (λ c. counted (known_of self.old).counts c ≡ counts_after (known_of self.old).counts header.now) }
+        ensures room { IfOk result (λ c. HasRoom c (spare self.new.counts)) }
+    {
+        let count = count_after(&self.counts, header);
+        if count.is_some() {
+            self.counts.reserve(1)?;
+        }
+        Ok(count)
+    }
+
+    /// Keeps what a message brings: a schema, or how many values a dictionary has. It takes no memory.
+    pub(crate) fn learn(&mut self, schema: Option<Rc<StreamSchema>>, count: Option<Count>)
+        requires { HasRoom count (spare self.old.counts) }
+        ensures { known_of self.new ≡ learnt (known_of self.old) (option_map (λ s. s.value.fields.items) schema) count }
     {
         if let Some(schema) = schema {
             self.schema = Some(schema);
+        }
+        if let Some(Count { id, values }) = count {
+            self.counts.insert(id, values).unwrap();
         }
     }
 }

@@ -1,97 +1,126 @@
 //! A stream of messages, from pieces.
 
 ghost use Rattle.std.specs.Prelude.{◌≡◌, [], ◌++◌, ◌<◌, ◌≤◌, Some, None, length, IfOk, IfErr, IfSome, IsOkAnd, OnErr};
-ghost use Rattle.std.specs.Option.{option_copied, option_map};
+ghost use Rattle.std.specs.Option.{option_map};
 ghost use Rattle.values.specs.Reading.{Fails};
 ghost use Rattle.schema_meta.specs.Framing.{first};
 ghost use Rattle.messages.specs.Stream.{Frames};
+ghost use Rattle.schema_meta.specs.SchemaLaw.{before};
 ghost use Rattle.schema_meta.specs.Sound.{IsFitting};
 
 use crate::gather::{Step, advance};
 use crate::headers::{Framed, Message};
 use crate::metadata::Metadata;
+use crate::pending::Pending;
 use crate::state::State;
 use field_types::Schema;
+use indexmap::IndexMap;
 use schema_meta::StreamSchema;
 use std::alloc::Global;
 use std::marker::Model;
+use std::mem::replace;
+use std::rc::Rc;
 use values::StreamFault;
 
 /// Takes the messages of a stream out of its pieces, however it is cut.
 ///
-/// Contracts see it as what is known of the stream and the bytes of a message that isn't whole yet
-/// (`specs/Stream.antt`).
+/// Contracts see what is known of the stream and the bytes of a message that isn't whole yet (`specs/Stream.antt`), as they
+/// stand and as they will stand once the piece that was made ready is done.
 #[derive(Drop)]
 pub struct Framer {
     alloc: Global,
     state: State,
-    held: Vec<u8>,
+    // The first `len` are those of a message that isn't whole yet. What lies behind them is of a piece that was made ready.
+    bytes: Vec<u8>,
+    len: usize,
     // How many bytes more the message was seen to want.
     wanted: usize,
+    pending: Pending,
 }
 
 impl Model for Framer {
-    ghost use Rattle.messages.specs.Stream.{Stream, stream_code, IsStream};
+    ghost use Rattle.messages.specs.Stream.{Framing, framing_code};
+    ghost use Rattle.messages.specs.Ready.{IsFramer, promised, standing};
     ghost use Rattle.messages.specs.State.{known_of};
+    ghost use Rattle.indexmap.specs.IndexMap.{spare};
 
-    ghost Value = { Stream };
+    ghost Value = { Framing };
 
-    ghost coded = { stream_code };
+    ghost coded = { framing_code };
 
-    ghost view = { λ f. record { known = known_of f.state; held = f.held.items } };
+    ghost view = { λ f. record { current = standing (known_of f.state) f.bytes.items f.len; prepared = promised (known_of f.state) f.bytes.items f.len f.pending } };
 
-    ghost invariant = { λ f. IsStream (known_of f.state) f.held.items f.wanted };
+    ghost invariant = { λ f. IsFramer (known_of f.state) (spare f.state.counts) f.bytes.items f.len f.wanted f.pending };
 }
 
 impl Framer {
     /// A stream of which nothing has come. Where a schema is declared, the stream's must have its columns.
     pub fn open(alloc: Global, declared: Option<Schema>) -> Framer
-        ensures declared { result.known.declared ≡ option_map (λ s. s.fields.items) declared }
-        ensures schema { result.known.schema ≡ None }
-        ensures held { result.held ≡ [] }
+        ensures current { result.current ≡ record { known = before (option_map (λ s. s.fields.items) declared); held = [] } }
+        ensures settled { result.prepared ≡ result.current }
     {
         Framer {
             alloc,
             state: State {
                 declared,
                 schema: None,
+                counts: IndexMap::new(alloc),
             },
-            held: Vec::new(alloc),
+            bytes: Vec::new(alloc),
+            len: 0,
             wanted: 8,
+            pending: Pending::Nothing,
         }
     }
 
     /// The schema, once it has come.
-    pub fn schema(&self) -> Option<&StreamSchema>
-        ensures { option_map (λ s. s.now.fields.items) result ≡ self.now.known.schema }
+    pub fn schema(&self) -> Option<&Rc<StreamSchema>>
+        ensures { option_map (λ s. s.now.value.fields.items) result ≡ self.now.current.known.schema }
     {
         self.state.schema.as_ref()
     }
 
-    /// How many bytes of a message are held that isn't whole yet.
-    pub fn held(&self) -> usize
-        ensures { result ≡ length self.now.held }
+    /// The schema that is known once what was made ready is done.
+    pub fn next_schema(&self) -> Option<&Rc<StreamSchema>>
+        ensures { option_map (λ s. s.now.value.fields.items) result ≡ self.now.prepared.known.schema }
     {
-        self.held.len()
+        match &self.pending {
+            Pending::Message {
+                schema: Some(brought),
+                ..
+            } => Some(brought),
+            _ => self.schema(),
+        }
     }
 
-    /// Takes the piece up to the end of the first message that it completes, or all of it.
+    /// How many bytes of a message are held that isn't whole yet.
+    pub fn held(&self) -> usize
+        ensures { result ≡ length self.now.current.held }
+    {
+        self.len
+    }
+
+    /// Judges the piece up to the end of the first message that it completes, or all of it, and makes the room that `commit`
+    /// then needs. The stream stays as it stands. What was made ready before and isn't done is dropped.
     ///
     /// The error is a fault of the framing or of the metadata that stands where all bytes before were taken, or
-    /// `Memory`; the framer is then as it was before. A fault of the framing stands once 8 bytes of a message are there,
-    /// one of the metadata once all of that is.
-    pub fn push(&mut self, piece: &[u8]) -> Result<Framed, StreamFault>
-        ensures ok { IfOk result (λ f. Frames (first self.old.known (self.old.held ++ piece.now)) self.old piece.now f self.new) }
-        ensures fault { IfErr result (λ e. Fails e (first self.old.known (self.old.held ++ piece.now))) }
-        ensures unchanged { OnErr result (self.new ≡ self.old) }
-        ensures empty { piece.now ≡ [] → IsOkAnd result (λ f. (f.used ≡ 0) × (f.message ≡ None)) × (self.new ≡ self.old) }
+    /// `Memory`; nothing is ready then. A fault of the framing stands once 8 bytes of a message are there, one of the
+    /// metadata once all of that is.
+    pub fn prepare(&mut self, piece: &[u8]) -> Result<Framed, StreamFault>
+        ensures ok { IfOk result (λ f. Frames (first self.old.current.known (self.old.current.held ++ piece.now)) self.old.current piece.now f self.new.prepared) }
+        ensures fault { IfErr result (λ e. Fails e (first self.old.current.known (self.old.current.held ++ piece.now))) }
+        ensures same { self.new.current ≡ self.old.current }
+        ensures refused { OnErr result (self.new.prepared ≡ self.old.current) }
+        ensures empty { piece.now ≡ [] → IsOkAnd result (λ f. (f.used ≡ 0) × (f.message ≡ None)) × (self.new.prepared ≡ self.old.current) }
         ensures used { IfOk result (λ f. f.used ≤ length piece.now) }
         ensures progress { IfOk result (λ f. 0 < length piece.now → 0 < f.used) }
-        ensures fits { IfOk result (λ f. IfSome f.message (λ m. IsFitting self.new.known.schema m.header (length m.body))) }
+        ensures fits { IfOk result (λ f. IfSome f.message (λ m. IsFitting self.new.prepared.known.schema m.header (length m.body))) }
     {
-        match advance(self.alloc, &self.state, &mut self.held, piece, self.wanted)? {
+        self.bytes.truncate(self.len);
+        self.pending = Pending::Nothing;
+        match advance(self.alloc, &self.state, &mut self.bytes, piece, self.wanted)? {
             Step::Partial { wanted } => {
-                self.wanted = wanted;
+                self.pending = Pending::Piece { wanted };
                 Ok(Framed {
                     used: piece.len(),
                     message: None,
@@ -99,13 +128,49 @@ impl Framer {
             }
             Step::Whole { used, found, body } => {
                 let Metadata { header, schema, .. } = found.metadata;
-                self.state.learn(schema);
-                self.wanted = 8;
+                let count = self.state.count(&header)?;
+                self.pending = Pending::Message { schema, count };
                 Ok(Framed {
                     used,
                     message: Some(Message { header, body }),
                 })
             }
         }
+    }
+
+    /// Does what was made ready, if it isn't done yet. It takes no memory.
+    pub fn commit(&mut self)
+        ensures done { self.new.current ≡ self.old.prepared }
+        ensures settled { self.new.prepared ≡ self.old.prepared }
+    {
+        match replace(&mut self.pending, Pending::Nothing) {
+            Pending::Nothing => {}
+            Pending::Piece { wanted } => {
+                self.len = self.bytes.len();
+                self.wanted = wanted;
+            }
+            Pending::Message { schema, count } => {
+                self.state.learn(schema, count);
+                self.len = 0;
+                self.wanted = 8;
+            }
+        }
+    }
+
+    /// Takes the piece up to the end of the first message that it completes, or all of it: `prepare`, and then `commit`.
+    /// Where it is refused the stream stays as it stands.
+    pub fn push(&mut self, piece: &[u8]) -> Result<Framed, StreamFault>
+        ensures ok { IfOk result (λ f. Frames (first self.old.current.known (self.old.current.held ++ piece.now)) self.old.current piece.now f self.new.current) }
+        ensures fault { IfErr result (λ e. Fails e (first self.old.current.known (self.old.current.held ++ piece.now))) }
+        ensures unchanged { OnErr result (self.new.current ≡ self.old.current) }
+        ensures empty { piece.now ≡ [] → IsOkAnd result (λ f. (f.used ≡ 0) × (f.message ≡ None)) × (self.new.current ≡ self.old.current) }
+        ensures used { IfOk result (λ f. f.used ≤ length piece.now) }
+        ensures progress { IfOk result (λ f. 0 < length piece.now → 0 < f.used) }
+        ensures fits { IfOk result (λ f. IfSome f.message (λ m. IsFitting self.new.current.known.schema m.header (length m.body))) }
+        ensures settled { self.new.prepared ≡ self.new.current }
+    {
+        let framed = self.prepare(piece)?;
+        self.commit();
+        Ok(framed)
     }
 }

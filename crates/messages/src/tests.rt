@@ -44,9 +44,10 @@ const SAMPLE: [u8; 504] = [
 ];
 
 /// What a message is, in short.
-fn kind(header: &Header) -> u8 {
+pub(crate) fn kind(header: &Header) -> u8 {
     match header {
         Header::Schema => 1,
+        Header::Dictionary(_) => 2,
         Header::Batch(_) => 3,
         Header::End => 0,
     }
@@ -86,6 +87,7 @@ fn in_pieces_of_one_byte(rt: HostRuntime) -> Result<(), Fail> {
             None => assert!(rt; i != 231 && i != 495 && i != 503),
             Some(message) => match message.header {
                 Header::Schema => assert_eq!(rt; i, 231),
+                Header::Dictionary(_) => assert!(rt; false),
                 Header::Batch(_) => assert_eq!(rt; i, 495),
                 Header::End => assert_eq!(rt; i, 503),
             },
@@ -98,7 +100,7 @@ fn in_pieces_of_one_byte(rt: HostRuntime) -> Result<(), Fail> {
 /// What a stream is refused for that comes whole, if it is.
 fn fault_of_whole(framer: &mut Framer, bytes: &[u8]) -> Option<StreamFault> {
     let mut rest = bytes;
-    for _ in 0..4 {
+    for _ in 0..8 {
         match framer.push(rest) {
             Err(fault) => return Some(fault),
             Ok(framed) => rest = &rest[framed.used..],
@@ -118,7 +120,7 @@ fn fault_of_bytes(framer: &mut Framer, bytes: &[u8]) -> Option<StreamFault> {
 }
 
 /// A stream of these bytes answers the same whole and in pieces of one byte.
-fn answers(rt: &(impl Abort + AllocGlobal), bytes: &[u8], answer: Option<StreamFault>) {
+pub(crate) fn answers(rt: &(impl Abort + AllocGlobal), bytes: &[u8], answer: Option<StreamFault>) {
     let whole = fault_of_whole(&mut Framer::open(rt.alloc(), None), bytes);
     let cut = fault_of_bytes(&mut Framer::open(rt.alloc(), None), bytes);
     assert_eq!(rt; whole, answer);
@@ -365,5 +367,64 @@ fn is_as_before_where_it_refuses(rt: HostRuntime) -> Result<(), Fail> {
     assert!(rt; matches!(framer.push(&SAMPLE[4..]), Err(StreamFault::SecondSchema)));
     assert_eq!(rt; framer.held(), 4);
     assert_eq!(rt; framer.push(&SAMPLE[236..])?.used, 260);
+    Ok(())
+}
+
+#[test]
+fn commits_what_was_made_ready(rt: HostRuntime) -> Result<(), Fail> {
+    let mut framer = Framer::open(rt.alloc(), None);
+    assert_eq!(rt; framer.prepare(&SAMPLE[..100])?.used, 100);
+    assert_eq!(rt; framer.held(), 0);
+    framer.commit();
+    assert_eq!(rt; framer.held(), 100);
+    let framed = framer.prepare(&SAMPLE[100..])?;
+    assert_eq!(rt; framed.used, 132);
+    assert!(rt; framed.message.is_some());
+    assert_eq!(rt; framer.held(), 100);
+    assert!(rt; framer.schema().is_none());
+    assert!(rt; framer.next_schema().is_some());
+    framer.commit();
+    assert_eq!(rt; framer.held(), 0);
+    assert!(rt; framer.schema().is_some());
+    framer.commit();
+    assert!(rt; framer.next_schema().is_some());
+    let batch = framer.push(&SAMPLE[232..])?;
+    assert_eq!(rt; batch.used, 264);
+    Ok(())
+}
+
+#[test]
+fn drops_what_was_made_ready(rt: HostRuntime) -> Result<(), Fail> {
+    let mut framer = Framer::open(rt.alloc(), None);
+    assert_eq!(rt; framer.push(&SAMPLE[..4])?.used, 4);
+    assert_eq!(rt; framer.prepare(&SAMPLE[4..100])?.used, 96);
+    assert_eq!(rt; framer.prepare(&SAMPLE[4..])?.used, 228);
+    assert!(rt; framer.next_schema().is_some());
+    assert_eq!(rt; framer.prepare(&SAMPLE[4..6])?.used, 2);
+    assert!(rt; framer.next_schema().is_none());
+    framer.commit();
+    assert_eq!(rt; framer.held(), 6);
+    assert!(rt; framer.schema().is_none());
+    assert_eq!(rt; framer.push(&SAMPLE[6..])?.used, 226);
+    assert!(rt; framer.schema().is_some());
+    Ok(())
+}
+
+#[test]
+fn nothing_is_ready_where_it_refuses(rt: HostRuntime) -> Result<(), Fail> {
+    let mut framer = Framer::open(rt.alloc(), None);
+    assert_eq!(rt; framer.prepare(&SAMPLE)?.used, 232);
+    assert!(rt; matches!(framer.prepare(&SAMPLE[232..]), Err(StreamFault::NoSchema)));
+    framer.commit();
+    assert_eq!(rt; framer.held(), 0);
+    assert!(rt; framer.schema().is_none());
+    assert_eq!(rt; framer.push(&SAMPLE)?.used, 232);
+    assert_eq!(rt; framer.push(&SAMPLE[232..300])?.used, 68);
+    let mut bytes = SAMPLE;
+    bytes[332] = 1;
+    assert!(rt; matches!(framer.prepare(&bytes[300..]), Err(StreamFault::NodeCount)));
+    framer.commit();
+    assert_eq!(rt; framer.held(), 68);
+    assert_eq!(rt; framer.push(&SAMPLE[300..])?.used, 196);
     Ok(())
 }

@@ -1,6 +1,6 @@
 use Rattle.std.proofs.Common.{◌≡◌, ◌+◌, ◌*◌, drop}
 use Rattle.values.specs.Rose.{kids_of, rose_size, roses_size}
-use Rattle.schema_meta.specs.FieldLayouts.{layouts_below}
+use Rattle.schema_meta.specs.FieldLayouts.{slot_layouts_below}
 use Rattle.schema_meta.specs.Batch.{are_long}
 use Rattle.messages.proofs.lengths.+lengths.Given as goal
 
@@ -12,5 +12,5 @@ decreases-behind_all l = 2 * roses_size (kids_of l.fields.now) + 1
 
 abbrev pub invariant-behind_all-loop-field : goal.invariant-behind_all-loop-field
 invariant-behind_all-loop-field l =
-    (are_long l.nodes l.next l.floor (layouts_below (kids_of (drop l.field-index l.fields))) ≡ are_long l.nodes l.fn.index l.floor (layouts_below (kids_of l.fields)))
-    × (l.next + roses_size (layouts_below (kids_of (drop l.field-index l.fields))) ≡ l.fn.index + roses_size (layouts_below (kids_of l.fields)))
+    (are_long l.nodes l.next l.floor (slot_layouts_below (kids_of (drop l.field-index l.fields))) ≡ are_long l.nodes l.fn.index l.floor (slot_layouts_below (kids_of l.fields)))
+    × (l.next + roses_size (slot_layouts_below (kids_of (drop l.field-index l.fields))) ≡ l.fn.index + roses_size (slot_layouts_below (kids_of l.fields)))

@@ -1,0 +1,17 @@
+-- What a batch has arrays of.
+use Rattle.values.specs.Rose.{node, Roses, none, more}
+use Rattle.values.specs.declared.layout.Layout.{Layout}
+use Rattle.messages.specs.declared.columns.Columns.{Columns}
+use Rattle.messages.specs.declared.columns.Columns.TheVariants as columns
+use Rattle.schema_meta.specs.FieldLayouts.{slot_layouts_of}
+use Rattle.schema_meta.specs.FieldsLaw.{AreFields}
+
+-- how its arrays lie
+abbrev pub layouts_wanted : Columns → Roses Layout
+layouts_wanted (columns.Fields s) = slot_layouts_of s.now.fields.items
+layouts_wanted (columns.Values l) = more (node l none) none
+
+-- The fields of a schema are as they are read.
+abbrev pub AreRead : Columns → Type 0
+AreRead (columns.Fields s) = AreFields s.now.fields.items
+AreRead (columns.Values l) = Unit {0}

@@ -1,0 +1,33 @@
+-- What a framer keeps of a stream, and of the piece that was made ready.
+use Rattle.std.specs.Prelude.{◌≡◌, ℕ, ◌≤◌, List, [], length, take, None, Ok}
+use Rattle.std.specs.Option.{option_map}
+use Rattle.messages.specs.declared.pending.Pending.{Pending}
+use Rattle.messages.specs.declared.pending.Pending.TheVariants as pending
+use Rattle.schema_meta.specs.Stage.{Known}
+use Rattle.schema_meta.specs.Framing.{first}
+use Rattle.messages.specs.Counts.{HasRoom}
+use Rattle.messages.specs.State.{IsRead, learnt}
+use Rattle.messages.specs.Stream.{Stream, IsStream}
+
+-- The bytes of a message that is not whole yet are the first ones.
+abbrev pub standing : Known → List ℕ → ℕ → Stream
+standing known bytes len = record { known = known; held = take len bytes }
+
+-- the stream once what was made ready is done
+abbrev pub promised : Known → List ℕ → ℕ → Pending → Stream
+promised known bytes len pending.Nothing = standing known bytes len
+promised known bytes len (pending.Piece wanted) = record { known = known; held = bytes }
+promised known bytes len (pending.Message schema count) =
+    record { known = learnt known (option_map (λ s. s.value.fields.items) schema) count; held = [] }
+
+-- what was made ready can be done, where so many more counts fit
+abbrev pub IsReady : Known → ℕ → List ℕ → Pending → Type 0
+IsReady known room bytes pending.Nothing = Unit {0}
+IsReady known room bytes (pending.Piece wanted) = (first known bytes ≡ Ok None) × (1 ≤ wanted)
+IsReady known room bytes (pending.Message schema count) = IsRead (option_map (λ s. s.value.fields.items) schema) × HasRoom count room
+
+-- what is true of a framer between two calls
+pub record IsFramer (known : Known) (room : ℕ) (bytes : List ℕ) (len wanted : ℕ) (p : Pending) : Type 0 where
+  pub within : len ≤ length bytes
+  pub stream : IsStream known (take len bytes) wanted
+  pub ready : IsReady known room bytes p

@@ -1,0 +1,68 @@
+//! What a batch has arrays of.
+
+ghost use Rattle.std.specs.Prelude.{◌≡◌, ◌≤◌, length};
+ghost use Rattle.values.specs.Rose.{roses_size};
+ghost use Rattle.array_layout.specs.Placing.{own_spans, spans_below};
+ghost use Rattle.schema_meta.specs.Batch.{lengths_fit};
+ghost use Rattle.messages.specs.Columns.{AreRead, layouts_wanted};
+
+use crate::lengths::{fit, length_at};
+use array_layout::Node;
+use schema_meta::StreamSchema;
+use values::Layout;
+
+/// The columns of a batch.
+#[derive(Clone, Copy)]
+pub(crate) enum Columns<'a> {
+    /// Those of the schema.
+    Fields(&'a StreamSchema),
+    /// One, of a dictionary's values, which lie so.
+    Values(Layout),
+}
+
+/// How many buffers an array of this layout has of its own.
+fn own_spans(layout: Layout) -> usize
+    ensures { result ≡ own_spans layout }
+{
+    match layout {
+        Layout::Text { .. } | Layout::Bytes { .. } => 3,
+        Layout::Struct => 1,
+        _ => 2,
+    }
+}
+
+impl<'a> Columns<'a> {
+    /// How many nodes a batch of them has.
+    pub(crate) fn nodes(self) -> usize
+        requires { AreRead self }
+        ensures { result ≡ roses_size (layouts_wanted self.entry) }
+    {
+        match self {
+            Columns::Fields(schema) => schema.nodes(),
+            Columns::Values(_) => 1,
+        }
+    }
+
+    /// How many buffers a batch of them has.
+    pub(crate) fn spans(self) -> usize
+        requires { AreRead self }
+        ensures { result ≡ spans_below (layouts_wanted self.entry) }
+    {
+        match self {
+            Columns::Fields(schema) => schema.spans(),
+            Columns::Values(layout) => own_spans(layout),
+        }
+    }
+
+    /// Whether each column is as long as the batch, and all below it are long enough.
+    #[tactic(auto, using(crate::proofs::LongEnough::one_fits), unfolding(schema_meta::specs::Batch::lengths_fit))]
+    pub(crate) fn fit(self, nodes: &[Node], rows: usize) -> bool
+        requires { roses_size (layouts_wanted self) ≤ length nodes.now }
+        ensures { result ≡ lengths_fit rows (layouts_wanted self.entry) nodes.now }
+    {
+        match self {
+            Columns::Fields(schema) => fit(schema, nodes, rows),
+            Columns::Values(_) => length_at(nodes, 0) == rows,
+        }
+    }
+}

@@ -1,0 +1,89 @@
+//! The header of a dictionary batch: Message.fbs, `DictionaryBatch`.
+
+ghost use Rattle.std.specs.Prelude.{◌≡◌, ◌≤◌, ◌^◌};
+ghost use Rattle.values.specs.Reading.{Answers, Judges};
+ghost use Rattle.schema_meta.specs.DictionaryBatch.{data_of, dictionary_of, id_of, limited, values_batch};
+
+use crate::batch::read_batch_header;
+use crate::columns::Columns;
+use crate::counts::count_before;
+use crate::fields::readable;
+use field_types::{StoredType, read_bool};
+use flatbuf::TableRef;
+use indexmap::IndexMap;
+use schema_meta::{DictionaryHeader, StreamSchema};
+use std::alloc::Global;
+use values::StreamFault;
+use values::limits::MAX_DICTIONARY_VALUES;
+
+fn id_of(table: &TableRef) -> Result<i64, StreamFault>
+    ensures { Judges (λ id. id) result (id_of table.now) }
+{
+    Ok(readable(table.i64(0))?.unwrap_or(0))
+}
+
+/// The table of its record batch.
+fn data_of<'a>(table: &TableRef<'a>) -> Result<TableRef<'a>, StreamFault>
+    ensures { Judges (λ t. t) result (data_of table.now) }
+{
+    match readable(table.table(1))? {
+        None => Err(StreamFault::BadTable),
+        Some(data) => Ok(data),
+    }
+}
+
+/// The header of a batch of values of this type, for the dictionary `id`.
+#[tactic(auto, using(values::proofs::Readings::failing), unfolding(schema_meta::specs::DictionaryBatch::values_batch))]
+fn values_batch(
+    alloc: Global,
+    table: &TableRef,
+    id: i64,
+    stored: &StoredType,
+    body: usize,
+) -> Result<DictionaryHeader, StreamFault>
+    requires { body ≤ 2 ^ 28 }
+    ensures { Answers (λ d. d) result (values_batch body table.now id stored.now) }
+{
+    let is_delta = read_bool(table, 2)?;
+    let data = data_of(table)?;
+    let batch = read_batch_header(alloc, &data, Columns::Values(stored.layout()), body)?;
+    Ok(DictionaryHeader {
+        id,
+        is_delta,
+        batch,
+    })
+}
+
+/// The dictionary must not have too many values after the batch.
+fn check_count(counts: &IndexMap<i64, usize>, header: &DictionaryHeader) -> Result<(), StreamFault>
+    ensures { Judges (λ u. header.now) result (limited counts.now.entries header.now) }
+{
+    let before = count_before(counts, header);
+    let rows = header.batch.rows;
+    if before > MAX_DICTIONARY_VALUES || rows > MAX_DICTIONARY_VALUES - before {
+        return Err(StreamFault::DictionaryTooLarge);
+    }
+    Ok(())
+}
+
+/// The header that the table `DictionaryBatch` means under this schema, where the message has a body of `body` bytes and the
+/// dictionaries have so many values.
+#[tactic(auto, using(values::proofs::Readings::failing), unfolding(schema_meta::specs::DictionaryBatch::dictionary_of))]
+pub(crate) fn read_dictionary_header(
+    alloc: Global,
+    table: &TableRef,
+    schema: &StreamSchema,
+    counts: &IndexMap<i64, usize>,
+    body: usize,
+) -> Result<DictionaryHeader, StreamFault>
+    requires { body ≤ 2 ^ 28 }
+    ensures { Answers (λ d. d) result (dictionary_of schema.now.fields.items counts.now.entries body table.now) }
+{
+    let id = id_of(table)?;
+    let Some(stored) = schema.value_type(id) else {
+        return Err(StreamFault::UnknownDictionary);
+    };
+    let header = values_batch(alloc, table, id, stored, body)?;
+    check_count(counts, &header)?;
+    Ok(header)
+}
