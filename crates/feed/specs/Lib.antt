@@ -1,0 +1,7 @@
+pub mod Columns
+pub mod Kept
+pub mod Events
+pub mod States
+pub mod Shown
+pub mod CutLaw
+pub mod StoryLaw

@@ -1,0 +1,76 @@
+//! The values that a dictionary batch brings.
+
+ghost use Rattle.std.specs.Prelude.{◌≡◌, All, IfOk, Some, length};
+ghost use Rattle.std.specs.Option.{option_copied};
+ghost use Rattle.values.specs.Layouts.{Holds};
+ghost use Rattle.values.specs.Reading.{Answers};
+ghost use Rattle.field_types.specs.declared.stored_type.StoredType.{StoredType};
+ghost use Rattle.schema_meta.specs.Dictionaries.{value_type};
+ghost use Rattle.array_layout.specs.Cells.{column_of};
+ghost use Rattle.schema_meta.specs.DictionaryBatch.{value_layout, value_layouts};
+ghost use Rattle.schema_meta.specs.Parts.{values_array};
+ghost use Rattle.schema_meta.specs.Rows.{values_of};
+ghost use Rattle.schema_meta.specs.Sound.{Fits, FitsValues};
+
+use arrays::Column;
+use field_types::StoredType;
+use schema_meta::{BatchHeader, DictionaryHeader, StreamSchema, place_law, place_values};
+use std::alloc::{AllocError, Global};
+use std::rc::Rc;
+use values::{StreamFault, Value};
+
+/// All cells of a column.
+#[tactic(auto, using(crate::proofs::Gathering::reading_cells))]
+fn read_cells(alloc: Global, column: &Column) -> Result<Vec<Value>, AllocError>
+    ensures cells { IfOk result (λ vs. vs.items ≡ column.now.cells) }
+    ensures typed { IfOk result (λ vs. All (Holds column.now.layouts) vs.items) }
+{
+    let mut cells = Vec::new(alloc);
+    for i in 0..column.len() {
+        cells.push(column.cell(alloc, i)?)?;
+    }
+    Ok(cells)
+}
+
+/// The column of a dictionary batch with values of this type.
+fn check_values(
+    alloc: Global,
+    stored: &StoredType,
+    header: &BatchHeader,
+    body: Vec<u8>,
+) -> Result<Column, StreamFault>
+    requires { Fits (value_layouts stored.now) (length body.items) header.now }
+    ensures reading { Answers (λ c. c.cells) result (column_of body.items (values_array stored.now header.now)) }
+    ensures typed { IfOk result (λ c. c.layouts ≡ value_layout stored.now) }
+{
+    // It does nothing: the proof takes from it how the array lies.
+    place_law();
+    let array = place_values(alloc, stored, header);
+    Column::check(Rc::new(alloc, body)?, array)
+}
+
+/// The type of the values of a dictionary batch, if a field has its dictionary.
+fn value_type<'a>(schema: &'a StreamSchema, header: &DictionaryHeader) -> Option<&'a StoredType>
+    ensures { option_copied result ≡ value_type schema.now.fields.items header.now.id }
+{
+    schema.value_type(header.id)
+}
+
+/// The values of a dictionary batch of this schema.
+#[tactic(auto, using(values::proofs::Readings::failing), unfolding(schema_meta::specs::Rows::values_of))]
+pub(crate) fn take_values(
+    alloc: Global,
+    schema: &StreamSchema,
+    header: &DictionaryHeader,
+    body: Vec<u8>,
+) -> Result<Vec<Value>, StreamFault>
+    requires { FitsValues schema.now.fields.items (length body.items) header.now }
+    ensures reading { Answers (λ vs. vs.items) result (values_of schema.now.fields.items header.now body.items) }
+    ensures typed { IfOk result (λ vs. (s : StoredType) → value_type schema.now.fields.items header.now.id ≡ Some s → All (Holds (value_layout s)) vs.items) }
+{
+    let Some(stored) = value_type(schema, header) else {
+        return Err(StreamFault::UnknownDictionary);
+    };
+    let column = check_values(alloc, stored, &header.batch, body)?;
+    Ok(read_cells(alloc, &column)?)
+}

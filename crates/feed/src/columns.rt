@@ -1,0 +1,77 @@
+//! The columns of a record batch.
+
+ghost use Rattle.std.specs.Prelude.{◌≡◌, All, IfOk, length};
+ghost use Rattle.values.specs.Reading.{Answers};
+ghost use Rattle.values.specs.Rose.{kids_of};
+ghost use Rattle.array_layout.specs.Cells.{column_of};
+ghost use Rattle.array_layout.specs.Placing.{layout_of, layouts_of as layouts_of_arrays};
+ghost use Rattle.array_layout.specs.Sound.{ArePlaced, IsPlaced};
+ghost use Rattle.array_layout.specs.Typed.{AreTyped, IsTyped};
+ghost use Rattle.dictionaries.specs.Table.{values_in};
+ghost use Rattle.schema_meta.specs.FieldLayouts.{slot_layouts_of};
+ghost use Rattle.schema_meta.specs.FieldsLaw.{AreFields};
+ghost use Rattle.schema_meta.specs.Parts.{arrays_of};
+ghost use Rattle.schema_meta.specs.PlaceLaw.{AreValues};
+ghost use Rattle.schema_meta.specs.Rows.{columns_in};
+ghost use Rattle.schema_meta.specs.Sound.{Fits};
+ghost use Rattle.feed.specs.Columns.{cells_in, layouts_in};
+ghost use Rattle.feed.specs.Shown.{HasColumns};
+
+use array_layout::Array;
+use arrays::Column;
+use dictionaries::Dicts;
+use schema_meta::{BatchHeader, StreamSchema, place_arrays, place_law};
+use std::alloc::Global;
+use std::rc::Rc;
+use values::StreamFault;
+
+/// One column of a batch.
+#[tactic(auto, using(values::proofs::Readings::failing))]
+fn check_column(body: &Rc<Vec<u8>>, array: Array) -> Result<Column, StreamFault>
+    requires placed { IsPlaced body.now.value.items array }
+    requires words { IsTyped array }
+    ensures reading { Answers (λ c. c.cells) result (column_of body.now.value.items array) }
+    ensures typed { IfOk result (λ c. c.layouts ≡ layout_of array) }
+{
+    Column::check(body.clone()?, array)
+}
+
+/// The columns of a batch, each judged by itself: 22 to 27.
+#[tactic(auto, using(crate::proofs::Gathering::columns))]
+fn check_columns(
+    alloc: Global,
+    body: &Rc<Vec<u8>>,
+    arrays: Vec<Array>,
+) -> Result<Vec<Column>, StreamFault>
+    requires placed { ArePlaced body.now.value.items (kids_of arrays.items) }
+    requires words { AreTyped (kids_of arrays.items) }
+    ensures reading { Answers (λ cs. cells_in cs.items) result (columns_in body.now.value.items (kids_of arrays.items)) }
+    ensures typed { IfOk result (λ cs. layouts_in cs.items ≡ layouts_of_arrays (kids_of arrays.items)) }
+{
+    let mut columns = Vec::with_capacity(alloc, arrays.len())?;
+    for array in arrays {
+        columns.push(check_column(body, array)?)?;
+    }
+    Ok(columns)
+}
+
+/// The columns of a batch of this schema, with the dictionaries as they are.
+pub(crate) fn take_columns(
+    alloc: Global,
+    schema: &StreamSchema,
+    header: &BatchHeader,
+    body: Vec<u8>,
+    dicts: &Dicts,
+) -> Result<Vec<Column>, StreamFault>
+    requires fits { Fits (slot_layouts_of schema.now.fields.items) (length body.items) header.now }
+    requires fields { AreFields schema.now.fields.items }
+    requires values { AreValues schema.now.fields.items (values_in dicts.now) }
+    ensures reading { Answers (λ cs. cells_in cs.items) result (columns_in body.items (arrays_of (values_in dicts.now) schema.now.fields.items header.now)) }
+    ensures typed { IfOk result (λ cs. HasColumns schema.now.fields.items cs.items header.now.rows) }
+{
+    // It does nothing: the proof takes from it how the arrays lie.
+    place_law();
+    let arrays = place_arrays(alloc, schema, header, dicts)?;
+    let body = Rc::new(alloc, body)?;
+    check_columns(alloc, &body, arrays)
+}

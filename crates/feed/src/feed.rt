@@ -1,0 +1,190 @@
+//! A feed.
+
+ghost use Rattle.std.specs.Prelude.{◌≡◌, IfErr, IfOk, IfSome, IsSome, OnOk, Ok, Err, false};
+ghost use Rattle.std.specs.Option.{option_map};
+ghost use Rattle.values.specs.declared.faults.StreamFault.TheVariants as fault;
+ghost use Rattle.schema_meta.specs.FieldsLaw.{AreFields};
+ghost use Rattle.values.specs.Reading.{Passes};
+ghost use Rattle.feed.specs.States.{FeedState, Finishes, Gives, after_finish, after_push, finishing_when, fresh, is_broken, kept_in};
+ghost use Rattle.feed.specs.Shown.{IsTypedEvent, Leads, Shows, answer_seen, breaks, seen};
+
+use crate::condition::{Condition, condition_after};
+use crate::event::{Fed, FeedEvent};
+use crate::judge::{Judged, judge};
+use dictionaries::{Dicts, Ready, batches_law};
+use field_types::Schema;
+use messages::Framer;
+use schema_meta::StreamSchema;
+use std::alloc::Global;
+use std::marker::Model;
+use std::rc::Rc;
+use values::StreamFault;
+
+/// One stream, which comes in pieces.
+///
+/// What it keeps are its schema, its dictionaries and the bytes of a message that isn't whole yet. `prepare` judges a piece and makes
+/// room for what comes of it, and `commit` then makes the change; `push` is the two in turn.
+#[derive(Drop)]
+pub struct Feed {
+    alloc: Global,
+    framer: Framer,
+    dicts: Dicts,
+    condition: Condition,
+    // What was made ready, beside what the framer has.
+    change: Option<Ready>,
+    next: Condition,
+}
+
+impl Model for Feed {
+    ghost use Rattle.feed.specs.Shown.{FeedParts, IsFeed, parts_code};
+
+    ghost Value = { FeedParts };
+
+    ghost coded = { parts_code };
+
+    ghost view = { λ f. record { framing = f.framer; table = f.dicts; condition = f.condition; change = f.change; next = f.next } };
+
+    ghost invariant = { λ f. IsFeed (record { framing = f.framer; table = f.dicts; condition = f.condition; change = f.change; next = f.next }) };
+}
+
+/// Whether the input may end here.
+fn judge_end(condition: Condition, framer: &Framer) -> Result<(), StreamFault>
+    ensures { Passes result (finishing_when condition framer.now.current) }
+{
+    if condition != Condition::Opened {
+        return Ok(());
+    }
+    if framer.held() > 0 {
+        return Err(StreamFault::Truncated);
+    }
+    match framer.schema() {
+        None => Err(StreamFault::NoSchema),
+        Some(_) => Ok(()),
+    }
+}
+
+impl Feed {
+    /// A feed of which nothing has come. Where a schema is declared, the stream's must have its columns.
+    pub fn open(alloc: Global, declared: Option<Schema>) -> Feed
+        ensures { Shows result (fresh (option_map (λ s. s.fields.items) declared)) }
+    {
+        // It does nothing: the proof takes from it that there are no dictionaries without batches.
+        batches_law();
+        Feed {
+            alloc,
+            framer: Framer::open(alloc, declared),
+            dicts: Dicts::new(alloc),
+            condition: Condition::Opened,
+            change: None,
+            next: Condition::Opened,
+        }
+    }
+
+    /// Whether a fault stood. Nothing more may come to it then.
+    pub fn is_broken(&self) -> bool
+        ensures answer { result ≡ breaks self.now }
+        ensures shown { (s : FeedState) → Shows self.now s → result ≡ is_broken s.condition }
+    {
+        self.condition.is_broken()
+    }
+
+    /// The columns of its stream, once they have come.
+    pub fn schema(&self) -> Option<&Rc<StreamSchema>>
+        ensures fields { IfSome result (λ s. AreFields s.now.value.fields.items) }
+        ensures shown { (s : FeedState) → Shows self.now s → option_map (λ c. c.now.value.fields.items) result ≡ (kept_in s).known.schema }
+    {
+        self.framer.schema()
+    }
+
+    /// Judges a piece, and makes the room for what comes of it: answers what `push` would answer, and changes nothing but that a
+    /// fault breaks the feed. `commit` makes the change; whatever else is called instead drops it.
+    pub fn prepare(&mut self, piece: &[u8]) -> Result<Fed, StreamFault>
+        requires { breaks self.old ≡ false }
+        ensures answer { (s : FeedState) → Shows self.old s → Gives s piece.now (answer_seen result) }
+        ensures leads { IfOk result (λ f. (s : FeedState) → Shows self.old s → Leads self.new (after_push s piece.now (Ok (seen f)))) }
+        ensures or_memory { IfOk result (λ f. (s : FeedState) → Shows self.old s → IsSome f.event → Gives s piece.now (Err fault.Memory)) }
+        ensures same { OnOk result ((s : FeedState) → Shows self.old s → Shows self.new s) }
+        ensures fault { IfErr result (λ c. (s : FeedState) → Shows self.old s → Shows self.new (after_push s piece.now (Err c))) }
+        ensures typed { IfOk result (λ f. IfSome f.event (IsTypedEvent self.new.framing.prepared.known.schema)) }
+    {
+        self.change = None;
+        self.next = self.condition;
+        match self.condition {
+            Condition::Opened => match judge(self.alloc, &mut self.framer, &mut self.dicts, piece) {
+                Ok(judged) => {
+                    let Judged { used, coming } = judged;
+                    let Some(coming) = coming else {
+                        return Ok(Fed { used, event: None });
+                    };
+                    self.change = coming.change;
+                    self.next = coming.next;
+                    Ok(Fed {
+                        used,
+                        event: Some(coming.event),
+                    })
+                }
+                Err(fault) => {
+                    self.condition = condition_after(fault, self.condition);
+                    Err(fault)
+                }
+            },
+            _ => {
+                self.framer.prepare(&[])?;
+                if !piece.is_empty() {
+                    self.condition = Condition::Broken;
+                    return Err(StreamFault::AfterEnd);
+                }
+                Ok(Fed {
+                    used: 0,
+                    event: None,
+                })
+            }
+        }
+    }
+
+    /// Makes the change that `prepare` made ready, if nothing came between. It takes no memory.
+    pub fn commit(&mut self)
+        ensures change { (s : FeedState) → Leads self.old s → Shows self.new s }
+        ensures stream { self.new.framing.current ≡ self.old.framing.prepared }
+    {
+        self.framer.commit();
+        self.condition = self.next;
+        if let Some(change) = self.change.take() {
+            self.dicts.commit(change);
+        }
+    }
+
+    /// Consumes the piece up to the end of the first message that it completes, or all of it.
+    ///
+    /// The error is a fault of the earliest stage that has one: the framing, the metadata or the body. It breaks the feed, but for
+    /// `Memory`, after which all is as it was. An empty piece consumes nothing.
+    pub fn push(&mut self, piece: &[u8]) -> Result<Fed, StreamFault>
+        requires { breaks self.old ≡ false }
+        ensures answer { (s : FeedState) → Shows self.old s → Gives s piece.now (answer_seen result) }
+        ensures after { (s : FeedState) → Shows self.old s → Shows self.new (after_push s piece.now (answer_seen result)) }
+        ensures typed { IfOk result (λ f. IfSome f.event (IsTypedEvent self.new.framing.current.known.schema)) }
+    {
+        let fed = self.prepare(piece)?;
+        self.commit();
+        Ok(fed)
+    }
+
+    /// Says that the input has ended: `Truncated` inside a message, `NoSchema` where nothing came, and else all is well, also once
+    /// more.
+    pub fn finish(&mut self) -> Result<(), StreamFault>
+        requires { breaks self.old ≡ false }
+        ensures answer { (s : FeedState) → Shows self.old s → Finishes s result }
+        ensures after { (s : FeedState) → Shows self.old s → Shows self.new (after_finish s result) }
+    {
+        match judge_end(self.condition, &self.framer) {
+            Ok(()) => {
+                self.condition = Condition::Finished;
+                Ok(())
+            }
+            Err(fault) => {
+                self.condition = Condition::Broken;
+                Err(fault)
+            }
+        }
+    }
+}

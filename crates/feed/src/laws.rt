@@ -1,0 +1,32 @@
+//! Laws of the definitions: functions that do nothing, whose contracts are theorems.
+
+ghost use Rattle.feed.specs.CutLaw.{FaultsStay, PartialJoins, PartialUses, WholeStays, WholeUses};
+ghost use Rattle.feed.specs.StoryLaw.{AllIsTold, EventTells, FaultsTell, NoneHeld, PartialTells, TaleKnows};
+
+use messages::{message_law, more_bytes_law};
+
+/// However a stream is cut into pieces, a feed gives the same events, and the same faults stand: a piece without an event may be joined
+/// with the next, and more bytes change neither a whole message nor a fault. A whole message uses some of its piece.
+pub fn cut_law()
+    ensures partial { PartialJoins }
+    ensures whole { WholeStays }
+    ensures faults { FaultsStay }
+    ensures uses { WholeUses }
+    ensures all { PartialUses }
+{
+    more_bytes_law();
+    message_law();
+}
+
+/// What the events of a feed tell of the whole stream: the reading of the bytes that are left, event by event.
+pub fn story_law()
+    ensures all { AllIsTold }
+    ensures event { EventTells }
+    ensures held { NoneHeld }
+    ensures faults { FaultsTell }
+    ensures partial { PartialTells }
+    ensures knows { TaleKnows }
+{
+    more_bytes_law();
+    message_law();
+}

@@ -1,0 +1,19 @@
+//! One stream, from pieces to events: messages are framed, their bodies are judged, and dictionaries are kept.
+//!
+//! A feed is a function of the bytes that it consumed. `specs/Kept.antt` says what they leave, `specs/Events.antt` what a piece gives then,
+//! `specs/States.antt` what each call may answer and where it leads, and `specs/Shown.antt` which states a feed in memory shows.
+#![tactic(auto)]
+
+mod cells;
+mod columns;
+mod condition;
+mod event;
+mod feed;
+mod judge;
+mod laws;
+mod message;
+
+pub use condition::Condition;
+pub use event::{Fed, FeedEvent};
+pub use feed::Feed;
+pub use laws::{cut_law, story_law};
