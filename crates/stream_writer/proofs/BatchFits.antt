@@ -3,28 +3,15 @@ use Rattle.std.proofs.Common.{◌≡◌, ℕ, ◌+◌, ◌*◌, ◌^◌, ◌<◌
 use Rattle.std.proofs.lemmas.List.{drop_more}
 use Rattle.std.specs.Int.{w64}
 use Rattle.byteorder.specs.Endian.{little_bytes, low_bytes}
-use Rattle.flatbuf.specs.Tree.{number, structs, table, Nodes}
-use Rattle.flatbuf.specs.Written.{object_end, table_end, items_place, table_place, vtable_len, up, Fits, IsWritable}
+use Rattle.flatbuf.specs.Tree.{structs, table}
+use Rattle.flatbuf.specs.Written.{object_end, table_end, items_place, Fits, IsWritable}
 use Rattle.schema_meta.specs.declared.write.HeaderKind.TheVariants.{RecordBatch}
 use Rattle.schema_meta.specs.MessageTree.{message_slots}
-use Rattle.schema_meta.proofs.SchemaFits.{up8-le}
+use Rattle.schema_meta.proofs.SchemaFits.{items_place-le, table_place-le, number-fits}
 use Rattle.array_layout.specs.declared.array.Node.{Node}
 use Rattle.array_layout.specs.declared.array.Span.{Span}
 use Rattle.stream_writer.proofs.Counts.{body_spans-few, body_nodes-few}
 use Rattle.stream_writer.specs.Batch.{node_bytes, span_bytes, batch_slots}
-
-items_place-le : (n : ℕ) → items_place n ≤ n + 11
-items_place-le n = omega arith
-
-table_place-le : (at : ℕ) (s : Nodes) → table_place at s ≤ at + 14 + vtable_len s
-table_place-le at s =
-    let vtable : ℕ = up 8 at in
-    let first : vtable ≤ at + 7 = up8-le at in
-    let second : up 8 (vtable + vtable_len s) ≤ vtable + vtable_len s + 7 = up8-le (vtable + vtable_len s) in
-    omega (arith, first, second)
-
-number-fits : (w n : ℕ) → 1 ≤ w → w ≤ 8 → n < 256 ^ w → Fits (number w n)
-number-fits w n low high fits = (low, high, fits)
 
 pub node_bytes-length : (ns : List Node) → length (node_bytes ns) ≡ 16 * length ns
 node_bytes-length [] = refl

@@ -21,13 +21,13 @@ use Rattle.schema_meta.specs.declared.write.HeaderKind.TheVariants.{RecordBatch}
 use Rattle.schema_meta.specs.declared.header.MessageKind.TheVariants as kind
 use Rattle.schema_meta.specs.Entry.{Entry}
 use Rattle.schema_meta.specs.BatchHead.{BatchHead}
-use Rattle.schema_meta.specs.FieldLayouts.{layouts_of}
+use Rattle.schema_meta.specs.FieldLayouts.{slot_layouts_of}
 use Rattle.schema_meta.specs.Batch.{word_at, node_of, span_of, rows_of, nodes_in, nodes_of, lengths_fit, spans_in, spans_of, plain, batch, batch_of}
 use Rattle.schema_meta.specs.Stage.{Known}
 use Rattle.schema_meta.specs.Message.{header_table, record_batch, header_of, brings_batch}
 use Rattle.schema_meta.specs.SchemaLaw.{stored_fields}
 use Rattle.schema_meta.proofs.SchemaRead.{meta-read}
-use Rattle.schema_meta.proofs.SoundFields.{layouts-read}
+use Rattle.schema_meta.proofs.Plain.{slots-are}
 use Rattle.body_writer.specs.Body.{laid, padded, padding, spans_from}
 use Rattle.body_writer.specs.Batch.{IsBatch, body_bytes, body_buffers, body_spans, body_nodes}
 use Rattle.body_writer.proofs.Rows.{body-short}
@@ -142,7 +142,7 @@ batch-back ls rows body h ns ss few en es n fit s held none =
     ) refl
 
 batch-means : (known : Known) (t h : Table) (fields : List (Rose Entry)) (ls : Roses Layout) (body : ℕ) (b : BatchHead) → known.schema ≡ Some fields → header_table t ≡ Ok h →
-    layouts_of fields ≡ ls → batch_of ls body h ≡ Ok b → header_of known t kind.Batch body ≡ Ok (brings_batch body b)
+    slot_layouts_of fields ≡ ls → batch_of ls body h ≡ Ok b → header_of known t kind.Batch body ≡ Ok (brings_batch body b)
 unfolding header_of record_batch
 batch-means known t h fields ls body b e found same read = rw (e, found, same, read) refl
 
@@ -181,4 +181,4 @@ batch-law known fs rows b e =
     let body : ℕ = length (body_bytes ls rows) in
     meta-read known RecordBatch (batch_slots (length rows) ns ss) body (brings_batch body (head fs rows)) short
     (batch-writable (length rows) body ns ss (body_nodes-few ls rows b) (body_spans-few ls rows b) (omega (arith, few)) (omega (arith, short)))
-    (λ t h found held beyond. batch-means known t h (stored_fields fs) ls body (head fs rows) e found (layouts-read fs) (head-read ls rows h b held (beyond 3 (omega arith))))
+    (λ t h found held beyond. batch-means known t h (stored_fields fs) ls body (head fs rows) e found (slots-are fs) (head-read ls rows h b held (beyond 3 (omega arith))))

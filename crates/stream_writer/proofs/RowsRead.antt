@@ -9,8 +9,8 @@ use Rattle.values.specs.Layouts.{HoldsEach}
 use Rattle.array_layout.specs.declared.array.Node.{Node}
 use Rattle.array_layout.specs.declared.array.Span.{Span}
 use Rattle.array_layout.specs.Placing.{spans_in, placed_all}
-use Rattle.schema_meta.specs.Parts.{arrays_of}
 use Rattle.schema_meta.specs.Rows.{columns_in, row_at, rows_from, rows_of}
+use Rattle.schema_meta.proofs.Plain.{plain-arrays}
 use Rattle.schema_meta.proofs.SoundFields.{layouts-read}
 use Rattle.body_writer.specs.Slots.{part}
 use Rattle.body_writer.specs.Body.{laid, spans_from}
@@ -21,6 +21,7 @@ use Rattle.body_writer.proofs.ColumnRead.{batch-law}
 use Rattle.body_writer.proofs.Rows.{rows-held, rows-light}
 use Rattle.body_writer.proofs.Standing.{buffers-stand-law}
 use Rattle.stream_writer.specs.Stream.{trees}
+use Rattle.stream_writer.specs.BatchLaw.{head}
 use Rattle.stream_writer.specs.RowsLaw.{RowsLaw}
 use Rattle.stream_writer.proofs.Lengths.{body-nodes-stand}
 
@@ -104,8 +105,8 @@ batch-read ls rows b =
     (rows-light ls rows b) (body-nodes-stand ls rows) (body-stands ls rows)).0
 
 pub rows-law : RowsLaw
-unfolding rows_of arrays_of
-rows-law fs rows b =
+unfolding rows_of
+rows-law values fs rows b =
     let ls = trees fs in
     let read = columns-read (body_bytes ls rows) (body_nodes ls rows) (body_spans ls rows) 0 0 0 ls (row_cells rows) (batch-read ls rows b) in
-    rw (layouts-read fs, read, rows-back ls rows b.held) refl
+    rw (plain-arrays values fs (head fs rows), layouts-read fs, read, rows-back ls rows b.held) refl

@@ -8,6 +8,7 @@ use Rattle.flatbuf.specs.Written.{whole, object_end, IsWritable}
 use Rattle.flatbuf.proofs.Ends.{object_end-le}
 use Rattle.flatbuf.proofs.Lengths.{whole-length}
 use Rattle.values.specs.Datum.{Datum}
+use Rattle.dictionaries.specs.Batches.{DictionaryBatch, dictionary_after}
 use Rattle.values.specs.Rose.{Rose, kids_of}
 use Rattle.values.specs.Layouts.{AreLayouts}
 use Rattle.field_types.specs.Logical.{LogicalField}
@@ -71,42 +72,42 @@ batch-short fs rows b =
 
 -- one message
 
-told-whole : (n : ℕ) (known : Known) (bytes body rest : List ℕ) (w : Whole) → slice_range bytes w.front (end_of w) ≡ body → drop (end_of w) bytes ≡ rest →
-    told (story n) known bytes (Ok (Some w)) ≡ told_by (after known w.meta.schema) (story n (after known w.meta.schema) rest) body rest w.meta.header
+told-whole : (n : ℕ) (known : Known) (ds : List DictionaryBatch) (bytes body rest : List ℕ) (w : Whole) → slice_range bytes w.front (end_of w) ≡ body → drop (end_of w) bytes ≡ rest →
+    told (story n) known ds bytes (Ok (Some w)) ≡ told_by (after known w.meta) (λ es. story n (after known w.meta) es rest) ds body rest w.meta.header
 unfolding told
-told-whole n known bytes body rest w cut left = rw (cut, left) refl
+told-whole n known ds bytes body rest w cut left = rw (cut, left) refl
 
-story-next : (n : ℕ) (known : Known) (bytes : List ℕ) (w : Whole) (s : Story) → 0 < length bytes → first known bytes ≡ Ok (Some w) → told (story n) known bytes (Ok (Some w)) ≡ s →
-    story (suc n) known bytes ≡ knowing known.schema s
+story-next : (n : ℕ) (known : Known) (ds : List DictionaryBatch) (bytes : List ℕ) (w : Whole) (s : Story) → 0 < length bytes → first known bytes ≡ Ok (Some w) → told (story n) known ds bytes (Ok (Some w)) ≡ s →
+    story (suc n) known ds bytes ≡ knowing known.schema s
 unfolding story
-story-next n known bytes w s some e told-is = rw (not-zero (length bytes) some, e, told-is) refl
+story-next n known ds bytes w s some e told-is = rw (not-zero (length bytes) some, e, told-is) refl
 
-message-told : (n : ℕ) (known : Known) (metadata body rest : List ℕ) (m : Meta) → IsShort metadata → m.body ≡ length body → meta_of known metadata ≡ Ok m →
-    story (suc n) known (message metadata body ++ rest) ≡ knowing known.schema (told_by (after known m.schema) (story n (after known m.schema) rest) body rest m.header)
-message-told n known metadata body rest m short e read =
+message-told : (n : ℕ) (known : Known) (ds : List DictionaryBatch) (metadata body rest : List ℕ) (m : Meta) → IsShort metadata → m.body ≡ length body → meta_of known metadata ≡ Ok m →
+    story (suc n) known ds (message metadata body ++ rest) ≡ knowing known.schema (told_by (after known m) (λ es. story n (after known m) es rest) ds body rest m.header)
+message-told n known ds metadata body rest m short e read =
     let bytes = message metadata body ++ rest in
     let w : Whole = record { front = 8 + length metadata; meta = m } in
     let P : ℕ → Type 0 = λ k. slice_range bytes (8 + length metadata) (8 + length metadata + k) ≡ body in
     let Q : ℕ → Type 0 = λ k. drop (8 + length metadata + k) bytes ≡ rest in
     let cut : slice_range bytes w.front (end_of w) ≡ body = subst P (sym e) (message-body metadata body rest) in
     let left : drop (end_of w) bytes ≡ rest = subst Q (sym e) (message-left metadata body rest) in
-    story-next n known bytes w (told_by (after known m.schema) (story n (after known m.schema) rest) body rest m.header) (omega arith)
-    (first-law known metadata body rest m short.some short.small e read) (told-whole n known bytes body rest w cut left)
+    story-next n known ds bytes w (told_by (after known m) (λ es. story n (after known m) es rest) ds body rest m.header) (omega arith)
+    (first-law known metadata body rest m short.some short.small e read) (told-whole n known ds bytes body rest w cut left)
 
 -- what is known once the schema came
 abbrev begun : Option (List (Rose LogicalField)) → List (Rose LogicalField) → Known
-begun declared fs = record { declared = declared; schema = Some (stored_fields fs) }
+begun declared fs = record { declared = declared; schema = Some (stored_fields fs); counts = [] }
 
-end-told : (n : ℕ) (declared : Option (List (Rose LogicalField))) (fs : List (Rose LogicalField)) → story (suc n) (begun declared fs) end_mark ≡ whole_story fs []
+end-told : (n : ℕ) (declared : Option (List (Rose LogicalField))) (ds : List DictionaryBatch) (fs : List (Rose LogicalField)) → story (suc n) (begun declared fs) ds end_mark ≡ whole_story fs []
 unfolding story told
-end-told n declared fs = rw (last-law (begun declared fs) refl) refl
+end-told n declared ds fs = rw (last-law (begun declared fs) refl) refl
 
-batch-told : (n : ℕ) (declared : Option (List (Rose LogicalField))) (fs : List (Rose LogicalField)) (rows more : List (List Datum)) (rest : List ℕ) → IsBatch (trees fs) rows →
-    story n (begun declared fs) rest ≡ whole_story fs more → story (suc n) (begun declared fs) (batch_message (trees fs) rows ++ rest) ≡ whole_story fs (rows ++ more)
+batch-told : (n : ℕ) (declared : Option (List (Rose LogicalField))) (ds : List DictionaryBatch) (fs : List (Rose LogicalField)) (rows more : List (List Datum)) (rest : List ℕ) → IsBatch (trees fs) rows →
+    story n (begun declared fs) ds rest ≡ whole_story fs more → story (suc n) (begun declared fs) ds (batch_message (trees fs) rows ++ rest) ≡ whole_story fs (rows ++ more)
 unfolding batch_message
-batch-told n declared fs rows more rest b e =
-    message-told n (begun declared fs) (batch_metadata (trees fs) rows) (body_bytes (trees fs) rows) rest (brings_batch (length (body_bytes (trees fs) rows)) (head fs rows)) (batch-short fs rows b) refl (batch-law (begun declared fs) fs rows b refl)
-    ∙ rw (rows-law fs rows b, e) refl
+batch-told n declared ds fs rows more rest b e =
+    message-told n (begun declared fs) ds (batch_metadata (trees fs) rows) (body_bytes (trees fs) rows) rest (brings_batch (length (body_bytes (trees fs) rows)) (head fs rows)) (batch-short fs rows b) refl (batch-law (begun declared fs) fs rows b refl)
+    ∙ rw (rows-law (dictionary_after ds) fs rows b, e) refl
 
 -- all batches, and the end mark
 
@@ -117,14 +118,14 @@ batch-long : (fs : List (Rose LogicalField)) (rows : List (List Datum)) → 8 �
 unfolding batch_message
 batch-long fs rows = message-long (batch_metadata (trees fs) rows) (body_bytes (trees fs) rows)
 
-batches-told : (n most : ℕ) (declared : Option (List (Rose LogicalField))) (fs : List (Rose LogicalField)) (rows : List (List Datum)) → length rows ≤ most → length (batches (trees fs) most rows ++ end_mark) ≤ n →
-    AreColumns fs → AreLayouts (trees fs) → All (IsRow fs) rows → story n (begun declared fs) (batches (trees fs) most rows ++ end_mark) ≡ whole_story fs rows
+batches-told : (n most : ℕ) (declared : Option (List (Rose LogicalField))) (ds : List DictionaryBatch) (fs : List (Rose LogicalField)) (rows : List (List Datum)) → length rows ≤ most → length (batches (trees fs) most rows ++ end_mark) ≤ n →
+    AreColumns fs → AreLayouts (trees fs) → All (IsRow fs) rows → story n (begun declared fs) ds (batches (trees fs) most rows ++ end_mark) ≡ whole_story fs rows
 unfolding batches
-batches-told zero most declared fs rows few room columns layouts sound = absurd (omega (arith, room, length-append (batches (trees fs) most rows) end_mark))
-batches-told (suc n) zero declared fs [] few room columns layouts sound = end-told n declared fs
-batches-told (suc n) zero declared fs (row ∷ rows) few room columns layouts sound = absurd (omega (arith, few))
-batches-told (suc n) (suc most) declared fs [] few room columns layouts sound = end-told n declared fs
-batches-told (suc n) (suc most) declared fs (row ∷ rows) few room columns layouts sound =
+batches-told zero most declared ds fs rows few room columns layouts sound = absurd (omega (arith, room, length-append (batches (trees fs) most rows) end_mark))
+batches-told (suc n) zero declared ds fs [] few room columns layouts sound = end-told n declared ds fs
+batches-told (suc n) zero declared ds fs (row ∷ rows) few room columns layouts sound = absurd (omega (arith, few))
+batches-told (suc n) (suc most) declared ds fs [] few room columns layouts sound = end-told n declared ds fs
+batches-told (suc n) (suc most) declared ds fs (row ∷ rows) few room columns layouts sound =
     let all : List (List Datum) = row ∷ rows in
     let k : ℕ = batch_len (trees fs) all in
     let mine = batch_message (trees fs) (take k all) in
@@ -135,16 +136,16 @@ batches-told (suc n) (suc most) declared fs (row ∷ rows) few room columns layo
     let sum = length-append (mine ++ others) end_mark in
     let sum' = length-append mine others in
     let sum'' = length-append others end_mark in
-    let rest = batches-told n most declared fs (drop k all) (omega (arith, few, one, left)) (omega (arith, room, long, sum, sum', sum'')) columns layouts (All-drop (IsRow fs) k all sound) in
-    ap (story (suc n) (begun declared fs)) (append_assoc mine others end_mark)
-    ∙ batch-told n declared fs (take k all) (drop k all) (others ++ end_mark) (batch-sound fs all columns layouts sound) rest
+    let rest = batches-told n most declared ds fs (drop k all) (omega (arith, few, one, left)) (omega (arith, room, long, sum, sum', sum'')) columns layouts (All-drop (IsRow fs) k all sound) in
+    ap (story (suc n) (begun declared fs) ds) (append_assoc mine others end_mark)
+    ∙ batch-told n declared ds fs (take k all) (drop k all) (others ++ end_mark) (batch-sound fs all columns layouts sound) rest
     ∙ ap (whole_story fs) (take-append-drop k all)
 
-schema-told : (n : ℕ) (declared : Option (List (Rose LogicalField))) (fs : List (Rose LogicalField)) (rows : List (List Datum)) (rest : List ℕ) → AreColumns fs → AreNamed fs → AreExpected declared fs →
-    story n (begun declared fs) rest ≡ whole_story fs rows → story (suc n) (before declared) (schema_message fs ++ rest) ≡ whole_story fs rows
+schema-told : (n : ℕ) (declared : Option (List (Rose LogicalField))) (ds : List DictionaryBatch) (fs : List (Rose LogicalField)) (rows : List (List Datum)) (rest : List ℕ) → AreColumns fs → AreNamed fs → AreExpected declared fs →
+    story n (begun declared fs) ds rest ≡ whole_story fs rows → story (suc n) (before declared) ds (schema_message fs ++ rest) ≡ whole_story fs rows
 unfolding schema_message
-schema-told n declared fs rows rest columns named same e =
-    message-told n (before declared) (schema_metadata fs) [] rest (brings_schema 0 (stored_fields fs)) (schema-short fs columns) refl (schema-law declared fs columns named same) ∙ e
+schema-told n declared ds fs rows rest columns named same e =
+    message-told n (before declared) ds (schema_metadata fs) [] rest (brings_schema 0 (stored_fields fs)) (schema-short fs columns) refl (schema-law declared fs columns named same) ∙ e
 
 schema-long : (fs : List (Rose LogicalField)) → 8 ≤ length (schema_message fs)
 unfolding schema_message
@@ -153,7 +154,7 @@ schema-long fs = message-long (schema_metadata fs) []
 trip :
     (declared : Option (List (Rose LogicalField))) (fs : List (Rose LogicalField)) (rows : List (List Datum)) → IsTable fs rows → AreNamed fs
     → AreExpected declared fs
-    → story (length (canon fs rows)) (before declared) (canon fs rows) ≡ whole_story fs rows
+    → story (length (canon fs rows)) (before declared) [] (canon fs rows) ≡ whole_story fs rows
 unfolding canon
 trip declared fs rows t named same =
     let rest = batches (trees fs) (length rows) rows ++ end_mark in
@@ -162,8 +163,8 @@ trip declared fs rows t named same =
     let long = schema-long fs in
     let sum = length-append (schema_message fs) rest in
     let fuel : suc n ≡ length bytes = omega (arith, long, sum) in
-    let P : ℕ → Type 0 = λ k. story k (before declared) bytes ≡ whole_story fs rows in
-    subst P fuel (schema-told n declared fs rows rest t.columns named same (batches-told n (length rows) declared fs rows (omega arith) (omega (arith, long, sum)) t.columns t.layouts t.sound))
+    let P : ℕ → Type 0 = λ k. story k (before declared) [] bytes ≡ whole_story fs rows in
+    subst P fuel (schema-told n declared [] fs rows rest t.columns named same (batches-told n (length rows) declared [] fs rows (omega arith) (omega (arith, long, sum)) t.columns t.layouts t.sound))
 
 pub round-trip : RoundTrip
 unfolding story_of
@@ -184,4 +185,4 @@ means-its-table fs rows t named = told-means (story_of (canon fs rows)) fs rows 
 
 pub declared-means-its-table : DeclaredMeansItsTable
 declared-means-its-table fs rows t named =
-    told-means (story (length (canon fs rows)) (before (Some fs)) (canon fs rows)) fs rows named (declared-trip fs rows t named)
+    told-means (story (length (canon fs rows)) (before (Some fs)) [] (canon fs rows)) fs rows named (declared-trip fs rows t named)

@@ -1,5 +1,5 @@
 -- The canonical stream of a table is read as the table.
-use Rattle.std.specs.Prelude.{◌≡◌, List, length, Some, Ok}
+use Rattle.std.specs.Prelude.{◌≡◌, List, [], length, Some, Ok}
 use Rattle.values.specs.Datum.{Datum}
 use Rattle.values.specs.Rose.{Rose}
 use Rattle.field_types.specs.Logical.{LogicalField}
@@ -22,7 +22,7 @@ RoundTrip =
 abbrev pub DeclaredTrip : Type 0
 DeclaredTrip =
     (fs : List (Rose LogicalField)) (rows : List (List Datum)) → IsTable fs rows → AreNamed fs
-    → story (length (canon fs rows)) (before (Some fs)) (canon fs rows) ≡ whole_story fs rows
+    → story (length (canon fs rows)) (before (Some fs)) [] (canon fs rows) ≡ whole_story fs rows
 
 -- Reading the canonical stream of a table gives the table: no fault stands, and its columns and its rows come back.
 abbrev pub MeansItsTable : Type 0
@@ -34,4 +34,4 @@ MeansItsTable =
 abbrev pub DeclaredMeansItsTable : Type 0
 DeclaredMeansItsTable =
     (fs : List (Rose LogicalField)) (rows : List (List Datum)) → IsTable fs rows → AreNamed fs
-    → Means (story (length (canon fs rows)) (before (Some fs)) (canon fs rows)) fs rows
+    → Means (story (length (canon fs rows)) (before (Some fs)) [] (canon fs rows)) fs rows
