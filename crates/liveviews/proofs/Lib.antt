@@ -2,6 +2,7 @@ pub mod Batches
 pub mod Weighing
 pub mod Taking
 pub mod Batching
+pub mod Endmarks
 pub mod Stories
 pub mod Tables
 pub mod Recasts

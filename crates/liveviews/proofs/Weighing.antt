@@ -8,7 +8,7 @@ use Rattle.values.specs.Layouts.{weight}
 use Rattle.arrays.specs.Checked.{CheckedColumn}
 use Rattle.arrays.specs.Weights.{Says}
 use Rattle.schema_meta.specs.Rows.{row_at}
-use Rattle.liveviews.specs.Columns.{cells_in, layouts_in}
+use Rattle.feed.specs.Columns.{cells_in, layouts_in}
 use Rattle.liveviews.specs.Heavy.{row_weight, HasHeavyCell, AreLightCells, IsHeavy, IsLight}
 
 abbrev weight_left : List CheckedColumn → ℕ → ℕ

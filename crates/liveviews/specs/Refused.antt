@@ -1,5 +1,5 @@
 -- Why the rows of a batch, or of a whole stream, are not taken.
-use Rattle.std.specs.Prelude.{◌≡◌, ℕ, ◌+◌, ◌^◌, ◌<◌, List, Ok, length, Any}
+use Rattle.std.specs.Prelude.{◌≡◌, ℕ, ◌+◌, ◌^◌, ◌<◌, List, length, Any}
 use Rattle.values.specs.Datum.{Datum}
 use Rattle.values.specs.Reading.{Reading, Stands}
 use Rattle.values.specs.Rose.{Roses}
@@ -14,15 +14,9 @@ use Rattle.liveviews.specs.Heavy.{IsHeavy}
 abbrev pub StandsAs : {X : Type 0} → Reading X → Cause → Type 0
 StandsAs m c = (f : StreamFault) × (cause_of f ≡ c) × Stands m f
 
--- the rows of a batch are read, and there are too many with those before, or one is too heavy
-abbrev pub AreTooMany : Reading (List (List Datum)) → ℕ → Type 0
-AreTooMany m before = (rows : List (List Datum)) × (m ≡ Ok rows) × (2 ^ 24 < before + length rows)
-
-abbrev pub HasHeavy : Roses Layout → Reading (List (List Datum)) → Type 0
-HasHeavy ls m = (rows : List (List Datum)) × (m ≡ Ok rows) × Any (IsHeavy ls) rows
-
-abbrev pub RefusesBatch : Roses Layout → Reading (List (List Datum)) → ℕ → Cause → Type 0
-RefusesBatch ls m before cause.Memory = Unit {0}
-RefusesBatch ls m before cause.TooManyRows = AreTooMany m before
-RefusesBatch ls m before cause.CellTooHeavy = HasHeavy ls m
-RefusesBatch ls m before c = StandsAs m c
+-- The rows of a batch are too many with those before, or one is too heavy.
+abbrev pub RefusesBatch : Roses Layout → List (List Datum) → ℕ → Cause → Type 0
+RefusesBatch ls rows before cause.Memory = Unit {0}
+RefusesBatch ls rows before cause.TooManyRows = 2 ^ 24 < before + length rows
+RefusesBatch ls rows before cause.CellTooHeavy = Any (IsHeavy ls) rows
+RefusesBatch ls rows before c = ⊥

@@ -1,43 +1,25 @@
--- What reading a stream message by message tells of the whole stream.
-use Rattle.std.specs.Prelude.{◌≡◌, ℕ, ◌^◌, ◌<◌, List, [], Option, None, Some, IsSome, Ok, Any, length, drop, map}
+-- What reading a stream event by event tells of the whole stream.
+use Rattle.std.specs.Prelude.{◌≡◌, ℕ, ◌^◌, ◌<◌, List, [], Option, None, Some, Any, length, drop}
 use Rattle.values.specs.Datum.{Datum}
-use Rattle.field_types.specs.Logical.{LogicalField}
 use Rattle.values.specs.Rose.{Rose}
 use Rattle.values.specs.declared.causes.Cause.{Cause}
 use Rattle.values.specs.declared.causes.Cause.TheVariants as cause
 use Rattle.schema_meta.specs.Entry.{Entry}
-use Rattle.schema_meta.specs.Logical.{logical_field}
 use Rattle.schema_meta.specs.FieldLayouts.{layouts_of}
-use Rattle.schema_meta.specs.FieldsLaw.{AreFields}
-use Rattle.schema_meta.specs.SchemaTree.{AreColumns}
-use Rattle.schema_meta.specs.Stage.{Known}
-use Rattle.schema_meta.specs.BatchHead.{BatchHead}
-use Rattle.schema_meta.specs.Rows.{rows_of}
-use Rattle.values.specs.Reading.{with_front}
-use Rattle.schema_meta.specs.Story.{Story, story, after_rows, ends, at_end_mark, at_input_end}
+use Rattle.schema_meta.specs.Story.{Story, after_rows, ends, at_end_mark, at_input_end}
+use Rattle.feed.specs.Kept.{Kept}
+use Rattle.feed.specs.Shown.{FeedParts, Shows}
+use Rattle.feed.specs.States.{FeedState, kept_in}
+use Rattle.feed.specs.StoryLaw.{IsBetween, tale}
 use Rattle.liveviews.specs.Heavy.{IsHeavy}
 use Rattle.liveviews.specs.Taken.{AreTaken}
-use Rattle.liveviews.specs.Refused.{RefusesBatch, StandsAs}
+use Rattle.liveviews.specs.Refused.{StandsAs}
 use Rattle.liveviews.specs.declared.table.Step.{Step}
 use Rattle.liveviews.specs.declared.table.Step.TheVariants as step
 
--- the stream tells these rows, and then what these bytes tell where so much is known
-abbrev pub Tells : Story → List (List Datum) → Known → List ℕ → Type 0
-Tells s rows known bytes = s ≡ after_rows rows (story (length bytes) known bytes)
-
--- the same once the first message of these bytes was taken
-abbrev pub TellsAfter : Story → List (List Datum) → Known → List ℕ → Step → Type 0
-TellsAfter s rows known bytes (step.Next n) = Tells s rows known (drop n bytes)
-TellsAfter s rows known bytes (step.End n) = s ≡ after_rows rows (ends known (at_end_mark (drop n bytes)))
-
-abbrev pub length_of : Step → ℕ
-length_of (step.Next n) = n
-length_of (step.End n) = n
-
--- a stream that has ended has a schema
-abbrev pub HasEnded : Option (List (Rose Entry)) → Step → Type 0
-HasEnded schema (step.Next n) = Unit {0}
-HasEnded schema (step.End n) = IsSome schema
+-- the stream tells these rows, and then what these bytes tell where so much is kept
+abbrev pub Tells : Story → List (List Datum) → Kept → List ℕ → Type 0
+Tells s rows k bytes = s ≡ after_rows rows (tale k bytes)
 
 -- One of the rows that the stream tells is too heavy for its schema.
 abbrev pub HasHeavyRow : Option (List (Rose Entry)) → List (List Datum) → Type 0
@@ -51,36 +33,49 @@ Refuses s cause.TooManyRows = 2 ^ 24 < length s.rows
 Refuses s cause.CellTooHeavy = HasHeavyRow s.schema s.rows
 Refuses s c = StandsAs s.end c
 
--- the schema is within the limits on fields, and its logical schema can be written
-abbrev pub IsSound : Option (List (Rose Entry)) → Type 0
-IsSound None = Unit {0}
-IsSound (Some fields) = AreFields fields × AreColumns (map logical_field fields)
-
 -- what was taken of the stream: no row before a schema
 abbrev pub AreTakenSo : Option (List (Rose Entry)) → List (List Datum) → Type 0
 AreTakenSo None rows = rows ≡ []
 AreTakenSo (Some fields) rows = AreTaken (layouts_of fields) rows
 
--- A batch is read where a schema is known: the rows before, and then those of the batch.
-abbrev pub ReadsRows : Option (List (Rose Entry)) → BatchHead → List ℕ → List (List Datum) → List (List Datum) → Type 0
-ReadsRows None head body old new = ⊥
-ReadsRows (Some fields) head body old new = with_front old (rows_of fields head body) ≡ Ok new
+-- A feed stands between two messages of its stream.
+abbrev pub IsOpen : FeedParts → Type 0
+IsOpen f = (t : FeedState) × Shows f t × IsBetween t
 
-abbrev pub RefusesRowsOf : Option (List (Rose Entry)) → BatchHead → List ℕ → ℕ → Cause → Type 0
-RefusesRowsOf None head body before c = ⊥
-RefusesRowsOf (Some fields) head body before c = RefusesBatch (layouts_of fields) (rows_of fields head body) before c
+-- These rows of the stream were taken, its feed stands between two messages, and these bytes are left.
+pub record Reached (s : Story) (f : FeedParts) (rows : List (List Datum)) (bytes : List ℕ) : Type 0 where
+  pub state : FeedState
+  pub shows : Shows f state
+  pub between : IsBetween state
+  pub taken : AreTakenSo s.schema rows
+  pub tells : Tells s rows (kept_in state) bytes
 
--- The stream told these rows and no more, and ends like an input where so much is known.
-abbrev pub HasTold : Story → List (List Datum) → Known → Type 0
-HasTold s rows known = s ≡ after_rows rows (ends known (at_input_end known.schema))
+-- These rows were taken, and then the end mark came, before these bytes.
+pub record Ended (s : Story) (f : FeedParts) (rows : List (List Datum)) (rest : List ℕ) : Type 0 where
+  pub state : FeedState
+  pub shows : Shows f state
+  pub taken : AreTakenSo s.schema rows
+  pub tells : s ≡ after_rows rows (ends (kept_in state).known (at_end_mark rest))
+  pub fields : List (Rose Entry)
+  pub known : (kept_in state).known.schema ≡ Some fields
 
--- the table of a stream whose schema is this
-abbrev pub IsTableOf : Option (List (Rose Entry)) → List (List Datum) → List (Rose LogicalField) → List (List Datum) → Type 0
-IsTableOf None rows fields cells = ⊥
-IsTableOf (Some fs) rows fields cells = (fields ≡ map logical_field fs) × (cells ≡ rows)
+-- The stream told these rows and no more, and ends like an input.
+pub record Told (s : Story) (f : FeedParts) (rows : List (List Datum)) : Type 0 where
+  pub state : FeedState
+  pub shows : Shows f state
+  pub taken : AreTakenSo s.schema rows
+  pub tells : s ≡ after_rows rows (ends (kept_in state).known (at_input_end (kept_in state).known.schema))
 
--- why there is no table at the end of a stream
-abbrev pub Lacks : Option (List (Rose Entry)) → Cause → Type 0
-Lacks schema cause.Memory = Unit {0}
-Lacks None cause.NoSchema = Unit {0}
-Lacks schema c = ⊥
+abbrev pub length_of : Step → ℕ
+length_of (step.Next n) = n
+length_of (step.End n) = n
+
+-- A stream goes on, or its end mark came.
+abbrev pub GoesOn : FeedParts → Step → Type 0
+GoesOn f (step.Next n) = IsOpen f
+GoesOn f (step.End n) = Unit {0}
+
+-- the same once the first message of these bytes was taken
+abbrev pub ReachedAfter : Story → FeedParts → List (List Datum) → List ℕ → Step → Type 0
+ReachedAfter s f rows bytes (step.Next n) = Reached s f rows (drop n bytes)
+ReachedAfter s f rows bytes (step.End n) = Ended s f rows (drop n bytes)

@@ -3,50 +3,15 @@
 ghost use Rattle.std.specs.Prelude.{◌≡◌, ◌<◌, ◌++◌, All, IfOk, IfErr, OnOk, length, true, false};
 ghost use Rattle.values.specs.Datum.{items_of};
 ghost use Rattle.values.specs.Layouts.{HoldsEach};
-ghost use Rattle.values.specs.Reading.{Answers};
-ghost use Rattle.values.specs.Rose.{kids_of};
-ghost use Rattle.array_layout.specs.Cells.{column_of};
-ghost use Rattle.array_layout.specs.Placing.{layout_of, layouts_of};
-ghost use Rattle.array_layout.specs.Sound.{ArePlaced, IsPlaced};
-ghost use Rattle.schema_meta.specs.Rows.{columns_in, row_at, rows_in};
-ghost use Rattle.liveviews.specs.Columns.{cells_in, layouts_in};
+ghost use Rattle.schema_meta.specs.Rows.{row_at, rows_in};
+ghost use Rattle.feed.specs.Columns.{cells_in, layouts_in};
 ghost use Rattle.liveviews.specs.Heavy.{IsHeavy, IsLight};
 ghost use Rattle.liveviews.specs.Taken.{AreFit, RefusesRows, cells_of_rows};
 
-use array_layout::Array;
 use arrays::Column;
 use std::alloc::{AllocError, Global};
-use std::rc::Rc;
 use values::limits::{MAX_CELL_WEIGHT, MAX_ROW_WEIGHT};
-use values::{Cause, Row, StreamFault};
-
-/// One column of a batch.
-#[tactic(auto, using(values::proofs::Readings::failing))]
-fn check_column(body: &Rc<Vec<u8>>, array: Array) -> Result<Column, StreamFault>
-    requires { IsPlaced body.now.value.items array }
-    ensures reading { Answers (λ c. c.cells) result (column_of body.now.value.items array) }
-    ensures typed { IfOk result (λ c. c.layouts ≡ layout_of array) }
-{
-    Column::check(body.clone()?, array)
-}
-
-/// The columns of a batch, each judged by itself: 22 to 25 and 27.
-#[tactic(auto, using(crate::proofs::Batches::columns))]
-pub(crate) fn check_columns(
-    alloc: Global,
-    body: &Rc<Vec<u8>>,
-    arrays: Vec<Array>,
-) -> Result<Vec<Column>, StreamFault>
-    requires { ArePlaced body.now.value.items (kids_of arrays.items) }
-    ensures reading { Answers (λ cs. cells_in cs.items) result (columns_in body.now.value.items (kids_of arrays.items)) }
-    ensures typed { IfOk result (λ cs. layouts_in cs.items ≡ layouts_of (kids_of arrays.items)) }
-{
-    let mut columns = Vec::with_capacity(alloc, arrays.len())?;
-    for array in arrays {
-        columns.push(check_column(body, array)?)?;
-    }
-    Ok(columns)
-}
+use values::{Cause, Row};
 
 /// Row `index`.
 #[tactic(auto, using(crate::proofs::Batches::cells))]

@@ -1,4 +1,4 @@
-use Rattle.liveviews.specs.Columns.{cells_in}
+use Rattle.feed.specs.Columns.{cells_in}
 use Rattle.liveviews.proofs.Taking.{taken-end}
 use Rattle.liveviews.proofs.batch.add_rows.Goals as goal
 

@@ -1,6 +1,6 @@
 use Rattle.std.proofs.Common.{◌≡◌, ◌++◌, ◌-◌}
 use Rattle.schema_meta.specs.Rows.{rows_from, rows_in}
-use Rattle.liveviews.specs.Columns.{cells_in, layouts_in}
+use Rattle.feed.specs.Columns.{cells_in, layouts_in}
 use Rattle.liveviews.specs.Taken.{AreFit, cells_of_rows}
 use Rattle.liveviews.proofs.batch.add_rows.Given as goal
 

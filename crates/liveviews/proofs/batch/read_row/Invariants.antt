@@ -1,6 +1,6 @@
 use Rattle.std.proofs.Common.{◌≡◌, ◌++◌, drop}
 use Rattle.schema_meta.specs.Rows.{row_at}
-use Rattle.liveviews.specs.Columns.{cells_in}
+use Rattle.feed.specs.Columns.{cells_in}
 use Rattle.liveviews.proofs.Batches.{Leads}
 use Rattle.liveviews.proofs.batch.read_row.Given as goal
 

@@ -1,55 +1,100 @@
-use Rattle.std.proofs.Common.{List, Vec, length, ap, sym, ◌∙◌}
+use Rattle.std.proofs.Common.{List, Vec, length, ap, sym, refl}
 use Rattle.std.specs.declared.alloc.Global.{Global}
-use Rattle.values.specs.Datum.{Datum}
-use Rattle.std.proofs.lemmas.Result.{err_from_is_err_and}
 use Rattle.std.proofs.lemmas.List.{length-map}
+use Rattle.std.proofs.lemmas.Result.{err_from_is_err_and}
+use Rattle.values.specs.Datum.{Datum}
+use Rattle.feed.specs.Shown.{event_seen}
 use Rattle.liveviews.specs.Taken.{cells_of_rows}
-use Rattle.liveviews.proofs.Stories.{came, partial, held-same, push-refused, push-partial, schema-tells, end-tells, known-tells, known-stops, sound-after, taken-after-schema, taken-after-batch, taken-after-end}
+use Rattle.liveviews.proofs.Stories.{came, came-open, came-uses, columns-reached, columns-refused, end-reached, next-reached, push-partial, push-refused, typed-event}
 use Rattle.liveviews.proofs.table.take_message.Goals as goal
 
 pub returns-in-Err-clause-refused : goal.returns-in-Err-clause-refused
-returns-in-Err-clause-refused c = λ s tells.
-    rw c.cause.ensures (push-refused c.message_law.ensures s _ c.args.framer.now.known c.args.bytes.now c.in-Err.fault c.requires.some
-    (held-same c.message_law.ensures c.args.framer.now c.args.bytes.now c.in-Err.fault c.requires.held c.in-Err.ensures.fault) tells)
+returns-in-Err-clause-refused c = λ s.
+    rw c.cause.ensures (push-refused c.story_law.ensures.faults s (cells_of_rows c.args.rows.now.items) c.args.feed.now c.args.bytes.now
+    c.in-Err.fault c.in-Err.ensures.answer)
 
 pub returns-in_default-clause-refused : goal.returns-in_default-clause-refused
-returns-in_default-clause-refused c = λ s tells.
-    push-partial c.message_law.ensures s (cells_of_rows c.args.rows.now.items) c.args.framer.now.known c.args.bytes.now c.requires.some
-    (partial c.message_law.ensures c.args.framer.now c.push.new.self c.args.bytes.now c.in-Ok.framed c.requires.held c.in-Ok.ensures.ok c.in_default.is) tells
+returns-in_default-clause-refused c = λ s.
+    push-partial c.story_law.ensures.partial s (cells_of_rows c.args.rows.now.items) c.args.feed.now c.args.bytes.now c.in-Ok.fed
+    c.requires.some c.in-Ok.ensures.answer c.in_default.is
 
-pub returns-in-Schema-clause-sound : goal.returns-in-Schema-clause-sound
-returns-in-Schema-clause-sound c = sound-after c.message_law.ensures c.args.framer.now.known c.push.new.self.known c.args.bytes.now c.in-Ok.framed.used c.in-Some.message (came c.message_law.ensures c.args.framer.now c.push.new.self c.args.bytes.now c.in-Ok.framed c.in-Some.message c.requires.held c.in-Ok.ensures.ok c.in-Some.is).0 c.requires.sound
+pub returns-in-Schema-clause-used : goal.returns-in-Schema-clause-used
+returns-in-Schema-clause-used c =
+    let event = came c.args.feed.now c.push.new.self c.args.bytes.now c.in-Ok.fed c.in-Some.event (event_seen c.in-Some.event) c.in-Ok.ensures.answer c.in-Ok.ensures.after
+    c.in-Some.is refl in
+    came-uses c.cut_law.ensures.uses _ _ _ _ _ event c.requires.between
 
-pub returns-in_ok-take_known_batch-in-Batch-clause-sound : goal.returns-in_ok-take_known_batch-in-Batch-clause-sound
-returns-in_ok-take_known_batch-in-Batch-clause-sound c = sound-after c.message_law.ensures c.args.framer.now.known c.push.new.self.known c.args.bytes.now c.in-Ok.framed.used c.in-Some.message (came c.message_law.ensures c.args.framer.now c.push.new.self c.args.bytes.now c.in-Ok.framed c.in-Some.message c.requires.held c.in-Ok.ensures.ok c.in-Some.is).0 c.requires.sound
+pub returns-in-Dictionary-clause-used : goal.returns-in-Dictionary-clause-used
+returns-in-Dictionary-clause-used c =
+    let event = came c.args.feed.now c.push.new.self c.args.bytes.now c.in-Ok.fed c.in-Some.event (event_seen c.in-Some.event) c.in-Ok.ensures.answer c.in-Ok.ensures.after
+    c.in-Some.is refl in
+    came-uses c.cut_law.ensures.uses _ _ _ _ _ event c.requires.between
 
-pub returns-in-End-clause-sound : goal.returns-in-End-clause-sound
-returns-in-End-clause-sound c = sound-after c.message_law.ensures c.args.framer.now.known c.push.new.self.known c.args.bytes.now c.in-Ok.framed.used c.in-Some.message (came c.message_law.ensures c.args.framer.now c.push.new.self c.args.bytes.now c.in-Ok.framed c.in-Some.message c.requires.held c.in-Ok.ensures.ok c.in-Some.is).0 c.requires.sound
+pub returns-in-Batch-clause-used : goal.returns-in-Batch-clause-used
+returns-in-Batch-clause-used c =
+    let event = came c.args.feed.now c.push.new.self c.args.bytes.now c.in-Ok.fed c.in-Some.event (event_seen c.in-Some.event) c.in-Ok.ensures.answer c.in-Ok.ensures.after
+    c.in-Some.is refl in
+    came-uses c.cut_law.ensures.uses _ _ _ _ _ event c.requires.between
 
-pub returns-in-Schema-clause-taken : goal.returns-in-Schema-clause-taken
-returns-in-Schema-clause-taken c = taken-after-schema c.message_law.ensures c.args.framer.now.known c.push.new.self.known c.args.bytes.now c.in-Ok.framed.used c.in-Some.message _ (came c.message_law.ensures c.args.framer.now c.push.new.self c.args.bytes.now c.in-Ok.framed c.in-Some.message c.requires.held c.in-Ok.ensures.ok c.in-Some.is).0 (ap (λ m. m.header) (sym c.message.view_is) ∙ c.in-Schema.is)
+pub returns-clause-used : goal.returns-clause-used
+returns-clause-used c =
+    let event = came c.args.feed.now c.push.new.self c.args.bytes.now c.in-Ok.fed c.in-Some.event (event_seen c.in-Some.event) c.in-Ok.ensures.answer c.in-Ok.ensures.after
+    c.in-Some.is refl in
+    came-uses c.cut_law.ensures.uses _ _ _ _ _ event c.requires.between
 
-pub returns-in-Schema-clause-tells : goal.returns-in-Schema-clause-tells
-returns-in-Schema-clause-tells c = λ s. schema-tells c.message_law.ensures s _ c.args.framer.now.known c.push.new.self.known c.args.bytes.now c.in-Ok.framed.used c.in-Some.message (came c.message_law.ensures c.args.framer.now c.push.new.self c.args.bytes.now c.in-Ok.framed c.in-Some.message c.requires.held c.in-Ok.ensures.ok c.in-Some.is).0 (ap (λ m. m.header) (sym c.message.view_is) ∙ c.in-Schema.is)
+pub returns-in-Schema-clause-goes_on : goal.returns-in-Schema-clause-goes_on
+returns-in-Schema-clause-goes_on c =
+    let event = came c.args.feed.now c.push.new.self c.args.bytes.now c.in-Ok.fed c.in-Some.event _ c.in-Ok.ensures.answer c.in-Ok.ensures.after
+    c.in-Some.is (ap event_seen c.in-Schema.is) in
+    came-open c.story_law.ensures.held _ _ _ _ _ (record { stays = refl }) event c.requires.between
 
-pub returns-in_ok-take_known_batch-in-Batch-clause-taken : goal.returns-in_ok-take_known_batch-in-Batch-clause-taken
-returns-in_ok-take_known_batch-in-Batch-clause-taken c =
-    taken-after-batch c.message_law.ensures c.args.framer.now.known c.push.new.self.known c.args.bytes.now c.in-Ok.framed.used c.in-Some.message _ _ _ (came c.message_law.ensures c.args.framer.now c.push.new.self c.args.bytes.now c.in-Ok.framed c.in-Some.message c.requires.held c.in-Ok.ensures.ok c.in-Some.is).0 (ap (λ m. m.header) (sym c.message.view_is) ∙ c.in-Batch.is) c.in_ok-take_known_batch-in-Batch.ensures.taken
+pub returns-in-Dictionary-clause-goes_on : goal.returns-in-Dictionary-clause-goes_on
+returns-in-Dictionary-clause-goes_on c =
+    let event = came c.args.feed.now c.push.new.self c.args.bytes.now c.in-Ok.fed c.in-Some.event _ c.in-Ok.ensures.answer c.in-Ok.ensures.after
+    c.in-Some.is (ap event_seen c.in-Dictionary.is) in
+    came-open c.story_law.ensures.held _ _ _ _ _ (record { stays = refl }) event c.requires.between
 
-pub returns-in_ok-take_known_batch-in-Batch-clause-tells : goal.returns-in_ok-take_known_batch-in-Batch-clause-tells
-returns-in_ok-take_known_batch-in-Batch-clause-tells c = λ s.
-    known-tells c.message_law.ensures s _ _ c.args.framer.now.known c.push.new.self.known c.args.bytes.now c.in-Ok.framed.used c.in-Some.message _ _ (came c.message_law.ensures c.args.framer.now c.push.new.self c.args.bytes.now c.in-Ok.framed c.in-Some.message c.requires.held c.in-Ok.ensures.ok c.in-Some.is).0 (ap (λ m. m.header) (sym c.message.view_is) ∙ c.in-Batch.is) (ap (λ m. m.body) (sym c.message.view_is)) c.in_ok-take_known_batch-in-Batch.ensures.rows
+pub returns-in-Batch-clause-goes_on : goal.returns-in-Batch-clause-goes_on
+returns-in-Batch-clause-goes_on c =
+    let event = came c.args.feed.now c.push.new.self c.args.bytes.now c.in-Ok.fed c.in-Some.event _ c.in-Ok.ensures.answer c.in-Ok.ensures.after
+    c.in-Some.is (ap event_seen c.in-Batch.is) in
+    came-open c.story_law.ensures.held _ _ _ _ _ (record { stays = refl }) event c.requires.between
 
-pub returns-in_err-take_known_batch-in-Batch-clause-refused : goal.returns-in_err-take_known_batch-in-Batch-clause-refused
-returns-in_err-take_known_batch-in-Batch-clause-refused c =
+pub returns-in-Schema-clause-reached : goal.returns-in-Schema-clause-reached
+returns-in-Schema-clause-reached c =
+    let event = came c.args.feed.now c.push.new.self c.args.bytes.now c.in-Ok.fed c.in-Some.event _ c.in-Ok.ensures.answer c.in-Ok.ensures.after
+    c.in-Some.is (ap event_seen c.in-Schema.is) in
+    λ s. next-reached c.story_law.ensures.event c.story_law.ensures.held s (cells_of_rows c.args.rows.now.items) _ _ _ _ _ (record { stays = refl }) (λ k rest. refl) event
+
+pub returns-in-Dictionary-clause-reached : goal.returns-in-Dictionary-clause-reached
+returns-in-Dictionary-clause-reached c =
+    let event = came c.args.feed.now c.push.new.self c.args.bytes.now c.in-Ok.fed c.in-Some.event _ c.in-Ok.ensures.answer c.in-Ok.ensures.after
+    c.in-Some.is (ap event_seen c.in-Dictionary.is) in
+    λ s. next-reached c.story_law.ensures.event c.story_law.ensures.held s (cells_of_rows c.args.rows.now.items) _ _ _ _ _ (record { stays = refl }) (λ k rest. refl) event
+
+pub returns-in-Batch-clause-reached : goal.returns-in-Batch-clause-reached
+returns-in-Batch-clause-reached c =
+    let event = came c.args.feed.now c.push.new.self c.args.bytes.now c.in-Ok.fed c.in-Some.event _ c.in-Ok.ensures.answer c.in-Ok.ensures.after
+    c.in-Some.is (ap event_seen c.in-Batch.is) in
+    let rows = rw c.as_slice.ensures.value at c.in_ok-take_rows-in-Batch.ensures.rows in
+    let taken = rw c.as_slice.ensures.value at c.in_ok-take_rows-in-Batch.ensures.taken in
+    let typed = typed-event c.push.new.self.framing.current.known.schema c.in-Ok.fed c.in-Some.event _ c.in-Ok.ensures.typed c.in-Some.is c.in-Batch.is in
+    λ s. columns-reached c.story_law.ensures.event c.story_law.ensures.held c.story_law.ensures.knows s (cells_of_rows c.args.rows.now.items)
+    (cells_of_rows c.take_rows.new.rows.items) _ _ _ _ c.in-Batch.columns.items c.in-Batch.count c.in-Batch.body event typed rows taken
+
+pub returns-in_err-take_rows-in-Batch-clause-refused : goal.returns-in_err-take_rows-in-Batch-clause-refused
+returns-in_err-take_rows-in-Batch-clause-refused c =
     let failed = err_from_is_err_and c.from_residual.result c.from_residual.ensures.1 in
-    let f : Vec Datum Global → List Datum = λ row. row.items in
-    rw (failed.1, failed.2) (λ s. known-stops c.message_law.ensures s (cells_of_rows c.args.rows.now.items) (length c.args.rows.now.items) c.args.framer.now.known c.push.new.self.known c.args.bytes.now c.in-Ok.framed.used c.in-Some.message _ _
-    c.in_err-take_known_batch-in-Batch.field-0.0 (sym (length-map c.args.rows.now.items f)) (came c.message_law.ensures c.args.framer.now c.push.new.self c.args.bytes.now c.in-Ok.framed c.in-Some.message c.requires.held c.in-Ok.ensures.ok c.in-Some.is).0
-    (ap (λ m. m.header) (sym c.message.view_is) ∙ c.in-Batch.is) (ap (λ m. m.body) (sym c.message.view_is)) c.in_err-take_known_batch-in-Batch.ensures.refused)
+    let event = came c.args.feed.now c.push.new.self c.args.bytes.now c.in-Ok.fed c.in-Some.event _ c.in-Ok.ensures.answer c.in-Ok.ensures.after
+    c.in-Some.is (ap event_seen c.in-Batch.is) in
+    let refused = rw c.as_slice.ensures.value at c.in_err-take_rows-in-Batch.ensures.refused in
+    let typed = typed-event c.push.new.self.framing.current.known.schema c.in-Ok.fed c.in-Some.event _ c.in-Ok.ensures.typed c.in-Some.is c.in-Batch.is in
+    rw (failed.1, failed.2) (λ s. columns-refused c.story_law.ensures.event c.story_law.ensures.held c.story_law.ensures.knows s
+    (cells_of_rows c.args.rows.now.items) _ _ _ _ c.in-Batch.columns.items c.in-Batch.count c.in-Batch.body (length c.args.rows.now.items)
+    c.in_err-take_rows-in-Batch.field-0.0 event typed (sym (length-map c.args.rows.now.items (λ (row : Vec Datum Global). row.items))) refused)
 
-pub returns-in-End-clause-taken : goal.returns-in-End-clause-taken
-returns-in-End-clause-taken c = taken-after-end c.message_law.ensures c.args.framer.now.known c.push.new.self.known c.args.bytes.now c.in-Ok.framed.used c.in-Some.message _ (came c.message_law.ensures c.args.framer.now c.push.new.self c.args.bytes.now c.in-Ok.framed c.in-Some.message c.requires.held c.in-Ok.ensures.ok c.in-Some.is).0 (ap (λ m. m.header) (sym c.message.view_is) ∙ c.in-End.is)
-
-pub returns-in-End-clause-tells : goal.returns-in-End-clause-tells
-returns-in-End-clause-tells c = λ s. end-tells c.message_law.ensures s _ c.args.framer.now.known c.push.new.self.known c.args.bytes.now c.in-Ok.framed.used c.in-Some.message (came c.message_law.ensures c.args.framer.now c.push.new.self c.args.bytes.now c.in-Ok.framed c.in-Some.message c.requires.held c.in-Ok.ensures.ok c.in-Some.is).0 (ap (λ m. m.header) (sym c.message.view_is) ∙ c.in-End.is)
+pub returns-clause-reached : goal.returns-clause-reached
+returns-clause-reached c =
+    let event = came c.args.feed.now c.push.new.self c.args.bytes.now c.in-Ok.fed c.in-Some.event _ c.in-Ok.ensures.answer c.in-Ok.ensures.after
+    c.in-Some.is (ap event_seen c.in-End.is) in
+    λ s. end-reached c.story_law.ensures.event c.story_law.ensures.knows s (cells_of_rows c.args.rows.now.items) _ _ _ _ event
