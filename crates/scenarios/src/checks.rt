@@ -1,10 +1,11 @@
 //! What one call answers.
 
 use crate::sample::SAMPLE;
+use feed::{Fed, Feed};
 use liveviews::{RecastFault, recast};
 use std::process::Abort;
 use stream_writer::MemorySink;
-use values::Cause;
+use values::{Cause, StreamFault};
 
 /// `input` is recast to exactly the bytes of `want`.
 pub fn gives(rt: &(impl Abort + AllocGlobal), input: &[u8], want: &[u8]) {
@@ -32,4 +33,28 @@ pub fn changed(rt: &impl Abort, changes: &[(usize, u8)]) -> [u8; 504] {
         bytes[place] = byte;
     }
     bytes
+}
+
+/// `input` is recast to a stream of one batch with this body, which is canonical.
+pub fn writes(rt: &(impl Abort + AllocGlobal), input: &[u8], body: &[u8]) {
+    let mut sink = MemorySink::new(rt.alloc());
+    let answer = recast(rt.alloc(), input, &mut sink);
+    let bytes = sink.bytes();
+    assert_eq!(rt; answer, Ok(bytes.len() as u64));
+    assert!(rt; bytes.len() > body.len() && bytes.len() - body.len() > 8);
+    let end = bytes.len() - 8;
+    assert_eq!(rt; &bytes[end - body.len()..end], body);
+    gives(rt, bytes, bytes);
+}
+
+/// One push to a feed at which no fault stood.
+pub fn push(rt: &impl Abort, feed: &mut Feed, piece: &[u8]) -> Result<Fed, StreamFault> {
+    assert!(rt; !feed.is_broken());
+    feed.push(piece)
+}
+
+/// The end of its input.
+pub fn finish(rt: &impl Abort, feed: &mut Feed) -> Result<(), StreamFault> {
+    assert!(rt; !feed.is_broken());
+    feed.finish()
 }

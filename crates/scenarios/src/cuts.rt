@@ -1,10 +1,10 @@
 //! The stored stream cut short, or bent where its framing and its metadata are read.
 
-use crate::checks::{changed, gives, refuses};
+use crate::checks::{changed, gives, push, refuses};
 use crate::sample::SAMPLE;
 use crate::streams::many_columns;
+use feed::Feed;
 use liveviews::{RecastFault, recast};
-use messages::Framer;
 use std::test::Fail;
 use stream_writer::MemorySink;
 use values::Cause;
@@ -31,10 +31,10 @@ fn r3_sizes(rt: HostRuntime) -> Result<(), Fail> {
     shorter.extend_from_slice(&SAMPLE[5..])?;
     refuses(&rt, &shorter, Cause::BadSize, 4);
     refuses(&rt, &[255, 255, 255, 255, 1, 0, 0, 1], Cause::BadSize, 8);
-    let mut framer = Framer::open(rt.alloc(), None);
-    let greatest = framer.push(&[255, 255, 255, 255, 0, 0, 0, 1])?;
+    let mut feed = Feed::open(rt.alloc(), None);
+    let greatest = push(&rt, &mut feed, &[255, 255, 255, 255, 0, 0, 0, 1])?;
     assert_eq!(rt; greatest.used, 8);
-    assert!(rt; greatest.message.is_none());
+    assert!(rt; greatest.event.is_none());
     Ok(())
 }
 

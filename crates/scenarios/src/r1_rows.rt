@@ -1,10 +1,10 @@
 //! The rows of the walking path.
 
-use crate::checks::{changed, gives, refuses};
+use crate::checks::{changed, gives, push, refuses};
 use crate::sample::SAMPLE;
 use crate::streams::{END, INT64_SCHEMA, UTF8_SCHEMA, one_text, put, put_int64s, put_utf8_head};
 use crate::table;
-use messages::Framer;
+use feed::Feed;
 use std::alloc::{AllocError, Global};
 use std::test::Fail;
 use stream_writer::{MemorySink, WriteFault, write_table};
@@ -102,11 +102,12 @@ fn r1_sink(rt: HostRuntime) -> Result<(), Fail> {
 #[test]
 fn r1_framing(rt: HostRuntime) -> Result<(), Fail> {
     let start = [0xFE, 0xFF, 0xFF, 0xFF, 0xE0, 0, 0];
-    let mut framer = Framer::open(rt.alloc(), None);
-    let framed = framer.push(&start)?;
-    assert_eq!(rt; framed.used, 7);
-    assert!(rt; framed.message.is_none());
-    assert!(rt; matches!(framer.push(&[0]), Err(StreamFault::NoContinuation)));
+    let mut feed = Feed::open(rt.alloc(), None);
+    let fed = push(&rt, &mut feed, &start)?;
+    assert_eq!(rt; fed.used, 7);
+    assert!(rt; fed.event.is_none());
+    assert!(rt; matches!(push(&rt, &mut feed, &[0]), Err(StreamFault::NoContinuation)));
+    assert!(rt; feed.is_broken());
     refuses(&rt, &start, Cause::Truncated, 7);
     let mut longer = SAMPLE.to_vec(rt.alloc())?;
     longer.push(0)?;

@@ -1,25 +1,10 @@
 //! Rows of every type: what is read and refused of each, and how it is written.
 
-use crate::checks::{gives, refuses};
+use crate::checks::{refuses, writes};
 use crate::typed::{PAIR, PLAIN, SINGLE, Table, Two, field, pair, single, stream};
-use liveviews::recast;
 use std::alloc::{AllocError, Global};
-use std::process::Abort;
 use std::test::Fail;
-use stream_writer::MemorySink;
 use values::{Cause, Kind, Value, copy_row};
-
-/// `input` is recast to a stream of one batch with this body, which is canonical.
-fn writes(rt: &(impl Abort + AllocGlobal), input: &[u8], body: &[u8]) {
-    let mut sink = MemorySink::new(rt.alloc());
-    let answer = recast(rt.alloc(), input, &mut sink);
-    let bytes = sink.bytes();
-    assert_eq!(rt; answer, Ok(bytes.len() as u64));
-    assert!(rt; bytes.len() > body.len() && bytes.len() - body.len() > 8);
-    let end = bytes.len() - 8;
-    assert_eq!(rt; &bytes[end - body.len()..end], body);
-    gives(rt, bytes, bytes);
-}
 
 fn bools(alloc: Global, nulls: u64, valid: u8) -> Result<Vec<u8>, AllocError> {
     let column = field(alloc, b'b', 6, &PLAIN, &[])?;

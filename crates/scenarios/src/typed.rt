@@ -35,9 +35,24 @@ pub const SINGLE: &[u8] = &[6, 0, 8, 0, 4, 0];
 /// The vtable of a field: name, nullable, the type's kind and table, no dictionary, children.
 const FIELD: [u8; 16] = [16, 0, 20, 0, 4, 0, 8, 0, 9, 0, 12, 0, 0, 0, 16, 0];
 
-fn put_number(out: &mut Vec<u8>, number: usize) -> Result<(), AllocError> {
+/// Appends a number of 32 bits, the lowest byte first.
+pub fn put_number(out: &mut Vec<u8>, number: usize) -> Result<(), AllocError> {
     let number = (number % (1 << 32)) as u32;
     out.extend_from_slice(&number.to_le_bytes())
+}
+
+/// Appends fields, of a schema or below a field, one after another.
+pub fn put_fields(out: &mut Vec<u8>, fields: &[&[u8]]) -> Result<(), AllocError> {
+    put_number(out, fields.len())?;
+    let mut place = fields.len().wrapping_mul(4).wrapping_add(16);
+    for field in fields {
+        put_number(out, place)?;
+        place = place.wrapping_add(field.len()).wrapping_sub(4);
+    }
+    for field in fields {
+        out.extend_from_slice(field)?;
+    }
+    Ok(())
 }
 
 /// A field with the name of one letter, and its children, each of which is such a field.
@@ -57,15 +72,7 @@ pub fn field(
     out.extend_from_slice(&[1, 0, 0, 0, name, 0, 0, 0])?;
     out.extend_from_slice(table.slots)?;
     out.extend_from_slice(table.bytes)?;
-    put_number(&mut out, children.len())?;
-    let mut place = children.len().wrapping_mul(4).wrapping_add(16);
-    for child in children {
-        put_number(&mut out, place)?;
-        place = place.wrapping_add(child.len()).wrapping_sub(4);
-    }
-    for child in children {
-        out.extend_from_slice(child)?;
-    }
+    put_fields(&mut out, children)?;
     Ok(out)
 }
 
@@ -81,6 +88,22 @@ fn put_pairs(out: &mut Vec<u8>, pairs: &[Two]) -> Result<(), AllocError> {
     Ok(())
 }
 
+/// Appends the table of a record batch of so many rows.
+pub fn put_record(
+    out: &mut Vec<u8>,
+    rows: u64,
+    nodes: &[Two],
+    spans: &[Two],
+) -> Result<(), AllocError> {
+    out.extend_from_slice(&SAMPLE[288..312])?;
+    out.extend_from_slice(&rows.to_le_bytes())?;
+    out.extend_from_slice(&[12, 0, 0, 0])?;
+    put_number(out, nodes.len().wrapping_mul(16).wrapping_add(12))?;
+    out.extend_from_slice(&[0; 4])?;
+    put_pairs(out, nodes)?;
+    put_pairs(out, spans)
+}
+
 /// Appends a batch of so many rows.
 pub fn put_batch(
     out: &mut Vec<u8>,
@@ -94,24 +117,19 @@ pub fn put_batch(
     put_number(out, structs.wrapping_add(100))?;
     out.extend_from_slice(&SAMPLE[240..280])?;
     out.extend_from_slice(&(body.len() as u64).to_le_bytes())?;
-    out.extend_from_slice(&SAMPLE[288..312])?;
-    out.extend_from_slice(&rows.to_le_bytes())?;
-    out.extend_from_slice(&[12, 0, 0, 0])?;
-    put_number(out, nodes.len().wrapping_mul(16).wrapping_add(12))?;
-    out.extend_from_slice(&[0; 4])?;
-    put_pairs(out, nodes)?;
-    put_pairs(out, spans)?;
+    put_record(out, rows, nodes, spans)?;
     out.extend_from_slice(body)
 }
 
-/// The Schema message of this one column.
-pub fn schema(alloc: Global, column: &[u8]) -> Result<Vec<u8>, AllocError> {
+/// The Schema message of these columns.
+pub fn schema(alloc: Global, columns: &[&[u8]]) -> Result<Vec<u8>, AllocError> {
+    let mut fields = Vec::new(alloc);
+    put_fields(&mut fields, columns)?;
     let mut out = Vec::new(alloc);
     out.extend_from_slice(&[255; 4])?;
-    put_number(&mut out, column.len().wrapping_add(76))?;
+    put_number(&mut out, fields.len().wrapping_add(68))?;
     out.extend_from_slice(&SAMPLE[8..76])?;
-    out.extend_from_slice(&[1, 0, 0, 0, 20, 0, 0, 0])?;
-    out.extend_from_slice(column)?;
+    out.extend_from_slice(&fields)?;
     Ok(out)
 }
 
@@ -124,7 +142,7 @@ pub fn stream(
     spans: &[Two],
     body: &[u8],
 ) -> Result<Vec<u8>, AllocError> {
-    let mut out = schema(alloc, column)?;
+    let mut out = schema(alloc, &[column])?;
     put_batch(&mut out, rows, nodes, spans, body)?;
     out.extend_from_slice(&SAMPLE[496..])?;
     Ok(out)
