@@ -98,14 +98,16 @@ def word(number):
     return struct.pack("<I", number)
 
 
-def field(kind, *parameters):
-    """A field `c` of a type with parameters of four bytes each."""
+def field(kind, *parameters, dictionary=None):
+    """A field `c` of a type with parameters of four bytes each, and of the dictionary with this id, if there is one."""
     count = len(parameters)
     slots = struct.pack(f"<{count + 2}H", 4 + 2 * count, 4 + 4 * count, *range(4, 4 + 4 * count, 4))
     table = word(len(slots)) + b"".join(map(word, parameters))
-    own = bytes([16, 0, 20, 0, 4, 0, 8, 0, 9, 0, 12, 0, 0, 0, 16, 0, 16, 0, 0, 0, 16, 0, 0, 0, 1, kind, 0, 0])
-    places = word(len(slots) + 16) + word(len(slots) + len(table) + 12)
-    return own + places + word(1) + b"c\0\0\0" + slots + table + word(0)
+    own = struct.pack("<8H", 16, 24, 4, 8, 9, 12, 0 if dictionary is None else 20, 16) + word(16) + word(20) + bytes([1, kind, 0, 0])
+    end = len(slots) + len(table)
+    places = word(len(slots) + 20) + word(end + 16) + word(end + 22)
+    encoding = b"" if dictionary is None else struct.pack("<3HI", 6, 12, 4, 6) + numbers(dictionary)
+    return own + places + word(1) + b"c\0\0\0" + slots + table + word(0) + encoding
 
 
 def schema(fields):
@@ -118,27 +120,50 @@ def schema(fields):
     return b"\xff\xff\xff\xff" + word(len(metadata)) + metadata
 
 
-def batch(rows, columns):
-    """A batch of columns without nulls, each of its values."""
-    body, spans = b"", []
-    for values in columns:
-        spans += [len(body), 0, len(body), len(values)]
-        body += filled(values)
-    nodes = [rows, 0] * len(columns)
+def message(kind, header, body):
+    """A message whose header has its vtable in 16 bytes before its table."""
     metadata = (
-        groups(0x18000000_00000000, 0x0C001800_04000600, 0x08001000_00000000, 0x10000000_04000300, 0x20000000_00000000)
+        groups(0x18000000_00000000, 0x0C001800_04000600, 0x08001000_00000000, 0x10000000_04000000 | kind << 8, 0x20000000_00000000)
         + numbers(len(body))
-        + groups(0x0A001800_08001000, 0x14000000_00000000, 0x10000000_00000000)
-        + numbers(rows)
-        + word(12) + word(8 * len(nodes) + 12) + word(0)
-        + word(len(columns)) + numbers(*nodes) + word(2 * len(columns)) + numbers(*spans)
+        + header
     )
     return b"\xff\xff\xff\xff" + word(len(metadata)) + metadata + body
 
 
-def stream_of(fields, rows, columns):
+def record_batch(rows, columns):
+    """The header and the body of columns without nulls, each of its buffers behind the validity."""
+    body, spans = b"", []
+    for column in columns:
+        for buffer in [b"", *column]:
+            spans += [len(body), len(buffer)]
+            body += filled(buffer)
+    nodes = [rows, 0] * len(columns)
+    header = (
+        groups(0x0A001800_08001000, 0x14000000_00000000, 0x10000000_00000000)
+        + numbers(rows)
+        + word(12) + word(8 * len(nodes) + 12) + word(0)
+        + word(len(columns)) + numbers(*nodes) + word(len(spans) // 2) + numbers(*spans)
+    )
+    return header, body
+
+
+def batch(rows, columns):
+    return message(3, *record_batch(rows, columns))
+
+
+def dictionary_batch(number, texts):
+    """The values of a dictionary."""
+    offsets = [0]
+    for text in texts:
+        offsets.append(offsets[-1] + len(text))
+    header, body = record_batch(len(texts), [[struct.pack(f"<{len(offsets)}i", *offsets), b"".join(texts)]])
+    own = groups(0x08001800_08001000, 0, 0x10000000_00000000) + numbers(number) + word(24) + word(0)
+    return message(2, own + header, body)
+
+
+def stream_of(fields, rows, columns, dictionaries=b""):
     def write(file):
-        file.write(schema(fields))
+        file.write(schema(fields) + dictionaries)
         whole = batch(rows, columns)
         for _ in range(TARGET // len(whole)):
             file.write(whole)
@@ -152,13 +177,18 @@ ROWS = 1 << 16
 FIXED_WIDTH = stream_of(
     [field(2, 8, 1), field(2, 16, 0), field(8, 0), field(10, 2)],
     ROWS,
-    [bytes(width * ROWS) for width in (1, 2, 4, 8)],
+    [[bytes(width * ROWS)] for width in (1, 2, 4, 8)],
 )
 
-DECIMALS_AND_BOOLS = stream_of(
-    [field(7, 38, 2), field(6)],
+DECIMALS = [b"".join(number.to_bytes(16, "little") for number in range(ROWS))]
+
+DECIMALS_AND_BOOLS = stream_of([field(7, 38, 2), field(6)], ROWS, [DECIMALS, [b"\x55" * (ROWS // 8)]])
+
+TEXTS_BY_DICTIONARY = stream_of(
+    [field(5, dictionary=1), field(10, 2), field(7, 38, 2)],
     ROWS,
-    [b"".join(number.to_bytes(16, "little") for number in range(ROWS)), b"\x55" * (ROWS // 8)],
+    [[struct.pack(f"<{ROWS}i", *(row % 1000 for row in range(ROWS)))], [bytes(8 * ROWS)], DECIMALS],
+    dictionary_batch(1, [b"%032d" % number for number in range(1000)]),
 )
 
 SHAPES = [
@@ -167,6 +197,7 @@ SHAPES = [
     ("utf8, texts of 1,000 bytes", utf8_stream(1000)),
     ("int8, uint16, date and timestamp, a column each", FIXED_WIDTH),
     ("decimal and bool, a column each", DECIMALS_AND_BOOLS),
+    ("text of a dictionary of 1,000, timestamp and decimal, a column each", TEXTS_BY_DICTIONARY),
 ]
 
 
