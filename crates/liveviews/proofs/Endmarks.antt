@@ -1,9 +1,9 @@
 -- An end mark is read where the schema is known.
-use Rattle.std.proofs.Common.{◌≡◌, ◌⊎◌, inl, inr, ℕ, ◌+◌, ◌-◌, Bool, true, false, Option, None, Some, Ok, Err, List, ◌++◌, length, drop, refl, ap, sym, subst, ◌∙◌}
+use Rattle.std.proofs.Common.{◌≡◌, ◌⊎◌, inl, inr, ℕ, ◌+◌, ◌-◌, Bool, true, false, Option, None, Some, Ok, Err, List, ◌++◌, length, drop, refl, ap, subst, ◌∙◌}
 use Rattle.std.specs.Prelude.{if◌then◌else◌, is_some, nat_lt, slice_range, ◌==◌}
 use Rattle.byteorder.specs.Endian.{little_number}
 use Rattle.flatbuf.specs.Layout.{Table, root_of}
-use Rattle.values.specs.Reading.{Reading, ◌>>=◌, both, mapped, must, one, second}
+use Rattle.values.specs.Reading.{Reading, ◌>>=◌, mapped, must, one, second}
 use Rattle.values.specs.Rose.{Rose}
 use Rattle.values.specs.declared.faults.StreamFault.TheVariants as fault
 use Rattle.values.proofs.Readings.{bind_Ok, both_Ok}

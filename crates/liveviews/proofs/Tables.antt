@@ -17,16 +17,15 @@ use Rattle.schema_meta.specs.FieldLayouts.{layouts_of}
 use Rattle.schema_meta.specs.FieldsLaw.{AreFields, ColumnsFit}
 use Rattle.schema_meta.specs.Logical.{logical_field}
 use Rattle.schema_meta.specs.LogicalLaw.{LogicalTrees, NarrowFits, NarrowHoldsEach, NarrowRowWeighs, logical_trees, narrow_trees}
-use Rattle.schema_meta.specs.Stage.{Known}
 use Rattle.schema_meta.specs.Story.{Story, story, story_of, ends, at_input_end, at_end_mark, after_rows}
 use Rattle.schema_meta.specs.Means.{Means}
 use Rattle.stream_writer.specs.Table.{IsRow, IsTable}
 use Rattle.feed.specs.Kept.{Kept, kept, kept_of}
 use Rattle.feed.specs.Shown.{FeedParts, Shows}
-use Rattle.feed.specs.States.{FeedState, fresh, is_broken, kept_in}
+use Rattle.feed.specs.States.{FeedState, fresh, kept_in}
 use Rattle.feed.specs.StoryLaw.{AllIsTold, IsBetween, tale}
 use Rattle.liveviews.specs.Taken.{AreTaken, IsTakenRow}
-use Rattle.liveviews.specs.Steps.{AreTakenSo, Ended, IsOpen, Reached, Refuses, Tells, Told}
+use Rattle.liveviews.specs.Steps.{AreTakenSo, Ended, IsOpen, Reached, Refuses, Told}
 
 -- What is known of the logical columns is handed in: it is the contract of `logical_law`.
 module _ (trees : LogicalTrees) (fits : NarrowFits) (holds : NarrowHoldsEach) (weighs : NarrowRowWeighs) where

@@ -1,5 +1,5 @@
 -- The table of the stored stream can be written.
-use Rattle.std.proofs.Common.{zero, suc, ◌≤◌, length, refl, arith}
+use Rattle.std.proofs.Common.{zero, suc, arith}
 use Rattle.std.specs.Prelude.{All}
 use Rattle.stream_writer.specs.Sample.{sample_fields, sample_rows}
 use Rattle.stream_writer.specs.Table.{IsRow, IsTable}

@@ -1,6 +1,4 @@
-use Rattle.std.proofs.Common.{ap, refl, sym, ◌∙◌}
-use Rattle.std.specs.Option.{option_map}
-use Rattle.feed.specs.States.{kept_in}
+use Rattle.std.proofs.Common.{refl}
 use Rattle.liveviews.specs.Taken.{cells_of_rows}
 use Rattle.liveviews.proofs.Tables.{table-fits, told-lacks, told-means, told-taken}
 use Rattle.liveviews.proofs.table.finish.Goals as goal

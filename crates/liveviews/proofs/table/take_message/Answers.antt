@@ -1,4 +1,4 @@
-use Rattle.std.proofs.Common.{List, Vec, length, ap, sym, refl}
+use Rattle.std.proofs.Common.{Vec, length, ap, sym, refl}
 use Rattle.std.specs.declared.alloc.Global.{Global}
 use Rattle.std.proofs.lemmas.List.{length-map}
 use Rattle.std.proofs.lemmas.Result.{err_from_is_err_and}
