@@ -25,7 +25,7 @@ use Rattle.feed.specs.declared.judge.Judged.{Judged}
 use Rattle.feed.specs.Kept.{Kept, kept, kept_of, stream_in}
 use Rattle.feed.specs.Events.{Given, given, reading}
 use Rattle.feed.specs.States.{FeedState, Finishes, Gives, MayLack, after_finish, after_push, closed, condition_after, condition_faulty, finishing_when, fresh, gives, given_when, in_condition, kept_in}
-use Rattle.feed.specs.Shown.{FeedParts, HasValues, change_coming, event_coming, event_seen, judged_seen, IsAt, IsFeed, Leads, Shows, WillBeAt, found_next, values_next}
+use Rattle.feed.specs.Shown.{FeedParts, HasValues, change_coming, event_coming, event_seen, judged_seen, IsAt, IsFeed, IsSettled, Leads, Shows, WillBeAt, found_next, values_next}
 
 abbrev parts : Framing → Table → Condition → Option Change → Condition → FeedParts
 parts framing table c change next = record { framing = framing; table = table; condition = c; change = change; next = next }
@@ -221,6 +221,23 @@ leads-nowhere f s piece framing shows stream =
       dictionaries = λ id. shows.dictionaries id ∙ sym (ap (λ x. found_after x.dictionaries id) k);
       condition = shows.condition;
     }
+
+-- nothing is made ready
+pub settled : (f : FeedParts) → f.framing.prepared ≡ f.framing.current → f.change ≡ None → f.next ≡ f.condition → IsSettled f
+settled f framing none next = λ s shows. record {
+  stream = framing ∙ shows.stream;
+  dictionaries = λ id. ap (λ c. found_next f.table c id) none ∙ shows.dictionaries id;
+  condition = next ∙ shows.condition;
+}
+
+-- what a feed shows is of its stream, its dictionaries and its condition alone
+pub shows-same :
+    (f g : FeedParts) (s : FeedState) → g.framing.current ≡ f.framing.current → g.table ≡ f.table → g.condition ≡ f.condition → Shows f s → Shows g s
+shows-same f g s framing table c shows = record {
+  stream = framing ∙ shows.stream;
+  dictionaries = λ id. ap (λ t. found t id) table ∙ shows.dictionaries id;
+  condition = c ∙ shows.condition;
+}
 
 -- a change that is made
 pub committed :

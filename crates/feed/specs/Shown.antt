@@ -77,6 +77,10 @@ pub record Leads (f : FeedParts) (s : FeedState) : Type 0 where
   pub dictionaries : WillStandAfter (kept_in s).dictionaries f.table f.change
   pub condition : f.next ≡ s.condition
 
+-- Nothing is made ready: it leads to where the feed stands.
+abbrev pub IsSettled : FeedParts → Type 0
+IsSettled f = (s : FeedState) → Shows f s → Leads f s
+
 -- The columns are as they are read, and the dictionaries' values are of their types; without a schema there are none.
 abbrev pub HasValues : Option (List (Rose Entry)) → (ℤ → List Datum) → Type 0
 HasValues None values = (id : ℤ) → values id ≡ []

@@ -1,12 +1,12 @@
 //! A feed.
 
-ghost use Rattle.std.specs.Prelude.{◌≡◌, IfErr, IfOk, IfSome, IsSome, OnOk, Ok, Err, false};
+ghost use Rattle.std.specs.Prelude.{◌≡◌, IfErr, IfOk, IfSome, IsSome, OnErr, OnOk, Ok, Err, false};
 ghost use Rattle.std.specs.Option.{option_map};
 ghost use Rattle.values.specs.declared.faults.StreamFault.TheVariants as fault;
 ghost use Rattle.schema_meta.specs.FieldsLaw.{AreFields};
 ghost use Rattle.values.specs.Reading.{Passes};
 ghost use Rattle.feed.specs.States.{FeedState, Finishes, Gives, after_finish, after_push, finishing_when, fresh, is_broken, kept_in};
-ghost use Rattle.feed.specs.Shown.{IsTypedEvent, Leads, Shows, answer_seen, breaks, seen};
+ghost use Rattle.feed.specs.Shown.{IsSettled, IsTypedEvent, Leads, Shows, answer_seen, breaks, seen};
 
 use crate::condition::{Condition, condition_after};
 use crate::event::{Fed, FeedEvent};
@@ -66,7 +66,8 @@ fn judge_end(condition: Condition, framer: &Framer) -> Result<(), StreamFault>
 impl Feed {
     /// A feed of which nothing has come. Where a schema is declared, the stream's must have its columns.
     pub fn open(alloc: Global, declared: Option<Schema>) -> Feed
-        ensures { Shows result (fresh (option_map (λ s. s.fields.items) declared)) }
+        ensures shown { Shows result (fresh (option_map (λ s. s.fields.items) declared)) }
+        ensures settled { IsSettled result }
     {
         // It does nothing: the proof takes from it that there are no dictionaries without batches.
         batches_law();
@@ -96,8 +97,21 @@ impl Feed {
         self.framer.schema()
     }
 
+    /// Drops what was made ready.
+    fn settle(&mut self)
+        ensures framing { self.new.framing.current ≡ self.old.framing.current }
+        ensures table { self.new.table ≡ self.old.table }
+        ensures condition { self.new.condition ≡ self.old.condition }
+        ensures settled { IsSettled self.new }
+    {
+        self.change = None;
+        self.next = self.condition;
+        // An empty piece is never refused, and nothing comes of it.
+        let _ = self.framer.prepare(&[]);
+    }
+
     /// Judges a piece, and makes the room for what comes of it: answers what `push` would answer, and changes nothing but that a
-    /// fault breaks the feed. `commit` makes the change; whatever else is called instead drops it.
+    /// fault breaks the feed. `commit` makes the change, of a refusal none; another call of `prepare`, `push` or `finish` drops it.
     pub fn prepare(&mut self, piece: &[u8]) -> Result<Fed, StreamFault>
         requires { breaks self.old ≡ false }
         ensures answer { (s : FeedState) → Shows self.old s → Gives s piece.now (answer_seen result) }
@@ -105,6 +119,7 @@ impl Feed {
         ensures or_memory { IfOk result (λ f. (s : FeedState) → Shows self.old s → IsSome f.event → Gives s piece.now (Err fault.Memory)) }
         ensures same { OnOk result ((s : FeedState) → Shows self.old s → Shows self.new s) }
         ensures fault { IfErr result (λ c. (s : FeedState) → Shows self.old s → Shows self.new (after_push s piece.now (Err c))) }
+        ensures refused { OnErr result (IsSettled self.new) }
         ensures typed { IfOk result (λ f. IfSome f.event (IsTypedEvent self.new.framing.prepared.known.schema)) }
     {
         self.change = None;
@@ -125,6 +140,7 @@ impl Feed {
                 }
                 Err(fault) => {
                     self.condition = condition_after(fault, self.condition);
+                    self.settle();
                     Err(fault)
                 }
             },
@@ -132,6 +148,7 @@ impl Feed {
                 self.framer.prepare(&[])?;
                 if !piece.is_empty() {
                     self.condition = Condition::Broken;
+                    self.next = Condition::Broken;
                     return Err(StreamFault::AfterEnd);
                 }
                 Ok(Fed {
@@ -142,9 +159,11 @@ impl Feed {
         }
     }
 
-    /// Makes the change that `prepare` made ready, if nothing came between. It takes no memory.
+    /// Makes the change that `prepare` made ready, if nothing came between: else, and once it is made, it changes nothing. It takes no
+    /// memory.
     pub fn commit(&mut self)
         ensures change { (s : FeedState) → Leads self.old s → Shows self.new s }
+        ensures settled { IsSettled self.new }
         ensures stream { self.new.framing.current ≡ self.old.framing.prepared }
     {
         self.framer.commit();
@@ -162,6 +181,7 @@ impl Feed {
         requires { breaks self.old ≡ false }
         ensures answer { (s : FeedState) → Shows self.old s → Gives s piece.now (answer_seen result) }
         ensures after { (s : FeedState) → Shows self.old s → Shows self.new (after_push s piece.now (answer_seen result)) }
+        ensures settled { IsSettled self.new }
         ensures typed { IfOk result (λ f. IfSome f.event (IsTypedEvent self.new.framing.current.known.schema)) }
     {
         let fed = self.prepare(piece)?;
@@ -175,14 +195,17 @@ impl Feed {
         requires { breaks self.old ≡ false }
         ensures answer { (s : FeedState) → Shows self.old s → Finishes s result }
         ensures after { (s : FeedState) → Shows self.old s → Shows self.new (after_finish s result) }
+        ensures settled { IsSettled self.new }
     {
         match judge_end(self.condition, &self.framer) {
             Ok(()) => {
                 self.condition = Condition::Finished;
+                self.settle();
                 Ok(())
             }
             Err(fault) => {
                 self.condition = Condition::Broken;
+                self.settle();
                 Err(fault)
             }
         }

@@ -4,7 +4,7 @@ use Rattle.std.proofs.Common.{None}
 use Rattle.feed.proofs.Feeding.{open-shows}
 use Rattle.feed.proofs.feed.Feed.open.Goals as goal
 
-pub returns : goal.returns
-returns c =
+pub returns-clause-shown : goal.returns-clause-shown
+returns-clause-shown c =
     open-shows c.batches_law.ensures.none (option_map (λ s. s.fields.items) c.args.declared) c.open.result c.new.result None condition.Opened
     c.open.ensures.current c.new.ensures

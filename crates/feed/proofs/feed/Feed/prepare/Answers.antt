@@ -1,8 +1,8 @@
-use Rattle.std.proofs.Common.{None, Some, refl}
+use Rattle.std.proofs.Common.{None, Some, Err, refl}
 use Rattle.feed.specs.Events.{given}
-use Rattle.feed.specs.States.{kept_in}
+use Rattle.feed.specs.States.{after_push, kept_in}
 use Rattle.feed.specs.Shown.{Shows, event_seen}
-use Rattle.feed.proofs.Feeding.{after-fault, closed-empty, closed-fault, closed-some, gives-fault, gives-memory, gives-ok, is-at, leads-judged, leads-none, leads-nowhere, read-none, read-some, still-shows}
+use Rattle.feed.proofs.Feeding.{after-fault, closed-empty, closed-fault, closed-some, gives-fault, gives-memory, gives-ok, is-at, leads-judged, leads-none, leads-nowhere, read-none, read-some, shows-same, still-shows}
 use Rattle.feed.proofs.feed.Feed.prepare.Goals as goal
 
 pub returns-in_default-coming-clause-answer : goal.returns-in_default-coming-clause-answer
@@ -43,22 +43,20 @@ returns-in-Err-clause-answer c = λ s shows.
 pub returns-in-Err-clause-fault : goal.returns-in-Err-clause-fault
 returns-in-Err-clause-fault c = λ s shows.
     let shown : Shows (record { framing = c.self.inside.framer; table = c.self.inside.dicts; condition = c.self.inside.condition; change = c.self.inside.change; next = c.self.inside.next }) s = rw c.self.view_is shows in
-    after-fault (record { framing = c.self.inside.framer; table = c.self.inside.dicts; condition = c.self.inside.condition; change = c.self.inside.change; next = c.self.inside.next }) s c.args.piece.now c.in-Err.fault c.judge.new.framer c.judge.new.dicts c.condition_after-self-inside.result None c.self.inside.condition
-    shown c.in-Err.ensures.same c.in-Err.ensures.entries c.condition_after-self-inside.ensures
+    shows-same (record { framing = c.judge.new.framer; table = c.judge.new.dicts; condition = c.condition_after-self-inside.result; change = None; next = c.self.inside.condition }) c.settle.new.self (after_push s c.args.piece.now (Err c.in-Err.fault))
+    c.settle.ensures.framing c.settle.ensures.table c.settle.ensures.condition
+    (after-fault (record { framing = c.self.inside.framer; table = c.self.inside.dicts; condition = c.self.inside.condition; change = c.self.inside.change; next = c.self.inside.next }) s c.args.piece.now c.in-Err.fault c.judge.new.framer c.judge.new.dicts c.condition_after-self-inside.result None c.self.inside.condition
+    shown c.in-Err.ensures.same c.in-Err.ensures.entries c.condition_after-self-inside.ensures)
 
-pub returns-then-not-is_empty : goal.returns-then-not-is_empty
-returns-then-not-is_empty c = record {
-  answer = λ s shows.
-      let shown : Shows (record { framing = c.self.inside.framer; table = c.self.inside.dicts; condition = c.self.inside.condition; change = c.self.inside.change; next = c.self.inside.next }) s = rw c.self.view_is shows in
-      closed-some (record { framing = c.self.inside.framer; table = c.self.inside.dicts; condition = c.self.inside.condition; change = c.self.inside.change; next = c.self.inside.next }) s c.args.piece.now c.is_empty.result c.in_default.not-Opened c.is_empty.ensures c.if-not-is_empty.true shown;
-  leads = tt;
-  or_memory = tt;
-  same = tt;
-  fault = λ s shows.
-      let shown : Shows (record { framing = c.self.inside.framer; table = c.self.inside.dicts; condition = c.self.inside.condition; change = c.self.inside.change; next = c.self.inside.next }) s = rw c.self.view_is shows in
-      closed-fault (record { framing = c.self.inside.framer; table = c.self.inside.dicts; condition = c.self.inside.condition; change = c.self.inside.change; next = c.self.inside.next }) s c.args.piece.now c.prepare.new.self None c.self.inside.condition shown c.in_ok-prepare-in_default.ensures.same;
-  typed = tt;
-}
+pub returns-then-not-is_empty-clause-answer : goal.returns-then-not-is_empty-clause-answer
+returns-then-not-is_empty-clause-answer c = λ s shows.
+    let shown : Shows (record { framing = c.self.inside.framer; table = c.self.inside.dicts; condition = c.self.inside.condition; change = c.self.inside.change; next = c.self.inside.next }) s = rw c.self.view_is shows in
+    closed-some (record { framing = c.self.inside.framer; table = c.self.inside.dicts; condition = c.self.inside.condition; change = c.self.inside.change; next = c.self.inside.next }) s c.args.piece.now c.is_empty.result c.in_default.not-Opened c.is_empty.ensures c.if-not-is_empty.true shown
+
+pub returns-then-not-is_empty-clause-fault : goal.returns-then-not-is_empty-clause-fault
+returns-then-not-is_empty-clause-fault c = λ s shows.
+    let shown : Shows (record { framing = c.self.inside.framer; table = c.self.inside.dicts; condition = c.self.inside.condition; change = c.self.inside.change; next = c.self.inside.next }) s = rw c.self.view_is shows in
+    closed-fault (record { framing = c.self.inside.framer; table = c.self.inside.dicts; condition = c.self.inside.condition; change = c.self.inside.change; next = c.self.inside.next }) s c.args.piece.now c.prepare.new.self None _ shown c.in_ok-prepare-in_default.ensures.same
 
 pub returns-else-not-is_empty : goal.returns-else-not-is_empty
 returns-else-not-is_empty c = record {
@@ -73,5 +71,6 @@ returns-else-not-is_empty c = record {
       let shown : Shows (record { framing = c.self.inside.framer; table = c.self.inside.dicts; condition = c.self.inside.condition; change = c.self.inside.change; next = c.self.inside.next }) s = rw c.self.view_is shows in
       still-shows (record { framing = c.self.inside.framer; table = c.self.inside.dicts; condition = c.self.inside.condition; change = c.self.inside.change; next = c.self.inside.next }) s c.prepare.new.self shown c.in_ok-prepare-in_default.ensures.same;
   fault = tt;
+  refused = tt;
   typed = tt;
 }
