@@ -3,8 +3,10 @@ use Rattle.std.proofs.Common.{inl, inr, ℕ, List, Option, Result, Ok, Err}
 use Rattle.stream_writer.specs.Sinks.{Sunk}
 use Rattle.values.specs.declared.causes.Cause.TheVariants as cause
 use Rattle.liveviews.specs.Files.{MakesNone}
-use Rattle.liveviews.specs.Program.{EndsSomewhere, IsBegun, StopsSo}
+use Rattle.liveviews.specs.Program.{DoesSomewhere, IsBegun, StopsSo}
 use Rattle.liveviews.specs.declared.files.FileFault.{FileFault}
+use Rattle.liveviews.specs.declared.program.Outcome.{Outcome}
+use Rattle.liveviews.specs.declared.program.Outcome.TheVariants as outcome
 use Rattle.liveviews.specs.declared.program.Refusal.{Refusal}
 use Rattle.liveviews.specs.declared.program.Refusal.TheVariants as refusal
 
@@ -25,7 +27,8 @@ stopped-begun content old new unmade (refusal.Refused c) path (inr (inl none)) =
 stopped-begun content old new unmade (refusal.Refused c) path (inr (inr stops)) = inr (path, Err (record { cause = c; written = stops.0 }), stops.1)
 
 pub ends-begun :
-    (content : List ℕ → Option (List ℕ)) (old new : Sunk) (unmade : Option FileFault) (answer : Result ℕ Refusal)
-    → EndsSomewhere content old new unmade answer → IsBegun content old new
-ends-begun content old new unmade (Ok n) (path, done) = inr (path, Ok n, done)
+    (content : List ℕ → Option (List ℕ)) (old new : Sunk) (unmade : Option FileFault) (answer : Result Outcome Refusal)
+    → DoesSomewhere content old new unmade answer → IsBegun content old new
+ends-begun content old new unmade (Ok (outcome.Inspected i)) (path, inspected) = inl inspected.0
+ends-begun content old new unmade (Ok (outcome.Recast n)) (path, recast) = inr (path, Ok n, recast)
 ends-begun content old new unmade (Err r) (path, stops) = stopped-begun content old new unmade r path stops

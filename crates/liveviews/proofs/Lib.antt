@@ -6,4 +6,7 @@ pub mod Endmarks
 pub mod Stories
 pub mod Tables
 pub mod Recasts
+pub mod TypeTexts
+pub mod LineTexts
+pub mod Accounts
 pub mod Endings

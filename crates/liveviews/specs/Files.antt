@@ -3,6 +3,7 @@ use Rattle.std.specs.Prelude.{◌≡◌, ℕ, List, Option, None, Some, Result, 
 use Rattle.schema_meta.specs.Story.{story_of}
 use Rattle.stream_writer.specs.Sinks.{Sunk}
 use Rattle.values.specs.declared.causes.Cause.TheVariants as cause
+use Rattle.liveviews.specs.Inspect.{Tells, account_of}
 use Rattle.liveviews.specs.Recast.{Recasts}
 use Rattle.liveviews.specs.declared.files.FileFault.{FileFault}
 use Rattle.liveviews.specs.declared.recasting.RecastFault.{RecastFault}
@@ -23,3 +24,9 @@ pub record MakesNone (held : Option (List ℕ)) (old new : Sunk) (unmade : Optio
   pub fault : unmade ≡ Some why
   pub written : ℕ
   pub recasts : RecastsFile held old new (Err (record { cause = cause.Device; written = written }))
+
+-- These bytes were read of a file that holds `held`, and this text and this status tell them.
+pub record InspectsFile (held : Option (List ℕ)) (text : List ℕ) (status : ℕ) : Type 0 where
+  pub input : List ℕ
+  pub read : IsContent held input
+  pub tells : Tells (account_of input) text status

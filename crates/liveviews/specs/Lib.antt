@@ -3,5 +3,8 @@ pub mod Taken
 pub mod Refused
 pub mod Steps
 pub mod Recast
+pub mod Lines
+pub mod Inspect
+pub mod Inspecting
 pub mod Files
 pub mod Program

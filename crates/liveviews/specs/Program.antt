@@ -1,18 +1,33 @@
 -- How a command ends, and how the program does.
-use Rattle.std.specs.Prelude.{◌≡◌, ◌≢◌, ◌⊎◌, ℕ, List, [], ◌∷◌, ◌++◌, Option, Some, Result, Ok, Err, codes}
+use Rattle.std.specs.Prelude.{◌≡◌, ◌≢◌, ◌⊎◌, ℕ, List, [], ◌∷◌, ◌++◌, Option, Some, Result, Ok, Err, codes, string_bytes}
 use Rattle.std.specs.Fmt.{decimal}
 use Rattle.std.specs.Io.KnownBytes.{Appends}
+use Rattle.clap.specs.Matches.{first_value}
 use Rattle.clap.specs.declared.error.kind.ErrorKind.{ErrorKind}
+use Rattle.clap.specs.declared.parser.matches.Found.{Found}
 use Rattle.clap.specs.declared.error.kind.ErrorKind.TheVariants as kinds
 use Rattle.stream_writer.specs.Sinks.{Sunk}
 use Rattle.values.specs.declared.causes.Cause.{Cause}
 use Rattle.values.specs.declared.causes.Cause.TheVariants as cause
-use Rattle.liveviews.specs.Files.{RecastsFile, MakesNone}
+use Rattle.liveviews.specs.Files.{InspectsFile, RecastsFile, MakesNone}
 use Rattle.liveviews.specs.declared.files.FileFault.{FileFault}
 use Rattle.liveviews.specs.declared.files.FileFault.TheVariants as file
+use Rattle.liveviews.specs.declared.program.Asked.{Asked}
+use Rattle.liveviews.specs.declared.program.Asked.TheVariants as asked
+use Rattle.liveviews.specs.declared.program.Outcome.{Outcome}
+use Rattle.liveviews.specs.declared.program.Outcome.TheVariants as outcome
 use Rattle.liveviews.specs.declared.program.Refusal.{Refusal}
 use Rattle.liveviews.specs.declared.program.Refusal.TheVariants as refusal
 use Rattle.liveviews.specs.declared.recasting.RecastFault.{RecastFault}
+
+-- what is asked is of the file, or the files, that the words give
+abbrev pub AsksInspect : Found → Asked → Type 0
+AsksInspect words (asked.Inspect file) = first_value words (codes "FILE") ≡ Some file.now
+AsksInspect words (asked.Recast from to) = ⊥
+
+abbrev pub AsksRecast : Found → Asked → Type 0
+AsksRecast words (asked.Recast from to) = (first_value words (codes "IN") ≡ Some from.now) × (first_value words (codes "OUT") ≡ Some to.now)
+AsksRecast words (asked.Inspect file) = ⊥
 
 -- words that ask for nothing, or memory was refused before a file was read
 abbrev pub IsUnread : Refusal → Type 0
@@ -20,6 +35,13 @@ IsUnread refusal.WrongUse = Unit {0}
 IsUnread (refusal.Refused c) = c ≡ cause.Memory
 IsUnread (refusal.CannotRead path) = ⊥
 IsUnread (refusal.CannotWrite path) = ⊥
+
+-- a file that can't be read, or memory was refused
+abbrev pub IsUnreadable : Refusal → Type 0
+IsUnreadable refusal.WrongUse = ⊥
+IsUnreadable (refusal.Refused c) = c ≡ cause.Memory
+IsUnreadable (refusal.CannotRead path) = Unit {0}
+IsUnreadable (refusal.CannotWrite path) = ⊥
 
 -- Words that can't be read: for want of memory, or else they ask for nothing.
 abbrev pub IsRefusedAs : ErrorKind → Refusal → Type 0
@@ -43,9 +65,18 @@ abbrev pub Ends : Option (List ℕ) → Sunk → Sunk → Option FileFault → R
 Ends held old new unmade (Ok n) = RecastsFile held old new (Ok n)
 Ends held old new unmade (Err r) = StopsSo held old new unmade r
 
+-- A file was inspected, and nothing was put; or it was recast.
+abbrev pub Comes : Option (List ℕ) → Sunk → Sunk → Outcome → Type 0
+Comes held old new (outcome.Inspected i) = (new ≡ old) × InspectsFile held (string_bytes i.text) i.status
+Comes held old new (outcome.Recast n) = RecastsFile held old new (Ok n)
+
+abbrev pub Does : Option (List ℕ) → Sunk → Sunk → Option FileFault → Result Outcome Refusal → Type 0
+Does held old new unmade (Ok o) = Comes held old new o
+Does held old new unmade (Err r) = StopsSo held old new unmade r
+
 -- the same for some file
-abbrev pub EndsSomewhere : (List ℕ → Option (List ℕ)) → Sunk → Sunk → Option FileFault → Result ℕ Refusal → Type 0
-EndsSomewhere content old new unmade answer = (path : List ℕ) × Ends (content path) old new unmade answer
+abbrev pub DoesSomewhere : (List ℕ → Option (List ℕ)) → Sunk → Sunk → Option FileFault → Result Outcome Refusal → Type 0
+DoesSomewhere content old new unmade answer = (path : List ℕ) × Does (content path) old new unmade answer
 
 -- the refusal where the file to be written, whose refusal is named, could not be made
 abbrev pub unmade_for : Refusal → FileFault → Refusal
@@ -67,9 +98,22 @@ status_of (refusal.Refused c) = 1
 abbrev pub line_of : ℕ → List ℕ
 line_of n = codes "wrote " ++ decimal n ++ 10 ∷ []
 
--- A file was read, all of the canonical stream of its table was put, and the line that says so was printed.
-abbrev pub IsDone : (List ℕ → Option (List ℕ)) → Sunk → Sunk → Option (List ℕ) → Option (List ℕ) → Type 0
-IsDone content old new before after = (path : List ℕ) × (n : ℕ) × RecastsFile (content path) old new (Ok n) × Appends before after (line_of n)
+abbrev pub text_of : Outcome → List ℕ
+text_of (outcome.Inspected i) = string_bytes i.text
+text_of (outcome.Recast n) = line_of n
+
+abbrev pub status_after : Outcome → ℕ
+status_after (outcome.Inspected i) = i.status
+status_after (outcome.Recast n) = 0
+
+-- A file was read, and either no fault stands in it and nothing was put, or all of the canonical stream of its table was put. What says so
+-- was printed.
+pub record IsDone (content : List ℕ → Option (List ℕ)) (old new : Sunk) (before after : Option (List ℕ)) : Type 0 where
+  pub path : List ℕ
+  pub outcome : Outcome
+  pub comes : Comes (content path) old new outcome
+  pub good : status_after outcome ≡ 0
+  pub printed : Appends before after (text_of outcome)
 
 -- Nothing was put, or a file was read and recast, however far.
 abbrev pub IsBegun : (List ℕ → Option (List ℕ)) → Sunk → Sunk → Type 0

@@ -1,12 +1,16 @@
-//! `recast`, and the program `lv` over words and files that its caller hands in.
+//! `recast`, `inspect`, and the program `lv` over words and files that its caller hands in.
 #![tactic(auto)]
 
 mod batch;
 mod files;
+mod inspecting;
+mod lines;
 mod program;
 mod recasting;
 mod table;
+mod types;
 
 pub use files::{FileFault, Files};
+pub use inspecting::{Inspected, inspect};
 pub use program::lv;
 pub use recasting::{RecastFault, recast};

@@ -1,14 +1,18 @@
 //! The program `lv`, over words, files and an output that its caller hands in.
 
-ghost use Rattle.std.specs.Prelude.{◌≡◌, ◌≤◌, IfErr};
-ghost use Rattle.liveviews.specs.Program.{Ends, EndsSomewhere, IsBegun, IsDone, IsStopped, IsUnread, status_of, unmade_for};
+ghost use Rattle.std.specs.Prelude.{◌≡◌, ◌≤◌, IfErr, IfOk, IfSome, string_bytes};
+ghost use Rattle.clap.specs.Words.{found_of};
+ghost use Rattle.liveviews.specs.Files.{InspectsFile, IsContent};
+ghost use Rattle.liveviews.specs.Program.{AsksInspect, AsksRecast, DoesSomewhere, Ends, IsBegun, IsDone, IsStopped, IsUnread, IsUnreadable, status_after, status_of, unmade_for};
 ghost use Rattle.liveviews.specs.declared.program.Refusal.TheVariants.{CannotWrite};
 
 use crate::files::{FileFault, Files};
+use crate::inspecting::{Inspected, inspect};
 use crate::recasting::{RecastFault, recast};
 use clap::error::ErrorKind;
-use clap::{Arg, ArgAction, Command};
+use clap::{Arg, ArgAction, ArgMatches, Command};
 use std::alloc::{AllocError, Global};
+use std::fmt;
 use std::io::Write;
 use thiserror::Error;
 use values::Cause;
@@ -16,7 +20,42 @@ use values::Cause;
 /// What the words ask for.
 #[derive(Debug, Drop)]
 enum Asked<'a> {
+    Inspect { file: &'a str },
     Recast { from: &'a str, to: &'a str },
+}
+
+/// What came of a command that was done.
+#[derive(Debug, Drop)]
+enum Outcome {
+    Inspected(Inspected),
+    Recast { written: u64 },
+}
+
+impl Outcome {
+    /// The status with which the program ends.
+    fn status(&self) -> u8
+        ensures { result ≡ status_after self.now }
+    {
+        match self {
+            Outcome::Inspected(inspected) => inspected.status,
+            Outcome::Recast { .. } => 0,
+        }
+    }
+}
+
+/// What `lv` prints.
+impl fmt::Display for Outcome {
+    ghost use Rattle.std.specs.Prelude.{Some};
+    ghost use Rattle.liveviews.specs.Program.{text_of};
+
+    ghost output = { λ o. Some (text_of o) };
+
+    fn fmt<W: fmt::Write>(&self, f: &mut fmt::Formatter<W>) -> fmt::Result {
+        match self {
+            Outcome::Inspected(inspected) => f.write_str(inspected.text.as_str()),
+            Outcome::Recast { written } => writeln!(f, "wrote {written}"),
+        }
+    }
 }
 
 /// Why a command did not do what was asked. It displays as the line that `lv` prints.
@@ -82,12 +121,14 @@ impl<'a> From<clap::Error> for Refusal<'a> {
 
 /// The commands and their words, as `clap` reads them.
 fn command<'a>(alloc: Global) -> Result<Command<'a>, AllocError> {
+    let inspect = Command::new(alloc, "inspect").arg(required(alloc, "FILE"))?;
     let recast = Command::new(alloc, "recast")
         .arg(required(alloc, "IN"))?
         .arg(required(alloc, "OUT"))?;
     Command::new(alloc, "lv")
         .no_binary_name(true)
         .subcommand_required(true)
+        .subcommand(inspect)?
         .subcommand(recast)
 }
 
@@ -99,13 +140,56 @@ fn parse<'a>(alloc: Global, words: &'a [String]) -> Result<Asked<'a>, Refusal<'a
     ensures { IfErr result IsUnread }
 {
     let found = command(alloc)?.try_get_matches_from(words)?;
-    let Some(("recast", given)) = found.subcommand() else {
-        return Err(Refusal::WrongUse);
+    let asked = match found.subcommand() {
+        Some(("inspect", given)) => asked_inspect(given),
+        Some(("recast", given)) => asked_recast(given),
+        _ => None,
     };
-    match (given.get_str("IN"), given.get_str("OUT")) {
-        (Some(from), Some(to)) => Ok(Asked::Recast { from, to }),
-        _ => Err(Refusal::WrongUse),
+    asked.ok_or(Refusal::WrongUse)
+}
+
+fn asked_inspect<'a>(given: &ArgMatches<'a>) -> Option<Asked<'a>>
+    ensures { IfSome result (AsksInspect (found_of given.now)) }
+{
+    Some(Asked::Inspect {
+        file: given.get_str("FILE")?,
+    })
+}
+
+fn asked_recast<'a>(given: &ArgMatches<'a>) -> Option<Asked<'a>>
+    ensures { IfSome result (AsksRecast (found_of given.now)) }
+{
+    Some(Asked::Recast {
+        from: given.get_str("IN")?,
+        to: given.get_str("OUT")?,
+    })
+}
+
+/// All bytes of the file at `path`.
+fn read_file<'a, F: Files>(path: &'a str, files: &mut F) -> Result<Vec<u8>, Refusal<'a>>
+    ensures sunk { F.sunk files.new ≡ F.sunk files.old }
+    ensures content { IfOk result (λ bytes. IsContent (F.content files.old path.now) bytes.items) }
+    ensures unread { IfErr result IsUnreadable }
+{
+    match files.read(path) {
+        Ok(bytes) => Ok(bytes),
+        Err(FileFault::Unusable) => Err(Refusal::CannotRead(path)),
+        Err(FileFault::Memory) => Err(Refusal::Refused(Cause::Memory)),
     }
+}
+
+/// Says of the file at `path` what it holds, message by message.
+fn inspect_file<'a, F: Files>(
+    alloc: Global,
+    path: &'a str,
+    files: &mut F,
+) -> Result<Inspected, Refusal<'a>>
+    ensures sunk { F.sunk files.new ≡ F.sunk files.old }
+    ensures told { IfOk result (λ i. InspectsFile (F.content files.old path.now) (string_bytes i.text) i.status) }
+    ensures unread { IfErr result IsUnreadable }
+{
+    let input = read_file(path, files)?;
+    Ok(inspect(alloc, &input)?)
 }
 
 /// Recasts the file at `from`, and puts what comes of it to the file at `to`, which is made once there is something to put.
@@ -117,11 +201,7 @@ fn recast_file<'a, F: Files>(
 ) -> Result<u64, Refusal<'a>>
     ensures { Ends (F.content files.old from.now) (F.sunk files.old) (F.sunk files.new) (F.unmade files.new) result }
 {
-    let input = match files.read(from) {
-        Ok(input) => input,
-        Err(FileFault::Unusable) => return Err(Refusal::CannotRead(from)),
-        Err(FileFault::Memory) => return Err(Refusal::Refused(Cause::Memory)),
-    };
+    let input = read_file(from, files)?;
     if let Err(fault) = files.create(to) {
         return Err(Refusal::unmade(fault, to));
     }
@@ -142,15 +222,23 @@ fn stopped<'a, F: Files>(files: &F, fault: RecastFault, to: &'a str) -> Refusal<
 }
 
 /// Does what the words ask for.
-fn done<'a, F: Files>(alloc: Global, words: &'a [String], files: &mut F) -> Result<u64, Refusal<'a>>
-    ensures { EndsSomewhere (F.content files.old) (F.sunk files.old) (F.sunk files.new) (F.unmade files.new) result }
+fn done<'a, F: Files>(
+    alloc: Global,
+    words: &'a [String],
+    files: &mut F,
+) -> Result<Outcome, Refusal<'a>>
+    ensures { DoesSomewhere (F.content files.old) (F.sunk files.old) (F.sunk files.new) (F.unmade files.new) result }
 {
     match parse(alloc, words)? {
-        Asked::Recast { from, to } => recast_file(alloc, from, to, files),
+        Asked::Inspect { file } => Ok(Outcome::Inspected(inspect_file(alloc, file, files)?)),
+        Asked::Recast { from, to } => match recast_file(alloc, from, to, files) {
+            Ok(written) => Ok(Outcome::Recast { written }),
+            Err(refusal) => Err(refusal),
+        },
     }
 }
 
-/// Does what `words` ask for (the program's arguments without its own name), and prints one line to `out`.
+/// Does what `words` ask for (the program's arguments without its own name), and prints to `out`: the lines of `inspect`, or one line.
 ///
 /// Answers the program's exit status: 0 done, 1 refused or a print that failed, 2 words that ask for nothing that `lv` does.
 pub fn lv<F: Files, W: Write>(alloc: Global, words: &[String], files: &mut F, out: &mut W) -> u8
@@ -160,7 +248,7 @@ pub fn lv<F: Files, W: Write>(alloc: Global, words: &[String], files: &mut F, ou
     ensures bound { result ≤ 2 }
 {
     let (status, printed) = match done(alloc, words, files) {
-        Ok(written) => (0, writeln!(out, "wrote {written}")),
+        Ok(outcome) => (outcome.status(), write!(out, "{outcome}")),
         Err(refusal) => (refusal.status(), writeln!(out, "{refusal}")),
     };
     match printed {

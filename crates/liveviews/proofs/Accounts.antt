@@ -1,0 +1,281 @@
+-- What is written of a stream, message by message.
+use Rattle.std.proofs.lemmas.List.{take_all}
+use Rattle.std.proofs.Common.{◌≡◌, ◌⊎◌, inl, inr, ℕ, zero, suc, ◌-◌, ◌<◌, ◌≤◌, Bool, true, false, Option, None, Some, Ok, Err, List, [], ◌∷◌, ◌++◌, length, take, drop, refl, ap, sym, subst, ◌∙◌, arith, append_assoc, append-nil, length-drop}
+use Rattle.std.specs.Prelude.{if◌then◌else◌, string_bytes}
+use Rattle.std.specs.Option.{option_map}
+use Rattle.values.specs.Reading.{Reading, Stands, mapped}
+use Rattle.values.specs.declared.faults.StreamFault.{StreamFault}
+use Rattle.values.specs.declared.faults.StreamFault.TheVariants as fault
+use Rattle.values.proofs.Readings.{good_Ok, stands_mapped}
+use Rattle.feed.specs.declared.condition.Condition.{Condition}
+use Rattle.feed.specs.declared.condition.Condition.TheVariants as condition
+use Rattle.feed.specs.declared.event.Fed.{Fed}
+use Rattle.feed.specs.CutLaw.{PartialUses, WholeUses}
+use Rattle.feed.specs.Events.{Event, Given, batch, dictionary, ended, given, schema}
+use Rattle.feed.specs.Kept.{Kept, stream_in}
+use Rattle.feed.specs.Shown.{FeedParts, Shows, breaks, event_seen, seen}
+use Rattle.feed.specs.States.{FeedState, Finishes, Gives, after_push, closed, condition_after, finishing_when, fresh, gives, given_when, is_broken, kept_in}
+use Rattle.liveviews.specs.Inspect.{Account, Closes, Tells, account, account_of, after_given, after_lines, at_end, last_line, refusal_line}
+use Rattle.liveviews.specs.Inspecting.{Breaks, IsFresh, IsLeft, IsOpen, StopsAt, condition_when}
+use Rattle.liveviews.specs.declared.inspecting.Inspection.{Inspection}
+use Rattle.liveviews.specs.Lines.{ended_after, given_lines, is_end}
+
+when-open : (c : Condition) (marked : Bool) → c ≡ condition_when marked → is_broken c ≡ false
+when-open c true is = ap is_broken is
+when-open c false is = ap is_broken is
+
+-- The feed goes on.
+pub open-goes : (i : Inspection) → IsOpen i → breaks i.feed ≡ false
+open-goes i (s, shows, goes) = when-open i.feed.condition i.ended (shows.condition ∙ goes)
+
+pub left-open : (a : Account) (i : Inspection) (rest : List ℕ) → IsLeft a i rest → IsOpen i
+left-open a i rest l = (l.state, l.shows, l.goes)
+
+-- where it begins
+pub fresh-left : (i : Inspection) (bytes : List ℕ) → IsFresh i → IsLeft (account_of bytes) i bytes
+fresh-left i bytes f = record {
+  state = fresh None;
+  shows = f.shows;
+  goes = sym (ap condition_when f.before);
+  steps = length bytes;
+  enough = omega arith;
+  tells = ap (λ t. after_lines t (account_of bytes)) (sym f.empty);
+}
+
+-- a step of the account
+account-step :
+    (n : ℕ) (s : FeedState) (bytes : List ℕ) (g : Reading Given) → 0 < length bytes → gives s bytes ≡ g
+    → account (suc n) s bytes ≡ after_given (account n) s bytes g
+unfolding account
+account-step n s [] g some is = absurd (omega (arith, some))
+account-step n s (b ∷ bs) g some is = ap (after_given (account n) s (b ∷ bs)) is
+
+account-end : (n : ℕ) (s : FeedState) (bytes : List ℕ) → length bytes ≤ 0 → account n s bytes ≡ at_end s
+unfolding account
+account-end zero s bytes none = refl
+account-end (suc n) s [] none = refl
+account-end (suc n) s (b ∷ bs) none = absurd (omega (arith, none))
+
+pred-of : (n m : ℕ) → 0 < m → m ≤ n → (k : ℕ) × (n ≡ suc k)
+pred-of zero m some enough = absurd (omega (arith, some, enough))
+pred-of (suc k) m some enough = (k, refl)
+
+closed-none : (bytes : List ℕ) (used : ℕ) (e : Event) → closed bytes ≡ Ok (given used (Some e)) → ⊥
+closed-none [] used e is =
+    let same : given 0 None ≡ given used (Some e) = cc in
+    let event : None ≡ Some e = ap (λ g. g.event) same in
+    absurd (cc)
+closed-none (b ∷ bs) used e is = absurd (cc)
+
+-- A feed hands on events only before the end.
+event-opened : (c : Condition) (k : Kept) (bytes : List ℕ) (used : ℕ) (e : Event) → given_when c k bytes ≡ Ok (given used (Some e)) → c ≡ condition.Opened
+event-opened condition.Opened k bytes used e is = refl
+event-opened condition.Ended k bytes used e is = absurd (closed-none bytes used e is)
+event-opened condition.Finished k bytes used e is = absurd (closed-none bytes used e is)
+event-opened condition.Broken k bytes used e is = absurd (closed-none bytes used e is)
+
+state-opened : (s : FeedState) (bytes : List ℕ) (used : ℕ) (e : Event) → gives s bytes ≡ Ok (given used (Some e)) → s.condition ≡ condition.Opened
+unfolding gives
+state-opened s bytes used e is = event-opened s.condition (kept_in s) bytes used e is
+
+event-ends : (e : Event) → condition_after condition.Opened (Some e) ≡ condition_when (is_end e)
+event-ends (schema fields) = refl
+event-ends (dictionary id delta values) = refl
+event-ends (batch columns rows body) = refl
+event-ends ended = refl
+
+goes-on :
+    (s : FeedState) (bytes : List ℕ) (used : ℕ) (o : Option Event) (before : Bool) → gives s bytes ≡ Ok (given used o)
+    → s.condition ≡ condition_when before → condition_after s.condition o ≡ condition_when (ended_after before o)
+goes-on s bytes used None before is goes = goes
+goes-on s bytes used (Some e) before is goes =
+    ap (λ c. condition_after c (Some e)) (state-opened s bytes used e is) ∙ event-ends e
+
+-- Some bytes are used.
+uses-some :
+    (all : PartialUses) (uses : WholeUses) (s : FeedState) (bytes : List ℕ) (used : ℕ) (o : Option Event) → 0 < length bytes
+    → gives s bytes ≡ Ok (given used o) → (0 < used) × (used ≤ length bytes)
+uses-some all uses s bytes used None some is =
+    let whole : used ≡ length bytes = all s bytes used is in (omega (arith, some, whole), omega (arith, whole))
+uses-some all uses s bytes used (Some e) some is = uses s bytes used e is
+
+gave : (s : FeedState) (bytes : List ℕ) (f : Fed) → Gives s bytes (Ok (seen f)) → gives s bytes ≡ Ok (seen f)
+unfolding Gives
+gave s bytes f is = is
+
+pub push-uses :
+    (all : PartialUses) (uses : WholeUses) (i : Inspection) (bytes : List ℕ) (f : Fed) → 0 < length bytes → IsOpen i
+    → ((t : FeedState) → Shows i.feed t → Gives t bytes (Ok (seen f))) → (0 < f.used) × (f.used ≤ length bytes)
+push-uses all uses i bytes f some (s, shows, goes) answer =
+    uses-some all uses s bytes f.used (option_map event_seen f.event) some (gave s bytes f (answer s shows))
+
+after-shows : (s : FeedState) (bytes : List ℕ) (g : Given) → (after_push s bytes (Ok g)).condition ≡ condition_after s.condition g.event
+unfolding after_push
+after-shows s bytes g = refl
+
+-- A push was taken, and its lines were written.
+pub left-step :
+    (all : PartialUses) (uses : WholeUses) (a : Account) (old new : Inspection) (pushed : FeedParts) (bytes : List ℕ) (f : Fed) → 0 < length bytes
+    → ((t : FeedState) → Shows old.feed t → Gives t bytes (Ok (seen f)))
+    → ((t : FeedState) → Shows old.feed t → Shows pushed (after_push t bytes (Ok (seen f)))) → new.feed ≡ pushed
+    → string_bytes new.text ≡ string_bytes old.text ++ given_lines (option_map event_seen f.event)
+    → new.ended ≡ ended_after old.ended (option_map event_seen f.event) → IsLeft a old bytes → IsLeft a new (drop f.used bytes)
+left-step all uses a old new pushed bytes f some answer after feed text marked l =
+    let o : Option Event = option_map event_seen f.event in
+    let is : gives l.state bytes ≡ Ok (seen f) = gave l.state bytes f (answer l.state l.shows) in
+    let left = pred-of l.steps (length bytes) some l.enough in
+    let used = uses-some all uses l.state bytes f.used o some is in
+    let next : FeedState = after_push l.state bytes (Ok (seen f)) in
+    let rest : Account = account left.0 next (drop f.used bytes) in
+    let size : length (drop f.used bytes) ≡ length bytes - f.used = length-drop f.used bytes in
+    let more : account l.steps l.state bytes ≡ after_lines (given_lines o) rest =
+    ap (λ n. account n l.state bytes) left.1 ∙ account-step left.0 l.state bytes (Ok (seen f)) some is in
+    record {
+      state = next;
+      shows = subst (λ (p : FeedParts). Shows p next) (sym feed) (after l.state l.shows);
+      goes =
+          after-shows l.state bytes (seen f) ∙ goes-on l.state bytes f.used o old.ended is l.goes ∙ ap condition_when (sym marked);
+      steps = left.0;
+      enough = let all : length bytes ≤ l.steps = l.enough in omega (arith, all, left.1, used.0, size);
+      tells =
+          l.tells ∙ ap (after_lines (string_bytes old.text)) more
+          ∙ ap (λ t. record { lines = t; end = rest.end }) (sym (append_assoc (string_bytes old.text) (given_lines o) rest.lines))
+          ∙ ap (λ t. after_lines t rest) (sym text);
+    }
+
+gives-fault : (s : FeedState) (bytes : List ℕ) (f : StreamFault) → Gives s bytes (Err f) → (f ≡ fault.Memory) ⊎ Stands (gives s bytes) f
+unfolding Gives
+gives-fault s bytes fault.Memory h = inl refl
+gives-fault s bytes fault.NoContinuation h = inr h
+gives-fault s bytes fault.BadSize h = inr h
+gives-fault s bytes fault.BadTable h = inr h
+gives-fault s bytes fault.BadName h = inr h
+gives-fault s bytes fault.Version h = inr h
+gives-fault s bytes fault.HeaderKind h = inr h
+gives-fault s bytes fault.BodySize h = inr h
+gives-fault s bytes fault.NoSchema h = inr h
+gives-fault s bytes fault.SecondSchema h = inr h
+gives-fault s bytes fault.BigEndian h = inr h
+gives-fault s bytes fault.UnsupportedType h = inr h
+gives-fault s bytes fault.BadType h = inr h
+gives-fault s bytes fault.TooManyFields h = inr h
+gives-fault s bytes fault.Compressed h = inr h
+gives-fault s bytes fault.DictionaryClash h = inr h
+gives-fault s bytes fault.UnknownDictionary h = inr h
+gives-fault s bytes fault.DictionaryTooLarge h = inr h
+gives-fault s bytes fault.NodeCount h = inr h
+gives-fault s bytes fault.BufferCount h = inr h
+gives-fault s bytes fault.BadLength h = inr h
+gives-fault s bytes fault.BufferRange h = inr h
+gives-fault s bytes fault.BufferShort h = inr h
+gives-fault s bytes fault.NullCount h = inr h
+gives-fault s bytes fault.Offsets h = inr h
+gives-fault s bytes fault.NotUtf8 h = inr h
+gives-fault s bytes fault.DictionaryIndex h = inr h
+gives-fault s bytes fault.DecimalRange h = inr h
+gives-fault s bytes fault.SchemaMismatch h = inr h
+gives-fault s bytes fault.AfterEnd h = inr h
+gives-fault s bytes fault.Truncated h = inr h
+
+stops-at :
+    (a : Account) (n : ℕ) (s : FeedState) (text bytes : List ℕ) (f : StreamFault) (m : Reading Given) → 0 < length bytes → 0 < n
+    → a ≡ after_lines text (account n s bytes) → gives s bytes ≡ m → Stands m f → StopsAt a text f
+stops-at a zero s text bytes f m some enough tells is stands = absurd (omega (arith, enough))
+stops-at a (suc n) s text bytes f (Ok g) some enough tells is stands = absurd stands
+stops-at a (suc n) s text bytes f (Err fs) some enough tells is stands =
+    let here : a ≡ after_lines text (record { lines = []; end = Err fs }) = tells ∙ ap (after_lines text) (account-step n s bytes (Err fs) some is) in
+    record {
+      whole = sym (ap (λ x. x.lines) here ∙ append-nil text);
+      stands = subst (λ (x : Reading (List ℕ)). Stands x f) (sym (ap (λ x. x.end) here)) stands;
+    }
+
+-- A push was refused.
+pub left-breaks :
+    (a : Account) (i : Inspection) (bytes : List ℕ) (f : StreamFault) → 0 < length bytes
+    → ((t : FeedState) → Shows i.feed t → Gives t bytes (Err f)) → IsLeft a i bytes → Breaks a (string_bytes i.text) f
+left-breaks a i bytes f some answer l = elim (gives-fault l.state bytes f (answer l.state l.shows)) [
+  | inl memory ↦ inl memory
+  | inr stands ↦ inr (stops-at a l.steps l.state (string_bytes i.text) bytes f (gives l.state bytes) some (let e : length bytes ≤ l.steps = l.enough in omega (arith, some, e)) l.tells refl stands)
+]
+
+-- what is left, as the code has it
+pub left-rest : (a : Account) (i : Inspection) (bytes : List ℕ) (n : ℕ) → IsLeft a i (drop n bytes) → IsLeft a i (take (length bytes - n) (drop n bytes))
+left-rest a i bytes n l =
+    let size : length (drop n bytes) ≡ length bytes - n = length-drop n bytes in
+    let whole : take (length bytes - n) (drop n bytes) ≡ drop n bytes = take_all (length bytes - n) (drop n bytes) (omega (arith, size)) in
+    subst (IsLeft a i) (sym whole) l
+
+-- Nothing is left.
+no-bytes : (bytes : List ℕ) → length bytes ≤ 0 → bytes ≡ []
+no-bytes [] none = refl
+no-bytes (b ∷ bs) none = absurd (omega (arith, none))
+
+pub left-all : (a : Account) (i : Inspection) (bytes : List ℕ) → length bytes ≤ 0 → IsLeft a i bytes → IsLeft a i []
+left-all a i bytes none l = subst (IsLeft a i) (no-bytes bytes none) l
+
+-- the end of the input
+at-end-tells : (a : Account) (i : Inspection) → (l : IsLeft a i []) → a ≡ after_lines (string_bytes i.text) (at_end l.state)
+at-end-tells a i l = l.tells ∙ ap (after_lines (string_bytes i.text)) (account-end l.steps l.state [] (omega arith))
+
+finish-good : (s : FeedState) (u : Unit {0}) → Finishes s (Ok u) → (x : Unit {0}) × (finishing_when s.condition (stream_in (kept_in s)) ≡ Ok x)
+unfolding Finishes
+finish-good s u h = good_Ok (finishing_when s.condition (stream_in (kept_in s))) h
+
+finish-fault : (s : FeedState) (f : StreamFault) → Finishes s (Err f) → Stands (finishing_when s.condition (stream_in (kept_in s))) f
+unfolding Finishes
+finish-fault s f h = h
+
+last-when : (marked : Bool) → last_line (condition_when marked) ≡ (if marked then [] else last_line condition.Opened)
+last-when true = refl
+last-when false = refl
+
+pub left-finishes :
+    (a : Account) (i : Inspection) (u : Unit {0}) (text : List ℕ) → IsLeft a i [] → ((t : FeedState) → Shows i.feed t → Finishes t (Ok u))
+    → text ≡ string_bytes i.text ++ (if i.ended then [] else last_line condition.Opened) → Tells a text 0
+left-finishes a i u text l answer written =
+    let good = finish-good l.state u (answer l.state l.shows) in
+    let last : List ℕ = last_line l.state.condition in
+    let here : a ≡ after_lines (string_bytes i.text) (at_end l.state) = at-end-tells a i l in
+    let end : a.end ≡ Ok last = ap (λ x. x.end) here ∙ ap (λ m. mapped (λ u. last) m) good.1 in
+    let named : (if i.ended then [] else last_line condition.Opened) ≡ last = sym (ap last_line l.goes ∙ last-when i.ended) in
+    record {
+      last = last;
+      whole =
+          written ∙ ap (λ t. string_bytes i.text ++ t) named
+          ∙ ap (λ t. t ++ last) (sym (ap (λ x. x.lines) here ∙ append-nil (string_bytes i.text)));
+      closes = subst (λ (m : Reading (List ℕ)). Closes m last 0) (sym end) (refl, refl);
+    }
+
+pub left-ends :
+    (a : Account) (i : Inspection) (c : StreamFault) → IsLeft a i [] → ((t : FeedState) → Shows i.feed t → Finishes t (Err c))
+    → Breaks a (string_bytes i.text) c
+left-ends a i c l answer =
+    let here : a ≡ after_lines (string_bytes i.text) (at_end l.state) = at-end-tells a i l in
+    let stands = stands_mapped (λ u. last_line l.state.condition) (finishing_when l.state.condition (stream_in (kept_in l.state))) c
+    (finish-fault l.state c (answer l.state l.shows)) in
+    inr (record {
+      whole = sym (ap (λ x. x.lines) here ∙ append-nil (string_bytes i.text));
+      stands = subst (λ (m : Reading (List ℕ)). Stands m c) (sym (ap (λ x. x.end) here)) stands;
+    })
+
+-- the line of the refusal
+refused-ends : (m : Reading (List ℕ)) (f : StreamFault) → Stands m f → Closes m (refusal_line f) 1
+refused-ends (Ok x) f stands = absurd stands
+refused-ends (Err fs) f stands = (f, stands, refl, refl)
+
+pub stop-tells : (a : Account) (text : List ℕ) (f : StreamFault) (all : List ℕ) → StopsAt a text f → all ≡ text ++ refusal_line f → Tells a all 1
+stop-tells a text f all s is = record {
+  last = refusal_line f;
+  whole = is ∙ ap (λ t. t ++ refusal_line f) s.whole;
+  closes = refused-ends a.end f s.stands;
+}
+
+pub written-end :
+    (marked : Bool) (old new : List ℕ) → marked ≡ false → new ≡ old ++ last_line condition.Opened
+    → new ≡ old ++ (if marked then [] else last_line condition.Opened)
+written-end true old new is written = absurd (cc)
+written-end false old new is written = written
+
+pub written-none : (marked : Bool) (old : List ℕ) → marked ≡ true → old ≡ old ++ (if marked then [] else last_line condition.Opened)
+written-none true old is = sym (append-nil old)
+written-none false old is = absurd (cc)

@@ -1,0 +1,39 @@
+-- Where an inspection stands.
+use Rattle.std.specs.Prelude.{◌≡◌, ◌⊎◌, ℕ, ◌≤◌, Bool, false, List, [], None, if◌then◌else◌, length, string_bytes}
+use Rattle.values.specs.Reading.{Stands}
+use Rattle.values.specs.declared.faults.StreamFault.{StreamFault}
+use Rattle.values.specs.declared.faults.StreamFault.TheVariants as fault
+use Rattle.feed.specs.declared.condition.Condition.{Condition}
+use Rattle.feed.specs.declared.condition.Condition.TheVariants as condition
+use Rattle.feed.specs.Shown.{Shows}
+use Rattle.feed.specs.States.{FeedState, fresh}
+use Rattle.liveviews.specs.Inspect.{Account, account, after_lines}
+use Rattle.liveviews.specs.declared.inspecting.Inspection.{Inspection}
+
+pub record IsFresh (i : Inspection) : Type 0 where
+  pub shows : Shows i.feed (fresh None)
+  pub empty : string_bytes i.text ≡ []
+  pub before : i.ended ≡ false
+
+abbrev pub condition_when : Bool → Condition
+condition_when ended = if ended then condition.Ended else condition.Opened
+
+abbrev pub IsOpen : Inspection → Type 0
+IsOpen i = (s : FeedState) × Shows i.feed s × (s.condition ≡ condition_when i.ended)
+
+-- The lines of an account so far were written, and these bytes are left.
+pub record IsLeft (a : Account) (i : Inspection) (rest : List ℕ) : Type 0 where
+  pub state : FeedState
+  pub shows : Shows i.feed state
+  pub goes : state.condition ≡ condition_when i.ended
+  pub steps : ℕ
+  pub enough : length rest ≤ steps
+  pub tells : a ≡ after_lines (string_bytes i.text) (account steps state rest)
+
+-- All lines before it were written, and then this fault stands.
+pub record StopsAt (a : Account) (text : List ℕ) (f : StreamFault) : Type 0 where
+  pub whole : text ≡ a.lines
+  pub stands : Stands a.end f
+
+abbrev pub Breaks : Account → List ℕ → StreamFault → Type 0
+Breaks a text f = (f ≡ fault.Memory) ⊎ StopsAt a text f

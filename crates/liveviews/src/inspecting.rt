@@ -1,0 +1,130 @@
+//! `inspect`: a stream in, a line for each of its messages out.
+
+ghost use Rattle.std.specs.Prelude.{◌≡◌, ◌<◌, ◌≤◌, ◌++◌, IfErr, IfOk, OnOk, [], drop, length, string_bytes};
+ghost use Rattle.std.specs.Option.{option_map};
+ghost use Rattle.feed.specs.Shown.{event_seen};
+ghost use Rattle.liveviews.specs.Inspect.{Account, Tells, account_of, refusal_line};
+ghost use Rattle.liveviews.specs.Inspecting.{Breaks, IsFresh, IsLeft, IsOpen};
+ghost use Rattle.liveviews.specs.Lines.{ended_after, given_lines};
+
+use crate::lines::{is_ended, write_fed};
+use feed::{Fed, Feed, cut_law};
+use std::alloc::{AllocError, Global};
+use values::StreamFault;
+
+/// What a stream holds, message by message.
+#[derive(Debug, Drop, PartialEq, Eq)]
+pub struct Inspected {
+    /// A line for each message and each column, and a last one for the end of the input or the refusal.
+    pub text: String,
+    /// 0 where no fault stands in the stream, else 1.
+    pub status: u8,
+}
+
+/// An inspection that goes on.
+#[derive(Drop)]
+struct Inspection {
+    feed: Feed,
+    /// The lines of the messages so far.
+    text: String,
+    /// Whether the end mark has come.
+    ended: bool,
+}
+
+impl Inspection {
+    /// One of which nothing has come.
+    fn new(alloc: Global) -> Inspection
+        ensures fresh { IsFresh result }
+    {
+        Inspection {
+            feed: Feed::open(alloc, None),
+            text: String::new(alloc),
+            ended: false,
+        }
+    }
+
+    /// Writes the lines of what a push came to. Answers how many bytes that used.
+    fn note(&mut self, fed: Fed) -> Result<usize, AllocError>
+        ensures feed { self.new.feed ≡ self.old.feed }
+        ensures used { IfOk result (λ n. n ≡ fed.used) }
+        ensures text { OnOk result (string_bytes self.new.text ≡ string_bytes self.old.text ++ given_lines (option_map event_seen fed.event)) }
+        ensures ended { OnOk result (self.new.ended ≡ ended_after self.old.ended (option_map event_seen fed.event)) }
+    {
+        write_fed(&mut self.text, &fed)?;
+        self.ended = is_ended(self.ended, &fed);
+        Ok(fed.used)
+    }
+
+    /// Takes the first message of these bytes, which are all that is left, or all of them. Answers how many.
+    fn take(&mut self, bytes: &[u8]) -> Result<usize, StreamFault>
+        requires open { IsOpen self.old }
+        requires some { 0 < length bytes.now }
+        ensures used { IfOk result (λ n. (0 < n) × (n ≤ length bytes.now)) }
+        ensures left { IfOk result (λ n. (a : Account) → IsLeft a self.old bytes.now → IsLeft a self.new (drop n bytes.now)) }
+        ensures fault { IfErr result (λ f. (a : Account) → IsLeft a self.old bytes.now → Breaks a (string_bytes self.new.text) f) }
+    {
+        // It does nothing: the proof takes from it that a push uses some bytes.
+        cut_law();
+        let fed = self.feed.push(bytes)?;
+        Ok(self.note(fed)?)
+    }
+
+    /// Takes all messages.
+    fn take_all(&mut self, input: &[u8]) -> Result<(), StreamFault>
+        requires fresh { IsFresh self.old }
+        ensures left { OnOk result (IsLeft (account_of input.now) self.new []) }
+        ensures fault { IfErr result (Breaks (account_of input.now) (string_bytes self.new.text)) }
+    {
+        let mut rest = input;
+        while !rest.is_empty() {
+            let used = self.take(rest)?;
+            rest = &rest[used..];
+        }
+        Ok(())
+    }
+
+    /// Takes a whole stream, and writes the line of its end.
+    fn run(&mut self, input: &[u8]) -> Result<(), StreamFault>
+        requires fresh { IsFresh self.old }
+        ensures told { OnOk result (Tells (account_of input.now) (string_bytes self.new.text) 0) }
+        ensures fault { IfErr result (Breaks (account_of input.now) (string_bytes self.new.text)) }
+    {
+        self.take_all(input)?;
+        self.feed.finish()?;
+        if !self.ended {
+            self.text.push_str("end of input\n")?;
+        }
+        Ok(())
+    }
+}
+
+/// Writes the line of a refusal.
+fn write_refusal(text: &mut String, fault: StreamFault) -> Result<(), AllocError>
+    ensures { OnOk result (string_bytes text.new ≡ string_bytes text.old ++ refusal_line fault) }
+{
+    let cause = fault.cause();
+    let number = cause.number();
+    writeln!(text, "refused {number} {cause}")
+}
+
+/// Reads a whole stream, and says of each message what it is.
+///
+/// Where a fault stands, the lines of the messages before it come first. Nothing is said of rows that are too many or too heavy for
+/// `recast`. The error is want of memory.
+pub fn inspect(alloc: Global, input: &[u8]) -> Result<Inspected, AllocError>
+    ensures { IfOk result (λ i. Tells (account_of input.now) (string_bytes i.text) i.status) }
+{
+    let mut inspection = Inspection::new(alloc);
+    let ran = inspection.run(input);
+    let Inspection { mut text, .. } = inspection;
+    match ran {
+        Ok(()) => Ok(Inspected { text, status: 0 }),
+        Err(fault) => {
+            if fault == StreamFault::Memory {
+                return Err(AllocError);
+            }
+            write_refusal(&mut text, fault)?;
+            Ok(Inspected { text, status: 1 })
+        }
+    }
+}
