@@ -1,6 +1,7 @@
 //! The files of the machine.
 
-ghost use Rattle.std.specs.Prelude.{◌≡◌, ◌≤◌, length};
+ghost use Rattle.std.specs.Prelude.{◌≡◌, ◌≤◌, length, take};
+ghost use Rattle.std.specs.Io.KnownBytes.{Appends};
 
 use liveviews::{FileFault, Files};
 use std::fs;
@@ -106,9 +107,17 @@ fn write_some<F: Write>(output: &mut Output<F>, piece: &[u8]) -> usize
     ensures { result ≤ length piece.now }
 {
     match output {
-        Output::Open(file) => file.write(piece).unwrap_or(0),
+        Output::Open(file) => write_to(file, piece),
         _ => 0,
     }
+}
+
+/// How many first bytes of `piece` this file took; none where writing failed.
+fn write_to<F: Write>(file: &mut F, piece: &[u8]) -> usize
+    ensures bound { result ≤ length piece.now }
+    ensures took { Appends (F.contents file.old) (F.contents file.new) (take result piece.now) }
+{
+    file.write(piece).unwrap_or(0)
 }
 
 fn fault_of(error: Error) -> FileFault {
