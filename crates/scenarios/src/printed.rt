@@ -170,6 +170,35 @@ fn recast_prints_one_line(rt: HostRuntime) -> Result<(), Fail> {
 }
 
 #[test]
+fn inspect_prints_its_lines(rt: HostRuntime) -> Result<(), Fail> {
+    run(
+        &rt,
+        &SAMPLE,
+        &["inspect", "in"],
+        "schema fields=2\nfield k int64\nfield v int64\nbatch rows=3 body=56\nend\n",
+        0,
+        None,
+    )?;
+    run(
+        &rt,
+        &SAMPLE[..300],
+        &["inspect", "in"],
+        "schema fields=2\nfield k int64\nfield v int64\nrefused 30 Truncated\n",
+        1,
+        None,
+    )?;
+    run(
+        &rt,
+        &SAMPLE,
+        &["inspect", "gone"],
+        "cannot read gone\n",
+        1,
+        None,
+    )?;
+    Ok(())
+}
+
+#[test]
 fn other_words_are_wrong_use(rt: HostRuntime) -> Result<(), Fail> {
     run(&rt, &SAMPLE, &[], "wrong use\n", 2, None)?;
     run(&rt, &SAMPLE, &["recast"], "wrong use\n", 2, None)?;
@@ -178,6 +207,15 @@ fn other_words_are_wrong_use(rt: HostRuntime) -> Result<(), Fail> {
         &rt,
         &SAMPLE,
         &["recast", "in", "out", "more"],
+        "wrong use\n",
+        2,
+        None,
+    )?;
+    run(&rt, &SAMPLE, &["inspect"], "wrong use\n", 2, None)?;
+    run(
+        &rt,
+        &SAMPLE,
+        &["inspect", "in", "out"],
         "wrong use\n",
         2,
         None,
