@@ -1,0 +1,75 @@
+//! What is taken of a good stream.
+
+use crate::lockstep::{finish, push};
+use feed::{Fed, Feed, FeedEvent};
+use field_types::TypeKind;
+use std::process::Abort;
+use values::StreamFault;
+
+/// One event of a stream of one kind of column.
+#[derive(Clone, Copy, Debug, PartialEq, Eq)]
+pub enum Told {
+    /// A schema: how many columns, and the type of the values of the first.
+    Schema {
+        columns: usize,
+        kind: Option<TypeKind>,
+    },
+    Dictionary {
+        id: i64,
+        delta: bool,
+        values: usize,
+    },
+    Batch {
+        columns: usize,
+        rows: usize,
+        body: usize,
+    },
+    End,
+}
+
+/// Where a message ends, and what it brings.
+pub type Chapter = (usize, Told);
+
+fn told_by(event: FeedEvent) -> Told {
+    match event {
+        FeedEvent::Schema(schema) => Told::Schema {
+            columns: schema.fields.len(),
+            kind: schema.fields.first().map(|field| field.stored.kind()),
+        },
+        FeedEvent::Dictionary { id, delta, values } => Told::Dictionary { id, delta, values },
+        FeedEvent::Batch {
+            columns,
+            rows,
+            body,
+        } => Told::Batch {
+            columns: columns.len(),
+            rows,
+            body,
+        },
+        FeedEvent::End => Told::End,
+    }
+}
+
+/// What one push tells, and how much it uses.
+fn tell(
+    rt: &impl Abort,
+    feed: &mut Feed,
+    piece: &[u8],
+) -> Result<(usize, Option<Told>), StreamFault> {
+    let Fed { used, event } = push(rt, feed, piece)?;
+    Ok((used, event.map(told_by)))
+}
+
+/// A stream is taken whole, and tells this.
+pub fn tells(rt: &(impl Abort + AllocGlobal), good: &[u8], story: &[Chapter]) {
+    let mut feed = Feed::open(rt.alloc(), None);
+    let mut start = 0;
+    for &(end, told) in story {
+        assert!(rt; start < end && end <= good.len());
+        let came = tell(rt, &mut feed, &good[start..]);
+        assert_eq!(rt; came, Ok((end - start, Some(told))), "at {start}");
+        start = end;
+    }
+    assert_eq!(rt; start, good.len());
+    assert_eq!(rt; finish(rt, &mut feed), Ok(()));
+}
