@@ -6,12 +6,14 @@ OUT ?= out/orders.canon.arrows
 
 .PHONY: run test bench install lv need-rt
 
-# Recasts the sample stream to a file of its own, and prints what `lv` prints.
+# Recasts the sample stream to a file of its own, and inspects that file.
 run: lv
 	@mkdir -p out
 	$(LV) recast examples/orders.arrows $(OUT)
+	$(LV) inspect $(OUT)
 
-# The merge gate: every proof from nothing, the must-fail edits, the tests, the program; then the program under refused memory.
+# The merge gate: every proof from nothing, the must-fail edits, the tests, the program; then the program over the examples and
+# under refused memory.
 test:
 	@tools/gate.sh
 

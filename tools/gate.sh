@@ -1,6 +1,6 @@
 #!/usr/bin/env bash
-# The merge gate (rt ci), then the built lv under refused memory. The gate's own last line is printed last, unless it passed
-# and the run under refused memory did not.
+# The merge gate (rt ci), then the built lv over the examples and under refused memory. The gate's own last line is printed
+# last, unless it passed and one of these runs did not.
 set -euo pipefail
 cd "$(dirname "$0")/.."
 make --no-print-directory need-rt
@@ -15,19 +15,19 @@ hold_last() {
 }
 
 # Over what the gate left: nothing is proved a second time.
-under_refused_memory() {
+run_the_built() {
     if ! make --no-print-directory lv > "$built" 2>&1; then
         cat "$built" >&2
         return 1
     fi
-    tools/refuse-memory.sh
+    tools/check-examples.sh && tools/refuse-memory.sh
 }
 
 status=0
 rt ci | hold_last || status=$?
-if [ "$status" -eq 0 ] && ! under_refused_memory; then
+if [ "$status" -eq 0 ] && ! run_the_built; then
     cat "$last"
-    echo "the run under refused memory FAILED"
+    echo "a run of the built lv FAILED"
     exit 1
 fi
 cat "$last"

@@ -1,11 +1,11 @@
 #!/usr/bin/env bash
-# Runs the built lv with each of its requests for memory refused in turn: that one alone, then that one and all after it.
-# Each run may do the whole work, or say `refused 55 Memory` having written nothing or a beginning of it. Where not even its
-# words could be held it may say `wrong use` having written nothing.
+# Runs the built lv, or the program that is named, with each of its requests for memory refused in turn: that one alone, then
+# that one and all after it. Each run may do the whole work, or say `refused 55 Memory` and nothing else, where recast has
+# written nothing or a beginning of its work. Where not even its words could be held it may say `wrong use` having written nothing.
 set -euo pipefail
 cd "$(dirname "$0")/.."
 
-lv=crates/lv/out/lv
+lv=${1:-crates/lv/out/lv}
 if ! command -v cc > /dev/null; then
     echo "refused memory: skipped, since no C compiler (cc) is on the PATH"
     exit 0
@@ -19,13 +19,25 @@ work=$(mktemp -d)
 trap 'rm -rf "$work"' EXIT
 cc -O2 -shared -fPIC -o "$work/refuse.so" tools/refuse_memory.c
 
-# Runs lv over $1 with request $2 refused, and all after it where $3 is 1.
+# What the last run left, and what the whole work leaves: `line`, all that was printed, and from recast `out`.
+last=$work/last
+whole=$work/whole
+mkdir "$last" "$whole"
+
+# Runs the command $1 over $2 with request $3 refused, and all after it where $4 is 1.
 run() {
-    rm -f "$work/out" "$work/mark"
+    local words=("$1" "$2")
+    [ "$1" != recast ] || words+=("$last/out")
+    rm -f "$last"/* "$work/mark"
     status=0
-    LD_PRELOAD="$work/refuse.so" REFUSE_AT=$2 REFUSE_ON=$3 REFUSE_MARK="$work/mark" \
-        "$lv" recast "$1" "$work/out" > "$work/line" 2> "$work/error" || status=$?
-    line=$(< "$work/line")
+    LD_PRELOAD="$work/refuse.so" REFUSE_AT=$3 REFUSE_ON=$4 REFUSE_MARK="$work/mark" \
+        "$lv" "${words[@]}" > "$last/line" 2> "$work/error" || status=$?
+}
+
+fail() {
+    echo "refused memory: FAILED, $1" >&2
+    cat "$last/line" "$work/error" >&2
+    exit 1
 }
 
 # The words of the program take no more requests than this.
@@ -34,46 +46,47 @@ words=8
 # Whether the last run's answer is one that may come where request $1 is refused. Where none was, it is the whole.
 is_right() {
     [ ! -s "$work/error" ] || return 1
-    [ -e "$work/mark" ] || [ "$status $line" = "0 wrote $size" ] || return 1
-    case "$status $line" in
-        "0 wrote $size") cmp -s "$work/out" "$work/whole" ;;
+    [ -e "$work/mark" ] || [ "$status" -eq 0 ] || return 1
+    case "$status $(< "$last/line")" in
+        "0 "*) diff -r "$whole" "$last" > /dev/null ;;
         "1 refused 55 Memory") is_beginning ;;
-        "2 wrong use") [ -n "$no_words" ] && [ "$1" -le "$words" ] && [ ! -e "$work/out" ] ;;
+        "2 wrong use") [ -n "$no_words" ] && [ "$1" -le "$words" ] && [ ! -e "$last/out" ] ;;
         *) return 1 ;;
     esac
 }
 
 is_beginning() {
-    [ ! -e "$work/out" ] || cmp -s -n "$(wc -c < "$work/out")" "$work/out" "$work/whole"
+    [ ! -e "$last/out" ] || cmp -s -n "$(wc -c < "$last/out")" "$last/out" "$whole/out"
 }
 
-# Refuses each request of a run over $1 in turn, and says how many there were.
+# The whole work of the command $1 over $2.
+whole_work() {
+    run "$1" "$2" 0 0
+    [ "$status" -eq 0 ] || fail "$1 over $2 with all of its memory: status $status"
+    rm -f "$whole"/*
+    mv "$last"/* "$whole"
+}
+
+# Refuses each request of the command $1 over $2 in turn, and says how many there were.
 each_request() {
     local at on
+    whole_work "$1" "$2"
     for on in 0 1; do
         no_words=yes
         for ((at = 1; ; at++)); do
-            run "$1" "$at" "$on"
-            if ! is_right "$at"; then
-                echo "refused memory: FAILED over $1 at request $at (all after it: $on): status $status, $line" >&2
-                cat "$work/error" >&2
-                exit 1
-            fi
+            run "$1" "$2" "$at" "$on"
+            is_right "$at" || fail "$1 over $2 at request $at (all after it: $on): status $status"
             [ -e "$work/mark" ] || break
             [ "$status" -eq 2 ] || no_words=
         done
-        if [ "$at" -eq 1 ]; then
-            echo "refused memory: FAILED, nothing was refused" >&2
-            exit 1
-        fi
+        [ "$at" -gt 1 ] || fail "nothing was refused"
     done
-    counted="$counted, $((at - 1)) over $1"
+    counted="$counted, $((at - 1)) of $1 over $2"
 }
 
 counted=
-for stream in crates/lv/data/IN examples/orders.arrows; do
-    "$lv" recast "$stream" "$work/whole" > /dev/null
-    size=$(wc -c < "$work/whole")
-    each_request "$stream"
+for stream in crates/lv/data/IN examples/*.arrows; do
+    each_request recast "$stream"
+    each_request inspect "$stream"
 done
 echo "refused memory: each request refused in turn${counted}; every answer was right"

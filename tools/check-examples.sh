@@ -1,0 +1,36 @@
+#!/usr/bin/env bash
+# Runs the built lv, or the program that is named, over each example. Recast must write the canonical stream whose sum is kept in
+# examples/canonical.sha256, the recast of that stream must be itself, and inspect must print examples/NAME.txt.
+set -euo pipefail
+cd "$(dirname "$0")/.."
+export LC_ALL=C
+
+lv=${1:-crates/lv/out/lv}
+work=$(mktemp -d)
+trap 'rm -rf "$work"' EXIT
+
+fail() {
+    echo "examples: FAILED, $1" >&2
+    exit 1
+}
+
+[ -x "$lv" ] || fail "$lv is not there; make lv builds it"
+
+# Recasts $1 to $2, printing what lv says only where that isn't its success.
+recast() {
+    "$lv" recast "$1" "$2" > "$work/line" || fail "recast of $1: $(< "$work/line")"
+}
+
+check() {
+    local stream=examples/$1.arrows canonical=$work/$1.canon
+    recast "$stream" "$canonical"
+    recast "$canonical" "$work/again"
+    cmp "$canonical" "$work/again" || fail "the canonical stream of $stream isn't its own"
+    "$lv" inspect "$stream" | diff "examples/$1.txt" - || fail "inspect of $stream"
+}
+
+for stream in examples/*.arrows; do
+    check "$(basename "$stream" .arrows)"
+done
+(cd "$work" && sha256sum -- *.canon) | diff examples/canonical.sha256 - || fail "the canonical streams are others"
+echo "examples: recast and inspected, $(wc -l < examples/canonical.sha256) streams"
