@@ -14,9 +14,9 @@ hold_last() {
     awk -v last="$last" 'NR > 1 { print held; fflush() } { held = $0 } END { if (NR) print held > last }'
 }
 
-# Over what the gate left: nothing is proved a second time.
+# The gate leaves the program that it built, so nothing is proved a second time.
 run_the_built() {
-    if ! make --no-print-directory lv > "$built" 2>&1; then
+    if [ ! -x crates/lv/out/lv ] && ! make --no-print-directory lv > "$built" 2>&1; then
         cat "$built" >&2
         return 1
     fi
