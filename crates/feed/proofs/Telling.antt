@@ -1,7 +1,8 @@
 -- What the events of a feed tell of the whole stream.
-use Rattle.std.proofs.Common.{◌≡◌, ◌⊎◌, inl, inr, ℕ, zero, suc, ◌-◌, ◌<◌, ◌≤◌, Bool, true, false, Option, None, Some, Ok, Err, List, [], ◌∷◌, ◌++◌, length, drop, refl, ap, sym, subst, ◌∙◌, arith, append-nil}
+use Rattle.std.proofs.Common.{◌≡◌, ◌⊎◌, inl, inr, ℕ, zero, suc, ◌-◌, ◌<◌, ◌≤◌, Bool, true, false, Option, None, Some, Ok, Err, List, [], ◌∷◌, ◌++◌, length, take, drop, refl, ap, sym, subst, ◌∙◌, arith, append-nil}
 use Rattle.std.specs.Prelude.{slice_range, ◌==◌}
 use Rattle.std.proofs.lemmas.Bool.{eqb-true, eqb-false, cases_lt}
+use Rattle.std.proofs.Math.Seq.{take-length}
 use Rattle.values.specs.Datum.{Datum}
 use Rattle.values.specs.Rose.{Rose}
 use Rattle.values.specs.Reading.{Faults, Reading, mapped, one}
@@ -22,8 +23,8 @@ use Rattle.feed.specs.declared.condition.Condition.TheVariants as condition
 use Rattle.feed.specs.Kept.{Kept, kept, kept_of, brought_by, taken}
 use Rattle.feed.specs.Events.{Event, batch, dictionary, ended, schema, Given, given, event_by, reading}
 use Rattle.feed.specs.States.{FeedState, after_push, given_when, gives, kept_in}
-use Rattle.feed.specs.StoryLaw.{AllIsTold, EventTells, FaultsTell, NoneHeld, PartialTells, TaleKnows, tale, tale_from}
-use Rattle.feed.proofs.Keeping.{FirstLaws, after-whole, kept_behind, left-after}
+use Rattle.feed.specs.StoryLaw.{AllIsTold, EventTells, FaultsTell, NoneHeld, PartialIsHeld, PartialTells, TaleKnows, tale, tale_from}
+use Rattle.feed.proofs.Keeping.{FirstLaws, after-partial, after-whole, kept_behind, left-after}
 use Rattle.feed.proofs.Cutting.{event_of, by_fault, by_none, by_whole, event-by, read-by, partial-by, ends-in-piece, ok-err, ok-same}
 
 zero_by : (n : ℕ) (b : Bool) → (n == 0) ≡ b → (((n == 0) ≡ true) × (n ≡ 0)) ⊎ (((n == 0) ≡ false) × (0 < n))
@@ -168,6 +169,15 @@ module _ (laws : FirstLaws) where
   none-held s bytes used e goes is = elim (event-by (kept_in s) bytes used e (sym (gives-open s bytes goes) ∙ is)) [
     | event_of w found m size ↦ ap (λ k. k.held) (kept-next s bytes used e w found size)
   ]
+
+  pub partial-is-held : PartialIsHeld
+  unfolding after_push
+  partial-is-held s bytes used goes is =
+      let k : Kept = kept_in s in
+      let found = partial-by k bytes (given used None) (sym (gives-open s bytes goes) ∙ is) refl in
+      let all : take used bytes ≡ bytes = ap (λ g. take g.used bytes) found.1 ∙ take-length bytes in
+      ap (λ xs. (kept_of s.declared (s.bytes ++ xs)).held) all
+      ∙ ap (λ x. x.held) (after-partial laws s.declared s.bytes bytes k refl found.0)
 
   rows-of : (k : Kept) (now : Known) (b : BatchHead) (body : List ℕ) (columns : List (List Datum))
       → columns_in body (arrays_of (dictionary_after k.dictionaries) (fields_of now) b) ≡ Ok columns

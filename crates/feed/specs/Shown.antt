@@ -1,5 +1,5 @@
 -- What a feed in memory shows of a feed by its bytes.
-use Rattle.std.specs.Prelude.{◌≡◌, ℕ, ℤ, Bool, List, [], Option, None, Some, Result, Ok, Err, if◌then◌else◌, All, IsSomeAnd, length, refl}
+use Rattle.std.specs.Prelude.{◌≡◌, ℕ, ℤ, Bool, List, [], Option, None, Some, Result, Ok, Err, if◌then◌else◌, All, IsSome, IsSomeAnd, length, refl}
 use Rattle.std.specs.Coded.{Coded, code_by, coded×, coded_option}
 use Rattle.std.specs.Option.{option_map}
 use Rattle.std.specs.Ordering.{int_eq}
@@ -125,6 +125,7 @@ change_coming (Some c) = c.change
 abbrev pub HasColumns : List (Rose Entry) → List CheckedColumn → ℕ → Type 0
 HasColumns fields columns rows = (layouts_in columns ≡ layouts_of fields) × All (λ c. length c.cells ≡ rows) columns
 
+-- Whatever comes of a message, the columns are known then.
 abbrev pub IsTypedEvent : Option (List (Rose Entry)) → FeedEvent → Type 0
 IsTypedEvent fields (feed_event.Batch columns rows body) = IsSomeAnd fields (λ fs. HasColumns fs columns.items rows)
-IsTypedEvent fields _ = Unit {0}
+IsTypedEvent fields _ = IsSome fields

@@ -1,5 +1,5 @@
 -- What a feed's events tell of the whole stream: as the reading of the bytes that are left says.
-use Rattle.std.specs.Prelude.{◌≡◌, ℕ, ◌<◌, List, [], None, Some, Ok, Err, length, drop}
+use Rattle.std.specs.Prelude.{◌≡◌, ℕ, ◌++◌, ◌<◌, List, [], None, Some, Ok, Err, length, drop}
 use Rattle.values.specs.Reading.{Faults, one}
 use Rattle.values.specs.Rose.{Rose}
 use Rattle.values.specs.declared.faults.StreamFault.TheVariants as fault
@@ -37,6 +37,12 @@ abbrev pub NoneHeld : Type 0
 NoneHeld =
     (s : FeedState) (bytes : List ℕ) (used : ℕ) (e : Event) → s.condition ≡ condition.Opened → gives s bytes ≡ Ok (given used (Some e))
     → (kept_in (after_push s bytes (Ok (given used (Some e))))).held ≡ []
+
+-- Without one, the piece is held behind the bytes that were.
+abbrev pub PartialIsHeld : Type 0
+PartialIsHeld =
+    (s : FeedState) (bytes : List ℕ) (used : ℕ) → s.condition ≡ condition.Opened → gives s bytes ≡ Ok (given used None)
+    → (kept_in (after_push s bytes (Ok (given used None)))).held ≡ (kept_in s).held ++ bytes
 
 abbrev pub FaultsTell : Type 0
 FaultsTell =

@@ -1,7 +1,7 @@
 //! Laws of the definitions: functions that do nothing, whose contracts are theorems.
 
 ghost use Rattle.feed.specs.CutLaw.{FaultsStay, PartialJoins, PartialUses, WholeStays, WholeUses};
-ghost use Rattle.feed.specs.StoryLaw.{AllIsTold, EventTells, FaultsTell, NoneHeld, PartialTells, TaleKnows};
+ghost use Rattle.feed.specs.StoryLaw.{AllIsTold, EventTells, FaultsTell, NoneHeld, PartialIsHeld, PartialTells, TaleKnows};
 
 use messages::{message_law, more_bytes_law};
 
@@ -23,6 +23,7 @@ pub fn story_law()
     ensures all { AllIsTold }
     ensures event { EventTells }
     ensures held { NoneHeld }
+    ensures partial_held { PartialIsHeld }
     ensures faults { FaultsTell }
     ensures partial { PartialTells }
     ensures knows { TaleKnows }

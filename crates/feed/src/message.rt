@@ -63,6 +63,7 @@ fn take_dictionary(
     ensures has { IfOk result (λ c. HasValues (Some schema.now.fields.items) (values_next dicts.new c.change)) }
     ensures room { IfOk result (λ c. HasRoomFor dicts.new c.change) }
     ensures next { IfOk result (λ c. c.next ≡ condition_after Condition.Opened (Some (event_seen c.event))) }
+    ensures typed { IfOk result (λ c. IsTypedEvent (Some schema.now.fields.items) c.event) }
 {
     // It does nothing: the proof takes from it what an id has after a batch.
     batches_law();

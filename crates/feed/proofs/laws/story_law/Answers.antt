@@ -1,4 +1,4 @@
-use Rattle.feed.proofs.Telling.{all-is-told, event-tells, none-held, faults-tell, partial-tells, tale-knows}
+use Rattle.feed.proofs.Telling.{all-is-told, event-tells, none-held, faults-tell, partial-is-held, partial-tells, tale-knows}
 use Rattle.feed.proofs.laws.story_law.Goals as goal
 
 pub returns-clause-all : goal.returns-clause-all
@@ -15,6 +15,15 @@ returns-clause-event c = event-tells (record {
 
 pub returns-clause-held : goal.returns-clause-held
 returns-clause-held c = none-held (record {
+  whole = c.more_bytes_law.ensures.whole;
+  faults = c.more_bytes_law.ensures.faults;
+  alone = c.more_bytes_law.ensures.alone;
+  none = c.more_bytes_law.ensures.none;
+  message = c.message_law.ensures;
+})
+
+pub returns-clause-partial_held : goal.returns-clause-partial_held
+returns-clause-partial_held c = partial-is-held (record {
   whole = c.more_bytes_law.ensures.whole;
   faults = c.more_bytes_law.ensures.faults;
   alone = c.more_bytes_law.ensures.alone;
