@@ -43,14 +43,14 @@ fresh-left i bytes f = record {
 }
 
 -- a step of the account
-account-step :
+pub account-step :
     (n : ℕ) (s : FeedState) (bytes : List ℕ) (g : Reading Given) → 0 < length bytes → gives s bytes ≡ g
     → account (suc n) s bytes ≡ after_given (account n) s bytes g
 unfolding account
 account-step n s [] g some is = absurd (omega (arith, some))
 account-step n s (b ∷ bs) g some is = ap (after_given (account n) s (b ∷ bs)) is
 
-account-end : (n : ℕ) (s : FeedState) (bytes : List ℕ) → length bytes ≤ 0 → account n s bytes ≡ at_end s
+pub account-end : (n : ℕ) (s : FeedState) (bytes : List ℕ) → length bytes ≤ 0 → account n s bytes ≡ at_end s
 unfolding account
 account-end zero s bytes none = refl
 account-end (suc n) s [] none = refl
@@ -109,7 +109,7 @@ pub push-uses :
 push-uses all uses i bytes f some (s, shows, goes) answer =
     uses-some all uses s bytes f.used (option_map event_seen f.event) some (gave s bytes f (answer s shows))
 
-after-shows : (s : FeedState) (bytes : List ℕ) (g : Given) → (after_push s bytes (Ok g)).condition ≡ condition_after s.condition g.event
+pub after-shows : (s : FeedState) (bytes : List ℕ) (g : Given) → (after_push s bytes (Ok g)).condition ≡ condition_after s.condition g.event
 unfolding after_push
 after-shows s bytes g = refl
 

@@ -2,11 +2,11 @@ pub mod Batches
 pub mod Weighing
 pub mod Taking
 pub mod Batching
-pub mod Endmarks
 pub mod Stories
 pub mod Tables
 pub mod Recasts
 pub mod TypeTexts
 pub mod LineTexts
 pub mod Accounts
+pub mod Alike
 pub mod Endings

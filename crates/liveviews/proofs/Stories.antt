@@ -1,6 +1,6 @@
 -- What an event of a feed tells of its stream.
 use Rattle.std.proofs.Common.{◌≡◌, ℕ, ◌+◌, ◌<◌, ◌≤◌, Option, None, Some, Ok, Err, List, ◌++◌, length, drop, Any, refl, ap, sym, subst, ◌∙◌, arith, append_assoc, length-append}
-use Rattle.std.specs.Option.{IfSome, IsSomeAnd, option_map}
+use Rattle.std.specs.Option.{IfSome, IsSome, IsSomeAnd, option_map}
 use Rattle.std.proofs.lemmas.List.{get_or_append_left, get_or-append-add}
 use Rattle.values.specs.Datum.{Datum}
 use Rattle.values.specs.Reading.{Reading, Stands, one}
@@ -30,7 +30,6 @@ use Rattle.liveviews.specs.Heavy.{IsHeavy}
 use Rattle.liveviews.specs.Refused.{RefusesBatch}
 use Rattle.liveviews.specs.Steps.{AreTakenSo, Ended, HasHeavyRow, IsOpen, Reached, Refuses, Tells}
 use Rattle.liveviews.specs.Taken.{AreTaken}
-use Rattle.liveviews.proofs.Endmarks.{ended-known}
 
 -- a fault that a push names
 fault-refuses :
@@ -130,7 +129,7 @@ came-uses law old new bytes used v c (t, shows, between) = law t bytes used v (c
 pub record Passes (v : Event) : Type 0 where
   pub stays : condition_after condition.Opened (Some v) ≡ condition.Opened
 
-between-after :
+pub between-after :
     (held : NoneHeld) (t : FeedState) (bytes : List ℕ) (used : ℕ) (v : Event) → Passes v → IsBetween t
     → gives t bytes ≡ Ok (given used (Some v)) → IsBetween (after_push t bytes (Ok (given used (Some v))))
 unfolding after_push
@@ -160,22 +159,27 @@ next-reached law held st rows old new bytes used v passes silent c r =
       tells = r.tells ∙ ap (after_rows rows) (law r.state bytes used v r.between gave ∙ silent (kept_in next) (drop used bytes));
     }
 
+some-fields : (o : Option (List (Rose Entry))) → IsSome o → (fields : List (Rose Entry)) × (o ≡ Some fields)
+some-fields None some = absurd (cc)
+some-fields (Some fields) some = (fields, refl)
+
 -- the end mark
 pub end-reached :
-    (law : EventTells) (knows : TaleKnows) (st : Story) (rows : List (List Datum)) (old new : FeedParts) (bytes : List ℕ) (used : ℕ)
-    → Came old new bytes used ended → Reached st old rows bytes → Ended st new rows (drop used bytes)
-end-reached law knows st rows old new bytes used c r =
+    (law : EventTells) (st : Story) (rows : List (List Datum)) (old new : FeedParts) (bytes : List ℕ) (used : ℕ)
+    → Came old new bytes used ended → IsSome new.framing.current.known.schema → Reached st old rows bytes → Ended st new rows (drop used bytes)
+end-reached law st rows old new bytes used c typed r =
     let gave : gives r.state bytes ≡ Ok (given used (Some ended)) = c.gave r.state r.shows in
     let next : FeedState = after_push r.state bytes (Ok (given used (Some ended))) in
     let here : tale (kept_in r.state) bytes ≡ ends (kept_in next).known (at_end_mark (drop used bytes)) = law r.state bytes used ended r.between gave in
-    let known = ended-known r.state bytes used r.between.goes_on gave in
+    let shows : Shows new next = c.after r.state r.shows in
+    let there = some-fields new.framing.current.known.schema typed in
     record {
       state = next;
-      shows = c.after r.state r.shows;
+      shows = shows;
       taken = r.taken;
       tells = r.tells ∙ ap (after_rows rows) here;
-      fields = known.0;
-      known = sym (ap (λ x. x.schema) here) ∙ knows (kept_in r.state) bytes known.0 known.1;
+      fields = there.0;
+      known = sym (ap (λ x. x.known.schema) shows.stream) ∙ there.1;
     }
 
 -- a batch of rows: what the stream tells, and the columns that it has

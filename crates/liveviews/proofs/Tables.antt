@@ -88,7 +88,7 @@ told-all s f rows told =
     subst (AreTakenSo s.schema) (sym all) told.taken
 
 -- where reading begins
-fresh-between : IsBetween (fresh None)
+pub fresh-between : IsBetween (fresh None)
 unfolding kept_of kept
 fresh-between = record { goes_on = refl; none_held = refl }
 
@@ -112,7 +112,7 @@ reached-all law f rows bytes shows none =
     })
 
 -- the end of the input, where nothing is left
-nothing-tells : (k : Kept) (bytes : List ℕ) → length bytes ≤ 0 → tale k bytes ≡ ends k.known (at_input_end k.known.schema)
+pub nothing-tells : (k : Kept) (bytes : List ℕ) → length bytes ≤ 0 → tale k bytes ≡ ends k.known (at_input_end k.known.schema)
 unfolding story
 nothing-tells k [] none = refl
 nothing-tells k (b ∷ bs) none = absurd (omega (arith, none))
@@ -126,7 +126,7 @@ at-end s f rows bytes none r = record {
 }
 
 -- the end mark, with nothing after it or something
-at-mark-by : (rest : List ℕ) → length rest ≡ 0 → at_end_mark rest ≡ Ok tt
+pub at-mark-by : (rest : List ℕ) → length rest ≡ 0 → at_end_mark rest ≡ Ok tt
 at-mark-by rest none = let P : ℕ → Type 0 = λ n. (if n == 0 then Ok tt else Err (one fault.AfterEnd)) ≡ Ok tt in subst P (sym none) refl
 
 -- the end mark ends a stream like the end of its input
@@ -149,7 +149,7 @@ after-test : (n : ℕ) (t : Bool) → 0 < n → (n == 0) ≡ t → mark_by t ≡
 after-test n false some is = refl
 after-test n true some is = let none : n ≡ 0 = eqb-true n 0 is in absurd (omega (arith, none, some))
 
-after-by : (rest : List ℕ) → 0 < length rest → at_end_mark rest ≡ Err (one fault.AfterEnd)
+pub after-by : (rest : List ℕ) → 0 < length rest → at_end_mark rest ≡ Err (one fault.AfterEnd)
 after-by rest some = after-test (length rest) (length rest == 0) some refl
 
 pub mark-before :

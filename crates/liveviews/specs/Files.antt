@@ -3,7 +3,7 @@ use Rattle.std.specs.Prelude.{◌≡◌, ℕ, List, Option, None, Some, Result, 
 use Rattle.schema_meta.specs.Story.{story_of}
 use Rattle.stream_writer.specs.Sinks.{Sunk}
 use Rattle.values.specs.declared.causes.Cause.TheVariants as cause
-use Rattle.liveviews.specs.Inspect.{Tells, account_of}
+use Rattle.liveviews.specs.Inspect.{Tells, account_of, status_where}
 use Rattle.liveviews.specs.Recast.{Recasts}
 use Rattle.liveviews.specs.declared.files.FileFault.{FileFault}
 use Rattle.liveviews.specs.declared.recasting.RecastFault.{RecastFault}
@@ -30,3 +30,4 @@ pub record InspectsFile (held : Option (List ℕ)) (text : List ℕ) (status : �
   pub input : List ℕ
   pub read : IsContent held input
   pub tells : Tells (account_of input) text status
+  pub good : status ≡ status_where (story_of input).end

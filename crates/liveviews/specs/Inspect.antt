@@ -5,6 +5,7 @@ use Rattle.values.specs.Causes.{name_of, number_of}
 use Rattle.values.specs.Reading.{IsAmong, Reading, mapped}
 use Rattle.values.specs.StreamCauses.{cause_of}
 use Rattle.values.specs.declared.faults.StreamFault.{StreamFault}
+use Rattle.schema_meta.specs.Story.{story_of}
 use Rattle.feed.specs.declared.condition.Condition.{Condition}
 use Rattle.feed.specs.declared.condition.Condition.TheVariants as condition
 use Rattle.feed.specs.Events.{Given}
@@ -50,6 +51,15 @@ refusal_line f = codes "refused " ++ (decimal (number_of (cause_of f)) ++ (codes
 abbrev pub Closes : Reading (List ℕ) → List ℕ → ℕ → Type 0
 Closes (Ok last) text status = (text ≡ last) × (status ≡ 0)
 Closes (Err fs) text status = (f : StreamFault) × IsAmong fs f × (text ≡ refusal_line f) × (status ≡ 1)
+
+-- 0 where no fault stands, else 1
+abbrev pub status_where : {X : Type 0} → Reading X → ℕ
+status_where (Ok x) = 0
+status_where (Err fs) = 1
+
+-- An account ends as the reading of the whole stream does: with no fault, or with the same ones.
+abbrev pub EndsAlike : Type 0
+EndsAlike = (bytes : List ℕ) → mapped (λ last. tt) (account_of bytes).end ≡ (story_of bytes).end
 
 -- This text and this status tell the account.
 pub record Tells (a : Account) (text : List ℕ) (status : ℕ) : Type 0 where

@@ -2,13 +2,14 @@
 
 ghost use Rattle.std.specs.Prelude.{◌≡◌, ◌<◌, ◌≤◌, ◌++◌, IfErr, IfOk, OnOk, [], drop, length, string_bytes};
 ghost use Rattle.std.specs.Option.{option_map};
+ghost use Rattle.schema_meta.specs.Story.{story_of};
 ghost use Rattle.feed.specs.Shown.{event_seen};
-ghost use Rattle.liveviews.specs.Inspect.{Account, Tells, account_of, refusal_line};
+ghost use Rattle.liveviews.specs.Inspect.{Account, EndsAlike, Tells, account_of, refusal_line, status_where};
 ghost use Rattle.liveviews.specs.Inspecting.{Breaks, IsFresh, IsLeft, IsOpen};
 ghost use Rattle.liveviews.specs.Lines.{ended_after, given_lines};
 
 use crate::lines::{is_ended, write_fed};
-use feed::{Fed, Feed, cut_law};
+use feed::{Fed, Feed, cut_law, story_law};
 use std::alloc::{AllocError, Global};
 use values::StreamFault;
 
@@ -98,6 +99,14 @@ impl Inspection {
     }
 }
 
+/// Law of the definitions: the account of a stream ends with the faults that stand in its reading, or with none.
+pub fn account_law()
+    ensures { EndsAlike }
+{
+    story_law();
+    cut_law();
+}
+
 /// Writes the line of a refusal.
 fn write_refusal(text: &mut String, fault: StreamFault) -> Result<(), AllocError>
     ensures { OnOk result (string_bytes text.new ≡ string_bytes text.old ++ refusal_line fault) }
@@ -112,8 +121,11 @@ fn write_refusal(text: &mut String, fault: StreamFault) -> Result<(), AllocError
 /// Where a fault stands, the lines of the messages before it come first. Nothing is said of rows that are too many or too heavy for
 /// `recast`. The error is want of memory.
 pub fn inspect(alloc: Global, input: &[u8]) -> Result<Inspected, AllocError>
-    ensures { IfOk result (λ i. Tells (account_of input.now) (string_bytes i.text) i.status) }
+    ensures tells { IfOk result (λ i. Tells (account_of input.now) (string_bytes i.text) i.status) }
+    ensures status { IfOk result (λ i. i.status ≡ status_where (story_of input.now).end) }
 {
+    // It does nothing: the proof takes from it that a fault stands in the stream where its account ends with one.
+    account_law();
     let mut inspection = Inspection::new(alloc);
     let ran = inspection.run(input);
     let Inspection { mut text, .. } = inspection;

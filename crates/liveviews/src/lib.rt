@@ -11,6 +11,6 @@ mod table;
 mod types;
 
 pub use files::{FileFault, Files};
-pub use inspecting::{Inspected, inspect};
+pub use inspecting::{Inspected, account_law, inspect};
 pub use program::lv;
 pub use recasting::{RecastFault, recast};

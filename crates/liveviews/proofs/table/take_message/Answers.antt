@@ -97,4 +97,5 @@ pub returns-clause-reached : goal.returns-clause-reached
 returns-clause-reached c =
     let event = came c.args.feed.now c.push.new.self c.args.bytes.now c.in-Ok.fed c.in-Some.event _ c.in-Ok.ensures.answer c.in-Ok.ensures.after
     c.in-Some.is (ap event_seen c.in-End.is) in
-    λ s. end-reached c.story_law.ensures.event c.story_law.ensures.knows s (cells_of_rows c.args.rows.now.items) _ _ _ _ event
+    let typed = typed-event c.push.new.self.framing.current.known.schema c.in-Ok.fed c.in-Some.event _ c.in-Ok.ensures.typed c.in-Some.is c.in-End.is in
+    λ s. end-reached c.story_law.ensures.event s (cells_of_rows c.args.rows.now.items) _ _ _ _ event typed
