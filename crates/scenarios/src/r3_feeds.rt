@@ -139,6 +139,58 @@ fn r3_ready(rt: HostRuntime) {
     assert_eq!(rt; readied(&rt, &mut feed, &SAMPLE[232..]), Ok(264));
 }
 
+/// A piece that is refused breaks a feed for good: what was made ready before it is dropped, and a commit mends nothing.
+#[test]
+fn r3_refused_stays_broken(rt: HostRuntime) {
+    let mut feed = Feed::open(rt.alloc(), None);
+    assert_eq!(rt; readied(&rt, &mut feed, &SAMPLE), Ok(232));
+    assert_eq!(rt;
+        readied(&rt, &mut feed, &[0; 8]),
+        Err(StreamFault::NoContinuation)
+    );
+    for turn in 0..2 {
+        feed.commit();
+        assert!(rt; feed.is_broken(), "after {turn}");
+        assert!(rt; feed.schema().is_none(), "after {turn}");
+    }
+}
+
+/// An end of the input inside a message does so too.
+#[test]
+fn r3_truncated_stays_broken(rt: HostRuntime) {
+    let mut feed = Feed::open(rt.alloc(), None);
+    assert_eq!(rt;
+        tells(&rt, &mut feed, &SAMPLE[..68]),
+        Ok((68, Told::Nothing))
+    );
+    assert_eq!(rt; readied(&rt, &mut feed, &SAMPLE[68..]), Ok(164));
+    assert_eq!(rt; finish(&rt, &mut feed), Err(StreamFault::Truncated));
+    for turn in 0..2 {
+        feed.commit();
+        assert!(rt; feed.is_broken(), "after {turn}");
+        assert!(rt; feed.schema().is_none(), "after {turn}");
+    }
+}
+
+/// A finished feed stays finished, also where a message was ready.
+#[test]
+fn r3_stays_finished(rt: HostRuntime) {
+    let mut feed = Feed::open(rt.alloc(), None);
+    assert_eq!(rt; tells(&rt, &mut feed, &SAMPLE), Ok((232, Told::Schema)));
+    assert_eq!(rt; readied(&rt, &mut feed, &SAMPLE[232..]), Ok(264));
+    assert_eq!(rt; finish(&rt, &mut feed), Ok(()));
+    feed.commit();
+    assert_eq!(rt; finish(&rt, &mut feed), Ok(()));
+    feed.commit();
+    assert_eq!(rt; tells(&rt, &mut feed, &[]), Ok((0, Told::Nothing)));
+    assert_eq!(rt;
+        tells(&rt, &mut feed, &SAMPLE[232..]),
+        Err(StreamFault::AfterEnd)
+    );
+    feed.commit();
+    assert!(rt; feed.is_broken());
+}
+
 /// A stream whose columns are declared, and one of other columns.
 #[test]
 fn r3_declared(rt: HostRuntime) -> Result<(), Fail> {
