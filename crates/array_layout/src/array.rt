@@ -1,5 +1,8 @@
 //! Arrays, as a record batch's header tells them.
 
+ghost use Rattle.std.specs.Prelude.{◌≡◌, ◌≤◌};
+ghost use Rattle.array_layout.specs.Placing.{own_spans};
+
 use dictionaries::Dictionary;
 use std::marker::Model;
 use values::Layout;
@@ -17,6 +20,18 @@ pub struct Node {
 pub struct Span {
     pub from: usize,
     pub len: usize,
+}
+
+/// How many buffers an array of this layout has of its own.
+pub fn own_spans(layout: Layout) -> usize
+    ensures exact { result ≡ own_spans layout }
+    ensures bound { result ≤ 3 }
+{
+    match layout {
+        Layout::Text { .. } | Layout::Bytes { .. } => 3,
+        Layout::Struct => 1,
+        _ => 2,
+    }
 }
 
 /// The values of a dictionary, and how they would lie in an array of their own.

@@ -9,7 +9,7 @@ mod array;
 mod buffers;
 mod check;
 
-pub use array::{Array, Node, Part, Span, Words};
+pub use array::{Array, Node, Part, Span, Words, own_spans};
 pub use buffers::{
     bit, buffer, decimal, fixed, is_null_at, number, number_width, offset, offset_width, slice,
 };

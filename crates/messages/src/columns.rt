@@ -2,12 +2,12 @@
 
 ghost use Rattle.std.specs.Prelude.{◌≡◌, ◌≤◌, length};
 ghost use Rattle.values.specs.Rose.{roses_size};
-ghost use Rattle.array_layout.specs.Placing.{own_spans, spans_below};
+ghost use Rattle.array_layout.specs.Placing.{spans_below};
 ghost use Rattle.schema_meta.specs.Batch.{lengths_fit};
 ghost use Rattle.messages.specs.Columns.{AreRead, layouts_wanted};
 
 use crate::lengths::{fit, length_at};
-use array_layout::Node;
+use array_layout::{Node, own_spans};
 use schema_meta::StreamSchema;
 use values::Layout;
 
@@ -18,17 +18,6 @@ pub(crate) enum Columns<'a> {
     Fields(&'a StreamSchema),
     /// One, of a dictionary's values, which lie so.
     Values(Layout),
-}
-
-/// How many buffers an array of this layout has of its own.
-fn own_spans(layout: Layout) -> usize
-    ensures { result ≡ own_spans layout }
-{
-    match layout {
-        Layout::Text { .. } | Layout::Bytes { .. } => 3,
-        Layout::Struct => 1,
-        _ => 2,
-    }
 }
 
 impl<'a> Columns<'a> {

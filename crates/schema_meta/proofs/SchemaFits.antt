@@ -6,7 +6,7 @@ use Rattle.values.specs.Rose.{Rose, node, Roses, none, more, kids_of, rose_size,
 use Rattle.field_types.specs.Logical.{LogicalField}
 use Rattle.field_types.specs.TypeTree.{type_slots}
 use Rattle.field_types.proofs.TypeSizes.{type-fits, type-is-short}
-use Rattle.schema_meta.specs.declared.write.HeaderKind.TheVariants.{Schema}
+use Rattle.schema_meta.specs.declared.header.MessageKind.TheVariants as kind
 use Rattle.schema_meta.specs.MessageTree.{message_slots}
 use Rattle.schema_meta.specs.SchemaTree.{field_slots, field_tables, schema_slots, IsWithin, AreWithin, AreColumns}
 
@@ -75,9 +75,9 @@ mutual
 
 pub schema-end :
     (fs : List (Rose LogicalField)) → AreColumns fs
-    → object_end 4 (table (message_slots Schema (schema_slots (kids_of fs)) 0)) < 2 ^ 24 - 8
+    → object_end 4 (table (message_slots kind.Schema (schema_slots (kids_of fs)) 0)) < 2 ^ 24 - 8
 schema-end fs h =
-    let first : ℕ = table_end 4 (message_slots Schema (schema_slots (kids_of fs)) 0) in
+    let first : ℕ = table_end 4 (message_slots kind.Schema (schema_slots (kids_of fs)) 0) in
     let begin : first ≤ 64 = omega arith in
     let header : ℕ = table_end first (schema_slots (kids_of fs)) in
     let place = table_place-le first (schema_slots (kids_of fs)) in
@@ -86,7 +86,7 @@ schema-end fs h =
     let below = fields-end (items_end header (field_tables (kids_of fs))) (kids_of fs) h.within in
     omega (arith, begin, place, items, few, below)
 
-pub schema-writable : (fs : List (Rose LogicalField)) → AreColumns fs → IsWritable (message_slots Schema (schema_slots (kids_of fs)) 0)
+pub schema-writable : (fs : List (Rose LogicalField)) → AreColumns fs → IsWritable (message_slots kind.Schema (schema_slots (kids_of fs)) 0)
 schema-writable fs h =
     let fits : Fits (table (schema_slots (kids_of fs))) =
     (omega arith, omega arith, (number-fits 2 0 (omega arith) (omega arith) (omega arith), ((fields-fit (kids_of fs) h.within, fields-refer (kids_of fs)), tt))) in

@@ -18,8 +18,6 @@ use Rattle.field_types.specs.contracts.stored_type.StoredTypePartialEq.TheImpl a
 use Rattle.field_types.specs.declared.stored_type.StoredType.{StoredType}
 use Rattle.field_types.specs.declared.stored_type.StoredType.TheVariants as stored
 use Rattle.field_types.proofs.Equality.{types-exact}
-use Rattle.schema_meta.specs.declared.write.HeaderKind.{HeaderKind}
-use Rattle.schema_meta.specs.declared.write.HeaderKind.TheVariants.{Schema, RecordBatch}
 use Rattle.schema_meta.specs.declared.header.MessageKind.{MessageKind}
 use Rattle.schema_meta.specs.declared.header.MessageKind.TheVariants as kind
 use Rattle.schema_meta.specs.Slots as slot
@@ -70,19 +68,15 @@ schema-read t fs columns named h =
     let read : columns_of v ≡ Ok (stored_fields fs) = columns-read v fs refl columns named r.elements in
     rw (endianness-read t h.0, r.is, read) refl
 
--- the kind under which a header is read
-abbrev pub kind_as : HeaderKind → MessageKind
-kind_as Schema = kind.Schema
-kind_as RecordBatch = kind.Batch
-
 version-read : (t : Table) → NodeHeld t.bytes (slot_of t 0) (number 2 4) → version_of t ≡ Ok tt
 unfolding version_of
 version-read t h = rw (signed-read w16 4 t 0 h) refl
 
-kind-read : (t : Table) (k : HeaderKind) → NodeHeld t.bytes (slot_of t 1) (number 1 (header_number k)) → kind_of t ≡ Ok (kind_as k)
+kind-read : (t : Table) (k : MessageKind) → NodeHeld t.bytes (slot_of t 1) (number 1 (header_number k)) → kind_of t ≡ Ok k
 unfolding kind_of
-kind-read t Schema h = rw (number-read 1 1 t 1 h) refl
-kind-read t RecordBatch h = rw (number-read 1 3 t 1 h) refl
+kind-read t kind.Schema h = rw (number-read 1 1 t 1 h) refl
+kind-read t kind.Dictionary h = rw (number-read 1 2 t 1 h) refl
+kind-read t kind.Batch h = rw (number-read 1 3 t 1 h) refl
 
 body-read : (t : Table) (n : ℕ) → n ≤ 2 ^ 28 → NodeHeld t.bytes (slot_of t 3) (number 8 n) → body_of t ≡ Ok n
 unfolding body_of
@@ -95,19 +89,19 @@ unfolding header_table
 header-read t h e = rw e refl
 
 -- What the header means under its kind is what the metadata means.
-meta-held : (known : Known) (b : List ℕ) (k : HeaderKind) (header : Nodes) (body : ℕ) (m : Meta) → body ≤ 2 ^ 28 → RootHeld b (message_slots k header body) →
-    ((t h : Table) → header_table t ≡ Ok h → Held h.bytes (slot_of h) 0 header → ((i : ℕ) → count header ≤ i → slot_of h i ≡ Some None) → header_of known t (kind_as k) body ≡ Ok m) →
+meta-held : (known : Known) (b : List ℕ) (k : MessageKind) (header : Nodes) (body : ℕ) (m : Meta) → body ≤ 2 ^ 28 → RootHeld b (message_slots k header body) →
+    ((t h : Table) → header_table t ≡ Ok h → Held h.bytes (slot_of h) 0 header → ((i : ℕ) → count header ≤ i → slot_of h i ≡ Some None) → header_of known t k body ≡ Ok m) →
     meta_of known b ≡ Ok m
 unfolding meta_of
 meta-held known b k header body m le r means =
     let t : Table = table_in b r.place in
     let held = r.held in
     let h = subtable-read header t 2 held.1.1.0 in
-    let meant : header_of known t (kind_as k) body ≡ Ok m = means t (table_in b h.place) (header-read t (table_in b h.place) h.is) h.slots h.beyond in
+    let meant : header_of known t k body ≡ Ok m = means t (table_in b h.place) (header-read t (table_in b h.place) h.is) h.slots h.beyond in
     rw (r.found, kind-read t k held.1.0, version-read t held.0, body-read t body le held.1.1.1.0, meant) refl
 
-pub meta-read : (known : Known) (k : HeaderKind) (header : Nodes) (body : ℕ) (m : Meta) → body ≤ 2 ^ 28 → IsWritable (message_slots k header body) →
-    ((t h : Table) → header_table t ≡ Ok h → Held h.bytes (slot_of h) 0 header → ((i : ℕ) → count header ≤ i → slot_of h i ≡ Some None) → header_of known t (kind_as k) body ≡ Ok m) →
+pub meta-read : (known : Known) (k : MessageKind) (header : Nodes) (body : ℕ) (m : Meta) → body ≤ 2 ^ 28 → IsWritable (message_slots k header body) →
+    ((t h : Table) → header_table t ≡ Ok h → Held h.bytes (slot_of h) 0 header → ((i : ℕ) → count header ≤ i → slot_of h i ≡ Some None) → header_of known t k body ≡ Ok m) →
     meta_of known (whole (message_slots k header body)) ≡ Ok m
 meta-read known k header body m le fits means =
     meta-held known (whole (message_slots k header body)) k header body m le (layout-law (message_slots k header body) fits) means
@@ -169,7 +163,7 @@ header-means declared t h fs named found read same = rw (found, read, expected-r
 pub schema-law : SchemaLaw
 unfolding schema_metadata
 schema-law declared fs columns named same =
-    meta-read (before declared) Schema (schema_slots (kids_of fs)) 0 (brings_schema 0 (stored_fields fs)) (omega arith) (schema-writable fs columns)
+    meta-read (before declared) kind.Schema (schema_slots (kids_of fs)) 0 (brings_schema 0 (stored_fields fs)) (omega arith) (schema-writable fs columns)
     (λ t h found held beyond. header-means declared t h fs named found (schema-read h fs columns named held) same)
 
 pub ruleset schema_laws = (schema-law, columns-law)

@@ -7,7 +7,7 @@ use Rattle.values.specs.Rose.{Rose, node, Roses, none, more, kids_of, roses_size
 use Rattle.field_types.specs.Logical.{LogicalField}
 use Rattle.field_types.specs.Stored.{IsType}
 use Rattle.field_types.specs.TypeTree.{type_number, type_slots}
-use Rattle.schema_meta.specs.declared.write.HeaderKind.TheVariants.{Schema}
+use Rattle.schema_meta.specs.declared.header.MessageKind.TheVariants as kind
 use Rattle.schema_meta.specs.MessageTree.{message_slots}
 
 -- name, nullable, the type's number and table, no dictionary, the children
@@ -27,7 +27,7 @@ schema_slots fs = nodes_of (number 2 0 ∷ references (field_tables fs) ∷ [])
 
 -- the metadata of the Schema message
 unfoldable pub schema_metadata : List (Rose LogicalField) → List ℕ
-schema_metadata fs = whole (message_slots Schema (schema_slots (kids_of fs)) 0)
+schema_metadata fs = whole (message_slots kind.Schema (schema_slots (kids_of fs)) 0)
 
 -- names that are short enough, and types within their bounds, at all levels
 abbrev mutual

@@ -28,4 +28,4 @@ pub use laws::{
 };
 pub use parts::{place_arrays, place_values};
 pub use schema::{StreamSchema, read_schema};
-pub use write::{HeaderKind, write_message, write_schema};
+pub use write::{write_message, write_schema};

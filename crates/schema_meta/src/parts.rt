@@ -3,7 +3,7 @@
 ghost use Rattle.std.specs.Prelude.{◌≡◌, ◌+◌, ◌<◌, ◌≤◌, ◌^◌, IfOk, length};
 ghost use Rattle.values.specs.Rose.{kids_of, rose_size, roses_size};
 ghost use Rattle.dictionaries.specs.Table.{values_in};
-ghost use Rattle.array_layout.specs.Placing.{node_at, offsets_at, own_spans, part_at, placed, placed_all, span_at, spans_below, spans_in, values_at};
+ghost use Rattle.array_layout.specs.Placing.{node_at, offsets_at, part_at, placed, placed_all, span_at, spans_below, spans_in, values_at};
 ghost use Rattle.schema_meta.specs.FieldLayouts.{slot_layout_of, slot_layouts_of};
 ghost use Rattle.schema_meta.specs.Parts.{arrays_of, decoded, decoded_all, values_array, with_words, words_of};
 
@@ -11,7 +11,7 @@ use crate::coding::Coding;
 use crate::field::Field;
 use crate::header::BatchHeader;
 use crate::schema::StreamSchema;
-use array_layout::{Array, Node, Part, Span, Words};
+use array_layout::{Array, Node, Part, Span, Words, own_spans};
 use dictionaries::Dicts;
 use field_types::StoredType;
 use std::alloc::{AllocError, Global};
@@ -46,18 +46,6 @@ fn node_at(nodes: &[Node], index: usize) -> Node
             length: 0,
             nulls: 0,
         },
-    }
-}
-
-/// How many buffers an array of this layout has of its own.
-pub(crate) fn own_spans(layout: Layout) -> usize
-    ensures exact { result ≡ own_spans layout }
-    ensures bound { result ≤ 3 }
-{
-    match layout {
-        Layout::Text { .. } | Layout::Bytes { .. } => 3,
-        Layout::Struct => 1,
-        _ => 2,
     }
 }
 

@@ -6,8 +6,8 @@ ghost use Rattle.array_layout.specs.Placing.{spans_below};
 ghost use Rattle.schema_meta.specs.FieldLayouts.{slot_layouts_of};
 
 use crate::field::Field;
-use crate::parts::own_spans;
 use crate::schema::StreamSchema;
+use array_layout::own_spans;
 
 /// The nodes of these fields and of those below them: one each.
 #[tactic(auto, using(crate::proofs::Counts::counts))]

@@ -8,30 +8,25 @@ ghost use Rattle.flatbuf.specs.Built.{listed, slots};
 ghost use Rattle.schema_meta.specs.MessageTree.{header_number, message_slots};
 ghost use Rattle.schema_meta.specs.SchemaTree.{field_slots, field_tables as tables_of, schema_slots, schema_metadata, AreColumns};
 
+use crate::header::MessageKind;
 use field_types::{Named, Schema, type_number, type_table};
 use flatbuf::{Builder, Tables};
 use std::alloc::{AllocError, Global};
 
-/// The kinds of messages that are written.
-#[derive(Clone, Copy, Debug, PartialEq, Eq)]
-pub enum HeaderKind {
-    Schema,
-    RecordBatch,
-}
-
-fn number_of_header(kind: HeaderKind) -> u8
+fn number_of_header(kind: MessageKind) -> u8
     ensures { result ≡ header_number kind }
 {
     match kind {
-        HeaderKind::Schema => 1,
-        HeaderKind::RecordBatch => 3,
+        MessageKind::Schema => 1,
+        MessageKind::Dictionary => 2,
+        MessageKind::Batch => 3,
     }
 }
 
 /// The metadata of a message with this header and a body of this length (Message.fbs).
 pub fn write_message(
     alloc: Global,
-    kind: HeaderKind,
+    kind: MessageKind,
     header: Builder,
     body_len: u64,
 ) -> Result<Vec<u8>, AllocError>
@@ -92,5 +87,5 @@ pub fn write_schema(alloc: Global, schema: &Schema) -> Result<Vec<u8>, AllocErro
     ensures bytes { IfOk result (λ bytes. bytes.items ≡ schema_metadata schema.now.fields.items) }
     ensures size { IfOk result (λ bytes. length bytes.items < 2 ^ 24) }
 {
-    write_message(alloc, HeaderKind::Schema, schema_table(alloc, schema)?, 0)
+    write_message(alloc, MessageKind::Schema, schema_table(alloc, schema)?, 0)
 }

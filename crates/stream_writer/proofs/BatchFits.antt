@@ -5,7 +5,7 @@ use Rattle.std.specs.Int.{w64}
 use Rattle.byteorder.specs.Endian.{little_bytes, low_bytes}
 use Rattle.flatbuf.specs.Tree.{structs, table}
 use Rattle.flatbuf.specs.Written.{object_end, table_end, items_place, Fits, IsWritable}
-use Rattle.schema_meta.specs.declared.write.HeaderKind.TheVariants.{RecordBatch}
+use Rattle.schema_meta.specs.declared.header.MessageKind.TheVariants as kind
 use Rattle.schema_meta.specs.MessageTree.{message_slots}
 use Rattle.schema_meta.proofs.SchemaFits.{items_place-le, table_place-le, number-fits}
 use Rattle.array_layout.specs.declared.array.Node.{Node}
@@ -25,9 +25,9 @@ whole-structs : (n : ℕ) (xs : List ℕ) → length xs ≡ 16 * n → Fits (str
 whole-structs n xs e = (omega arith, omega (arith, e))
 
 pub batch-end : (rows body : ℕ) (ns : List Node) (ss : List Span) → length ns ≤ 1024 → length ss ≤ 3072 →
-    object_end 4 (table (message_slots RecordBatch (batch_slots rows ns ss) body)) < 2 ^ 17
+    object_end 4 (table (message_slots kind.Batch (batch_slots rows ns ss) body)) < 2 ^ 17
 batch-end rows body ns ss few fewer =
-    let message : ℕ = table_end 4 (message_slots RecordBatch (batch_slots rows ns ss) body) in
+    let message : ℕ = table_end 4 (message_slots kind.Batch (batch_slots rows ns ss) body) in
     let begin : message ≤ 64 = omega arith in
     let header : ℕ = table_end message (batch_slots rows ns ss) in
     let place = table_place-le message (batch_slots rows ns ss) in
@@ -36,7 +36,7 @@ batch-end rows body ns ss few fewer =
     omega (arith, begin, place, nodes, spans, few, fewer, node_bytes-length ns, span_bytes-length ss)
 
 pub batch-writable : (rows body : ℕ) (ns : List Node) (ss : List Span) → length ns ≤ 1024 → length ss ≤ 3072 → rows < 2 ^ 64 → body < 2 ^ 64 →
-    IsWritable (message_slots RecordBatch (batch_slots rows ns ss) body)
+    IsWritable (message_slots kind.Batch (batch_slots rows ns ss) body)
 batch-writable rows body ns ss few fewer high higher =
     let end = batch-end rows body ns ss few fewer in
     let nodes : Fits (structs 16 (node_bytes ns)) = whole-structs (length ns) (node_bytes ns) (node_bytes-length ns) in

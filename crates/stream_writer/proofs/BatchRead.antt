@@ -17,7 +17,6 @@ use Rattle.values.specs.declared.layout.Layout.{Layout}
 use Rattle.array_layout.specs.declared.array.Node.{Node}
 use Rattle.array_layout.specs.declared.array.Span.{Span}
 use Rattle.array_layout.specs.Placing.{spans_below}
-use Rattle.schema_meta.specs.declared.write.HeaderKind.TheVariants.{RecordBatch}
 use Rattle.schema_meta.specs.declared.header.MessageKind.TheVariants as kind
 use Rattle.schema_meta.specs.Entry.{Entry}
 use Rattle.schema_meta.specs.BatchHead.{BatchHead}
@@ -179,6 +178,6 @@ batch-law known fs rows b e =
     let ns = body_nodes ls rows in
     let ss = body_spans ls rows in
     let body : ℕ = length (body_bytes ls rows) in
-    meta-read known RecordBatch (batch_slots (length rows) ns ss) body (brings_batch body (head fs rows)) short
+    meta-read known kind.Batch (batch_slots (length rows) ns ss) body (brings_batch body (head fs rows)) short
     (batch-writable (length rows) body ns ss (body_nodes-few ls rows b) (body_spans-few ls rows b) (omega (arith, few)) (omega (arith, short)))
     (λ t h found held beyond. batch-means known t h (stored_fields fs) ls body (head fs rows) e found (slots-are fs) (head-read ls rows h b held (beyond 3 (omega arith))))

@@ -12,7 +12,7 @@ use Rattle.dictionaries.specs.Batches.{DictionaryBatch, dictionary_after}
 use Rattle.values.specs.Rose.{Rose, kids_of}
 use Rattle.values.specs.Layouts.{AreLayouts}
 use Rattle.field_types.specs.Logical.{LogicalField}
-use Rattle.schema_meta.specs.declared.write.HeaderKind.TheVariants.{Schema, RecordBatch}
+use Rattle.schema_meta.specs.declared.header.MessageKind.TheVariants as kind
 use Rattle.schema_meta.specs.Stage.{Known, Meta, Whole, end_of}
 use Rattle.schema_meta.specs.Sound.{after}
 use Rattle.schema_meta.specs.Message.{meta_of, brings_schema, brings_batch}
@@ -55,7 +55,7 @@ whole-short s h end =
 
 schema-short : (fs : List (Rose LogicalField)) → AreColumns fs → IsShort (schema_metadata fs)
 unfolding schema_metadata
-schema-short fs h = whole-short (message_slots Schema (schema_slots (kids_of fs)) 0) (schema-writable fs h) (schema-end fs h)
+schema-short fs h = whole-short (message_slots kind.Schema (schema_slots (kids_of fs)) 0) (schema-writable fs h) (schema-end fs h)
 
 batch-short : (fs : List (Rose LogicalField)) (rows : List (List Datum)) → IsBatch (trees fs) rows → IsShort (batch_metadata (trees fs) rows)
 unfolding batch_metadata
@@ -66,7 +66,7 @@ batch-short fs rows b =
     let ss = body_spans (trees fs) rows in
     let body : ℕ = length (body_bytes (trees fs) rows) in
     let end = batch-end (length rows) body ns ss (body_nodes-few (trees fs) rows b) (body_spans-few (trees fs) rows b) in
-    whole-short (message_slots RecordBatch (batch_slots (length rows) ns ss) body)
+    whole-short (message_slots kind.Batch (batch_slots (length rows) ns ss) body)
     (batch-writable (length rows) body ns ss (body_nodes-few (trees fs) rows b) (body_spans-few (trees fs) rows b) (omega (arith, few)) (omega (arith, short)))
     (omega (arith, end))
 

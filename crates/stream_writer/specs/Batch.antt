@@ -8,7 +8,7 @@ use Rattle.flatbuf.specs.Written.{whole}
 use Rattle.values.specs.Datum.{Datum}
 use Rattle.values.specs.Rose.{Roses}
 use Rattle.values.specs.declared.layout.Layout.{Layout}
-use Rattle.schema_meta.specs.declared.write.HeaderKind.TheVariants.{RecordBatch}
+use Rattle.schema_meta.specs.declared.header.MessageKind.TheVariants as kind
 use Rattle.schema_meta.specs.MessageTree.{message_slots}
 use Rattle.body_writer.specs.Batch.{body_bytes, body_nodes, body_spans}
 use Rattle.array_layout.specs.declared.array.Node.{Node}
@@ -29,7 +29,7 @@ batch_slots rows nodes spans =
 
 -- the metadata of a batch of so many rows, with a body of so many bytes
 abbrev pub batch_whole : ℕ → List Node → List Span → ℕ → List ℕ
-batch_whole rows nodes spans body_len = whole (message_slots RecordBatch (batch_slots rows nodes spans) body_len)
+batch_whole rows nodes spans body_len = whole (message_slots kind.Batch (batch_slots rows nodes spans) body_len)
 
 unfoldable pub batch_metadata : Roses Layout → List (List Datum) → List ℕ
 batch_metadata ls rows = batch_whole (length rows) (body_nodes ls rows) (body_spans ls rows) (length (body_bytes ls rows))

@@ -15,7 +15,7 @@ use body_writer::{Body, write_body};
 use byteorder::{ByteOrder, LittleEndian};
 use field_types::Schema;
 use flatbuf::Builder;
-use schema_meta::{HeaderKind, write_message, write_schema};
+use schema_meta::{MessageKind, write_message, write_schema};
 use std::alloc::{AllocError, Global};
 use values::{LayoutTree, Row};
 
@@ -126,7 +126,7 @@ fn batch_metadata(alloc: Global, rows: u64, body: &Body) -> Result<Vec<u8>, Allo
     let header = batch_header(alloc, rows, body)?;
     let bytes = write_message(
         alloc,
-        HeaderKind::RecordBatch,
+        MessageKind::Batch,
         header,
         body.bytes.len() as u64,
     )?;

@@ -2,7 +2,7 @@ use Rattle.std.proofs.Common.{ℕ, ◌<◌, ◌^◌, ◌∙◌, List, arith, ap,
 use Rattle.flatbuf.specs.Tree.{Nodes, table}
 use Rattle.flatbuf.specs.Written.{object_end, IsWritable, whole}
 use Rattle.flatbuf.specs.Built.{slots}
-use Rattle.schema_meta.specs.declared.write.HeaderKind.TheVariants.{RecordBatch}
+use Rattle.schema_meta.specs.declared.header.MessageKind.TheVariants as kind
 use Rattle.schema_meta.specs.MessageTree.{message_slots}
 use Rattle.schema_meta.proofs.SchemaFits.{up8-le}
 use Rattle.stream_writer.specs.Batch.{batch_slots}
@@ -12,22 +12,22 @@ use Rattle.stream_writer.proofs.messages.batch_metadata.Goals as goal
 pub write_message-requires : goal.write_message-requires
 write_message-requires c =
     let body = c.args.body.now in
-    let P : Nodes → Type 0 = λ s. IsWritable (message_slots RecordBatch s c.len.result) in
+    let P : Nodes → Type 0 = λ s. IsWritable (message_slots kind.Batch s c.len.result) in
     subst P (sym c.in_ok-header.ensures)
     (batch-writable c.args.rows c.len.result body.nodes.items body.spans.items c.requires.nodes c.requires.spans c.ranges.rows.fits c.len.type_inv)
 
 pub returns-clause-bytes : goal.returns-clause-bytes
 returns-clause-bytes c =
-    let F : Nodes → List ℕ = λ s. whole (message_slots RecordBatch s c.len.result) in
-    let G : ℕ → List ℕ = λ n. whole (message_slots RecordBatch (batch_slots c.args.rows c.args.body.now.nodes.items c.args.body.now.spans.items) n) in
+    let F : Nodes → List ℕ = λ s. whole (message_slots kind.Batch s c.len.result) in
+    let G : ℕ → List ℕ = λ n. whole (message_slots kind.Batch (batch_slots c.args.rows c.args.body.now.nodes.items c.args.body.now.spans.items) n) in
     c.in_ok-bytes.ensures.bytes ∙ ap F c.in_ok-header.ensures ∙ ap G (c.len.ensures ∙ c.args.body.now.bytes.ok.0)
 
 pub returns-clause-size : goal.returns-clause-size
 returns-clause-size c =
     let body = c.args.body.now in
-    let E : Nodes → Type 0 = λ s. object_end 4 (table (message_slots RecordBatch s c.len.result)) < 2 ^ 17 in
+    let E : Nodes → Type 0 = λ s. object_end 4 (table (message_slots kind.Batch s c.len.result)) < 2 ^ 17 in
     let end = subst E (sym c.in_ok-header.ensures) (batch-end c.args.rows c.len.result body.nodes.items body.spans.items c.requires.nodes c.requires.spans) in
-    let at : ℕ = object_end 4 (table (message_slots RecordBatch (slots c.in_ok-header.header) c.len.result)) in
+    let at : ℕ = object_end 4 (table (message_slots kind.Batch (slots c.in_ok-header.header) c.len.result)) in
     let fill = up8-le at in
     let size = c.in_ok-bytes.ensures.size in
     omega (arith, size, fill, end)
