@@ -2,6 +2,7 @@ pub mod SameFields
 pub mod LongEnough
 pub mod Stages
 pub mod Messages
+pub mod Wanting
 pub mod Gathering
 pub mod Facts
 pub mod Sounds

@@ -14,10 +14,10 @@ use Rattle.schema_meta.specs.Framing.{framed, end_mark, first}
 use Rattle.messages.proofs.Stages.{staged_settled, staged_there, staged_beyond}
 
 -- the sizes of a message, as its first bytes have them
-abbrev sizes_at : List ℕ → Reading ℕ
+abbrev pub sizes_at : List ℕ → Reading ℕ
 sizes_at bytes = framed (little_number 4 bytes) (little_number 4 (drop 4 bytes))
 
-same_sizes : (bytes more : List ℕ) → 8 ≤ length bytes → sizes_at (bytes ++ more) ≡ sizes_at bytes
+pub same_sizes : (bytes more : List ℕ) → 8 ≤ length bytes → sizes_at (bytes ++ more) ≡ sizes_at bytes
 same_sizes bytes more h =
     let k : little_number 4 (bytes ++ more) ≡ little_number 4 bytes = little_from-append 4 bytes more (omega arith) in
     let d : drop 4 (bytes ++ more) ≡ drop 4 bytes ++ more = drop-append-le 4 bytes more (omega arith) in
@@ -26,7 +26,7 @@ same_sizes bytes more h =
     ap (λ m. framed m (little_number 4 (drop 4 (bytes ++ more)))) k
     ∙ ap (λ n. framed (little_number 4 bytes) n) (ap (λ ds. little_number 4 ds) d ∙ j)
 
-same_range :
+pub same_range :
     (bytes more : List ℕ) (k : ℕ) → 8 + k ≤ length bytes → slice_range (bytes ++ more) 8 (8 + k) ≡ slice_range bytes 8 (8 + k)
 same_range bytes more k h =
     ap (λ ds. take (8 + k - 8) ds) (drop-append-le 8 bytes more (omega arith))

@@ -10,6 +10,7 @@ use Rattle.schema_meta.specs.Sound.{IsFitting, schema_after, after}
 use Rattle.schema_meta.specs.Framing.{staged, first}
 use Rattle.messages.specs.Stream.{IsStream}
 use Rattle.messages.proofs.Messages.{first_within, first_beyond}
+use Rattle.messages.proofs.Wanting.{nothing_wanted}
 use Rattle.messages.proofs.Sounds.{first_sound}
 
 pub nothing_held : (known : Known) → first known [] ≡ Ok None
@@ -18,8 +19,8 @@ nothing_held known = refl
 
 pub fresh_stream : (known : Known) (held : List ℕ) → held ≡ [] → IsRead known.schema → IsStream known held 8
 fresh_stream known held h s =
-    let P : List ℕ → Type 0 = λ bs. first known bs ≡ Ok None in
-    record { partial = subst P (sym h) (nothing_held known); small = s; some = omega arith }
+    let P : List ℕ → Type 0 = λ bs. IsStream known bs 8 in
+    subst P (sym h) (record { partial = nothing_held known; small = s; wants = nothing_wanted known })
 
 pub small_after : (a b : Option (List (Rose Entry))) → IsRead a → IsRead b → IsRead (schema_after a b)
 small_after a None p q = p

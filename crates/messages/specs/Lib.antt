@@ -2,6 +2,7 @@ pub mod Handed
 pub mod Counts
 pub mod Columns
 pub mod State
+pub mod Wanted
 pub mod Gather
 pub mod Stream
 pub mod Ready

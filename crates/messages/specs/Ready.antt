@@ -7,6 +7,7 @@ use Rattle.schema_meta.specs.Stage.{Known}
 use Rattle.schema_meta.specs.Framing.{first}
 use Rattle.messages.specs.Counts.{HasRoom}
 use Rattle.messages.specs.State.{IsRead, learnt}
+use Rattle.messages.specs.Wanted.{Wants, followed}
 use Rattle.messages.specs.Stream.{Stream, IsStream}
 
 -- The bytes of a message that is not whole yet are the first ones.
@@ -23,7 +24,7 @@ promised known bytes len (pending.Message schema count) =
 -- what was made ready can be done, where so many more counts fit
 abbrev pub IsReady : Known → ℕ → List ℕ → Pending → Type 0
 IsReady known room bytes pending.Nothing = Unit {0}
-IsReady known room bytes (pending.Piece wanted) = (first known bytes ≡ Ok None) × (1 ≤ wanted)
+IsReady known room bytes (pending.Piece wanted) = (first known bytes ≡ Ok None) × Wants (followed known bytes) wanted
 IsReady known room bytes (pending.Message schema count) = IsRead (option_map (λ s. s.value.fields.items) schema) × HasRoom count room
 
 -- what is true of a framer between two calls

@@ -1,5 +1,5 @@
 -- What the program knows of a stream, as the definitions have it.
-use Rattle.std.specs.Prelude.{ℕ, List, Option, None, Some}
+use Rattle.std.specs.Prelude.{List, Option, None, Some}
 use Rattle.std.specs.Option.{option_map}
 use Rattle.values.specs.Rose.{Rose}
 use Rattle.schema_meta.specs.Entry.{Entry}
@@ -36,11 +36,6 @@ whole_seen f = record { front = f.front; meta = meta_seen f.metadata }
 abbrev pub progress_seen : Progress → Option Whole
 progress_seen (progress.Partial n) = None
 progress_seen (progress.Whole f) = Some (whole_seen f)
-
--- how many bytes more are worth a look
-abbrev pub wanted_by : Progress → ℕ
-wanted_by (progress.Partial n) = n
-wanted_by (progress.Whole f) = 1
 
 -- The fields are as they are read.
 abbrev pub IsRead : Option (List (Rose Entry)) → Type 0

@@ -1,5 +1,5 @@
 -- A stream between two pieces, what a push makes of it, and the stream that a piece was made ready for.
-use Rattle.std.specs.Prelude.{◌≡◌, ℕ, ℤ, ◌+◌, ◌≤◌, List, [], ◌++◌, length, slice_range, Option, None, Some, Ok, Err, refl}
+use Rattle.std.specs.Prelude.{◌≡◌, ℕ, ℤ, ◌+◌, List, [], ◌++◌, length, slice_range, Option, None, Some, Ok, Err, refl}
 use Rattle.std.specs.Coded.{Coded, code_by, coded×, coded_ℕ, coded_ℤ, coded_list, coded_option}
 use Rattle.field_types.specs.Logical.{LogicalField, logical_code}
 use Rattle.values.specs.Reading.{Reading}
@@ -10,6 +10,7 @@ use Rattle.messages.specs.Handed.{MessageView}
 use Rattle.schema_meta.specs.Stage.{Known, Whole, end_of}
 use Rattle.schema_meta.specs.Sound.{after}
 use Rattle.messages.specs.State.{IsRead}
+use Rattle.messages.specs.Wanted.{Wants, followed}
 use Rattle.schema_meta.specs.Framing.{first}
 
 -- what is known of it, and the bytes of a message that is not whole yet
@@ -40,11 +41,11 @@ framing_code =
     code_by (Stream × Stream) (coded× stream_code stream_code) (λ f. (f.current, f.prepared))
     (λ p. record { current = p.0; prepared = p.1 }) (λ _. refl)
 
--- what is held is no whole message, and has no fault
+-- what is held is no whole message, and has no fault, nor do fewer than `wanted` bytes more make it one
 pub record IsStream (known : Known) (held : List ℕ) (wanted : ℕ) : Type 0 where
   pub partial : first known held ≡ Ok None
   pub small : IsRead known.schema
-  pub some : 1 ≤ wanted
+  pub wants : Wants (followed known held) wanted
 
 -- a message that is handed on, out of all bytes
 abbrev pub message_of : Whole → List ℕ → MessageView

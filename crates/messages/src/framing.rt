@@ -4,7 +4,8 @@ ghost use Rattle.std.specs.Prelude.{◌≡◌, ◌≤◌, ◌+◌, ◌^◌, Some
 ghost use Rattle.values.specs.Reading.{Answers, Judges};
 ghost use Rattle.schema_meta.specs.Framing.{end_mark, first, framed, message_at};
 ghost use Rattle.schema_meta.specs.Message.{meta_of};
-ghost use Rattle.messages.specs.State.{IsRead, known_of, progress_seen, wanted_by, whole_seen};
+ghost use Rattle.messages.specs.State.{IsRead, known_of, progress_seen, whole_seen};
+ghost use Rattle.messages.specs.Wanted.{Awaits, followed, followed_at};
 
 use crate::metadata::{Metadata, read_metadata};
 use crate::state::State;
@@ -25,7 +26,7 @@ pub(crate) struct Found {
 /// How far the first message of some bytes has come.
 #[derive(Drop)]
 pub(crate) enum Progress {
-    /// It isn't whole. No fewer than `wanted` bytes more can make it so.
+    /// It isn't whole. Fewer than `wanted` bytes more neither make it so nor show a fault.
     Partial { wanted: usize },
     Whole(Found),
 }
@@ -62,7 +63,7 @@ fn end_mark(state: &State) -> Result<Found, StreamFault>
 }
 
 /// The message whose body begins at `front`, if it is there whole.
-#[tactic(auto, using(values::proofs::Readings::failing), unfolding(schema_meta::specs::Framing::message_at))]
+#[tactic(auto, using(values::proofs::Readings::failing, crate::proofs::Wanting::message_wanting), unfolding(schema_meta::specs::Framing::message_at))]
 fn message_at(
     alloc: Global,
     state: &State,
@@ -73,7 +74,7 @@ fn message_at(
     requires small { IsRead (known_of state.now).schema }
     ensures value { Answers progress_seen result
         (message_at (length bytes.now) front (meta_of (known_of state.now) (slice_range bytes.now 8 front))) }
-    ensures wanted { IfOk result (λ p. 1 ≤ wanted_by p) }
+    ensures wanted { IfOk result (λ p. Awaits (followed_at (known_of state.now) bytes.now front) p) }
 {
     if bytes.len() < front {
         return Ok(Progress::Partial {
@@ -91,11 +92,11 @@ fn message_at(
 }
 
 /// The first message of the bytes, if it is there whole. A fault is found as soon as what has it is there.
-#[tactic(auto, using(values::proofs::Readings::failing), unfolding(schema_meta::specs::Framing::first, schema_meta::specs::Framing::staged))]
+#[tactic(auto, using(values::proofs::Readings::failing, crate::proofs::Wanting::first_wanting), unfolding(schema_meta::specs::Framing::first, schema_meta::specs::Framing::staged))]
 pub(crate) fn first(alloc: Global, state: &State, bytes: &[u8]) -> Result<Progress, StreamFault>
     requires { IsRead (known_of state.now).schema }
     ensures value { Answers progress_seen result (first (known_of state.now) bytes.now) }
-    ensures wanted { IfOk result (λ p. 1 ≤ wanted_by p) }
+    ensures wanted { IfOk result (λ p. Awaits (followed (known_of state.now) bytes.now) p) }
 {
     if bytes.len() < 8 {
         return Ok(Progress::Partial {

@@ -4,27 +4,36 @@ ghost use Rattle.std.specs.Prelude.{◌≡◌, ◌≤◌, ◌+◌, ◌^◌, ◌+
 ghost use Rattle.values.specs.Reading.{Answers, Fails};
 ghost use Rattle.schema_meta.specs.Framing.{first};
 ghost use Rattle.messages.specs.Gather.{Gathers, IsWaiting, Steps};
-ghost use Rattle.messages.specs.State.{IsRead, known_of, progress_seen, wanted_by};
+ghost use Rattle.messages.specs.State.{IsRead, known_of, progress_seen};
+ghost use Rattle.messages.specs.Wanted.{Awaits, Wants, followed};
 
 use crate::framing::{Found, Progress, first};
 use crate::state::State;
 use std::alloc::Global;
 use values::StreamFault;
 
-/// Extends what is held, and looks for the first message in it.
+/// Extends what is held, and looks for the first message in it. Where fewer bytes come than are wanted nothing is read again.
+#[tactic(auto, using(crate::proofs::Wanting::growing))]
 fn grow(
     alloc: Global,
     state: &State,
     held: &mut Vec<u8>,
     bytes: &[u8],
+    wanted: usize,
 ) -> Result<Progress, StreamFault>
-    requires { IsRead (known_of state.now).schema }
+    requires small { IsRead (known_of state.now).schema }
+    requires wants { Wants (followed (known_of state.now) held.old.items) wanted }
     ensures found { Answers progress_seen result (first (known_of state.now) (held.old.items ++ bytes.now)) }
-    ensures wanted { IfOk result (λ p. 1 ≤ wanted_by p) }
+    ensures wanted { IfOk result (λ p. Awaits (followed (known_of state.now) held.new.items) p) }
     ensures grown { OnOk result (held.new.items ≡ held.old.items ++ bytes.now) }
     ensures kept { OnErr result (take (length held.old.items) held.new.items ≡ held.old.items) }
 {
     held.extend_from_slice(bytes)?;
+    if bytes.len() < wanted {
+        return Ok(Progress::Partial {
+            wanted: wanted - bytes.len(),
+        });
+    }
     first(alloc, state, held)
 }
 
@@ -40,9 +49,9 @@ fn gather(
 ) -> Result<Progress, StreamFault>
     requires small { IsRead (known_of state.now).schema }
     requires partial { first (known_of state.now) held.old.items ≡ Ok None }
-    requires some { 1 ≤ wanted }
+    requires wants { Wants (followed (known_of state.now) held.old.items) wanted }
     ensures found { Answers progress_seen result (first (known_of state.now) (held.old.items ++ piece.now)) }
-    ensures wanted { IfOk result (λ p. 1 ≤ wanted_by p) }
+    ensures wanted { IfOk result (λ p. Awaits (followed (known_of state.now) held.new.items) p) }
     ensures grown { IfOk result (λ p. Gathers (progress_seen p) (held.old.items ++ piece.now) held.new.items) }
     ensures unchanged { OnErr result (held.new.items ≡ held.old.items) }
     ensures empty { piece.now ≡ [] → IsOk result }
@@ -51,7 +60,7 @@ fn gather(
     let mut used = 0;
     while used < piece.len() {
         let step = wanted.min(piece.len() - used);
-        match grow(alloc, state, held, &piece[used..used + step]) {
+        match grow(alloc, state, held, &piece[used..used + step], wanted) {
             Err(fault) => {
                 held.truncate(before);
                 return Err(fault);
@@ -91,8 +100,8 @@ pub(crate) fn advance(
 ) -> Result<Step, StreamFault>
     requires small { IsRead (known_of state.now).schema }
     requires partial { first (known_of state.now) held.old.items ≡ Ok None }
-    requires some { 1 ≤ wanted }
-    ensures ok { IfOk result (λ s. Steps (first (known_of state.now) (held.old.items ++ piece.now)) held.old.items piece.now s held.new.items) }
+    requires wants { Wants (followed (known_of state.now) held.old.items) wanted }
+    ensures ok { IfOk result (λ s. Steps (known_of state.now) held.old.items piece.now s held.new.items) }
     ensures fault { IfErr result (λ e. Fails e (first (known_of state.now) (held.old.items ++ piece.now))) }
     ensures unchanged { OnErr result (held.new.items ≡ held.old.items) }
     ensures empty { piece.now ≡ [] → IsOkAnd result IsWaiting }

@@ -9,7 +9,7 @@ use std::rc::Rc;
 pub(crate) enum Pending {
     /// None was.
     Nothing,
-    /// All of the piece is held. No fewer than `wanted` bytes more can make a message whole.
+    /// All of the piece is held. Fewer than `wanted` bytes more neither make a message whole nor show a fault.
     Piece {
         wanted: usize,
     },

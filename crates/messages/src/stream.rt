@@ -33,7 +33,7 @@ pub struct Framer {
     // The first `len` are those of a message that isn't whole yet. What lies behind them is of a piece that was made ready.
     bytes: Vec<u8>,
     len: usize,
-    // How many bytes more the message was seen to want.
+    // How many bytes more the message was seen to want: fewer neither make it whole nor show a fault.
     wanted: usize,
     pending: Pending,
 }

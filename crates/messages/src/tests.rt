@@ -97,6 +97,29 @@ fn in_pieces_of_one_byte(rt: HostRuntime) -> Result<(), Fail> {
     Ok(())
 }
 
+/// A body of 65,592 bytes that comes in pieces of 64 is handed on whole.
+#[test]
+fn long_body_in_pieces(rt: HostRuntime) -> Result<(), Fail> {
+    let mut bytes = SAMPLE;
+    bytes[282] = 1;
+    let mut framer = Framer::open(rt.alloc(), None);
+    framer.push(&bytes[..232])?;
+    framer.push(&bytes[232..440])?;
+    for _ in 0..1024 {
+        let framed = framer.push(&[3; 64])?;
+        assert_eq!(rt; framed.used, 64);
+        assert!(rt; framed.message.is_none());
+    }
+    assert_eq!(rt; framer.held(), 65_744);
+    let framed = framer.push(&[7; 64])?;
+    assert_eq!(rt; framed.used, 56);
+    let body = framed.message.ok_or("no batch")?.body;
+    assert_eq!(rt; body.len(), 65_592);
+    assert_eq!(rt; body.first(), Some(&3));
+    assert_eq!(rt; body.last(), Some(&7));
+    Ok(())
+}
+
 /// What a stream is refused for that comes whole, if it is.
 fn fault_of_whole(framer: &mut Framer, bytes: &[u8]) -> Option<StreamFault> {
     let mut rest = bytes;

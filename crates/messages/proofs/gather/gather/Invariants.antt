@@ -1,6 +1,7 @@
 use Rattle.std.proofs.Common.{◌≡◌, ◌≤◌, ◌++◌, ◌-◌, Ok, None, length, take}
 use Rattle.schema_meta.specs.Framing.{first}
 use Rattle.messages.specs.State.{known_of}
+use Rattle.messages.specs.Wanted.{Wants, followed}
 use Rattle.messages.proofs.gather.gather.Given as goal
 
 abbrev pub invariant-loop-used : goal.invariant-loop-used
@@ -9,7 +10,7 @@ invariant-loop-used l =
       held : l.held.items ≡ l.fn.held.items ++ take l.used l.piece;
       partial : first (known_of l.state) l.held.items ≡ Ok None;
       within : l.used ≤ length l.piece;
-      some : 1 ≤ l.wanted;
+      wants : Wants (followed (known_of l.state) l.held.items) l.wanted;
       before : l.before ≡ length l.fn.held.items;
     }
 

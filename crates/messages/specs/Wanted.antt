@@ -1,0 +1,28 @@
+-- How many bytes more a message that isn't whole wants at least.
+use Rattle.std.specs.Prelude.{◌≡◌, ℕ, ◌<◌, ◌≤◌, List, ◌++◌, length, slice_range, Option, None, Ok}
+use Rattle.messages.specs.declared.framing.Progress.{Progress}
+use Rattle.messages.specs.declared.framing.Progress.TheVariants as progress
+use Rattle.values.specs.Reading.{Reading}
+use Rattle.schema_meta.specs.Stage.{Known, Whole}
+use Rattle.schema_meta.specs.Message.{meta_of}
+use Rattle.schema_meta.specs.Framing.{first, message_at}
+
+-- Where fewer than `wanted` bytes come, whatever they are, there is no whole message yet, and no fault. `later` says what is read
+-- of all bytes then.
+pub record Wants (later : List ℕ → Reading (Option Whole)) (wanted : ℕ) : Type 0 where
+  pub some : 1 ≤ wanted
+  pub short : (more : List ℕ) → length more < wanted → later more ≡ Ok None
+
+-- what is read once more bytes stand behind these
+abbrev pub followed : Known → List ℕ → List ℕ → Reading (Option Whole)
+followed known bytes more = first known (bytes ++ more)
+
+-- the same, of a message whose body begins at `front`
+abbrev pub followed_at : Known → List ℕ → ℕ → List ℕ → Reading (Option Whole)
+followed_at known bytes front more =
+    message_at (length (bytes ++ more)) front (meta_of known (slice_range (bytes ++ more) 8 front))
+
+-- what a message that isn't whole is seen to want
+abbrev pub Awaits : (List ℕ → Reading (Option Whole)) → Progress → Type 0
+Awaits later (progress.Partial wanted) = Wants later wanted
+Awaits later (progress.Whole found) = Unit {0}
