@@ -6,7 +6,7 @@ ghost use Rattle.values.specs.Rose.{kids_of};
 ghost use Rattle.values.specs.Layouts.{offset_bytes};
 ghost use Rattle.bitmaps.specs.Bits.{HasBits};
 ghost use Rattle.array_layout.specs.Buffers.{zeros, offset_at, is_rising};
-ghost use Rattle.array_layout.specs.Sound.{validity_of, bits_of, slots_of, offsets_of, own_faults, faults_in, first_len, LiesIn, IsPlaced, ArePlaced, IsSound, AreFit, HasRoom};
+ghost use Rattle.array_layout.specs.Sound.{validity_of, bits_of, slots_of, offsets_of, values_by, own_faults, faults_in, first_len, LiesIn, IsPlaced, ArePlaced, IsSound, AreFit, HasRoom};
 
 use crate::array::{Array, Part};
 use crate::buffers::{buffer, number_width, offset, offset_width};
@@ -122,18 +122,14 @@ fn first_len(children: &[Array]) -> usize
     }
 }
 
-/// Judges the buffers of one array.
-#[tactic(auto, using(values::proofs::Readings::failing, values::proofs::Readings::both_good), unfolding(crate::specs::Sound::own_faults))]
-fn check_part(body: &[u8], part: &Part, slots: usize) -> Result<(), StreamFault>
-    requires validity { LiesIn body.now part.now.validity }
+/// Judges the buffers beside validity of one array.
+fn check_values(body: &[u8], part: &Part, slots: usize) -> Result<(), StreamFault>
     requires offsets { LiesIn body.now part.now.offsets }
     requires values { LiesIn body.now part.now.values }
     requires small { part.now.len < 2 ^ 31 }
-    ensures passes { Passes result (own_faults body.now part.now slots) }
-    ensures bits { OnOk result (0 < part.now.validity.len → part.now.len ≤ 8 * part.now.validity.len) }
+    ensures passes { Passes result (values_by part.now.layout body.now part.now slots) }
     ensures room { OnOk result (HasRoom part.now.layout body.now part.now slots) }
 {
-    check_validity(buffer(body, &part.validity), part.len, part.nulls)?;
     let values = buffer(body, &part.values);
     let offsets = buffer(body, &part.offsets);
     match part.layout {
@@ -150,6 +146,21 @@ fn check_part(body: &[u8], part: &Part, slots: usize) -> Result<(), StreamFault>
         Layout::List { offsets: width } => check_offsets(offsets, width, part.len, slots),
         Layout::Struct => Ok(()),
     }
+}
+
+/// Judges the buffers of one array.
+#[tactic(auto, using(values::proofs::Readings::failing, values::proofs::Readings::both_good), unfolding(crate::specs::Sound::own_faults))]
+fn check_part(body: &[u8], part: &Part, slots: usize) -> Result<(), StreamFault>
+    requires validity { LiesIn body.now part.now.validity }
+    requires offsets { LiesIn body.now part.now.offsets }
+    requires values { LiesIn body.now part.now.values }
+    requires small { part.now.len < 2 ^ 31 }
+    ensures passes { Passes result (own_faults body.now part.now slots) }
+    ensures bits { OnOk result (0 < part.now.validity.len → part.now.len ≤ 8 * part.now.validity.len) }
+    ensures room { OnOk result (HasRoom part.now.layout body.now part.now slots) }
+{
+    check_validity(buffer(body, &part.validity), part.len, part.nulls)?;
+    check_values(body, part, slots)
 }
 
 /// Judges the buffers of an array and of all arrays below it: 22, 23 and 24.
