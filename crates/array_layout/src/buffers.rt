@@ -19,28 +19,6 @@ pub fn buffer<'a>(body: &'a [u8], span: &Span) -> &'a [u8]
     &body[span.from..span.from + span.len]
 }
 
-/// The width of a number, in bytes.
-pub fn number_width(width: IntWidth) -> usize
-    ensures { result ≡ bytes_in width }
-{
-    match width {
-        IntWidth::Bits8 => 1,
-        IntWidth::Bits16 => 2,
-        IntWidth::Bits32 => 4,
-        IntWidth::Bits64 => 8,
-    }
-}
-
-/// The width of an offset, in bytes.
-pub fn offset_width(width: OffsetWidth) -> usize
-    ensures { result ≡ offset_bytes width }
-{
-    match width {
-        OffsetWidth::Bits32 => 4,
-        OffsetWidth::Bits64 => 8,
-    }
-}
-
 /// Bit `i`.
 pub fn bit(bits: &[u8], i: usize) -> bool
     requires { HasBits bits.now (i + 1) }
@@ -75,7 +53,7 @@ pub fn number(bytes: &[u8], width: IntWidth, signed: bool, i: usize) -> i128
     requires { bytes_in width * (i + 1) ≤ length bytes.now }
     ensures { result ≡ number_at signed (bytes_in width) bytes.now i }
 {
-    let width = number_width(width);
+    let width = width.bytes();
     if signed {
         signed_number(bytes, width, i)
     } else {

@@ -9,7 +9,7 @@ ghost use Rattle.array_layout.specs.Buffers.{zeros, offset_at, is_rising};
 ghost use Rattle.array_layout.specs.Sound.{validity_of, bits_of, slots_of, offsets_of, values_by, own_faults, faults_in, first_len, LiesIn, IsPlaced, ArePlaced, IsSound, AreFit, HasRoom};
 
 use crate::array::{Array, Part};
-use crate::buffers::{buffer, number_width, offset, offset_width};
+use crate::buffers::{buffer, offset};
 use bitmaps::Bits;
 use values::{Layout, OffsetWidth, StreamFault};
 
@@ -100,7 +100,7 @@ fn check_offsets(
     if len == 0 {
         return Ok(());
     }
-    let bytes = offset_width(width);
+    let bytes = width.bytes();
     if offsets.len() < bytes * (len + 1) {
         return Err(StreamFault::BufferShort);
     }
@@ -134,7 +134,7 @@ fn check_values(body: &[u8], part: &Part, slots: usize) -> Result<(), StreamFaul
     let offsets = buffer(body, &part.offsets);
     match part.layout {
         Layout::Bits => check_bits(values, part.len),
-        Layout::Number { width, .. } => check_slots(values, number_width(width), part.len),
+        Layout::Number { width, .. } => check_slots(values, width.bytes(), part.len),
         Layout::Decimal { .. } => check_slots(values, 16, part.len),
         Layout::Fixed { width } => check_slots(values, width as usize, part.len),
         Layout::Text { offsets: width } | Layout::Bytes { offsets: width } => check_offsets(

@@ -10,7 +10,5 @@ mod buffers;
 mod check;
 
 pub use array::{Array, Node, Part, Span, Words, own_spans};
-pub use buffers::{
-    bit, buffer, decimal, fixed, is_null_at, number, number_width, offset, offset_width, slice,
-};
+pub use buffers::{bit, buffer, decimal, fixed, is_null_at, number, offset, slice};
 pub use check::check_layout;

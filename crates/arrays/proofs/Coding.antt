@@ -8,9 +8,8 @@ use Rattle.values.specs.declared.faults.StreamFault.TheVariants as fault
 use Rattle.values.specs.Reading.{Reading, one, must, Stands, IsGood}
 use Rattle.values.proofs.Readings.{must_Ok}
 use Rattle.values.specs.Rose.{node, Roses, none, more}
-use Rattle.values.specs.Datum.{Datum, null, truth, whole, text, bytes, list, structure}
+use Rattle.values.specs.Datum.{Datum}
 use Rattle.values.specs.declared.layout.IntWidth.{IntWidth}
-use Rattle.values.specs.declared.layout.OffsetWidth.{OffsetWidth}
 use Rattle.values.specs.declared.layout.Layout.{Layout}
 use Rattle.values.specs.declared.layout.Layout.TheVariants.{Bits, Number, Decimal, Fixed, Text, Bytes, List as Listed, Struct}
 use Rattle.values.specs.Layouts.{bytes_in, IsNode, Holds, slot, weight}
@@ -19,7 +18,7 @@ use Rattle.array_layout.specs.declared.array.Part.{Part}
 use Rattle.array_layout.specs.Buffers.{number_at}
 use Rattle.array_layout.specs.Sound.{first_len, HasRoom, IsSound}
 use Rattle.array_layout.specs.Cells.{coded_by, indexed}
-use Rattle.arrays.specs.Coded.{HasIndex, text_in, blob_in}
+use Rattle.arrays.specs.Coded.{HasIndex}
 use Rattle.arrays.specs.Weights.{capped, word_weight}
 
 -- an index and its value
@@ -124,83 +123,22 @@ coded_weighs l w indices i d kids read is =
     let P : Roses Layout → Type 0 = λ ks. word_weight w.layout (coded_by l w.values indices i) ≡ weight (node w.layout ks) d in
     subst P (sym facts.0) (ap (word_weight w.layout) read)
 
--- the weight of a value that has no children
-text_slot : (o : OffsetWidth) (d : Datum) → 5 + length (text_in d) ≡ weight (node (Text o) none) d
-text_slot o null = refl
-text_slot o (truth b) = refl
-text_slot o (whole z) = refl
-text_slot o (text t) = refl
-text_slot o (bytes b) = refl
-text_slot o (list es) = refl
-text_slot o (structure es) = refl
-
-blob_slot : (o : OffsetWidth) (d : Datum) → 5 + length (blob_in d) ≡ weight (node (Bytes o) none) d
-blob_slot o null = refl
-blob_slot o (truth b) = refl
-blob_slot o (whole z) = refl
-blob_slot o (text t) = refl
-blob_slot o (bytes b) = refl
-blob_slot o (list es) = refl
-blob_slot o (structure es) = refl
-
-list_slot : (o : OffsetWidth) (d : Datum) → 5 ≡ weight (node (Listed o) none) d
-list_slot o null = refl
-list_slot o (truth b) = refl
-list_slot o (whole z) = refl
-list_slot o (text t) = refl
-list_slot o (bytes b) = refl
-list_slot o (list es) = refl
-list_slot o (structure es) = refl
-
-struct_slot : (d : Datum) → 1 ≡ weight (node Struct none) d
-struct_slot null = refl
-struct_slot (truth b) = refl
-struct_slot (whole z) = refl
-struct_slot (text t) = refl
-struct_slot (bytes b) = refl
-struct_slot (list es) = refl
-struct_slot (structure es) = refl
-
-pub text_weighs :
-    (l : Layout) (o : OffsetWidth) (d : Datum) (r : ℕ) → l ≡ Text o → r ≡ capped (5 + length (text_in d)) → r ≡ capped (weight (node l none) d)
-text_weighs l o d r is h =
-    let P : Layout → Type 0 = λ k. r ≡ capped (weight (node k none) d) in subst P (sym is) (h ∙ ap capped (text_slot o d))
-
-pub blob_weighs :
-    (l : Layout) (o : OffsetWidth) (d : Datum) (r : ℕ) → l ≡ Bytes o → r ≡ capped (5 + length (blob_in d)) → r ≡ capped (weight (node l none) d)
-blob_weighs l o d r is h =
-    let P : Layout → Type 0 = λ k. r ≡ capped (weight (node k none) d) in subst P (sym is) (h ∙ ap capped (blob_slot o d))
-
-pub list_weighs :
-    (l : Layout) (o : OffsetWidth) (d : Datum) (r : ℕ) → l ≡ Listed o → r ≡ capped (slot (node l none)) → r ≡ capped (weight (node l none) d)
-list_weighs l o d r is h =
-    let P : Layout → Type 0 = λ k. r ≡ capped (slot (node k none)) → r ≡ capped (weight (node k none) d) in
-    subst P (sym is) (λ e. e ∙ ap capped (list_slot o d)) h
-
-pub struct_weighs :
-    (l : Layout) (d : Datum) (r : ℕ) → l ≡ Struct → r ≡ capped (slot (node l none)) → r ≡ capped (weight (node l none) d)
-struct_weighs l d r is h =
-    let P : Layout → Type 0 = λ k. r ≡ capped (slot (node k none)) → r ≡ capped (weight (node k none) d) in
-    subst P (sym is) (λ e. e ∙ ap capped (struct_slot d)) h
-
-pub ruleset datum_laws = (text_weighs, blob_weighs, list_weighs, struct_weighs)
-
 -- the weight of a slot is that of its value, or that of a null where it has none
 pub found_weighs :
-    (l : Layout) (o : Option Datum) (d : Datum) (m : Reading Datum) (r : ℕ) → must fault.DictionaryIndex o ≡ m → o ≡ Some d
-    → r ≡ capped (weight (node l none) d) → r ≡ capped (word_weight l m)
-found_weighs l o d m r is some h =
+    (l : Layout) (o : Option Datum) (d : Datum) (m : Reading Datum) (n r : ℕ) → must fault.DictionaryIndex o ≡ m → o ≡ Some d
+    → n ≡ weight (node l none) d → r ≡ capped n → r ≡ capped (word_weight l m)
+found_weighs l o d m n r is some own h =
     let P : Option Datum → Type 0 = λ x. must fault.DictionaryIndex x ≡ m in
     let read : Ok d ≡ m = subst P some is in
-    h ∙ ap (λ x. capped (word_weight l x)) read
+    h ∙ ap capped own ∙ ap (λ x. capped (word_weight l x)) read
 
 pub missing_weighs :
-    (l : Layout) (o : Option Datum) (m : Reading Datum) (r : ℕ) → must fault.DictionaryIndex o ≡ m → o ≡ None → r ≡ capped (slot (node l none))
-    → r ≡ capped (word_weight l m)
-missing_weighs l o m r is missing h =
+    (l : Layout) (o : Option Datum) (m : Reading Datum) (n r : ℕ) → must fault.DictionaryIndex o ≡ m → o ≡ None → n ≡ slot (node l none)
+    → r ≡ capped n → r ≡ capped (word_weight l m)
+missing_weighs l o m n r is missing own h =
     let P : Option Datum → Type 0 = λ x. must fault.DictionaryIndex x ≡ m in
     let read : Err (one fault.DictionaryIndex) ≡ m = subst P missing is in
-    h ∙ ap (λ x. capped (word_weight l x)) read
+    h ∙ ap capped own ∙ ap (λ x. capped (word_weight l x)) read
 
 pub ruleset weight_laws = (found_weighs, missing_weighs)
 

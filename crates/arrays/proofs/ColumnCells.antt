@@ -3,18 +3,16 @@ use Rattle.std.proofs.Common.{◌≡◌, ℕ, List, ◌+◌, ◌-◌, ◌<◌, l
 use Rattle.std.specs.Prelude.{Result, IfOk, IfSome, Option}
 use Rattle.values.specs.Layouts.{weight}
 use Rattle.values.specs.declared.layout.Layout.{Layout}
-use Rattle.values.proofs.Readings.{good_Ok}
+use Rattle.values.proofs.Readings.{good_Ok, each_length, each_get, good_each}
 use Rattle.array_layout.specs.Placing.{layout_of}
-use Rattle.array_layout.specs.Sound.{IsSound}
+use Rattle.array_layout.specs.Sound.{IsSound, faults_in}
 use Rattle.arrays.specs.Weights.{capped, weight_at, Says}
 use Rattle.arrays.proofs.WeightLaw.{cell_weighs}
 use Rattle.values.specs.Datum.{Datum}
 use Rattle.values.specs.Reading.{Reading, each, Stands, IsGood, Passes, ◌>>=◌}
 use Rattle.values.specs.Rose.{Rose}
 use Rattle.values.specs.declared.faults.StreamFault.{StreamFault}
-use Rattle.values.proofs.Readings.{each_length, each_get, good_each}
 use Rattle.array_layout.specs.declared.array.Part.{Part}
-use Rattle.array_layout.specs.Sound.{faults_in}
 use Rattle.array_layout.specs.Cells.{cell, cells, column_of, len_of}
 use Rattle.arrays.specs.Checked.{good_of}
 

@@ -7,7 +7,7 @@ use Rattle.values.specs.declared.faults.StreamFault.TheVariants as fault
 use Rattle.values.specs.Reading.{Reading, one, both, cons, mapped, each, IsGood, with_front}
 use Rattle.values.proofs.Readings.{good_left, good_right, each_step, front_none}
 use Rattle.values.specs.Rose.{Rose, node, Roses, kids_of}
-use Rattle.values.proofs.Roses.{kids_step, kids_end}
+use Rattle.values.proofs.Roses.{kids_step, kids_end, kid_smaller}
 use Rattle.values.specs.Datum.{Datum, null, whole, text, list, structure, items_of}
 use Rattle.values.specs.declared.layout.IntWidth.{IntWidth}
 use Rattle.values.specs.declared.layout.OffsetWidth.{OffsetWidth}
@@ -21,7 +21,6 @@ use Rattle.array_layout.specs.Buffers.{is_null, number_at, slice_at}
 use Rattle.array_layout.specs.Sound.{first_len, HasRoom, IsSound}
 use Rattle.array_layout.specs.Cells.{cell, first_cell, row, cell_by, slot_by, coded_by, value_by, items_at, list_of, structure_of, text_of, decimal_of}
 use Rattle.array_layout.proofs.Sounding.{kid_sound}
-use Rattle.values.proofs.Roses.{kid_smaller}
 use Rattle.arrays.proofs.Coding.{index_room}
 use Rattle.arrays.proofs.Judging.{text_fit, bytes_fit, list_fit, decimal_room, struct_long, kids_sound, list_child, child_sound, child_within, child_smaller, kid_long}
 

@@ -1,8 +1,7 @@
 -- The value of a slot is one that its layout holds.
-use Rattle.std.proofs.Common.{◌≡◌, ◌⊎◌, inl, inr, ℕ, ℤ, pos, zero, suc, List, [], ◌∷◌, ◌+◌, ◌*◌, ◌-◌, ◌^◌, ◌<◌, ◌≤◌, ◌≤ℤ◌, ◌<ℤ◌, ◌-ℤ◌, neg_ℤ, length, drop, take, refl, ap, sym, subst, arith}
+use Rattle.std.proofs.Common.{◌≡◌, ◌⊎◌, inl, inr, ℕ, ℤ, pos, zero, suc, List, [], ◌∷◌, ◌+◌, ◌*◌, ◌-◌, ◌^◌, ◌<◌, ◌≤◌, ◌≤ℤ◌, ◌<ℤ◌, ◌-ℤ◌, neg_ℤ, length, drop, take, refl, ap, sym, subst, arith, length-drop}
 use Rattle.std.specs.Prelude.{Result, Option, None, Some, Ok, Err, IfOk, Bool, true, false, if◌then◌else◌, nat_lt, nat_abs, slice_index, slice_range}
 use Rattle.std.proofs.lemmas.List.{get_or-drop}
-use Rattle.std.proofs.Common.{length-drop}
 use Rattle.arrays.proofs.Judging.{struct_long, at_least, and_rest}
 use Rattle.arrays.proofs.Copying.{fixed_room}
 use Rattle.std.specs.Str.{is_utf8}

@@ -1,11 +1,12 @@
 -- How a weight is summed up to a limit.
 use Rattle.std.proofs.Common.{◌≡◌, ℕ, suc, List, [], ◌∷◌, ◌+◌, ◌-◌, ◌^◌, ◌<◌, ◌≤◌, length, drop, get_or, refl, ap, sym, subst, ◌∙◌, arith}
 use Rattle.std.specs.Prelude.{Option, None, Some, Bool, false, if◌then◌else◌}
-use Rattle.values.specs.Rose.{Rose, node, Roses, kids_of}
+use Rattle.values.specs.Rose.{Rose, node, Roses, none, kids_of}
+use Rattle.values.proofs.Weighing.{own-slot}
 use Rattle.values.proofs.Roses.{kids_step, kids_end, kid_smaller}
 use Rattle.values.specs.declared.layout.OffsetWidth.{OffsetWidth}
 use Rattle.values.specs.declared.layout.Layout.{Layout}
-use Rattle.values.specs.declared.layout.Layout.TheVariants.{List as Listed}
+use Rattle.values.specs.declared.layout.Layout.TheVariants.{List as Listed, Struct}
 use Rattle.values.specs.Layouts.{slot, slots}
 use Rattle.array_layout.specs.declared.array.Words.{Words}
 use Rattle.array_layout.specs.declared.array.Part.{Part}
@@ -118,7 +119,14 @@ slots_end ts k s w past bound left =
     let none_left : slots (layouts_of (kids_of (drop k ts))) ≡ 0 = ap (λ r. slots (layouts_of r)) (kids_end ts k past) in
     sum_none s (slots (layouts_of (kids_of (drop k ts)))) w bound none_left left
 
+-- nothing else has children
+pub bare_slot :
+    (l : Layout) (kids : Roses Layout) (n r : ℕ) → ¬ (l ≡ Struct) → n ≡ slot (node l none) → r ≡ capped n → r ≡ capped (slot (node l kids))
+bare_slot l kids n r single own is = is ∙ ap capped (own ∙ sym (own-slot l kids single))
+
 pub ruleset slot_laws = (items_start, slots_step, slots_end, kid_smaller)
+
+pub ruleset own_laws = (bare_slot)
 
 -- the items' array
 pub items_weigh :

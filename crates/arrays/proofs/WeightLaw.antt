@@ -1,6 +1,5 @@
 -- The weight of a cell where it lies is the weight of its value.
-use Rattle.std.proofs.Common.{◌≡◌, ℕ, zero, suc, List, [], ◌+◌, ◌-◌, ◌<◌, ◌≤◌, length, drop, refl, ap, sym, subst, arith}
-use Rattle.std.proofs.Common.{length-drop}
+use Rattle.std.proofs.Common.{◌≡◌, ℕ, zero, suc, List, [], ◌+◌, ◌-◌, ◌<◌, ◌≤◌, length, drop, refl, ap, sym, subst, arith, length-drop}
 use Rattle.std.specs.Prelude.{Option, None, Some, Ok, Bool, true, false, if◌then◌else◌}
 use Rattle.values.specs.Reading.{Reading, cons, each}
 use Rattle.values.proofs.Readings.{both_Ok, mapped_Ok}

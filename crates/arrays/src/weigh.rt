@@ -8,15 +8,15 @@ ghost use Rattle.array_layout.specs.Placing.{bytes_of, layout_by, layout_of, lay
 ghost use Rattle.array_layout.specs.Sound.{LiesIn, AreFit, IsSound, AreSound, AreLong};
 ghost use Rattle.array_layout.specs.Buffers.{offset_at};
 ghost use Rattle.array_layout.specs.Cells.{coded_by, len_of};
-ghost use Rattle.arrays.specs.Coded.{HasIndex, blob_in, text_in};
+ghost use Rattle.arrays.specs.Coded.{HasIndex};
 ghost use Rattle.arrays.specs.Weights.{capped, extent, first_weight, sum_from, weight_at, weight_beside, weight_by, word_weight};
 
 use crate::judge::items_array;
 use crate::slots::{bytes_slot, is_null_slot};
 use crate::words::find_word;
-use array_layout::{Array, Part, Words, buffer, number_width, offset};
+use array_layout::{Array, Part, Words, buffer, offset};
 use values::limits::MAX_CELL_WEIGHT;
-use values::{Kind, Layout, OffsetWidth, Value};
+use values::{Layout, OffsetWidth};
 
 /// Above what a cell may weigh, so that more need not be told.
 const TOO_HEAVY: u64 = MAX_CELL_WEIGHT + 1;
@@ -53,17 +53,14 @@ fn slot(array: &Array) -> u64
 }
 
 #[cycle(slot)]
+#[tactic(auto, using(crate::proofs::Weighing::own_laws))]
 fn slot_of(layout: Layout, children: &[Array]) -> u64
     ensures value { result ≡ capped (slot (node layout (layouts_of (kids_of children.now)))) }
     ensures bound { result ≤ 2 ^ 20 + 1 }
 {
     match layout {
-        Layout::Bits => cap(2),
-        Layout::Number { width, .. } => cap(1 + number_width(width) as u64),
-        Layout::Decimal { .. } => cap(17),
-        Layout::Fixed { width } => cap(1 + u64::from(width)),
-        Layout::Text { .. } | Layout::Bytes { .. } | Layout::List { .. } => cap(5),
         Layout::Struct => slots(children),
+        _ => cap(layout.own_slot()),
     }
 }
 
@@ -80,44 +77,6 @@ fn slots(children: &[Array]) -> u64
     sum
 }
 
-fn text_len(value: &Value) -> usize
-    ensures value { result ≡ length (text_in value.now) }
-    ensures bound { result < 2 ^ 63 }
-{
-    match &value.kind {
-        Kind::Text(text) => text.len(),
-        _ => 0,
-    }
-}
-
-fn blob_len(value: &Value) -> usize
-    ensures value { result ≡ length (blob_in value.now) }
-    ensures bound { result < 2 ^ 63 }
-{
-    match &value.kind {
-        Kind::Bytes(bytes) => bytes.len(),
-        _ => 0,
-    }
-}
-
-/// The weight of a dictionary's value.
-#[tactic(auto, using(crate::proofs::Coding::datum_laws))]
-fn weigh_datum(layout: Layout, value: &Value) -> u64
-    ensures value { result ≡ capped (weight (node layout none) value.now) }
-    ensures bound { result ≤ 2 ^ 20 + 1 }
-{
-    match layout {
-        Layout::Text { .. } => cap(5 + text_len(value) as u64),
-        Layout::Bytes { .. } => cap(5 + blob_len(value) as u64),
-        Layout::Bits
-        | Layout::Number { .. }
-        | Layout::Decimal { .. }
-        | Layout::Fixed { .. }
-        | Layout::List { .. }
-        | Layout::Struct => slot_of(layout, &[]),
-    }
-}
-
 /// A slot that stands for a value of a dictionary.
 #[tactic(auto, using(crate::proofs::Coding::weight_laws))]
 fn weigh_word(body: &[u8], part: &Part, words: &Words, i: usize) -> u64
@@ -127,8 +86,8 @@ fn weigh_word(body: &[u8], part: &Part, words: &Words, i: usize) -> u64
     ensures bound { result ≤ 2 ^ 20 + 1 }
 {
     match find_word(body, part, words, i) {
-        Some(value) => weigh_datum(words.layout, value),
-        None => slot_of(words.layout, &[]),
+        Some(value) => cap(words.layout.own_weight(value)),
+        None => cap(words.layout.own_slot()),
     }
 }
 

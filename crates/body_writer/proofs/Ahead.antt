@@ -10,7 +10,7 @@ use Rattle.array_layout.specs.declared.array.Node.{Node}
 use Rattle.array_layout.specs.declared.array.Span.{Span}
 use Rattle.body_writer.specs.Columns.{child_cells, nodes, nodes_below, buffers, buffers_below}
 use Rattle.body_writer.specs.Body.{laid, padded, spans_from}
-use Rattle.body_writer.specs.Weights.{weights}
+use Rattle.values.specs.Weights.{weights}
 use Rattle.body_writer.specs.Grows.{Grows}
 use Rattle.body_writer.specs.declared.body.Body.{Body}
 use Rattle.body_writer.proofs.Held.{HeldEach, kids-held}

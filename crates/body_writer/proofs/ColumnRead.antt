@@ -16,7 +16,7 @@ use Rattle.array_layout.specs.Sound.{LiesIn, first_len, faults_in, faults_below,
 use Rattle.array_layout.specs.Cells.{cell, first_cell, row, len_of, cells, column_of}
 use Rattle.body_writer.specs.Slots.{listed, part}
 use Rattle.body_writer.specs.Columns.{validity, truths, numbers, fixed, offsets, joined, items, own_buffers, child_cells, buffers, buffers_below, own_node, nodes, nodes_below}
-use Rattle.body_writer.specs.Weights.{weights}
+use Rattle.values.specs.Weights.{weights}
 use Rattle.body_writer.specs.Law.{AreRead, BatchLaw, AreNodes, Stand, ColumnLaw, PlacedLaw, NodesLaw, BuffersLaw}
 use Rattle.body_writer.proofs.Pieces.{each-run}
 use Rattle.body_writer.proofs.Held.{from_item, item-at, items-after, HeldEach, kids-held}

@@ -13,5 +13,4 @@ pub mod Ahead
 pub mod Standing
 pub mod Sizing
 pub mod Rows
-pub mod Summing
 pub mod SampleBatch

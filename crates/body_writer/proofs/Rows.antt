@@ -14,7 +14,7 @@ use Rattle.values.specs.declared.layout.Layout.TheVariants.{Bits, Number, Decima
 use Rattle.values.specs.Layouts.{Holds, HoldsEach}
 use Rattle.array_layout.specs.Placing.{own_spans, spans_in, spans_below}
 use Rattle.body_writer.specs.Slots.{cell_of, cells_of, part}
-use Rattle.body_writer.specs.Weights.{weights}
+use Rattle.values.specs.Weights.{weights}
 use Rattle.body_writer.specs.Batch.{row_cell, row_cells, rows_weight, body_nodes, body_buffers, body_spans, body_bytes, IsBatch}
 use Rattle.body_writer.specs.declared.body.Body.{Body}
 use Rattle.body_writer.proofs.Cells.{part-read}

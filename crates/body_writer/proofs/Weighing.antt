@@ -10,7 +10,7 @@ use Rattle.values.specs.declared.layout.Layout.TheVariants.{Bits, Number, Decima
 use Rattle.values.specs.Layouts.{bytes_in as width_of, IsNode, IsLayout, Holds, HoldsEach, slot, slots, weight, items_weight, row_weight}
 use Rattle.body_writer.specs.Slots.{bytes_in, length_in, total_length, listed, items_in, part}
 use Rattle.body_writer.specs.Columns.{items, joined, child_cells}
-use Rattle.body_writer.specs.Weights.{weights}
+use Rattle.values.specs.Weights.{weights}
 use Rattle.body_writer.proofs.Held.{from_item, item-at, items-after}
 
 -- the weight of a slot in the buffers of its own array

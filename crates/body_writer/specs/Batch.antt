@@ -5,8 +5,7 @@ use Rattle.values.specs.Rose.{Roses, roses_size}
 use Rattle.values.specs.Datum.{Datum, structure, items_of}
 use Rattle.values.specs.declared.layout.Layout.{Layout}
 use Rattle.values.specs.declared.layout.Layout.TheVariants.{Struct}
-use Rattle.values.specs.Layouts.{AreLayouts, HoldsEach}
-use Rattle.values.specs.Layouts.{row_weight as weight_beside}
+use Rattle.values.specs.Layouts.{AreLayouts, HoldsEach, row_weight as weight_beside}
 use Rattle.array_layout.specs.declared.array.Node.{Node}
 use Rattle.array_layout.specs.declared.array.Span.{Span}
 use Rattle.body_writer.specs.Body.{laid, spans_from}

@@ -14,7 +14,7 @@ use Rattle.array_layout.specs.Cells.{column_of}
 use Rattle.body_writer.specs.Slots.{part}
 use Rattle.body_writer.specs.Columns.{buffers, buffers_below, nodes, nodes_below}
 use Rattle.body_writer.specs.Body.{laid, spans_from}
-use Rattle.body_writer.specs.Weights.{weights}
+use Rattle.values.specs.Weights.{weights}
 
 -- the nodes from number n on are these
 abbrev pub AreNodes : List Node → ℕ → List Node → Type 0

@@ -1,7 +1,6 @@
 pub mod Slots
 pub mod Columns
 pub mod Body
-pub mod Weights
 pub mod Grows
 pub mod Law
 pub mod Batch

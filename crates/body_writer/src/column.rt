@@ -4,9 +4,8 @@ ghost use Rattle.std.specs.Prelude.{◌≡◌, ◌^◌, ◌<◌, ◌≤◌, OnOk
 ghost use Rattle.values.specs.Rose.{node, kids_of};
 ghost use Rattle.values.specs.Layouts.{bytes_in, IsNode, IsLayout, AreLayouts, Holds};
 ghost use Rattle.body_writer.specs.Slots.{cells_of, total_length};
-ghost use Rattle.body_writer.specs.Columns.{value_buffers, own_node, own_buffers, nodes, nodes_below, buffers, buffers_below};
-ghost use Rattle.body_writer.specs.Columns.{offsets as offsets_of, joined as joined_of};
-ghost use Rattle.body_writer.specs.Weights.{weights};
+ghost use Rattle.body_writer.specs.Columns.{value_buffers, own_node, own_buffers, nodes, nodes_below, buffers, buffers_below, offsets as offsets_of, joined as joined_of};
+ghost use Rattle.values.specs.Weights.{weights};
 ghost use Rattle.body_writer.specs.Grows.{Appends, Grows};
 
 use crate::body::Body;
@@ -14,19 +13,6 @@ use crate::buffers;
 use array_layout::Node;
 use std::alloc::{AllocError, Global};
 use values::{IntWidth, Layout, LayoutTree, OffsetWidth, Value};
-
-pub(crate) fn width_in_bytes(width: IntWidth) -> usize
-    ensures value { result ≡ bytes_in width }
-    ensures some { 1 ≤ result }
-    ensures few { result ≤ 8 }
-{
-    match width {
-        IntWidth::Bits8 => 1,
-        IntWidth::Bits16 => 2,
-        IntWidth::Bits32 => 4,
-        IntWidth::Bits64 => 8,
-    }
-}
 
 /// Texts or bytes: where each starts, and all of them.
 fn append_runs(
@@ -56,7 +42,7 @@ fn append_values(
     match layout {
         Layout::Bits => body.append(buffers::truths(alloc, cells)?.as_bytes()),
         Layout::Number { width, .. } => {
-            body.append(&buffers::numbers(alloc, cells, width_in_bytes(width))?)
+            body.append(&buffers::numbers(alloc, cells, width.bytes())?)
         }
         Layout::Decimal { .. } => body.append(&buffers::numbers(alloc, cells, 16)?),
         Layout::Fixed { width } => body.append(&buffers::fixed(alloc, cells, width as usize)?),

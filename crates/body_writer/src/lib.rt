@@ -1,4 +1,4 @@
-//! Columns as they are written: the canonical buffers of a column of any layout, the body of a batch, and the weights of rows.
+//! Columns as they are written: the canonical buffers of a column of any layout, and the body of a batch.
 //!
 //! `specs/Columns.antt` says what the nodes and buffers of a column are, `specs/Body.antt` how buffers are laid out, `specs/Batch.antt` what
 //! the body of a batch is and which rows make one, `specs/Law.antt` that a column that is written is read back. The laws are carried by
@@ -13,10 +13,8 @@ mod laws;
 mod slots;
 #[cfg(test)]
 mod tests;
-mod weigh;
 
 pub use batch::write_body;
 pub use body::Body;
 pub use column::write_column;
 pub use laws::{column_law, count_law, size_law, standing_law};
-pub use weigh::{row_weight, weight};

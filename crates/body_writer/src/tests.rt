@@ -5,7 +5,7 @@ ghost use Rattle.values.specs.Rose.{kids_of};
 ghost use Rattle.values.specs.Kinds.{datum_of};
 ghost use Rattle.body_writer.specs.Sample.{sample_layout, sample_layouts, sample_rows};
 
-use crate::{Body, row_weight, weight, write_body, write_column};
+use crate::{Body, write_body, write_column};
 use array_layout::{Node, Span};
 use std::alloc::{AllocError, Global};
 use std::test::Fail;
@@ -129,24 +129,5 @@ fn writes_three_rows(rt: HostRuntime) -> Result<(), Fail> {
         ]
         .as_slice()
     );
-    Ok(())
-}
-
-#[test]
-fn weighs_rows(rt: HostRuntime) -> Result<(), Fail> {
-    let alloc = rt.alloc();
-    let layouts = numbers(alloc)?;
-    let rows = three_rows(alloc)?;
-    assert_eq!(rt; row_weight(&layouts, &rows[1]), 18);
-    let list = LayoutTree {
-        layout: Layout::List {
-            offsets: OffsetWidth::Bits32,
-        },
-        children: vec![in alloc; number(alloc)]?,
-    };
-    let items = Value {
-        kind: Kind::List(row(alloc, Kind::Whole(2), Kind::Whole(3))?),
-    };
-    assert_eq!(rt; weight(&list, &items), 23);
     Ok(())
 }

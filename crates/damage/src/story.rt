@@ -34,7 +34,10 @@ fn told_by(event: FeedEvent) -> Told {
     match event {
         FeedEvent::Schema(schema) => Told::Schema {
             columns: schema.fields.len(),
-            kind: schema.fields.first().map(|field| field.stored.kind()),
+            kind: schema
+                .fields
+                .first()
+                .map(|field| TypeKind::of(&field.stored)),
         },
         FeedEvent::Dictionary { id, delta, values } => Told::Dictionary { id, delta, values },
         FeedEvent::Batch {

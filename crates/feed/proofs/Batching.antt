@@ -20,7 +20,7 @@ use Rattle.arrays.specs.Checked.{CheckedColumn}
 use Rattle.dictionaries.specs.Batches.{DictionaryBatch, batch, found_after}
 use Rattle.dictionaries.specs.Law.{OneMore, StandsAfter}
 use Rattle.dictionaries.specs.Table.{Table, change_of, found, values_in}
-use Rattle.field_types.specs.declared.stored_type.StoredType.{StoredType}
+use Rattle.values.specs.declared.col_type.ColType.{ColType}
 use Rattle.schema_meta.specs.Entry.{Entry}
 use Rattle.schema_meta.specs.BatchHead.{BatchHead}
 use Rattle.schema_meta.specs.declared.header.DictionaryHeader.{DictionaryHeader}
@@ -65,21 +65,21 @@ pub checked-columns :
 checked-columns law values body fields head ts (Ok cs) fits is read typed = batch-columns law values body fields head ts cs.items fits is read typed
 checked-columns law values body fields head ts (Err c) fits is read typed = tt
 
-some-same : (m : Option StoredType) (a b : StoredType) → m ≡ Some a → m ≡ Some b → a ≡ b
+some-same : (m : Option ColType) (a b : ColType) → m ≡ Some a → m ≡ Some b → a ≡ b
 some-same (Some x) a b p q = cc
 some-same None a b p q = absurd (cc)
 
 -- the type that is found is the one that the header fits
-pub fits-type : (fields : List (Rose Entry)) (n : ℕ) (d : DictionaryHeader) (s : StoredType) → FitsValues fields n d → value_type fields d.id ≡ Some s
+pub fits-type : (fields : List (Rose Entry)) (n : ℕ) (d : DictionaryHeader) (s : ColType) → FitsValues fields n d → value_type fields d.id ≡ Some s
     → Fits (value_layouts s) n d.batch
 fits-type fields n d s fits is =
     let same : fits.stored ≡ s = some-same (value_type fields d.id) fits.stored s fits.type is in
     subst (λ t. Fits (value_layouts t) n d.batch) same fits.fits
 
 pub values-typed :
-    (fields : List (Rose Entry)) (d : DictionaryHeader) (s : StoredType) (layouts : Rose Layout) (vs : List Datum)
+    (fields : List (Rose Entry)) (d : DictionaryHeader) (s : ColType) (layouts : Rose Layout) (vs : List Datum)
     → value_type fields d.id ≡ Some s → layouts ≡ value_layout s
-    → All (Holds layouts) vs → (t : StoredType) → value_type fields d.id ≡ Some t → All (Holds (value_layout t)) vs
+    → All (Holds layouts) vs → (t : ColType) → value_type fields d.id ≡ Some t → All (Holds (value_layout t)) vs
 values-typed fields d s layouts vs is lie held t there =
     let same : s ≡ t = some-same (value_type fields d.id) s t is there in
     subst (λ l. All (Holds l) vs) (lie ∙ ap value_layout same) held
@@ -96,16 +96,16 @@ will-stand law old new d values ds same stands = λ id.
     ∙ sym (law ds b id)
 
 held-change :
-    (fields : List (Rose Entry)) (old : Table) (d : DictionaryHeader) (values : List Datum) (id : ℤ) (s : StoredType) (delta : Bool)
+    (fields : List (Rose Entry)) (old : Table) (d : DictionaryHeader) (values : List Datum) (id : ℤ) (s : ColType) (delta : Bool)
     → AreValues fields (values_in old) → value_type fields d.id ≡ Some s → All (Holds (value_layout s)) values
     → All (Holds (value_layout s)) (if delta then unwrap_or (found old d.id) [] ++ values else values)
 held-change fields old d values id s true before there held = All-append (Holds (value_layout s)) (values_in old d.id) values (before d.id s there) held
 held-change fields old d values id s false before there held = held
 
 held-next :
-    (fields : List (Rose Entry)) (old new : Table) (d : DictionaryHeader) (values : List Datum) (id : ℤ) (s : StoredType) (t : Bool) → int_eq d.id id ≡ t
+    (fields : List (Rose Entry)) (old new : Table) (d : DictionaryHeader) (values : List Datum) (id : ℤ) (s : ColType) (t : Bool) → int_eq d.id id ≡ t
     → new.entries ≡ old.entries → AreValues fields (values_in old)
-    → ((u : StoredType) → value_type fields d.id ≡ Some u → All (Holds (value_layout u)) values) → value_type fields id ≡ Some s
+    → ((u : ColType) → value_type fields d.id ≡ Some u → All (Holds (value_layout u)) values) → value_type fields id ≡ Some s
     → All (Holds (value_layout s)) (if t then (if d.is_delta then unwrap_or (found old d.id) [] ++ values else values) else values_in new id)
 held-next fields old new d values id s true is same before held there =
     let one : d.id ≡ id = (signed_Decides d.id id).0 is in
@@ -117,7 +117,7 @@ held-next fields old new d values id s false is same before held there =
 pub has-next :
     (fields : List (Rose Entry)) (old new : Table) (d : DictionaryHeader) (values : List Datum) → new.entries ≡ old.entries
     → HasValues (Some fields) (values_in old)
-    → ((u : StoredType) → value_type fields d.id ≡ Some u → All (Holds (value_layout u)) values)
+    → ((u : ColType) → value_type fields d.id ≡ Some u → All (Holds (value_layout u)) values)
     → HasValues (Some fields) (values_next new (Some (change_of old (batch d.id d.is_delta values))))
 has-next fields old new d values same has held =
     (has.0, λ id s there. held-next fields old new d values id s (int_eq d.id id) refl same has.1 held there)

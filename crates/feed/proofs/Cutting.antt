@@ -6,7 +6,7 @@ use Rattle.std.proofs.lemmas.Bool.{cases_lt}
 use Rattle.std.proofs.Math.Seq.{take-length}
 use Rattle.values.specs.Rose.{Rose}
 use Rattle.values.specs.Reading.{Faults, Reading, ◌>>=◌, mapped}
-use Rattle.field_types.specs.Logical.{LogicalField}
+use Rattle.values.specs.Logical.{LogicalField}
 use Rattle.dictionaries.specs.Batches.{DictionaryBatch}
 use Rattle.schema_meta.specs.Framing.{first}
 use Rattle.schema_meta.specs.SchemaLaw.{before}

@@ -13,7 +13,7 @@ use Rattle.values.specs.declared.faults.StreamFault.TheVariants as fault
 use Rattle.dictionaries.specs.Batches.{DictionaryBatch, found_after}
 use Rattle.dictionaries.specs.Law.{NoneAtFirst, StandsAfter}
 use Rattle.dictionaries.specs.Table.{Change, Changes, Table, found, values_in}
-use Rattle.field_types.specs.Logical.{LogicalField}
+use Rattle.values.specs.Logical.{LogicalField}
 use Rattle.schema_meta.specs.DictionaryBatch.{value_layout}
 use Rattle.schema_meta.specs.Entry.{Entry}
 use Rattle.schema_meta.specs.SchemaLaw.{before}

@@ -12,7 +12,7 @@ use Rattle.values.proofs.Readings.{fails_along}
 use Rattle.dictionaries.specs.Batches.{DictionaryBatch, dictionary_after}
 use Rattle.dictionaries.specs.Law.{StandsAfter, ValuesAfter}
 use Rattle.dictionaries.specs.Table.{Change, Table, values_in}
-use Rattle.field_types.specs.Logical.{LogicalField}
+use Rattle.values.specs.Logical.{LogicalField}
 use Rattle.schema_meta.specs.Entry.{Entry}
 use Rattle.schema_meta.specs.declared.header.Header.{Header}
 use Rattle.schema_meta.specs.declared.header.Header.TheVariants as header

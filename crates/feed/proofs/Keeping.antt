@@ -5,7 +5,7 @@ use Rattle.std.proofs.lemmas.List.{take-append-le, drop-append-le, length-take-l
 use Rattle.std.proofs.Math.Seq.{take-append-add}
 use Rattle.values.specs.Rose.{Rose}
 use Rattle.values.specs.Reading.{Reading}
-use Rattle.field_types.specs.Logical.{LogicalField}
+use Rattle.values.specs.Logical.{LogicalField}
 use Rattle.dictionaries.specs.Batches.{DictionaryBatch}
 use Rattle.schema_meta.specs.Framing.{first}
 use Rattle.schema_meta.specs.SchemaLaw.{before}

@@ -3,7 +3,7 @@ use Rattle.std.specs.Prelude.{ℕ, zero, suc, List, [], ◌∷◌, ◌++◌, Opt
 use Rattle.values.specs.Datum.{Datum}
 use Rattle.values.specs.Reading.{Reading}
 use Rattle.values.specs.Rose.{Rose}
-use Rattle.field_types.specs.Logical.{LogicalField}
+use Rattle.values.specs.Logical.{LogicalField}
 use Rattle.dictionaries.specs.Batches.{DictionaryBatch, batch}
 use Rattle.schema_meta.specs.Entry.{Entry}
 use Rattle.schema_meta.specs.declared.header.DictionaryHeader.{DictionaryHeader}

@@ -4,7 +4,7 @@ use Rattle.values.specs.Reading.{Reading, Passes, Stands, one}
 use Rattle.values.specs.Rose.{Rose}
 use Rattle.values.specs.declared.faults.StreamFault.{StreamFault}
 use Rattle.values.specs.declared.faults.StreamFault.TheVariants as fault
-use Rattle.field_types.specs.Logical.{LogicalField}
+use Rattle.values.specs.Logical.{LogicalField}
 use Rattle.schema_meta.specs.Story.{at_input_end}
 use Rattle.feed.specs.declared.condition.Condition.{Condition}
 use Rattle.feed.specs.declared.condition.Condition.TheVariants as condition

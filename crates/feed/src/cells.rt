@@ -4,7 +4,7 @@ ghost use Rattle.std.specs.Prelude.{◌≡◌, All, IfOk, Some, length};
 ghost use Rattle.std.specs.Option.{option_copied};
 ghost use Rattle.values.specs.Layouts.{Holds};
 ghost use Rattle.values.specs.Reading.{Answers};
-ghost use Rattle.field_types.specs.declared.stored_type.StoredType.{StoredType};
+ghost use Rattle.values.specs.declared.col_type.ColType.{ColType};
 ghost use Rattle.schema_meta.specs.Dictionaries.{value_type};
 ghost use Rattle.array_layout.specs.Cells.{column_of};
 ghost use Rattle.schema_meta.specs.DictionaryBatch.{value_layout, value_layouts};
@@ -13,11 +13,10 @@ ghost use Rattle.schema_meta.specs.Rows.{values_of};
 ghost use Rattle.schema_meta.specs.Sound.{Fits, FitsValues};
 
 use arrays::Column;
-use field_types::StoredType;
 use schema_meta::{BatchHeader, DictionaryHeader, StreamSchema, place_law, place_values};
 use std::alloc::{AllocError, Global};
 use std::rc::Rc;
-use values::{StreamFault, Value};
+use values::{ColType, StreamFault, Value};
 
 /// All cells of a column.
 #[tactic(auto, using(crate::proofs::Gathering::reading_cells))]
@@ -35,7 +34,7 @@ fn read_cells(alloc: Global, column: &Column) -> Result<Vec<Value>, AllocError>
 /// The column of a dictionary batch with values of this type.
 fn check_values(
     alloc: Global,
-    stored: &StoredType,
+    stored: &ColType,
     header: &BatchHeader,
     body: Vec<u8>,
 ) -> Result<Column, StreamFault>
@@ -50,7 +49,7 @@ fn check_values(
 }
 
 /// The type of the values of a dictionary batch, if a field has its dictionary.
-fn value_type<'a>(schema: &'a StreamSchema, header: &DictionaryHeader) -> Option<&'a StoredType>
+fn value_type<'a>(schema: &'a StreamSchema, header: &DictionaryHeader) -> Option<&'a ColType>
     ensures { option_copied result ≡ value_type schema.now.fields.items header.now.id }
 {
     schema.value_type(header.id)
@@ -66,7 +65,7 @@ pub(crate) fn take_values(
 ) -> Result<Vec<Value>, StreamFault>
     requires { FitsValues schema.now.fields.items (length body.items) header.now }
     ensures reading { Answers (λ vs. vs.items) result (values_of schema.now.fields.items header.now body.items) }
-    ensures typed { IfOk result (λ vs. (s : StoredType) → value_type schema.now.fields.items header.now.id ≡ Some s → All (Holds (value_layout s)) vs.items) }
+    ensures typed { IfOk result (λ vs. (s : ColType) → value_type schema.now.fields.items header.now.id ≡ Some s → All (Holds (value_layout s)) vs.items) }
 {
     let Some(stored) = value_type(schema, header) else {
         return Err(StreamFault::UnknownDictionary);

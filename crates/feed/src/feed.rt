@@ -12,13 +12,12 @@ use crate::condition::{Condition, condition_after};
 use crate::event::{Fed, FeedEvent};
 use crate::judge::{Judged, judge};
 use dictionaries::{Dicts, Ready, batches_law};
-use field_types::Schema;
 use messages::Framer;
 use schema_meta::StreamSchema;
 use std::alloc::Global;
 use std::marker::Model;
 use std::rc::Rc;
-use values::StreamFault;
+use values::{Schema, StreamFault};
 
 /// One stream, which comes in pieces.
 ///

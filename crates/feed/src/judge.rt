@@ -4,7 +4,7 @@ ghost use Rattle.std.specs.Prelude.{◌≡◌, ◌++◌, ◌<◌, IfOk, IfSome, 
 ghost use Rattle.values.specs.Reading.{Answers};
 ghost use Rattle.values.specs.Rose.{Rose};
 ghost use Rattle.dictionaries.specs.Table.{values_in};
-ghost use Rattle.field_types.specs.Logical.{LogicalField};
+ghost use Rattle.values.specs.Logical.{LogicalField};
 ghost use Rattle.feed.specs.Kept.{Kept, kept_of};
 ghost use Rattle.feed.specs.Events.{reading};
 ghost use Rattle.feed.specs.States.{condition_after};

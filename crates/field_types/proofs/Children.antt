@@ -5,8 +5,8 @@ use Rattle.values.specs.Rose.{Rose, Roses, none, more}
 use Rattle.values.specs.Layouts.{IsNode}
 use Rattle.values.specs.declared.layout.Layout.{Layout}
 use Rattle.values.specs.declared.layout.Layout.TheVariants as layout
-use Rattle.field_types.specs.declared.stored_type.StoredType.TheVariants as stored
-use Rattle.field_types.specs.Stored.{layout_of}
+use Rattle.values.specs.declared.col_type.ColType.TheVariants as stored
+use Rattle.values.specs.ColTypes.{layout_of}
 use Rattle.field_types.specs.StoredLaws.{kids_count, ChildrenFit}
 
 not-none : (n : ℕ) → ¬ ((suc n == 0) ≡ true)

@@ -1,7 +1,6 @@
 pub mod Faults
 pub mod Texts
 pub mod TypeFacts
-pub mod Equality
 pub mod Children
 pub mod StoredLaws
 pub mod TypeRead

@@ -12,16 +12,17 @@ use Rattle.values.specs.declared.faults.StreamFault.{StreamFault}
 use Rattle.values.specs.declared.faults.StreamFault.TheVariants as fault
 use Rattle.field_types.specs.declared.kinds.TypeKind.{TypeKind}
 use Rattle.field_types.specs.declared.kinds.TypeKind.TheVariants as kind
-use Rattle.field_types.specs.declared.stored_type.StoredType.{StoredType}
-use Rattle.field_types.specs.declared.stored_type.StoredType.TheVariants as stored
+use Rattle.values.specs.declared.col_type.ColType.{ColType}
+use Rattle.values.specs.declared.col_type.ColType.TheVariants as stored
 use Rattle.field_types.specs.Reads.{readable, checked, short_of, word_of, bool_of}
 use Rattle.field_types.specs.Slots as slot
-use Rattle.field_types.specs.Types.{ranged, precision_of, wide_of, date_unit_numbered, bits_of_time, decimal_type, digits_of, decimal_of, int_type, int_of, width_of, date_type, date_of, time_type, time_of, time_unit_of, timestamp_type, timestamp_of, zone_in, zone_of, duration_type, duration_of, fixed_type, fixed_of, stored_by, type_of}
-use Rattle.field_types.specs.Stored.{IsType, kind_of_type}
+use Rattle.field_types.specs.Types.{ranged, precision_of, wide_of, date_unit_numbered, decimal_type, digits_of, decimal_of, int_type, int_of, width_of, date_type, date_of, time_type, time_of, time_unit_of, timestamp_type, timestamp_of, zone_in, zone_of, duration_type, duration_of, fixed_type, fixed_of, stored_by, type_of}
+use Rattle.values.specs.ColTypes.{bits_of_time, IsType}
+use Rattle.field_types.specs.Kinds.{kind_of_type}
 use Rattle.field_types.specs.StoredLaws.{ReadIsType}
 
 -- of a type that was read as this kind
-IsOf : TypeKind → StoredType → Type 0
+IsOf : TypeKind → ColType → Type 0
 IsOf k s = IsType s × (kind_of_type s ≡ k)
 
 checked_Ok : {X : Type 0} (c : StreamFault) (b : Bool) (x y : X) → checked c b x ≡ Ok y → (b ≡ true) × (x ≡ y)
@@ -38,13 +39,13 @@ ranged_Ok low high (pos m) n e =
 ranged_Ok low high (negsuc m) n e = absurd (cc)
 
 -- what a reading gives, it gives also where it is said by another name
-along : (k : TypeKind) (s r : StoredType) → r ≡ s → IsOf k r → IsOf k s
+along : (k : TypeKind) (s r : ColType) → r ≡ s → IsOf k r → IsOf k s
 along k s r e h = subst (IsOf k) e h
 
-Gives : TypeKind → Reading StoredType → Type 0
-Gives k m = (s : StoredType) → m ≡ Ok s → IsOf k s
+Gives : TypeKind → Reading ColType → Type 0
+Gives k m = (s : ColType) → m ≡ Ok s → IsOf k s
 
-gives-Ok : (k : TypeKind) (r : StoredType) → IsOf k r → Gives k (Ok r)
+gives-Ok : (k : TypeKind) (r : ColType) → IsOf k r → Gives k (Ok r)
 unfolding Gives
 gives-Ok k r h s e = let q : r ≡ s = cc in along k s r q h
 
@@ -61,7 +62,7 @@ gives-digits t s e =
     let parts = both_Ok decimal_type (precision_of t) (word_of t slot.scale (pos 0)) whole.0 whole.1 in
     let number = bind_Ok (word_of t slot.precision (pos 0)) (λ n. ranged (pos 1) (pos 38) n) parts.0 parts.2 in
     let digits = ranged_Ok 1 38 number.0 parts.0 number.2 in
-    let P : Reading StoredType → Type 0 = λ m. m ≡ Ok s in
+    let P : Reading ColType → Type 0 = λ m. m ≡ Ok s in
     let made = mapped_Ok (stored.Decimal parts.0) (ranged (pos 0) (pos parts.0) parts.1) s (subst P (sym parts.4) whole.2) in
     let within = ranged_Ok 0 parts.0 parts.1 made.0 made.1 in
     along kind.Decimal s (stored.Decimal parts.0 made.0) made.2 ((digits.0, digits.1, within.1), refl)
@@ -83,7 +84,7 @@ unfolding time_of IsOf Gives
 gives-time t s e =
     let whole = bind_Ok (both time_type (time_unit_of t (pos 1)) (word_of t slot.time_bits (pos 32))) (λ taken. taken) s e in
     let parts = both_Ok time_type (time_unit_of t (pos 1)) (word_of t slot.time_bits (pos 32)) whole.0 whole.1 in
-    let P : Reading StoredType → Type 0 = λ m. m ≡ Ok s in
+    let P : Reading ColType → Type 0 = λ m. m ≡ Ok s in
     let passed = subst P (sym parts.4) whole.2 in
     let made = checked_Ok fault.BadType (int_eq parts.1 (pos (bits_of_time parts.0))) (stored.Time parts.0) s passed in
     along kind.Time s (stored.Time parts.0) made.1 (tt, refl)
@@ -142,7 +143,7 @@ read-is-type k t s e =
     gives-stored k table.0 s table.2
 
 -- what a call answers by this reading is a type
-pub answers-fit : (r : Result StoredType StreamFault) (k : TypeKind) (t : Table) → Answers (λ s. s) r (stored_by k t) → IfOk r IsType
+pub answers-fit : (r : Result ColType StreamFault) (k : TypeKind) (t : Table) → Answers (λ s. s) r (stored_by k t) → IfOk r IsType
 unfolding Gives IsOf
 answers-fit (Ok s) k t e = (gives-stored k t s e).0
 answers-fit (Err c) k t e = tt

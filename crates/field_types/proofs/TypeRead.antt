@@ -13,17 +13,17 @@ use Rattle.values.specs.Layouts.{bytes_in}
 use Rattle.values.specs.declared.layout.IntWidth.{IntWidth}
 use Rattle.values.specs.declared.layout.IntWidth.TheVariants as int
 use Rattle.values.specs.declared.layout.OffsetWidth.TheVariants as offset
-use Rattle.field_types.specs.declared.units.DateUnit.{DateUnit}
-use Rattle.field_types.specs.declared.units.DateUnit.TheVariants as date
-use Rattle.field_types.specs.declared.units.TimeUnit.{TimeUnit}
-use Rattle.field_types.specs.declared.units.TimeUnit.TheVariants as time
-use Rattle.field_types.specs.declared.stored_type.StoredType.{StoredType}
-use Rattle.field_types.specs.declared.stored_type.StoredType.TheVariants as stored
+use Rattle.values.specs.declared.units.DateUnit.{DateUnit}
+use Rattle.values.specs.declared.units.DateUnit.TheVariants as date
+use Rattle.values.specs.declared.units.TimeUnit.{TimeUnit}
+use Rattle.values.specs.declared.units.TimeUnit.TheVariants as time
+use Rattle.values.specs.declared.col_type.ColType.{ColType}
+use Rattle.values.specs.declared.col_type.ColType.TheVariants as stored
 use Rattle.field_types.specs.Slots as slot
 use Rattle.field_types.specs.Reads.{bool_of, short_of, word_of}
-use Rattle.field_types.specs.Kinds.{kind_numbered, kind_of}
+use Rattle.field_types.specs.Kinds.{kind_numbered, kind_of, kind_of_type}
 use Rattle.field_types.specs.Types.{ranged, width_of, int_of, precision_of, digits_of, wide_of, decimal_of, date_of, time_unit_of, time_of, zone_of, timestamp_of, duration_of, fixed_of, stored_by, type_of}
-use Rattle.field_types.specs.Stored.{IsType, kind_of_type}
+use Rattle.values.specs.ColTypes.{IsType}
 use Rattle.field_types.specs.TypeTree.{type_number, bool_number, date_unit_number, time_unit_number, zone_node, type_slots}
 use Rattle.field_types.specs.TypeLaw.{TypeIsRead}
 
@@ -116,7 +116,7 @@ fixed-read w t small h =
 
 -- the type table of a field
 
-stored-read : (s : StoredType) (t : Table) → IsType s → Held t.bytes (slot_of t) 0 (type_slots s) → stored_by (kind_of_type s) t ≡ Ok s
+stored-read : (s : ColType) (t : Table) → IsType s → Held t.bytes (slot_of t) 0 (type_slots s) → stored_by (kind_of_type s) t ≡ Ok s
 stored-read stored.Bool t fit h = refl
 stored-read (stored.Int w s) t fit h = int-read w s t h
 stored-read (stored.Decimal p s) t fit h = decimal-read p s t fit h
@@ -130,13 +130,13 @@ stored-read (stored.Fixed w) t fit h = fixed-read w t fit h
 stored-read (stored.List o) t fit h = refl
 stored-read stored.Struct t fit h = refl
 
-type-read : (s : StoredType) (t : Table) → IsType s → NodeHeld t.bytes (slot_of t slot.type_table) (table (type_slots s)) → type_of (kind_of_type s) t ≡ Ok s
+type-read : (s : ColType) (t : Table) → IsType s → NodeHeld t.bytes (slot_of t slot.type_table) (table (type_slots s)) → type_of (kind_of_type s) t ≡ Ok s
 unfolding type_of
 type-read s t fit h =
     let r = subtable-read (type_slots s) t slot.type_table h in
     rw (r.is, stored-read s (table_in t.bytes r.place) fit r.slots) refl
 
-kind-back : (s : StoredType) → kind_numbered (type_number s) ≡ Ok (kind_of_type s)
+kind-back : (s : ColType) → kind_numbered (type_number s) ≡ Ok (kind_of_type s)
 unfolding kind_numbered
 kind-back stored.Bool = refl
 kind-back (stored.Int w s) = refl
@@ -154,7 +154,7 @@ kind-back (stored.List offset.Bits32) = refl
 kind-back (stored.List offset.Bits64) = refl
 kind-back stored.Struct = refl
 
-kind-read : (s : StoredType) (t : Table) → NodeHeld t.bytes (slot_of t slot.type_kind) (number 1 (type_number s)) → kind_of t ≡ Ok (kind_of_type s)
+kind-read : (s : ColType) (t : Table) → NodeHeld t.bytes (slot_of t slot.type_kind) (number 1 (type_number s)) → kind_of t ≡ Ok (kind_of_type s)
 unfolding kind_of
 kind-read s t h = rw (number-read 1 (type_number s) t slot.type_kind h) (kind-back s)
 

@@ -6,14 +6,13 @@ use Rattle.values.specs.Layouts.{bytes_in}
 use Rattle.values.specs.declared.layout.IntWidth.{IntWidth}
 use Rattle.values.specs.declared.layout.IntWidth.TheVariants as int
 use Rattle.values.specs.declared.layout.OffsetWidth.TheVariants as offset
-use Rattle.field_types.specs.declared.units.DateUnit.{DateUnit}
-use Rattle.field_types.specs.declared.units.DateUnit.TheVariants as date
-use Rattle.field_types.specs.declared.units.TimeUnit.{TimeUnit}
-use Rattle.field_types.specs.declared.units.TimeUnit.TheVariants as time
-use Rattle.field_types.specs.declared.stored_type.StoredType.{StoredType}
-use Rattle.field_types.specs.declared.stored_type.StoredType.TheVariants as stored
-use Rattle.field_types.specs.Types.{bits_of_time}
-use Rattle.field_types.specs.Stored.{IsType}
+use Rattle.values.specs.declared.units.DateUnit.{DateUnit}
+use Rattle.values.specs.declared.units.DateUnit.TheVariants as date
+use Rattle.values.specs.declared.units.TimeUnit.{TimeUnit}
+use Rattle.values.specs.declared.units.TimeUnit.TheVariants as time
+use Rattle.values.specs.declared.col_type.ColType.{ColType}
+use Rattle.values.specs.declared.col_type.ColType.TheVariants as stored
+use Rattle.values.specs.ColTypes.{bits_of_time, IsType}
 use Rattle.field_types.specs.TypeTree.{type_number, bool_number, date_unit_number, time_unit_number, zone_node, type_slots}
 use Rattle.field_types.specs.TypeLaw.{TypeFits, TypeIsShort}
 
@@ -32,7 +31,7 @@ table_place-le at s =
 
 -- numbers
 
-type_number-small : (s : StoredType) → type_number s < 256
+type_number-small : (s : ColType) → type_number s < 256
 type_number-small stored.Bool = omega arith
 type_number-small (stored.Int w s) = omega arith
 type_number-small (stored.Decimal p s) = omega arith
@@ -88,7 +87,7 @@ zone-fits : (z : List ℕ) → Fits (zone_node z)
 zone-fits [] = tt
 zone-fits (b ∷ bs) = tt
 
-slots-fit : (s : StoredType) → IsType s → Fits (table (type_slots s))
+slots-fit : (s : ColType) → IsType s → Fits (table (type_slots s))
 slots-fit stored.Bool fit = (omega arith, omega arith, tt)
 slots-fit (stored.Int w s) fit =
     let small = width-small w in

@@ -8,6 +8,8 @@ use Rattle.field_types.specs.declared.kinds.TypeKind.{TypeKind}
 use Rattle.field_types.specs.declared.kinds.TypeKind.TheVariants as kind
 use Rattle.field_types.specs.Slots as slot
 use Rattle.field_types.specs.Reads.{readable}
+use Rattle.values.specs.declared.col_type.ColType.{ColType}
+use Rattle.values.specs.declared.col_type.ColType.TheVariants as stored
 
 unfoldable pub kind_numbered : ℕ → Reading TypeKind
 kind_numbered n =
@@ -26,3 +28,18 @@ abbrev pub may_have : TypeKind → ℕ → Bool
 may_have (kind.List o) n = n == 1
 may_have kind.Struct n = true
 may_have _ n = n == 0
+
+-- the kind of a type
+abbrev pub kind_of_type : ColType → TypeKind
+kind_of_type stored.Bool = kind.Bool
+kind_of_type (stored.Int w s) = kind.Int
+kind_of_type (stored.Decimal p s) = kind.Decimal
+kind_of_type (stored.Date u) = kind.Date
+kind_of_type (stored.Time u) = kind.Time
+kind_of_type (stored.Timestamp u z) = kind.Timestamp
+kind_of_type (stored.Duration u) = kind.Duration
+kind_of_type (stored.Utf8 o) = kind.Utf8 o
+kind_of_type (stored.Binary o) = kind.Binary o
+kind_of_type (stored.Fixed w) = kind.Fixed
+kind_of_type (stored.List o) = kind.List o
+kind_of_type stored.Struct = kind.Struct

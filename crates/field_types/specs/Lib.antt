@@ -2,9 +2,6 @@ pub mod Slots
 pub mod Reads
 pub mod Kinds
 pub mod Types
-pub mod Stored
-pub mod Logical
 pub mod StoredLaws
 pub mod TypeTree
 pub mod TypeLaw
-pub mod Text

@@ -5,13 +5,13 @@ use Rattle.flatbuf.specs.Tree.{Node, absent, number, text, Nodes, no_nodes, node
 use Rattle.values.specs.Layouts.{bytes_in}
 use Rattle.values.specs.declared.layout.OffsetWidth.{OffsetWidth}
 use Rattle.values.specs.declared.layout.OffsetWidth.TheVariants as offset
-use Rattle.field_types.specs.declared.units.DateUnit.{DateUnit}
-use Rattle.field_types.specs.declared.units.DateUnit.TheVariants as date
-use Rattle.field_types.specs.declared.units.TimeUnit.{TimeUnit}
-use Rattle.field_types.specs.declared.units.TimeUnit.TheVariants as time
-use Rattle.field_types.specs.declared.stored_type.StoredType.{StoredType}
-use Rattle.field_types.specs.declared.stored_type.StoredType.TheVariants as stored
-use Rattle.field_types.specs.Types.{bits_of_time}
+use Rattle.values.specs.declared.units.DateUnit.{DateUnit}
+use Rattle.values.specs.declared.units.DateUnit.TheVariants as date
+use Rattle.values.specs.declared.units.TimeUnit.{TimeUnit}
+use Rattle.values.specs.declared.units.TimeUnit.TheVariants as time
+use Rattle.values.specs.declared.col_type.ColType.{ColType}
+use Rattle.values.specs.declared.col_type.ColType.TheVariants as stored
+use Rattle.values.specs.ColTypes.{bits_of_time}
 
 -- the number of a type, and that of its large form
 abbrev pub by_offsets : OffsetWidth → ℕ → ℕ → ℕ
@@ -19,7 +19,7 @@ by_offsets offset.Bits32 small large = small
 by_offsets offset.Bits64 small large = large
 
 -- union Type
-abbrev pub type_number : StoredType → ℕ
+abbrev pub type_number : ColType → ℕ
 type_number stored.Bool = 6
 type_number (stored.Int w s) = 2
 type_number (stored.Decimal p s) = 7
@@ -54,7 +54,7 @@ zone_node [] = absent
 zone_node (b ∷ bs) = text (b ∷ bs)
 
 -- the slots of a type's table
-abbrev pub type_slots : StoredType → Nodes
+abbrev pub type_slots : ColType → Nodes
 type_slots stored.Bool = no_nodes
 type_slots (stored.Int w s) = nodes_of (number 4 (8 * bytes_in w) ∷ number 1 (bool_number s) ∷ [])
 type_slots (stored.Decimal p s) = nodes_of (number 4 p ∷ number 4 s ∷ number 4 128 ∷ [])

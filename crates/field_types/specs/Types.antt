@@ -7,15 +7,16 @@ use Rattle.values.specs.Reading.{Reading, ◌>>=◌, both, first, mapped, must, 
 use Rattle.values.specs.declared.faults.StreamFault.TheVariants as fault
 use Rattle.values.specs.declared.layout.IntWidth.{IntWidth}
 use Rattle.values.specs.declared.layout.IntWidth.TheVariants as int
-use Rattle.field_types.specs.declared.units.DateUnit.{DateUnit}
-use Rattle.field_types.specs.declared.units.DateUnit.TheVariants as date
-use Rattle.field_types.specs.declared.units.TimeUnit.{TimeUnit}
-use Rattle.field_types.specs.declared.units.TimeUnit.TheVariants as time
+use Rattle.values.specs.declared.units.DateUnit.{DateUnit}
+use Rattle.values.specs.declared.units.DateUnit.TheVariants as date
+use Rattle.values.specs.declared.units.TimeUnit.{TimeUnit}
+use Rattle.values.specs.declared.units.TimeUnit.TheVariants as time
 use Rattle.field_types.specs.declared.index.IndexType.{IndexType}
 use Rattle.field_types.specs.declared.kinds.TypeKind.{TypeKind}
 use Rattle.field_types.specs.declared.kinds.TypeKind.TheVariants as kind
-use Rattle.field_types.specs.declared.stored_type.StoredType.{StoredType}
-use Rattle.field_types.specs.declared.stored_type.StoredType.TheVariants as stored
+use Rattle.values.specs.declared.col_type.ColType.{ColType}
+use Rattle.values.specs.declared.col_type.ColType.TheVariants as stored
+use Rattle.values.specs.ColTypes.{bits_of_time}
 use Rattle.field_types.specs.Slots as slot
 use Rattle.field_types.specs.Reads.{readable, checked, needs, bool_of, short_of, word_of}
 
@@ -32,10 +33,10 @@ width_numbered n =
 unfoldable pub width_of : Table → Reading IntWidth
 width_of t = word_of t slot.bit_width (pos 0) >>= width_numbered
 
-abbrev pub int_type : IntWidth → Bool → StoredType
+abbrev pub int_type : IntWidth → Bool → ColType
 int_type width signed = stored.Int width signed
 
-unfoldable pub int_of : Table → Reading StoredType
+unfoldable pub int_of : Table → Reading ColType
 int_of t = both int_type (width_of t) (bool_of t slot.is_signed)
 
 -- the indices into a dictionary, which are whole numbers too
@@ -49,16 +50,16 @@ index_of t = both index_type (width_of t) (bool_of t slot.is_signed)
 unfoldable pub precision_of : Table → Reading ℕ
 precision_of t = word_of t slot.precision (pos 0) >>= ranged (pos 1) (pos 38)
 
-abbrev pub decimal_type : ℕ → ℤ → Reading StoredType
+abbrev pub decimal_type : ℕ → ℤ → Reading ColType
 decimal_type precision scale = mapped (stored.Decimal precision) (ranged (pos 0) (pos precision) scale)
 
-unfoldable pub digits_of : Table → Reading StoredType
+unfoldable pub digits_of : Table → Reading ColType
 digits_of t = both decimal_type (precision_of t) (word_of t slot.scale (pos 0)) >>= λ taken. taken
 
 unfoldable pub wide_of : Table → Reading (Unit {0})
 wide_of t = word_of t slot.decimal_bits (pos 128) >>= λ bits. needs fault.UnsupportedType (int_eq bits (pos 128))
 
-unfoldable pub decimal_of : Table → Reading StoredType
+unfoldable pub decimal_of : Table → Reading ColType
 decimal_of t = both first (digits_of t) (wide_of t)
 
 -- table Date, enum DateUnit: milliseconds where no unit is said
@@ -66,10 +67,10 @@ abbrev pub date_unit_numbered : ℤ → Reading DateUnit
 date_unit_numbered n =
     if int_eq n (pos 0) then Ok date.Day else if int_eq n (pos 1) then Ok date.Millisecond else Err (one fault.BadType)
 
-abbrev pub date_type : DateUnit → StoredType
+abbrev pub date_type : DateUnit → ColType
 date_type unit = stored.Date unit
 
-unfoldable pub date_of : Table → Reading StoredType
+unfoldable pub date_of : Table → Reading ColType
 date_of t = mapped date_type (short_of t slot.unit (pos 1) >>= date_unit_numbered)
 
 -- enum TimeUnit
@@ -82,16 +83,10 @@ unfoldable pub time_unit_of : Table → ℤ → Reading TimeUnit
 time_unit_of t d = short_of t slot.unit d >>= time_unit_numbered
 
 -- table Time: milliseconds of 32 bits where nothing else is said
-abbrev pub bits_of_time : TimeUnit → ℕ
-bits_of_time time.Second = 32
-bits_of_time time.Millisecond = 32
-bits_of_time time.Microsecond = 64
-bits_of_time time.Nanosecond = 64
-
-abbrev pub time_type : TimeUnit → ℤ → Reading StoredType
+abbrev pub time_type : TimeUnit → ℤ → Reading ColType
 time_type unit bits = checked fault.BadType (int_eq bits (pos (bits_of_time unit))) (stored.Time unit)
 
-unfoldable pub time_of : Table → Reading StoredType
+unfoldable pub time_of : Table → Reading ColType
 time_of t = both time_type (time_unit_of t (pos 1)) (word_of t slot.time_bits (pos 32)) >>= λ taken. taken
 
 -- table Timestamp: seconds where no unit is said. A time zone is UTF-8 of at most 4,096 bytes; an absent one is empty.
@@ -105,28 +100,28 @@ zone_in (Some bytes) = checked_zone bytes
 unfoldable pub zone_of : Table → Reading (List ℕ)
 zone_of t = readable (text_of t slot.timezone) >>= zone_in
 
-abbrev pub timestamp_type : TimeUnit → List ℕ → StoredType
+abbrev pub timestamp_type : TimeUnit → List ℕ → ColType
 timestamp_type unit zone = stored.Timestamp unit zone
 
-unfoldable pub timestamp_of : Table → Reading StoredType
+unfoldable pub timestamp_of : Table → Reading ColType
 timestamp_of t = both timestamp_type (time_unit_of t (pos 0)) (zone_of t)
 
 -- table Duration: milliseconds where no unit is said
-abbrev pub duration_type : TimeUnit → StoredType
+abbrev pub duration_type : TimeUnit → ColType
 duration_type unit = stored.Duration unit
 
-unfoldable pub duration_of : Table → Reading StoredType
+unfoldable pub duration_of : Table → Reading ColType
 duration_of t = mapped duration_type (time_unit_of t (pos 1))
 
 -- table FixedSizeBinary: at most 65,536 bytes
-abbrev pub fixed_type : ℕ → StoredType
+abbrev pub fixed_type : ℕ → ColType
 fixed_type width = stored.Fixed width
 
-unfoldable pub fixed_of : Table → Reading StoredType
+unfoldable pub fixed_of : Table → Reading ColType
 fixed_of t = mapped fixed_type (word_of t slot.byte_width (pos 0) >>= ranged (pos 0) (pos 65536))
 
 -- the type that a type table of this kind says. The other tables have no slots.
-abbrev pub stored_by : TypeKind → Table → Reading StoredType
+abbrev pub stored_by : TypeKind → Table → Reading ColType
 stored_by kind.Bool t = Ok stored.Bool
 stored_by kind.Int t = int_of t
 stored_by kind.Decimal t = decimal_of t
@@ -141,5 +136,5 @@ stored_by (kind.List o) t = Ok (stored.List o)
 stored_by kind.Struct t = Ok stored.Struct
 
 -- A type table must be there and readable, also one without slots.
-unfoldable pub type_of : TypeKind → Table → Reading StoredType
+unfoldable pub type_of : TypeKind → Table → Reading ColType
 type_of k t = readable (subtable_of t slot.type_table) >>= must fault.BadType >>= stored_by k

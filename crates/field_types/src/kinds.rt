@@ -2,12 +2,12 @@
 
 ghost use Rattle.std.specs.Prelude.{◌≡◌};
 ghost use Rattle.values.specs.Reading.{Judges};
-ghost use Rattle.field_types.specs.Kinds.{kind_of, may_have as may_have_children};
+ghost use Rattle.field_types.specs.Kinds.{kind_of, kind_of_type, may_have as may_have_children};
 ghost use Rattle.field_types.specs.Reads.{bool_of};
 
 use crate::slots::FIELD_TYPE_KIND;
 use flatbuf::{BadTable, TableRef};
-use values::{OffsetWidth, StreamFault};
+use values::{ColType, OffsetWidth, StreamFault};
 
 /// The kind of a type: what a field says of its type before the type's own table.
 #[derive(Clone, Copy, Debug, PartialEq, Eq)]
@@ -24,6 +24,28 @@ pub enum TypeKind {
     Fixed,
     List { offsets: OffsetWidth },
     Struct,
+}
+
+impl TypeKind {
+    /// The kind that a field of this type says.
+    pub fn of(col_type: &ColType) -> TypeKind
+        ensures { result ≡ kind_of_type col_type.now }
+    {
+        match col_type {
+            ColType::Bool => TypeKind::Bool,
+            ColType::Int { .. } => TypeKind::Int,
+            ColType::Decimal { .. } => TypeKind::Decimal,
+            ColType::Date { .. } => TypeKind::Date,
+            ColType::Time { .. } => TypeKind::Time,
+            ColType::Timestamp { .. } => TypeKind::Timestamp,
+            ColType::Duration { .. } => TypeKind::Duration,
+            ColType::Utf8 { offsets } => TypeKind::Utf8 { offsets: *offsets },
+            ColType::Binary { offsets } => TypeKind::Binary { offsets: *offsets },
+            ColType::Fixed { .. } => TypeKind::Fixed,
+            ColType::List { offsets } => TypeKind::List { offsets: *offsets },
+            ColType::Struct => TypeKind::Struct,
+        }
+    }
 }
 
 /// The fault of what can't be read.

@@ -1,13 +1,12 @@
 //! Laws of the definitions: functions that do nothing, whose contracts are theorems.
 
-ghost use Rattle.field_types.specs.StoredLaws.{ChildrenFit, ReadIsType, TypesAreExact};
+ghost use Rattle.field_types.specs.StoredLaws.{ChildrenFit, ReadIsType};
 ghost use Rattle.field_types.specs.TypeLaw.{TypeFits, TypeIsRead, TypeIsShort};
 
-/// Types are equal exactly where they are the same; a type that is read is within its bounds and of the kind that it was read as; and
-/// the children that its kind allows are those that its layout has.
+/// A type that is read is within its bounds and of the kind that it was read as, and the children that its kind allows are those that its
+/// layout has.
 #[tactic(auto, using(crate::proofs::StoredLaws::stored_laws))]
 pub fn stored_law()
-    ensures equal { TypesAreExact }
     ensures read { ReadIsType }
     ensures children { ChildrenFit }
 {}

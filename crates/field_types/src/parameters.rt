@@ -9,10 +9,9 @@ use crate::kinds::unreadable;
 use crate::slots::{
     DECIMAL_BIT_WIDTH, DECIMAL_PRECISION, INT_BIT_WIDTH, TIME_UNIT, TIMESTAMP_ZONE,
 };
-use crate::units::{DateUnit, TimeUnit};
 use flatbuf::TableRef;
 use values::limits::MAX_NAME_LEN;
-use values::{IntWidth, StreamFault};
+use values::{DateUnit, IntWidth, StreamFault, TimeUnit};
 
 /// The digits of a decimal of 128 bits.
 pub(crate) const MAX_PRECISION: i32 = 38;

@@ -1,9 +1,9 @@
 //! The types of Schema.fbs, as they are read.
 
 ghost use Rattle.values.specs.Reading.{Answers, Judges};
-ghost use Rattle.field_types.specs.Types.{bits_of_time, date_of, decimal_of, digits_of, duration_of, fixed_of, int_of, stored_by, time_of, timestamp_of, type_of};
+ghost use Rattle.values.specs.ColTypes.{bits_of_time, IsType};
+ghost use Rattle.field_types.specs.Types.{date_of, decimal_of, digits_of, duration_of, fixed_of, int_of, stored_by, time_of, timestamp_of, type_of};
 ghost use Rattle.std.specs.Prelude.{◌≡◌, pos, IfOk};
-ghost use Rattle.field_types.specs.Stored.{IsType};
 
 use crate::kinds::{TypeKind, read_bool, unreadable};
 use crate::parameters::{
@@ -13,19 +13,16 @@ use crate::parameters::{
 use crate::slots::{
     DATE_UNIT, DECIMAL_SCALE, FIELD_TYPE, FIXED_BYTE_WIDTH, INT_IS_SIGNED, TIME_BIT_WIDTH,
 };
-use crate::stored_type::StoredType;
-use crate::units::TimeUnit;
-use crate::zone::Zone;
 use flatbuf::TableRef;
 use std::alloc::Global;
-use values::StreamFault;
+use values::{ColType, StreamFault, TimeUnit, Zone};
 
 /// A field's type, of a known kind.
 ///
 /// A type whose table is absent, or whose parameters are out of range, is `BadType`; a decimal of other widths than 128 bits is
 /// `UnsupportedType`.
 #[tactic(auto, using(crate::proofs::Faults::faults, crate::proofs::TypeFacts::type_facts), unfolding(crate::specs::Types::type_of))]
-pub fn read_type(alloc: Global, kind: TypeKind, field: &TableRef) -> Result<StoredType, StreamFault>
+pub fn read_type(alloc: Global, kind: TypeKind, field: &TableRef) -> Result<ColType, StreamFault>
     ensures exact { Answers (λ t. t) result (type_of kind field.now) }
     ensures within { IfOk result IsType }
 {
@@ -35,40 +32,36 @@ pub fn read_type(alloc: Global, kind: TypeKind, field: &TableRef) -> Result<Stor
     read_parameters(alloc, kind, &table)
 }
 
-fn read_parameters(
-    alloc: Global,
-    kind: TypeKind,
-    table: &TableRef,
-) -> Result<StoredType, StreamFault>
+fn read_parameters(alloc: Global, kind: TypeKind, table: &TableRef) -> Result<ColType, StreamFault>
     ensures { Answers (λ t. t) result (stored_by kind table.now) }
 {
     match kind {
-        TypeKind::Bool => Ok(StoredType::Bool),
+        TypeKind::Bool => Ok(ColType::Bool),
         TypeKind::Int => read_int(table),
         TypeKind::Decimal => read_decimal(table),
         TypeKind::Date => read_date(table),
         TypeKind::Time => read_time(table),
         TypeKind::Timestamp => read_timestamp(alloc, table),
         TypeKind::Duration => read_duration(table),
-        TypeKind::Utf8 { offsets } => Ok(StoredType::Utf8 { offsets }),
-        TypeKind::Binary { offsets } => Ok(StoredType::Binary { offsets }),
+        TypeKind::Utf8 { offsets } => Ok(ColType::Utf8 { offsets }),
+        TypeKind::Binary { offsets } => Ok(ColType::Binary { offsets }),
         TypeKind::Fixed => read_fixed(table),
-        TypeKind::List { offsets } => Ok(StoredType::List { offsets }),
-        TypeKind::Struct => Ok(StoredType::Struct),
+        TypeKind::List { offsets } => Ok(ColType::List { offsets }),
+        TypeKind::Struct => Ok(ColType::Struct),
     }
 }
 
 #[tactic(auto, using(crate::proofs::Faults::faults), unfolding(crate::specs::Types::int_of))]
-fn read_int(table: &TableRef) -> Result<StoredType, StreamFault>
+fn read_int(table: &TableRef) -> Result<ColType, StreamFault>
     ensures { Judges (λ t. t) result (int_of table.now) }
 {
     let width = read_width(table)?;
     let signed = read_bool(table, INT_IS_SIGNED)?;
-    Ok(StoredType::Int { width, signed })
+    Ok(ColType::Int { width, signed })
 }
 
 #[tactic(auto, using(crate::proofs::Faults::faults), unfolding(crate::specs::Types::decimal_of))]
-fn read_decimal(table: &TableRef) -> Result<StoredType, StreamFault>
+fn read_decimal(table: &TableRef) -> Result<ColType, StreamFault>
     ensures { Judges (λ t. t) result (decimal_of table.now) }
 {
     let stored = read_digits(table)?;
@@ -77,73 +70,63 @@ fn read_decimal(table: &TableRef) -> Result<StoredType, StreamFault>
 }
 
 #[tactic(auto, using(crate::proofs::Faults::faults), unfolding(crate::specs::Types::digits_of))]
-fn read_digits(table: &TableRef) -> Result<StoredType, StreamFault>
+fn read_digits(table: &TableRef) -> Result<ColType, StreamFault>
     ensures { Judges (λ t. t) result (digits_of table.now) }
 {
     let precision = read_precision(table)?;
     let scale = ranged(0, precision as i32, read_word(table, DECIMAL_SCALE, 0)?)?;
-    Ok(StoredType::Decimal {
+    Ok(ColType::Decimal {
         precision,
         scale: scale as u8,
     })
 }
 
 #[tactic(auto, using(crate::proofs::Faults::faults), unfolding(crate::specs::Types::date_of))]
-fn read_date(table: &TableRef) -> Result<StoredType, StreamFault>
+fn read_date(table: &TableRef) -> Result<ColType, StreamFault>
     ensures { Judges (λ t. t) result (date_of table.now) }
 {
     let unit = date_unit(read_short(table, DATE_UNIT, 1)?)?;
-    Ok(StoredType::Date { unit })
-}
-
-/// How wide a time of this unit is.
-pub(crate) fn bits_of(unit: TimeUnit) -> u8
-    ensures { result ≡ bits_of_time unit }
-{
-    match unit {
-        TimeUnit::Second | TimeUnit::Millisecond => 32,
-        TimeUnit::Microsecond | TimeUnit::Nanosecond => 64,
-    }
+    Ok(ColType::Date { unit })
 }
 
 #[tactic(auto, using(crate::proofs::Faults::faults), unfolding(crate::specs::Types::time_of))]
-fn read_time(table: &TableRef) -> Result<StoredType, StreamFault>
+fn read_time(table: &TableRef) -> Result<ColType, StreamFault>
     ensures { Judges (λ t. t) result (time_of table.now) }
 {
     let unit = read_time_unit(table, 1)?;
     let bits = read_word(table, TIME_BIT_WIDTH, 32)?;
-    if bits == bits_of(unit) as i32 {
-        Ok(StoredType::Time { unit })
+    if bits == unit.bits() as i32 {
+        Ok(ColType::Time { unit })
     } else {
         Err(StreamFault::BadType)
     }
 }
 
 #[tactic(auto, using(crate::proofs::Faults::faults), unfolding(crate::specs::Types::timestamp_of))]
-fn read_timestamp(alloc: Global, table: &TableRef) -> Result<StoredType, StreamFault>
+fn read_timestamp(alloc: Global, table: &TableRef) -> Result<ColType, StreamFault>
     ensures { Answers (λ t. t) result (timestamp_of table.now) }
 {
     let unit = read_time_unit(table, 0)?;
     let name = read_zone(table)?;
-    Ok(StoredType::Timestamp {
+    Ok(ColType::Timestamp {
         unit,
         zone: Zone::new(alloc, name)?,
     })
 }
 
 #[tactic(auto, using(crate::proofs::Faults::faults), unfolding(crate::specs::Types::duration_of))]
-fn read_duration(table: &TableRef) -> Result<StoredType, StreamFault>
+fn read_duration(table: &TableRef) -> Result<ColType, StreamFault>
     ensures { Judges (λ t. t) result (duration_of table.now) }
 {
     let unit = read_time_unit(table, 1)?;
-    Ok(StoredType::Duration { unit })
+    Ok(ColType::Duration { unit })
 }
 
 #[tactic(auto, using(crate::proofs::Faults::faults), unfolding(crate::specs::Types::fixed_of))]
-fn read_fixed(table: &TableRef) -> Result<StoredType, StreamFault>
+fn read_fixed(table: &TableRef) -> Result<ColType, StreamFault>
     ensures { Judges (λ t. t) result (fixed_of table.now) }
 {
     let width = read_word(table, FIXED_BYTE_WIDTH, 0)?;
     let width = ranged(0, MAX_FIXED_WIDTH, width)?;
-    Ok(StoredType::Fixed { width })
+    Ok(ColType::Fixed { width })
 }

@@ -1,16 +1,12 @@
 //! Writing types.
 
-ghost use Rattle.std.specs.Prelude.{◌≡◌, ◌*◌, IfOk};
-ghost use Rattle.values.specs.Layouts.{bytes_in};
+ghost use Rattle.std.specs.Prelude.{◌≡◌, IfOk};
 ghost use Rattle.flatbuf.specs.Built.{slots};
 ghost use Rattle.field_types.specs.TypeTree.{bool_number, by_offsets, date_unit_number, time_unit_number, type_number as number_in_union, type_slots};
 
-use crate::stored_type::StoredType;
-use crate::types::bits_of;
-use crate::units::{DateUnit, TimeUnit};
 use flatbuf::Builder;
 use std::alloc::{AllocError, Global};
-use values::{IntWidth, OffsetWidth};
+use values::{ColType, DateUnit, IntWidth, OffsetWidth, TimeUnit};
 
 fn with_offsets(offsets: OffsetWidth, small: u8, large: u8) -> u8
     ensures { result ≡ by_offsets offsets small large }
@@ -22,22 +18,22 @@ fn with_offsets(offsets: OffsetWidth, small: u8, large: u8) -> u8
 }
 
 /// The number of a type in Schema.fbs, union `Type`.
-pub fn type_number(stored: &StoredType) -> u8
+pub fn type_number(stored: &ColType) -> u8
     ensures { result ≡ number_in_union stored.now }
 {
     match stored {
-        StoredType::Bool => 6,
-        StoredType::Int { .. } => 2,
-        StoredType::Decimal { .. } => 7,
-        StoredType::Date { .. } => 8,
-        StoredType::Time { .. } => 9,
-        StoredType::Timestamp { .. } => 10,
-        StoredType::Duration { .. } => 18,
-        StoredType::Utf8 { offsets } => with_offsets(*offsets, 5, 20),
-        StoredType::Binary { offsets } => with_offsets(*offsets, 4, 19),
-        StoredType::Fixed { .. } => 15,
-        StoredType::List { offsets } => with_offsets(*offsets, 12, 21),
-        StoredType::Struct => 13,
+        ColType::Bool => 6,
+        ColType::Int { .. } => 2,
+        ColType::Decimal { .. } => 7,
+        ColType::Date { .. } => 8,
+        ColType::Time { .. } => 9,
+        ColType::Timestamp { .. } => 10,
+        ColType::Duration { .. } => 18,
+        ColType::Utf8 { offsets } => with_offsets(*offsets, 5, 20),
+        ColType::Binary { offsets } => with_offsets(*offsets, 4, 19),
+        ColType::Fixed { .. } => 15,
+        ColType::List { offsets } => with_offsets(*offsets, 12, 21),
+        ColType::Struct => 13,
     }
 }
 
@@ -61,17 +57,6 @@ fn time_number(unit: TimeUnit) -> u16
     }
 }
 
-pub(crate) fn bits_of_int(width: IntWidth) -> u32
-    ensures { result ≡ 8 * bytes_in width }
-{
-    match width {
-        IntWidth::Bits8 => 8,
-        IntWidth::Bits16 => 16,
-        IntWidth::Bits32 => 32,
-        IntWidth::Bits64 => 64,
-    }
-}
-
 fn bit(set: bool) -> u8
     ensures { result ≡ bool_number set }
 {
@@ -79,26 +64,26 @@ fn bit(set: bool) -> u8
 }
 
 /// A type's own table, with each of its slots, also where it holds the default; a time zone only where there is one.
-pub fn type_table(alloc: Global, stored: &StoredType) -> Result<Builder, AllocError>
+pub fn type_table(alloc: Global, stored: &ColType) -> Result<Builder, AllocError>
     ensures { IfOk result (λ table. slots table ≡ type_slots stored.now) }
 {
     let mut table = Builder::new(alloc);
     match stored {
-        StoredType::Int { width, signed } => {
-            table.u32(bits_of_int(*width))?;
+        ColType::Int { width, signed } => {
+            table.u32(width.bits())?;
             table.u8(bit(*signed))?;
         }
-        StoredType::Decimal { precision, scale } => {
+        ColType::Decimal { precision, scale } => {
             table.u32(*precision as u32)?;
             table.u32(*scale as u32)?;
             table.u32(128)?;
         }
-        StoredType::Date { unit } => table.u16(date_number(*unit))?,
-        StoredType::Time { unit } => {
+        ColType::Date { unit } => table.u16(date_number(*unit))?,
+        ColType::Time { unit } => {
             table.u16(time_number(*unit))?;
-            table.u32(bits_of(*unit) as u32)?;
+            table.u32(unit.bits())?;
         }
-        StoredType::Timestamp { unit, zone } => {
+        ColType::Timestamp { unit, zone } => {
             table.u16(time_number(*unit))?;
             if zone.as_str().is_empty() {
                 table.absent()?;
@@ -106,13 +91,13 @@ pub fn type_table(alloc: Global, stored: &StoredType) -> Result<Builder, AllocEr
                 table.text(zone.as_str().as_bytes())?;
             }
         }
-        StoredType::Duration { unit } => table.u16(time_number(*unit))?,
-        StoredType::Fixed { width } => table.u32(*width)?,
-        StoredType::Bool
-        | StoredType::Utf8 { .. }
-        | StoredType::Binary { .. }
-        | StoredType::List { .. }
-        | StoredType::Struct => {}
+        ColType::Duration { unit } => table.u16(time_number(*unit))?,
+        ColType::Fixed { width } => table.u32(*width)?,
+        ColType::Bool
+        | ColType::Utf8 { .. }
+        | ColType::Binary { .. }
+        | ColType::List { .. }
+        | ColType::Struct => {}
     }
     Ok(table)
 }

@@ -2,7 +2,7 @@
 use Rattle.std.proofs.Common.{◌≡◌, inl, ℕ, List, Result, refl}
 use Rattle.values.specs.Datum.{Datum}
 use Rattle.values.specs.Rose.{Rose}
-use Rattle.field_types.specs.Logical.{LogicalField}
+use Rattle.values.specs.Logical.{LogicalField}
 use Rattle.values.specs.declared.causes.Cause.{Cause}
 use Rattle.values.specs.declared.causes.Cause.TheVariants as cause
 use Rattle.values.specs.StreamCauses.{cause_of}

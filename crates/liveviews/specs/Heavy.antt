@@ -1,8 +1,7 @@
 -- Rows that are too heavy to be taken: a cell of more than 2^20, or a row of more than 2^26.
 use Rattle.std.specs.Prelude.{ℕ, ◌^◌, ◌<◌, ◌≤◌, ◌⊎◌, List, [], ◌∷◌}
 use Rattle.values.specs.Datum.{Datum, items_of}
-use Rattle.values.specs.Layouts.{weight}
-use Rattle.values.specs.Layouts.{row_weight as items_weight}
+use Rattle.values.specs.Layouts.{weight, row_weight as items_weight}
 use Rattle.values.specs.Rose.{Roses, none, more}
 use Rattle.values.specs.declared.layout.Layout.{Layout}
 

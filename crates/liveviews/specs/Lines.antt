@@ -2,29 +2,29 @@
 use Rattle.std.specs.Prelude.{ℕ, ℤ, Bool, true, false, List, [], ◌∷◌, ◌++◌, Option, None, Some, codes, flat_map, if◌then◌else◌, length}
 use Rattle.std.specs.Fmt.{decimal, signed_decimal}
 use Rattle.values.specs.Rose.{Rose, node, Roses, none, more}
-use Rattle.field_types.specs.Text.{type_text}
-use Rattle.field_types.specs.declared.stored_type.StoredType.{StoredType}
-use Rattle.field_types.specs.declared.stored_type.StoredType.TheVariants as stored
+use Rattle.values.specs.TypeText.{type_text}
+use Rattle.values.specs.declared.col_type.ColType.{ColType}
+use Rattle.values.specs.declared.col_type.ColType.TheVariants as stored
 use Rattle.schema_meta.specs.Entry.{Entry}
 use Rattle.schema_meta.specs.declared.coding.Coding.{Coding}
 use Rattle.feed.specs.Events.{Event, batch, dictionary, ended, schema}
 
 -- a type's text says what stands below it
-abbrev pub is_nested : StoredType → Bool
+abbrev pub is_nested : ColType → Bool
 is_nested (stored.List o) = true
 is_nested stored.Struct = true
 is_nested _ = false
 
 -- A struct's parts are named, a list's items aren't.
-abbrev pub label_text : StoredType → List ℕ → List ℕ
+abbrev pub label_text : ColType → List ℕ → List ℕ
 label_text stored.Struct name = name ++ codes ": "
 label_text _ name = []
 
-abbrev pub below_text : StoredType → List ℕ → List ℕ
+abbrev pub below_text : ColType → List ℕ → List ℕ
 below_text s parts = if is_nested s then codes "[" ++ (parts ++ codes "]") else []
 
 -- the parts of a type, each with a comma before it, but for the first, which has `comma`
-abbrev pub parts_text : List ℕ → StoredType → Roses Entry → List ℕ
+abbrev pub parts_text : List ℕ → ColType → Roses Entry → List ℕ
 parts_text comma s none = []
 parts_text comma s (more (node e kids) ts) =
     comma ++ (label_text s e.name ++ ((type_text e.stored ++ below_text e.stored (parts_text [] e.stored kids)) ++ parts_text (codes ", ") s ts))

@@ -4,12 +4,13 @@ ghost use Rattle.std.specs.Prelude.{◌≡◌, ◌<◌, ◌≤◌, ◌++◌, IfE
 ghost use Rattle.std.specs.Option.{option_map};
 ghost use Rattle.schema_meta.specs.Story.{story_of};
 ghost use Rattle.feed.specs.Shown.{event_seen};
-ghost use Rattle.liveviews.specs.Inspect.{Account, EndsAlike, Tells, account_of, refusal_line, status_where};
+ghost use Rattle.liveviews.specs.Inspect.{Account, Tells, account_of, refusal_line, status_where};
 ghost use Rattle.liveviews.specs.Inspecting.{Breaks, IsFresh, IsLeft, IsOpen};
 ghost use Rattle.liveviews.specs.Lines.{ended_after, given_lines};
 
+use crate::laws::account_law;
 use crate::lines::{is_ended, write_fed};
-use feed::{Fed, Feed, cut_law, story_law};
+use feed::{Fed, Feed, cut_law};
 use std::alloc::{AllocError, Global};
 use values::StreamFault;
 
@@ -97,14 +98,6 @@ impl Inspection {
         }
         Ok(())
     }
-}
-
-/// Law of the definitions: the account of a stream ends with the faults that stand in its reading, or with none.
-pub fn account_law()
-    ensures { EndsAlike }
-{
-    story_law();
-    cut_law();
 }
 
 /// Writes the line of a refusal.

@@ -4,6 +4,7 @@
 mod batch;
 mod files;
 mod inspecting;
+mod laws;
 mod lines;
 mod program;
 mod recasting;
@@ -11,6 +12,7 @@ mod table;
 mod types;
 
 pub use files::{FileFault, Files};
-pub use inspecting::{Inspected, account_law, inspect};
+pub use inspecting::{Inspected, inspect};
+pub use laws::account_law;
 pub use program::lv;
 pub use recasting::{RecastFault, recast};

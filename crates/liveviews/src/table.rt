@@ -13,11 +13,10 @@ ghost use Rattle.liveviews.specs.Refused.{RefusesBatch};
 use crate::batch::add_rows;
 use arrays::Column;
 use feed::{Fed, Feed, FeedEvent, cut_law, story_law};
-use field_types::Schema;
 use schema_meta::{fields_law, logical_law};
 use std::alloc::Global;
 use values::limits::MAX_MAIN_ROWS;
-use values::{Cause, Row};
+use values::{Cause, Row, Schema};
 
 /// A table: its columns and its rows.
 #[derive(Drop)]

@@ -4,23 +4,23 @@ ghost use Rattle.std.specs.Prelude.{◌≡◌, ◌++◌, [], OnOk, string_bytes}
 ghost use Rattle.values.specs.Rose.{kids_of};
 ghost use Rattle.liveviews.specs.Lines.{is_nested, label_text, parts_text, tree_text};
 
-use field_types::StoredType;
 use schema_meta::Field;
 use std::alloc::AllocError;
+use values::ColType;
 
 /// Whether a type's text says what stands below it.
-fn is_nested(stored: &StoredType) -> bool
+fn is_nested(stored: &ColType) -> bool
     ensures { result ≡ is_nested stored.now }
 {
-    matches!(stored, StoredType::List { .. } | StoredType::Struct)
+    matches!(stored, ColType::List { .. } | ColType::Struct)
 }
 
 /// Writes the name of a part of a type: a struct's parts are named, a list's items aren't.
-fn write_label(text: &mut String, parent: &StoredType, name: &str) -> Result<(), AllocError>
+fn write_label(text: &mut String, parent: &ColType, name: &str) -> Result<(), AllocError>
     ensures { OnOk result (string_bytes text.new ≡ string_bytes text.old ++ label_text parent.now name.now) }
 {
     match parent {
-        StoredType::Struct => write!(text, "{name}: "),
+        ColType::Struct => write!(text, "{name}: "),
         _ => Ok(()),
     }
 }
@@ -43,7 +43,7 @@ pub(crate) fn write_type(text: &mut String, field: &Field) -> Result<(), AllocEr
 /// Writes the fields below one of this type.
 #[cycle(types)]
 #[tactic(auto, using(crate::proofs::TypeTexts::type_texts))]
-fn write_parts(text: &mut String, parent: &StoredType, fields: &[Field]) -> Result<(), AllocError>
+fn write_parts(text: &mut String, parent: &ColType, fields: &[Field]) -> Result<(), AllocError>
     ensures { OnOk result (string_bytes text.new ≡ string_bytes text.old ++ parts_text [] parent.now (kids_of fields.now)) }
 {
     let mut comma = "";

@@ -16,7 +16,7 @@ use Rattle.array_layout.specs.declared.array.Span.{Span}
 use Rattle.schema_meta.specs.BatchHead.{BatchHead}
 use Rattle.schema_meta.specs.Counts.{within, count_in}
 use Rattle.schema_meta.specs.Batch.{fitting, lengths_fit, word_at, node_made, node_of, span_of, structs_in, rows_of, nodes_in, nodes_of, spans_in, spans_of, plain, batch, batch_of}
-use Rattle.field_types.specs.Logical.{LogicalField}
+use Rattle.values.specs.Logical.{LogicalField}
 use Rattle.schema_meta.specs.SameColumns.{is_declared}
 use Rattle.schema_meta.specs.declared.header.MessageKind.{MessageKind}
 use Rattle.schema_meta.specs.declared.header.MessageKind.TheVariants as kind
@@ -34,7 +34,7 @@ use Rattle.schema_meta.proofs.FieldFacts.{fields_known}
 use Rattle.schema_meta.proofs.ValuesFit.{values-fit}
 use Rattle.values.specs.Layouts.{AreLayouts}
 use Rattle.field_types.specs.Reads.{bool_of, checked}
-use Rattle.field_types.specs.declared.stored_type.StoredType.{StoredType}
+use Rattle.values.specs.declared.col_type.ColType.{ColType}
 use Rattle.values.specs.declared.layout.Layout.{Layout}
 use Rattle.array_layout.specs.Placing.{spans_below}
 
@@ -166,7 +166,7 @@ new_known known t fs e =
 
 -- a dictionary batch
 values_fit :
-    (fields : List (Rose Entry)) (body : ℕ) (t : Table) (id : ℤ) (s : StoredType) (d : DictionaryHeader) → AreFields fields
+    (fields : List (Rose Entry)) (body : ℕ) (t : Table) (id : ℤ) (s : ColType) (d : DictionaryHeader) → AreFields fields
     → value_type fields id ≡ Some s → values_batch body t id s ≡ Ok d → FitsValues fields body d
 unfolding values_batch
 values_fit fields body t id s d known type e =
@@ -192,7 +192,7 @@ limited_few counts d e k =
 
 record DictionaryFacts (fields : List (Rose Entry)) (counts : List (ℤ × ℕ)) (body : ℕ) (t : Table) (d : DictionaryHeader) : Type 0 where
   id : ℤ
-  stored : StoredType
+  stored : ColType
   type : value_type fields id ≡ Some stored
   read : values_batch body t id stored ≡ Ok d
   few : count_after counts d.id d.is_delta d.batch.rows ≤ 2 ^ 20
@@ -202,7 +202,7 @@ dictionary_facts :
     → dictionary_of fields counts body t ≡ Ok d → DictionaryFacts fields counts body t d
 unfolding dictionary_of
 dictionary_facts fields counts body t d e =
-    let g : ℤ → StoredType → Reading DictionaryHeader = λ id s. values_batch body t id s >>= limited counts in
+    let g : ℤ → ColType → Reading DictionaryHeader = λ id s. values_batch body t id s >>= limited counts in
     let f : ℤ → Reading DictionaryHeader = λ id. must fault.UnknownDictionary (value_type fields id) >>= g id in
     let a = bind_Ok (id_of t) f d e in
     let b = bind_Ok (must fault.UnknownDictionary (value_type fields a.0)) (g a.0) d a.2 in

@@ -8,7 +8,7 @@ use Rattle.array_layout.specs.declared.array.Node.{Node}
 use Rattle.array_layout.specs.Placing.{node_at}
 use Rattle.schema_meta.specs.Entry.{Entry}
 use Rattle.schema_meta.specs.FieldLayouts.{slot_layout_of, slot_layouts_below}
-use Rattle.field_types.specs.declared.stored_type.StoredType.TheVariants as stored
+use Rattle.values.specs.declared.col_type.ColType.TheVariants as stored
 use Rattle.schema_meta.specs.Batch.{is_long, are_long, columns_fit, node_of, nodes_in}
 use Rattle.std.proofs.lemmas.Bool.{lt-leb}
 use Rattle.std.proofs.lemmas.Bool.Decides.{nat_tests}

@@ -2,7 +2,7 @@
 use Rattle.std.proofs.Common.{◌≡◌, ◌≢◌, ℕ, suc, ◌+◌, ◌<◌, ◌≤◌, Bool, true, false, ◌&&◌, List, [], ◌∷◌, length, drop, get_or, refl, ap, sym, subst, ◌∙◌, arith}
 use Rattle.values.specs.Rose.{Rose, kids_of}
 use Rattle.values.proofs.Roses.{kids_step, kids_end, kid_smaller}
-use Rattle.field_types.specs.Logical.{LogicalField}
+use Rattle.values.specs.Logical.{LogicalField}
 use Rattle.schema_meta.specs.SameColumns.{is_same, are_same}
 
 abbrev Fields : Type 0

@@ -6,7 +6,7 @@ use Rattle.values.specs.Reading.{Reading, each, one}
 use Rattle.values.specs.Rose.{Rose, node, none}
 use Rattle.values.specs.declared.faults.StreamFault.{StreamFault}
 use Rattle.values.specs.declared.faults.StreamFault.TheVariants as fault
-use Rattle.field_types.specs.declared.stored_type.StoredType.TheVariants as stored
+use Rattle.values.specs.declared.col_type.ColType.TheVariants as stored
 use Rattle.values.specs.declared.layout.IntWidth.TheVariants as int
 use Rattle.schema_meta.specs.Entry.{Entry}
 use Rattle.schema_meta.specs.declared.header.Header.TheVariants as header

@@ -1,7 +1,7 @@
 -- A stream between two pieces, what a push makes of it, and the stream that a piece was made ready for.
 use Rattle.std.specs.Prelude.{◌≡◌, ℕ, ℤ, ◌+◌, List, [], ◌++◌, length, slice_range, Option, None, Some, Ok, Err, refl}
 use Rattle.std.specs.Coded.{Coded, code_by, coded×, coded_ℕ, coded_ℤ, coded_list, coded_option}
-use Rattle.field_types.specs.Logical.{LogicalField, logical_code}
+use Rattle.values.specs.Logical.{LogicalField, logical_code}
 use Rattle.values.specs.Reading.{Reading}
 use Rattle.values.specs.Rose.{Rose, rose_code}
 use Rattle.schema_meta.specs.Entry.{Entry, entry_code}

@@ -1,10 +1,9 @@
 //! Whether a stream's schema is the declared one.
-
 ghost use Rattle.std.specs.Prelude.{◌≡◌};
 ghost use Rattle.values.specs.Rose.{kids_of};
 ghost use Rattle.schema_meta.specs.SameColumns.{are_same, is_same};
 
-use field_types::Named;
+use values::Named;
 
 /// Whether two fields have one name and type, and so on down.
 #[cycle(same)]

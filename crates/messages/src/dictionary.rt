@@ -8,13 +8,13 @@ use crate::batch::read_batch_header;
 use crate::columns::Columns;
 use crate::counts::count_before;
 use crate::fields::readable;
-use field_types::{StoredType, read_bool};
+use field_types::read_bool;
 use flatbuf::TableRef;
 use indexmap::IndexMap;
 use schema_meta::{DictionaryHeader, StreamSchema};
 use std::alloc::Global;
-use values::StreamFault;
 use values::limits::MAX_DICTIONARY_VALUES;
+use values::{ColType, StreamFault};
 
 fn id_of(table: &TableRef) -> Result<i64, StreamFault>
     ensures { Judges (λ id. id) result (id_of table.now) }
@@ -38,7 +38,7 @@ fn values_batch(
     alloc: Global,
     table: &TableRef,
     id: i64,
-    stored: &StoredType,
+    stored: &ColType,
     body: usize,
 ) -> Result<DictionaryHeader, StreamFault>
     requires { body ≤ 2 ^ 28 }

@@ -12,13 +12,12 @@ use crate::declared::are_same;
 use crate::dictionary::read_dictionary_header;
 use crate::fields::{checked, readable};
 use crate::state::State;
-use field_types::Schema;
 use flatbuf::{Buf, TableRef};
 use schema_meta::{BatchHeader, DictionaryHeader, Header, MessageKind, StreamSchema, read_schema};
 use std::alloc::Global;
 use std::rc::Rc;
-use values::StreamFault;
 use values::limits::MAX_BODY_SIZE;
+use values::{Schema, StreamFault};
 
 /// What the metadata of a message says.
 #[derive(Drop)]

@@ -8,11 +8,11 @@ ghost use Rattle.messages.specs.State.{known_of, learnt};
 ghost use Rattle.schema_meta.specs.DictionaryBatch.{counts_after};
 
 use crate::counts::{Count, count_after};
-use field_types::Schema;
 use indexmap::IndexMap;
 use schema_meta::{Header, StreamSchema};
 use std::alloc::AllocError;
 use std::rc::Rc;
+use values::Schema;
 
 /// The schema that was declared for the stream, if any, the one that came, once it has, and how many values each dictionary has
 /// that a batch came for.

@@ -13,14 +13,13 @@ use crate::headers::{Framed, Message};
 use crate::metadata::Metadata;
 use crate::pending::Pending;
 use crate::state::State;
-use field_types::Schema;
 use indexmap::IndexMap;
 use schema_meta::StreamSchema;
 use std::alloc::Global;
 use std::marker::Model;
 use std::mem::replace;
 use std::rc::Rc;
-use values::StreamFault;
+use values::{Schema, StreamFault};
 
 /// Takes the messages of a stream out of its pieces, however it is cut.
 ///

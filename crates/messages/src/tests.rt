@@ -1,11 +1,10 @@
 //! Tests on a stored stream of two int64 columns `k` and `v` with the rows (1, 10), (2, null), (3, 30).
 
 use crate::{Framer, Header};
-use field_types::{Named, Schema, StoredType};
 use std::alloc::{AllocError, Global};
 use std::process::Abort;
 use std::test::Fail;
-use values::{IntWidth, StreamFault};
+use values::{ColType, IntWidth, Named, Schema, StreamFault};
 
 /// The schema message ends at 232, the batch at 496, the end mark at 504.
 const SAMPLE: [u8; 504] = [
@@ -352,7 +351,7 @@ fn int64(alloc: Global, name: &str) -> Result<Named, AllocError> {
     let width = IntWidth::Bits64;
     Ok(Named {
         name: String::from_str(alloc, name)?,
-        col_type: StoredType::Int {
+        col_type: ColType::Int {
             width,
             signed: true,
         },

@@ -3,8 +3,9 @@
 use crate::checks::{refuses, writes};
 use crate::typed::{PAIR, PLAIN, SINGLE, Table, Two, field, pair, single, stream};
 use std::alloc::{AllocError, Global};
+use std::cmp::Ordering;
 use std::test::Fail;
-use values::{Cause, Kind, Value, copy_row};
+use values::{Cause, Kind, Row, Value, cmp_values, copy_row};
 
 fn bools(alloc: Global, nulls: u64, valid: u8) -> Result<Vec<u8>, AllocError> {
     let column = field(alloc, b'b', 6, &PLAIN, &[])?;
@@ -291,39 +292,61 @@ fn r2_items_without_bytes(rt: HostRuntime) -> Result<(), Fail> {
     Ok(())
 }
 
-/// A row of each kind of value, and a copy of it and of each of its cells.
-#[test]
-fn r2_rows(rt: HostRuntime) -> Result<(), Fail> {
-    let mut item = Vec::new(rt.alloc());
-    item.push(Value {
-        kind: Kind::Truth(true),
-    })?;
-    let mut row = Vec::new(rt.alloc());
-    row.push(Value { kind: Kind::Null })?;
-    row.push(Value {
-        kind: Kind::Whole(-7),
-    })?;
-    row.push(Value {
-        kind: Kind::Text(String::from_str(rt.alloc(), "x")?),
-    })?;
-    row.push(Value {
-        kind: Kind::Bytes([0xFF].to_vec(rt.alloc())?),
-    })?;
-    row.push(Value {
-        kind: Kind::List(copy_row(rt.alloc(), &item)?),
-    })?;
-    row.push(Value {
-        kind: Kind::Struct(item),
-    })?;
-    let copies = copy_row(rt.alloc(), &row)?;
-    assert_eq!(rt; copies.len(), 6);
-    for value in &row {
-        let copy = value.copy(rt.alloc())?;
-        assert_eq!(rt; is_null(&copy), is_null(value));
+/// A row of each kind of value; the list and the struct hold these items.
+fn row_of(alloc: Global, items: &[Value]) -> Result<Row, AllocError> {
+    let kinds = vec![in alloc;
+        Kind::Null,
+        Kind::Truth(false),
+        Kind::Whole(-7),
+        Kind::Text(String::from_str(alloc, "x")?),
+        Kind::Bytes([0xFF].to_vec(alloc)?),
+        Kind::List(copy_row(alloc, items)?),
+        Kind::Struct(copy_row(alloc, items)?),
+    ]?;
+    let mut row = Vec::new(alloc);
+    for kind in kinds {
+        row.push(Value { kind })?;
     }
-    Ok(())
+    Ok(row)
 }
 
-fn is_null(value: &Value) -> bool {
-    matches!(&value.kind, Kind::Null)
+fn items(value: &Value) -> &[Value] {
+    match &value.kind {
+        Kind::List(items) | Kind::Struct(items) => items,
+        _ => &[],
+    }
+}
+
+/// Whether these are of one kind and hold the same, where their items hold no items.
+fn are_same(first: &Value, second: &Value) -> bool {
+    let (firsts, seconds) = (items(first), items(second));
+    if cmp_values(first, second) != Ordering::Equal || firsts.len() != seconds.len() {
+        return false;
+    }
+    for (first, second) in firsts.iter().zip(seconds.iter()) {
+        if cmp_values(first, second) != Ordering::Equal {
+            return false;
+        }
+    }
+    true
+}
+
+#[test]
+fn r2_rows(rt: HostRuntime) -> Result<(), Fail> {
+    let alloc = rt.alloc();
+    let row = row_of(alloc, &row_of(alloc, &[])?)?;
+    let copies = copy_row(alloc, &row)?;
+    assert_eq!(rt; copies.len(), 7);
+    for (copy, value) in copies.iter().zip(row.iter()) {
+        assert!(rt; are_same(copy, value));
+        assert!(rt; are_same(&value.copy(alloc)?, value));
+    }
+    let others = row_of(alloc, &[])?;
+    for (value, other) in [(0, 1), (5, 6)] {
+        assert!(rt; !are_same(&row[value], &row[other]));
+    }
+    for place in [5, 6] {
+        assert!(rt; !are_same(&row[place], &others[place]));
+    }
+    Ok(())
 }

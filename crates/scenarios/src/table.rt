@@ -1,22 +1,20 @@
 //! The table of the stored stream, built cell by cell.
 
-ghost use Rattle.std.specs.Prelude.{◌≡◌, IfOk, true, [], ◌∷◌};
+ghost use Rattle.std.specs.Prelude.{◌≡◌, IfOk, true, [], ◌∷◌, map};
 ghost use Rattle.values.specs.Kinds.{datum_of};
-ghost use Rattle.std.specs.Prelude.{map};
 ghost use Rattle.values.specs.Rose.{none, node};
 ghost use Rattle.stream_writer.specs.Sample.{sample_fields, sample_rows};
 
-use field_types::{Named, Schema, StoredType};
 use std::alloc::{AllocError, Global};
-use values::{IntWidth, Kind, Row, Value};
+use values::{ColType, IntWidth, Kind, Named, Row, Schema, Value};
 
 /// A column of 64 bits with a sign.
 fn int64(alloc: Global, name: &str) -> Result<Named, AllocError>
-    ensures { IfOk result (λ n. n ≡ node (record { name = name.now; col_type = StoredType.Int IntWidth.Bits64 true }) none) }
+    ensures { IfOk result (λ n. n ≡ node (record { name = name.now; col_type = ColType.Int IntWidth.Bits64 true }) none) }
 {
     let name = String::from_str(alloc, name)?;
     let width = IntWidth::Bits64;
-    let col_type = StoredType::Int {
+    let col_type = ColType::Int {
         width,
         signed: true,
     };

@@ -13,8 +13,9 @@ use Rattle.values.specs.declared.layout.Layout.{Layout}
 use Rattle.values.specs.declared.layout.Layout.TheVariants.{Number}
 use Rattle.values.proofs.Readings.{both_Ok, bind_Ok, mapped_Ok, must_Ok}
 use Rattle.schema_meta.specs.Entry.{Entry}
-use Rattle.field_types.specs.Stored.{IsSingle, kind_of_type, layout_of as layout_by}
-use Rattle.field_types.specs.declared.stored_type.StoredType.TheVariants as stored
+use Rattle.values.specs.ColTypes.{IsSingle, layout_of as layout_by}
+use Rattle.field_types.specs.Kinds.{kind_of_type, kind_of, may_have}
+use Rattle.values.specs.declared.col_type.ColType.TheVariants as stored
 use Rattle.field_types.specs.StoredLaws.{kids_count}
 use Rattle.field_types.proofs.TypeFacts.{read-is-type}
 use Rattle.field_types.proofs.Children.{children-fit}
@@ -27,9 +28,8 @@ use Rattle.std.specs.Str.{is_utf8}
 use Rattle.std.proofs.lemmas.Str.{is_utf8-from_IsUtf8, IsUtf8-from_ascii}
 use Rattle.schema_meta.specs.Slots as slot
 use Rattle.field_types.specs.declared.kinds.TypeKind.{TypeKind}
-use Rattle.field_types.specs.declared.stored_type.StoredType.{StoredType}
+use Rattle.values.specs.declared.col_type.ColType.{ColType}
 use Rattle.field_types.specs.Reads.{readable, needs, checked, bool_of}
-use Rattle.field_types.specs.Kinds.{kind_of, may_have}
 use Rattle.field_types.specs.Types.{type_of}
 use Rattle.schema_meta.specs.Fields.{Label, label, label_of, name_in, name_of, Storage, storage, Content, content, content_of, field, field_of, children_of, count_in, fields_in, entry_by, child_at, forest}
 use Rattle.schema_meta.specs.Totals.{sum_from, total, total_at, total_in}
@@ -47,7 +47,7 @@ slots_of_all [] = refl
 slots_of_all (node e below ∷ kids) = ap suc (slots_of_all kids)
 
 fit_node :
-    (k : TypeKind) (t : Table) (s : StoredType) (kids : Roses Layout) → type_of k t ≡ Ok s → may_have k (kids_count kids) ≡ true
+    (k : TypeKind) (t : Table) (s : ColType) (kids : Roses Layout) → type_of k t ≡ Ok s → may_have k (kids_count kids) ≡ true
     → IsNode (layout_by s) kids
 fit_node k t s kids read may =
     let is = read-is-type k t s read in
@@ -55,7 +55,7 @@ fit_node k t s kids read may =
     (children-fit s is.0 kids).1 (subst P (sym is.1) may)
 
 -- lists and structs have no dictionary
-single : (s : StoredType) → may_be_coded (kind_of_type s) ≡ true → IsSingle s
+single : (s : ColType) → may_be_coded (kind_of_type s) ≡ true → IsSingle s
 single stored.Bool e = tt
 single (stored.Int w s) e = tt
 single (stored.Decimal p s) e = tt
@@ -69,7 +69,7 @@ single (stored.Fixed w) e = tt
 single (stored.List o) e = absurd (cc)
 single stored.Struct e = absurd (cc)
 
-coded_good : (k : TypeKind) (o : Option Table) (s : StoredType) (c : Option Coding) → coded_by k o ≡ Ok c → kind_of_type s ≡ k → IsCoded c s
+coded_good : (k : TypeKind) (o : Option Table) (s : ColType) (c : Option Coding) → coded_by k o ≡ Ok c → kind_of_type s ≡ k → IsCoded c s
 coded_good k None s c e is = let none : None ≡ c = cc in let P : Option Coding → Type 0 = λ d. IsCoded d s in subst P none tt
 coded_good k (Some t) s c e is =
     let parts = both_Ok second (needs fault.UnsupportedType (may_be_coded k)) (mapped Some (encoding_of t)) c e in
@@ -79,13 +79,13 @@ coded_good k (Some t) s c e is =
     let Q : TypeKind → Type 0 = λ j. may_be_coded j ≡ true in
     subst P (made.2 ∙ parts.4) (single s (subst Q (sym is) may))
 
-coding_good : (k : TypeKind) (t : Table) (s : StoredType) (c : Option Coding) → coding_of k t ≡ Ok c → kind_of_type s ≡ k → IsCoded c s
+coding_good : (k : TypeKind) (t : Table) (s : ColType) (c : Option Coding) → coding_of k t ≡ Ok c → kind_of_type s ≡ k → IsCoded c s
 unfolding coding_of
 coding_good k t s c e is =
     let read = bind_Ok (readable (subtable_of t slot.dictionary)) (coded_by k) c e in coded_good k read.0 s c read.2 is
 
 -- indices have no children, and nor have the values that they stand for
-single_node : (s : StoredType) (w : IntWidth) (b : Bool) (kids : Roses Layout) → IsSingle s → IsNode (layout_by s) kids → IsNode (Number w b) kids
+single_node : (s : ColType) (w : IntWidth) (b : Bool) (kids : Roses Layout) → IsSingle s → IsNode (layout_by s) kids → IsNode (Number w b) kids
 single_node s w b none is h = tt
 single_node stored.Bool w b (more t ts) is h = h
 single_node (stored.Int v s) w b (more t ts) is h = h
@@ -100,7 +100,7 @@ single_node (stored.Fixed v) w b (more t ts) is h = h
 single_node (stored.List o) w b (more t ts) is h = absurd is
 single_node stored.Struct w b (more t ts) is h = absurd is
 
-slot_node : (c : Option Coding) (s : StoredType) (kids : Roses Layout) → IsCoded c s → IsNode (layout_by s) kids → IsNode (slot_layout c s) kids
+slot_node : (c : Option Coding) (s : ColType) (kids : Roses Layout) → IsCoded c s → IsNode (layout_by s) kids → IsNode (slot_layout c s) kids
 slot_node None s kids is h = h
 slot_node (Some c) s kids is h = single_node s c.index.width c.index.signed kids is h
 
@@ -193,7 +193,7 @@ sum_is count v i o is = ap (total_in count) is
 
 -- a field of parts that were read
 made_known :
-    (count : Vector → ℕ) (v : Vector) (i : ℕ) (f : Rose Entry) (l : Label) (c : Content) (u : Storage) (s : StoredType) (d : Option Coding)
+    (count : Vector → ℕ) (v : Vector) (i : ℕ) (f : Rose Entry) (l : Label) (c : Content) (u : Storage) (s : ColType) (d : Option Coding)
     (kids : List (Rose Entry)) → storage s d ≡ u → content u kids ≡ c → field l c ≡ f
     → IsKnown count v i (field l (content (storage s d) kids)) → IsKnown count v i f
 made_known count v i f l c u s d kids stores made is known =

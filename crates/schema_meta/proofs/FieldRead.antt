@@ -8,13 +8,12 @@ use Rattle.flatbuf.specs.Held.{element_place, NodeHeld, Held}
 use Rattle.flatbuf.proofs.Words.{number-read, text-read, entry-read, vector-read, subtable-absent}
 use Rattle.values.specs.Reading.{Reading, each}
 use Rattle.values.specs.Rose.{Rose, node, Roses, none, more, roses_size}
-use Rattle.field_types.specs.Kinds.{may_have}
-use Rattle.field_types.specs.Logical.{LogicalField}
+use Rattle.field_types.specs.Kinds.{may_have, kind_of_type}
+use Rattle.values.specs.Logical.{LogicalField}
 use Rattle.field_types.specs.Reads.{bool_of}
-use Rattle.field_types.specs.Stored.{kind_of_type}
 use Rattle.field_types.specs.StoredLaws.{kids_count}
 use Rattle.field_types.specs.declared.kinds.TypeKind.{TypeKind}
-use Rattle.field_types.specs.declared.stored_type.StoredType.{StoredType}
+use Rattle.values.specs.declared.col_type.ColType.{ColType}
 use Rattle.field_types.proofs.TypeRead.{type-is-read}
 use Rattle.schema_meta.specs.Encoding.{coding_of}
 use Rattle.schema_meta.specs.Entry.{Entry}
@@ -64,7 +63,7 @@ label-read t f kids short utf8 h = rw (name-read t f.name short utf8 h.0, bool-r
 
 -- a field that lies before others, below one of type `p`
 content-read :
-    (below : Vector → Reading (List (Rose Entry))) (t : Table) (d : ℕ) (p : StoredType) (f : LogicalField) (kids fs : Roses LogicalField)
+    (below : Vector → Reading (List (Rose Entry))) (t : Table) (d : ℕ) (p : ColType) (f : LogicalField) (kids fs : Roses LogicalField)
     → Sound d p (more (node f kids) fs) → Reads below kids → Held t.bytes (slot_of t) 0 (field_slots (node f kids))
     → content_of below t ≡ Ok (content (storage f.col_type None) (entries kids))
 unfolding content_of
@@ -73,7 +72,7 @@ content-read below t d p f kids fs s reads h =
     rw (typed.0, typed.1, plain-read t (kind_of_type f.col_type) h.1.1.1.1.0, children-read below t (kind_of_type f.col_type) kids (may-have d p f kids fs s) reads h.1.1.1.1.1.0) refl
 
 field-read :
-    (below : Vector → Reading (List (Rose Entry))) (t : Table) (d : ℕ) (p : StoredType) (f : LogicalField) (kids fs : Roses LogicalField)
+    (below : Vector → Reading (List (Rose Entry))) (t : Table) (d : ℕ) (p : ColType) (f : LogicalField) (kids fs : Roses LogicalField)
     → Sound d p (more (node f kids) fs) → Reads below kids → Held t.bytes (slot_of t) 0 (field_slots (node f kids))
     → field_of below t ≡ Ok (stored_field (node f kids))
 unfolding field_of
@@ -81,7 +80,7 @@ field-read below t d p f kids fs s reads h =
     rw (label-read t f kids s.within.0.0 s.logical.0.0 h, content-read below t d p f kids fs s reads h, entries-below kids) refl
 
 entry-by-read :
-    (below : Vector → Reading (List (Rose Entry))) (v : Vector) (i d : ℕ) (p : StoredType) (f : LogicalField) (kids fs : Roses LogicalField)
+    (below : Vector → Reading (List (Rose Entry))) (v : Vector) (i d : ℕ) (p : ColType) (f : LogicalField) (kids fs : Roses LogicalField)
     → Sound d p (more (node f kids) fs) → Reads below kids → NodeHeld v.bytes (element_place v.start i) (table (field_slots (node f kids)))
     → entry_by below v i ≡ Ok (stored_field (node f kids))
 unfolding entry_by
@@ -91,8 +90,8 @@ entry-by-read below v i d p f kids fs s reads h =
     rw (found, field-read below (table_in v.bytes r.place) d p f kids fs s reads r.slots) refl
 
 each-read :
-    (below : Vector → Reading (List (Rose Entry))) (v : Vector) (i d : ℕ) (p : StoredType) (fs : Roses LogicalField)
-    → ((q : StoredType) (kids : Roses LogicalField) → Sound d q kids → Reads below kids) → Sound (suc d) p fs
+    (below : Vector → Reading (List (Rose Entry))) (v : Vector) (i d : ℕ) (p : ColType) (fs : Roses LogicalField)
+    → ((q : ColType) (kids : Roses LogicalField) → Sound d q kids → Reads below kids) → Sound (suc d) p fs
     → Held v.bytes (element_place v.start) i (field_tables fs) → each (entry_by below v) i (kids_count fs) ≡ Ok (entries fs)
 unfolding each
 each-read below v i d p none reads s h = refl
@@ -101,7 +100,7 @@ each-read below v i d p (more (node f kids) fs) reads s h =
     let others = each-read below v (i + 1) d p fs reads (sound-rest (suc d) p f kids fs s) h.1 in
     rw (mine, others) refl
 
-pub forest-read : (depth : ℕ) (p : StoredType) (fs : Roses LogicalField) → Sound depth p fs → Reads (forest depth) fs
+pub forest-read : (depth : ℕ) (p : ColType) (fs : Roses LogicalField) → Sound depth p fs → Reads (forest depth) fs
 unfolding forest
 forest-read zero p none s w e h = rw e refl
 forest-read zero p (more f fs) s w e h = absurd (no-level p f fs s)
@@ -116,7 +115,7 @@ Counts below kids =
     (w : Vector) → w.count ≡ kids_count kids → Held w.bytes (element_place w.start) 0 (field_tables kids) → below w ≡ roses_size kids
 
 child-read :
-    (v : Vector) (i d : ℕ) (p : StoredType) (f : LogicalField) (kids fs : Roses LogicalField) → Sound d p (more (node f kids) fs)
+    (v : Vector) (i d : ℕ) (p : ColType) (f : LogicalField) (kids fs : Roses LogicalField) → Sound d p (more (node f kids) fs)
     → NodeHeld v.bytes (element_place v.start i) (table (field_slots (node f kids)))
     → (w : Vector) × (child_at v i ≡ Some w) × (w.count ≡ kids_count kids) × Held w.bytes (element_place w.start) 0 (field_tables kids)
 unfolding child_at
@@ -130,8 +129,8 @@ child-read v i d p f kids fs s h =
     (record { bytes = v.bytes; start = c.start; count = count (field_tables kids) }, rw (found, typed.0, c.is) refl, tables-count kids, c.elements)
 
 sum-read :
-    (below : Vector → ℕ) (v : Vector) (i d : ℕ) (p : StoredType) (fs : Roses LogicalField)
-    → ((q : StoredType) (kids : Roses LogicalField) → Sound d q kids → Counts below kids) → Sound (suc d) p fs
+    (below : Vector → ℕ) (v : Vector) (i d : ℕ) (p : ColType) (fs : Roses LogicalField)
+    → ((q : ColType) (kids : Roses LogicalField) → Sound d q kids → Counts below kids) → Sound (suc d) p fs
     → Held v.bytes (element_place v.start) i (field_tables fs)
     → kids_count fs + sum_from (total_at below v) i (kids_count fs) ≡ roses_size fs
 unfolding sum_from total_at
@@ -142,7 +141,7 @@ sum-read below v i d p (more (node f kids) fs) counts s h =
     let others = sum-read below v (i + 1) d p fs counts (sound-rest (suc d) p f kids fs s) h.1 in
     rw (c.1, mine) omega (arith, others)
 
-pub total-read : (depth : ℕ) (p : StoredType) (fs : Roses LogicalField) → Sound depth p fs → Counts (total depth) fs
+pub total-read : (depth : ℕ) (p : ColType) (fs : Roses LogicalField) → Sound depth p fs → Counts (total depth) fs
 unfolding total
 total-read zero p none s w e h = refl
 total-read zero p (more f fs) s w e h = absurd (no-level p f fs s)

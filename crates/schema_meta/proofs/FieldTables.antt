@@ -5,7 +5,7 @@ use Rattle.flatbuf.specs.Tree.{table, node as and_node}
 use Rattle.flatbuf.specs.Built.{add}
 use Rattle.values.specs.Rose.{Rose, kids_of}
 use Rattle.values.proofs.Roses.{kid_smaller}
-use Rattle.field_types.specs.Logical.{LogicalField}
+use Rattle.values.specs.Logical.{LogicalField}
 use Rattle.schema_meta.specs.SchemaTree.{field_slots, field_tables}
 
 tables-append :

@@ -1,16 +1,16 @@
 -- The logical fields of what was read can be written.
 use Rattle.std.proofs.Common.{◌≡◌, ℕ, ◌≤◌, List, [], ◌∷◌, length, map, refl, arith}
 use Rattle.values.specs.Rose.{Rose, node, Roses, none, more, kids_of, roses_size}
-use Rattle.field_types.specs.Stored.{IsType}
-use Rattle.field_types.specs.Logical.{narrow, child_name}
-use Rattle.field_types.specs.declared.stored_type.StoredType.{StoredType}
-use Rattle.field_types.specs.declared.stored_type.StoredType.TheVariants as stored
+use Rattle.values.specs.ColTypes.{IsType}
+use Rattle.values.specs.Logical.{narrow, child_name}
+use Rattle.values.specs.declared.col_type.ColType.{ColType}
+use Rattle.values.specs.declared.col_type.ColType.TheVariants as stored
 use Rattle.schema_meta.specs.Entry.{Entry}
 use Rattle.schema_meta.specs.Logical.{logical_field, logical_below}
 use Rattle.schema_meta.specs.FieldsLaw.{AreGoodFields, ColumnsFit}
 use Rattle.schema_meta.specs.SchemaTree.{AreWithin}
 
-narrow-type : (s : StoredType) → IsType s → IsType (narrow s)
+narrow-type : (s : ColType) → IsType s → IsType (narrow s)
 narrow-type stored.Bool h = tt
 narrow-type (stored.Int w s) h = tt
 narrow-type (stored.Decimal p s) h = h
@@ -24,7 +24,7 @@ narrow-type (stored.Fixed w) h = h
 narrow-type (stored.List o) h = tt
 narrow-type stored.Struct h = tt
 
-child-name : (s : StoredType) (n : List ℕ) → length n ≤ 4096 → length (child_name s n) ≤ 4096
+child-name : (s : ColType) (n : List ℕ) → length n ≤ 4096 → length (child_name s n) ≤ 4096
 child-name stored.Bool n h = h
 child-name (stored.Int w s) n h = h
 child-name (stored.Decimal p s) n h = h
@@ -38,12 +38,12 @@ child-name (stored.Fixed w) n h = h
 child-name (stored.List o) n h = omega arith
 child-name stored.Struct n h = h
 
-below-within : (s : StoredType) (fs : Roses Entry) → AreGoodFields fs → AreWithin (logical_below s fs)
+below-within : (s : ColType) (fs : Roses Entry) → AreGoodFields fs → AreWithin (logical_below s fs)
 below-within s none h = tt
 below-within s (more (node e kids) fs) h =
     ((child-name s e.name h.0.0, narrow-type e.stored h.0.2, below-within e.stored kids h.0.4), below-within s fs h.1)
 
-below-size : (s : StoredType) (fs : Roses Entry) → roses_size (logical_below s fs) ≡ roses_size fs
+below-size : (s : ColType) (fs : Roses Entry) → roses_size (logical_below s fs) ≡ roses_size fs
 below-size s none = refl
 below-size s (more (node e kids) fs) =
     let kids-same = below-size e.stored kids in let rest = below-size s fs in omega (arith, kids-same, rest)

@@ -5,16 +5,16 @@ use Rattle.values.specs.Datum.{Datum, null, truth, whole, text, bytes, list, str
 use Rattle.values.specs.Layouts.{IsNode, IsLayout, AreLayouts, Holds, HoldsAll, HoldsEach, slot, slots, weight, items_weight, row_weight}
 use Rattle.values.specs.declared.layout.Layout.{Layout}
 use Rattle.values.specs.declared.layout.Layout.TheVariants.{Bits, Number, Decimal, Fixed, Text, Bytes, List as Listed, Struct}
-use Rattle.field_types.specs.Stored.{layout_of as layout_by}
-use Rattle.field_types.specs.Logical.{narrow, trees_of}
-use Rattle.field_types.specs.declared.stored_type.StoredType.{StoredType}
-use Rattle.field_types.specs.declared.stored_type.StoredType.TheVariants as stored
+use Rattle.values.specs.ColTypes.{layout_of as layout_by}
+use Rattle.values.specs.Logical.{narrow, trees_of}
+use Rattle.values.specs.declared.col_type.ColType.{ColType}
+use Rattle.values.specs.declared.col_type.ColType.TheVariants as stored
 use Rattle.schema_meta.specs.Entry.{Entry}
 use Rattle.schema_meta.specs.FieldLayouts.{layouts_below}
 use Rattle.schema_meta.specs.Logical.{logical_below}
 use Rattle.schema_meta.specs.LogicalLaw.{narrow_layout, narrow_tree, narrow_trees, LogicalTrees}
 
-layout-narrow : (s : StoredType) → layout_by (narrow s) ≡ narrow_layout (layout_by s)
+layout-narrow : (s : ColType) → layout_by (narrow s) ≡ narrow_layout (layout_by s)
 layout-narrow stored.Bool = refl
 layout-narrow (stored.Int w s) = refl
 layout-narrow (stored.Decimal p s) = refl
@@ -28,7 +28,7 @@ layout-narrow (stored.Fixed w) = refl
 layout-narrow (stored.List o) = refl
 layout-narrow stored.Struct = refl
 
-below-trees : (s : StoredType) (fs : Roses Entry) → trees_of (logical_below s fs) ≡ narrow_trees (layouts_below fs)
+below-trees : (s : ColType) (fs : Roses Entry) → trees_of (logical_below s fs) ≡ narrow_trees (layouts_below fs)
 below-trees s none = refl
 below-trees s (more (node e kids) fs) =
     let kids-same = below-trees e.stored kids in

@@ -15,9 +15,9 @@ use Rattle.array_layout.specs.declared.array.Span.{Span}
 use Rattle.array_layout.specs.Placing.{nowhere, node_at, span_at, offsets_at, values_at, placed, placed_all, own_spans, spans_in, layout_by, layout_of, layouts_of}
 use Rattle.array_layout.specs.declared.array.Part.{Part}
 use Rattle.array_layout.specs.Typed.{AreWords, IsTyped, AreTyped}
-use Rattle.field_types.specs.Stored.{layout_of as layout_of_type}
+use Rattle.values.specs.ColTypes.{layout_of as layout_of_type}
 use Rattle.field_types.specs.StoredLaws.{kids_count}
-use Rattle.field_types.specs.declared.stored_type.StoredType.{StoredType}
+use Rattle.values.specs.declared.col_type.ColType.{ColType}
 use Rattle.schema_meta.proofs.OneType.{known-type}
 use Rattle.array_layout.specs.Sound.{LiesIn, AreLong, IsPlaced, ArePlaced}
 use Rattle.schema_meta.specs.Batch.{least, is_long, are_long, columns_fit, lengths_fit}
@@ -167,7 +167,7 @@ columns-placed body nodes spans n b rows (more (node l kids) ts) small within la
 abbrev slots_placed : List Node → List Span → ℕ → ℕ → Roses Entry → Roses Part
 slots_placed nodes spans n b fs = placed_all nodes spans n b (slot_layouts_below fs)
 
-own-values : (values : ℤ → List Datum) (c : Option Coding) (s : StoredType) → layout_by (words_of values c s) (slot_layout c s) ≡ layout_of_type s
+own-values : (values : ℤ → List Datum) (c : Option Coding) (s : ColType) → layout_by (words_of values c s) (slot_layout c s) ≡ layout_of_type s
 own-values values None s = refl
 own-values values (Some c) s = refl
 
@@ -289,7 +289,7 @@ values-law s body head fits =
 -- The values of dictionaries are of the types of the fields that have them.
 
 own-typed :
-    (values : ℤ → List Datum) (fields : List (Rose Entry)) (c : Option Coding) (s : StoredType) → AreValues fields values
+    (values : ℤ → List Datum) (fields : List (Rose Entry)) (c : Option Coding) (s : ColType) → AreValues fields values
     → own_agrees (value_type fields) c s ≡ true → AreWords (words_of values c s)
 own-typed values fields None s are e = tt
 own-typed values fields (Some c) s are e = are c.id s (known-type s (value_type fields c.id) e)
@@ -316,7 +316,7 @@ unfolding arrays_of is_clear
 words-law values fields head known are =
     arrays-typed values fields (kids_of fields) (slots_placed head.nodes head.spans 0 0 (kids_of fields)) are known.clear
 
-own-same : (values others : ℤ → List Datum) (c : Option Coding) (s : StoredType) → ((id : ℤ) → values id ≡ others id)
+own-same : (values others : ℤ → List Datum) (c : Option Coding) (s : ColType) → ((id : ℤ) → values id ≡ others id)
     → words_of values c s ≡ words_of others c s
 own-same values others None s same = refl
 own-same values others (Some c) s same = ap (λ vs. Some (record { layout = layout_of_type s; values = vs })) (same c.id)

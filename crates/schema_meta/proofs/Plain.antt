@@ -5,8 +5,8 @@ use Rattle.values.specs.Rose.{Rose, node, Roses, none, more, kids_of, rose_size}
 use Rattle.array_layout.specs.declared.array.Node.{Node}
 use Rattle.array_layout.specs.declared.array.Span.{Span}
 use Rattle.array_layout.specs.Placing.{placed, placed_all, spans_in}
-use Rattle.field_types.specs.Logical.{LogicalField, tree_of, trees_of}
-use Rattle.field_types.specs.declared.stored_type.StoredType.{StoredType}
+use Rattle.values.specs.Logical.{LogicalField, tree_of, trees_of}
+use Rattle.values.specs.declared.col_type.ColType.{ColType}
 use Rattle.schema_meta.specs.Dictionaries.{agree, is_clear, value_type}
 use Rattle.schema_meta.specs.FieldLayouts.{slot_layout_of, slot_layouts_below, slot_layouts_of}
 use Rattle.schema_meta.specs.Parts.{decoded, decoded_all, arrays_of}
@@ -52,7 +52,7 @@ plain-arrays values fs head =
     rw (slots-are fs, layouts-read fs, stored-kids fs) (plain-below values head.nodes head.spans 0 0 (kids_of fs))
 
 -- There are no ids that could clash.
-plain-agree : (known : ℤ → Option StoredType) (fs : Roses LogicalField) → agree known (stored_below fs) ≡ true
+plain-agree : (known : ℤ → Option ColType) (fs : Roses LogicalField) → agree known (stored_below fs) ≡ true
 plain-agree known none = refl
 plain-agree known (more (node f kids) fs) = rw (plain-agree known kids, plain-agree known fs) refl
 

@@ -9,7 +9,7 @@ use Rattle.values.specs.declared.faults.StreamFault.TheVariants as fault
 use Rattle.values.specs.declared.layout.IntWidth.TheVariants as int
 use Rattle.values.specs.declared.layout.OffsetWidth.TheVariants as offset
 use Rattle.field_types.specs.declared.index.IndexType.{IndexType}
-use Rattle.field_types.specs.declared.stored_type.StoredType.TheVariants as stored
+use Rattle.values.specs.declared.col_type.ColType.TheVariants as stored
 use Rattle.field_types.specs.Kinds.{kind_numbered, kind_of}
 use Rattle.field_types.specs.Reads.{readable, bool_of, short_of, word_of}
 use Rattle.field_types.specs.Types.{width_of, int_of, index_of, type_of}

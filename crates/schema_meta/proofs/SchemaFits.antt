@@ -3,7 +3,7 @@ use Rattle.std.proofs.Common.{ℕ, ◌+◌, ◌-◌, ◌*◌, ◌^◌, ◌<◌, 
 use Rattle.flatbuf.specs.Tree.{number, table, Nodes, count}
 use Rattle.flatbuf.specs.Written.{up, items_place, items_end, object_end, objects_end, table_end, table_place, vtable_len, Fits, FitAll, AreReferences, IsWritable}
 use Rattle.values.specs.Rose.{Rose, node, Roses, none, more, kids_of, rose_size, roses_size}
-use Rattle.field_types.specs.Logical.{LogicalField}
+use Rattle.values.specs.Logical.{LogicalField}
 use Rattle.field_types.specs.TypeTree.{type_slots}
 use Rattle.field_types.proofs.TypeSizes.{type-fits, type-is-short}
 use Rattle.schema_meta.specs.declared.header.MessageKind.TheVariants as kind

@@ -13,11 +13,11 @@ use Rattle.flatbuf.proofs.ReadsBack.{layout-law}
 use Rattle.flatbuf.proofs.Words.{number-read, signed-read, subtable-read, vector-read}
 use Rattle.values.specs.Rose.{Rose, node, Roses, none, more, kids_of, roses_size}
 use Rattle.values.specs.declared.layout.Layout.{Layout}
-use Rattle.field_types.specs.Logical.{LogicalField, child_name, narrow}
-use Rattle.field_types.specs.contracts.stored_type.StoredTypePartialEq.TheImpl as types
-use Rattle.field_types.specs.declared.stored_type.StoredType.{StoredType}
-use Rattle.field_types.specs.declared.stored_type.StoredType.TheVariants as stored
-use Rattle.field_types.proofs.Equality.{types-exact}
+use Rattle.values.specs.Logical.{LogicalField, child_name, narrow}
+use Rattle.values.specs.contracts.col_type.ColTypePartialEq.TheImpl as types
+use Rattle.values.specs.declared.col_type.ColType.{ColType}
+use Rattle.values.specs.declared.col_type.ColType.TheVariants as stored
+use Rattle.values.proofs.Equality.{types-exact}
 use Rattle.schema_meta.specs.declared.header.MessageKind.{MessageKind}
 use Rattle.schema_meta.specs.declared.header.MessageKind.TheVariants as kind
 use Rattle.schema_meta.specs.Slots as slot
@@ -110,23 +110,23 @@ same-bytes : (xs : List ℕ) → pointwise nat_eq xs xs ≡ true
 same-bytes [] = refl
 same-bytes (x ∷ xs) = rw (eq-eqb x x refl, same-bytes xs) refl
 
-same-type : (s : StoredType) → types.ghosts.eq s s ≡ true
+same-type : (s : ColType) → types.ghosts.eq s s ≡ true
 same-type s = (types-exact s s).1 refl
 
 same-all : (fs : Roses LogicalField) → are_same fs fs ≡ true
 same-all none = refl
 same-all (more (node f kids) fs) = rw (same-bytes f.name, same-type f.col_type, same-all kids, same-all fs) refl
 
-abbrev field_named : List ℕ → StoredType → LogicalField
+abbrev field_named : List ℕ → ColType → LogicalField
 field_named name s = record { name = name; col_type = s }
 
 -- a field whose parts are those of another
 logical-node :
-    (f : LogicalField) (name : List ℕ) (s : StoredType) (below kids : Roses LogicalField) → name ≡ f.name → s ≡ f.col_type → below ≡ kids
+    (f : LogicalField) (name : List ℕ) (s : ColType) (below kids : Roses LogicalField) → name ≡ f.name → s ≡ f.col_type → below ≡ kids
     → node (field_named name s) below ≡ node f kids
 logical-node f name s below kids named typed same = rw (named, typed, same) refl
 
-logical-below : (s : StoredType) (fs : Roses LogicalField) → AreLogical s fs → logical_below s (stored_below fs) ≡ fs
+logical-below : (s : ColType) (fs : Roses LogicalField) → AreLogical s fs → logical_below s (stored_below fs) ≡ fs
 logical-below s none h = refl
 logical-below s (more (node f kids) fs) h =
     let here = logical-node f (child_name s f.name) (narrow f.col_type) (logical_below f.col_type (stored_below kids)) kids h.0.1 h.0.2 (logical-below f.col_type kids h.0.3) in

@@ -1,6 +1,7 @@
 -- The slots of fields, as loops add them up.
 use Rattle.std.proofs.Common.{◌≡◌, ℕ, ◌+◌, ◌<◌, ◌≤◌, Bool, true, false, ◌&&◌, List, length, drop, get_or, refl, ap, sym, subst, arith}
 use Rattle.values.specs.Rose.{Rose, node, Roses, none, more, kids_of, rose_size}
+use Rattle.values.proofs.Weighing.{own-slot}
 use Rattle.values.proofs.Roses.{kids_step, kids_end, kid_smaller}
 use Rattle.values.specs.Layouts.{slot, slots}
 use Rattle.values.specs.declared.layout.Layout.{Layout}
@@ -53,15 +54,4 @@ slots_end fs k all = ap slots (left-none fs k all)
 pub some_size : (f : Rose Entry) → 1 ≤ rose_size f
 some_size (node e kids) = omega arith
 
--- a field by itself
-pub slot_by : (l : Layout) (kids : Roses Layout) → ¬ (l ≡ Struct) → slot (node l kids) ≡ slot (node l none)
-slot_by Bits kids other = refl
-slot_by (Number w s) kids other = refl
-slot_by (Decimal p) kids other = refl
-slot_by (Fixed w) kids other = refl
-slot_by (Text o) kids other = refl
-slot_by (Bytes o) kids other = refl
-slot_by (Listed o) kids other = refl
-slot_by Struct kids other = absurd (other refl)
-
-pub ruleset slims = (slim_step, slim_stop, slim_end, slots_step, slots_end, fields_step, kid_smaller)
+pub ruleset slims = (slim_step, slim_stop, slim_end, slots_step, slots_end, fields_step, kid_smaller, own-slot)

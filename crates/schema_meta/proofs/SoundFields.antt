@@ -4,11 +4,10 @@ use Rattle.std.specs.Prelude.{max}
 use Rattle.flatbuf.specs.Tree.{count}
 use Rattle.values.specs.Rose.{Rose, node, Roses, none, more, kids_of}
 use Rattle.values.specs.Layouts.{AreLayouts}
-use Rattle.field_types.specs.Kinds.{may_have}
-use Rattle.field_types.specs.Logical.{LogicalField, tree_of, trees_of}
-use Rattle.field_types.specs.Stored.{kind_of_type}
+use Rattle.field_types.specs.Kinds.{may_have, kind_of_type}
+use Rattle.values.specs.Logical.{LogicalField, tree_of, trees_of}
 use Rattle.field_types.specs.StoredLaws.{kids_count}
-use Rattle.field_types.specs.declared.stored_type.StoredType.{StoredType}
+use Rattle.values.specs.declared.col_type.ColType.{ColType}
 use Rattle.field_types.proofs.Children.{children-fit}
 use Rattle.schema_meta.specs.Entry.{Entry}
 use Rattle.schema_meta.specs.FieldLayouts.{layout_of, layouts_below, layouts_of}
@@ -16,7 +15,7 @@ use Rattle.schema_meta.specs.SchemaTree.{field_tables, AreWithin}
 use Rattle.schema_meta.specs.SchemaLaw.{stored_field, stored_below, stored_fields, depth_below, AreLogical}
 
 -- the fields below one of this type, at most so many levels of them
-pub record Sound (depth : ℕ) (parent : StoredType) (fs : Roses LogicalField) : Type 0 where
+pub record Sound (depth : ℕ) (parent : ColType) (fs : Roses LogicalField) : Type 0 where
   pub within : AreWithin fs
   pub logical : AreLogical parent fs
   pub layouts : AreLayouts (trees_of fs)
@@ -28,20 +27,20 @@ max-left a b d h = omega (arith, h)
 max-right : (a b d : ℕ) → max a b ≤ d → b ≤ d
 max-right a b d h = omega (arith, h)
 
-pub no-level : (p : StoredType) (f : Rose LogicalField) (fs : Roses LogicalField) → ¬ (Sound 0 p (more f fs))
+pub no-level : (p : ColType) (f : Rose LogicalField) (fs : Roses LogicalField) → ¬ (Sound 0 p (more f fs))
 no-level p (node f kids) fs s =
     let first = max-left (suc (depth_below kids)) (depth_below fs) 0 s.shallow in
     absurd (omega (arith, first))
 
 pub sound-below :
-    (depth : ℕ) (p : StoredType) (f : LogicalField) (kids fs : Roses LogicalField) → Sound (suc depth) p (more (node f kids) fs)
+    (depth : ℕ) (p : ColType) (f : LogicalField) (kids fs : Roses LogicalField) → Sound (suc depth) p (more (node f kids) fs)
     → Sound depth f.col_type kids
 sound-below depth p f kids fs s =
     let first = max-left (suc (depth_below kids)) (depth_below fs) (suc depth) s.shallow in
     record { within = s.within.0.2; logical = s.logical.0.3; layouts = s.layouts.0.1; shallow = omega (arith, first) }
 
 pub sound-rest :
-    (depth : ℕ) (p : StoredType) (f : LogicalField) (kids fs : Roses LogicalField) → Sound depth p (more (node f kids) fs) → Sound depth p fs
+    (depth : ℕ) (p : ColType) (f : LogicalField) (kids fs : Roses LogicalField) → Sound depth p (more (node f kids) fs) → Sound depth p fs
 sound-rest depth p f kids fs s =
     record {
       within = s.within.1;
@@ -61,7 +60,7 @@ tables-count none = refl
 tables-count (more f fs) = let rest = tables-count fs in omega (arith, rest)
 
 pub may-have :
-    (depth : ℕ) (p : StoredType) (f : LogicalField) (kids fs : Roses LogicalField) → Sound depth p (more (node f kids) fs)
+    (depth : ℕ) (p : ColType) (f : LogicalField) (kids fs : Roses LogicalField) → Sound depth p (more (node f kids) fs)
     → may_have (kind_of_type f.col_type) (kids_count kids) ≡ true
 may-have depth p f kids fs s =
     let P : ℕ → Type 0 = λ n. may_have (kind_of_type f.col_type) n ≡ true in

@@ -10,8 +10,8 @@ use Rattle.values.specs.declared.layout.Layout.{Layout}
 use Rattle.values.specs.Reading.{Reading, ◌>>=◌, both, mapped, must}
 use Rattle.values.specs.Rose.{Rose, node, Roses, none, more}
 use Rattle.field_types.specs.Reads.{bool_of, checked, or_default, readable}
-use Rattle.field_types.specs.Stored.{layout_of as layout_by}
-use Rattle.field_types.specs.declared.stored_type.StoredType.{StoredType}
+use Rattle.values.specs.ColTypes.{layout_of as layout_by}
+use Rattle.values.specs.declared.col_type.ColType.{ColType}
 use Rattle.schema_meta.specs.Entry.{Entry}
 use Rattle.schema_meta.specs.Dictionaries.{value_type}
 use Rattle.schema_meta.specs.declared.header.DictionaryHeader.{DictionaryHeader}
@@ -21,10 +21,10 @@ use Rattle.schema_meta.specs.BatchHead.{BatchHead}
 use Rattle.schema_meta.specs.Batch.{batch_of}
 
 -- how values of this type lie in the body of a dictionary batch
-abbrev pub value_layout : StoredType → Rose Layout
+abbrev pub value_layout : ColType → Rose Layout
 value_layout s = node (layout_by s) none
 
-abbrev pub value_layouts : StoredType → Roses Layout
+abbrev pub value_layouts : ColType → Roses Layout
 value_layouts s = more (value_layout s) none
 
 -- how many values the dictionary with this id has, none where no batch came for it
@@ -57,7 +57,7 @@ abbrev pub limited : List (ℤ × ℕ) → DictionaryHeader → Reading Dictiona
 limited counts d = checked fault.DictionaryTooLarge (nat_le (count_after counts d.id d.is_delta d.batch.rows) (2 ^ 20)) d
 
 -- the header of a batch of values of this type
-unfoldable pub values_batch : ℕ → Table → ℤ → StoredType → Reading DictionaryHeader
+unfoldable pub values_batch : ℕ → Table → ℤ → ColType → Reading DictionaryHeader
 values_batch body t id s = both (dictionary id) (bool_of t 2) (data_of t >>= batch_of (value_layouts s) body)
 
 -- The id must be that of a field.

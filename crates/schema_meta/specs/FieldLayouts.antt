@@ -4,8 +4,8 @@ use Rattle.values.specs.Rose.{Rose, node, Roses, none, more, kids_of}
 use Rattle.values.specs.Layouts.{slot}
 use Rattle.values.specs.declared.layout.Layout.{Layout}
 use Rattle.values.specs.declared.layout.Layout.TheVariants.{Number}
-use Rattle.field_types.specs.declared.stored_type.StoredType.{StoredType}
-use Rattle.field_types.specs.Stored.{layout_of as layout_by}
+use Rattle.values.specs.declared.col_type.ColType.{ColType}
+use Rattle.values.specs.ColTypes.{layout_of as layout_by}
 use Rattle.schema_meta.specs.declared.coding.Coding.{Coding}
 use Rattle.schema_meta.specs.Entry.{Entry}
 
@@ -24,7 +24,7 @@ abbrev pub layouts_of : List (Rose Entry) → Roses Layout
 layouts_of fields = layouts_below (kids_of fields)
 
 -- The layout of a field's own slots: those of a field with a dictionary are indices.
-abbrev pub slot_layout : Option Coding → StoredType → Layout
+abbrev pub slot_layout : Option Coding → ColType → Layout
 slot_layout None s = layout_by s
 slot_layout (Some c) s = Number c.index.width c.index.signed
 

@@ -7,7 +7,7 @@ use Rattle.values.specs.Reading.{Reading, ◌>>=◌, both, second, each, one}
 use Rattle.values.specs.Rose.{Rose, node, kids_of}
 use Rattle.values.specs.declared.faults.StreamFault.TheVariants as fault
 use Rattle.field_types.specs.declared.kinds.TypeKind.{TypeKind}
-use Rattle.field_types.specs.declared.stored_type.StoredType.{StoredType}
+use Rattle.values.specs.declared.col_type.ColType.{ColType}
 use Rattle.schema_meta.specs.declared.coding.Coding.{Coding}
 use Rattle.schema_meta.specs.Entry.{Entry}
 use Rattle.schema_meta.specs.Encoding.{coding_of}
@@ -48,7 +48,7 @@ pub record Label : Type 0 where
   pub nullable : Bool
 
 pub record Storage : Type 0 where
-  pub stored : StoredType
+  pub stored : ColType
   pub coding : Option Coding
 
 pub record Content : Type 0 where
@@ -58,7 +58,7 @@ pub record Content : Type 0 where
 abbrev pub label : List ℕ → Bool → Label
 label name nullable = record { name = name; nullable = nullable }
 
-abbrev pub storage : StoredType → Option Coding → Storage
+abbrev pub storage : ColType → Option Coding → Storage
 storage stored coding = record { stored = stored; coding = coding }
 
 abbrev pub content : Storage → List (Rose Entry) → Content

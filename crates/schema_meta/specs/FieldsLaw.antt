@@ -4,8 +4,8 @@ use Rattle.std.specs.Str.{is_utf8}
 use Rattle.flatbuf.specs.Layout.{Table}
 use Rattle.values.specs.Rose.{Rose, node, Roses, none, more, kids_of, roses_size}
 use Rattle.values.specs.Layouts.{AreLayouts}
-use Rattle.field_types.specs.Stored.{IsSingle, IsType}
-use Rattle.field_types.specs.declared.stored_type.StoredType.{StoredType}
+use Rattle.values.specs.ColTypes.{IsSingle, IsType}
+use Rattle.values.specs.declared.col_type.ColType.{ColType}
 use Rattle.schema_meta.specs.declared.coding.Coding.{Coding}
 use Rattle.schema_meta.specs.Dictionaries.{is_clear}
 use Rattle.schema_meta.specs.Entry.{Entry}
@@ -15,7 +15,7 @@ use Rattle.schema_meta.specs.Schema.{schema_of}
 use Rattle.schema_meta.specs.SchemaTree.{AreColumns}
 
 -- what a dictionary has is no list or struct
-abbrev pub IsCoded : Option Coding → StoredType → Type 0
+abbrev pub IsCoded : Option Coding → ColType → Type 0
 IsCoded None s = Unit {0}
 IsCoded (Some c) s = IsSingle s
 

@@ -6,7 +6,7 @@ use Rattle.values.specs.Layouts.{AreLayouts, Holds, HoldsEach, weight, row_weigh
 use Rattle.values.specs.declared.layout.OffsetWidth.TheVariants as offset
 use Rattle.values.specs.declared.layout.Layout.{Layout}
 use Rattle.values.specs.declared.layout.Layout.TheVariants.{Bits, Number, Decimal, Fixed, Text, Bytes, List as Listed, Struct}
-use Rattle.field_types.specs.Logical.{trees_of}
+use Rattle.values.specs.Logical.{trees_of}
 use Rattle.schema_meta.specs.Entry.{Entry}
 use Rattle.schema_meta.specs.FieldLayouts.{layouts_of}
 use Rattle.schema_meta.specs.Logical.{logical_field}

@@ -8,7 +8,7 @@ use Rattle.flatbuf.specs.Layout.{Table, root_of, number_of, signed_of, subtable_
 use Rattle.values.specs.declared.faults.StreamFault.TheVariants as fault
 use Rattle.values.specs.Reading.{Reading, ◌>>=◌, both, second, must, one, refused_if, mapped}
 use Rattle.values.specs.Rose.{Rose}
-use Rattle.field_types.specs.Logical.{LogicalField}
+use Rattle.values.specs.Logical.{LogicalField}
 use Rattle.schema_meta.specs.Entry.{Entry}
 use Rattle.schema_meta.specs.Schema.{schema_of}
 use Rattle.schema_meta.specs.declared.header.MessageKind.{MessageKind}

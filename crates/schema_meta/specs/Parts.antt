@@ -6,8 +6,8 @@ use Rattle.values.specs.Rose.{Rose, node, Roses, none, more, kids_of}
 use Rattle.array_layout.specs.declared.array.Words.{Words}
 use Rattle.array_layout.specs.declared.array.Part.{Part}
 use Rattle.array_layout.specs.Placing.{placed, placed_all}
-use Rattle.field_types.specs.Stored.{layout_of as layout_by}
-use Rattle.field_types.specs.declared.stored_type.StoredType.{StoredType}
+use Rattle.values.specs.ColTypes.{layout_of as layout_by}
+use Rattle.values.specs.declared.col_type.ColType.{ColType}
 use Rattle.schema_meta.specs.declared.coding.Coding.{Coding}
 use Rattle.schema_meta.specs.Entry.{Entry}
 use Rattle.schema_meta.specs.BatchHead.{BatchHead}
@@ -15,7 +15,7 @@ use Rattle.schema_meta.specs.DictionaryBatch.{value_layout}
 use Rattle.schema_meta.specs.FieldLayouts.{slot_layouts_of}
 
 -- the values of a field's dictionary, where `values` are those of each id
-abbrev pub words_of : (ℤ → List Datum) → Option Coding → StoredType → Option Words
+abbrev pub words_of : (ℤ → List Datum) → Option Coding → ColType → Option Words
 words_of values None s = None
 words_of values (Some c) s = Some (record { layout = layout_by s; values = values c.id })
 
@@ -45,5 +45,5 @@ arrays_of values fields head =
     decoded_all values (kids_of fields) (placed_all head.nodes head.spans 0 0 (slot_layouts_of fields))
 
 -- the one array of a dictionary batch, with values of this type
-unfoldable pub values_array : StoredType → BatchHead → Rose Part
+unfoldable pub values_array : ColType → BatchHead → Rose Part
 values_array s head = placed head.nodes head.spans 0 0 (value_layout s)

@@ -7,7 +7,7 @@ use Rattle.array_layout.specs.declared.array.Part.{Part}
 use Rattle.array_layout.specs.Placing.{layout_of as layout_of_array, layouts_of as layouts_of_arrays}
 use Rattle.array_layout.specs.Sound.{ArePlaced, IsPlaced}
 use Rattle.array_layout.specs.Typed.{AreTyped, IsTyped}
-use Rattle.field_types.specs.declared.stored_type.StoredType.{StoredType}
+use Rattle.values.specs.declared.col_type.ColType.{ColType}
 use Rattle.array_layout.specs.Cells.{len_of}
 use Rattle.schema_meta.specs.Entry.{Entry}
 use Rattle.schema_meta.specs.BatchHead.{BatchHead}
@@ -33,7 +33,7 @@ PlaceLaw =
 
 -- The values of each dictionary of a schema are of its type.
 abbrev pub AreValues : List (Rose Entry) → (ℤ → List Datum) → Type 0
-AreValues fields values = (id : ℤ) (s : StoredType) → value_type fields id ≡ Some s → All (Holds (value_layout s)) (values id)
+AreValues fields values = (id : ℤ) (s : ColType) → value_type fields id ≡ Some s → All (Holds (value_layout s)) (values id)
 
 -- Then so are those of the arrays' dictionaries.
 abbrev pub WordsLaw : Type 0
@@ -50,6 +50,6 @@ SameWords =
 -- The array of a dictionary batch lies in the body and has a slot a value.
 abbrev pub ValuesLaw : Type 0
 ValuesLaw =
-    (s : StoredType) (body : List ℕ) (head : BatchHead) → Fits (value_layouts s) (length body) head
+    (s : ColType) (body : List ℕ) (head : BatchHead) → Fits (value_layouts s) (length body) head
     → IsPlaced body (values_array s head) × IsTyped (values_array s head) × (len_of (values_array s head) ≡ head.rows)
     × (layout_of_array (values_array s head) ≡ value_layout s)

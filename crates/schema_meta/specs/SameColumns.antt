@@ -2,8 +2,8 @@
 use Rattle.std.specs.Prelude.{Bool, true, false, ◌&&◌, List, map, nat_eq}
 use Rattle.std.specs.Cmp.Lexicographic.{pointwise}
 use Rattle.values.specs.Rose.{Rose, node, Roses, none, more, kids_of}
-use Rattle.field_types.specs.Logical.{LogicalField}
-use Rattle.field_types.specs.contracts.stored_type.StoredTypePartialEq.TheImpl as types
+use Rattle.values.specs.Logical.{LogicalField}
+use Rattle.values.specs.contracts.col_type.ColTypePartialEq.TheImpl as types
 use Rattle.schema_meta.specs.Entry.{Entry}
 use Rattle.schema_meta.specs.Logical.{logical_field}
 

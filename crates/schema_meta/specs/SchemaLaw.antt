@@ -3,9 +3,9 @@ use Rattle.std.specs.Prelude.{◌≡◌, ◌≤◌, ℕ, suc, max, true, List, [
 use Rattle.std.specs.Str.{is_utf8}
 use Rattle.values.specs.Rose.{Rose, node, Roses, none, more, kids_of}
 use Rattle.values.specs.Layouts.{AreLayouts}
-use Rattle.field_types.specs.Logical.{LogicalField, child_name, narrow, trees_of}
-use Rattle.field_types.specs.declared.stored_type.StoredType.{StoredType}
-use Rattle.field_types.specs.declared.stored_type.StoredType.TheVariants as stored
+use Rattle.values.specs.Logical.{LogicalField, child_name, narrow, trees_of}
+use Rattle.values.specs.declared.col_type.ColType.{ColType}
+use Rattle.values.specs.declared.col_type.ColType.TheVariants as stored
 use Rattle.schema_meta.specs.Entry.{Entry}
 use Rattle.schema_meta.specs.FieldLayouts.{are_slim}
 use Rattle.schema_meta.specs.Logical.{logical_field}
@@ -36,11 +36,11 @@ abbrev mutual
 
 -- Below a field of this type: names are texts, the items of lists are named `item`, and offsets have 32 bits.
 abbrev mutual
-  pub IsLogical : StoredType → Rose LogicalField → Type 0
+  pub IsLogical : ColType → Rose LogicalField → Type 0
   IsLogical parent (node f kids) =
       (is_utf8 f.name ≡ true) × (child_name parent f.name ≡ f.name) × (narrow f.col_type ≡ f.col_type) × AreLogical f.col_type kids
 
-  pub AreLogical : StoredType → Roses LogicalField → Type 0
+  pub AreLogical : ColType → Roses LogicalField → Type 0
   AreLogical parent none = Unit {0}
   AreLogical parent (more f fs) = IsLogical parent f × AreLogical parent fs
 

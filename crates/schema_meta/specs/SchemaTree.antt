@@ -1,11 +1,10 @@
 -- Arrow's Schema table (Schema.fbs) as a tree, as it is written for a logical schema.
 use Rattle.std.specs.Prelude.{ℕ, ◌≤◌, List, [], ◌∷◌, length}
-use Rattle.flatbuf.specs.Tree.{absent, number, text, table, references, Nodes, no_nodes, nodes_of}
-use Rattle.flatbuf.specs.Tree.{node as and_node}
+use Rattle.flatbuf.specs.Tree.{absent, number, text, table, references, Nodes, no_nodes, nodes_of, node as and_node}
 use Rattle.flatbuf.specs.Written.{whole}
 use Rattle.values.specs.Rose.{Rose, node, Roses, none, more, kids_of, roses_size}
-use Rattle.field_types.specs.Logical.{LogicalField}
-use Rattle.field_types.specs.Stored.{IsType}
+use Rattle.values.specs.Logical.{LogicalField}
+use Rattle.values.specs.ColTypes.{IsType}
 use Rattle.field_types.specs.TypeTree.{type_number, type_slots}
 use Rattle.schema_meta.specs.declared.header.MessageKind.TheVariants as kind
 use Rattle.schema_meta.specs.MessageTree.{message_slots}

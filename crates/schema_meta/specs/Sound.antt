@@ -2,7 +2,7 @@
 use Rattle.std.specs.Prelude.{◌≡◌, ℕ, ◌+◌, ◌^◌, ◌≤◌, List, length, Option, None, Some, All, IsSome, IsSomeAnd, true, ◌<◌}
 use Rattle.values.specs.Rose.{Rose, Roses, roses_size}
 use Rattle.values.specs.declared.layout.Layout.{Layout}
-use Rattle.field_types.specs.declared.stored_type.StoredType.{StoredType}
+use Rattle.values.specs.declared.col_type.ColType.{ColType}
 use Rattle.schema_meta.specs.Entry.{Entry}
 use Rattle.schema_meta.specs.declared.header.Header.{Header}
 use Rattle.schema_meta.specs.declared.header.Header.TheVariants as header
@@ -28,7 +28,7 @@ pub record Fits (ls : Roses Layout) (body : ℕ) (b : BatchHead) : Type 0 where
 
 -- the header of a dictionary batch fits the type of its values
 pub record FitsValues (fields : List (Rose Entry)) (body : ℕ) (d : DictionaryHeader) : Type 0 where
-  pub stored : StoredType
+  pub stored : ColType
   pub type : value_type fields d.id ≡ Some stored
   pub fits : Fits (value_layouts stored) body d.batch
 

@@ -1,7 +1,7 @@
 -- What is known of a stream before a message, and what a message's metadata says.
 use Rattle.std.specs.Prelude.{ℕ, ℤ, ◌+◌, List, Option, None}
 use Rattle.values.specs.Rose.{Rose}
-use Rattle.field_types.specs.Logical.{LogicalField}
+use Rattle.values.specs.Logical.{LogicalField}
 use Rattle.schema_meta.specs.Entry.{Entry}
 use Rattle.schema_meta.specs.declared.header.Header.{Header}
 use Rattle.schema_meta.specs.declared.header.Header.TheVariants as header

@@ -1,15 +1,14 @@
 //! A field of the stored schema.
 ghost use Rattle.std.specs.Prelude.{◌≡◌, IfOk};
 ghost use Rattle.values.specs.Rose.{kids_of};
-ghost use Rattle.field_types.specs.Logical.{child_name, narrow};
+ghost use Rattle.values.specs.Logical.{child_name, narrow};
 ghost use Rattle.schema_meta.specs.FieldLayouts.{own_layout};
 ghost use Rattle.schema_meta.specs.Logical.{logical_as, logical_below, logical_field};
 
 use crate::coding::Coding;
-use field_types::{Named, StoredType};
 use std::alloc::{AllocError, Global};
 use std::marker::Model;
-use values::{Layout, OffsetWidth};
+use values::{ColType, Layout, Named, OffsetWidth};
 
 /// A field as it is stored: a column, or a part of one.
 ///
@@ -20,7 +19,7 @@ pub struct Field {
     /// What the schema says. Values are taken as they come: nulls too where this is `false`.
     pub nullable: bool,
     /// The type of its values.
-    pub stored: StoredType,
+    pub stored: ColType,
     /// The dictionary that has its values, if it is stored by one.
     pub coding: Option<Coding>,
     pub children: Vec<Field>,
@@ -83,7 +82,7 @@ fn logical_as(alloc: Global, name: &str, field: &Field) -> Result<Named, AllocEr
 #[tactic(auto, using(crate::proofs::Logicals::logicals))]
 fn logical_below(
     alloc: Global,
-    parent: &StoredType,
+    parent: &ColType,
     fields: &[Field],
 ) -> Result<Vec<Named>, AllocError>
     ensures { IfOk result (λ ns. kids_of ns.items ≡ logical_below parent.now (kids_of fields.now)) }
@@ -97,24 +96,24 @@ fn logical_below(
 }
 
 /// The name of a child of a field of this type.
-fn child_name<'a>(parent: &StoredType, name: &'a str) -> &'a str
+fn child_name<'a>(parent: &ColType, name: &'a str) -> &'a str
     ensures { result.now ≡ child_name parent.now name.now }
 {
     match parent {
-        StoredType::List { .. } => "item",
+        ColType::List { .. } => "item",
         _ => name,
     }
 }
 
 /// The type with offsets of 32 bits.
-fn narrow(alloc: Global, stored: &StoredType) -> Result<StoredType, AllocError>
+fn narrow(alloc: Global, stored: &ColType) -> Result<ColType, AllocError>
     ensures { IfOk result (λ s. s ≡ narrow stored.now) }
 {
     let offsets = OffsetWidth::Bits32;
     match stored {
-        StoredType::Utf8 { .. } => Ok(StoredType::Utf8 { offsets }),
-        StoredType::Binary { .. } => Ok(StoredType::Binary { offsets }),
-        StoredType::List { .. } => Ok(StoredType::List { offsets }),
+        ColType::Utf8 { .. } => Ok(ColType::Utf8 { offsets }),
+        ColType::Binary { .. } => Ok(ColType::Binary { offsets }),
+        ColType::List { .. } => Ok(ColType::List { offsets }),
         _ => stored.copy(alloc),
     }
 }

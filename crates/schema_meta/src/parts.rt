@@ -13,9 +13,8 @@ use crate::header::BatchHeader;
 use crate::schema::StreamSchema;
 use array_layout::{Array, Node, Part, Span, Words, own_spans};
 use dictionaries::Dicts;
-use field_types::StoredType;
 use std::alloc::{AllocError, Global};
-use values::Layout;
+use values::{ColType, Layout};
 
 /// The number of the next array's node, and that of its first buffer.
 #[derive(Drop)]
@@ -100,7 +99,7 @@ fn part_at(
 fn words_of(
     dicts: &Dicts,
     coding: Option<Coding>,
-    stored: &StoredType,
+    stored: &ColType,
 ) -> Result<Option<Words>, AllocError>
     ensures { IfOk result (λ w. w ≡ words_of (values_in dicts.now) coding stored.now) }
 {
@@ -187,7 +186,7 @@ pub fn place_arrays(
 
 /// The one array of a dictionary batch, with values of this type.
 #[tactic(auto, unfolding(crate::specs::Parts::values_array))]
-pub fn place_values(alloc: Global, stored: &StoredType, header: &BatchHeader) -> Array
+pub fn place_values(alloc: Global, stored: &ColType, header: &BatchHeader) -> Array
     ensures { result ≡ values_array stored.now header.now }
 {
     let at = Cursor { node: 0, span: 0 };

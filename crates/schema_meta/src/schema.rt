@@ -11,11 +11,10 @@ use crate::slot::slots_of;
 use crate::slots::{SCHEMA_ENDIANNESS, SCHEMA_FIELDS};
 use crate::unreadable::unreadable;
 use crate::value_types::is_clear;
-use field_types::Schema;
 use flatbuf::{TableRef, VectorRef};
 use std::alloc::{AllocError, Global};
-use values::StreamFault;
 use values::limits::{MAX_DEPTH, MAX_FIELDS};
+use values::{Schema, StreamFault};
 
 /// The columns of a stream, as they are stored.
 #[derive(Drop)]

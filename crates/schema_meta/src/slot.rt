@@ -1,32 +1,13 @@
 //! The slots of fields: what a null of a type weighs.
 
-ghost use Rattle.std.specs.Prelude.{◌≡◌, ◌+◌, ◌*◌, ◌^◌, ◌<◌, ◌≤◌, MatchOption, IfSome, true, false};
-ghost use Rattle.values.specs.Rose.{kids_of, node, none, rose_size, roses_size};
+ghost use Rattle.std.specs.Prelude.{◌≡◌, ◌*◌, ◌^◌, ◌<◌, ◌≤◌, MatchOption, IfSome, true, false};
+ghost use Rattle.values.specs.Rose.{kids_of, rose_size, roses_size};
 ghost use Rattle.values.specs.Layouts.{slot, slots};
 ghost use Rattle.schema_meta.specs.FieldLayouts.{are_slim, is_slim, layout_of, layouts_of};
 
 use crate::field::Field;
+use values::Layout;
 use values::limits::MAX_SLOT;
-use values::{IntWidth, Layout};
-
-/// The slot of a layout, but for the slots of a struct's children.
-fn own_slot(layout: Layout) -> u64
-    ensures { result ≡ slot (node layout none) }
-{
-    match layout {
-        Layout::Bits => 2,
-        Layout::Number { width, .. } => match width {
-            IntWidth::Bits8 => 2,
-            IntWidth::Bits16 => 3,
-            IntWidth::Bits32 => 5,
-            IntWidth::Bits64 => 9,
-        },
-        Layout::Decimal { .. } => 17,
-        Layout::Fixed { width } => 1 + u64::from(width),
-        Layout::Text { .. } | Layout::Bytes { .. } | Layout::List { .. } => 5,
-        Layout::Struct => 1,
-    }
-}
 
 /// The slot of a field; `None` where it or that of a field below it is too large.
 #[cycle(slots)]
@@ -40,7 +21,7 @@ fn slot_of(field: &Field) -> Option<u64>
     let layout = field.stored.layout();
     let slot = match layout {
         Layout::Struct => 1 + below,
-        _ => own_slot(layout),
+        _ => layout.own_slot(),
     };
     if slot > MAX_SLOT {
         return None;

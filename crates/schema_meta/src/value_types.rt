@@ -7,12 +7,12 @@ ghost use Rattle.schema_meta.specs.Dictionaries.{agree, agrees, is_clear, is_typ
 use crate::coding::Coding;
 use crate::field::Field;
 use crate::schema::StreamSchema;
-use field_types::StoredType;
+use values::ColType;
 
 /// The type of the values of this dictionary, if the field or one below it has it.
 #[cycle(types)]
 #[tactic(auto, using(crate::proofs::Clashes::clashes))]
-fn type_in(field: &Field, id: i64) -> Option<&StoredType>
+fn type_in(field: &Field, id: i64) -> Option<&ColType>
     ensures { option_copied result ≡ type_in id field.now }
 {
     match field.coding {
@@ -24,7 +24,7 @@ fn type_in(field: &Field, id: i64) -> Option<&StoredType>
 /// The same of the first of these fields that has it.
 #[cycle(types)]
 #[tactic(auto, using(crate::proofs::Clashes::clashes))]
-fn type_below(fields: &[Field], id: i64) -> Option<&StoredType>
+fn type_below(fields: &[Field], id: i64) -> Option<&ColType>
     ensures { option_copied result ≡ type_below id (kids_of fields.now) }
 {
     for field in fields {
@@ -35,7 +35,7 @@ fn type_below(fields: &[Field], id: i64) -> Option<&StoredType>
     None
 }
 
-fn value_type(fields: &[Field], id: i64) -> Option<&StoredType>
+fn value_type(fields: &[Field], id: i64) -> Option<&ColType>
     ensures { option_copied result ≡ value_type fields.now id }
 {
     type_below(fields, id)
@@ -43,7 +43,7 @@ fn value_type(fields: &[Field], id: i64) -> Option<&StoredType>
 
 impl StreamSchema {
     /// The type of the values of the dictionary with this id, if a field has it.
-    pub fn value_type(&self, id: i64) -> Option<&StoredType>
+    pub fn value_type(&self, id: i64) -> Option<&ColType>
         ensures { option_copied result ≡ value_type self.now.fields.items id }
     {
         value_type(&self.fields, id)
@@ -51,7 +51,7 @@ impl StreamSchema {
 }
 
 /// Whether a field's dictionary, if it has one, has values of this type among `all`.
-fn own_agrees(all: &[Field], coding: Option<Coding>, stored: &StoredType) -> bool
+fn own_agrees(all: &[Field], coding: Option<Coding>, stored: &ColType) -> bool
     ensures { result ≡ own_agrees (value_type all.now) coding stored.now }
 {
     match coding {

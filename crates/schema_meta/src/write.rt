@@ -9,9 +9,10 @@ ghost use Rattle.schema_meta.specs.MessageTree.{header_number, message_slots};
 ghost use Rattle.schema_meta.specs.SchemaTree.{field_slots, field_tables as tables_of, schema_slots, schema_metadata, AreColumns};
 
 use crate::header::MessageKind;
-use field_types::{Named, Schema, type_number, type_table};
+use field_types::{type_number, type_table};
 use flatbuf::{Builder, Tables};
 use std::alloc::{AllocError, Global};
+use values::{Named, Schema};
 
 fn number_of_header(kind: MessageKind) -> u8
     ensures { result ≡ header_number kind }

@@ -11,12 +11,12 @@ use Rattle.values.specs.Datum.{Datum, items_of}
 use Rattle.values.specs.Layouts.{AreLayouts, HoldsEach}
 use Rattle.values.specs.Rose.{Rose, node, Roses, none, more, kids_of, rose_size, roses_size}
 use Rattle.values.specs.declared.layout.Layout.{Layout}
-use Rattle.field_types.specs.Logical.{LogicalField, tree_of, trees_of}
+use Rattle.values.specs.Logical.{LogicalField, tree_of, trees_of}
 use Rattle.schema_meta.specs.SchemaTree.{AreColumns}
 use Rattle.body_writer.specs.Batch.{row_weight, rows_weight, IsBatch}
-use Rattle.body_writer.specs.Weights.{capped}
+use Rattle.values.specs.Weights.{told}
 use Rattle.body_writer.proofs.Rows.{cells_in}
-use Rattle.body_writer.proofs.Summing.{capped-exact}
+use Rattle.values.proofs.Weighing.{told-exact}
 use Rattle.stream_writer.specs.Stream.{batch_message, beginning, batch_len, batches, trees}
 use Rattle.stream_writer.specs.Table.{IsRow}
 
@@ -78,9 +78,10 @@ row-of P rows i row all h e =
 pub told-weight :
     (ls : Roses Layout) (rows : List (Vec Datum Global)) (i : ℕ) (row : Vec Datum Global) (ds : List Datum) (w : ℕ)
     → All (λ r. row_weight ls r ≤ 2 ^ 26) (cells_in rows) → i < length rows → row ≡ get_or rows i row → ds ≡ row.items
-    → w ≡ capped (row_weight ls ds) → w ≡ row_weight ls row.items
+    → w ≡ told (row_weight ls ds) → w ≡ row_weight ls row.items
 told-weight ls rows i row ds w light h e same is =
-    is ∙ ap (λ xs. capped (row_weight ls xs)) same ∙ capped-exact (row_weight ls row.items) (row-of (λ r. row_weight ls r ≤ 2 ^ 26) rows i row light h e)
+    let few : row_weight ls row.items ≤ 2 ^ 26 = row-of (λ r. row_weight ls r ≤ 2 ^ 26) rows i row light h e in
+    is ∙ ap (λ xs. told (row_weight ls xs)) same ∙ told-exact (row_weight ls row.items) (omega (arith, few))
 
 pub stops-heavy : (ls : Roses Layout) (n room : ℕ) (rows : List (Vec Datum Global)) (i : ℕ) (row : Vec Datum Global) → i < length rows → row ≡ get_or rows i row → room < row_weight ls row.items →
     beginning ls n room (cells_in (drop i rows)) ≡ 0

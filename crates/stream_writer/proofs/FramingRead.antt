@@ -8,8 +8,7 @@ use Rattle.byteorder.specs.Numbers.{little_number-reads_back}
 use Rattle.values.specs.Reading.{Reading}
 use Rattle.schema_meta.specs.Stage.{Known, Meta, Whole}
 use Rattle.schema_meta.specs.Message.{meta_of}
-use Rattle.schema_meta.specs.Framing.{framed, message_at, staged, first}
-use Rattle.schema_meta.specs.Framing.{end_mark as end_known}
+use Rattle.schema_meta.specs.Framing.{framed, message_at, staged, first, end_mark as end_known}
 use Rattle.stream_writer.specs.Stream.{message}
 use Rattle.stream_writer.specs.FramingLaw.{FirstLaw, LastLaw}
 use Rattle.stream_writer.proofs.AboveZero.{some-of}

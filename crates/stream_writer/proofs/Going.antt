@@ -1,9 +1,7 @@
 -- One more piece goes out, or the writer stops.
-use Rattle.std.proofs.Common.{◌≡◌, ℕ, ◌+◌, ◌≤◌, List, [], ◌++◌, length, take, drop, refl, ap, sym, ◌∙◌, arith, length-drop, Option, Some, None, Result, Ok, Err, length-append}
+use Rattle.std.proofs.Common.{◌≡◌, ℕ, ◌+◌, ◌≤◌, List, [], ◌++◌, length, take, drop, refl, ap, sym, ◌∙◌, arith, length-drop, Option, Some, None, Result, Ok, Err, length-append, inl, inr}
 use Rattle.std.specs.Prelude.{◌≢◌, ◌↔◌}
-use Rattle.std.proofs.lemmas.List.{append-nil}
-use Rattle.std.proofs.lemmas.List.{take-append-le, drop-drop, drop_at}
-use Rattle.std.proofs.Common.{inl, inr}
+use Rattle.std.proofs.lemmas.List.{append-nil, take-append-le, drop-drop, drop_at}
 use Rattle.std.proofs.lemmas.Bool.{cases_eq}
 use Rattle.std.proofs.Math.Seq.{take-add}
 use Rattle.std.specs.Io.KnownBytes.{Appends}

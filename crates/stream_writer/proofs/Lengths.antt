@@ -14,7 +14,7 @@ use Rattle.schema_meta.specs.Batch.{least, is_long, are_long, columns_fit, lengt
 use Rattle.body_writer.specs.Slots.{is_valid, null_count, part}
 use Rattle.body_writer.specs.Columns.{child_cells, own_node, nodes, nodes_below}
 use Rattle.body_writer.specs.Law.{AreNodes}
-use Rattle.body_writer.specs.Weights.{weights}
+use Rattle.values.specs.Weights.{weights}
 use Rattle.body_writer.specs.Batch.{row_cell, row_cells, body_nodes, IsBatch}
 use Rattle.body_writer.proofs.ColumnRead.{nodes-count, AreNodes-front, AreNodes-back, struct-node}
 use Rattle.body_writer.proofs.Held.{HeldEach, kids-held}

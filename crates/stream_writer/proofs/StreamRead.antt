@@ -11,7 +11,7 @@ use Rattle.values.specs.Datum.{Datum}
 use Rattle.dictionaries.specs.Batches.{DictionaryBatch, dictionary_after}
 use Rattle.values.specs.Rose.{Rose, kids_of}
 use Rattle.values.specs.Layouts.{AreLayouts}
-use Rattle.field_types.specs.Logical.{LogicalField}
+use Rattle.values.specs.Logical.{LogicalField}
 use Rattle.schema_meta.specs.declared.header.MessageKind.TheVariants as kind
 use Rattle.schema_meta.specs.Stage.{Known, Meta, Whole, end_of}
 use Rattle.schema_meta.specs.Sound.{after}

@@ -3,7 +3,7 @@ use Rattle.std.proofs.Common.{◌≡◌, ℕ, ◌+◌, ◌<◌, ◌≤◌, List,
 use Rattle.values.specs.Rose.{Rose, Roses, more, join, kids_of}
 use Rattle.values.proofs.Roses.{kids_step, kids_end, join_more, join_none, kid_smaller}
 use Rattle.values.specs.declared.layout.Layout.{Layout}
-use Rattle.field_types.specs.Logical.{LogicalField, tree_of, trees_of}
+use Rattle.values.specs.Logical.{LogicalField, tree_of, trees_of}
 
 pub tree_step :
     (fs : List (Rose LogicalField)) (k : ℕ) (e d : Rose LogicalField) (made : List (Rose Layout)) (t : Rose Layout) (whole : Roses Layout)

@@ -7,7 +7,7 @@ use Rattle.std.specs.declared.alloc.Global.{Global}
 use Rattle.values.specs.Datum.{Datum}
 use Rattle.values.specs.Rose.{Rose, Roses}
 use Rattle.values.specs.declared.layout.Layout.{Layout}
-use Rattle.field_types.specs.Logical.{LogicalField}
+use Rattle.values.specs.Logical.{LogicalField}
 use Rattle.body_writer.proofs.Rows.{cells_in}
 use Rattle.stream_writer.specs.Sinks.{Sunk, Writes}
 use Rattle.stream_writer.specs.Stream.{schema_message, batch_message, batch_len, batches, end_mark, canon, trees}

@@ -2,7 +2,7 @@
 use Rattle.std.specs.Prelude.{◌≡◌, List, Some, Ok, length}
 use Rattle.values.specs.Rose.{Rose}
 use Rattle.values.specs.Datum.{Datum}
-use Rattle.field_types.specs.Logical.{LogicalField}
+use Rattle.values.specs.Logical.{LogicalField}
 use Rattle.schema_meta.specs.BatchHead.{BatchHead}
 use Rattle.schema_meta.specs.SchemaLaw.{stored_fields}
 use Rattle.schema_meta.specs.Stage.{Known}

@@ -5,7 +5,7 @@ use Rattle.std.specs.List.{flat_map}
 use Rattle.values.specs.Datum.{Datum}
 use Rattle.values.specs.Rose.{Rose, Roses}
 use Rattle.values.specs.declared.layout.Layout.{Layout}
-use Rattle.field_types.specs.Logical.{LogicalField}
+use Rattle.values.specs.Logical.{LogicalField}
 use Rattle.body_writer.specs.Batch.{IsBatch, rows_weight}
 use Rattle.stream_writer.specs.Stream.{batch_message, batch_len, batches, trees}
 use Rattle.stream_writer.specs.Table.{IsTable}

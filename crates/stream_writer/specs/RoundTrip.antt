@@ -2,7 +2,7 @@
 use Rattle.std.specs.Prelude.{◌≡◌, List, [], length, Some, Ok}
 use Rattle.values.specs.Datum.{Datum}
 use Rattle.values.specs.Rose.{Rose}
-use Rattle.field_types.specs.Logical.{LogicalField}
+use Rattle.values.specs.Logical.{LogicalField}
 use Rattle.schema_meta.specs.SchemaLaw.{stored_fields, AreNamed, before}
 use Rattle.schema_meta.specs.Story.{Story, story, story_of}
 use Rattle.schema_meta.specs.Means.{Means}

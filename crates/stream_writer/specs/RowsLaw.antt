@@ -2,7 +2,7 @@
 use Rattle.std.specs.Prelude.{◌≡◌, ℤ, List, Ok}
 use Rattle.values.specs.Rose.{Rose}
 use Rattle.values.specs.Datum.{Datum}
-use Rattle.field_types.specs.Logical.{LogicalField}
+use Rattle.values.specs.Logical.{LogicalField}
 use Rattle.schema_meta.specs.SchemaLaw.{stored_fields}
 use Rattle.schema_meta.specs.Rows.{rows_of}
 use Rattle.body_writer.specs.Batch.{IsBatch, body_bytes}

@@ -3,8 +3,8 @@ use Rattle.std.specs.Prelude.{ℕ, List, [], ◌∷◌, pos, true}
 use Rattle.values.specs.Datum.{Datum, null, whole}
 use Rattle.values.specs.Rose.{Rose, node, none}
 use Rattle.values.specs.declared.layout.IntWidth.TheVariants as int
-use Rattle.field_types.specs.Logical.{LogicalField}
-use Rattle.field_types.specs.declared.stored_type.StoredType.TheVariants as stored
+use Rattle.values.specs.Logical.{LogicalField}
+use Rattle.values.specs.declared.col_type.ColType.TheVariants as stored
 
 abbrev pub sample_field : ℕ → Rose LogicalField
 sample_field letter = node (record { name = letter ∷ []; col_type = stored.Int int.Bits64 true }) none

@@ -8,7 +8,7 @@ use Rattle.byteorder.specs.Endian.{little_bytes}
 use Rattle.values.specs.Datum.{Datum}
 use Rattle.values.specs.Rose.{Rose, Roses, kids_of}
 use Rattle.values.specs.declared.layout.Layout.{Layout}
-use Rattle.field_types.specs.Logical.{LogicalField, trees_of}
+use Rattle.values.specs.Logical.{LogicalField, trees_of}
 use Rattle.schema_meta.specs.SchemaTree.{schema_metadata}
 use Rattle.body_writer.specs.Batch.{body_bytes, row_weight}
 use Rattle.stream_writer.specs.Batch.{batch_metadata}

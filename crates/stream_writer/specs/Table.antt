@@ -3,7 +3,7 @@ use Rattle.std.specs.Prelude.{◌^◌, ◌≤◌, All, List, length}
 use Rattle.values.specs.Rose.{Rose}
 use Rattle.values.specs.Datum.{Datum, items_of}
 use Rattle.values.specs.Layouts.{AreLayouts, HoldsEach}
-use Rattle.field_types.specs.Logical.{LogicalField}
+use Rattle.values.specs.Logical.{LogicalField}
 use Rattle.schema_meta.specs.SchemaTree.{AreColumns}
 use Rattle.body_writer.specs.Batch.{row_weight}
 use Rattle.stream_writer.specs.Stream.{trees}

@@ -2,11 +2,10 @@
 
 ghost use Rattle.std.specs.Prelude.{◌≡◌, IfOk};
 ghost use Rattle.values.specs.Rose.{kids_of};
-ghost use Rattle.field_types.specs.Logical.{tree_of, trees_of};
+ghost use Rattle.values.specs.Logical.{tree_of, trees_of};
 
-use field_types::{Named, Schema};
 use std::alloc::{AllocError, Global};
-use values::LayoutTree;
+use values::{LayoutTree, Named, Schema};
 
 #[cycle(layouts)]
 fn layout_tree(alloc: Global, field: &Named) -> Result<LayoutTree, AllocError>

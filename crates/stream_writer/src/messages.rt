@@ -13,11 +13,10 @@ ghost use Rattle.stream_writer.specs.Stream as stream;
 use array_layout::{Node, Span};
 use body_writer::{Body, write_body};
 use byteorder::{ByteOrder, LittleEndian};
-use field_types::Schema;
 use flatbuf::Builder;
 use schema_meta::{MessageKind, write_message, write_schema};
 use std::alloc::{AllocError, Global};
-use values::{LayoutTree, Row};
+use values::{LayoutTree, Row, Schema};
 
 /// A message of this metadata and body.
 fn message(alloc: Global, metadata: &[u8], body: &[u8]) -> Result<Vec<u8>, AllocError>

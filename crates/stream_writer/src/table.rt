@@ -12,11 +12,9 @@ use crate::faults::WriteFault;
 use crate::layouts::layouts_of;
 use crate::messages;
 use crate::sink::{Sink, put_all};
-use body_writer::row_weight;
-use field_types::Schema;
 use std::alloc::Global;
 use values::limits::{MAX_BATCH_ROWS, MAX_BATCH_WEIGHT};
-use values::{LayoutTree, Row};
+use values::{LayoutTree, Row, Schema, row_weight};
 
 /// No more bytes follow.
 const END_MARK: [u8; 8] = [255, 255, 255, 255, 0, 0, 0, 0];

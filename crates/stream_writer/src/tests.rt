@@ -6,17 +6,16 @@ ghost use Rattle.values.specs.Kinds.{datum_of};
 ghost use Rattle.stream_writer.specs.Sample as sample;
 
 use crate::{MemorySink, WriteFault, write_table};
-use field_types::{Named, Schema, StoredType};
 use std::alloc::{AllocError, Global};
 use std::test::Fail;
-use values::{IntWidth, Kind, Row, Value};
+use values::{ColType, IntWidth, Kind, Named, Row, Schema, Value};
 
 fn column(alloc: Global, name: &str) -> Result<Named, AllocError>
-    ensures { IfOk result (λ field. field ≡ node (record { name = name.now; col_type = StoredType.Int IntWidth.Bits64 true }) none) }
+    ensures { IfOk result (λ field. field ≡ node (record { name = name.now; col_type = ColType.Int IntWidth.Bits64 true }) none) }
 {
     Ok(Named {
         name: String::from_str(alloc, name)?,
-        col_type: StoredType::Int {
+        col_type: ColType::Int {
             width: IntWidth::Bits64,
             signed: true,
         },

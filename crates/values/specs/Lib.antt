@@ -9,3 +9,8 @@ pub mod Rose
 pub mod Sizes
 pub mod Keys
 pub mod KeyOrder
+pub mod ColTypes
+pub mod TypeEquality
+pub mod TypeText
+pub mod Logical
+pub mod Weights

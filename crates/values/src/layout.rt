@@ -1,5 +1,9 @@
 //! How the values of a type lie in memory: Arrow Columnar Format, "Physical Memory Layout".
 
+ghost use Rattle.std.specs.Prelude.{◌≡◌, ◌*◌, ◌≤◌, ◌^◌};
+ghost use Rattle.values.specs.Rose.{node, none};
+ghost use Rattle.values.specs.Layouts.{bytes_in, offset_bytes, slot};
+
 use std::marker::Model;
 
 /// The width of a whole number.
@@ -11,11 +15,47 @@ pub enum IntWidth {
     Bits64,
 }
 
+impl IntWidth {
+    /// The width in bytes.
+    pub fn bytes(self) -> usize
+        ensures value { result ≡ bytes_in self }
+        ensures some { 1 ≤ result }
+        ensures few { result ≤ 8 }
+    {
+        match self {
+            IntWidth::Bits8 => 1,
+            IntWidth::Bits16 => 2,
+            IntWidth::Bits32 => 4,
+            IntWidth::Bits64 => 8,
+        }
+    }
+
+    /// The width in bits.
+    pub fn bits(self) -> u32
+        ensures value { result ≡ 8 * bytes_in self }
+        ensures few { result ≤ 64 }
+    {
+        8 * self.bytes() as u32
+    }
+}
+
 /// The width of an offset. Large types have offsets of 64 bits.
 #[derive(Clone, Copy, Debug, PartialEq, Eq)]
 pub enum OffsetWidth {
     Bits32,
     Bits64,
+}
+
+impl OffsetWidth {
+    /// The width in bytes.
+    pub fn bytes(self) -> usize
+        ensures { result ≡ offset_bytes self }
+    {
+        match self {
+            OffsetWidth::Bits32 => 4,
+            OffsetWidth::Bits64 => 8,
+        }
+    }
 }
 
 /// How an array's own buffers hold its slots.
@@ -37,6 +77,23 @@ pub enum Layout {
     List { offsets: OffsetWidth },
     /// Nothing of its own: slot i is made of the children's slots i.
     Struct,
+}
+
+impl Layout {
+    /// The weight of a null of this layout, without the slots of a struct's children.
+    pub fn own_slot(self) -> u64
+        ensures value { result ≡ slot (node self none) }
+        ensures bound { result ≤ 2 ^ 32 }
+    {
+        match self {
+            Layout::Bits => 2,
+            Layout::Number { width, .. } => 1 + width.bytes() as u64,
+            Layout::Decimal { .. } => 17,
+            Layout::Fixed { width } => 1 + u64::from(width),
+            Layout::Text { .. } | Layout::Bytes { .. } | Layout::List { .. } => 5,
+            Layout::Struct => 1,
+        }
+    }
 }
 
 /// The layout of a type, with those of its children below it.

@@ -1,6 +1,9 @@
-//! Copies, order and keys of values of every kind.
+//! Copies, order, keys and weights of values of every kind, and types as text.
 
-use crate::{Key, Kind, Value, cmp_values, copy_row};
+use crate::{
+    ColType, DateUnit, IntWidth, Key, Kind, Layout, LayoutTree, OffsetWidth, TimeUnit, Value, Zone,
+    cmp_values, copy_row, row_weight, slot, weight,
+};
 use std::alloc::{AllocError, Global};
 use std::cmp::Ordering;
 use std::test::Fail;
@@ -88,5 +91,139 @@ fn keys_are_values(rt: HostRuntime) -> Result<(), Fail> {
     assert!(rt; second.copy(alloc)? == second);
     assert!(rt; second < Key::Null);
     assert!(rt; Key::Whole(-1) < Key::Whole(0));
+    Ok(())
+}
+
+fn leaf(alloc: Global, layout: Layout) -> LayoutTree {
+    LayoutTree {
+        layout,
+        children: Vec::new(alloc),
+    }
+}
+
+/// The layout of `nested`.
+fn nested_layout(alloc: Global) -> Result<LayoutTree, AllocError> {
+    let offsets = OffsetWidth::Bits32;
+    let list = LayoutTree {
+        layout: Layout::List { offsets },
+        children: vec![in alloc; leaf(alloc, Layout::Bits)]?,
+    };
+    Ok(LayoutTree {
+        layout: Layout::Struct,
+        children: vec![in alloc; list, leaf(alloc, Layout::Text { offsets })]?,
+    })
+}
+
+#[test]
+fn weighs_by_slots(rt: HostRuntime) -> Result<(), Fail> {
+    let alloc = rt.alloc();
+    let layout = nested_layout(alloc)?;
+    let null = Value { kind: Kind::Null };
+    assert_eq!(rt; slot(&layout), 11);
+    assert_eq!(rt; weight(&layout, &null), 11);
+    assert_eq!(rt; weight(&layout, &nested(alloc)?), 17);
+    let layouts = vec![in alloc; layout, leaf(alloc, Layout::Decimal { precision: 9 })]?;
+    let row = vec![in alloc; nested(alloc)?, null]?;
+    assert_eq!(rt; row_weight(&layouts, &row), 34);
+    Ok(())
+}
+
+#[test]
+fn weighs_by_width(rt: HostRuntime) -> Result<(), Fail> {
+    let offsets = OffsetWidth::Bits64;
+    let width = IntWidth::Bits64;
+    for (layout, expected) in [
+        (Layout::Bits, 2),
+        (
+            Layout::Number {
+                width,
+                signed: true,
+            },
+            9,
+        ),
+        (Layout::Fixed { width: 7 }, 8),
+        (Layout::Text { offsets }, 5),
+        (Layout::Struct, 1),
+    ] {
+        assert_eq!(rt; layout.own_slot(), expected);
+        assert_eq!(rt; slot(&leaf(rt.alloc(), layout)), expected);
+    }
+    let text = text(rt.alloc(), "abc")?;
+    assert_eq!(rt; Layout::Text { offsets }.own_weight(&text), 8);
+    assert_eq!(rt; Layout::Bits.own_weight(&text), 2);
+    assert_eq!(rt; offsets.bytes(), 8);
+    assert_eq!(rt; width.bytes(), 8);
+    Ok(())
+}
+
+#[test]
+fn prints_types(rt: HostRuntime) -> Result<(), Fail> {
+    let alloc = rt.alloc();
+    let (small, large) = (OffsetWidth::Bits32, OffsetWidth::Bits64);
+    let (width, signed) = (IntWidth::Bits16, false);
+    let unit = TimeUnit::Second;
+    let zone = Zone::new(alloc, "UTC")?;
+    let rows = vec![in alloc;
+        (ColType::Bool, "bool"),
+        (ColType::Int { width, signed }, "uint16"),
+        (
+            ColType::Decimal {
+                precision: 38,
+                scale: 2
+            },
+            "decimal[38, 2]"
+        ),
+        (
+            ColType::Date {
+                unit: DateUnit::Millisecond
+            },
+            "date64"
+        ),
+        (
+            ColType::Time {
+                unit: TimeUnit::Millisecond
+            },
+            "time32[ms]"
+        ),
+        (ColType::Timestamp { unit, zone }, "timestamp[s, UTC]"),
+        (
+            ColType::Timestamp {
+                unit,
+                zone: Zone::new(alloc, "")?
+            },
+            "timestamp[s]"
+        ),
+        (
+            ColType::Duration {
+                unit: TimeUnit::Nanosecond
+            },
+            "duration[ns]"
+        ),
+        (ColType::Utf8 { offsets: small }, "utf8"),
+        (ColType::Binary { offsets: large }, "large_binary"),
+        (ColType::Fixed { width: 259 }, "fixed[259]"),
+        (ColType::List { offsets: large }, "large_list"),
+        (ColType::Struct, "struct"),
+    ]?;
+    for (col_type, expected) in &rows {
+        let copy = col_type.copy(alloc)?;
+        assert_eq!(rt; &copy, col_type);
+        let text = format!(in alloc; "{copy}")?;
+        assert_eq!(rt; text.as_str(), *expected);
+    }
+    Ok(())
+}
+
+#[test]
+fn lies_in_memory_as_a_number(rt: HostRuntime) -> Result<(), Fail> {
+    let layout = Layout::Number {
+        width: IntWidth::Bits32,
+        signed: true,
+    };
+    let days = DateUnit::Day;
+    assert_eq!(rt; ColType::Date { unit: days }.layout(), layout);
+    assert_eq!(rt; days.width(), IntWidth::Bits32);
+    assert_eq!(rt; TimeUnit::Microsecond.width(), IntWidth::Bits64);
+    assert_eq!(rt; TimeUnit::Microsecond.bits(), 64);
     Ok(())
 }

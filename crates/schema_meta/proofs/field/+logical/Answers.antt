@@ -1,5 +1,5 @@
 use Rattle.std.proofs.Common.{◌≡◌, ◌∙◌, ap}
-use Rattle.field_types.specs.Logical.{child_name}
+use Rattle.values.specs.Logical.{child_name}
 use Rattle.schema_meta.proofs.Logicals.{logical_step, name_of}
 use Rattle.schema_meta.proofs.field.+logical.Goals as goal
 

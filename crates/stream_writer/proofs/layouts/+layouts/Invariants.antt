@@ -1,6 +1,6 @@
 use Rattle.std.proofs.Common.{◌≡◌, ◌+◌, ◌*◌, drop}
 use Rattle.values.specs.Rose.{kids_of, join, rose_size, roses_size}
-use Rattle.field_types.specs.Logical.{trees_of}
+use Rattle.values.specs.Logical.{trees_of}
 use Rattle.stream_writer.proofs.layouts.+layouts.Given as goal
 
 abbrev pub decreases-layout_tree : goal.decreases-layout_tree

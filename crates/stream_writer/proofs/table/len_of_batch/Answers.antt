@@ -12,7 +12,7 @@ returns-then-room-weight-clause-value c =
     let l = c.loop-row in
     let ls = kids_of c.args.layouts.now in
     let heavy = c.if-room-weight.true in
-    let weight = told-weight ls c.args.rows.now l.row-index c.row-item.result c.deref.result.now c.row_weight-weight.result c.requires c.loop-row-test.true c.row-item.is c.deref.ensures.value c.row_weight-weight.ensures.value in
+    let weight = told-weight ls c.args.rows.now l.row-index c.row-item.result c.deref.result.now c.row_weight-weight.result c.requires c.loop-row-test.true c.row-item.is c.deref.ensures.value c.row_weight-weight.ensures in
     let none = stops-heavy ls (1024 - l.count) l.room c.args.rows.now l.row-index c.row-item.result c.loop-row-test.true c.row-item.is (omega (arith, heavy, weight)) in
     omega (arith, none, l.invariant.value)
 
@@ -29,7 +29,7 @@ loop-row-preserved c =
     let ls = kids_of c.args.layouts.now in
     let some = c.if-count-eq-MAX_BATCH_ROWS.false in
     let light = c.if-room-weight.false in
-    let weight = told-weight ls c.args.rows.now l.row-index c.row-item.result c.deref.result.now c.row_weight-weight.result c.requires c.loop-row-test.true c.row-item.is c.deref.ensures.value c.row_weight-weight.ensures.value in
+    let weight = told-weight ls c.args.rows.now l.row-index c.row-item.result c.deref.result.now c.row_weight-weight.result c.requires c.loop-row-test.true c.row-item.is c.deref.ensures.value c.row_weight-weight.ensures in
     let few = l.invariant.few in
     let more = goes-on ls (1024 - l.count) l.room c.args.rows.now l.row-index c.row-item.result c.loop-row-test.true c.row-item.is (omega (arith, some, few)) (omega (arith, light, weight)) in
     let fewer : 1024 - l.count - 1 ≡ 1024 - (l.count + 1) = omega arith in

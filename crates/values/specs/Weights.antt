@@ -1,17 +1,18 @@
--- What a column weighs.
-use Rattle.std.specs.Prelude.{ℕ, ◌+◌, ◌^◌, nat_lt, if◌then◌else◌, List, [], ◌∷◌}
+-- How weights are told, and what they are counted from.
+use Rattle.std.specs.Prelude.{ℕ, ◌+◌, ◌-◌, ◌^◌, nat_lt, if◌then◌else◌, List, [], ◌∷◌}
 use Rattle.values.specs.Rose.{Rose}
 use Rattle.values.specs.Datum.{Datum, text, bytes, list, Items, no_items}
 use Rattle.values.specs.declared.layout.Layout.{Layout}
 use Rattle.values.specs.Layouts.{weight}
 
+-- a weight in 64 bits: the greatest number where it is more
+unfoldable pub told : ℕ → ℕ
+told n = if nat_lt n (2 ^ 64) then n else 2 ^ 64 - 1
+
+-- of values of one layout
 abbrev pub weights : Rose Layout → List Datum → ℕ
 weights t [] = 0
 weights t (c ∷ cs) = weight t c + weights t cs
-
--- a weight, exact up to that of the heaviest row, and 1 more where it is above
-unfoldable pub capped : ℕ → ℕ
-capped n = if nat_lt n (2 ^ 26 + 1) then n else 2 ^ 26 + 1
 
 -- what texts, bytes and lists hold beyond their slots
 

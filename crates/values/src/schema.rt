@@ -1,6 +1,6 @@
 //! The logical schema: what columns hold, whatever they are stored as.
 
-use crate::stored_type::StoredType;
+use crate::col_type::ColType;
 use std::marker::Model;
 
 /// A field's name and type, with the fields below it: of a list its items, which are named `item`, of a struct its children.
@@ -9,7 +9,7 @@ use std::marker::Model;
 #[derive(Debug, Drop)]
 pub struct Named {
     pub name: String,
-    pub col_type: StoredType,
+    pub col_type: ColType,
     pub children: Vec<Named>,
 }
 
@@ -17,7 +17,7 @@ impl Model for Named {
     ghost use Rattle.std.specs.Prelude.{string_bytes};
     ghost use Rattle.std.proofs.Common.{arith};
     ghost use Rattle.values.specs.Rose.{Rose, node, kids_of, rose_code, rose_size, most_le-roses_size};
-    ghost use Rattle.field_types.specs.Logical.{LogicalField, logical_code};
+    ghost use Rattle.values.specs.Logical.{LogicalField, logical_code};
 
     ghost Value = { Rose LogicalField };
 

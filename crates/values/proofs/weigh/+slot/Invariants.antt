@@ -1,8 +1,8 @@
-use Rattle.std.proofs.Common.{◌≡◌, ◌+◌, ◌*◌, ◌≤◌, ◌^◌, drop}
+use Rattle.std.proofs.Common.{◌≡◌, ◌+◌, ◌*◌, ◌<◌, ◌^◌, drop}
 use Rattle.values.specs.Rose.{kids_of, rose_size, roses_size}
 use Rattle.values.specs.Layouts.{slots}
-use Rattle.body_writer.specs.Weights.{capped}
-use Rattle.body_writer.proofs.weigh.+slot.Given as goal
+use Rattle.values.specs.Weights.{told}
+use Rattle.values.proofs.weigh.+slot.Given as goal
 
 abbrev pub decreases-slot : goal.decreases-slot
 decreases-slot l = 4 * rose_size l.layout.now
@@ -15,4 +15,4 @@ decreases-slots l = 4 * roses_size (kids_of l.children.now) + 2
 
 abbrev pub invariant-slots-loop-child : goal.invariant-slots-loop-child
 invariant-slots-loop-child l =
-    (capped (l.sum + slots (kids_of (drop l.child-index l.children))) ≡ capped (slots (kids_of l.children))) × (l.sum ≤ 2 ^ 26 + 1)
+    (told (l.sum + slots (kids_of (drop l.child-index l.children))) ≡ told (slots (kids_of l.children))) × (l.sum < 2 ^ 64)

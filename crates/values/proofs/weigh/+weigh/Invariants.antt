@@ -1,9 +1,9 @@
-use Rattle.std.proofs.Common.{◌≡◌, ◌+◌, ◌*◌, ◌≤◌, ◌^◌, drop}
+use Rattle.std.proofs.Common.{◌≡◌, ◌+◌, ◌*◌, ◌<◌, ◌^◌, drop}
 use Rattle.values.specs.Rose.{kids_of, rose_size, roses_size}
 use Rattle.values.specs.Datum.{items_of}
 use Rattle.values.specs.Layouts.{row_weight}
-use Rattle.body_writer.specs.Weights.{capped, weights}
-use Rattle.body_writer.proofs.weigh.+weigh.Given as goal
+use Rattle.values.specs.Weights.{told, weights}
+use Rattle.values.proofs.weigh.+weigh.Given as goal
 
 abbrev pub decreases-weight : goal.decreases-weight
 decreases-weight l = 8 * rose_size l.layout.now
@@ -25,9 +25,8 @@ decreases-weigh_all l = 8 * rose_size l.layout.now + 1
 
 abbrev pub invariant-weigh_all-loop-item : goal.invariant-weigh_all-loop-item
 invariant-weigh_all-loop-item l =
-    (capped (l.sum + weights l.layout (drop l.item-index l.items)) ≡ capped (weights l.layout l.items)) × (l.sum ≤ 2 ^ 26 + 1)
+    (told (l.sum + weights l.layout (drop l.item-index l.items)) ≡ told (weights l.layout l.items)) × (l.sum < 2 ^ 64)
 
 abbrev pub invariant-row_weight-loop-j : goal.invariant-row_weight-loop-j
 invariant-row_weight-loop-j l =
-    (capped (l.sum + row_weight (kids_of (drop l.j l.layouts)) (items_of (drop l.j l.row))) ≡ capped (row_weight (kids_of l.layouts) (items_of l.row)))
-    × (l.sum ≤ 2 ^ 26 + 1)
+    (told (l.sum + row_weight (kids_of (drop l.j l.layouts)) (items_of (drop l.j l.row))) ≡ told (row_weight (kids_of l.layouts) (items_of l.row))) × (l.sum < 2 ^ 64)

@@ -1,5 +1,5 @@
 use Rattle.liveviews.proofs.Alike.{account-ends}
-use Rattle.liveviews.proofs.inspecting.account_law.Goals as goal
+use Rattle.liveviews.proofs.laws.account_law.Goals as goal
 
 pub returns : goal.returns
 returns c = account-ends (record {

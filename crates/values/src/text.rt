@@ -1,15 +1,13 @@
 //! Types as text.
 
 ghost use Rattle.std.specs.Prelude.{◌≡◌};
-ghost use Rattle.field_types.specs.Text.{size_text};
+ghost use Rattle.values.specs.TypeText.{size_text};
 
-use crate::stored_type::StoredType;
-use crate::types::bits_of;
+use crate::col_type::ColType;
+use crate::layout::OffsetWidth;
 use crate::units::{DateUnit, TimeUnit};
-use crate::write::bits_of_int;
 use crate::zone::Zone;
 use std::fmt;
-use values::OffsetWidth;
 
 impl fmt::Display for Zone {
     ghost use Rattle.std.specs.Prelude.{Some};
@@ -23,7 +21,7 @@ impl fmt::Display for Zone {
 
 impl fmt::Display for TimeUnit {
     ghost use Rattle.std.specs.Prelude.{Some};
-    ghost use Rattle.field_types.specs.Text.{unit_text};
+    ghost use Rattle.values.specs.TypeText.{unit_text};
 
     ghost output = { λ u. Some (unit_text u) };
 
@@ -48,50 +46,48 @@ fn size(offsets: OffsetWidth) -> &'static str
 }
 
 /// The type's name with its parameters, as `decimal[9, 2]`; of lists and structs the name alone.
-impl fmt::Display for StoredType {
+impl fmt::Display for ColType {
     ghost use Rattle.std.specs.Prelude.{Some};
-    ghost use Rattle.field_types.specs.Text.{type_text};
+    ghost use Rattle.values.specs.TypeText.{type_text};
 
     ghost output = { λ t. Some (type_text t) };
 
     fn fmt<W: fmt::Write>(&self, f: &mut fmt::Formatter<W>) -> fmt::Result {
         match self {
-            StoredType::Bool => f.write_str("bool"),
-            StoredType::Int { width, signed } => {
+            ColType::Bool => f.write_str("bool"),
+            ColType::Int { width, signed } => {
                 let sign = if *signed { "" } else { "u" };
-                let bits = bits_of_int(*width);
+                let bits = width.bits();
                 write!(f, "{sign}int{bits}")
             }
-            StoredType::Decimal { precision, scale } => {
-                write!(f, "decimal[{precision}, {scale}]")
-            }
-            StoredType::Date { unit } => f.write_str(match unit {
+            ColType::Decimal { precision, scale } => { write!(f, "decimal[{precision}, {scale}]") }
+            ColType::Date { unit } => f.write_str(match unit {
                 DateUnit::Day => "date32",
                 DateUnit::Millisecond => "date64",
             }),
-            StoredType::Time { unit } => {
-                let bits = bits_of(*unit);
+            ColType::Time { unit } => {
+                let bits = unit.bits();
                 write!(f, "time{bits}[{unit}]")
             }
-            StoredType::Timestamp { unit, zone } => {
+            ColType::Timestamp { unit, zone } => {
                 let comma = if zone.as_str().is_empty() { "" } else { ", " };
                 write!(f, "timestamp[{unit}{comma}{zone}]")
             }
-            StoredType::Duration { unit } => write!(f, "duration[{unit}]"),
-            StoredType::Utf8 { offsets } => {
+            ColType::Duration { unit } => write!(f, "duration[{unit}]"),
+            ColType::Utf8 { offsets } => {
                 let size = size(*offsets);
                 write!(f, "{size}utf8")
             }
-            StoredType::Binary { offsets } => {
+            ColType::Binary { offsets } => {
                 let size = size(*offsets);
                 write!(f, "{size}binary")
             }
-            StoredType::Fixed { width } => write!(f, "fixed[{width}]"),
-            StoredType::List { offsets } => {
+            ColType::Fixed { width } => write!(f, "fixed[{width}]"),
+            ColType::List { offsets } => {
                 let size = size(*offsets);
                 write!(f, "{size}list")
             }
-            StoredType::Struct => f.write_str("struct"),
+            ColType::Struct => f.write_str("struct"),
         }
     }
 }

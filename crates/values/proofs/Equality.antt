@@ -11,25 +11,25 @@ use Rattle.values.specs.declared.layout.OffsetWidth.{OffsetWidth}
 use Rattle.values.specs.declared.layout.OffsetWidth.TheVariants as offset
 use Rattle.values.specs.contracts.layout.IntWidthPartialEq.TheImpl as int_equality
 use Rattle.values.specs.contracts.layout.OffsetWidthPartialEq.TheImpl as offset_equality
-use Rattle.field_types.specs.declared.units.DateUnit.{DateUnit}
-use Rattle.field_types.specs.declared.units.DateUnit.TheVariants as date
-use Rattle.field_types.specs.declared.units.TimeUnit.{TimeUnit}
-use Rattle.field_types.specs.declared.units.TimeUnit.TheVariants as time
-use Rattle.field_types.specs.contracts.units.DateUnitPartialEq.TheImpl as date_equality
-use Rattle.field_types.specs.contracts.units.TimeUnitPartialEq.TheImpl as time_equality
-use Rattle.field_types.specs.declared.stored_type.StoredType.{StoredType}
-use Rattle.field_types.specs.declared.stored_type.StoredType.TheVariants as stored
-use Rattle.field_types.specs.contracts.stored_type.StoredTypePartialEq.TheImpl as equality
-use Rattle.field_types.specs.StoredLaws.{TypesAreExact}
+use Rattle.values.specs.declared.units.DateUnit.{DateUnit}
+use Rattle.values.specs.declared.units.DateUnit.TheVariants as date
+use Rattle.values.specs.declared.units.TimeUnit.{TimeUnit}
+use Rattle.values.specs.declared.units.TimeUnit.TheVariants as time
+use Rattle.values.specs.contracts.units.DateUnitPartialEq.TheImpl as date_equality
+use Rattle.values.specs.contracts.units.TimeUnitPartialEq.TheImpl as time_equality
+use Rattle.values.specs.declared.col_type.ColType.{ColType}
+use Rattle.values.specs.declared.col_type.ColType.TheVariants as col
+use Rattle.values.specs.contracts.col_type.ColTypePartialEq.TheImpl as equality
+use Rattle.values.specs.TypeEquality.{TypesAreExact}
 
-abbrev type_eq : StoredType → StoredType → Bool
+abbrev type_eq : ColType → ColType → Bool
 type_eq = equality.ghosts.eq
 
-same-bool : (b : Bool) → type_eq (stored.Int int.Bits8 b) (stored.Int int.Bits8 b) ≡ true
+same-bool : (b : Bool) → type_eq (col.Int int.Bits8 b) (col.Int int.Bits8 b) ≡ true
 same-bool true = refl
 same-bool false = refl
 
-same-int : (w : IntWidth) (b : Bool) → type_eq (stored.Int w b) (stored.Int w b) ≡ true
+same-int : (w : IntWidth) (b : Bool) → type_eq (col.Int w b) (col.Int w b) ≡ true
 same-int int.Bits8 b = same-bool b
 same-int int.Bits16 b = same-bool b
 same-int int.Bits32 b = same-bool b
@@ -73,52 +73,54 @@ equal-time time.Microsecond time.Microsecond h = refl
 equal-time time.Nanosecond time.Nanosecond h = refl
 equal-time u v h = absurd (cc)
 
-same-type : (a : StoredType) → type_eq a a ≡ true
-same-type stored.Bool = refl
-same-type (stored.Int w s) = same-int w s
-same-type (stored.Decimal p s) = and_from _ _ (nat_eq_equiv.refl p) (nat_eq_equiv.refl s)
-same-type (stored.Date u) = same-date u
-same-type (stored.Time u) = same-time u
-same-type (stored.Timestamp u z) = and_from _ _ (same-time u) (nat_list_eq_equiv.refl z)
-same-type (stored.Duration u) = same-time u
-same-type (stored.Utf8 o) = same-offset o
-same-type (stored.Binary o) = same-offset o
-same-type (stored.Fixed w) = nat_eq_equiv.refl w
-same-type (stored.List o) = same-offset o
-same-type stored.Struct = refl
+same-type : (a : ColType) → type_eq a a ≡ true
+same-type col.Bool = refl
+same-type (col.Int w s) = same-int w s
+same-type (col.Decimal p s) = and_from _ _ (nat_eq_equiv.refl p) (nat_eq_equiv.refl s)
+same-type (col.Date u) = same-date u
+same-type (col.Time u) = same-time u
+same-type (col.Timestamp u z) = and_from _ _ (same-time u) (nat_list_eq_equiv.refl z)
+same-type (col.Duration u) = same-time u
+same-type (col.Utf8 o) = same-offset o
+same-type (col.Binary o) = same-offset o
+same-type (col.Fixed w) = nat_eq_equiv.refl w
+same-type (col.List o) = same-offset o
+same-type col.Struct = refl
 
 not-false : (b : Bool) → ¬ ((b && false) ≡ true)
 not-false true h = cc
 not-false false h = cc
 
-equal-ints : (w x : IntWidth) (s r : Bool) → type_eq (stored.Int w s) (stored.Int x r) ≡ true → stored.Int w s ≡ stored.Int x r
-equal-ints w x true true h = ap (λ y. stored.Int y true) (equal-int w x (and_parts _ _ h).0)
-equal-ints w x false false h = ap (λ y. stored.Int y false) (equal-int w x (and_parts _ _ h).0)
+equal-ints : (w x : IntWidth) (s r : Bool) → type_eq (col.Int w s) (col.Int x r) ≡ true → col.Int w s ≡ col.Int x r
+equal-ints w x true true h = ap (λ y. col.Int y true) (equal-int w x (and_parts _ _ h).0)
+equal-ints w x false false h = ap (λ y. col.Int y false) (equal-int w x (and_parts _ _ h).0)
 equal-ints w x true false h = absurd (not-false (int_equality.ghosts.eq w x) h)
 equal-ints w x false true h = absurd (not-false (int_equality.ghosts.eq w x) h)
 
-equal-types : (a b : StoredType) → type_eq a b ≡ true → a ≡ b
-equal-types stored.Bool stored.Bool h = refl
-equal-types (stored.Int w s) (stored.Int x r) h = equal-ints w x s r h
-equal-types (stored.Decimal p s) (stored.Decimal q r) h =
+equal-types : (a b : ColType) → type_eq a b ≡ true → a ≡ b
+equal-types col.Bool col.Bool h = refl
+equal-types (col.Int w s) (col.Int x r) h = equal-ints w x s r h
+equal-types (col.Decimal p s) (col.Decimal q r) h =
     let e = and_parts _ _ h in
     let here : p ≡ q = eqb-true p q e.0 in
     let there : s ≡ r = eqb-true s r e.1 in
     rw (here, there) refl
-equal-types (stored.Date u) (stored.Date v) h = ap stored.Date (equal-date u v h)
-equal-types (stored.Time u) (stored.Time v) h = ap stored.Time (equal-time u v h)
-equal-types (stored.Timestamp u z) (stored.Timestamp v y) h =
+equal-types (col.Date u) (col.Date v) h = ap col.Date (equal-date u v h)
+equal-types (col.Time u) (col.Time v) h = ap col.Time (equal-time u v h)
+equal-types (col.Timestamp u z) (col.Timestamp v y) h =
     let e = and_parts _ _ h in
     let here : u ≡ v = equal-time u v e.0 in
     let there : z ≡ y = same_text z y (sym e.1) in
     rw (here, there) refl
-equal-types (stored.Duration u) (stored.Duration v) h = ap stored.Duration (equal-time u v h)
-equal-types (stored.Utf8 o) (stored.Utf8 q) h = ap stored.Utf8 (equal-offset o q h)
-equal-types (stored.Binary o) (stored.Binary q) h = ap stored.Binary (equal-offset o q h)
-equal-types (stored.Fixed w) (stored.Fixed x) h = ap stored.Fixed (eqb-true w x h)
-equal-types (stored.List o) (stored.List q) h = ap stored.List (equal-offset o q h)
-equal-types stored.Struct stored.Struct h = refl
+equal-types (col.Duration u) (col.Duration v) h = ap col.Duration (equal-time u v h)
+equal-types (col.Utf8 o) (col.Utf8 q) h = ap col.Utf8 (equal-offset o q h)
+equal-types (col.Binary o) (col.Binary q) h = ap col.Binary (equal-offset o q h)
+equal-types (col.Fixed w) (col.Fixed x) h = ap col.Fixed (eqb-true w x h)
+equal-types (col.List o) (col.List q) h = ap col.List (equal-offset o q h)
+equal-types col.Struct col.Struct h = refl
 equal-types a b h = absurd (cc)
 
 pub types-exact : TypesAreExact
 types-exact a b = (equal-types a b, λ e. subst (λ x. type_eq a x ≡ true) e (same-type a))
+
+pub ruleset type_equality = (types-exact)

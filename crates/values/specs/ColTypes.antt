@@ -1,0 +1,65 @@
+-- The types of columns: their bounds, and how their values lie in memory.
+use Rattle.std.specs.Prelude.{◌≡◌, ℕ, ◌*◌, ◌≤◌, true, length}
+use Rattle.std.specs.Str.{is_utf8}
+use Rattle.values.specs.Layouts.{bytes_in}
+use Rattle.values.specs.declared.layout.IntWidth.{IntWidth}
+use Rattle.values.specs.declared.layout.IntWidth.TheVariants as int
+use Rattle.values.specs.declared.layout.Layout.{Layout}
+use Rattle.values.specs.declared.layout.Layout.TheVariants as layout
+use Rattle.values.specs.declared.units.DateUnit.{DateUnit}
+use Rattle.values.specs.declared.units.DateUnit.TheVariants as date
+use Rattle.values.specs.declared.units.TimeUnit.{TimeUnit}
+use Rattle.values.specs.declared.units.TimeUnit.TheVariants as time
+use Rattle.values.specs.declared.col_type.ColType.{ColType}
+use Rattle.values.specs.declared.col_type.ColType.TheVariants as col
+
+-- a type whose parameters are within their bounds
+abbrev pub IsType : ColType → Type 0
+IsType col.Bool = Unit {0}
+IsType (col.Int w s) = Unit {0}
+IsType (col.Decimal p s) = (1 ≤ p) × (p ≤ 38) × (s ≤ p)
+IsType (col.Date u) = Unit {0}
+IsType (col.Time u) = Unit {0}
+IsType (col.Timestamp u z) = (length z ≤ 4096) × (is_utf8 z ≡ true)
+IsType (col.Duration u) = Unit {0}
+IsType (col.Utf8 o) = Unit {0}
+IsType (col.Binary o) = Unit {0}
+IsType (col.Fixed w) = w ≤ 65536
+IsType (col.List o) = Unit {0}
+IsType col.Struct = Unit {0}
+
+-- a type without children, which the values of a dictionary may have
+abbrev pub IsSingle : ColType → Type 0
+IsSingle (col.List o) = ⊥
+IsSingle col.Struct = ⊥
+IsSingle s = Unit {0}
+
+-- enum DateUnit: days have 32 bits, milliseconds 64
+abbrev pub width_of_date : DateUnit → IntWidth
+width_of_date date.Day = int.Bits32
+width_of_date date.Millisecond = int.Bits64
+
+-- table Time: seconds and milliseconds have 32 bits, microseconds and nanoseconds 64
+abbrev pub width_of_time : TimeUnit → IntWidth
+width_of_time time.Second = int.Bits32
+width_of_time time.Millisecond = int.Bits32
+width_of_time time.Microsecond = int.Bits64
+width_of_time time.Nanosecond = int.Bits64
+
+abbrev pub bits_of_time : TimeUnit → ℕ
+bits_of_time u = 8 * bytes_in (width_of_time u)
+
+-- Arrow Columnar Format, "Data Types": the physical layout of each type. Dates, times, timestamps and durations are signed numbers.
+abbrev pub layout_of : ColType → Layout
+layout_of col.Bool = layout.Bits
+layout_of (col.Int w s) = layout.Number w s
+layout_of (col.Decimal p s) = layout.Decimal p
+layout_of (col.Date u) = layout.Number (width_of_date u) true
+layout_of (col.Time u) = layout.Number (width_of_time u) true
+layout_of (col.Timestamp u z) = layout.Number int.Bits64 true
+layout_of (col.Duration u) = layout.Number int.Bits64 true
+layout_of (col.Utf8 o) = layout.Text o
+layout_of (col.Binary o) = layout.Bytes o
+layout_of (col.Fixed w) = layout.Fixed w
+layout_of (col.List o) = layout.List o
+layout_of col.Struct = layout.Struct

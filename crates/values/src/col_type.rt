@@ -1,0 +1,95 @@
+//! The types of columns.
+
+ghost use Rattle.std.specs.Prelude.{◌≡◌, IfOk};
+ghost use Rattle.values.specs.ColTypes.{layout_of};
+
+use crate::layout::{IntWidth, Layout, OffsetWidth};
+use crate::units::{DateUnit, TimeUnit};
+use crate::zone::Zone;
+use std::alloc::{AllocError, Global};
+
+/// The type of a column, or of a part of one: Schema.fbs, union `Type`. Types that the union has and this enum hasn't are not taken.
+///
+/// It says also how wide offsets are stored. A logical type has offsets of 32 bits, whatever its values are stored with.
+#[derive(Debug, Drop, PartialEq, Eq)]
+pub enum ColType {
+    Bool,
+    Int { width: IntWidth, signed: bool },
+    /// Of 128 bits: so many decimal digits, so many of them after the point.
+    Decimal { precision: u8, scale: u8 },
+    /// Days of 32 bits, or milliseconds of 64, since the beginning of 1970.
+    Date { unit: DateUnit },
+    /// Since midnight: seconds and milliseconds of 32 bits, microseconds and nanoseconds of 64.
+    Time { unit: TimeUnit },
+    /// Of 64 bits, since the beginning of 1970.
+    Timestamp { unit: TimeUnit, zone: Zone },
+    /// Of 64 bits.
+    Duration { unit: TimeUnit },
+    Utf8 { offsets: OffsetWidth },
+    Binary { offsets: OffsetWidth },
+    /// So many bytes a value.
+    Fixed { width: u32 },
+    /// With one child.
+    List { offsets: OffsetWidth },
+    /// With any number of children.
+    Struct,
+}
+
+fn number(width: IntWidth, signed: bool) -> Layout
+    ensures { result ≡ Layout.Number width signed }
+{
+    Layout::Number { width, signed }
+}
+
+impl ColType {
+    /// How the slots of an array of this type lie in memory.
+    pub fn layout(&self) -> Layout
+        ensures { result ≡ layout_of self.now }
+    {
+        match self {
+            ColType::Bool => Layout::Bits,
+            ColType::Int { width, signed } => number(*width, *signed),
+            ColType::Decimal { precision, .. } => Layout::Decimal {
+                precision: *precision,
+            },
+            ColType::Date { unit } => number(unit.width(), true),
+            ColType::Time { unit } => number(unit.width(), true),
+            ColType::Timestamp { .. } => number(IntWidth::Bits64, true),
+            ColType::Duration { .. } => number(IntWidth::Bits64, true),
+            ColType::Utf8 { offsets } => Layout::Text { offsets: *offsets },
+            ColType::Binary { offsets } => Layout::Bytes { offsets: *offsets },
+            ColType::Fixed { width } => Layout::Fixed { width: *width },
+            ColType::List { offsets } => Layout::List { offsets: *offsets },
+            ColType::Struct => Layout::Struct,
+        }
+    }
+
+    /// An equal type with memory of its own.
+    pub fn copy(&self, alloc: Global) -> Result<ColType, AllocError>
+        ensures { IfOk result (λ copied. copied ≡ self.now) }
+    {
+        Ok(match self {
+            ColType::Bool => ColType::Bool,
+            ColType::Int { width, signed } => ColType::Int {
+                width: *width,
+                signed: *signed,
+            },
+            ColType::Decimal { precision, scale } => ColType::Decimal {
+                precision: *precision,
+                scale: *scale,
+            },
+            ColType::Date { unit } => ColType::Date { unit: *unit },
+            ColType::Time { unit } => ColType::Time { unit: *unit },
+            ColType::Timestamp { unit, zone } => ColType::Timestamp {
+                unit: *unit,
+                zone: zone.copy(alloc)?,
+            },
+            ColType::Duration { unit } => ColType::Duration { unit: *unit },
+            ColType::Utf8 { offsets } => ColType::Utf8 { offsets: *offsets },
+            ColType::Binary { offsets } => ColType::Binary { offsets: *offsets },
+            ColType::Fixed { width } => ColType::Fixed { width: *width },
+            ColType::List { offsets } => ColType::List { offsets: *offsets },
+            ColType::Struct => ColType::Struct,
+        })
+    }
+}
