@@ -1,6 +1,6 @@
 //! The readers of buffers.
 
-ghost use Rattle.std.specs.Prelude.{◌≡◌, ◌+◌, ◌*◌, ◌<◌, ◌≤◌, ◌^◌, length, false, true};
+ghost use Rattle.std.specs.Prelude.{◌≡◌, ◌+◌, ◌*◌, ◌<◌, ◌≤◌, length, true};
 ghost use Rattle.bitmaps.specs.Bits.{HasBits, bit_at};
 ghost use Rattle.values.specs.Layouts.{bytes_in, offset_bytes};
 ghost use Rattle.array_layout.specs.Placing.{bytes_of};

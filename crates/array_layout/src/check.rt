@@ -5,8 +5,8 @@ ghost use Rattle.values.specs.Reading.{Passes};
 ghost use Rattle.values.specs.Rose.{kids_of};
 ghost use Rattle.values.specs.Layouts.{offset_bytes};
 ghost use Rattle.bitmaps.specs.Bits.{HasBits};
-ghost use Rattle.array_layout.specs.Buffers.{zeros, offset_at, is_rising};
-ghost use Rattle.array_layout.specs.Sound.{validity_of, bits_of, slots_of, offsets_of, values_by, own_faults, faults_in, first_len, LiesIn, IsPlaced, ArePlaced, IsSound, AreFit, HasRoom};
+ghost use Rattle.array_layout.specs.Buffers.{zeros, is_rising};
+ghost use Rattle.array_layout.specs.Sound.{validity_of, bits_of, slots_of, offsets_of, values_by, own_faults, faults_in, first_len, LiesIn, IsPlaced, IsSound, AreFit, HasRoom};
 
 use crate::array::{Array, Part};
 use crate::buffers::{buffer, offset};

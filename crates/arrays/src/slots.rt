@@ -1,10 +1,10 @@
 //! What an array's own buffers hold for a slot.
 
-ghost use Rattle.std.specs.Prelude.{◌≡◌, ◌+◌, ◌*◌, ◌<◌, ◌≤◌, ◌^◌, length, string_bytes, IfOk, true};
+ghost use Rattle.std.specs.Prelude.{◌≡◌, ◌*◌, ◌<◌, ◌≤◌, string_bytes, IfOk, true};
 ghost use Rattle.std.specs.Str.{is_utf8};
-ghost use Rattle.values.specs.Reading.{Passes, IsGood};
+ghost use Rattle.values.specs.Reading.{Passes};
 ghost use Rattle.array_layout.specs.Placing.{bytes_of};
-ghost use Rattle.array_layout.specs.Buffers.{is_null, slice_at, number_at};
+ghost use Rattle.array_layout.specs.Buffers.{is_null, slice_at};
 ghost use Rattle.array_layout.specs.Sound.{LiesIn, AreFit};
 ghost use Rattle.array_layout.specs.Cells.{text_of, decimal_of};
 

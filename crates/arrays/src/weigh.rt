@@ -1,7 +1,7 @@
 //! The weight of a cell, which is not copied for it.
 
-ghost use Rattle.std.specs.Prelude.{◌≡◌, ◌+◌, ◌-◌, ◌<◌, ◌≤◌, ◌^◌, length};
-ghost use Rattle.values.specs.Rose.{node, none, kids_of};
+ghost use Rattle.std.specs.Prelude.{◌≡◌, ◌+◌, ◌-◌, ◌<◌, ◌≤◌, ◌^◌};
+ghost use Rattle.values.specs.Rose.{node, kids_of};
 ghost use Rattle.values.specs.declared.layout.Layout.TheVariants.{List as Listed, Struct};
 ghost use Rattle.values.specs.Layouts.{slot, slots, weight};
 ghost use Rattle.array_layout.specs.Placing.{bytes_of, layout_by, layout_of, layouts_of};
@@ -12,7 +12,7 @@ ghost use Rattle.arrays.specs.Coded.{HasIndex};
 ghost use Rattle.arrays.specs.Weights.{capped, extent, first_weight, sum_from, weight_at, weight_beside, weight_by, word_weight};
 
 use crate::judge::items_array;
-use crate::slots::{bytes_slot, is_null_slot};
+use crate::slots::is_null_slot;
 use crate::words::find_word;
 use array_layout::{Array, Part, Words, buffer, offset};
 use values::limits::MAX_CELL_WEIGHT;

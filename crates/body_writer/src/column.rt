@@ -1,8 +1,8 @@
 //! A column of any layout.
 
-ghost use Rattle.std.specs.Prelude.{◌≡◌, ◌^◌, ◌<◌, ◌≤◌, OnOk, All, length, [], ◌∷◌};
+ghost use Rattle.std.specs.Prelude.{◌^◌, ◌<◌, OnOk, All, length, [], ◌∷◌};
 ghost use Rattle.values.specs.Rose.{node, kids_of};
-ghost use Rattle.values.specs.Layouts.{bytes_in, IsNode, IsLayout, AreLayouts, Holds};
+ghost use Rattle.values.specs.Layouts.{IsNode, IsLayout, AreLayouts, Holds};
 ghost use Rattle.body_writer.specs.Slots.{cells_of, total_length};
 ghost use Rattle.body_writer.specs.Columns.{value_buffers, own_node, own_buffers, nodes, nodes_below, buffers, buffers_below, offsets as offsets_of, joined as joined_of};
 ghost use Rattle.values.specs.Weights.{weights};
@@ -12,7 +12,7 @@ use crate::body::Body;
 use crate::buffers;
 use array_layout::Node;
 use std::alloc::{AllocError, Global};
-use values::{IntWidth, Layout, LayoutTree, OffsetWidth, Value};
+use values::{Layout, LayoutTree, OffsetWidth, Value};
 
 /// Texts or bytes: where each starts, and all of them.
 fn append_runs(

@@ -1,6 +1,6 @@
 //! What a cell gives to the buffers of its column.
 
-ghost use Rattle.std.specs.Prelude.{◌≡◌, length};
+ghost use Rattle.std.specs.Prelude.{◌≡◌};
 ghost use Rattle.body_writer.specs.Slots.{cell_of, is_valid, truth_in as truth_of, whole_in as whole_of, bytes_in as bytes_of, length_in as length_of, part as part_of};
 
 use values::{Kind, Value};

@@ -9,7 +9,7 @@ use crate::{Body, write_body, write_column};
 use array_layout::{Node, Span};
 use std::alloc::{AllocError, Global};
 use std::test::Fail;
-use values::{IntWidth, Kind, Layout, LayoutTree, OffsetWidth, Row, Value};
+use values::{IntWidth, Kind, Layout, LayoutTree, Row, Value};
 
 #[test]
 fn writes_nine_truths(rt: HostRuntime) -> Result<(), Fail> {

@@ -1,6 +1,6 @@
 //! The columns of a record batch.
 
-ghost use Rattle.std.specs.Prelude.{◌≡◌, All, IfOk, length};
+ghost use Rattle.std.specs.Prelude.{◌≡◌, IfOk, length};
 ghost use Rattle.values.specs.Reading.{Answers};
 ghost use Rattle.values.specs.Rose.{kids_of};
 ghost use Rattle.array_layout.specs.Cells.{column_of};

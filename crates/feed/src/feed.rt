@@ -9,7 +9,7 @@ ghost use Rattle.feed.specs.States.{FeedState, Finishes, Gives, after_finish, af
 ghost use Rattle.feed.specs.Shown.{IsSettled, IsTypedEvent, Leads, Shows, answer_seen, breaks, seen};
 
 use crate::condition::{Condition, condition_after};
-use crate::event::{Fed, FeedEvent};
+use crate::event::Fed;
 use crate::judge::{Judged, judge};
 use dictionaries::{Dicts, Ready, batches_law};
 use messages::Framer;

@@ -1,6 +1,6 @@
 //! The parameters of types.
 
-ghost use Rattle.std.specs.Prelude.{◌≡◌, ◌≤◌, pos, ◌≤ℤ◌, IfOk};
+ghost use Rattle.std.specs.Prelude.{◌≤◌, pos, ◌≤ℤ◌, IfOk};
 ghost use Rattle.values.specs.Reading.{Judges};
 ghost use Rattle.field_types.specs.Reads.{short_of, word_of};
 ghost use Rattle.field_types.specs.Types.{checked_zone, date_unit_numbered, precision_of, ranged as ranged_between, time_unit_of, time_unit_numbered, wide_of, width_of, zone_of};

@@ -1,9 +1,9 @@
 //! The types of Schema.fbs, as they are read.
 
 ghost use Rattle.values.specs.Reading.{Answers, Judges};
-ghost use Rattle.values.specs.ColTypes.{bits_of_time, IsType};
+ghost use Rattle.values.specs.ColTypes.{IsType};
 ghost use Rattle.field_types.specs.Types.{date_of, decimal_of, digits_of, duration_of, fixed_of, int_of, stored_by, time_of, timestamp_of, type_of};
-ghost use Rattle.std.specs.Prelude.{◌≡◌, pos, IfOk};
+ghost use Rattle.std.specs.Prelude.{IfOk};
 
 use crate::kinds::{TypeKind, read_bool, unreadable};
 use crate::parameters::{
@@ -15,7 +15,7 @@ use crate::slots::{
 };
 use flatbuf::TableRef;
 use std::alloc::Global;
-use values::{ColType, StreamFault, TimeUnit, Zone};
+use values::{ColType, StreamFault, Zone};
 
 /// A field's type, of a known kind.
 ///

@@ -6,7 +6,7 @@ ghost use Rattle.field_types.specs.TypeTree.{bool_number, by_offsets, date_unit_
 
 use flatbuf::Builder;
 use std::alloc::{AllocError, Global};
-use values::{ColType, DateUnit, IntWidth, OffsetWidth, TimeUnit};
+use values::{ColType, DateUnit, OffsetWidth, TimeUnit};
 
 fn with_offsets(offsets: OffsetWidth, small: u8, large: u8) -> u8
     ensures { result ≡ by_offsets offsets small large }

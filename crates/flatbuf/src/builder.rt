@@ -1,9 +1,9 @@
 //! Building a table slot by slot, and writing it.
 
-ghost use Rattle.std.specs.Prelude.{ℕ, ◌≡◌, ◌≤◌, length, IfOk, OnOk, OnErr};
+ghost use Rattle.std.specs.Prelude.{◌≡◌, length, IfOk, OnOk, OnErr};
 ghost use Rattle.flatbuf.specs.Tree.{absent, number, text, structs, table, references, no_nodes};
 ghost use Rattle.flatbuf.specs.Written.{up, object_end, whole, IsWritable};
-ghost use Rattle.flatbuf.specs.Slots.{view, views};
+ghost use Rattle.flatbuf.specs.Slots.{view};
 ghost use Rattle.flatbuf.specs.Built.{add, slots, listed};
 
 use crate::bytes;

@@ -1,9 +1,9 @@
 //! The bytes of the layout, appended front to back.
 
-ghost use Rattle.std.specs.Prelude.{ℕ, ◌≡◌, ◌+◌, ◌-◌, ◌^◌, ◌<◌, ◌≤◌, ◌*◌, ◌++◌, length, IfOk, OnOk};
+ghost use Rattle.std.specs.Prelude.{◌≡◌, ◌+◌, ◌-◌, ◌^◌, ◌<◌, ◌≤◌, ◌*◌, ◌++◌, length, IfOk, OnOk};
 ghost use Rattle.byteorder.specs.Endian.{little_bytes};
 ghost use Rattle.flatbuf.specs.Tree.{text, structs, table, references, count};
-ghost use Rattle.flatbuf.specs.Written.{zeros, fields_end, object_place, object_end, objects_end, content, fields, entry, entries, table_bytes, elements, counted, object, objects, whole, Fits, FitAll, IsWritable, items_place, items_end};
+ghost use Rattle.flatbuf.specs.Written.{zeros, fields_end, object_end, objects_end, content, fields, entry, entries, table_bytes, elements, counted, object, objects, whole, Fits, FitAll, IsWritable, items_place, items_end};
 ghost use Rattle.flatbuf.specs.Slots.{view, views};
 
 use crate::layout;

@@ -18,7 +18,7 @@ pub struct VectorRef<'a> {
 }
 
 impl<'a> Model for VectorRef<'a> {
-    ghost use Rattle.std.specs.Prelude.{◌≤◌, ◌<◌, ◌^◌, length};
+    ghost use Rattle.std.specs.Prelude.{◌≤◌, ◌<◌, length};
     ghost use Rattle.flatbuf.specs.Layout.{Vector};
 
     ghost Value = { Vector };

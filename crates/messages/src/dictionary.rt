@@ -1,6 +1,6 @@
 //! The header of a dictionary batch: Message.fbs, `DictionaryBatch`.
 
-ghost use Rattle.std.specs.Prelude.{◌≡◌, ◌≤◌, ◌^◌};
+ghost use Rattle.std.specs.Prelude.{◌≤◌, ◌^◌};
 ghost use Rattle.values.specs.Reading.{Answers, Judges};
 ghost use Rattle.schema_meta.specs.DictionaryBatch.{data_of, dictionary_of, id_of, limited, values_batch};
 

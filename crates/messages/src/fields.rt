@@ -1,6 +1,6 @@
 //! Fields of metadata tables, as faults name what is wrong with them.
 
-ghost use Rattle.std.specs.Prelude.{◌≡◌, ◌≤◌, ◌^◌, IfOk};
+ghost use Rattle.std.specs.Prelude.{◌≤◌, ◌^◌, IfOk};
 ghost use Rattle.std.specs.Result.{result_ok};
 ghost use Rattle.values.specs.declared.faults.StreamFault.{StreamFault};
 ghost use Rattle.values.specs.Reading.{Judges, must};

@@ -1,6 +1,6 @@
 //! Framing: Arrow Columnar Format, "Encapsulated message format".
 
-ghost use Rattle.std.specs.Prelude.{◌≡◌, ◌≤◌, ◌+◌, ◌^◌, Some, length, slice_range, IfOk};
+ghost use Rattle.std.specs.Prelude.{◌≤◌, ◌+◌, ◌^◌, Some, length, slice_range, IfOk};
 ghost use Rattle.values.specs.Reading.{Answers, Judges};
 ghost use Rattle.schema_meta.specs.Framing.{end_mark, first, framed, message_at};
 ghost use Rattle.schema_meta.specs.Message.{meta_of};

@@ -1,6 +1,6 @@
 //! Gathering a message from pieces.
 
-ghost use Rattle.std.specs.Prelude.{◌≡◌, ◌≤◌, ◌+◌, ◌^◌, ◌++◌, Ok, None, [], length, take, IfOk, IfErr, IsOk, IsOkAnd, OnOk, OnErr};
+ghost use Rattle.std.specs.Prelude.{◌≡◌, ◌+◌, ◌++◌, Ok, None, [], length, take, IfOk, IfErr, IsOk, IsOkAnd, OnOk, OnErr};
 ghost use Rattle.values.specs.Reading.{Answers, Fails};
 ghost use Rattle.schema_meta.specs.Framing.{first};
 ghost use Rattle.messages.specs.Gather.{Gathers, IsWaiting, Steps};

@@ -1,6 +1,6 @@
 //! The metadata of a message: Message.fbs, table `Message`.
 
-ghost use Rattle.std.specs.Prelude.{◌≡◌, ◌≤◌, ◌^◌, length, IfOk};
+ghost use Rattle.std.specs.Prelude.{◌≤◌, ◌^◌, length, IfOk};
 ghost use Rattle.std.specs.Option.{option_map};
 ghost use Rattle.values.specs.Reading.{Answers, Judges};
 ghost use Rattle.schema_meta.specs.Message.{body_of, dictionary_batch, expected, header_of, header_table, kind_of, meta_of, new_schema, record_batch, version_of};

@@ -1,11 +1,10 @@
 -- The slots of fields, as loops add them up.
-use Rattle.std.proofs.Common.{◌≡◌, ℕ, ◌+◌, ◌<◌, ◌≤◌, Bool, true, false, ◌&&◌, List, length, drop, get_or, refl, ap, sym, subst, arith}
+use Rattle.std.proofs.Common.{◌≡◌, ℕ, ◌+◌, ◌<◌, ◌≤◌, Bool, true, false, ◌&&◌, List, length, drop, get_or, ap, sym, subst, arith}
 use Rattle.values.specs.Rose.{Rose, node, Roses, none, more, kids_of, rose_size}
 use Rattle.values.proofs.Weighing.{own-slot}
 use Rattle.values.proofs.Roses.{kids_step, kids_end, kid_smaller}
 use Rattle.values.specs.Layouts.{slot, slots}
 use Rattle.values.specs.declared.layout.Layout.{Layout}
-use Rattle.values.specs.declared.layout.Layout.TheVariants.{Bits, Number, Decimal, Fixed, Text, Bytes, List as Listed, Struct}
 use Rattle.schema_meta.specs.Entry.{Entry}
 use Rattle.schema_meta.specs.FieldLayouts.{layout_of, layouts_below, is_slim, are_slim}
 use Rattle.schema_meta.proofs.Counts.{fields_step}

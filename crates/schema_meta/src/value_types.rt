@@ -2,7 +2,7 @@
 ghost use Rattle.std.specs.Prelude.{◌≡◌};
 ghost use Rattle.std.specs.Option.{option_copied};
 ghost use Rattle.values.specs.Rose.{kids_of};
-ghost use Rattle.schema_meta.specs.Dictionaries.{agree, agrees, is_clear, is_type, own_agrees, type_below, type_in, value_type};
+ghost use Rattle.schema_meta.specs.Dictionaries.{agree, agrees, is_clear, own_agrees, type_below, type_in, value_type};
 
 use crate::coding::Coding;
 use crate::field::Field;

@@ -1,6 +1,6 @@
 //! Writing a message's metadata.
 
-ghost use Rattle.std.specs.Prelude.{ℕ, ◌≡◌, ◌≤◌, ◌^◌, ◌<◌, length, IfOk};
+ghost use Rattle.std.specs.Prelude.{◌≡◌, ◌^◌, ◌<◌, length, IfOk};
 ghost use Rattle.flatbuf.specs.Tree.{table};
 ghost use Rattle.values.specs.Rose.{kids_of};
 ghost use Rattle.flatbuf.specs.Written.{up, object_end, whole, IsWritable};

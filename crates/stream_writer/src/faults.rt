@@ -1,6 +1,6 @@
 //! Why a table was not written whole.
 
-ghost use Rattle.std.specs.Prelude.{◌≡◌, ◌+◌, ◌^◌, ◌<◌, Ok, Err};
+ghost use Rattle.std.specs.Prelude.{◌≡◌, ◌+◌, ◌^◌, ◌<◌, Err};
 ghost use Rattle.stream_writer.specs.Sinks.{written_of, fault_after};
 
 /// Why not all was written. `written` is how many bytes the sink took all the same, from the first on.

@@ -47,7 +47,6 @@ impl MemorySink {
 
 impl Sink for MemorySink {
     ghost use Rattle.std.specs.Prelude.{Some};
-    ghost use Rattle.stream_writer.specs.Sinks.{Sunk};
 
     ghost sunk = { λ s. record { taken = Some s.bytes.items; failures = s.failed } };
 

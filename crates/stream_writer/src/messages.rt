@@ -1,6 +1,6 @@
 //! The messages of a stream, each as its bytes.
 
-ghost use Rattle.std.specs.Prelude.{ℕ, ◌≡◌, ◌+◌, ◌*◌, ◌^◌, ◌<◌, ◌≤◌, ◌++◌, IfOk, length, map};
+ghost use Rattle.std.specs.Prelude.{◌≡◌, ◌+◌, ◌*◌, ◌^◌, ◌<◌, ◌≤◌, ◌++◌, IfOk, length, map};
 ghost use Rattle.std.specs.Int.{w64};
 ghost use Rattle.byteorder.specs.Endian.{little_bytes, low_bytes};
 ghost use Rattle.flatbuf.specs.Built.{slots};
@@ -123,11 +123,6 @@ fn batch_metadata(alloc: Global, rows: u64, body: &Body) -> Result<Vec<u8>, Allo
     ensures size { IfOk result (λ bytes. length bytes.items < 2 ^ 24) }
 {
     let header = batch_header(alloc, rows, body)?;
-    let bytes = write_message(
-        alloc,
-        MessageKind::Batch,
-        header,
-        body.bytes.len() as u64,
-    )?;
+    let bytes = write_message(alloc, MessageKind::Batch, header, body.bytes.len() as u64)?;
     Ok(bytes)
 }

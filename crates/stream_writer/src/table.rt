@@ -1,10 +1,10 @@
 //! Writing a table, message by message.
 
-ghost use Rattle.std.specs.Prelude.{ℕ, ◌≡◌, ◌+◌, ◌*◌, ◌^◌, ◌<◌, ◌≤◌, ◌++◌, All, IfOk, MatchResult, Err, List, length, map};
+ghost use Rattle.std.specs.Prelude.{ℕ, ◌≡◌, ◌+◌, ◌^◌, ◌<◌, ◌≤◌, ◌++◌, All, IfOk, MatchResult, Err, List, length, map};
 ghost use Rattle.values.specs.Rose.{kids_of};
 ghost use Rattle.body_writer.specs.Batch.{row_weight};
 ghost use Rattle.stream_writer.specs.Sinks.{Sunk, Writes};
-ghost use Rattle.stream_writer.specs.Stream.{schema_message, batch_message, end_mark, batch_len, trees, canon};
+ghost use Rattle.stream_writer.specs.Stream.{schema_message, batch_message, batch_len, trees, canon};
 ghost use Rattle.stream_writer.specs.Table.{IsTable};
 ghost use Rattle.stream_writer.specs.Went.{Went};
 
