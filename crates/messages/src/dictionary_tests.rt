@@ -134,16 +134,35 @@ fn pushed(rt: &impl Abort, framer: &mut Framer, from: usize, to: usize) -> Resul
     Ok(framed.message.ok_or("no message")?)
 }
 
+/// The kind of that message.
+fn brings(rt: &impl Abort, framer: &mut Framer, from: usize, to: usize) -> Result<u8, Fail> {
+    let message = pushed(rt, framer, from, to)?;
+    Ok(kind(&message.header))
+}
+
+/// That message is of so many values.
+fn brings_values(
+    rt: &impl Abort,
+    framer: &mut Framer,
+    (from, to): (usize, usize),
+    is_delta: bool,
+    rows: usize,
+) -> Result<(), Fail> {
+    let message = pushed(rt, framer, from, to)?;
+    has_values(rt, &message.header, is_delta, rows);
+    Ok(())
+}
+
 #[test]
 fn takes_dictionaries(rt: HostRuntime) -> Result<(), Fail> {
     answers(&rt, &STREAM, None);
     let mut framer = Framer::open(rt.alloc(), None);
-    assert_eq!(rt; kind(&pushed(&rt, &mut framer, 0, 184)?.header), 1);
-    has_values(&rt, &pushed(&rt, &mut framer, 184, 376)?.header, false, 3);
-    assert_eq!(rt; kind(&pushed(&rt, &mut framer, 376, 536)?.header), 3);
-    has_values(&rt, &pushed(&rt, &mut framer, 536, 728)?.header, true, 2);
-    assert_eq!(rt; kind(&pushed(&rt, &mut framer, 728, 888)?.header), 3);
-    assert_eq!(rt; kind(&pushed(&rt, &mut framer, 888, 896)?.header), 0);
+    assert_eq!(rt; brings(&rt, &mut framer, 0, 184)?, 1);
+    brings_values(&rt, &mut framer, (184, 376), false, 3)?;
+    assert_eq!(rt; brings(&rt, &mut framer, 376, 536)?, 3);
+    brings_values(&rt, &mut framer, (536, 728), true, 2)?;
+    assert_eq!(rt; brings(&rt, &mut framer, 728, 888)?, 3);
+    assert_eq!(rt; brings(&rt, &mut framer, 888, 896)?, 0);
     Ok(())
 }
 

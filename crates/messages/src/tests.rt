@@ -1,6 +1,6 @@
 //! Tests on a stored stream of two int64 columns `k` and `v` with the rows (1, 10), (2, null), (3, 30).
 
-use crate::{Framer, Header};
+use crate::{Framed, Framer, Header};
 use std::alloc::{AllocError, Global};
 use std::process::Abort;
 use std::test::Fail;
@@ -52,48 +52,73 @@ pub(crate) fn kind(header: &Header) -> u8 {
     }
 }
 
-#[test]
-fn whole(rt: HostRuntime) -> Result<(), Fail> {
-    let mut framer = Framer::open(rt.alloc(), None);
-    let schema = framer.push(&SAMPLE)?;
-    assert_eq!(rt; schema.used, 232);
-    let message = schema.message.ok_or("no schema")?;
-    assert_eq!(rt; kind(&message.header), 1);
-    let batch = framer.push(&SAMPLE[232..])?;
-    assert_eq!(rt; batch.used, 264);
-    let message = batch.message.ok_or("no batch")?;
-    assert_eq!(rt; message.body.len(), 56);
-    let Header::Batch(header) = &message.header else {
-        return Err(Fail::from("not a batch"));
+/// How much of a piece is used, and the kind of the message that it completes.
+///
+/// This and what calls it promise nothing, so that what is proved of a test doesn't grow with each call.
+fn told(framed: Framed) -> (usize, Option<u8>) {
+    let Framed { used, message } = framed;
+    let Some(message) = message else {
+        return (used, None);
     };
-    assert_eq!(rt; header.rows, 3);
-    assert_eq!(rt; header.nodes.len(), 2);
-    assert_eq!(rt; header.spans.len(), 4);
-    let end = framer.push(&SAMPLE[496..])?;
-    assert_eq!(rt; end.used, 8);
-    assert_eq!(rt; kind(&end.message.ok_or("no end")?.header), 0);
+    (used, Some(kind(&message.header)))
+}
+
+fn push(framer: &mut Framer, piece: &[u8]) -> Result<(usize, Option<u8>), StreamFault> {
+    Ok(told(framer.push(piece)?))
+}
+
+fn prepare(framer: &mut Framer, piece: &[u8]) -> Result<(usize, Option<u8>), StreamFault> {
+    Ok(told(framer.prepare(piece)?))
+}
+
+fn commit(framer: &mut Framer) {
+    framer.commit();
+}
+
+#[test]
+fn whole(rt: HostRuntime) {
+    let mut framer = Framer::open(rt.alloc(), None);
+    assert_eq!(rt; push(&mut framer, &SAMPLE), Ok((232, Some(1))));
+    assert_eq!(rt; push(&mut framer, &SAMPLE[232..]), Ok((264, Some(3))));
+    assert_eq!(rt; push(&mut framer, &SAMPLE[496..]), Ok((8, Some(0))));
     assert_eq!(rt; framer.held(), 0);
+}
+
+/// The length of a batch's body, and its rows, nodes and buffers.
+fn batch(framed: Framed) -> Option<[usize; 4]> {
+    let message = framed.message?;
+    match &message.header {
+        Header::Batch(header) => Some([
+            message.body.len(),
+            header.rows,
+            header.nodes.len(),
+            header.spans.len(),
+        ]),
+        _ => None,
+    }
+}
+
+#[test]
+fn reads_the_batch(rt: HostRuntime) -> Result<(), Fail> {
+    let mut framer = Framer::open(rt.alloc(), None);
+    assert_eq!(rt; push(&mut framer, &SAMPLE), Ok((232, Some(1))));
+    assert_eq!(rt; batch(framer.push(&SAMPLE[232..])?), Some([56, 3, 2, 4]));
     Ok(())
 }
 
 #[test]
-fn in_pieces_of_one_byte(rt: HostRuntime) -> Result<(), Fail> {
+fn in_pieces_of_one_byte(rt: HostRuntime) {
     let mut framer = Framer::open(rt.alloc(), None);
     for i in 0..504 {
-        let framed = framer.push(&SAMPLE[i..i + 1])?;
-        assert_eq!(rt; framed.used, 1);
-        match framed.message {
-            None => assert!(rt; i != 231 && i != 495 && i != 503),
-            Some(message) => match message.header {
-                Header::Schema => assert_eq!(rt; i, 231),
-                Header::Dictionary(_) => assert!(rt; false),
-                Header::Batch(_) => assert_eq!(rt; i, 495),
-                Header::End => assert_eq!(rt; i, 503),
-            },
-        }
+        let message = match i {
+            231 => Some(1),
+            495 => Some(3),
+            503 => Some(0),
+            _ => None,
+        };
+        assert_eq!(rt; push(&mut framer, &SAMPLE[i..i + 1]), Ok((1, message)));
     }
     assert!(rt; framer.schema().is_some());
-    Ok(())
 }
 
 /// A body of 65,592 bytes that comes in pieces of 64 is handed on whole.
@@ -102,12 +127,10 @@ fn long_body_in_pieces(rt: HostRuntime) -> Result<(), Fail> {
     let mut bytes = SAMPLE;
     bytes[282] = 1;
     let mut framer = Framer::open(rt.alloc(), None);
-    framer.push(&bytes[..232])?;
-    framer.push(&bytes[232..440])?;
+    assert_eq!(rt; push(&mut framer, &bytes), Ok((232, Some(1))));
+    assert_eq!(rt; push(&mut framer, &bytes[232..440]), Ok((208, None)));
     for _ in 0..1024 {
-        let framed = framer.push(&[3; 64])?;
-        assert_eq!(rt; framed.used, 64);
-        assert!(rt; framed.message.is_none());
+        assert_eq!(rt; push(&mut framer, &[3; 64]), Ok((64, None)));
     }
     assert_eq!(rt; framer.held(), 65_744);
     let framed = framer.push(&[7; 64])?;
@@ -312,38 +335,31 @@ fn batch_faults(rt: HostRuntime) {
 }
 
 #[test]
-fn takes_an_empty_piece(rt: HostRuntime) -> Result<(), Fail> {
+fn takes_an_empty_piece(rt: HostRuntime) {
     let mut framer = Framer::open(rt.alloc(), None);
-    assert_eq!(rt; framer.push(&SAMPLE[..100])?.used, 100);
-    let framed = framer.push(&[])?;
-    assert_eq!(rt; framed.used, 0);
-    assert!(rt; framed.message.is_none());
+    assert_eq!(rt; push(&mut framer, &SAMPLE[..100]), Ok((100, None)));
+    assert_eq!(rt; push(&mut framer, &[]), Ok((0, None)));
     assert_eq!(rt; framer.held(), 100);
-    assert_eq!(rt; framer.push(&SAMPLE[100..])?.used, 132);
-    Ok(())
+    assert_eq!(rt; push(&mut framer, &SAMPLE[100..]), Ok((132, Some(1))));
 }
 
 #[test]
-fn refuses_at_eight_bytes(rt: HostRuntime) -> Result<(), Fail> {
+fn refuses_at_eight_bytes(rt: HostRuntime) {
     let mut framer = Framer::open(rt.alloc(), None);
-    let framed = framer.push(&[0xFE, 0xFF, 0xFF, 0xFF, 0xE0, 0, 0])?;
-    assert_eq!(rt; framed.used, 7);
-    assert!(rt; framed.message.is_none());
-    assert!(rt; matches!(framer.push(&[0]), Err(StreamFault::NoContinuation)));
+    let first = [0xFE, 0xFF, 0xFF, 0xFF, 0xE0, 0, 0];
+    assert_eq!(rt; push(&mut framer, &first), Ok((7, None)));
+    assert_eq!(rt; push(&mut framer, &[0]), Err(StreamFault::NoContinuation));
     assert_eq!(rt; framer.held(), 7);
-    Ok(())
 }
 
 #[test]
-fn takes_sizes_to_the_limit(rt: HostRuntime) -> Result<(), Fail> {
+fn takes_sizes_to_the_limit(rt: HostRuntime) {
     let mut framer = Framer::open(rt.alloc(), None);
-    let framed = framer.push(&[0xFF, 0xFF, 0xFF, 0xFF, 0, 0, 0, 1])?;
-    assert_eq!(rt; framed.used, 8);
-    assert!(rt; framed.message.is_none());
+    let greatest = [0xFF, 0xFF, 0xFF, 0xFF, 0, 0, 0, 1];
+    assert_eq!(rt; push(&mut framer, &greatest), Ok((8, None)));
     let mut framer = Framer::open(rt.alloc(), None);
-    let refused = framer.push(&[0xFF, 0xFF, 0xFF, 0xFF, 1, 0, 0, 1]);
-    assert!(rt; matches!(refused, Err(StreamFault::BadSize)));
-    Ok(())
+    let above = [0xFF, 0xFF, 0xFF, 0xFF, 1, 0, 0, 1];
+    assert_eq!(rt; push(&mut framer, &above), Err(StreamFault::BadSize));
 }
 
 /// A column of 64 bits with a sign.
@@ -370,7 +386,7 @@ fn declared(rt: &HostRuntime, name: &str) -> Result<Schema, Fail> {
 #[test]
 fn wants_the_declared_schema(rt: HostRuntime) -> Result<(), Fail> {
     let mut framer = Framer::open(rt.alloc(), Some(declared(&rt, "v")?));
-    assert_eq!(rt; framer.push(&SAMPLE)?.used, 232);
+    assert_eq!(rt; push(&mut framer, &SAMPLE), Ok((232, Some(1))));
     let mut framer = Framer::open(rt.alloc(), Some(declared(&rt, "w")?));
     let whole = fault_of_whole(&mut framer, &SAMPLE);
     assert_eq!(rt; whole, Some(StreamFault::SchemaMismatch));
@@ -381,72 +397,70 @@ fn wants_the_declared_schema(rt: HostRuntime) -> Result<(), Fail> {
 }
 
 #[test]
-fn is_as_before_where_it_refuses(rt: HostRuntime) -> Result<(), Fail> {
+fn is_as_before_where_it_refuses(rt: HostRuntime) {
     let mut framer = Framer::open(rt.alloc(), None);
-    assert!(rt; matches!(framer.push(&SAMPLE[232..]), Err(StreamFault::NoSchema)));
-    assert_eq!(rt; framer.push(&SAMPLE)?.used, 232);
-    assert_eq!(rt; framer.push(&SAMPLE[..4])?.used, 4);
-    assert!(rt; matches!(framer.push(&SAMPLE[4..]), Err(StreamFault::SecondSchema)));
+    let batch = &SAMPLE[232..];
+    assert_eq!(rt; push(&mut framer, batch), Err(StreamFault::NoSchema));
+    assert_eq!(rt; push(&mut framer, &SAMPLE), Ok((232, Some(1))));
+    assert_eq!(rt; push(&mut framer, &SAMPLE[..4]), Ok((4, None)));
+    let again = push(&mut framer, &SAMPLE[4..]);
+    assert_eq!(rt; again, Err(StreamFault::SecondSchema));
     assert_eq!(rt; framer.held(), 4);
-    assert_eq!(rt; framer.push(&SAMPLE[236..])?.used, 260);
-    Ok(())
+    assert_eq!(rt; push(&mut framer, &SAMPLE[236..]), Ok((260, Some(3))));
 }
 
 #[test]
-fn commits_what_was_made_ready(rt: HostRuntime) -> Result<(), Fail> {
+fn commits_what_was_made_ready(rt: HostRuntime) {
     let mut framer = Framer::open(rt.alloc(), None);
-    assert_eq!(rt; framer.prepare(&SAMPLE[..100])?.used, 100);
+    assert_eq!(rt; prepare(&mut framer, &SAMPLE[..100]), Ok((100, None)));
     assert_eq!(rt; framer.held(), 0);
-    framer.commit();
+    commit(&mut framer);
     assert_eq!(rt; framer.held(), 100);
-    let framed = framer.prepare(&SAMPLE[100..])?;
-    assert_eq!(rt; framed.used, 132);
-    assert!(rt; framed.message.is_some());
+    let rest = &SAMPLE[100..];
+    assert_eq!(rt; prepare(&mut framer, rest), Ok((132, Some(1))));
     assert_eq!(rt; framer.held(), 100);
     assert!(rt; framer.schema().is_none());
     assert!(rt; framer.next_schema().is_some());
-    framer.commit();
+    commit(&mut framer);
     assert_eq!(rt; framer.held(), 0);
     assert!(rt; framer.schema().is_some());
-    framer.commit();
+    commit(&mut framer);
     assert!(rt; framer.next_schema().is_some());
-    let batch = framer.push(&SAMPLE[232..])?;
-    assert_eq!(rt; batch.used, 264);
-    Ok(())
+    assert_eq!(rt; push(&mut framer, &SAMPLE[232..]), Ok((264, Some(3))));
 }
 
 #[test]
-fn drops_what_was_made_ready(rt: HostRuntime) -> Result<(), Fail> {
+fn drops_what_was_made_ready(rt: HostRuntime) {
     let mut framer = Framer::open(rt.alloc(), None);
-    assert_eq!(rt; framer.push(&SAMPLE[..4])?.used, 4);
-    assert_eq!(rt; framer.prepare(&SAMPLE[4..100])?.used, 96);
-    assert_eq!(rt; framer.prepare(&SAMPLE[4..])?.used, 228);
+    assert_eq!(rt; push(&mut framer, &SAMPLE[..4]), Ok((4, None)));
+    assert_eq!(rt; prepare(&mut framer, &SAMPLE[4..100]), Ok((96, None)));
+    assert_eq!(rt; prepare(&mut framer, &SAMPLE[4..]), Ok((228, Some(1))));
     assert!(rt; framer.next_schema().is_some());
-    assert_eq!(rt; framer.prepare(&SAMPLE[4..6])?.used, 2);
+    assert_eq!(rt; prepare(&mut framer, &SAMPLE[4..6]), Ok((2, None)));
     assert!(rt; framer.next_schema().is_none());
-    framer.commit();
+    commit(&mut framer);
     assert_eq!(rt; framer.held(), 6);
     assert!(rt; framer.schema().is_none());
-    assert_eq!(rt; framer.push(&SAMPLE[6..])?.used, 226);
+    assert_eq!(rt; push(&mut framer, &SAMPLE[6..]), Ok((226, Some(1))));
     assert!(rt; framer.schema().is_some());
-    Ok(())
 }
 
 #[test]
-fn nothing_is_ready_where_it_refuses(rt: HostRuntime) -> Result<(), Fail> {
+fn nothing_is_ready_where_it_refuses(rt: HostRuntime) {
     let mut framer = Framer::open(rt.alloc(), None);
-    assert_eq!(rt; framer.prepare(&SAMPLE)?.used, 232);
-    assert!(rt; matches!(framer.prepare(&SAMPLE[232..]), Err(StreamFault::NoSchema)));
-    framer.commit();
+    let batch = &SAMPLE[232..];
+    assert_eq!(rt; prepare(&mut framer, &SAMPLE), Ok((232, Some(1))));
+    assert_eq!(rt; prepare(&mut framer, batch), Err(StreamFault::NoSchema));
+    commit(&mut framer);
     assert_eq!(rt; framer.held(), 0);
     assert!(rt; framer.schema().is_none());
-    assert_eq!(rt; framer.push(&SAMPLE)?.used, 232);
-    assert_eq!(rt; framer.push(&SAMPLE[232..300])?.used, 68);
+    assert_eq!(rt; push(&mut framer, &SAMPLE), Ok((232, Some(1))));
+    assert_eq!(rt; push(&mut framer, &SAMPLE[232..300]), Ok((68, None)));
     let mut bytes = SAMPLE;
     bytes[332] = 1;
-    assert!(rt; matches!(framer.prepare(&bytes[300..]), Err(StreamFault::NodeCount)));
-    framer.commit();
+    let rest = &bytes[300..];
+    assert_eq!(rt; prepare(&mut framer, rest), Err(StreamFault::NodeCount));
+    commit(&mut framer);
     assert_eq!(rt; framer.held(), 68);
-    assert_eq!(rt; framer.push(&SAMPLE[300..])?.used, 196);
-    Ok(())
+    assert_eq!(rt; push(&mut framer, &SAMPLE[300..]), Ok((196, Some(3))));
 }
