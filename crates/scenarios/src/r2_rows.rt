@@ -117,8 +117,14 @@ fn r2_lists(rt: HostRuntime) -> Result<(), Fail> {
 }
 
 /// A column of one decimal, with the number in its slot, which is null or not.
-fn decimal(alloc: Global, precision: u8, number: i128, null: bool) -> Result<Vec<u8>, AllocError> {
-    let digits = pair(precision, 1);
+fn decimal(
+    alloc: Global,
+    precision: u8,
+    scale: u8,
+    number: i128,
+    null: bool,
+) -> Result<Vec<u8>, AllocError> {
+    let digits = pair(precision, scale);
     let table = Table {
         slots: PAIR,
         bytes: &digits,
@@ -140,15 +146,25 @@ fn decimal(alloc: Global, precision: u8, number: i128, null: bool) -> Result<Vec
 #[test]
 fn r2_decimals(rt: HostRuntime) -> Result<(), Fail> {
     let great = 10_000_000_000_000_000_000_000_000_000;
-    for (precision, number) in [(3, 999), (3, -999), (28, great - 1), (28, 1 - great)] {
-        let input = decimal(rt.alloc(), precision, number, false)?;
+    for (precision, scale, number) in [
+        (3, 1, 999),
+        (3, 1, -999),
+        (28, 2, great - 1),
+        (28, 2, 1 - great),
+    ] {
+        let input = decimal(rt.alloc(), precision, scale, number, false)?;
         writes(&rt, &input, &number.to_le_bytes());
     }
-    for (precision, number) in [(3, 1000), (3, -1000), (28, great), (28, -great)] {
-        let input = decimal(rt.alloc(), precision, number, false)?;
+    for (precision, scale, number) in [
+        (3, 1, 1000),
+        (3, 1, -1000),
+        (28, 2, great),
+        (28, 2, -great),
+    ] {
+        let input = decimal(rt.alloc(), precision, scale, number, false)?;
         refuses(&rt, &input, Cause::DecimalRange, precision as usize);
     }
-    let null = decimal(rt.alloc(), 3, 1000, true)?;
+    let null = decimal(rt.alloc(), 3, 1, 1000, true)?;
     writes(&rt, &null, &[0; 24]);
     Ok(())
 }
