@@ -1,10 +1,10 @@
-# The ways in: `make run`, `make test` and `make bench`.
+# The ways in: `make run`, `make test`, `make edits`, `make ci`, `make limits` and `make bench`.
 
 PREFIX ?= /usr/local
 LV := crates/lv/out/lv
 OUT ?= out/orders.canon.arrows
 
-.PHONY: run test bench install lv need-rt
+.PHONY: run test edits ci limits bench install lv need-rt need-python
 
 # Recasts the sample stream to a file of its own, and inspects that file.
 run: lv
@@ -12,14 +12,26 @@ run: lv
 	$(LV) recast examples/orders.arrows $(OUT)
 	$(LV) inspect $(OUT)
 
-# The merge gate: every proof from nothing, the must-fail edits, the tests, the program; then the program over the examples and
-# under refused memory.
-test:
-	@tools/gate.sh
+# The merge gate: every proof from nothing, contracts, layout, tests, must-fail edits, and the program over its runs. Of crates whose
+# edits were all refused as they stand (tools/edits-tried.txt) it tries a fifth.
+test: need-rt need-python
+	@tools/gate.py --due
+
+# Tries all must-fail edits over kept proofs, and records in tools/edits-tried.txt the crates of which all were refused.
+edits: need-rt need-python
+	@rt all check
+	@tools/edits.py --record
+
+# The toolchain's own gate, which proves each crate three times and tries each edit by itself; before a release.
+ci: need-rt
+	@rt ci
+
+# Streams at the limits of the format's profile, and just past them.
+limits: lv need-python
+	@tools/limits.py
 
 # Time and memory of recasting about 100 MB, beside `cat` of the same file.
-bench: lv
-	@command -v python3 > /dev/null || { echo "make bench needs python3, which is not on the PATH" >&2; exit 1; }
+bench: lv need-python
 	@tools/bench.py
 
 install: lv
@@ -34,3 +46,6 @@ lv: need-rt
 
 need-rt:
 	@command -v rt > /dev/null || { echo "rt, the Rattle toolchain's command, is not on the PATH" >&2; exit 1; }
+
+need-python:
+	@command -v python3 > /dev/null || { echo "python3 is not on the PATH" >&2; exit 1; }
