@@ -1,7 +1,7 @@
 //! The files of the machine.
 
-ghost use Rattle.std.specs.Prelude.{◌≡◌, ◌≤◌, length, take};
-ghost use Rattle.std.specs.Io.KnownBytes.{Appends};
+ghost use Rattle.std.specs.Prelude.{◌≡◌, ◌≤◌, IfOk, length};
+ghost use Rattle.std.specs.Io.KnownBytes.{WriteAppends};
 
 use liveviews::{FileFault, Files};
 use std::fs;
@@ -66,12 +66,14 @@ impl<R: std::rt::Files + AllocGlobal> Sink for Disk<'_, R> {
             return Ok(0);
         }
         self.open();
-        let taken = write_some(&mut self.output, piece);
-        if taken == 0 {
+        let answer = match &mut self.output {
+            Output::Open(file) => write_to(file, piece),
+            _ => Err(DeviceFault),
+        };
+        if answer.is_err() {
             self.failures = self.failures.wrapping_add(1);
-            return Err(DeviceFault);
         }
-        Ok(taken)
+        answer
     }
 }
 
@@ -102,22 +104,15 @@ impl<R: std::rt::Files + AllocGlobal> Files for Disk<'_, R> {
     }
 }
 
-/// How many first bytes of `piece` the file took; none where writing failed or no file is there.
-fn write_some<F: Write>(output: &mut Output<F>, piece: &[u8]) -> usize
-    ensures { result ≤ length piece.now }
+/// Writes some first bytes of a piece that isn't empty, and answers how many the file took. None is a failure.
+fn write_to<F: Write>(file: &mut F, piece: &[u8]) -> Result<usize, DeviceFault>
+    ensures bound { IfOk result (λ n. (1 ≤ n) × (n ≤ length piece.now)) }
+    ensures took { WriteAppends (F.contents file.old) (F.contents file.new) result piece.now }
 {
-    match output {
-        Output::Open(file) => write_to(file, piece),
-        _ => 0,
+    match file.write(piece) {
+        Ok(0) | Err(_) => Err(DeviceFault),
+        Ok(taken) => Ok(taken),
     }
-}
-
-/// How many first bytes of `piece` this file took; none where writing failed.
-fn write_to<F: Write>(file: &mut F, piece: &[u8]) -> usize
-    ensures bound { result ≤ length piece.now }
-    ensures took { Appends (F.contents file.old) (F.contents file.new) (take result piece.now) }
-{
-    file.write(piece).unwrap_or(0)
 }
 
 fn fault_of(error: Error) -> FileFault {

@@ -2,6 +2,7 @@
 #![tactic(auto)]
 
 mod disk;
+mod standard;
 
 use disk::Disk;
 use std::alloc::Global;
@@ -9,6 +10,9 @@ use std::process::ExitCode;
 use std::{env, io};
 
 fn main(rt: HostRuntime) -> ExitCode {
+    let Ok(_held) = standard::hold(&rt) else {
+        return ExitCode::FAILURE;
+    };
     let alloc = rt.alloc();
     let words = words(&rt, alloc).unwrap_or(Vec::new(alloc));
     let mut files = Disk::new(&rt);
