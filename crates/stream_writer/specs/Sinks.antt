@@ -1,5 +1,5 @@
 -- What a sink took and how often it failed, and what a writer does to it.
-use Rattle.std.specs.Prelude.{◌≡◌, ◌≢◌, ℕ, ◌+◌, ◌%◌, ◌^◌, ◌≤◌, ◌==◌, ◌↔◌, Bool, true, not, ◌&&◌, if◌then◌else◌, List, length, take, Option, Result, Ok, Err, IfOk, ⊤}
+use Rattle.std.specs.Prelude.{◌≡◌, ◌≢◌, ℕ, ◌+◌, ◌%◌, ◌^◌, ◌≤◌, ◌==◌, ◌↔◌, Bool, true, not, ◌&&◌, if◌then◌else◌, List, length, take, Option, Some, Result, Ok, Err, IfOk, ⊤}
 use Rattle.std.specs.Io.KnownBytes.{Appends, WriteAppends}
 use Rattle.stream_writer.specs.declared.sink.DeviceFault.{DeviceFault}
 use Rattle.stream_writer.specs.declared.faults.WriteFault.{WriteFault}
@@ -9,6 +9,10 @@ use Rattle.stream_writer.specs.declared.faults.WriteFault.TheVariants.{Memory, D
 pub record Sunk : Type 0 where
   pub taken : Option (List ℕ)
   pub failures : ℕ
+
+-- of a sink that tells its bytes
+abbrev pub sunk_of : List ℕ → ℕ → Sunk
+sunk_of bytes failures = record { taken = Some bytes; failures = failures }
 
 -- an error, and 0 for a piece that is not empty
 abbrev pub is_failure : Result ℕ DeviceFault → List ℕ → Bool

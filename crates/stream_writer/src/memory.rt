@@ -1,6 +1,7 @@
 //! A sink over memory.
 
-ghost use Rattle.std.specs.Prelude.{◌≡◌, []};
+ghost use Rattle.std.specs.Prelude.{◌≡◌, ◌+◌, [], IfErr, IfOk, length, min};
+ghost use Rattle.stream_writer.specs.Sinks.{Puts, sunk_of};
 
 use crate::sink::{DeviceFault, Sink};
 use std::alloc::Global;
@@ -46,11 +47,14 @@ impl MemorySink {
 }
 
 impl Sink for MemorySink {
-    ghost use Rattle.std.specs.Prelude.{Some};
+    ghost sunk = { λ s. sunk_of s.bytes.items s.failed };
 
-    ghost sunk = { λ s. record { taken = Some s.bytes.items; failures = s.failed } };
-
-    fn put(&mut self, piece: &[u8]) -> Result<usize, DeviceFault> {
+    /// Takes what its portion leaves of the piece. It fails after its last put, and where memory is refused.
+    fn put(&mut self, piece: &[u8]) -> Result<usize, DeviceFault>
+        ensures puts { Puts (sunk_of self.old.bytes.items self.old.failed) (sunk_of self.new.bytes.items self.new.failed) result piece.now }
+        ensures portion { IfOk result (λ n. (n ≡ min (length piece.now) self.old.portion) × (self.old.puts ≡ self.new.puts + 1)) }
+        ensures limits { IfErr result (λ _. self.new.puts ≡ self.old.puts) × (self.new.portion ≡ self.old.portion) }
+    {
         let failed = self.failed;
         let taken = piece.len().min(self.portion);
         if self.puts == 0 || self.bytes.extend_from_slice(&piece[..taken]).is_err() {
