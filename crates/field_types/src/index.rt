@@ -5,7 +5,7 @@ ghost use Rattle.field_types.specs.Types.{index_of};
 
 use crate::kinds::read_bool;
 use crate::parameters::read_width;
-use crate::slots::INT_IS_SIGNED;
+use crate::schema_fbs::INT_IS_SIGNED;
 use flatbuf::TableRef;
 use values::{IntWidth, StreamFault};
 

@@ -5,7 +5,11 @@ ghost use Rattle.values.specs.Reading.{Judges};
 ghost use Rattle.field_types.specs.Kinds.{kind_of, kind_of_type, may_have as may_have_children};
 ghost use Rattle.field_types.specs.Reads.{bool_of};
 
-use crate::slots::FIELD_TYPE_KIND;
+use crate::schema_fbs::{
+    FIELD_TYPE_KIND, TYPE_BINARY, TYPE_BOOL, TYPE_DATE, TYPE_DECIMAL, TYPE_DURATION,
+    TYPE_FIXED_SIZE_BINARY, TYPE_INT, TYPE_LARGE_BINARY, TYPE_LARGE_LIST, TYPE_LARGE_UTF8,
+    TYPE_LIST, TYPE_STRUCT, TYPE_TIME, TYPE_TIMESTAMP, TYPE_UTF8,
+};
 use flatbuf::{BadTable, TableRef};
 use values::{ColType, OffsetWidth, StreamFault};
 
@@ -73,21 +77,21 @@ pub fn read_kind(field: &TableRef) -> Result<TypeKind, StreamFault>
 {
     let (small, large) = (OffsetWidth::Bits32, OffsetWidth::Bits64);
     match field.u8(FIELD_TYPE_KIND).map_err(unreadable)?.unwrap_or(0) {
-        2 => Ok(TypeKind::Int),
-        4 => Ok(TypeKind::Binary { offsets: small }),
-        5 => Ok(TypeKind::Utf8 { offsets: small }),
-        6 => Ok(TypeKind::Bool),
-        7 => Ok(TypeKind::Decimal),
-        8 => Ok(TypeKind::Date),
-        9 => Ok(TypeKind::Time),
-        10 => Ok(TypeKind::Timestamp),
-        12 => Ok(TypeKind::List { offsets: small }),
-        13 => Ok(TypeKind::Struct),
-        15 => Ok(TypeKind::Fixed),
-        18 => Ok(TypeKind::Duration),
-        19 => Ok(TypeKind::Binary { offsets: large }),
-        20 => Ok(TypeKind::Utf8 { offsets: large }),
-        21 => Ok(TypeKind::List { offsets: large }),
+        TYPE_INT => Ok(TypeKind::Int),
+        TYPE_BINARY => Ok(TypeKind::Binary { offsets: small }),
+        TYPE_UTF8 => Ok(TypeKind::Utf8 { offsets: small }),
+        TYPE_BOOL => Ok(TypeKind::Bool),
+        TYPE_DECIMAL => Ok(TypeKind::Decimal),
+        TYPE_DATE => Ok(TypeKind::Date),
+        TYPE_TIME => Ok(TypeKind::Time),
+        TYPE_TIMESTAMP => Ok(TypeKind::Timestamp),
+        TYPE_LIST => Ok(TypeKind::List { offsets: small }),
+        TYPE_STRUCT => Ok(TypeKind::Struct),
+        TYPE_FIXED_SIZE_BINARY => Ok(TypeKind::Fixed),
+        TYPE_DURATION => Ok(TypeKind::Duration),
+        TYPE_LARGE_BINARY => Ok(TypeKind::Binary { offsets: large }),
+        TYPE_LARGE_UTF8 => Ok(TypeKind::Utf8 { offsets: large }),
+        TYPE_LARGE_LIST => Ok(TypeKind::List { offsets: large }),
         _ => Err(StreamFault::UnsupportedType),
     }
 }

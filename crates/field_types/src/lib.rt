@@ -8,7 +8,7 @@ mod index;
 mod kinds;
 mod laws;
 mod parameters;
-mod slots;
+pub mod schema_fbs;
 #[cfg(test)]
 mod tests;
 mod types;

@@ -7,14 +7,15 @@ ghost use Rattle.std.specs.Prelude.{IfOk};
 
 use crate::kinds::{TypeKind, read_bool, unreadable};
 use crate::parameters::{
-    MAX_FIXED_WIDTH, check_decimal_bits, date_unit, ranged, read_precision, read_short,
-    read_time_unit, read_width, read_word, read_zone,
+    check_decimal_bits, date_unit, ranged, read_precision, read_short, read_time_unit, read_width,
+    read_word, read_zone,
 };
-use crate::slots::{
-    DATE_UNIT, DECIMAL_SCALE, FIELD_TYPE, FIXED_BYTE_WIDTH, INT_IS_SIGNED, TIME_BIT_WIDTH,
+use crate::schema_fbs::{
+    DECIMAL_SCALE, FIELD_TYPE, FIXED_BYTE_WIDTH, INT_IS_SIGNED, TIME_BIT_WIDTH, UNIT,
 };
 use flatbuf::TableRef;
 use std::alloc::Global;
+use values::limits::MAX_FIXED_WIDTH;
 use values::{ColType, StreamFault, Zone};
 
 /// A field's type, of a known kind.
@@ -85,7 +86,7 @@ fn read_digits(table: &TableRef) -> Result<ColType, StreamFault>
 fn read_date(table: &TableRef) -> Result<ColType, StreamFault>
     ensures { Judges (λ t. t) result (date_of table.now) }
 {
-    let unit = date_unit(read_short(table, DATE_UNIT, 1)?)?;
+    let unit = date_unit(read_short(table, UNIT, 1)?)?;
     Ok(ColType::Date { unit })
 }
 
@@ -127,6 +128,6 @@ fn read_fixed(table: &TableRef) -> Result<ColType, StreamFault>
     ensures { Judges (λ t. t) result (fixed_of table.now) }
 {
     let width = read_word(table, FIXED_BYTE_WIDTH, 0)?;
-    let width = ranged(0, MAX_FIXED_WIDTH, width)?;
+    let width = ranged(0, MAX_FIXED_WIDTH as i32, width)?;
     Ok(ColType::Fixed { width })
 }
