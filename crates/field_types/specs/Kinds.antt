@@ -1,13 +1,13 @@
 -- Apache Arrow Schema.fbs, union Type: the kinds of types that are taken, by their numbers in the union. Under any other nothing is read.
-use Rattle.std.specs.Prelude.{ℕ, Bool, true, Ok, Err, unwrap_or, ◌==◌, if◌then◌else◌}
-use Rattle.flatbuf.specs.Layout.{Table, number_of}
+use Rattle.std.specs.Prelude.{ℕ, Bool, true, Ok, Err, ◌==◌, if◌then◌else◌}
+use Rattle.flatbuf.specs.Layout.{Table}
 use Rattle.values.specs.Reading.{Reading, ◌>>=◌, one}
 use Rattle.values.specs.declared.faults.StreamFault.TheVariants as fault
 use Rattle.values.specs.declared.layout.OffsetWidth.TheVariants as offset
 use Rattle.field_types.specs.declared.kinds.TypeKind.{TypeKind}
 use Rattle.field_types.specs.declared.kinds.TypeKind.TheVariants as kind
 use Rattle.field_types.specs.SchemaFbs as fbs
-use Rattle.field_types.specs.Reads.{readable}
+use Rattle.field_types.specs.Reads.{byte_of}
 use Rattle.values.specs.declared.col_type.ColType.{ColType}
 use Rattle.values.specs.declared.col_type.ColType.TheVariants as stored
 
@@ -31,7 +31,7 @@ kind_numbered n =
     else Err (one fault.UnsupportedType)
 
 unfoldable pub kind_of : Table → Reading TypeKind
-kind_of t = readable (number_of 1 t fbs.type_kind) >>= λ n. kind_numbered (unwrap_or n 0)
+kind_of t = byte_of t fbs.type_kind >>= kind_numbered
 
 -- how many children a field of this kind may have: a list one, a struct any number, and no other kind any
 abbrev pub may_have : TypeKind → ℕ → Bool

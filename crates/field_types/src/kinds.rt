@@ -1,16 +1,16 @@
-//! The kinds of types, and what is read of any table.
+//! The kinds of types.
 
 ghost use Rattle.std.specs.Prelude.{◌≡◌};
 ghost use Rattle.values.specs.Reading.{Judges};
 ghost use Rattle.field_types.specs.Kinds.{kind_of, kind_of_type, may_have as may_have_children};
-ghost use Rattle.field_types.specs.Reads.{bool_of};
 
+use crate::reads::read_byte;
 use crate::schema_fbs::{
     FIELD_TYPE_KIND, TYPE_BINARY, TYPE_BOOL, TYPE_DATE, TYPE_DECIMAL, TYPE_DURATION,
     TYPE_FIXED_SIZE_BINARY, TYPE_INT, TYPE_LARGE_BINARY, TYPE_LARGE_LIST, TYPE_LARGE_UTF8,
     TYPE_LIST, TYPE_STRUCT, TYPE_TIME, TYPE_TIMESTAMP, TYPE_UTF8,
 };
-use flatbuf::{BadTable, TableRef};
+use flatbuf::TableRef;
 use values::{ColType, OffsetWidth, StreamFault};
 
 /// The kind of a type: what a field says of its type before the type's own table.
@@ -52,22 +52,6 @@ impl TypeKind {
     }
 }
 
-/// The fault of what can't be read.
-pub fn unreadable(_cause: BadTable) -> StreamFault
-    ensures { result ≡ StreamFault.BadTable }
-{
-    StreamFault::BadTable
-}
-
-/// A bool of a table, `false` where it is absent.
-#[tactic(auto, unfolding(crate::specs::Reads::bool_of))]
-pub fn read_bool(table: &TableRef, slot: u16) -> Result<bool, StreamFault>
-    ensures { Judges (λ b. b) result (bool_of table.now slot) }
-{
-    let byte = table.u8(slot).map_err(unreadable)?;
-    Ok(byte.unwrap_or(0) != 0)
-}
-
 /// The kind of a field's type.
 ///
 /// A kind that is not taken is `UnsupportedType`.
@@ -76,7 +60,7 @@ pub fn read_kind(field: &TableRef) -> Result<TypeKind, StreamFault>
     ensures { Judges (λ k. k) result (kind_of field.now) }
 {
     let (small, large) = (OffsetWidth::Bits32, OffsetWidth::Bits64);
-    match field.u8(FIELD_TYPE_KIND).map_err(unreadable)?.unwrap_or(0) {
+    match read_byte(field, FIELD_TYPE_KIND)? {
         TYPE_INT => Ok(TypeKind::Int),
         TYPE_BINARY => Ok(TypeKind::Binary { offsets: small }),
         TYPE_UTF8 => Ok(TypeKind::Utf8 { offsets: small }),

@@ -5,11 +5,11 @@ ghost use Rattle.values.specs.ColTypes.{IsType};
 ghost use Rattle.field_types.specs.Types.{date_of, decimal_of, digits_of, duration_of, fixed_of, int_of, stored_by, time_of, timestamp_of, type_of};
 ghost use Rattle.std.specs.Prelude.{IfOk};
 
-use crate::kinds::{TypeKind, read_bool, unreadable};
+use crate::kinds::TypeKind;
 use crate::parameters::{
-    check_decimal_bits, date_unit, ranged, read_precision, read_short, read_time_unit, read_width,
-    read_word, read_zone,
+    check_decimal_bits, date_unit, ranged, read_precision, read_time_unit, read_width, read_zone,
 };
+use crate::reads::{read_bool, read_short, read_word, readable};
 use crate::schema_fbs::{
     DECIMAL_SCALE, FIELD_TYPE, FIXED_BYTE_WIDTH, INT_IS_SIGNED, TIME_BIT_WIDTH, UNIT,
 };
@@ -27,7 +27,7 @@ pub fn read_type(alloc: Global, kind: TypeKind, field: &TableRef) -> Result<ColT
     ensures exact { Answers (λ t. t) result (type_of kind field.now) }
     ensures within { IfOk result IsType }
 {
-    let Some(table) = field.table(FIELD_TYPE).map_err(unreadable)? else {
+    let Some(table) = readable(field.table(FIELD_TYPE))? else {
         return Err(StreamFault::BadType);
     };
     read_parameters(alloc, kind, &table)
