@@ -1,5 +1,5 @@
 -- What is read of any table of Schema.fbs: its numbers and truth values, with their defaults.
-use Rattle.std.specs.Prelude.{ℕ, ℤ, pos, Bool, true, false, not, Option, None, Some, Ok, Err, unwrap_or, ◌==◌}
+use Rattle.std.specs.Prelude.{ℕ, ℤ, pos, Bool, true, false, not, Option, Ok, Err, unwrap_or, ◌==◌}
 use Rattle.std.specs.Int.{w16, w32, w64}
 use Rattle.flatbuf.specs.Layout.{Table, number_of, signed_of}
 use Rattle.values.specs.Reading.{Reading, mapped, must, one}

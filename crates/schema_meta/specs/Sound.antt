@@ -1,5 +1,5 @@
 -- What holds of each message that is handed on, so that a reader of its body need not judge it again.
-use Rattle.std.specs.Prelude.{◌≡◌, ℕ, ◌+◌, ◌≤◌, List, length, Option, None, Some, All, IsSome, IsSomeAnd, true, ◌<◌}
+use Rattle.std.specs.Prelude.{◌≡◌, ℕ, ◌+◌, ◌≤◌, List, length, Option, None, Some, All, IsSome, IsSomeAnd, true}
 use Rattle.values.specs.Limits.{max_batch_length, max_node_length}
 use Rattle.values.specs.Rose.{Rose, Roses, roses_size}
 use Rattle.values.specs.declared.layout.Layout.{Layout}
