@@ -1,6 +1,7 @@
 -- Which faults stand in an array's buffers, by its length and its number of nulls: 22 BufferShort, 23 NullCount and 24 Offsets.
 use Rattle.std.specs.Prelude.{ℕ, ℤ, pos, List, Ok, Err, ◌+◌, ◌*◌, ◌-◌, ◌^◌, ◌<◌, ◌≤◌, ◌==◌, ◌&&◌, if◌then◌else◌, length, nat_lt, nat_le}
 use Rattle.std.specs.Ordering.{int_eq}
+use Rattle.values.specs.Limits.{max_node_length}
 use Rattle.values.specs.Reading.{Reading, one, both, second}
 use Rattle.values.specs.Rose.{Rose, node, Roses, none, more}
 use Rattle.values.specs.declared.faults.StreamFault.TheVariants as fault
@@ -77,7 +78,7 @@ pub record IsPart (body : List ℕ) (p : Part) (kids : Roses Part) : Type 0 wher
   pub validity : LiesIn body p.validity
   pub offsets : LiesIn body p.offsets
   pub values : LiesIn body p.values
-  pub small : p.len < 2 ^ 31
+  pub small : p.len ≤ max_node_length
   pub kids_fit : IsNode p.layout (layouts_of kids)
 
 abbrev pub AreLong : Layout → ℕ → Roses Part → Type 0

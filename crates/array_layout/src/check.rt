@@ -1,6 +1,7 @@
 //! The checks of an array's buffers: 22 BufferShort, 23 NullCount, 24 Offsets.
 
 ghost use Rattle.std.specs.Prelude.{◌≡◌, ◌+◌, ◌*◌, ◌<◌, ◌≤◌, ◌^◌, length, OnOk};
+ghost use Rattle.values.specs.Limits.{max_node_length};
 ghost use Rattle.values.specs.Reading.{Passes};
 ghost use Rattle.values.specs.Rose.{kids_of};
 ghost use Rattle.values.specs.Layouts.{offset_bytes};
@@ -57,7 +58,7 @@ fn check_bits(bits: &[u8], len: usize) -> Result<(), StreamFault>
 #[tactic(auto, unfolding(crate::specs::Sound::slots_of))]
 fn check_slots(bytes: &[u8], width: usize, len: usize) -> Result<(), StreamFault>
     requires narrow { width < 2 ^ 32 }
-    requires small { len < 2 ^ 31 }
+    requires small { len ≤ max_node_length }
     ensures passes { Passes result (slots_of width bytes.now len) }
     ensures room { OnOk result (width * len ≤ length bytes.now) }
 {
@@ -72,7 +73,7 @@ fn check_slots(bytes: &[u8], width: usize, len: usize) -> Result<(), StreamFault
 #[tactic(auto, using(crate::proofs::Rising::rising_steps), unfolding(crate::specs::Buffers::is_rising))]
 fn rises(offsets: &[u8], width: OffsetWidth, len: usize) -> bool
     requires room { offset_bytes width * (len + 1) ≤ length offsets.now }
-    requires small { len < 2 ^ 31 }
+    requires small { len ≤ max_node_length }
     ensures { result ≡ is_rising width offsets.now len }
 {
     let mut before = offset(offsets, width, 0);
@@ -93,7 +94,7 @@ fn check_offsets(
     len: usize,
     limit: usize,
 ) -> Result<(), StreamFault>
-    requires small { len < 2 ^ 31 }
+    requires small { len ≤ max_node_length }
     ensures passes { Passes result (offsets_of width offsets.now len limit) }
     ensures fit { OnOk result (0 < len → AreFit width offsets.now len limit) }
 {
@@ -126,7 +127,7 @@ fn first_len(children: &[Array]) -> usize
 fn check_values(body: &[u8], part: &Part, slots: usize) -> Result<(), StreamFault>
     requires offsets { LiesIn body.now part.now.offsets }
     requires values { LiesIn body.now part.now.values }
-    requires small { part.now.len < 2 ^ 31 }
+    requires small { part.now.len ≤ max_node_length }
     ensures passes { Passes result (values_by part.now.layout body.now part.now slots) }
     ensures room { OnOk result (HasRoom part.now.layout body.now part.now slots) }
 {
@@ -154,7 +155,7 @@ fn check_part(body: &[u8], part: &Part, slots: usize) -> Result<(), StreamFault>
     requires validity { LiesIn body.now part.now.validity }
     requires offsets { LiesIn body.now part.now.offsets }
     requires values { LiesIn body.now part.now.values }
-    requires small { part.now.len < 2 ^ 31 }
+    requires small { part.now.len ≤ max_node_length }
     ensures passes { Passes result (own_faults body.now part.now slots) }
     ensures bits { OnOk result (0 < part.now.validity.len → part.now.len ≤ 8 * part.now.validity.len) }
     ensures room { OnOk result (HasRoom part.now.layout body.now part.now slots) }

@@ -1,6 +1,7 @@
 -- What is known of a slot of a sound array, and how its cell is judged from those that it reaches.
 use Rattle.std.proofs.Common.{◌≡◌, ℕ, List, [], ◌∷◌, ◌+◌, ◌*◌, ◌<◌, ◌≤◌, length, drop, get_or, ap, sym, subst, arith}
 use Rattle.std.specs.Prelude.{Result, Option, None, Some, Ok, Err, Bool, false, if◌then◌else◌}
+use Rattle.values.specs.Limits.{max_precision}
 use Rattle.values.specs.declared.faults.StreamFault.{StreamFault}
 use Rattle.values.specs.Reading.{Reading, cons, mapped, each, Stands, IsGood, Passes, Decides}
 use Rattle.values.proofs.Readings.{decides_both, decides_both_fault, stands_mapped}
@@ -50,12 +51,12 @@ pub decimal_room :
 decimal_room b p kids d sound is =
     let P : Layout → Type 0 = λ l. HasRoom l b p (first_len kids) in subst P is sound.0.room
 
-pub decimal_digits : (b : List ℕ) (p : Part) (kids : Roses Part) (d : ℕ) → IsSound b (node p kids) → p.layout ≡ Decimal d → d ≤ 38
+pub decimal_digits : (b : List ℕ) (p : Part) (kids : Roses Part) (d : ℕ) → IsSound b (node p kids) → p.layout ≡ Decimal d → d ≤ max_precision
 decimal_digits b p kids d sound is = by_kids kids (subst P is sound.0.part.kids_fit) where
   P : Layout → Type 0
   P l = IsNode l (layouts_of kids)
 
-  by_kids : (ks : Roses Part) → IsNode (Decimal d) (layouts_of ks) → d ≤ 38
+  by_kids : (ks : Roses Part) → IsNode (Decimal d) (layouts_of ks) → d ≤ max_precision
   by_kids none h = h
   by_kids (more t ts) h = absurd h
 

@@ -1,6 +1,7 @@
 -- How a weight is summed up to a limit.
-use Rattle.std.proofs.Common.{◌≡◌, ℕ, suc, List, [], ◌∷◌, ◌+◌, ◌-◌, ◌^◌, ◌<◌, ◌≤◌, length, drop, get_or, refl, ap, sym, subst, ◌∙◌, arith}
+use Rattle.std.proofs.Common.{◌≡◌, ℕ, suc, List, [], ◌∷◌, ◌+◌, ◌-◌, ◌<◌, ◌≤◌, length, drop, get_or, refl, ap, sym, subst, ◌∙◌, arith}
 use Rattle.std.specs.Prelude.{Option, None, Some, Bool, false, if◌then◌else◌}
+use Rattle.values.specs.Limits.{max_cell_weight}
 use Rattle.values.specs.Rose.{Rose, node, Roses, none, kids_of}
 use Rattle.values.proofs.Weighing.{own-slot}
 use Rattle.values.proofs.Roses.{kids_step, kids_end, kid_smaller}
@@ -26,7 +27,7 @@ capped_more : (s a r : ℕ) → capped (capped (s + a) + r) ≡ capped (s + (a +
 unfolding capped
 capped_more s a r = grind arith
 
-capped_full : (r : ℕ) → capped (2 ^ 20 + 1 + r) ≡ 2 ^ 20 + 1
+capped_full : (r : ℕ) → capped (max_cell_weight + 1 + r) ≡ max_cell_weight + 1
 unfolding capped
 capped_full r = grind arith
 
@@ -41,16 +42,16 @@ sum_more s x t a r w is sum left =
     let Q : ℕ → Type 0 = λ k. capped (capped (s + k) + r) ≡ w in
     subst P (sym sum) (subst Q (sym is) (capped_sum s a r ∙ left))
 
-pub sum_full : (s r w : ℕ) → s ≡ 2 ^ 20 + 1 → capped (s + r) ≡ w → s ≡ w
+pub sum_full : (s r w : ℕ) → s ≡ max_cell_weight + 1 → capped (s + r) ≡ w → s ≡ w
 sum_full s r w full left =
     let P : ℕ → Type 0 = λ k. capped (k + r) ≡ w in
     full ∙ sym (capped_full r) ∙ subst P full left
 
-capped_small : (k : ℕ) → k ≤ 2 ^ 20 + 1 → k ≡ capped k
+capped_small : (k : ℕ) → k ≤ max_cell_weight + 1 → k ≡ capped k
 unfolding capped
 capped_small k h = grind arith
 
-pub sum_none : (s r w : ℕ) → s ≤ 2 ^ 20 + 1 → r ≡ 0 → capped (s + r) ≡ w → s ≡ w
+pub sum_none : (s r w : ℕ) → s ≤ max_cell_weight + 1 → r ≡ 0 → capped (s + r) ≡ w → s ≡ w
 sum_none s r w bound nothing left =
     let e : s ≡ s + r = omega (arith, nothing) in
     capped_small s bound ∙ ap capped e ∙ left
@@ -81,7 +82,7 @@ items_step f i n s x t w below is sum left =
     let P : ℕ → Type 0 = λ k. capped (s + k) ≡ w in
     sum_more s x t (f i) (sum_from f (i + 1) (n - (i + 1))) w is sum (subst P (sum_step f i n below) left)
 
-pub items_end : (f : ℕ → ℕ) (i n s w : ℕ) → n ≤ i → s ≤ 2 ^ 20 + 1 → capped (s + sum_from f i (n - i)) ≡ w → s ≡ w
+pub items_end : (f : ℕ → ℕ) (i n s w : ℕ) → n ≤ i → s ≤ max_cell_weight + 1 → capped (s + sum_from f i (n - i)) ≡ w → s ≡ w
 items_end f i n s w past bound left = sum_none s (sum_from f i (n - i)) w bound (sum_past f i n past) left
 
 pub ruleset item_laws = (items_start, items_step, items_end, sum_full)
@@ -96,7 +97,7 @@ row_step b ts k e d i s x t w is below here sum left =
     sum_more s x t (weight_at b e i) (weight_beside b (kids_of (drop (k + 1) ts)) i) w here sum (subst P (kids_step ts k e d is below) left)
 
 pub row_end :
-    (b : List ℕ) (ts : List (Rose Part)) (k i s w : ℕ) → length ts ≤ k → s ≤ 2 ^ 20 + 1 → capped (s + weight_beside b (kids_of (drop k ts)) i) ≡ w
+    (b : List ℕ) (ts : List (Rose Part)) (k i s w : ℕ) → length ts ≤ k → s ≤ max_cell_weight + 1 → capped (s + weight_beside b (kids_of (drop k ts)) i) ≡ w
     → s ≡ w
 row_end b ts k i s w past bound left =
     let none_left : weight_beside b (kids_of (drop k ts)) i ≡ 0 = ap (λ r. weight_beside b r i) (kids_end ts k past) in
@@ -114,7 +115,7 @@ slots_step ts k e d s x t w is below here sum left =
     sum_more s x t (slot (layout_of e)) (slots (layouts_of (kids_of (drop (k + 1) ts)))) w here sum (subst P (kids_step ts k e d is below) left)
 
 pub slots_end :
-    (ts : List (Rose Part)) (k s w : ℕ) → length ts ≤ k → s ≤ 2 ^ 20 + 1 → capped (s + slots (layouts_of (kids_of (drop k ts)))) ≡ w → s ≡ w
+    (ts : List (Rose Part)) (k s w : ℕ) → length ts ≤ k → s ≤ max_cell_weight + 1 → capped (s + slots (layouts_of (kids_of (drop k ts)))) ≡ w → s ≡ w
 slots_end ts k s w past bound left =
     let none_left : slots (layouts_of (kids_of (drop k ts))) ≡ 0 = ap (λ r. slots (layouts_of r)) (kids_end ts k past) in
     sum_none s (slots (layouts_of (kids_of (drop k ts)))) w bound none_left left

@@ -1,5 +1,6 @@
 -- The weight of a cell where it lies.
-use Rattle.std.specs.Prelude.{◌≡◌, ℕ, zero, suc, ◌+◌, ◌-◌, ◌^◌, ◌<◌, ◌≤◌, List, Option, None, Some, Ok, Err, if◌then◌else◌, nat_lt}
+use Rattle.std.specs.Prelude.{◌≡◌, ℕ, zero, suc, ◌+◌, ◌-◌, ◌<◌, ◌≤◌, List, Option, None, Some, Ok, Err, if◌then◌else◌, nat_lt}
+use Rattle.values.specs.Limits.{max_cell_weight}
 use Rattle.values.specs.Reading.{Reading}
 use Rattle.values.specs.Datum.{Datum}
 use Rattle.values.specs.Rose.{Rose, node, Roses, none, more}
@@ -60,10 +61,10 @@ abbrev mutual
 
 -- a weight, exact up to the limit of a cell and 1 more where it is above
 unfoldable pub capped : ℕ → ℕ
-capped n = if nat_lt n (2 ^ 20 + 1) then n else 2 ^ 20 + 1
+capped n = if nat_lt n (max_cell_weight + 1) then n else max_cell_weight + 1
 
 -- r says the weight w: exactly where it is within the limit of a cell, and else that w is above it
 pub record Says (r w : ℕ) : Type 0 where
-  pub exact : r ≤ 2 ^ 20 → r ≡ w
-  pub heavy : 2 ^ 20 < r → 2 ^ 20 < w
-  pub bound : r ≤ 2 ^ 20 + 1
+  pub exact : r ≤ max_cell_weight → r ≡ w
+  pub heavy : max_cell_weight < r → max_cell_weight < w
+  pub bound : r ≤ max_cell_weight + 1

@@ -2,6 +2,7 @@
 
 ghost use Rattle.std.specs.Prelude.{◌≡◌, ◌*◌, ◌<◌, ◌≤◌, string_bytes, IfOk, true};
 ghost use Rattle.std.specs.Str.{is_utf8};
+ghost use Rattle.values.specs.Limits.{max_precision};
 ghost use Rattle.values.specs.Reading.{Passes};
 ghost use Rattle.array_layout.specs.Placing.{bytes_of};
 ghost use Rattle.array_layout.specs.Buffers.{is_null, slice_at};
@@ -61,7 +62,7 @@ pub(crate) fn judge_text(bytes: &[u8]) -> Result<(), StreamFault>
 /// Judges a decimal's digits.
 #[tactic(auto, using(crate::proofs::Powers::powers))]
 pub(crate) fn judge_decimal(number: i128, precision: u8) -> Result<(), StreamFault>
-    requires { precision ≤ 38 }
+    requires { precision ≤ max_precision }
     ensures { Passes result (decimal_of precision number) }
 {
     if number.unsigned_abs() < 10u128.pow(u32::from(precision)) {

@@ -1,6 +1,7 @@
 //! The weight of a cell, which is not copied for it.
 
-ghost use Rattle.std.specs.Prelude.{◌≡◌, ◌+◌, ◌-◌, ◌<◌, ◌≤◌, ◌^◌};
+ghost use Rattle.std.specs.Prelude.{◌≡◌, ◌+◌, ◌-◌, ◌<◌, ◌≤◌};
+ghost use Rattle.values.specs.Limits.{max_cell_weight};
 ghost use Rattle.values.specs.Rose.{node, kids_of};
 ghost use Rattle.values.specs.declared.layout.Layout.TheVariants.{List as Listed, Struct};
 ghost use Rattle.values.specs.Layouts.{slot, slots, weight};
@@ -24,7 +25,7 @@ const TOO_HEAVY: u64 = MAX_CELL_WEIGHT + 1;
 #[tactic(auto, unfolding(crate::specs::Weights::capped))]
 fn cap(weight: u64) -> u64
     ensures value { result ≡ capped weight }
-    ensures bound { result ≤ 2 ^ 20 + 1 }
+    ensures bound { result ≤ max_cell_weight + 1 }
 {
     if weight < TOO_HEAVY {
         weight
@@ -47,7 +48,7 @@ fn value_layout(part: &Part) -> Layout
 #[cycle(slot)]
 fn slot(array: &Array) -> u64
     ensures value { result ≡ capped (slot (layout_of array.now)) }
-    ensures bound { result ≤ 2 ^ 20 + 1 }
+    ensures bound { result ≤ max_cell_weight + 1 }
 {
     slot_of(value_layout(&array.part), &array.children)
 }
@@ -56,7 +57,7 @@ fn slot(array: &Array) -> u64
 #[tactic(auto, using(crate::proofs::Weighing::own_laws))]
 fn slot_of(layout: Layout, children: &[Array]) -> u64
     ensures value { result ≡ capped (slot (node layout (layouts_of (kids_of children.now)))) }
-    ensures bound { result ≤ 2 ^ 20 + 1 }
+    ensures bound { result ≤ max_cell_weight + 1 }
 {
     match layout {
         Layout::Struct => slots(children),
@@ -68,7 +69,7 @@ fn slot_of(layout: Layout, children: &[Array]) -> u64
 #[tactic(auto, using(crate::proofs::Weighing::slot_laws))]
 fn slots(children: &[Array]) -> u64
     ensures value { result ≡ capped (1 + slots (layouts_of (kids_of children.now))) }
-    ensures bound { result ≤ 2 ^ 20 + 1 }
+    ensures bound { result ≤ max_cell_weight + 1 }
 {
     let mut sum = cap(1);
     for child in children {
@@ -83,7 +84,7 @@ fn weigh_word(body: &[u8], part: &Part, words: &Words, i: usize) -> u64
     requires lies { LiesIn body.now part.now.values }
     requires room { HasIndex part.now.layout part.now i }
     ensures value { result ≡ capped (word_weight words.now.layout (coded_by part.now.layout words.now.values (bytes_of body.now part.now.values) i)) }
-    ensures bound { result ≤ 2 ^ 20 + 1 }
+    ensures bound { result ≤ max_cell_weight + 1 }
 {
     match find_word(body, part, words, i) {
         Some(value) => cap(words.layout.own_weight(value)),
@@ -97,7 +98,7 @@ pub(crate) fn weigh(body: &[u8], array: &Array, i: usize) -> u64
     requires sound { IsSound body.now array.now }
     requires below { i < len_of array.now }
     ensures value { result ≡ capped (weight_at body.now array.now i) }
-    ensures bound { result ≤ 2 ^ 20 + 1 }
+    ensures bound { result ≤ max_cell_weight + 1 }
 {
     weigh_slot(body, &array.part, &array.children, i)
 }
@@ -108,7 +109,7 @@ fn weigh_slot(body: &[u8], part: &Part, children: &[Array], i: usize) -> u64
     requires sound { IsSound body.now (node part.now (kids_of children.now)) }
     requires below { i < part.now.len }
     ensures value { result ≡ capped (weight_at body.now (node part.now (kids_of children.now)) i) }
-    ensures bound { result ≤ 2 ^ 20 + 1 }
+    ensures bound { result ≤ max_cell_weight + 1 }
 {
     if is_null_slot(body, part, i) {
         return slot_of(value_layout(part), children);
@@ -126,7 +127,7 @@ fn weigh_value(body: &[u8], part: &Part, children: &[Array], i: usize) -> u64
     requires sound { IsSound body.now (node part.now (kids_of children.now)) }
     requires below { i < part.now.len }
     ensures value { result ≡ capped (weight_by part.now.layout body.now part.now (slot (node part.now.layout (layouts_of (kids_of children.now)))) (λ j. first_weight body.now (kids_of children.now) j) (λ j. weight_beside body.now (kids_of children.now) j) i) }
-    ensures bound { result ≤ 2 ^ 20 + 1 }
+    ensures bound { result ≤ max_cell_weight + 1 }
 {
     match part.layout {
         Layout::Bits | Layout::Number { .. } | Layout::Decimal { .. } | Layout::Fixed { .. } =>
@@ -144,7 +145,7 @@ fn weigh_bytes(body: &[u8], part: &Part, width: OffsetWidth, i: usize) -> u64
     requires fit { AreFit width (bytes_of body.now part.now.offsets) part.now.len part.now.values.len }
     requires below { i < part.now.len }
     ensures value { result ≡ capped (5 + extent width (bytes_of body.now part.now.offsets) i) }
-    ensures bound { result ≤ 2 ^ 20 + 1 }
+    ensures bound { result ≤ max_cell_weight + 1 }
 {
     let offsets = buffer(body, &part.offsets);
     cap(5 + (offset(offsets, width, i + 1) - offset(offsets, width, i)) as u64)
@@ -159,7 +160,7 @@ fn weigh_list(body: &[u8], part: &Part, children: &[Array], width: OffsetWidth, 
     ensures value { result ≡ capped
         (5 + sum_from (λ j. first_weight body.now (kids_of children.now) j) (offset_at width (bytes_of body.now part.now.offsets) i)
         (extent width (bytes_of body.now part.now.offsets) i)) }
-    ensures bound { result ≤ 2 ^ 20 + 1 }
+    ensures bound { result ≤ max_cell_weight + 1 }
 {
     let offsets = buffer(body, &part.offsets);
     weigh_items(
@@ -178,7 +179,7 @@ fn weigh_items(body: &[u8], array: &Array, from: usize, to: usize) -> u64
     requires order { from ≤ to }
     requires within { to ≤ len_of array.now }
     ensures value { result ≡ capped (5 + sum_from (weight_at body.now array.now) from (to - from)) }
-    ensures bound { result ≤ 2 ^ 20 + 1 }
+    ensures bound { result ≤ max_cell_weight + 1 }
 {
     let mut sum = cap(5);
     for i in from..to {
@@ -197,7 +198,7 @@ fn weigh_row(body: &[u8], children: &[Array], i: usize) -> u64
     requires sound { AreSound body.now (kids_of children.now) }
     requires long { AreLong Struct (i + 1) (kids_of children.now) }
     ensures value { result ≡ capped (1 + weight_beside body.now (kids_of children.now) i) }
-    ensures bound { result ≤ 2 ^ 20 + 1 }
+    ensures bound { result ≤ max_cell_weight + 1 }
 {
     let mut sum = cap(1);
     for child in children {

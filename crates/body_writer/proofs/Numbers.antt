@@ -9,6 +9,7 @@ use Rattle.std.proofs.Math.Nat.{mod-lt, pow-le-pow_right}
 use Rattle.std.proofs.lemmas.List.{take_at}
 use Rattle.byteorder.specs.Endian.{little_bytes, little_number, low_bytes, twos_complement}
 use Rattle.byteorder.specs.Numbers.{little_number-reads_back, length-bytes_low_first}
+use Rattle.values.specs.Limits.{max_precision}
 use Rattle.values.specs.Datum.{Datum, null, whole}
 use Rattle.values.specs.declared.layout.IntWidth.{IntWidth}
 use Rattle.values.specs.declared.layout.IntWidth.TheVariants as int
@@ -124,15 +125,15 @@ number-back s w cs i z h e fits =
     ap (number_by s (width_of w)) (word-read (width_of w) cs i (small w) h ∙ ap (number_in (width_of w)) e) ∙ low-back s w z fits
 
 -- decimals have less than 2^127
-digits : (p : ℕ) → p ≤ 38 → 10 ^ p ≤ 10 ^ 38
+digits : (p : ℕ) → p ≤ max_precision → 10 ^ p ≤ 10 ^ max_precision
 digits p h = pow-le-pow_right (omega arith) h
 
-decimal-fits : (p : ℕ) (z : ℤ) → p ≤ 38 → nat_abs z < 10 ^ p → FitsIn true 16 z
+decimal-fits : (p : ℕ) (z : ℤ) → p ≤ max_precision → nat_abs z < 10 ^ p → FitsIn true 16 z
 decimal-fits p (pos k) h small = let most = digits p h in (omega (arith, ints, most, small), omega (arith, ints, most, small))
 decimal-fits p (negsuc k) h small = let most = digits p h in (omega (arith, ints, most, small), omega (arith, ints, most, small))
 
 pub decimal-back :
-    (p : ℕ) (cs : List Datum) (i : ℕ) (z : ℤ) → p ≤ 38 → i < length cs → get_or cs i null ≡ whole z → nat_abs z < 10 ^ p
+    (p : ℕ) (cs : List Datum) (i : ℕ) (z : ℤ) → p ≤ max_precision → i < length cs → get_or cs i null ≡ whole z → nat_abs z < 10 ^ p
     → number_at true 16 (numbers 16 cs) i ≡ z
 unfolding number_at
 decimal-back p cs i z most h e fits =

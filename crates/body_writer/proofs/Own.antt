@@ -3,6 +3,7 @@ use Rattle.std.proofs.Common.{◌≡◌, ℕ, suc, ◌+◌, ◌-◌, ◌^◌, �
 use Rattle.std.specs.Prelude.{ℤ, not, if◌then◌else◌, nat_abs}
 use Rattle.std.proofs.lemmas.Bool.{lt-ltb}
 use Rattle.std.proofs.lemmas.List.{length-take, length-replicate}
+use Rattle.values.specs.Limits.{max_precision}
 use Rattle.values.specs.Reading.{Reading}
 use Rattle.values.specs.Rose.{node, Roses, none, more}
 use Rattle.values.specs.Datum.{Datum, null, truth, whole, text, bytes, list, structure, Items, items_of, no_items, item}
@@ -139,7 +140,7 @@ KidsRead (Listed o) cs entry row = (j : ℕ) → j < length (items cs) → entry
 KidsRead Struct cs entry row = (i : ℕ) (es : Items) → i < length cs → get_or cs i null ≡ structure es → row i ≡ Ok (listed es)
 KidsRead l cs entry row = Unit {0}
 
-few-digits : (p : ℕ) (kids : Roses Layout) → IsNode (Decimal p) kids → p ≤ 38
+few-digits : (p : ℕ) (kids : Roses Layout) → IsNode (Decimal p) kids → p ≤ max_precision
 few-digits p none is = is
 few-digits p (more t ts) is = absurd is
 

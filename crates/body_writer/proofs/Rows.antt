@@ -6,6 +6,7 @@ use Rattle.std.specs.declared.alloc.Global.{Global}
 use Rattle.std.proofs.lemmas.List.{drop_all, drop_more, length-map, map-append}
 use Rattle.std.proofs.lemmas.List.Elements.{All-map}
 use denote.Ref.{Bor}
+use Rattle.values.specs.Limits.{max_body_size}
 use Rattle.values.specs.Rose.{Rose, node, Roses, none, more, kids_of, rose_size, roses_size}
 use Rattle.values.proofs.Roses.{kids_end}
 use Rattle.values.specs.Datum.{Datum, null, items_of}
@@ -84,7 +85,7 @@ mutual
   few-below none = omega arith
   few-below (more t ts) = let here = few-spans t in let rest = few-below ts in omega (arith, here, rest)
 
-pub body-short : (ls : Roses Layout) (rows : List (List Datum)) → IsBatch ls rows → length (body_bytes ls rows) ≤ 2 ^ 28
+pub body-short : (ls : Roses Layout) (rows : List (List Datum)) → IsBatch ls rows → length (body_bytes ls rows) ≤ max_body_size
 unfolding body_bytes body_buffers
 body-short ls rows batch =
     let same = rows-weights ls rows in
@@ -129,7 +130,7 @@ body-done ts rows j now h w =
     (sym (append-nil now.nodes.items) ∙ e.nodes, sym (append-nil now.spans.items) ∙ e.spans, sym (append-nil now.bytes.items) ∙ e.bytes)
 
 pub body-sized :
-    (ls : Roses Layout) (rows : List (List Datum)) (bs : List ℕ) → IsBatch ls rows → bs ≡ body_bytes ls rows → length bs ≤ 2 ^ 28
+    (ls : Roses Layout) (rows : List (List Datum)) (bs : List ℕ) → IsBatch ls rows → bs ≡ body_bytes ls rows → length bs ≤ max_body_size
 body-sized ls rows bs batch is =
     let short = body-short ls rows batch in
     let same = ap length is in

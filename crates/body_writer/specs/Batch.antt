@@ -1,6 +1,7 @@
 -- The body of a record batch (Arrow Columnar Format, "RecordBatch message"): its columns stand as the children of a struct would, whose
 -- cells are the rows.
-use Rattle.std.specs.Prelude.{ℕ, ◌+◌, ◌^◌, ◌≤◌, All, List, [], ◌∷◌, length, map}
+use Rattle.std.specs.Prelude.{ℕ, ◌+◌, ◌≤◌, All, List, [], ◌∷◌, length, map}
+use Rattle.values.specs.Limits.{max_fields, max_batch_rows, max_batch_weight}
 use Rattle.values.specs.Rose.{Roses, roses_size}
 use Rattle.values.specs.Datum.{Datum, structure, items_of}
 use Rattle.values.specs.declared.layout.Layout.{Layout}
@@ -40,8 +41,8 @@ rows_weight ls (r ∷ rs) = row_weight ls r + rows_weight ls rs
 
 -- few and light enough rows for one batch, whose cells are of their columns' layouts
 pub record IsBatch (ls : Roses Layout) (rows : List (List Datum)) : Type 0 where
-  pub few : length rows ≤ 1024
+  pub few : length rows ≤ max_batch_rows
   pub held : All (λ row. HoldsEach ls (items_of row)) rows
-  pub narrow : roses_size ls ≤ 1024
+  pub narrow : roses_size ls ≤ max_fields
   pub layouts : AreLayouts ls
-  pub light : rows_weight ls rows ≤ 2 ^ 27
+  pub light : rows_weight ls rows ≤ max_batch_weight

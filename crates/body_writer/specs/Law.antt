@@ -1,5 +1,6 @@
 -- What columns that are written are read as, how many nodes and buffers they have, and how long they are.
 use Rattle.std.specs.Prelude.{◌≡◌, ℕ, suc, ◌+◌, ◌*◌, ◌%◌, ◌^◌, ◌<◌, ◌≤◌, All, Ok, List, [], ◌∷◌, ◌++◌, length, map}
+use Rattle.values.specs.Limits.{max_body_size, max_batch_weight}
 use Rattle.values.specs.Rose.{Rose, node, Roses, none, more, rose_size}
 use Rattle.values.specs.Datum.{Datum}
 use Rattle.values.specs.declared.layout.Layout.{Layout}
@@ -82,5 +83,5 @@ SizeLaw =
 abbrev pub BatchSizeLaw : Type 0
 BatchSizeLaw =
     (ts : Roses Layout) (rows : List Datum) → AreLayouts ts → All (Holds (node Struct ts)) rows
-    → weights (node Struct ts) rows ≤ 2 ^ 27 + length rows → spans_below ts ≤ 4096
-    → length (laid (buffers_below Struct 0 ts rows)) ≤ 2 ^ 28
+    → weights (node Struct ts) rows ≤ max_batch_weight + length rows → spans_below ts ≤ 4096
+    → length (laid (buffers_below Struct 0 ts rows)) ≤ max_body_size

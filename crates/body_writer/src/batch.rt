@@ -1,6 +1,7 @@
 //! The body of a record batch, column after column.
 
-ghost use Rattle.std.specs.Prelude.{◌≡◌, ◌^◌, ◌≤◌, IfOk, length, map};
+ghost use Rattle.std.specs.Prelude.{◌≡◌, ◌≤◌, IfOk, length, map};
+ghost use Rattle.values.specs.Limits.{max_body_size};
 ghost use Rattle.values.specs.Rose.{kids_of};
 ghost use Rattle.body_writer.specs.Slots.{part, cells_of};
 ghost use Rattle.body_writer.specs.Batch.{IsBatch, body_bytes, body_nodes, body_spans, row_cells};
@@ -33,7 +34,7 @@ pub fn write_body(alloc: Global, layouts: &[LayoutTree], rows: &[Row]) -> Result
     ensures nodes { IfOk result (λ body. body.nodes.items ≡ body_nodes (kids_of layouts.now) (map (λ r. r.items) rows.now)) }
     ensures spans { IfOk result (λ body. body.spans.items ≡ body_spans (kids_of layouts.now) (map (λ r. r.items) rows.now)) }
     ensures bytes { IfOk result (λ body. body.bytes.items ≡ body_bytes (kids_of layouts.now) (map (λ r. r.items) rows.now)) }
-    ensures size { IfOk result (λ body. length body.bytes.items ≤ 2 ^ 28) }
+    ensures size { IfOk result (λ body. length body.bytes.items ≤ max_body_size) }
 {
     let mut body = Body::new(alloc);
     for j in 0..layouts.len() {

@@ -9,6 +9,7 @@ use Rattle.flatbuf.specs.Tree.{number, table}
 use Rattle.flatbuf.specs.Layout.{Table, table_in, slot_of, structs_of}
 use Rattle.flatbuf.specs.Held.{NodeHeld, Held}
 use Rattle.flatbuf.proofs.Words.{number-read, signed-read, text-read, subtable-read}
+use Rattle.values.specs.Limits.{max_name_len, max_precision, max_fixed_width}
 use Rattle.values.specs.Layouts.{bytes_in}
 use Rattle.values.specs.declared.layout.IntWidth.{IntWidth}
 use Rattle.values.specs.declared.layout.IntWidth.TheVariants as int
@@ -19,7 +20,7 @@ use Rattle.values.specs.declared.units.TimeUnit.{TimeUnit}
 use Rattle.values.specs.declared.units.TimeUnit.TheVariants as time
 use Rattle.values.specs.declared.col_type.ColType.{ColType}
 use Rattle.values.specs.declared.col_type.ColType.TheVariants as stored
-use Rattle.field_types.specs.Slots as slot
+use Rattle.field_types.specs.SchemaFbs as fbs
 use Rattle.field_types.specs.Reads.{bool_of, short_of, word_of}
 use Rattle.field_types.specs.Kinds.{kind_numbered, kind_of, kind_of_type}
 use Rattle.field_types.specs.Types.{ranged, width_of, int_of, precision_of, digits_of, wide_of, decimal_of, date_of, time_unit_of, time_of, zone_of, timestamp_of, duration_of, fixed_of, stored_by, type_of}
@@ -47,39 +48,39 @@ ranged-is low high n above below = rw (le-leb low n above, le-leb n high below) 
 
 -- parameters
 
-width-read : (w : IntWidth) (t : Table) → NodeHeld t.bytes (slot_of t slot.bit_width) (number 4 (8 * bytes_in w)) → width_of t ≡ Ok w
+width-read : (w : IntWidth) (t : Table) → NodeHeld t.bytes (slot_of t fbs.bit_width) (number 4 (8 * bytes_in w)) → width_of t ≡ Ok w
 unfolding width_of
-width-read int.Bits8 t h = rw (word-read 8 t slot.bit_width (pos 0) (omega arith) h) refl
-width-read int.Bits16 t h = rw (word-read 16 t slot.bit_width (pos 0) (omega arith) h) refl
-width-read int.Bits32 t h = rw (word-read 32 t slot.bit_width (pos 0) (omega arith) h) refl
-width-read int.Bits64 t h = rw (word-read 64 t slot.bit_width (pos 0) (omega arith) h) refl
+width-read int.Bits8 t h = rw (word-read 8 t fbs.bit_width (pos 0) (omega arith) h) refl
+width-read int.Bits16 t h = rw (word-read 16 t fbs.bit_width (pos 0) (omega arith) h) refl
+width-read int.Bits32 t h = rw (word-read 32 t fbs.bit_width (pos 0) (omega arith) h) refl
+width-read int.Bits64 t h = rw (word-read 64 t fbs.bit_width (pos 0) (omega arith) h) refl
 
-date-read : (u : DateUnit) (t : Table) → NodeHeld t.bytes (slot_of t slot.unit) (number 2 (date_unit_number u)) → date_of t ≡ Ok (stored.Date u)
+date-read : (u : DateUnit) (t : Table) → NodeHeld t.bytes (slot_of t fbs.unit) (number 2 (date_unit_number u)) → date_of t ≡ Ok (stored.Date u)
 unfolding date_of
-date-read date.Day t h = rw (short-read 0 t slot.unit (pos 1) (omega arith) h) refl
-date-read date.Millisecond t h = rw (short-read 1 t slot.unit (pos 1) (omega arith) h) refl
+date-read date.Day t h = rw (short-read 0 t fbs.unit (pos 1) (omega arith) h) refl
+date-read date.Millisecond t h = rw (short-read 1 t fbs.unit (pos 1) (omega arith) h) refl
 
-unit-read : (u : TimeUnit) (t : Table) (d : ℤ) → NodeHeld t.bytes (slot_of t slot.unit) (number 2 (time_unit_number u)) → time_unit_of t d ≡ Ok u
+unit-read : (u : TimeUnit) (t : Table) (d : ℤ) → NodeHeld t.bytes (slot_of t fbs.unit) (number 2 (time_unit_number u)) → time_unit_of t d ≡ Ok u
 unfolding time_unit_of
-unit-read time.Second t d h = rw (short-read 0 t slot.unit d (omega arith) h) refl
-unit-read time.Millisecond t d h = rw (short-read 1 t slot.unit d (omega arith) h) refl
-unit-read time.Microsecond t d h = rw (short-read 2 t slot.unit d (omega arith) h) refl
-unit-read time.Nanosecond t d h = rw (short-read 3 t slot.unit d (omega arith) h) refl
+unit-read time.Second t d h = rw (short-read 0 t fbs.unit d (omega arith) h) refl
+unit-read time.Millisecond t d h = rw (short-read 1 t fbs.unit d (omega arith) h) refl
+unit-read time.Microsecond t d h = rw (short-read 2 t fbs.unit d (omega arith) h) refl
+unit-read time.Nanosecond t d h = rw (short-read 3 t fbs.unit d (omega arith) h) refl
 
 text-absent : (t : Table) (k : ℕ) → slot_of t k ≡ Some None → structs_of 1 t k ≡ Some None
 unfolding structs_of
 text-absent t k h = rw h refl
 
-zone-read : (z : List ℕ) (t : Table) → length z ≤ 4096 → is_utf8 z ≡ true → NodeHeld t.bytes (slot_of t slot.timezone) (zone_node z) → zone_of t ≡ Ok z
+zone-read : (z : List ℕ) (t : Table) → length z ≤ max_name_len → is_utf8 z ≡ true → NodeHeld t.bytes (slot_of t fbs.timezone) (zone_node z) → zone_of t ≡ Ok z
 unfolding zone_of
-zone-read [] t short utf8 h = rw (text-absent t slot.timezone h) refl
-zone-read (b ∷ bs) t short utf8 h = rw (text-read (b ∷ bs) t slot.timezone h, le-leb (length (b ∷ bs)) 4096 short, utf8) refl
+zone-read [] t short utf8 h = rw (text-absent t fbs.timezone h) refl
+zone-read (b ∷ bs) t short utf8 h = rw (text-read (b ∷ bs) t fbs.timezone h, le-leb (length (b ∷ bs)) max_name_len short, utf8) refl
 
 -- types
 
 int-read : (w : IntWidth) (s : Bool) (t : Table) → Held t.bytes (slot_of t) 0 (type_slots (stored.Int w s)) → int_of t ≡ Ok (stored.Int w s)
 unfolding int_of
-int-read w s t h = rw (width-read w t h.0, bool-read s t slot.is_signed h.1.0) refl
+int-read w s t h = rw (width-read w t h.0, bool-read s t fbs.is_signed h.1.0) refl
 
 decimal-read : (p s : ℕ) (t : Table) → IsType (stored.Decimal p s) → Held t.bytes (slot_of t) 0 (type_slots (stored.Decimal p s)) →
     decimal_of t ≡ Ok (stored.Decimal p s)
@@ -88,17 +89,17 @@ decimal-read p s t fit h =
     let some = fit.0 in
     let most = fit.1 in
     let within = fit.2 in
-    let precise = word-read p t slot.precision (pos 0) (omega (arith, most)) h.0 in
-    let scaled = word-read s t slot.scale (pos 0) (omega (arith, most, within)) h.1.0 in
-    let wide = word-read 128 t slot.decimal_bits (pos 128) (omega arith) h.1.1.0 in
-    rw (precise, ranged-is 1 38 p some most, scaled, ranged-is 0 p s (omega arith) within, wide) refl
+    let precise = word-read p t fbs.precision (pos 0) (omega (arith, most)) h.0 in
+    let scaled = word-read s t fbs.scale (pos 0) (omega (arith, most, within)) h.1.0 in
+    let wide = word-read 128 t fbs.decimal_bits (pos 128) (omega arith) h.1.1.0 in
+    rw (precise, ranged-is 1 max_precision p some most, scaled, ranged-is 0 p s (omega arith) within, wide) refl
 
 time-read : (u : TimeUnit) (t : Table) → Held t.bytes (slot_of t) 0 (type_slots (stored.Time u)) → time_of t ≡ Ok (stored.Time u)
 unfolding time_of
-time-read time.Second t h = rw (unit-read time.Second t (pos 1) h.0, word-read 32 t slot.time_bits (pos 32) (omega arith) h.1.0) refl
-time-read time.Millisecond t h = rw (unit-read time.Millisecond t (pos 1) h.0, word-read 32 t slot.time_bits (pos 32) (omega arith) h.1.0) refl
-time-read time.Microsecond t h = rw (unit-read time.Microsecond t (pos 1) h.0, word-read 64 t slot.time_bits (pos 32) (omega arith) h.1.0) refl
-time-read time.Nanosecond t h = rw (unit-read time.Nanosecond t (pos 1) h.0, word-read 64 t slot.time_bits (pos 32) (omega arith) h.1.0) refl
+time-read time.Second t h = rw (unit-read time.Second t (pos 1) h.0, word-read 32 t fbs.time_bits (pos 32) (omega arith) h.1.0) refl
+time-read time.Millisecond t h = rw (unit-read time.Millisecond t (pos 1) h.0, word-read 32 t fbs.time_bits (pos 32) (omega arith) h.1.0) refl
+time-read time.Microsecond t h = rw (unit-read time.Microsecond t (pos 1) h.0, word-read 64 t fbs.time_bits (pos 32) (omega arith) h.1.0) refl
+time-read time.Nanosecond t h = rw (unit-read time.Nanosecond t (pos 1) h.0, word-read 64 t fbs.time_bits (pos 32) (omega arith) h.1.0) refl
 
 timestamp-read : (u : TimeUnit) (z : List ℕ) (t : Table) → IsType (stored.Timestamp u z) → Held t.bytes (slot_of t) 0 (type_slots (stored.Timestamp u z)) →
     timestamp_of t ≡ Ok (stored.Timestamp u z)
@@ -109,10 +110,10 @@ duration-read : (u : TimeUnit) (t : Table) → Held t.bytes (slot_of t) 0 (type_
 unfolding duration_of
 duration-read u t h = rw (unit-read u t (pos 1) h.0) refl
 
-fixed-read : (w : ℕ) (t : Table) → w ≤ 65536 → Held t.bytes (slot_of t) 0 (type_slots (stored.Fixed w)) → fixed_of t ≡ Ok (stored.Fixed w)
+fixed-read : (w : ℕ) (t : Table) → w ≤ max_fixed_width → Held t.bytes (slot_of t) 0 (type_slots (stored.Fixed w)) → fixed_of t ≡ Ok (stored.Fixed w)
 unfolding fixed_of
 fixed-read w t small h =
-    rw (word-read w t slot.byte_width (pos 0) (omega (arith, small)) h.0, ranged-is 0 65536 w (omega arith) small) refl
+    rw (word-read w t fbs.byte_width (pos 0) (omega (arith, small)) h.0, ranged-is 0 max_fixed_width w (omega arith) small) refl
 
 -- the type table of a field
 
@@ -130,10 +131,10 @@ stored-read (stored.Fixed w) t fit h = fixed-read w t fit h
 stored-read (stored.List o) t fit h = refl
 stored-read stored.Struct t fit h = refl
 
-type-read : (s : ColType) (t : Table) → IsType s → NodeHeld t.bytes (slot_of t slot.type_table) (table (type_slots s)) → type_of (kind_of_type s) t ≡ Ok s
+type-read : (s : ColType) (t : Table) → IsType s → NodeHeld t.bytes (slot_of t fbs.type_table) (table (type_slots s)) → type_of (kind_of_type s) t ≡ Ok s
 unfolding type_of
 type-read s t fit h =
-    let r = subtable-read (type_slots s) t slot.type_table h in
+    let r = subtable-read (type_slots s) t fbs.type_table h in
     rw (r.is, stored-read s (table_in t.bytes r.place) fit r.slots) refl
 
 kind-back : (s : ColType) → kind_numbered (type_number s) ≡ Ok (kind_of_type s)
@@ -154,9 +155,9 @@ kind-back (stored.List offset.Bits32) = refl
 kind-back (stored.List offset.Bits64) = refl
 kind-back stored.Struct = refl
 
-kind-read : (s : ColType) (t : Table) → NodeHeld t.bytes (slot_of t slot.type_kind) (number 1 (type_number s)) → kind_of t ≡ Ok (kind_of_type s)
+kind-read : (s : ColType) (t : Table) → NodeHeld t.bytes (slot_of t fbs.type_kind) (number 1 (type_number s)) → kind_of t ≡ Ok (kind_of_type s)
 unfolding kind_of
-kind-read s t h = rw (number-read 1 (type_number s) t slot.type_kind h) (kind-back s)
+kind-read s t h = rw (number-read 1 (type_number s) t fbs.type_kind h) (kind-back s)
 
 pub type-is-read : TypeIsRead
 type-is-read s fit t kind_held type_held = (kind-read s t kind_held, type-read s t fit type_held)

@@ -2,6 +2,7 @@
 use Rattle.std.proofs.Common.{ℕ, ◌+◌, ◌*◌, ◌≤◌, ◌<◌, Bool, true, false, List, [], ◌∷◌, arith}
 use Rattle.flatbuf.specs.Tree.{number, table, Nodes}
 use Rattle.flatbuf.specs.Written.{up, items_place, table_place, vtable_len, Fits}
+use Rattle.values.specs.Limits.{max_fixed_width}
 use Rattle.values.specs.Layouts.{bytes_in}
 use Rattle.values.specs.declared.layout.IntWidth.{IntWidth}
 use Rattle.values.specs.declared.layout.IntWidth.TheVariants as int
@@ -80,7 +81,7 @@ byte-fits n h = (omega arith, omega arith, omega (arith, h))
 short-fits : (n : ℕ) → n ≤ 3 → Fits (number 2 n)
 short-fits n h = (omega arith, omega arith, omega (arith, h))
 
-word-fits : (n : ℕ) → n ≤ 65536 → Fits (number 4 n)
+word-fits : (n : ℕ) → n ≤ max_fixed_width → Fits (number 4 n)
 word-fits n h = (omega arith, omega arith, omega (arith, h))
 
 zone-fits : (z : List ℕ) → Fits (zone_node z)

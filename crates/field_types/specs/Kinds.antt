@@ -1,27 +1,37 @@
 -- Apache Arrow Schema.fbs, union Type: the kinds of types that are taken, by their numbers in the union. Under any other nothing is read.
-use Rattle.std.specs.Prelude.{ℕ, Bool, true, Ok, Err, unwrap_or, ◌==◌, if◌then◌else◌}
-use Rattle.flatbuf.specs.Layout.{Table, number_of}
+use Rattle.std.specs.Prelude.{ℕ, Bool, true, Ok, Err, ◌==◌, if◌then◌else◌}
+use Rattle.flatbuf.specs.Layout.{Table}
 use Rattle.values.specs.Reading.{Reading, ◌>>=◌, one}
 use Rattle.values.specs.declared.faults.StreamFault.TheVariants as fault
 use Rattle.values.specs.declared.layout.OffsetWidth.TheVariants as offset
 use Rattle.field_types.specs.declared.kinds.TypeKind.{TypeKind}
 use Rattle.field_types.specs.declared.kinds.TypeKind.TheVariants as kind
-use Rattle.field_types.specs.Slots as slot
-use Rattle.field_types.specs.Reads.{readable}
+use Rattle.field_types.specs.SchemaFbs as fbs
+use Rattle.field_types.specs.Reads.{byte_of}
 use Rattle.values.specs.declared.col_type.ColType.{ColType}
 use Rattle.values.specs.declared.col_type.ColType.TheVariants as stored
 
 unfoldable pub kind_numbered : ℕ → Reading TypeKind
 kind_numbered n =
-    if n == 2 then Ok kind.Int else if n == 4 then Ok (kind.Binary offset.Bits32) else if n == 5 then Ok (kind.Utf8 offset.Bits32)
-    else if n == 6 then Ok kind.Bool else if n == 7 then Ok kind.Decimal else if n == 8 then Ok kind.Date
-    else if n == 9 then Ok kind.Time else if n == 10 then Ok kind.Timestamp else if n == 12 then Ok (kind.List offset.Bits32)
-    else if n == 13 then Ok kind.Struct else if n == 15 then Ok kind.Fixed else if n == 18 then Ok kind.Duration
-    else if n == 19 then Ok (kind.Binary offset.Bits64) else if n == 20 then Ok (kind.Utf8 offset.Bits64)
-    else if n == 21 then Ok (kind.List offset.Bits64) else Err (one fault.UnsupportedType)
+    if n == fbs.type_int then Ok kind.Int
+    else if n == fbs.type_binary then Ok (kind.Binary offset.Bits32)
+    else if n == fbs.type_utf8 then Ok (kind.Utf8 offset.Bits32)
+    else if n == fbs.type_bool then Ok kind.Bool
+    else if n == fbs.type_decimal then Ok kind.Decimal
+    else if n == fbs.type_date then Ok kind.Date
+    else if n == fbs.type_time then Ok kind.Time
+    else if n == fbs.type_timestamp then Ok kind.Timestamp
+    else if n == fbs.type_list then Ok (kind.List offset.Bits32)
+    else if n == fbs.type_struct then Ok kind.Struct
+    else if n == fbs.type_fixed_size_binary then Ok kind.Fixed
+    else if n == fbs.type_duration then Ok kind.Duration
+    else if n == fbs.type_large_binary then Ok (kind.Binary offset.Bits64)
+    else if n == fbs.type_large_utf8 then Ok (kind.Utf8 offset.Bits64)
+    else if n == fbs.type_large_list then Ok (kind.List offset.Bits64)
+    else Err (one fault.UnsupportedType)
 
 unfoldable pub kind_of : Table → Reading TypeKind
-kind_of t = readable (number_of 1 t slot.type_kind) >>= λ n. kind_numbered (unwrap_or n 0)
+kind_of t = byte_of t fbs.type_kind >>= kind_numbered
 
 -- how many children a field of this kind may have: a list one, a struct any number, and no other kind any
 abbrev pub may_have : TypeKind → ℕ → Bool

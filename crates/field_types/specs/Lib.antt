@@ -1,4 +1,4 @@
-pub mod Slots
+pub mod SchemaFbs
 pub mod Reads
 pub mod Kinds
 pub mod Types

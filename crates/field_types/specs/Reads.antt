@@ -1,6 +1,6 @@
 -- What is read of any table of Schema.fbs: its numbers and truth values, with their defaults.
-use Rattle.std.specs.Prelude.{ℕ, ℤ, Bool, true, false, not, Option, None, Some, Ok, Err, unwrap_or, ◌==◌}
-use Rattle.std.specs.Int.{w16, w32}
+use Rattle.std.specs.Prelude.{ℕ, ℤ, pos, Bool, true, false, not, Option, Ok, Err, unwrap_or, ◌==◌}
+use Rattle.std.specs.Int.{w16, w32, w64}
 use Rattle.flatbuf.specs.Layout.{Table, number_of, signed_of}
 use Rattle.values.specs.Reading.{Reading, mapped, must, one}
 use Rattle.values.specs.declared.faults.StreamFault.{StreamFault}
@@ -20,15 +20,21 @@ abbrev pub needs : StreamFault → Bool → Reading (Unit {0})
 needs c true = Ok tt
 needs c false = Err (one c)
 
--- a byte is true unless it is 0, and an absent one is false
-abbrev pub truth_of : Option ℕ → Bool
-truth_of None = false
-truth_of (Some n) = not (n == 0)
+-- a byte, 0 where it is absent
+abbrev pub or_zero : Option ℕ → ℕ
+or_zero n = unwrap_or n 0
+
+abbrev pub byte_of : Table → ℕ → Reading ℕ
+byte_of t k = mapped or_zero (readable (number_of 1 t k))
+
+-- a byte is true unless it is 0
+abbrev pub truth_of : ℕ → Bool
+truth_of n = not (n == 0)
 
 unfoldable pub bool_of : Table → ℕ → Reading Bool
-bool_of t k = mapped truth_of (readable (number_of 1 t k))
+bool_of t k = mapped truth_of (byte_of t k)
 
--- a number of 16 or 32 bits, or this default where it is absent
+-- a number of 16, 32 or 64 bits, or this default where it is absent
 abbrev pub or_default : ℤ → Option ℤ → ℤ
 or_default d n = unwrap_or n d
 
@@ -37,3 +43,6 @@ short_of t k d = mapped (or_default d) (readable (signed_of w16 t k))
 
 unfoldable pub word_of : Table → ℕ → ℤ → Reading ℤ
 word_of t k d = mapped (or_default d) (readable (signed_of w32 t k))
+
+abbrev pub long_of : Table → ℕ → Reading ℤ
+long_of t k = mapped (or_default (pos 0)) (readable (signed_of w64 t k))

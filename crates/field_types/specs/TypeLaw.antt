@@ -5,7 +5,7 @@ use Rattle.flatbuf.specs.Layout.{Table, slot_of}
 use Rattle.flatbuf.specs.Held.{NodeHeld}
 use Rattle.flatbuf.specs.Written.{object_end, Fits}
 use Rattle.values.specs.declared.col_type.ColType.{ColType}
-use Rattle.field_types.specs.Slots as slot
+use Rattle.field_types.specs.SchemaFbs as fbs
 use Rattle.field_types.specs.Kinds.{kind_of, kind_of_type}
 use Rattle.field_types.specs.Types.{type_of}
 use Rattle.values.specs.ColTypes.{IsType}
@@ -14,8 +14,8 @@ use Rattle.field_types.specs.TypeTree.{type_number, type_slots}
 -- A field whose slots hold what is written for a type has that type.
 abbrev pub TypeIsRead : Type 0
 TypeIsRead =
-    (s : ColType) → IsType s → (t : Table) → NodeHeld t.bytes (slot_of t slot.type_kind) (number 1 (type_number s))
-    → NodeHeld t.bytes (slot_of t slot.type_table) (table (type_slots s))
+    (s : ColType) → IsType s → (t : Table) → NodeHeld t.bytes (slot_of t fbs.type_kind) (number 1 (type_number s))
+    → NodeHeld t.bytes (slot_of t fbs.type_table) (table (type_slots s))
     → (kind_of t ≡ Ok (kind_of_type s)) × (type_of (kind_of_type s) t ≡ Ok s)
 
 -- The numbers fit their slots.

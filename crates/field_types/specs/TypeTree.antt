@@ -12,6 +12,7 @@ use Rattle.values.specs.declared.units.TimeUnit.TheVariants as time
 use Rattle.values.specs.declared.col_type.ColType.{ColType}
 use Rattle.values.specs.declared.col_type.ColType.TheVariants as stored
 use Rattle.values.specs.ColTypes.{bits_of_time}
+use Rattle.field_types.specs.SchemaFbs as fbs
 
 -- the number of a type, and that of its large form
 abbrev pub by_offsets : OffsetWidth → ℕ → ℕ → ℕ
@@ -20,18 +21,18 @@ by_offsets offset.Bits64 small large = large
 
 -- union Type
 abbrev pub type_number : ColType → ℕ
-type_number stored.Bool = 6
-type_number (stored.Int w s) = 2
-type_number (stored.Decimal p s) = 7
-type_number (stored.Date u) = 8
-type_number (stored.Time u) = 9
-type_number (stored.Timestamp u z) = 10
-type_number (stored.Duration u) = 18
-type_number (stored.Utf8 o) = by_offsets o 5 20
-type_number (stored.Binary o) = by_offsets o 4 19
-type_number (stored.Fixed w) = 15
-type_number (stored.List o) = by_offsets o 12 21
-type_number stored.Struct = 13
+type_number stored.Bool = fbs.type_bool
+type_number (stored.Int w s) = fbs.type_int
+type_number (stored.Decimal p s) = fbs.type_decimal
+type_number (stored.Date u) = fbs.type_date
+type_number (stored.Time u) = fbs.type_time
+type_number (stored.Timestamp u z) = fbs.type_timestamp
+type_number (stored.Duration u) = fbs.type_duration
+type_number (stored.Utf8 o) = by_offsets o fbs.type_utf8 fbs.type_large_utf8
+type_number (stored.Binary o) = by_offsets o fbs.type_binary fbs.type_large_binary
+type_number (stored.Fixed w) = fbs.type_fixed_size_binary
+type_number (stored.List o) = by_offsets o fbs.type_list fbs.type_large_list
+type_number stored.Struct = fbs.type_struct
 
 abbrev pub bool_number : Bool → ℕ
 bool_number false = 0

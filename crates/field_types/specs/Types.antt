@@ -3,6 +3,7 @@ use Rattle.std.specs.Prelude.{ℕ, ℤ, pos, nat_abs, Bool, ◌&&◌, Option, No
 use Rattle.std.specs.Ordering.{int_eq}
 use Rattle.std.specs.Str.{is_utf8}
 use Rattle.flatbuf.specs.Layout.{Table, text_of, subtable_of}
+use Rattle.values.specs.Limits.{max_name_len, max_precision, max_fixed_width}
 use Rattle.values.specs.Reading.{Reading, ◌>>=◌, both, first, mapped, must, one}
 use Rattle.values.specs.declared.faults.StreamFault.TheVariants as fault
 use Rattle.values.specs.declared.layout.IntWidth.{IntWidth}
@@ -17,7 +18,7 @@ use Rattle.field_types.specs.declared.kinds.TypeKind.TheVariants as kind
 use Rattle.values.specs.declared.col_type.ColType.{ColType}
 use Rattle.values.specs.declared.col_type.ColType.TheVariants as stored
 use Rattle.values.specs.ColTypes.{bits_of_time}
-use Rattle.field_types.specs.Slots as slot
+use Rattle.field_types.specs.SchemaFbs as fbs
 use Rattle.field_types.specs.Reads.{readable, checked, needs, bool_of, short_of, word_of}
 
 -- a number between bounds that are no negative numbers
@@ -31,33 +32,33 @@ width_numbered n =
     else if int_eq n (pos 64) then Ok int.Bits64 else Err (one fault.BadType)
 
 unfoldable pub width_of : Table → Reading IntWidth
-width_of t = word_of t slot.bit_width (pos 0) >>= width_numbered
+width_of t = word_of t fbs.bit_width (pos 0) >>= width_numbered
 
 abbrev pub int_type : IntWidth → Bool → ColType
 int_type width signed = stored.Int width signed
 
 unfoldable pub int_of : Table → Reading ColType
-int_of t = both int_type (width_of t) (bool_of t slot.is_signed)
+int_of t = both int_type (width_of t) (bool_of t fbs.is_signed)
 
 -- the indices into a dictionary, which are whole numbers too
 abbrev pub index_type : IntWidth → Bool → IndexType
 index_type width signed = record { width = width; signed = signed }
 
 unfoldable pub index_of : Table → Reading IndexType
-index_of t = both index_type (width_of t) (bool_of t slot.is_signed)
+index_of t = both index_type (width_of t) (bool_of t fbs.is_signed)
 
 -- table Decimal: 1 to 38 digits, none or some or all of them after the point. Only decimals of 128 bits are taken.
 unfoldable pub precision_of : Table → Reading ℕ
-precision_of t = word_of t slot.precision (pos 0) >>= ranged (pos 1) (pos 38)
+precision_of t = word_of t fbs.precision (pos 0) >>= ranged (pos 1) (pos max_precision)
 
 abbrev pub decimal_type : ℕ → ℤ → Reading ColType
 decimal_type precision scale = mapped (stored.Decimal precision) (ranged (pos 0) (pos precision) scale)
 
 unfoldable pub digits_of : Table → Reading ColType
-digits_of t = both decimal_type (precision_of t) (word_of t slot.scale (pos 0)) >>= λ taken. taken
+digits_of t = both decimal_type (precision_of t) (word_of t fbs.scale (pos 0)) >>= λ taken. taken
 
 unfoldable pub wide_of : Table → Reading (Unit {0})
-wide_of t = word_of t slot.decimal_bits (pos 128) >>= λ bits. needs fault.UnsupportedType (int_eq bits (pos 128))
+wide_of t = word_of t fbs.decimal_bits (pos 128) >>= λ bits. needs fault.UnsupportedType (int_eq bits (pos 128))
 
 unfoldable pub decimal_of : Table → Reading ColType
 decimal_of t = both first (digits_of t) (wide_of t)
@@ -71,7 +72,7 @@ abbrev pub date_type : DateUnit → ColType
 date_type unit = stored.Date unit
 
 unfoldable pub date_of : Table → Reading ColType
-date_of t = mapped date_type (short_of t slot.unit (pos 1) >>= date_unit_numbered)
+date_of t = mapped date_type (short_of t fbs.unit (pos 1) >>= date_unit_numbered)
 
 -- enum TimeUnit
 abbrev pub time_unit_numbered : ℤ → Reading TimeUnit
@@ -80,25 +81,25 @@ time_unit_numbered n =
     else if int_eq n (pos 2) then Ok time.Microsecond else if int_eq n (pos 3) then Ok time.Nanosecond else Err (one fault.BadType)
 
 unfoldable pub time_unit_of : Table → ℤ → Reading TimeUnit
-time_unit_of t d = short_of t slot.unit d >>= time_unit_numbered
+time_unit_of t d = short_of t fbs.unit d >>= time_unit_numbered
 
 -- table Time: milliseconds of 32 bits where nothing else is said
 abbrev pub time_type : TimeUnit → ℤ → Reading ColType
 time_type unit bits = checked fault.BadType (int_eq bits (pos (bits_of_time unit))) (stored.Time unit)
 
 unfoldable pub time_of : Table → Reading ColType
-time_of t = both time_type (time_unit_of t (pos 1)) (word_of t slot.time_bits (pos 32)) >>= λ taken. taken
+time_of t = both time_type (time_unit_of t (pos 1)) (word_of t fbs.time_bits (pos 32)) >>= λ taken. taken
 
 -- table Timestamp: seconds where no unit is said. A time zone is UTF-8 of at most 4,096 bytes; an absent one is empty.
 abbrev pub checked_zone : List ℕ → Reading (List ℕ)
-checked_zone bytes = checked fault.BadType (nat_le (length bytes) 4096 && is_utf8 bytes) bytes
+checked_zone bytes = checked fault.BadType (nat_le (length bytes) max_name_len && is_utf8 bytes) bytes
 
 abbrev pub zone_in : Option (List ℕ) → Reading (List ℕ)
 zone_in None = Ok []
 zone_in (Some bytes) = checked_zone bytes
 
 unfoldable pub zone_of : Table → Reading (List ℕ)
-zone_of t = readable (text_of t slot.timezone) >>= zone_in
+zone_of t = readable (text_of t fbs.timezone) >>= zone_in
 
 abbrev pub timestamp_type : TimeUnit → List ℕ → ColType
 timestamp_type unit zone = stored.Timestamp unit zone
@@ -118,7 +119,7 @@ abbrev pub fixed_type : ℕ → ColType
 fixed_type width = stored.Fixed width
 
 unfoldable pub fixed_of : Table → Reading ColType
-fixed_of t = mapped fixed_type (word_of t slot.byte_width (pos 0) >>= ranged (pos 0) (pos 65536))
+fixed_of t = mapped fixed_type (word_of t fbs.byte_width (pos 0) >>= ranged (pos 0) (pos max_fixed_width))
 
 -- the type that a type table of this kind says. The other tables have no slots.
 abbrev pub stored_by : TypeKind → Table → Reading ColType
@@ -137,4 +138,4 @@ stored_by kind.Struct t = Ok stored.Struct
 
 -- A type table must be there and readable, also one without slots.
 unfoldable pub type_of : TypeKind → Table → Reading ColType
-type_of k t = readable (subtable_of t slot.type_table) >>= must fault.BadType >>= stored_by k
+type_of k t = readable (subtable_of t fbs.type_table) >>= must fault.BadType >>= stored_by k

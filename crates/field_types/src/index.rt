@@ -3,9 +3,9 @@
 ghost use Rattle.values.specs.Reading.{Judges};
 ghost use Rattle.field_types.specs.Types.{index_of};
 
-use crate::kinds::read_bool;
 use crate::parameters::read_width;
-use crate::slots::INT_IS_SIGNED;
+use crate::reads::read_bool;
+use crate::schema_fbs::INT_IS_SIGNED;
 use flatbuf::TableRef;
 use values::{IntWidth, StreamFault};
 

@@ -1,12 +1,16 @@
-//! The kinds of types, and what is read of any table.
+//! The kinds of types.
 
 ghost use Rattle.std.specs.Prelude.{◌≡◌};
 ghost use Rattle.values.specs.Reading.{Judges};
 ghost use Rattle.field_types.specs.Kinds.{kind_of, kind_of_type, may_have as may_have_children};
-ghost use Rattle.field_types.specs.Reads.{bool_of};
 
-use crate::slots::FIELD_TYPE_KIND;
-use flatbuf::{BadTable, TableRef};
+use crate::reads::read_byte;
+use crate::schema_fbs::{
+    FIELD_TYPE_KIND, TYPE_BINARY, TYPE_BOOL, TYPE_DATE, TYPE_DECIMAL, TYPE_DURATION,
+    TYPE_FIXED_SIZE_BINARY, TYPE_INT, TYPE_LARGE_BINARY, TYPE_LARGE_LIST, TYPE_LARGE_UTF8,
+    TYPE_LIST, TYPE_STRUCT, TYPE_TIME, TYPE_TIMESTAMP, TYPE_UTF8,
+};
+use flatbuf::TableRef;
 use values::{ColType, OffsetWidth, StreamFault};
 
 /// The kind of a type: what a field says of its type before the type's own table.
@@ -48,22 +52,6 @@ impl TypeKind {
     }
 }
 
-/// The fault of what can't be read.
-pub fn unreadable(_cause: BadTable) -> StreamFault
-    ensures { result ≡ StreamFault.BadTable }
-{
-    StreamFault::BadTable
-}
-
-/// A bool of a table, `false` where it is absent.
-#[tactic(auto, unfolding(crate::specs::Reads::bool_of))]
-pub fn read_bool(table: &TableRef, slot: u16) -> Result<bool, StreamFault>
-    ensures { Judges (λ b. b) result (bool_of table.now slot) }
-{
-    let byte = table.u8(slot).map_err(unreadable)?;
-    Ok(byte.unwrap_or(0) != 0)
-}
-
 /// The kind of a field's type.
 ///
 /// A kind that is not taken is `UnsupportedType`.
@@ -72,22 +60,22 @@ pub fn read_kind(field: &TableRef) -> Result<TypeKind, StreamFault>
     ensures { Judges (λ k. k) result (kind_of field.now) }
 {
     let (small, large) = (OffsetWidth::Bits32, OffsetWidth::Bits64);
-    match field.u8(FIELD_TYPE_KIND).map_err(unreadable)?.unwrap_or(0) {
-        2 => Ok(TypeKind::Int),
-        4 => Ok(TypeKind::Binary { offsets: small }),
-        5 => Ok(TypeKind::Utf8 { offsets: small }),
-        6 => Ok(TypeKind::Bool),
-        7 => Ok(TypeKind::Decimal),
-        8 => Ok(TypeKind::Date),
-        9 => Ok(TypeKind::Time),
-        10 => Ok(TypeKind::Timestamp),
-        12 => Ok(TypeKind::List { offsets: small }),
-        13 => Ok(TypeKind::Struct),
-        15 => Ok(TypeKind::Fixed),
-        18 => Ok(TypeKind::Duration),
-        19 => Ok(TypeKind::Binary { offsets: large }),
-        20 => Ok(TypeKind::Utf8 { offsets: large }),
-        21 => Ok(TypeKind::List { offsets: large }),
+    match read_byte(field, FIELD_TYPE_KIND)? {
+        TYPE_INT => Ok(TypeKind::Int),
+        TYPE_BINARY => Ok(TypeKind::Binary { offsets: small }),
+        TYPE_UTF8 => Ok(TypeKind::Utf8 { offsets: small }),
+        TYPE_BOOL => Ok(TypeKind::Bool),
+        TYPE_DECIMAL => Ok(TypeKind::Decimal),
+        TYPE_DATE => Ok(TypeKind::Date),
+        TYPE_TIME => Ok(TypeKind::Time),
+        TYPE_TIMESTAMP => Ok(TypeKind::Timestamp),
+        TYPE_LIST => Ok(TypeKind::List { offsets: small }),
+        TYPE_STRUCT => Ok(TypeKind::Struct),
+        TYPE_FIXED_SIZE_BINARY => Ok(TypeKind::Fixed),
+        TYPE_DURATION => Ok(TypeKind::Duration),
+        TYPE_LARGE_BINARY => Ok(TypeKind::Binary { offsets: large }),
+        TYPE_LARGE_UTF8 => Ok(TypeKind::Utf8 { offsets: large }),
+        TYPE_LARGE_LIST => Ok(TypeKind::List { offsets: large }),
         _ => Err(StreamFault::UnsupportedType),
     }
 }

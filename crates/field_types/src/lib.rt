@@ -8,14 +8,16 @@ mod index;
 mod kinds;
 mod laws;
 mod parameters;
-mod slots;
+mod reads;
+pub mod schema_fbs;
 #[cfg(test)]
 mod tests;
 mod types;
 mod write;
 
 pub use index::{IndexType, read_index_type};
-pub use kinds::{TypeKind, may_have, read_bool, read_kind, unreadable};
+pub use kinds::{TypeKind, may_have, read_kind};
 pub use laws::{stored_law, type_law};
+pub use reads::{read_bool, read_byte, read_long, read_short, readable};
 pub use types::read_type;
 pub use write::{type_number, type_table};

@@ -1,37 +1,17 @@
 //! The parameters of types.
 
 ghost use Rattle.std.specs.Prelude.{◌≤◌, pos, ◌≤ℤ◌, IfOk};
+ghost use Rattle.values.specs.Limits.{max_precision};
 ghost use Rattle.values.specs.Reading.{Judges};
-ghost use Rattle.field_types.specs.Reads.{short_of, word_of};
 ghost use Rattle.field_types.specs.Types.{checked_zone, date_unit_numbered, precision_of, ranged as ranged_between, time_unit_of, time_unit_numbered, wide_of, width_of, zone_of};
 
-use crate::kinds::unreadable;
-use crate::slots::{
-    DECIMAL_BIT_WIDTH, DECIMAL_PRECISION, INT_BIT_WIDTH, TIME_UNIT, TIMESTAMP_ZONE,
+use crate::reads::{read_short, read_word, readable};
+use crate::schema_fbs::{
+    DECIMAL_BIT_WIDTH, DECIMAL_PRECISION, INT_BIT_WIDTH, TIMESTAMP_ZONE, UNIT,
 };
 use flatbuf::TableRef;
-use values::limits::MAX_NAME_LEN;
+use values::limits::{MAX_NAME_LEN, MAX_PRECISION};
 use values::{DateUnit, IntWidth, StreamFault, TimeUnit};
-
-/// The digits of a decimal of 128 bits.
-pub(crate) const MAX_PRECISION: i32 = 38;
-
-/// The widest value of `FixedSizeBinary`, in bytes.
-pub(crate) const MAX_FIXED_WIDTH: i32 = 65_536;
-
-#[tactic(auto, unfolding(crate::specs::Reads::short_of))]
-pub(crate) fn read_short(table: &TableRef, slot: u16, default: i16) -> Result<i16, StreamFault>
-    ensures { Judges (λ n. n) result (short_of table.now slot default) }
-{
-    Ok(table.i16(slot).map_err(unreadable)?.unwrap_or(default))
-}
-
-#[tactic(auto, unfolding(crate::specs::Reads::word_of))]
-pub(crate) fn read_word(table: &TableRef, slot: u16, default: i32) -> Result<i32, StreamFault>
-    ensures { Judges (λ n. n) result (word_of table.now slot default) }
-{
-    Ok(table.i32(slot).map_err(unreadable)?.unwrap_or(default))
-}
 
 /// The number, where it lies between these.
 pub(crate) fn ranged(low: i32, high: i32, number: i32) -> Result<u32, StreamFault>
@@ -62,9 +42,10 @@ pub(crate) fn read_width(table: &TableRef) -> Result<IntWidth, StreamFault>
 #[tactic(auto, using(crate::proofs::Faults::faults), unfolding(crate::specs::Types::precision_of))]
 pub(crate) fn read_precision(table: &TableRef) -> Result<u8, StreamFault>
     ensures exact { Judges (λ n. n) result (precision_of table.now) }
-    ensures within { IfOk result (λ n. n ≤ 38) }
+    ensures within { IfOk result (λ n. n ≤ max_precision) }
 {
-    let precision = ranged(1, MAX_PRECISION, read_word(table, DECIMAL_PRECISION, 0)?)?;
+    let precision = read_word(table, DECIMAL_PRECISION, 0)?;
+    let precision = ranged(1, MAX_PRECISION as i32, precision)?;
     Ok(precision as u8)
 }
 
@@ -107,7 +88,7 @@ fn time_unit(number: i16) -> Result<TimeUnit, StreamFault>
 pub(crate) fn read_time_unit(table: &TableRef, default: i16) -> Result<TimeUnit, StreamFault>
     ensures { Judges (λ u. u) result (time_unit_of table.now default) }
 {
-    time_unit(read_short(table, TIME_UNIT, default)?)
+    time_unit(read_short(table, UNIT, default)?)
 }
 
 /// The name of a timestamp's zone, in the buffer.
@@ -115,7 +96,7 @@ pub(crate) fn read_time_unit(table: &TableRef, default: i16) -> Result<TimeUnit,
 pub(crate) fn read_zone<'a>(table: &TableRef<'a>) -> Result<&'a str, StreamFault>
     ensures { Judges (λ name. name.now) result (zone_of table.now) }
 {
-    match table.text(TIMESTAMP_ZONE).map_err(unreadable)? {
+    match readable(table.text(TIMESTAMP_ZONE))? {
         None => Ok(""),
         Some(bytes) => check_zone(bytes),
     }

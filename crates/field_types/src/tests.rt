@@ -21,7 +21,7 @@ fn field(kind: u8, slots: [u8; 3], words: [[u8; 2]; 3]) -> [u8; 60] {
 }
 
 fn read_field(alloc: Global, bytes: &[u8]) -> Result<ColType, StreamFault> {
-    let table = Buf::root(bytes).map_err(crate::unreadable)?;
+    let table = crate::readable(Buf::root(bytes))?;
     let kind = read_kind(&table)?;
     read_type(alloc, kind, &table)
 }

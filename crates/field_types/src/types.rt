@@ -5,16 +5,17 @@ ghost use Rattle.values.specs.ColTypes.{IsType};
 ghost use Rattle.field_types.specs.Types.{date_of, decimal_of, digits_of, duration_of, fixed_of, int_of, stored_by, time_of, timestamp_of, type_of};
 ghost use Rattle.std.specs.Prelude.{IfOk};
 
-use crate::kinds::{TypeKind, read_bool, unreadable};
+use crate::kinds::TypeKind;
 use crate::parameters::{
-    MAX_FIXED_WIDTH, check_decimal_bits, date_unit, ranged, read_precision, read_short,
-    read_time_unit, read_width, read_word, read_zone,
+    check_decimal_bits, date_unit, ranged, read_precision, read_time_unit, read_width, read_zone,
 };
-use crate::slots::{
-    DATE_UNIT, DECIMAL_SCALE, FIELD_TYPE, FIXED_BYTE_WIDTH, INT_IS_SIGNED, TIME_BIT_WIDTH,
+use crate::reads::{read_bool, read_short, read_word, readable};
+use crate::schema_fbs::{
+    DECIMAL_SCALE, FIELD_TYPE, FIXED_BYTE_WIDTH, INT_IS_SIGNED, TIME_BIT_WIDTH, UNIT,
 };
 use flatbuf::TableRef;
 use std::alloc::Global;
+use values::limits::MAX_FIXED_WIDTH;
 use values::{ColType, StreamFault, Zone};
 
 /// A field's type, of a known kind.
@@ -26,7 +27,7 @@ pub fn read_type(alloc: Global, kind: TypeKind, field: &TableRef) -> Result<ColT
     ensures exact { Answers (λ t. t) result (type_of kind field.now) }
     ensures within { IfOk result IsType }
 {
-    let Some(table) = field.table(FIELD_TYPE).map_err(unreadable)? else {
+    let Some(table) = readable(field.table(FIELD_TYPE))? else {
         return Err(StreamFault::BadType);
     };
     read_parameters(alloc, kind, &table)
@@ -85,7 +86,7 @@ fn read_digits(table: &TableRef) -> Result<ColType, StreamFault>
 fn read_date(table: &TableRef) -> Result<ColType, StreamFault>
     ensures { Judges (λ t. t) result (date_of table.now) }
 {
-    let unit = date_unit(read_short(table, DATE_UNIT, 1)?)?;
+    let unit = date_unit(read_short(table, UNIT, 1)?)?;
     Ok(ColType::Date { unit })
 }
 
@@ -127,6 +128,6 @@ fn read_fixed(table: &TableRef) -> Result<ColType, StreamFault>
     ensures { Judges (λ t. t) result (fixed_of table.now) }
 {
     let width = read_word(table, FIXED_BYTE_WIDTH, 0)?;
-    let width = ranged(0, MAX_FIXED_WIDTH, width)?;
+    let width = ranged(0, MAX_FIXED_WIDTH as i32, width)?;
     Ok(ColType::Fixed { width })
 }

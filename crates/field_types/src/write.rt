@@ -4,6 +4,11 @@ ghost use Rattle.std.specs.Prelude.{◌≡◌, IfOk};
 ghost use Rattle.flatbuf.specs.Built.{slots};
 ghost use Rattle.field_types.specs.TypeTree.{bool_number, by_offsets, date_unit_number, time_unit_number, type_number as number_in_union, type_slots};
 
+use crate::schema_fbs::{
+    TYPE_BINARY, TYPE_BOOL, TYPE_DATE, TYPE_DECIMAL, TYPE_DURATION, TYPE_FIXED_SIZE_BINARY,
+    TYPE_INT, TYPE_LARGE_BINARY, TYPE_LARGE_LIST, TYPE_LARGE_UTF8, TYPE_LIST, TYPE_STRUCT,
+    TYPE_TIME, TYPE_TIMESTAMP, TYPE_UTF8,
+};
 use flatbuf::Builder;
 use std::alloc::{AllocError, Global};
 use values::{ColType, DateUnit, OffsetWidth, TimeUnit};
@@ -22,18 +27,18 @@ pub fn type_number(stored: &ColType) -> u8
     ensures { result ≡ number_in_union stored.now }
 {
     match stored {
-        ColType::Bool => 6,
-        ColType::Int { .. } => 2,
-        ColType::Decimal { .. } => 7,
-        ColType::Date { .. } => 8,
-        ColType::Time { .. } => 9,
-        ColType::Timestamp { .. } => 10,
-        ColType::Duration { .. } => 18,
-        ColType::Utf8 { offsets } => with_offsets(*offsets, 5, 20),
-        ColType::Binary { offsets } => with_offsets(*offsets, 4, 19),
-        ColType::Fixed { .. } => 15,
-        ColType::List { offsets } => with_offsets(*offsets, 12, 21),
-        ColType::Struct => 13,
+        ColType::Bool => TYPE_BOOL,
+        ColType::Int { .. } => TYPE_INT,
+        ColType::Decimal { .. } => TYPE_DECIMAL,
+        ColType::Date { .. } => TYPE_DATE,
+        ColType::Time { .. } => TYPE_TIME,
+        ColType::Timestamp { .. } => TYPE_TIMESTAMP,
+        ColType::Duration { .. } => TYPE_DURATION,
+        ColType::Utf8 { offsets } => with_offsets(*offsets, TYPE_UTF8, TYPE_LARGE_UTF8),
+        ColType::Binary { offsets } => with_offsets(*offsets, TYPE_BINARY, TYPE_LARGE_BINARY),
+        ColType::Fixed { .. } => TYPE_FIXED_SIZE_BINARY,
+        ColType::List { offsets } => with_offsets(*offsets, TYPE_LIST, TYPE_LARGE_LIST),
+        ColType::Struct => TYPE_STRUCT,
     }
 }
 

@@ -1,9 +1,9 @@
 -- What holds of the header that is read: the reading's own tests, opened.
-use Rattle.std.proofs.Common.{◌≡◌, ℕ, ◌<◌, ◌+◌, ◌*◌, ◌^◌, ◌≤◌, Bool, true, false, Option, None, Some, Ok, Err, List, length, ℤ, pos, negsuc, refl, ap, sym, subst, ◌∙◌, arith}
-use Rattle.std.specs.Prelude.{All, IsSomeAnd, nat_le, nat_lt, if◌then◌else◌, is_some, unwrap_or}
-use Rattle.std.specs.Int.{w64}
-use Rattle.std.proofs.lemmas.Bool.{leb-true, ltb-true}
-use Rattle.flatbuf.specs.Layout.{Table, root_of, signed_of}
+use Rattle.std.proofs.Common.{◌≡◌, ℕ, ◌+◌, ◌*◌, ◌≤◌, Bool, true, false, Option, None, Some, Ok, Err, List, length, ℤ, pos, negsuc, refl, ap, sym, subst, ◌∙◌, arith}
+use Rattle.std.specs.Prelude.{All, IsSomeAnd, nat_le, if◌then◌else◌, is_some}
+use Rattle.std.proofs.lemmas.Bool.{leb-true}
+use Rattle.flatbuf.specs.Layout.{Table, root_of}
+use Rattle.values.specs.Limits.{max_dictionary_values, max_batch_length, max_node_length}
 use Rattle.values.specs.declared.faults.StreamFault.{StreamFault}
 use Rattle.values.specs.declared.faults.StreamFault.TheVariants as fault
 use Rattle.values.specs.Reading.{Reading, ◌>>=◌, both, second, must, one, refused_if, each}
@@ -33,7 +33,7 @@ use Rattle.schema_meta.specs.FieldsLaw.{AreFields}
 use Rattle.schema_meta.proofs.FieldFacts.{fields_known}
 use Rattle.schema_meta.proofs.ValuesFit.{values-fit}
 use Rattle.values.specs.Layouts.{AreLayouts}
-use Rattle.field_types.specs.Reads.{bool_of, checked}
+use Rattle.field_types.specs.Reads.{long_of, bool_of, checked}
 use Rattle.values.specs.declared.col_type.ColType.{ColType}
 use Rattle.values.specs.declared.layout.Layout.{Layout}
 use Rattle.array_layout.specs.Placing.{spans_below}
@@ -50,20 +50,19 @@ within_bound c most (negsuc m) n e = absurd (cc)
 
 count_bound : (c : StreamFault) (most : ℕ) (t : Table) (s n : ℕ) → count_in c most t s ≡ Ok n → n ≤ most
 count_bound c most t s n e =
-    let p = bind_Ok (must fault.BadTable (signed_of w64 t s)) (λ found. within c most (unwrap_or found (pos 0))) n e in
-    within_bound c most (unwrap_or p.0 (pos 0)) n p.2
+    let p = bind_Ok (long_of t s) (within c most) n e in within_bound c most p.0 n p.2
 
 -- nodes and spans
-node_small : (bytes : List ℕ) (i : ℕ) (n : Node) → node_of bytes i ≡ Ok n → n.length < 2 ^ 31
+node_small : (bytes : List ℕ) (i : ℕ) (n : Node) → node_of bytes i ≡ Ok n → n.length ≤ max_node_length
 unfolding node_of
-node_small bytes i n e = by_test (nat_lt (word_at bytes (16 * i)) (2 ^ 31)) refl e where
+node_small bytes i n e = by_test (nat_le (word_at bytes (16 * i)) max_node_length) refl e where
   by_test :
-      (b : Bool) → nat_lt (word_at bytes (16 * i)) (2 ^ 31) ≡ b
-      → (if b then Ok (node_made bytes (16 * i)) else Err (one fault.BadLength)) ≡ Ok n → n.length < 2 ^ 31
+      (b : Bool) → nat_le (word_at bytes (16 * i)) max_node_length ≡ b
+      → (if b then Ok (node_made bytes (16 * i)) else Err (one fault.BadLength)) ≡ Ok n → n.length ≤ max_node_length
   by_test true small e =
       let is : node_made bytes (16 * i) ≡ n = cc in
       let same : word_at bytes (16 * i) ≡ n.length = ap (λ m. m.length) is in
-      let below : word_at bytes (16 * i) < 2 ^ 31 = ltb-true (word_at bytes (16 * i)) (2 ^ 31) small in
+      let below : word_at bytes (16 * i) ≤ max_node_length = leb-true (word_at bytes (16 * i)) max_node_length small in
       omega (arith, same, below)
   by_test false large e = absurd (cc)
 
@@ -82,9 +81,9 @@ span_in_body body bytes i s e =
     (nat_le (word_at bytes (16 * i) + word_at bytes (16 * i + 8)) body) refl e
 
 -- Ok where the counts are right
-rows_bound : (t : Table) (n : ℕ) → rows_of t ≡ Ok n → n ≤ 2 ^ 24
+rows_bound : (t : Table) (n : ℕ) → rows_of t ≡ Ok n → n ≤ max_batch_length
 unfolding rows_of
-rows_bound t n e = count_bound fault.BadLength (2 ^ 24) t 0 n e
+rows_bound t n e = count_bound fault.BadLength max_batch_length t 0 n e
 
 fitting_same : (rows : ℕ) (ls : Roses Layout) (ns ms : List Node) → fitting rows ls ns ≡ Ok ms → (ns ≡ ms) × (lengths_fit rows ls ns ≡ true)
 fitting_same rows ls ns ms e = by_test (lengths_fit rows ls ns) refl e where
@@ -96,7 +95,7 @@ fitting_same rows ls ns ms e = by_test (lengths_fit rows ls ns) refl e where
 
 record NodesFit (ls : Roses Layout) (rows : ℕ) (ns : List Node) : Type 0 where
   count : length ns ≡ roses_size ls
-  small : All (λ n. n.length < 2 ^ 31) ns
+  small : All (λ n. n.length ≤ max_node_length) ns
   long : lengths_fit rows ls ns ≡ true
 
 nodes_facts : (ls : Roses Layout) (rows : ℕ) (t : Table) (ns : List Node) → nodes_of ls rows t ≡ Ok ns → NodesFit ls rows ns
@@ -108,7 +107,7 @@ nodes_facts ls rows t ns e =
     let fit = fitting_same rows ls judged.0 ns judged.2 in
     subst (NodesFit ls rows) fit.0 (record {
       count = each_length (node_of read.0) 0 n judged.0 read.2;
-      small = each_all (λ m. m.length < 2 ^ 31) (node_of read.0) n judged.0 read.2 (λ k m. node_small read.0 k m);
+      small = each_all (λ m. m.length ≤ max_node_length) (node_of read.0) n judged.0 read.2 (λ k m. node_small read.0 k m);
       long = fit.1;
     })
 
@@ -177,25 +176,25 @@ values_fit fields body t id s d known type e =
     subst (λ (x : DictionaryHeader). FitsValues fields body x) p.4 made
 
 limited_by :
-    (n : ℕ) (d e : DictionaryHeader) (b : Bool) → nat_le n (2 ^ 20) ≡ b → checked fault.DictionaryTooLarge b d ≡ Ok e
-    → (d ≡ e) × (n ≤ 2 ^ 20)
-limited_by n d e true few k = (cc, leb-true n (2 ^ 20) few)
+    (n : ℕ) (d e : DictionaryHeader) (b : Bool) → nat_le n max_dictionary_values ≡ b → checked fault.DictionaryTooLarge b d ≡ Ok e
+    → (d ≡ e) × (n ≤ max_dictionary_values)
+limited_by n d e true few k = (cc, leb-true n max_dictionary_values few)
 limited_by n d e false few k = absurd (cc)
 
 limited_few :
     (counts : List (ℤ × ℕ)) (d e : DictionaryHeader) → limited counts d ≡ Ok e
-    → (d ≡ e) × (count_after counts e.id e.is_delta e.batch.rows ≤ 2 ^ 20)
+    → (d ≡ e) × (count_after counts e.id e.is_delta e.batch.rows ≤ max_dictionary_values)
 limited_few counts d e k =
     let n : ℕ = count_after counts d.id d.is_delta d.batch.rows in
-    let p = limited_by n d e (nat_le n (2 ^ 20)) refl k in
-    (p.0, subst (λ (x : DictionaryHeader). count_after counts x.id x.is_delta x.batch.rows ≤ 2 ^ 20) p.0 p.1)
+    let p = limited_by n d e (nat_le n max_dictionary_values) refl k in
+    (p.0, subst (λ (x : DictionaryHeader). count_after counts x.id x.is_delta x.batch.rows ≤ max_dictionary_values) p.0 p.1)
 
 record DictionaryFacts (fields : List (Rose Entry)) (counts : List (ℤ × ℕ)) (body : ℕ) (t : Table) (d : DictionaryHeader) : Type 0 where
   id : ℤ
   stored : ColType
   type : value_type fields id ≡ Some stored
   read : values_batch body t id stored ≡ Ok d
-  few : count_after counts d.id d.is_delta d.batch.rows ≤ 2 ^ 20
+  few : count_after counts d.id d.is_delta d.batch.rows ≤ max_dictionary_values
 
 dictionary_facts :
     (fields : List (Rose Entry)) (counts : List (ℤ × ℕ)) (body : ℕ) (t : Table) (d : DictionaryHeader)

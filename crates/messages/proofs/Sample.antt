@@ -8,6 +8,7 @@ use Rattle.values.specs.declared.faults.StreamFault.{StreamFault}
 use Rattle.values.specs.declared.faults.StreamFault.TheVariants as fault
 use Rattle.values.specs.declared.col_type.ColType.TheVariants as stored
 use Rattle.values.specs.declared.layout.IntWidth.TheVariants as int
+use Rattle.field_types.specs.Reads.{short_of}
 use Rattle.schema_meta.specs.Entry.{Entry}
 use Rattle.schema_meta.specs.declared.header.Header.TheVariants as header
 use Rattle.schema_meta.specs.BatchHead.{BatchHead}
@@ -68,7 +69,7 @@ pub taken :
     (first open_stream message ≡ Ok (Some batch)) × (first open_stream (message ++ message) ≡ Ok (Some batch))
     × (first open_stream (take 263 message) ≡ Ok None) × (first open_stream (take 207 message) ≡ Ok None)
     × (first open_stream (take 7 message) ≡ Ok None)
-unfolding number_at signed_at target_at bytes_at block_at place_of_vtable vtable_at table_at root_of slot_of number_of signed_of structs_of subtable_of vector_at vector_of entry_of each word_at node_of span_of rows_of nodes_in nodes_of spans_in spans_of plain batch_of lengths_fit version_of kind_of header_table body_of record_batch header_of meta_of framed message_at staged first
+unfolding number_at signed_at target_at bytes_at block_at place_of_vtable vtable_at table_at root_of slot_of number_of signed_of structs_of subtable_of vector_at vector_of entry_of each word_at node_of span_of rows_of nodes_in nodes_of spans_in spans_of plain batch_of lengths_fit short_of version_of kind_of header_table body_of record_batch header_of meta_of framed message_at staged first
 taken = (refl, refl, refl, refl, refl)
 
 -- the mark, the size, the version, the batch's length (which neither node has then), the count of buffers, a buffer's
@@ -82,7 +83,7 @@ pub faults :
     × (first open_stream (slice_set message 192 33) ≡ refused fault.BufferRange)
     × (first new_stream (take 208 message) ≡ refused fault.NoSchema)
     × (first new_stream (255 ∷ 255 ∷ 255 ∷ 255 ∷ 0 ∷ 0 ∷ 0 ∷ 0 ∷ []) ≡ refused fault.NoSchema)
-unfolding number_at signed_at target_at bytes_at block_at place_of_vtable vtable_at table_at root_of slot_of number_of signed_of structs_of subtable_of vector_at vector_of entry_of each word_at node_of span_of rows_of nodes_in nodes_of spans_in spans_of plain batch_of lengths_fit version_of kind_of header_table body_of record_batch header_of meta_of framed message_at staged first
+unfolding number_at signed_at target_at bytes_at block_at place_of_vtable vtable_at table_at root_of slot_of number_of signed_of structs_of subtable_of vector_at vector_of entry_of each word_at node_of span_of rows_of nodes_in nodes_of spans_in spans_of plain batch_of lengths_fit short_of version_of kind_of header_table body_of record_batch header_of meta_of framed message_at staged first
 faults = (refl, refl, refl, refl, refl, refl, refl, refl)
 
 abbrev end_mark : List ℕ
@@ -95,5 +96,5 @@ pub messages :
       messages = record { header = header.Batch sample_header; body = drop 208 message } ∷ record { header = header.End; body = [] } ∷ [];
       rest = Ok (record { known = open_stream; held = 255 ∷ 255 ∷ [] });
     }
-unfolding number_at signed_at target_at bytes_at block_at place_of_vtable vtable_at table_at root_of slot_of number_of signed_of structs_of subtable_of vector_at vector_of entry_of each word_at node_of span_of rows_of nodes_in nodes_of spans_in spans_of plain batch_of lengths_fit version_of kind_of header_table body_of record_batch header_of meta_of framed message_at staged first run_of
+unfolding number_at signed_at target_at bytes_at block_at place_of_vtable vtable_at table_at root_of slot_of number_of signed_of structs_of subtable_of vector_at vector_of entry_of each word_at node_of span_of rows_of nodes_in nodes_of spans_in spans_of plain batch_of lengths_fit short_of version_of kind_of header_table body_of record_batch header_of meta_of framed message_at staged first run_of
 messages = refl

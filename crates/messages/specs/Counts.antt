@@ -1,6 +1,7 @@
 -- How many values dictionaries have.
-use Rattle.std.specs.Prelude.{ℕ, ℤ, ◌^◌, ◌<◌, ◌≤◌, List, Option, None, Some}
+use Rattle.std.specs.Prelude.{ℕ, ℤ, ◌<◌, ◌≤◌, List, Option, None, Some}
 use Rattle.std.specs.Ordering.{int_eq}
+use Rattle.values.specs.Limits.{max_dictionary_values}
 use Rattle.indexmap.specs.IndexMap.{insert_entry}
 use Rattle.messages.specs.declared.counts.Count.{Count}
 use Rattle.schema_meta.specs.declared.header.Header.{Header}
@@ -15,7 +16,7 @@ counted counts (Some c) = insert_entry int_eq counts c.id c.values
 -- A batch leaves its dictionary with no more values than it may have.
 abbrev pub IsCounted : List (ℤ × ℕ) → Header → Type 0
 IsCounted counts header.Schema = Unit {0}
-IsCounted counts (header.Dictionary d) = count_after counts d.id d.is_delta d.batch.rows ≤ 2 ^ 20
+IsCounted counts (header.Dictionary d) = count_after counts d.id d.is_delta d.batch.rows ≤ max_dictionary_values
 IsCounted counts (header.Batch b) = Unit {0}
 IsCounted counts header.End = Unit {0}
 

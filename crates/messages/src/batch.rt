@@ -1,16 +1,19 @@
 //! The header of a record batch: Message.fbs, `RecordBatch`, `FieldNode` and `Buffer`.
 
-ghost use Rattle.std.specs.Prelude.{◌≡◌, ◌+◌, ◌*◌, ◌^◌, ◌<◌, ◌≤◌, length};
+ghost use Rattle.std.specs.Prelude.{◌≡◌, ◌+◌, ◌*◌, ◌<◌, ◌≤◌, length};
+ghost use Rattle.values.specs.Limits.{max_body_size};
 ghost use Rattle.values.specs.Reading.{Answers, Judges};
 ghost use Rattle.messages.specs.Columns.{AreRead, layouts_wanted};
 ghost use Rattle.schema_meta.specs.Batch.{batch_of, node_of, nodes_in, span_of, spans_in, plain, rows_of, nodes_of, spans_of, structs_in, word_at};
 
 use crate::columns::Columns;
-use crate::fields::{checked, readable};
+use crate::fields::checked;
 use array_layout::{Node, Span};
 use byteorder::{ByteOrder, LittleEndian};
+use field_types::{read_long, readable};
 use flatbuf::{BadTable, TableRef};
 use schema_meta::BatchHeader;
+use schema_meta::message_fbs::{BATCH_BUFFERS, BATCH_COMPRESSION, BATCH_LENGTH, BATCH_NODES};
 use std::alloc::Global;
 use values::StreamFault;
 use values::limits::{MAX_BATCH_LENGTH, MAX_NODE_LENGTH};
@@ -44,7 +47,7 @@ fn node_at(bytes: &[u8], index: usize) -> Result<Node, StreamFault>
 /// The buffer with number `index`: it must lie within the body.
 fn span_at(bytes: &[u8], index: usize, body: usize) -> Result<Span, StreamFault>
     requires in_bytes { 16 * index + 16 ≤ length bytes.now }
-    requires in_range { body ≤ 2 ^ 28 }
+    requires in_range { body ≤ max_body_size }
     ensures { Judges (λ s. s) result (span_of body bytes.now index) }
 {
     let place = 16 * index;
@@ -81,7 +84,7 @@ fn spans_in(
     body: usize,
 ) -> Result<Vec<Span>, StreamFault>
     requires counted { length bytes.now ≡ 16 * count }
-    requires in_range { body ≤ 2 ^ 28 }
+    requires in_range { body ≤ max_body_size }
     ensures { Answers (λ v. v.items) result (spans_in count body bytes.now) }
 {
     let mut spans = Vec::with_capacity(alloc, count)?;
@@ -123,7 +126,7 @@ fn nodes_of(
     ensures { Answers (λ v. v.items) result (nodes_of (layouts_wanted columns.entry) rows table.now) }
 {
     let count = columns.nodes();
-    let bytes = structs(table, 1, count, StreamFault::NodeCount)?;
+    let bytes = structs(table, BATCH_NODES, count, StreamFault::NodeCount)?;
     let nodes = nodes_in(alloc, bytes, count)?;
     if columns.fit(&nodes, rows) {
         Ok(nodes)
@@ -138,24 +141,24 @@ fn spans_of(
     count: usize,
     body: usize,
 ) -> Result<Vec<Span>, StreamFault>
-    requires { body ≤ 2 ^ 28 }
+    requires { body ≤ max_body_size }
     ensures { Answers (λ v. v.items) result (spans_of count body table.now) }
 {
-    let bytes = structs(table, 2, count, StreamFault::BufferCount)?;
+    let bytes = structs(table, BATCH_BUFFERS, count, StreamFault::BufferCount)?;
     spans_in(alloc, bytes, count, body)
 }
 
 fn rows_of(table: &TableRef) -> Result<usize, StreamFault>
     ensures { Judges (λ n. n) result (rows_of table.now) }
 {
-    let length = readable(table.i64(0))?.unwrap_or(0);
+    let length = read_long(table, BATCH_LENGTH)?;
     checked(StreamFault::BadLength, MAX_BATCH_LENGTH, length)
 }
 
 fn uncompressed(table: &TableRef) -> Result<(), StreamFault>
     ensures { Judges (λ u. u) result (plain table.now) }
 {
-    if readable(table.has(3))? {
+    if readable(table.has(BATCH_COMPRESSION))? {
         return Err(StreamFault::Compressed);
     }
     Ok(())
@@ -169,7 +172,7 @@ pub(crate) fn read_batch_header(
     columns: Columns,
     body: usize,
 ) -> Result<BatchHeader, StreamFault>
-    requires in_range { body ≤ 2 ^ 28 }
+    requires in_range { body ≤ max_body_size }
     requires read { AreRead columns }
     ensures { Answers (λ b. b) result (batch_of (layouts_wanted columns.entry) body table.now) }
 {

@@ -1,16 +1,19 @@
 //! The header of a dictionary batch: Message.fbs, `DictionaryBatch`.
 
-ghost use Rattle.std.specs.Prelude.{◌≤◌, ◌^◌};
+ghost use Rattle.std.specs.Prelude.{◌≤◌};
+ghost use Rattle.values.specs.Limits.{max_body_size};
 ghost use Rattle.values.specs.Reading.{Answers, Judges};
 ghost use Rattle.schema_meta.specs.DictionaryBatch.{data_of, dictionary_of, id_of, limited, values_batch};
 
 use crate::batch::read_batch_header;
 use crate::columns::Columns;
 use crate::counts::count_before;
-use crate::fields::readable;
-use field_types::read_bool;
+use field_types::{read_bool, read_long, readable};
 use flatbuf::TableRef;
 use indexmap::IndexMap;
+use schema_meta::message_fbs::{
+    DICTIONARY_BATCH_DATA, DICTIONARY_BATCH_ID, DICTIONARY_BATCH_IS_DELTA,
+};
 use schema_meta::{DictionaryHeader, StreamSchema};
 use std::alloc::Global;
 use values::limits::MAX_DICTIONARY_VALUES;
@@ -19,14 +22,14 @@ use values::{ColType, StreamFault};
 fn id_of(table: &TableRef) -> Result<i64, StreamFault>
     ensures { Judges (λ id. id) result (id_of table.now) }
 {
-    Ok(readable(table.i64(0))?.unwrap_or(0))
+    read_long(table, DICTIONARY_BATCH_ID)
 }
 
 /// The table of its record batch.
 fn data_of<'a>(table: &TableRef<'a>) -> Result<TableRef<'a>, StreamFault>
     ensures { Judges (λ t. t) result (data_of table.now) }
 {
-    match readable(table.table(1))? {
+    match readable(table.table(DICTIONARY_BATCH_DATA))? {
         None => Err(StreamFault::BadTable),
         Some(data) => Ok(data),
     }
@@ -41,10 +44,10 @@ fn values_batch(
     stored: &ColType,
     body: usize,
 ) -> Result<DictionaryHeader, StreamFault>
-    requires { body ≤ 2 ^ 28 }
+    requires { body ≤ max_body_size }
     ensures { Answers (λ d. d) result (values_batch body table.now id stored.now) }
 {
-    let is_delta = read_bool(table, 2)?;
+    let is_delta = read_bool(table, DICTIONARY_BATCH_IS_DELTA)?;
     let data = data_of(table)?;
     let batch = read_batch_header(alloc, &data, Columns::Values(stored.layout()), body)?;
     Ok(DictionaryHeader {
@@ -76,7 +79,7 @@ pub(crate) fn read_dictionary_header(
     counts: &IndexMap<i64, usize>,
     body: usize,
 ) -> Result<DictionaryHeader, StreamFault>
-    requires { body ≤ 2 ^ 28 }
+    requires { body ≤ max_body_size }
     ensures { Answers (λ d. d) result (dictionary_of schema.now.fields.items counts.now.entries body table.now) }
 {
     let id = id_of(table)?;

@@ -1,6 +1,7 @@
 //! Framing: Arrow Columnar Format, "Encapsulated message format".
 
-ghost use Rattle.std.specs.Prelude.{◌≤◌, ◌+◌, ◌^◌, Some, length, slice_range, IfOk};
+ghost use Rattle.std.specs.Prelude.{◌≤◌, ◌+◌, Some, length, slice_range, IfOk};
+ghost use Rattle.values.specs.Limits.{max_metadata_size};
 ghost use Rattle.values.specs.Reading.{Answers, Judges};
 ghost use Rattle.schema_meta.specs.Framing.{end_mark, first, framed, message_at};
 ghost use Rattle.schema_meta.specs.Message.{meta_of};
@@ -35,7 +36,7 @@ pub(crate) enum Progress {
 #[tactic(auto, unfolding(schema_meta::specs::Framing::framed))]
 fn metadata_size(mark: u32, size: u32) -> Result<usize, StreamFault>
     ensures value { Judges (λ n. n) result (framed mark size) }
-    ensures small { IfOk result (λ n. n ≤ 2 ^ 24) }
+    ensures small { IfOk result (λ n. n ≤ max_metadata_size) }
 {
     if mark != u32::MAX {
         return Err(StreamFault::NoContinuation);

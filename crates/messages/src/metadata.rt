@@ -1,7 +1,8 @@
 //! The metadata of a message: Message.fbs, table `Message`.
 
-ghost use Rattle.std.specs.Prelude.{◌≤◌, ◌^◌, length, IfOk};
+ghost use Rattle.std.specs.Prelude.{◌≤◌, length, IfOk};
 ghost use Rattle.std.specs.Option.{option_map};
+ghost use Rattle.values.specs.Limits.{max_body_size};
 ghost use Rattle.values.specs.Reading.{Answers, Judges};
 ghost use Rattle.schema_meta.specs.Message.{body_of, dictionary_batch, expected, header_of, header_table, kind_of, meta_of, new_schema, record_batch, version_of};
 ghost use Rattle.messages.specs.State.{IsRead, known_of, meta_seen};
@@ -10,9 +11,15 @@ use crate::batch::read_batch_header;
 use crate::columns::Columns;
 use crate::declared::are_same;
 use crate::dictionary::read_dictionary_header;
-use crate::fields::{checked, readable};
+use crate::fields::checked;
 use crate::state::State;
+use field_types::schema_fbs::V5;
+use field_types::{read_byte, read_long, read_short, readable};
 use flatbuf::{Buf, TableRef};
+use schema_meta::message_fbs::{
+    HEADER_DICTIONARY_BATCH, HEADER_RECORD_BATCH, HEADER_SCHEMA, MESSAGE_BODY_LENGTH,
+    MESSAGE_HEADER, MESSAGE_HEADER_KIND, MESSAGE_VERSION,
+};
 use schema_meta::{BatchHeader, DictionaryHeader, Header, MessageKind, StreamSchema, read_schema};
 use std::alloc::Global;
 use std::rc::Rc;
@@ -32,8 +39,8 @@ pub(crate) struct Metadata {
 fn check_version(message: &TableRef) -> Result<(), StreamFault>
     ensures { Judges (λ u. u) result (version_of message.now) }
 {
-    match readable(message.i16(0))?.unwrap_or(0) {
-        4 => Ok(()),
+    match read_short(message, MESSAGE_VERSION, 0)? {
+        V5 => Ok(()),
         _ => Err(StreamFault::Version),
     }
 }
@@ -41,10 +48,10 @@ fn check_version(message: &TableRef) -> Result<(), StreamFault>
 fn kind_of(message: &TableRef) -> Result<MessageKind, StreamFault>
     ensures { Judges (λ k. k) result (kind_of message.now) }
 {
-    match readable(message.u8(1))?.unwrap_or(0) {
-        1 => Ok(MessageKind::Schema),
-        2 => Ok(MessageKind::Dictionary),
-        3 => Ok(MessageKind::Batch),
+    match read_byte(message, MESSAGE_HEADER_KIND)? {
+        HEADER_SCHEMA => Ok(MessageKind::Schema),
+        HEADER_DICTIONARY_BATCH => Ok(MessageKind::Dictionary),
+        HEADER_RECORD_BATCH => Ok(MessageKind::Batch),
         _ => Err(StreamFault::HeaderKind),
     }
 }
@@ -52,7 +59,7 @@ fn kind_of(message: &TableRef) -> Result<MessageKind, StreamFault>
 fn header_table<'a>(message: &TableRef<'a>) -> Result<TableRef<'a>, StreamFault>
     ensures { Judges (λ t. t) result (header_table message.now) }
 {
-    match readable(message.table(2))? {
+    match readable(message.table(MESSAGE_HEADER))? {
         None => Err(StreamFault::BadTable),
         Some(table) => Ok(table),
     }
@@ -60,9 +67,9 @@ fn header_table<'a>(message: &TableRef<'a>) -> Result<TableRef<'a>, StreamFault>
 
 fn body_of(message: &TableRef) -> Result<usize, StreamFault>
     ensures value { Judges (λ n. n) result (body_of message.now) }
-    ensures small { IfOk result (λ n. n ≤ 2 ^ 28) }
+    ensures small { IfOk result (λ n. n ≤ max_body_size) }
 {
-    let length = readable(message.i64(3))?.unwrap_or(0);
+    let length = read_long(message, MESSAGE_BODY_LENGTH)?;
     checked(StreamFault::BodySize, MAX_BODY_SIZE, length)
 }
 
@@ -104,7 +111,7 @@ fn dictionary_batch(
     body: usize,
     message: &TableRef,
 ) -> Result<DictionaryHeader, StreamFault>
-    requires { body ≤ 2 ^ 28 }
+    requires { body ≤ max_body_size }
     ensures { Answers (λ d. d) result (dictionary_batch (known_of state.now) body message.now) }
 {
     let Some(schema) = &state.schema else {
@@ -120,7 +127,7 @@ fn record_batch(
     body: usize,
     message: &TableRef,
 ) -> Result<BatchHeader, StreamFault>
-    requires in_range { body ≤ 2 ^ 28 }
+    requires in_range { body ≤ max_body_size }
     requires small { IsRead (known_of state.now).schema }
     ensures { Answers (λ b. b) result (record_batch (known_of state.now) body message.now) }
 {
@@ -139,7 +146,7 @@ fn read_header(
     kind: MessageKind,
     body: usize,
 ) -> Result<Metadata, StreamFault>
-    requires in_range { body ≤ 2 ^ 28 }
+    requires in_range { body ≤ max_body_size }
     requires small { IsRead (known_of state.now).schema }
     ensures { Answers meta_seen result (header_of (known_of state.now) message.now kind body) }
 {

@@ -3,6 +3,7 @@ use Rattle.std.proofs.Common.{◌≡◌, ℕ, ◌+◌, ◌<◌, true, false, Lis
 use Rattle.std.specs.Prelude.{nat_le}
 use Rattle.std.proofs.lemmas.Bool.{le-leb, lt-leb}
 use Rattle.flatbuf.specs.Layout.{Vector}
+use Rattle.values.specs.Limits.{max_fields, max_depth}
 use Rattle.values.specs.Reading.{Reading, ◌>>=◌, second, Stands, Fails}
 use Rattle.values.specs.Rose.{Rose}
 use Rattle.values.specs.declared.faults.StreamFault.{StreamFault}
@@ -18,17 +19,17 @@ use Rattle.schema_meta.specs.Schema.{columns_of, judged}
 use Rattle.schema_meta.proofs.Faults.{bind_right, needs_stands, checked_stands}
 use Rattle.schema_meta.proofs.FieldFacts.{few_read}
 
-pub too_many : (v : Vector) → 1024 < total 16 v → Stands (columns_of v) fault.TooManyFields
+pub too_many : (v : Vector) → max_fields < total max_depth v → Stands (columns_of v) fault.TooManyFields
 unfolding columns_of
 too_many v many =
-    both_left second (needs fault.TooManyFields (nat_le (total 16 v) 1024)) (forest 16 v >>= judged) fault.TooManyFields
-    (needs_stands fault.TooManyFields (nat_le (total 16 v) 1024) fault.TooManyFields (lt-leb (total 16 v) 1024 many) refl)
+    both_left second (needs fault.TooManyFields (nat_le (total max_depth v) max_fields)) (forest max_depth v >>= judged) fault.TooManyFields
+    (needs_stands fault.TooManyFields (nat_le (total max_depth v) max_fields) fault.TooManyFields (lt-leb (total max_depth v) max_fields many) refl)
 
-pub not_read : (v : Vector) (c : StreamFault) → Fails c (forest 16 v) → Fails c (columns_of v)
+pub not_read : (v : Vector) (c : StreamFault) → Fails c (forest max_depth v) → Fails c (columns_of v)
 unfolding columns_of
 not_read v c fails =
-    fails_right second (needs fault.TooManyFields (nat_le (total 16 v) 1024)) (forest 16 v >>= judged) c
-    (fails_first (forest 16 v) judged c fails)
+    fails_right second (needs fault.TooManyFields (nat_le (total max_depth v) max_fields)) (forest max_depth v >>= judged) c
+    (fails_first (forest max_depth v) judged c fails)
 
 abbrev slim_test : List (Rose Entry) → Reading (Unit {0})
 slim_test fs = needs fault.BadType (are_slim (layouts_of fs))
@@ -36,29 +37,29 @@ slim_test fs = needs fault.BadType (are_slim (layouts_of fs))
 abbrev clear_test : List (Rose Entry) → Reading (List (Rose Entry))
 clear_test fs = checked fault.DictionaryClash (is_clear fs) fs
 
-misjudged : (v : Vector) (c : StreamFault) (fs : List (Rose Entry)) → forest 16 v ≡ Ok fs → Stands (judged fs) c → Stands (columns_of v) c
+misjudged : (v : Vector) (c : StreamFault) (fs : List (Rose Entry)) → forest max_depth v ≡ Ok fs → Stands (judged fs) c → Stands (columns_of v) c
 unfolding columns_of
 misjudged v c fs read h =
-    both_right second (needs fault.TooManyFields (nat_le (total 16 v) 1024)) (forest 16 v >>= judged) c (bind_right (forest 16 v) judged c fs read h)
+    both_right second (needs fault.TooManyFields (nat_le (total max_depth v) max_fields)) (forest max_depth v >>= judged) c (bind_right (forest max_depth v) judged c fs read h)
 
-pub too_wide : (v : Vector) (fs : List (Rose Entry)) → forest 16 v ≡ Ok fs → are_slim (layouts_of fs) ≡ false → Stands (columns_of v) fault.BadType
+pub too_wide : (v : Vector) (fs : List (Rose Entry)) → forest max_depth v ≡ Ok fs → are_slim (layouts_of fs) ≡ false → Stands (columns_of v) fault.BadType
 unfolding judged
 too_wide v fs read wide =
     misjudged v fault.BadType fs read
     (both_left second (slim_test fs) (clear_test fs) fault.BadType (needs_stands fault.BadType (are_slim (layouts_of fs)) fault.BadType wide refl))
 
-pub clashing : (v : Vector) (fs : List (Rose Entry)) → forest 16 v ≡ Ok fs → is_clear fs ≡ false → Stands (columns_of v) fault.DictionaryClash
+pub clashing : (v : Vector) (fs : List (Rose Entry)) → forest max_depth v ≡ Ok fs → is_clear fs ≡ false → Stands (columns_of v) fault.DictionaryClash
 unfolding judged
 clashing v fs read unclear =
     misjudged v fault.DictionaryClash fs read
     (both_right second (slim_test fs) (clear_test fs) fault.DictionaryClash (checked_stands fault.DictionaryClash (is_clear fs) fs fault.DictionaryClash unclear refl))
 
 pub all_read :
-    (v : Vector) (fs : List (Rose Entry)) (left : ℕ) → left + total 16 v ≡ 1024 → forest 16 v ≡ Ok fs → are_slim (layouts_of fs) ≡ true
+    (v : Vector) (fs : List (Rose Entry)) (left : ℕ) → left + total max_depth v ≡ max_fields → forest max_depth v ≡ Ok fs → are_slim (layouts_of fs) ≡ true
     → is_clear fs ≡ true → columns_of v ≡ Ok fs
 unfolding columns_of judged
 all_read v fs left few read slim-is clear-is =
-    let test : nat_le (total 16 v) 1024 ≡ true = le-leb (total 16 v) 1024 (omega (arith, few)) in
+    let test : nat_le (total max_depth v) max_fields ≡ true = le-leb (total max_depth v) max_fields (omega (arith, few)) in
     rw (test, read, slim-is, clear-is) refl
 
 pub ruleset columns_read = (too_many, not_read, too_wide, clashing, all_read, few_read)

@@ -4,6 +4,7 @@ use Rattle.std.specs.Prelude.{nat_le, ◌==◌, ◌&&◌, if◌then◌else◌}
 use Rattle.std.proofs.lemmas.Bool.{and_parts, leb-true}
 use Rattle.std.proofs.lemmas.Bool.Decides.{nat_tests}
 use Rattle.flatbuf.specs.Layout.{Table, Vector, text_of, subtable_of, vector_of, entry_of}
+use Rattle.values.specs.Limits.{max_fields, max_depth, max_name_len}
 use Rattle.values.specs.Reading.{Reading, ◌>>=◌, both, second, mapped, each, one, cons}
 use Rattle.values.specs.declared.faults.StreamFault.TheVariants as fault
 use Rattle.values.specs.Rose.{Rose, node, Roses, none, more, kids_of, rose_size, roses_size}
@@ -26,7 +27,7 @@ use Rattle.schema_meta.specs.Encoding.{coding_of, coded_by, encoding_of, may_be_
 use Rattle.schema_meta.specs.FieldsLaw.{AreFields, FieldsLaw, IsCoded, IsGoodField, AreGoodFields}
 use Rattle.std.specs.Str.{is_utf8}
 use Rattle.std.proofs.lemmas.Str.{is_utf8-from_IsUtf8, IsUtf8-from_ascii}
-use Rattle.schema_meta.specs.Slots as slot
+use Rattle.field_types.specs.SchemaFbs as fbs
 use Rattle.field_types.specs.declared.kinds.TypeKind.{TypeKind}
 use Rattle.values.specs.declared.col_type.ColType.{ColType}
 use Rattle.field_types.specs.Reads.{readable, needs, checked, bool_of}
@@ -82,7 +83,7 @@ coded_good k (Some t) s c e is =
 coding_good : (k : TypeKind) (t : Table) (s : ColType) (c : Option Coding) → coding_of k t ≡ Ok c → kind_of_type s ≡ k → IsCoded c s
 unfolding coding_of
 coding_good k t s c e is =
-    let read = bind_Ok (readable (subtable_of t slot.dictionary)) (coded_by k) c e in coded_good k read.0 s c read.2 is
+    let read = bind_Ok (readable (subtable_of t fbs.dictionary)) (coded_by k) c e in coded_good k read.0 s c read.2 is
 
 -- indices have no children, and nor have the values that they stand for
 single_node : (s : ColType) (w : IntWidth) (b : Bool) (kids : Roses Layout) → IsSingle s → IsNode (layout_by s) kids → IsNode (Number w b) kids
@@ -142,14 +143,14 @@ below_in below count k (Some v) fs known may e =
 children_known :
     (below : Vector → Reading (List (Rose Entry))) (count : Vector → ℕ) (k : TypeKind) (t : Table) (fs : List (Rose Entry))
     → ((v : Vector) (gs : List (Rose Entry)) → below v ≡ Ok gs → Known count v gs) → children_of below k t ≡ Ok fs
-    → (o : Option Vector) × (vector_of t slot.children ≡ Some o) × Below count k o fs
+    → (o : Option Vector) × (vector_of t fbs.children ≡ Some o) × Below count k o fs
 unfolding children_of
 children_known below count k t fs known e =
-    let read = bind_Ok (readable (vector_of t slot.children)) (λ v. both second (needs fault.BadType (may_have k (count_in v))) (fields_in below v)) fs e in
+    let read = bind_Ok (readable (vector_of t fbs.children)) (λ v. both second (needs fault.BadType (may_have k (count_in v))) (fields_in below v)) fs e in
     let parts = both_Ok second (needs fault.BadType (may_have k (count_in read.0))) (fields_in below read.0) fs read.2 in
     let P : List (Rose Entry) → Type 0 = λ gs. Below count k read.0 gs in (
       read.0,
-      must_Ok fault.BadTable (vector_of t slot.children) read.0 read.1,
+      must_Ok fault.BadTable (vector_of t fbs.children) read.0 read.1,
       subst P parts.4 (below_in below count k read.0 parts.1 known (needed _ _ parts.0 parts.2) parts.3),
     )
 
@@ -162,28 +163,28 @@ pub record IsKnown (count : Vector → ℕ) (v : Vector) (i : ℕ) (f : Rose Ent
 
 -- names are short texts
 IsName : List ℕ → Type 0
-IsName n = (length n ≤ 4096) × (is_utf8 n ≡ true)
+IsName n = (length n ≤ max_name_len) × (is_utf8 n ≡ true)
 
 name_in_good : (o : Option (List ℕ)) (n : List ℕ) → name_in o ≡ Ok n → IsName n
 unfolding IsName
 name_in_good None n e =
     let none : [] ≡ n = cc in subst IsName none (omega arith, is_utf8-from_IsUtf8 [] (IsUtf8-from_ascii [] (λ k. omega arith)))
 name_in_good (Some bytes) n e =
-    let p = passed fault.BadName (nat_le (length bytes) 4096 && is_utf8 bytes) bytes n e in
-    let tests = and_parts (nat_le (length bytes) 4096) (is_utf8 bytes) p.0 in
-    subst IsName p.1 (leb-true (length bytes) 4096 tests.0, tests.1)
+    let p = passed fault.BadName (nat_le (length bytes) max_name_len && is_utf8 bytes) bytes n e in
+    let tests = and_parts (nat_le (length bytes) max_name_len) (is_utf8 bytes) p.0 in
+    subst IsName p.1 (leb-true (length bytes) max_name_len tests.0, tests.1)
 
-label_good : (t : Table) (l : Label) → label_of t ≡ Ok l → (length l.name ≤ 4096) × (is_utf8 l.name ≡ true)
+label_good : (t : Table) (l : Label) → label_of t ≡ Ok l → (length l.name ≤ max_name_len) × (is_utf8 l.name ≡ true)
 unfolding label_of name_of IsName
 label_good t l e =
-    let p = both_Ok label (name_of t) (bool_of t slot.nullable) l e in
-    let q = bind_Ok (readable (text_of t slot.name)) name_in p.0 p.2 in
+    let p = both_Ok label (name_of t) (bool_of t fbs.nullable) l e in
+    let q = bind_Ok (readable (text_of t fbs.name)) name_in p.0 p.2 in
     let P : Label → Type 0 = λ x. IsName x.name in
     subst P p.4 (name_in_good q.0 p.0 q.2)
 
 child_is :
     (v : Vector) (i : ℕ) (t : Table) (k : TypeKind) (o : Option Vector) → entry_of v i ≡ Some t → kind_of t ≡ Ok k
-    → vector_of t slot.children ≡ Some o → child_at v i ≡ o
+    → vector_of t fbs.children ≡ Some o → child_at v i ≡ o
 unfolding child_at
 child_is v i t k o here known kids = rw (here, known, kids) refl
 
@@ -264,8 +265,8 @@ forest_known zero v fs e = by_count (v.count == 0) refl e where
 forest_known (suc depth) v fs e =
     each_known (forest depth) (total depth) v 0 v.count fs (forest_known depth) e
 
-pub few_read : (v : Vector) (fs : List (Rose Entry)) (left room : ℕ) → forest 16 v ≡ Ok fs → left + total 16 v ≡ room → roses_size (kids_of fs) ≤ room
-few_read v fs left room read count = omega (arith, (forest_known 16 v fs read).size, count)
+pub few_read : (v : Vector) (fs : List (Rose Entry)) (left room : ℕ) → forest max_depth v ≡ Ok fs → left + total max_depth v ≡ room → roses_size (kids_of fs) ≤ room
+few_read v fs left room read count = omega (arith, (forest_known max_depth v fs read).size, count)
 
 judged_is : (fs gs : List (Rose Entry)) → judged fs ≡ Ok gs → (are_slim (layouts_of fs) ≡ true) × (is_clear fs ≡ true) × (fs ≡ gs)
 unfolding judged
@@ -277,10 +278,10 @@ judged_is fs gs e =
 columns_known : (v : Vector) (fs : List (Rose Entry)) → columns_of v ≡ Ok fs → AreFields fs
 unfolding columns_of
 columns_known v fs e =
-    let parts = both_Ok second (needs fault.TooManyFields (nat_le (total 16 v) 1024)) (forest 16 v >>= judged) fs e in
-    let few : total 16 v ≤ 1024 = leb-true (total 16 v) 1024 (needed fault.TooManyFields (nat_le (total 16 v) 1024) parts.0 parts.2) in
-    let read = bind_Ok (forest 16 v) judged parts.1 parts.3 in
-    let known = forest_known 16 v read.0 read.1 in
+    let parts = both_Ok second (needs fault.TooManyFields (nat_le (total max_depth v) max_fields)) (forest max_depth v >>= judged) fs e in
+    let few : total max_depth v ≤ max_fields = leb-true (total max_depth v) max_fields (needed fault.TooManyFields (nat_le (total max_depth v) max_fields) parts.0 parts.2) in
+    let read = bind_Ok (forest max_depth v) judged parts.1 parts.3 in
+    let known = forest_known max_depth v read.0 read.1 in
     let are = judged_is read.0 parts.1 read.2 in
     let P : List (Rose Entry) → Type 0 = λ gs. AreFields gs in
     subst P (are.2 ∙ parts.4) (record {
@@ -303,7 +304,7 @@ in_known (Some v) fs e = columns_known v fs e
 pub fields_known : FieldsLaw
 unfolding schema_of
 fields_known t fs e =
-    let parts = both_Ok second (endianness_of t) (readable (vector_of t slot.fields) >>= fields_in columns_of) fs e in
-    let read = bind_Ok (readable (vector_of t slot.fields)) (fields_in columns_of) parts.1 parts.3 in
+    let parts = both_Ok second (endianness_of t) (readable (vector_of t fbs.fields) >>= fields_in columns_of) fs e in
+    let read = bind_Ok (readable (vector_of t fbs.fields)) (fields_in columns_of) parts.1 parts.3 in
     let P : List (Rose Entry) → Type 0 = λ gs. AreFields gs in
     subst P parts.4 (in_known read.0 parts.1 read.2)

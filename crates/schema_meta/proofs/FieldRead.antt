@@ -6,6 +6,7 @@ use Rattle.flatbuf.specs.Tree.{number, text, table, references, count}
 use Rattle.flatbuf.specs.Layout.{Table, Vector, table_in, slot_of, entry_of}
 use Rattle.flatbuf.specs.Held.{element_place, NodeHeld, Held}
 use Rattle.flatbuf.proofs.Words.{number-read, text-read, entry-read, vector-read, subtable-absent}
+use Rattle.values.specs.Limits.{max_name_len}
 use Rattle.values.specs.Reading.{Reading, each}
 use Rattle.values.specs.Rose.{Rose, node, Roses, none, more, roses_size}
 use Rattle.field_types.specs.Kinds.{may_have, kind_of_type}
@@ -17,24 +18,24 @@ use Rattle.values.specs.declared.col_type.ColType.{ColType}
 use Rattle.field_types.proofs.TypeRead.{type-is-read}
 use Rattle.schema_meta.specs.Encoding.{coding_of}
 use Rattle.schema_meta.specs.Entry.{Entry}
-use Rattle.schema_meta.specs.Slots as slot
+use Rattle.field_types.specs.SchemaFbs as fbs
 use Rattle.schema_meta.specs.Fields.{name_of, children_of, label_of, content_of, field_of, entry_by, child_at, label, storage, content, forest}
 use Rattle.schema_meta.specs.Totals.{sum_from, total_at, total}
 use Rattle.schema_meta.specs.SchemaTree.{field_slots, field_tables}
 use Rattle.schema_meta.specs.SchemaLaw.{stored_field}
 use Rattle.schema_meta.proofs.SoundFields.{Sound, no-level, sound-below, sound-rest, tables-count, may-have, entries, entries-below}
 
-name-read : (t : Table) (xs : List ℕ) → length xs ≤ 4096 → is_utf8 xs ≡ true → NodeHeld t.bytes (slot_of t slot.name) (text xs) → name_of t ≡ Ok xs
+name-read : (t : Table) (xs : List ℕ) → length xs ≤ max_name_len → is_utf8 xs ≡ true → NodeHeld t.bytes (slot_of t fbs.name) (text xs) → name_of t ≡ Ok xs
 unfolding name_of
-name-read t xs short utf8 h = rw (text-read xs t slot.name h, le-leb (length xs) 4096 short, utf8) refl
+name-read t xs short utf8 h = rw (text-read xs t fbs.name h, le-leb (length xs) max_name_len short, utf8) refl
 
 bool-read : (t : Table) (k : ℕ) → NodeHeld t.bytes (slot_of t k) (number 1 1) → bool_of t k ≡ Ok true
 unfolding bool_of
 bool-read t k h = rw (number-read 1 1 t k h) refl
 
-plain-read : (t : Table) (k : TypeKind) → slot_of t slot.dictionary ≡ Some None → coding_of k t ≡ Ok None
+plain-read : (t : Table) (k : TypeKind) → slot_of t fbs.dictionary ≡ Some None → coding_of k t ≡ Ok None
 unfolding coding_of
-plain-read t k h = rw (subtable-absent t slot.dictionary h) refl
+plain-read t k h = rw (subtable-absent t fbs.dictionary h) refl
 
 -- the fields of a vector that holds these are read as they are
 abbrev pub Reads : (Vector → Reading (List (Rose Entry))) → Roses LogicalField → Type 0
@@ -43,11 +44,11 @@ Reads below kids =
 
 children-read :
     (below : Vector → Reading (List (Rose Entry))) (t : Table) (k : TypeKind) (kids : Roses LogicalField)
-    → may_have k (kids_count kids) ≡ true → Reads below kids → NodeHeld t.bytes (slot_of t slot.children) (references (field_tables kids))
+    → may_have k (kids_count kids) ≡ true → Reads below kids → NodeHeld t.bytes (slot_of t fbs.children) (references (field_tables kids))
     → children_of below k t ≡ Ok (entries kids)
 unfolding children_of
 children-read below t k kids may reads h =
-    let r = vector-read (field_tables kids) t slot.children h in
+    let r = vector-read (field_tables kids) t fbs.children h in
     let v : Vector = record { bytes = t.bytes; start = r.start; count = count (field_tables kids) } in
     let counted : count (field_tables kids) ≡ kids_count kids = tables-count kids in
     let P : ℕ → Type 0 = λ n. may_have k n ≡ true in
@@ -56,10 +57,10 @@ children-read below t k kids may reads h =
     rw (r.is, may-read, read) refl
 
 label-read :
-    (t : Table) (f : LogicalField) (kids : Roses LogicalField) → length f.name ≤ 4096 → is_utf8 f.name ≡ true
+    (t : Table) (f : LogicalField) (kids : Roses LogicalField) → length f.name ≤ max_name_len → is_utf8 f.name ≡ true
     → Held t.bytes (slot_of t) 0 (field_slots (node f kids)) → label_of t ≡ Ok (label f.name true)
 unfolding label_of
-label-read t f kids short utf8 h = rw (name-read t f.name short utf8 h.0, bool-read t slot.nullable h.1.0) refl
+label-read t f kids short utf8 h = rw (name-read t f.name short utf8 h.0, bool-read t fbs.nullable h.1.0) refl
 
 -- a field that lies before others, below one of type `p`
 content-read :
@@ -125,7 +126,7 @@ child-read v i d p f kids fs s h =
     let found : entry_of v i ≡ Some (table_in v.bytes r.place) = cc (r.is) in
     let slots = r.slots in
     let typed = type-is-read f.col_type s.within.0.1 t slots.1.1.0 slots.1.1.1.0 in
-    let c = vector-read (field_tables kids) t slot.children slots.1.1.1.1.1.0 in
+    let c = vector-read (field_tables kids) t fbs.children slots.1.1.1.1.1.0 in
     (record { bytes = v.bytes; start = c.start; count = count (field_tables kids) }, rw (found, typed.0, c.is) refl, tables-count kids, c.elements)
 
 sum-read :

@@ -1,5 +1,6 @@
 -- The logical fields of what was read can be written.
 use Rattle.std.proofs.Common.{◌≡◌, ℕ, ◌≤◌, List, [], ◌∷◌, length, map, refl, arith}
+use Rattle.values.specs.Limits.{max_name_len}
 use Rattle.values.specs.Rose.{Rose, node, Roses, none, more, kids_of, roses_size}
 use Rattle.values.specs.ColTypes.{IsType}
 use Rattle.values.specs.Logical.{narrow, child_name}
@@ -24,7 +25,7 @@ narrow-type (stored.Fixed w) h = h
 narrow-type (stored.List o) h = tt
 narrow-type stored.Struct h = tt
 
-child-name : (s : ColType) (n : List ℕ) → length n ≤ 4096 → length (child_name s n) ≤ 4096
+child-name : (s : ColType) (n : List ℕ) → length n ≤ max_name_len → length (child_name s n) ≤ max_name_len
 child-name stored.Bool n h = h
 child-name (stored.Int w s) n h = h
 child-name (stored.Decimal p s) n h = h

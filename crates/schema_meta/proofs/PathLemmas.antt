@@ -3,6 +3,7 @@ use Rattle.std.proofs.Common.{◌≡◌, ◌⊎◌, inl, inr, ℕ, zero, suc, �
 use Rattle.std.proofs.lemmas.Bool.Decides.{nat_tests}
 use Rattle.std.specs.Prelude.{◌==◌, if◌then◌else◌}
 use Rattle.flatbuf.specs.Layout.{Table, Vector, vector_of, entry_of}
+use Rattle.values.specs.Limits.{max_fields, max_depth}
 use Rattle.values.specs.Reading.{Reading, ◌>>=◌, both, second, cons, each, one, Stands}
 use Rattle.values.specs.Rose.{Rose}
 use Rattle.values.specs.declared.faults.StreamFault.{StreamFault}
@@ -10,7 +11,7 @@ use Rattle.values.specs.declared.faults.StreamFault.TheVariants as fault
 use Rattle.values.proofs.Readings.{both_left, both_right, stands_both, stands_each}
 use Rattle.field_types.specs.declared.kinds.TypeKind.{TypeKind}
 use Rattle.schema_meta.specs.Entry.{Entry}
-use Rattle.schema_meta.specs.Slots as slot
+use Rattle.field_types.specs.SchemaFbs as fbs
 use Rattle.field_types.specs.Reads.{readable, needs, checked, bool_of}
 use Rattle.field_types.specs.Kinds.{kind_of, may_have}
 use Rattle.field_types.specs.Types.{type_of}
@@ -29,12 +30,12 @@ Below = Vector → Reading (List (Rose Entry))
 
 abbrev IsInChildren : Below → Table → StreamFault → Type 0
 IsInChildren below t c =
-    (k : TypeKind) × (w : Vector) × (kind_of t ≡ Ok k) × (vector_of t slot.children ≡ Some (Some w)) × Stands (below w) c
+    (k : TypeKind) × (w : Vector) × (kind_of t ≡ Ok k) × (vector_of t fbs.children ≡ Some (Some w)) × Stands (below w) c
 
 -- from the reading to paths
 in_vector :
     (below : Below) (t : Table) (c : StreamFault) (k : TypeKind) (v : Option Vector) → kind_of t ≡ Ok k
-    → vector_of t slot.children ≡ Some v → Stands (fields_in below v) c → IsInChildren below t c
+    → vector_of t fbs.children ≡ Some v → Stands (fields_in below v) c → IsInChildren below t c
 in_vector below t c k None e f h = absurd h
 in_vector below t c k (Some w) e f h = (k, w, e, f, h)
 
@@ -43,10 +44,10 @@ children_found :
     → FaultOfField t c ⊎ IsInChildren below t c
 unfolding children_of
 children_found below t c k e h =
-    elim (bind_found (readable (vector_of t slot.children)) (λ v. both second (needs fault.BadType (may_have k (count_in v))) (fields_in below v)) c h) [
+    elim (bind_found (readable (vector_of t fbs.children)) (λ v. both second (needs fault.BadType (may_have k (count_in v))) (fields_in below v)) c h) [
       | inl a ↦ inl (in_children k e a)
       | inr b ↦
-          let f : vector_of t slot.children ≡ Some b.0 = readable_found (vector_of t slot.children) b.0 b.1 in
+          let f : vector_of t fbs.children ≡ Some b.0 = readable_found (vector_of t fbs.children) b.0 b.1 in
           elim (stands_both second (needs fault.BadType (may_have k (count_in b.0))) (fields_in below b.0) c b.2) [
             | inl x ↦ let n = needs_found fault.BadType (may_have k (count_in b.0)) c x in inl (in_number k b.0 e f n.0 n.1)
             | inr y ↦ inr (in_vector below t c k b.0 e f y)
@@ -68,7 +69,7 @@ field_found :
 unfolding field_of label_of content_of
 field_found below t c h =
     elim (stands_both field (label_of t) (content_of below t) c h) [
-      | inl a ↦ inl (elim (stands_both label (name_of t) (bool_of t slot.nullable) c a) [ inl x ↦ in_name x | inr y ↦ in_nullable y ])
+      | inl a ↦ inl (elim (stands_both label (name_of t) (bool_of t fbs.nullable) c a) [ inl x ↦ in_name x | inr y ↦ in_nullable y ])
       | inr b ↦
           elim (bind_found (kind_of t) (λ k. both content (both storage (type_of k t) (coding_of k t)) (children_of below k t)) c b) [
             | inl x ↦ inl (in_kind x)
@@ -156,24 +157,24 @@ judged_found fs c h =
       | inr b ↦ inr (checked_found fault.DictionaryClash (is_clear fs) fs c b)
     ]
 
-judged_columns : (v : Vector) (fs : List (Rose Entry)) (c : StreamFault) → forest 16 v ≡ Ok fs → Stands (judged fs) c → FaultOfColumns v c
+judged_columns : (v : Vector) (fs : List (Rose Entry)) (c : StreamFault) → forest max_depth v ≡ Ok fs → Stands (judged fs) c → FaultOfColumns v c
 judged_columns v fs c read h =
     elim (judged_found fs c h) [ inl a ↦ by_slot fs read a.0 a.1 | inr b ↦ by_clash fs read b.0 b.1 ]
 
 columns_found : (v : Vector) (c : StreamFault) → Stands (columns_of v) c → FaultOfColumns v c
 unfolding columns_of
 columns_found v c h =
-    elim (stands_both second (needs fault.TooManyFields (nat_le (total 16 v) 1024)) (forest 16 v >>= judged) c h) [
-      | inl a ↦ let n = needs_found fault.TooManyFields (nat_le (total 16 v) 1024) c a in by_count (above (total 16 v) 1024 n.0) n.1
+    elim (stands_both second (needs fault.TooManyFields (nat_le (total max_depth v) max_fields)) (forest max_depth v >>= judged) c h) [
+      | inl a ↦ let n = needs_found fault.TooManyFields (nat_le (total max_depth v) max_fields) c a in by_count (above (total max_depth v) max_fields n.0) n.1
       | inr b ↦
-          elim (bind_found (forest 16 v) judged c b) [
-            | inl p ↦ elim (forest_found 16 v c p) [ inl x ↦ by_path x | inr y ↦ by_depth y.0 y.1 ]
+          elim (bind_found (forest max_depth v) judged c b) [
+            | inl p ↦ elim (forest_found max_depth v c p) [ inl x ↦ by_path x | inr y ↦ by_depth y.0 y.1 ]
             | inr q ↦ judged_columns v q.0 c q.1 q.2
           ]
     ]
 
 fields_found :
-    (t : Table) (v : Option Vector) (c : StreamFault) → vector_of t slot.fields ≡ Some v → Stands (fields_in columns_of v) c
+    (t : Table) (v : Option Vector) (c : StreamFault) → vector_of t fbs.fields ≡ Some v → Stands (fields_in columns_of v) c
     → FaultOfSchema t c
 fields_found t None c e h = absurd h
 fields_found t (Some v) c e h = in_columns v e (columns_found v c h)
@@ -181,12 +182,12 @@ fields_found t (Some v) c e h = in_columns v e (columns_found v c h)
 pub found_by_paths : (t : Table) (c : StreamFault) → Stands (schema_of t) c → FaultOfSchema t c
 unfolding schema_of
 found_by_paths t c h =
-    elim (stands_both second (endianness_of t) (readable (vector_of t slot.fields) >>= fields_in columns_of) c h) [
+    elim (stands_both second (endianness_of t) (readable (vector_of t fbs.fields) >>= fields_in columns_of) c h) [
       | inl a ↦ in_endianness a
       | inr b ↦
-          elim (bind_found (readable (vector_of t slot.fields)) (fields_in columns_of) c b) [
+          elim (bind_found (readable (vector_of t fbs.fields)) (fields_in columns_of) c b) [
             | inl x ↦ in_fields x
-            | inr y ↦ fields_found t y.0 c (readable_found (vector_of t slot.fields) y.0 y.1) y.2
+            | inr y ↦ fields_found t y.0 c (readable_found (vector_of t fbs.fields) y.0 y.1) y.2
           ]
     ]
 
@@ -223,23 +224,23 @@ in_vectors below t c k e h =
 
 in_some :
     (below : Below) (t : Table) (c : StreamFault) (k : TypeKind) (v : Option Vector) → kind_of t ≡ Ok k
-    → vector_of t slot.children ≡ Some v → Stands (both second (needs fault.BadType (may_have k (count_in v))) (fields_in below v)) c
+    → vector_of t fbs.children ≡ Some v → Stands (both second (needs fault.BadType (may_have k (count_in v))) (fields_in below v)) c
     → Stands (field_of below t) c
 unfolding children_of
 in_some below t c k v e f h =
     let of : Option Vector → Reading _ = λ u. both second (needs fault.BadType (may_have k (count_in u))) (fields_in below u) in
-    in_vectors below t c k e (bind_right (readable (vector_of t slot.children)) of c v (readable_some (vector_of t slot.children) v f) h)
+    in_vectors below t c k e (bind_right (readable (vector_of t fbs.children)) of c v (readable_some (vector_of t fbs.children) v f) h)
 
 field_stands : (below : Below) (t : Table) (c : StreamFault) → FaultOfField t c → Stands (field_of below t) c
 unfolding label_of children_of
-field_stands below t c (in_name h) = in_label below t c (both_left label (name_of t) (bool_of t slot.nullable) c h)
-field_stands below t c (in_nullable h) = in_label below t c (both_right label (name_of t) (bool_of t slot.nullable) c h)
+field_stands below t c (in_name h) = in_label below t c (both_left label (name_of t) (bool_of t fbs.nullable) c h)
+field_stands below t c (in_nullable h) = in_label below t c (both_right label (name_of t) (bool_of t fbs.nullable) c h)
 field_stands below t c (in_kind h) = in_unkind below t c h
 field_stands below t c (in_type k e h) = in_typed below t c k e (both_left storage (type_of k t) (coding_of k t) c h)
 field_stands below t c (in_dictionary k e h) = in_typed below t c k e (both_right storage (type_of k t) (coding_of k t) c h)
 field_stands below t c (in_children k e h) =
     let of : Option Vector → Reading _ = λ u. both second (needs fault.BadType (may_have k (count_in u))) (fields_in below u) in
-    in_vectors below t c k e (bind_left (readable (vector_of t slot.children)) of c h)
+    in_vectors below t c k e (bind_left (readable (vector_of t fbs.children)) of c h)
 field_stands below t c (in_number k v e f m d) =
     in_some below t c k v e f
     (both_left second (needs fault.BadType (may_have k (count_in v))) (fields_in below v) c (needs_stands fault.BadType (may_have k (count_in v)) c m d))
@@ -260,7 +261,7 @@ child_stands :
     → Stands (readable o >>= field_of below) c
 child_stands below None c w e h = cc
 child_stands below (Some t) c w e h =
-    let s = children_some (kind_of t) (vector_of t slot.children) w e in
+    let s = children_some (kind_of t) (vector_of t fbs.children) w e in
     in_some below t c s.0 (Some w) s.1 s.2
     (both_right second (needs fault.BadType (may_have s.0 (count_in (Some w)))) (fields_in below (Some w)) c h)
 
@@ -320,35 +321,35 @@ unfolding judged
 clash_stands fs c unclear e =
     both_right second (slim_test fs) (clear_test fs) c (checked_stands fault.DictionaryClash (is_clear fs) fs c unclear e)
 
-in_forest : (v : Vector) (c : StreamFault) → Stands (forest 16 v) c → Stands (columns_of v) c
+in_forest : (v : Vector) (c : StreamFault) → Stands (forest max_depth v) c → Stands (columns_of v) c
 unfolding columns_of
 in_forest v c h =
-    both_right second (needs fault.TooManyFields (nat_le (total 16 v) 1024)) (forest 16 v >>= judged) c (bind_left (forest 16 v) judged c h)
+    both_right second (needs fault.TooManyFields (nat_le (total max_depth v) max_fields)) (forest max_depth v >>= judged) c (bind_left (forest max_depth v) judged c h)
 
 columns_stands : (v : Vector) (c : StreamFault) → FaultOfColumns v c → Stands (columns_of v) c
 unfolding columns_of
-columns_stands v c (by_path s) = in_forest v c (path_stands s.path 16 v s.end s.index c s.leads s.within s.inside s.fault_of)
+columns_stands v c (by_path s) = in_forest v c (path_stands s.path max_depth v s.end s.index c s.leads s.within s.inside s.fault_of)
 columns_stands v c (by_depth s e) =
-    let P : StreamFault → Type 0 = λ d. Stands (forest 16 v) d in
-    in_forest v c (subst P e (depth_stands s.path 16 v s.end s.leads s.long s.some))
+    let P : StreamFault → Type 0 = λ d. Stands (forest max_depth v) d in
+    in_forest v c (subst P e (depth_stands s.path max_depth v s.end s.leads s.long s.some))
 columns_stands v c (by_count m e) =
-    both_left second (needs fault.TooManyFields (nat_le (total 16 v) 1024)) (forest 16 v >>= judged) c
-    (needs_stands fault.TooManyFields (nat_le (total 16 v) 1024) c (not_above (total 16 v) 1024 m) e)
+    both_left second (needs fault.TooManyFields (nat_le (total max_depth v) max_fields)) (forest max_depth v >>= judged) c
+    (needs_stands fault.TooManyFields (nat_le (total max_depth v) max_fields) c (not_above (total max_depth v) max_fields m) e)
 columns_stands v c (by_slot fs read wide e) =
-    both_right second (needs fault.TooManyFields (nat_le (total 16 v) 1024)) (forest 16 v >>= judged) c
-    (bind_right (forest 16 v) judged c fs read (slim_stands fs c wide e))
+    both_right second (needs fault.TooManyFields (nat_le (total max_depth v) max_fields)) (forest max_depth v >>= judged) c
+    (bind_right (forest max_depth v) judged c fs read (slim_stands fs c wide e))
 columns_stands v c (by_clash fs read unclear e) =
-    both_right second (needs fault.TooManyFields (nat_le (total 16 v) 1024)) (forest 16 v >>= judged) c
-    (bind_right (forest 16 v) judged c fs read (clash_stands fs c unclear e))
+    both_right second (needs fault.TooManyFields (nat_le (total max_depth v) max_fields)) (forest max_depth v >>= judged) c
+    (bind_right (forest max_depth v) judged c fs read (clash_stands fs c unclear e))
 
 pub stands_by_paths : (t : Table) (c : StreamFault) → FaultOfSchema t c → Stands (schema_of t) c
 unfolding schema_of
 stands_by_paths t c (in_endianness h) =
-    both_left second (endianness_of t) (readable (vector_of t slot.fields) >>= fields_in columns_of) c h
+    both_left second (endianness_of t) (readable (vector_of t fbs.fields) >>= fields_in columns_of) c h
 stands_by_paths t c (in_fields h) =
-    both_right second (endianness_of t) (readable (vector_of t slot.fields) >>= fields_in columns_of) c
-    (bind_left (readable (vector_of t slot.fields)) (fields_in columns_of) c h)
+    both_right second (endianness_of t) (readable (vector_of t fbs.fields) >>= fields_in columns_of) c
+    (bind_left (readable (vector_of t fbs.fields)) (fields_in columns_of) c h)
 stands_by_paths t c (in_columns v e h) =
-    both_right second (endianness_of t) (readable (vector_of t slot.fields) >>= fields_in columns_of) c
-    (bind_right (readable (vector_of t slot.fields)) (fields_in columns_of) c (Some v) (readable_some (vector_of t slot.fields) (Some v) e)
+    both_right second (endianness_of t) (readable (vector_of t fbs.fields) >>= fields_in columns_of) c
+    (bind_right (readable (vector_of t fbs.fields)) (fields_in columns_of) c (Some v) (readable_some (vector_of t fbs.fields) (Some v) e)
     (columns_stands v c h))

@@ -1,10 +1,11 @@
 -- The arrays of a batch whose header fits its schema and its body.
-use Rattle.std.proofs.Common.{◌≡◌, ℕ, suc, ℤ, pos, List, ◌+◌, ◌^◌, ◌<◌, ◌≤◌, true, ◌&&◌, length, All, Some, None, Option, slice_get, get_or, unwrap_or, refl, ap, sym, subst, arith}
+use Rattle.std.proofs.Common.{◌≡◌, ℕ, suc, ℤ, pos, List, ◌+◌, ◌<◌, ◌≤◌, true, ◌&&◌, length, All, Some, None, Option, slice_get, get_or, unwrap_or, refl, ap, sym, subst, arith}
 use Rattle.std.specs.Prelude.{nat_le, ◌==◌}
 use Rattle.std.proofs.lemmas.Bool.{and_parts, leb-true}
 use Rattle.std.proofs.lemmas.Bool.Decides.{nat_tests}
 use Rattle.std.proofs.lemmas.List.Elements.{All-get_or}
 use Rattle.std.proofs.lemmas.Option.{slice_get_within, get_or_from_slice_get}
+use Rattle.values.specs.Limits.{max_node_length}
 use Rattle.values.specs.Rose.{Rose, node, Roses, none, more, kids_of, rose_size}
 use Rattle.values.specs.Datum.{Datum}
 use Rattle.values.specs.Layouts.{IsNode, IsLayout, AreLayouts}
@@ -77,16 +78,16 @@ values-lie body spans b Struct all = omega arith
 
 -- every length is small
 abbrev Small : List Node → Type 0
-Small nodes = All (λ n. n.length < 2 ^ 31) nodes
+Small nodes = All (λ n. n.length ≤ max_node_length) nodes
 
-node-small : (nodes : List Node) (n : ℕ) → Small nodes → (node_at nodes n).length < 2 ^ 31
+node-small : (nodes : List Node) (n : ℕ) → Small nodes → (node_at nodes n).length ≤ max_node_length
 node-small nodes n all = by_place (slice_get nodes n) refl where
-  by_place : (o : Option Node) → slice_get nodes n ≡ o → (unwrap_or o (record { length = 0; nulls = pos 0 })).length < 2 ^ 31
+  by_place : (o : Option Node) → slice_get nodes n ≡ o → (unwrap_or o (record { length = 0; nulls = pos 0 })).length ≤ max_node_length
   by_place None e = omega arith
   by_place (Some m) e =
       let inside : n < length nodes = slice_get_within nodes n m e in
       let here : get_or nodes n m ≡ m = get_or_from_slice_get nodes n m m e in
-      let P : Node → Type 0 = λ x. x.length < 2 ^ 31 in
+      let P : Node → Type 0 = λ x. x.length ≤ max_node_length in
       subst P here (All-get_or P nodes n m inside all)
 
 -- what is long enough

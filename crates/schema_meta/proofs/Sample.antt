@@ -58,7 +58,7 @@ pub sample :
     × (schema_in (slice_set metadata 60 1) ≡ Err (one fault.BigEndian))
     × (schema_in (slice_set metadata 105 3) ≡ Err (one fault.UnsupportedType))
     × (schema_in (slice_set metadata 140 65) ≡ Err (one fault.BadType))
-unfolding number_at signed_at target_at bytes_at block_at place_of_vtable vtable_at table_at root_of slot_of number_of signed_of structs_of subtable_of vector_at vector_of entry_of each bool_of word_of kind_numbered kind_of width_of int_of type_of name_of coding_of judged value_type is_clear children_of label_of content_of field_of entry_by child_at forest sum_from total_at total endianness_of columns_of schema_of
+unfolding number_at signed_at target_at bytes_at block_at place_of_vtable vtable_at table_at root_of slot_of number_of signed_of structs_of subtable_of vector_at vector_of entry_of each bool_of short_of word_of kind_numbered kind_of width_of int_of type_of name_of coding_of judged value_type is_clear children_of label_of content_of field_of entry_by child_at forest sum_from total_at total endianness_of columns_of schema_of
 sample = rw (letter 107 (omega arith), letter 118 (omega arith)) (refl, refl, refl, refl, refl)
 
 -- The table of a field with a dictionary, laid out by hand: name, nullable, Utf8, and { id 7, indices of 16 bits with a sign }.

@@ -2,6 +2,7 @@
 use Rattle.std.proofs.Common.{ℕ, ◌+◌, ◌-◌, ◌*◌, ◌^◌, ◌<◌, ◌≤◌, List, length, arith}
 use Rattle.flatbuf.specs.Tree.{number, table, Nodes, count}
 use Rattle.flatbuf.specs.Written.{up, items_place, items_end, object_end, objects_end, table_end, table_place, vtable_len, Fits, FitAll, AreReferences, IsWritable}
+use Rattle.values.specs.Limits.{max_metadata_size}
 use Rattle.values.specs.Rose.{Rose, node, Roses, none, more, kids_of, rose_size, roses_size}
 use Rattle.values.specs.Logical.{LogicalField}
 use Rattle.field_types.specs.TypeTree.{type_slots}
@@ -75,7 +76,7 @@ mutual
 
 pub schema-end :
     (fs : List (Rose LogicalField)) → AreColumns fs
-    → object_end 4 (table (message_slots kind.Schema (schema_slots (kids_of fs)) 0)) < 2 ^ 24 - 8
+    → object_end 4 (table (message_slots kind.Schema (schema_slots (kids_of fs)) 0)) < max_metadata_size - 8
 schema-end fs h =
     let first : ℕ = table_end 4 (message_slots kind.Schema (schema_slots (kids_of fs)) 0) in
     let begin : first ≤ 64 = omega arith in

@@ -11,6 +11,7 @@ use Rattle.flatbuf.specs.Written.{whole, IsWritable}
 use Rattle.flatbuf.specs.Held.{element_place, NodeHeld, Held, RootHeld}
 use Rattle.flatbuf.proofs.ReadsBack.{layout-law}
 use Rattle.flatbuf.proofs.Words.{number-read, signed-read, subtable-read, vector-read}
+use Rattle.values.specs.Limits.{max_body_size, max_fields, max_depth}
 use Rattle.values.specs.Rose.{Rose, node, Roses, none, more, kids_of, roses_size}
 use Rattle.values.specs.declared.layout.Layout.{Layout}
 use Rattle.values.specs.Logical.{LogicalField, child_name, narrow}
@@ -20,7 +21,9 @@ use Rattle.values.specs.declared.col_type.ColType.TheVariants as stored
 use Rattle.values.proofs.Equality.{types-exact}
 use Rattle.schema_meta.specs.declared.header.MessageKind.{MessageKind}
 use Rattle.schema_meta.specs.declared.header.MessageKind.TheVariants as kind
-use Rattle.schema_meta.specs.Slots as slot
+use Rattle.field_types.specs.Reads.{short_of}
+use Rattle.field_types.specs.SchemaFbs as schema_fbs
+use Rattle.schema_meta.specs.MessageFbs as message_fbs
 use Rattle.schema_meta.specs.FieldLayouts.{are_slim}
 use Rattle.schema_meta.specs.Schema.{endianness_of, columns_of, schema_of}
 use Rattle.schema_meta.specs.Stage.{Known, Meta}
@@ -37,7 +40,7 @@ use Rattle.schema_meta.proofs.SoundFields.{Sound, tables-count, entries-fields, 
 use Rattle.schema_meta.proofs.Plain.{plain-clear}
 use Rattle.schema_meta.proofs.FieldRead.{forest-read, total-read}
 
-sound-columns : (fs : List (Rose LogicalField)) → AreColumns fs → AreNamed fs → Sound 16 stored.Struct (kids_of fs)
+sound-columns : (fs : List (Rose LogicalField)) → AreColumns fs → AreNamed fs → Sound max_depth stored.Struct (kids_of fs)
 sound-columns fs columns named =
     record { within = columns.within; logical = named.logical; layouts = named.layouts; shallow = named.shallow }
 
@@ -47,60 +50,60 @@ columns-read :
 columns-read v fs e columns named h =
     let sound = sound-columns fs columns named in
     let counted = e ∙ tables-count (kids_of fs) in
-    let counts = total-read 16 stored.Struct (kids_of fs) sound v counted h in
-    let read = forest-read 16 stored.Struct (kids_of fs) sound v counted h ∙ ap (λ es. Ok es) (entries-fields fs) in
+    let counts = total-read max_depth stored.Struct (kids_of fs) sound v counted h in
+    let read = forest-read max_depth stored.Struct (kids_of fs) sound v counted h ∙ ap (λ es. Ok es) (entries-fields fs) in
     let few = columns.few in
-    let left : 1024 - roses_size (kids_of fs) + total 16 v ≡ 1024 = omega (arith, few, counts) in
+    let left : max_fields - roses_size (kids_of fs) + total max_depth v ≡ max_fields = omega (arith, few, counts) in
     let P : Roses Layout → Type 0 = λ ls. are_slim ls ≡ true in
-    all_read v (stored_fields fs) (1024 - roses_size (kids_of fs)) left read (subst P (sym (layouts-read fs)) named.slim) (plain-clear fs)
+    all_read v (stored_fields fs) (max_fields - roses_size (kids_of fs)) left read (subst P (sym (layouts-read fs)) named.slim) (plain-clear fs)
 
-endianness-read : (t : Table) → NodeHeld t.bytes (slot_of t slot.endianness) (number 2 0) → endianness_of t ≡ Ok tt
-unfolding endianness_of
-endianness-read t h = rw (signed-read w16 0 t slot.endianness h) refl
+endianness-read : (t : Table) → NodeHeld t.bytes (slot_of t schema_fbs.endianness) (number 2 schema_fbs.little_endian) → endianness_of t ≡ Ok tt
+unfolding endianness_of short_of
+endianness-read t h = rw (signed-read w16 schema_fbs.little_endian t schema_fbs.endianness h) refl
 
 pub schema-read :
     (t : Table) (fs : List (Rose LogicalField)) → AreColumns fs → AreNamed fs → Held t.bytes (slot_of t) 0 (schema_slots (kids_of fs))
     → schema_of t ≡ Ok (stored_fields fs)
 unfolding schema_of
 schema-read t fs columns named h =
-    let r = vector-read (field_tables (kids_of fs)) t slot.fields h.1.0 in
+    let r = vector-read (field_tables (kids_of fs)) t schema_fbs.fields h.1.0 in
     let v : Vector = record { bytes = t.bytes; start = r.start; count = count (field_tables (kids_of fs)) } in
     let read : columns_of v ≡ Ok (stored_fields fs) = columns-read v fs refl columns named r.elements in
     rw (endianness-read t h.0, r.is, read) refl
 
-version-read : (t : Table) → NodeHeld t.bytes (slot_of t 0) (number 2 4) → version_of t ≡ Ok tt
-unfolding version_of
-version-read t h = rw (signed-read w16 4 t 0 h) refl
+version-read : (t : Table) → NodeHeld t.bytes (slot_of t message_fbs.version) (number 2 schema_fbs.v5) → version_of t ≡ Ok tt
+unfolding version_of short_of
+version-read t h = rw (signed-read w16 schema_fbs.v5 t message_fbs.version h) refl
 
-kind-read : (t : Table) (k : MessageKind) → NodeHeld t.bytes (slot_of t 1) (number 1 (header_number k)) → kind_of t ≡ Ok k
+kind-read : (t : Table) (k : MessageKind) → NodeHeld t.bytes (slot_of t message_fbs.header_kind) (number 1 (header_number k)) → kind_of t ≡ Ok k
 unfolding kind_of
-kind-read t kind.Schema h = rw (number-read 1 1 t 1 h) refl
-kind-read t kind.Dictionary h = rw (number-read 1 2 t 1 h) refl
-kind-read t kind.Batch h = rw (number-read 1 3 t 1 h) refl
+kind-read t kind.Schema h = rw (number-read 1 message_fbs.header_schema t message_fbs.header_kind h) refl
+kind-read t kind.Dictionary h = rw (number-read 1 message_fbs.header_dictionary_batch t message_fbs.header_kind h) refl
+kind-read t kind.Batch h = rw (number-read 1 message_fbs.header_record_batch t message_fbs.header_kind h) refl
 
-body-read : (t : Table) (n : ℕ) → n ≤ 2 ^ 28 → NodeHeld t.bytes (slot_of t 3) (number 8 n) → body_of t ≡ Ok n
+body-read : (t : Table) (n : ℕ) → n ≤ max_body_size → NodeHeld t.bytes (slot_of t message_fbs.body_length) (number 8 n) → body_of t ≡ Ok n
 unfolding body_of
 body-read t n le h =
     let small : n < 2 ^ 63 = omega arith in
-    rw (signed-read w64 n t 3 h, to_z_pos w64 n small, le-leb n (2 ^ 28) le) refl
+    rw (signed-read w64 n t message_fbs.body_length h, to_z_pos w64 n small, le-leb n max_body_size le) refl
 
-header-read : (t h : Table) → subtable_of t 2 ≡ Some (Some h) → header_table t ≡ Ok h
+header-read : (t h : Table) → subtable_of t message_fbs.header ≡ Some (Some h) → header_table t ≡ Ok h
 unfolding header_table
 header-read t h e = rw e refl
 
 -- What the header means under its kind is what the metadata means.
-meta-held : (known : Known) (b : List ℕ) (k : MessageKind) (header : Nodes) (body : ℕ) (m : Meta) → body ≤ 2 ^ 28 → RootHeld b (message_slots k header body) →
+meta-held : (known : Known) (b : List ℕ) (k : MessageKind) (header : Nodes) (body : ℕ) (m : Meta) → body ≤ max_body_size → RootHeld b (message_slots k header body) →
     ((t h : Table) → header_table t ≡ Ok h → Held h.bytes (slot_of h) 0 header → ((i : ℕ) → count header ≤ i → slot_of h i ≡ Some None) → header_of known t k body ≡ Ok m) →
     meta_of known b ≡ Ok m
 unfolding meta_of
 meta-held known b k header body m le r means =
     let t : Table = table_in b r.place in
     let held = r.held in
-    let h = subtable-read header t 2 held.1.1.0 in
+    let h = subtable-read header t message_fbs.header held.1.1.0 in
     let meant : header_of known t k body ≡ Ok m = means t (table_in b h.place) (header-read t (table_in b h.place) h.is) h.slots h.beyond in
     rw (r.found, kind-read t k held.1.0, version-read t held.0, body-read t body le held.1.1.1.0, meant) refl
 
-pub meta-read : (known : Known) (k : MessageKind) (header : Nodes) (body : ℕ) (m : Meta) → body ≤ 2 ^ 28 → IsWritable (message_slots k header body) →
+pub meta-read : (known : Known) (k : MessageKind) (header : Nodes) (body : ℕ) (m : Meta) → body ≤ max_body_size → IsWritable (message_slots k header body) →
     ((t h : Table) → header_table t ≡ Ok h → Held h.bytes (slot_of h) 0 header → ((i : ℕ) → count header ≤ i → slot_of h i ≡ Some None) → header_of known t k body ≡ Ok m) →
     meta_of known (whole (message_slots k header body)) ≡ Ok m
 meta-read known k header body m le fits means =

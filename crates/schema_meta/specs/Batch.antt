@@ -1,8 +1,9 @@
 -- The header of a record batch: Message.fbs, `RecordBatch`, with its structs `FieldNode` and `Buffer`.
-use Rattle.std.specs.Prelude.{ℕ, Bool, true, ◌&&◌, nat_lt, ◌+◌, ◌*◌, ◌^◌, List, [], length, drop, Ok, Err, is_some, nat_le, ◌==◌, if◌then◌else◌, unwrap_or}
+use Rattle.std.specs.Prelude.{ℕ, Bool, true, ◌&&◌, ◌+◌, ◌*◌, List, [], length, drop, Ok, Err, is_some, nat_le, ◌==◌, if◌then◌else◌, unwrap_or}
 use Rattle.std.specs.Int.{w64, cast_signed}
 use Rattle.byteorder.specs.Endian.{little_number}
 use Rattle.flatbuf.specs.Layout.{Table, slot_of, structs_of}
+use Rattle.values.specs.Limits.{max_batch_length, max_node_length}
 use Rattle.values.specs.declared.faults.StreamFault.{StreamFault}
 use Rattle.values.specs.declared.faults.StreamFault.TheVariants as fault
 use Rattle.values.specs.Reading.{Reading, ◌>>=◌, both, second, must, one, refused_if, each}
@@ -14,6 +15,7 @@ use Rattle.array_layout.specs.declared.array.Span.{Span}
 use Rattle.array_layout.specs.Placing.{node_at, spans_below}
 use Rattle.schema_meta.specs.BatchHead.{BatchHead}
 use Rattle.schema_meta.specs.Counts.{count_in}
+use Rattle.schema_meta.specs.MessageFbs as fbs
 
 -- the number of 64 bits at a place
 unfoldable pub word_at : List ℕ → ℕ → ℕ
@@ -25,7 +27,7 @@ node_made bytes place = record { length = word_at bytes place; nulls = cast_sign
 
 unfoldable pub node_of : List ℕ → ℕ → Reading Node
 node_of bytes i =
-    if nat_lt (word_at bytes (16 * i)) (2 ^ 31) then Ok (node_made bytes (16 * i)) else Err (one fault.BadLength)
+    if nat_le (word_at bytes (16 * i)) max_node_length then Ok (node_made bytes (16 * i)) else Err (one fault.BadLength)
 
 -- A buffer is two numbers of 64 bits: a place in the body, and a length. It lies within the body, which no negative
 -- number does when it is read without a sign.
@@ -43,7 +45,7 @@ abbrev pub structs_in : StreamFault → ℕ → Table → ℕ → Reading (List 
 structs_in c n t slot = must fault.BadTable (structs_of 16 t slot) >>= λ found. counted c n (unwrap_or found [])
 
 unfoldable pub rows_of : Table → Reading ℕ
-rows_of t = count_in fault.BadLength (2 ^ 24) t 0
+rows_of t = count_in fault.BadLength max_batch_length t fbs.batch_length
 
 unfoldable pub nodes_in : ℕ → List ℕ → Reading (List Node)
 nodes_in n bytes = each (node_of bytes) 0 n
@@ -77,17 +79,17 @@ fitting rows ls nodes = if lengths_fit rows ls nodes then Ok nodes else Err (one
 
 -- Lengths are judged by place where the number of nodes is right.
 unfoldable pub nodes_of : Roses Layout → ℕ → Table → Reading (List Node)
-nodes_of ls rows t = structs_in fault.NodeCount (roses_size ls) t 1 >>= nodes_in (roses_size ls) >>= fitting rows ls
+nodes_of ls rows t = structs_in fault.NodeCount (roses_size ls) t fbs.nodes >>= nodes_in (roses_size ls) >>= fitting rows ls
 
 unfoldable pub spans_in : ℕ → ℕ → List ℕ → Reading (List Span)
 spans_in n body bytes = each (span_of body bytes) 0 n
 
 unfoldable pub spans_of : ℕ → ℕ → Table → Reading (List Span)
-spans_of n body t = structs_in fault.BufferCount n t 2 >>= spans_in n body
+spans_of n body t = structs_in fault.BufferCount n t fbs.buffers >>= spans_in n body
 
 -- Of compression only the presence is read.
 unfoldable pub plain : Table → Reading (Unit {0})
-plain t = must fault.BadTable (slot_of t 3) >>= λ place. refused_if fault.Compressed (is_some place)
+plain t = must fault.BadTable (slot_of t fbs.compression) >>= λ place. refused_if fault.Compressed (is_some place)
 
 abbrev pub batch : ℕ → List Node → List Span → BatchHead
 batch rows nodes spans = record { rows = rows; nodes = nodes; spans = spans }

@@ -1,10 +1,9 @@
 -- Fields of metadata tables.
-use Rattle.std.specs.Prelude.{ℕ, ℤ, pos, negsuc, Ok, Err, nat_le, if◌then◌else◌, unwrap_or}
-use Rattle.std.specs.Int.{w64}
-use Rattle.flatbuf.specs.Layout.{Table, signed_of}
+use Rattle.std.specs.Prelude.{ℕ, ℤ, pos, negsuc, Ok, Err, nat_le, if◌then◌else◌}
+use Rattle.flatbuf.specs.Layout.{Table}
 use Rattle.values.specs.declared.faults.StreamFault.{StreamFault}
-use Rattle.values.specs.declared.faults.StreamFault.TheVariants as fault
-use Rattle.values.specs.Reading.{Reading, ◌>>=◌, must, one}
+use Rattle.values.specs.Reading.{Reading, ◌>>=◌, one}
+use Rattle.field_types.specs.Reads.{long_of}
 
 -- a number that must lie between 0 and this one
 abbrev pub within : StreamFault → ℕ → ℤ → Reading ℕ
@@ -13,4 +12,4 @@ within c most (negsuc n) = Err (one c)
 
 -- a count in a slot of 64 bits, 0 where it is absent
 abbrev pub count_in : StreamFault → ℕ → Table → ℕ → Reading ℕ
-count_in c most t slot = must fault.BadTable (signed_of w64 t slot) >>= λ found. within c most (unwrap_or found (pos 0))
+count_in c most t slot = long_of t slot >>= within c most

@@ -1,15 +1,15 @@
 -- The header of a dictionary batch: Message.fbs, `DictionaryBatch`. Its record batch has one column, of the values.
-use Rattle.std.specs.Prelude.{ℕ, ℤ, pos, Bool, ◌+◌, ◌^◌, List, unwrap_or, if◌then◌else◌, nat_le}
-use Rattle.std.specs.Int.{w64}
+use Rattle.std.specs.Prelude.{ℕ, ℤ, Bool, ◌+◌, List, unwrap_or, if◌then◌else◌, nat_le}
 use Rattle.std.specs.Map.{lookup}
 use Rattle.std.specs.Ordering.{int_eq}
 use Rattle.indexmap.specs.IndexMap.{insert_entry}
-use Rattle.flatbuf.specs.Layout.{Table, signed_of, subtable_of}
+use Rattle.flatbuf.specs.Layout.{Table, subtable_of}
+use Rattle.values.specs.Limits.{max_dictionary_values}
 use Rattle.values.specs.declared.faults.StreamFault.TheVariants as fault
 use Rattle.values.specs.declared.layout.Layout.{Layout}
-use Rattle.values.specs.Reading.{Reading, ◌>>=◌, both, mapped, must}
+use Rattle.values.specs.Reading.{Reading, ◌>>=◌, both, must}
 use Rattle.values.specs.Rose.{Rose, node, Roses, none, more}
-use Rattle.field_types.specs.Reads.{bool_of, checked, or_default, readable}
+use Rattle.field_types.specs.Reads.{bool_of, checked, long_of, readable}
 use Rattle.values.specs.ColTypes.{layout_of as layout_by}
 use Rattle.values.specs.declared.col_type.ColType.{ColType}
 use Rattle.schema_meta.specs.Entry.{Entry}
@@ -19,6 +19,7 @@ use Rattle.schema_meta.specs.declared.header.Header.{Header}
 use Rattle.schema_meta.specs.declared.header.Header.TheVariants as header
 use Rattle.schema_meta.specs.BatchHead.{BatchHead}
 use Rattle.schema_meta.specs.Batch.{batch_of}
+use Rattle.schema_meta.specs.MessageFbs as fbs
 
 -- how values of this type lie in the body of a dictionary batch
 abbrev pub value_layout : ColType → Rose Layout
@@ -46,19 +47,19 @@ dictionary id is_delta batch = record { id = id; is_delta = is_delta; batch = ba
 
 -- an absent id is 0
 unfoldable pub id_of : Table → Reading ℤ
-id_of t = mapped (or_default (pos 0)) (readable (signed_of w64 t 0))
+id_of t = long_of t fbs.dictionary_id
 
 -- the table of its record batch, which must be there
 unfoldable pub data_of : Table → Reading Table
-data_of t = readable (subtable_of t 1) >>= must fault.BadTable
+data_of t = readable (subtable_of t fbs.batch_data) >>= must fault.BadTable
 
 -- A dictionary has at most 2^20 values.
 abbrev pub limited : List (ℤ × ℕ) → DictionaryHeader → Reading DictionaryHeader
-limited counts d = checked fault.DictionaryTooLarge (nat_le (count_after counts d.id d.is_delta d.batch.rows) (2 ^ 20)) d
+limited counts d = checked fault.DictionaryTooLarge (nat_le (count_after counts d.id d.is_delta d.batch.rows) max_dictionary_values) d
 
 -- the header of a batch of values of this type
 unfoldable pub values_batch : ℕ → Table → ℤ → ColType → Reading DictionaryHeader
-values_batch body t id s = both (dictionary id) (bool_of t 2) (data_of t >>= batch_of (value_layouts s) body)
+values_batch body t id s = both (dictionary id) (bool_of t fbs.is_delta) (data_of t >>= batch_of (value_layouts s) body)
 
 -- The id must be that of a field.
 unfoldable pub dictionary_of : List (Rose Entry) → List (ℤ × ℕ) → ℕ → Table → Reading DictionaryHeader

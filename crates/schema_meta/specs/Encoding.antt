@@ -1,22 +1,21 @@
 -- Apache Arrow Schema.fbs, table DictionaryEncoding: which dictionary a field's slots are indices into.
 use Rattle.std.specs.Prelude.{ℤ, pos, Bool, true, false, Option, None, Some, Ok}
-use Rattle.std.specs.Int.{w64}
 use Rattle.std.specs.Ordering.{int_eq}
-use Rattle.flatbuf.specs.Layout.{Table, signed_of, subtable_of}
+use Rattle.flatbuf.specs.Layout.{Table, subtable_of}
 use Rattle.values.specs.Reading.{Reading, ◌>>=◌, both, first, second, mapped}
 use Rattle.values.specs.declared.faults.StreamFault.TheVariants as fault
 use Rattle.values.specs.declared.layout.IntWidth.TheVariants as int
 use Rattle.field_types.specs.declared.kinds.TypeKind.{TypeKind}
 use Rattle.field_types.specs.declared.kinds.TypeKind.TheVariants as kind
 use Rattle.field_types.specs.declared.index.IndexType.{IndexType}
-use Rattle.field_types.specs.Reads.{readable, needs, or_default, short_of}
+use Rattle.field_types.specs.Reads.{readable, needs, long_of, short_of}
 use Rattle.field_types.specs.Types.{index_of}
 use Rattle.schema_meta.specs.declared.coding.Coding.{Coding}
-use Rattle.schema_meta.specs.Slots as slot
+use Rattle.field_types.specs.SchemaFbs as fbs
 
 -- An absent id is 0.
 unfoldable pub id_of : Table → Reading ℤ
-id_of t = mapped (or_default (pos 0)) (readable (signed_of w64 t slot.dictionary_id))
+id_of t = long_of t fbs.dictionary_id
 
 -- Where no index type is said, indices have 32 bits and a sign.
 abbrev pub index_in : Option Table → Reading IndexType
@@ -24,11 +23,11 @@ index_in None = Ok (record { width = int.Bits32; signed = true })
 index_in (Some t) = index_of t
 
 unfoldable pub index_type_of : Table → Reading IndexType
-index_type_of t = readable (subtable_of t slot.index_type) >>= index_in
+index_type_of t = readable (subtable_of t fbs.index_type) >>= index_in
 
 -- enum DictionaryKind has 0, DenseArray, alone
 unfoldable pub dense_of : Table → Reading (Unit {0})
-dense_of t = short_of t slot.dictionary_kind (pos 0) >>= λ k. needs fault.UnsupportedType (int_eq k (pos 0))
+dense_of t = short_of t fbs.dictionary_kind (pos 0) >>= λ k. needs fault.UnsupportedType (int_eq k (pos fbs.dense_array))
 
 abbrev pub coding : ℤ → IndexType → Coding
 coding id index = record { id = id; index = index }
@@ -48,4 +47,4 @@ coded_by k (Some t) = both second (needs fault.UnsupportedType (may_be_coded k))
 
 -- the dictionary of a field of this kind, if it has one
 unfoldable pub coding_of : TypeKind → Table → Reading (Option Coding)
-coding_of k t = readable (subtable_of t slot.dictionary) >>= coded_by k
+coding_of k t = readable (subtable_of t fbs.dictionary) >>= coded_by k

@@ -1,5 +1,6 @@
 -- How the columns of a schema lie in memory.
-use Rattle.std.specs.Prelude.{Bool, true, List, Option, None, Some, ◌&&◌, ◌^◌, nat_le}
+use Rattle.std.specs.Prelude.{Bool, true, List, Option, None, Some, ◌&&◌, nat_le}
+use Rattle.values.specs.Limits.{max_slot}
 use Rattle.values.specs.Rose.{Rose, node, Roses, none, more, kids_of}
 use Rattle.values.specs.Layouts.{slot}
 use Rattle.values.specs.declared.layout.Layout.{Layout}
@@ -46,7 +47,7 @@ slot_layouts_of fields = slot_layouts_below (kids_of fields)
 -- no slot, at any level, is above 2^20
 abbrev mutual
   pub is_slim : Rose Layout → Bool
-  is_slim (node l kids) = nat_le (slot (node l kids)) (2 ^ 20) && are_slim kids
+  is_slim (node l kids) = nat_le (slot (node l kids)) max_slot && are_slim kids
 
   pub are_slim : Roses Layout → Bool
   are_slim none = true

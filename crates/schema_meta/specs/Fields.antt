@@ -3,6 +3,7 @@
 use Rattle.std.specs.Prelude.{ℕ, zero, suc, Bool, ◌&&◌, Option, None, Some, Ok, Err, List, [], length, nat_le, ◌==◌, if◌then◌else◌}
 use Rattle.std.specs.Str.{is_utf8}
 use Rattle.flatbuf.specs.Layout.{Table, Vector, text_of, vector_of, entry_of}
+use Rattle.values.specs.Limits.{max_name_len}
 use Rattle.values.specs.Reading.{Reading, ◌>>=◌, both, second, each, one}
 use Rattle.values.specs.Rose.{Rose, node, kids_of}
 use Rattle.values.specs.declared.faults.StreamFault.TheVariants as fault
@@ -11,21 +12,21 @@ use Rattle.values.specs.declared.col_type.ColType.{ColType}
 use Rattle.schema_meta.specs.declared.coding.Coding.{Coding}
 use Rattle.schema_meta.specs.Entry.{Entry}
 use Rattle.schema_meta.specs.Encoding.{coding_of}
-use Rattle.schema_meta.specs.Slots as slot
+use Rattle.field_types.specs.SchemaFbs as fbs
 use Rattle.field_types.specs.Reads.{readable, checked, needs, bool_of}
 use Rattle.field_types.specs.Kinds.{kind_of, may_have}
 use Rattle.field_types.specs.Types.{type_of}
 
 -- A name is UTF-8 of at most 4,096 bytes. An absent one is empty.
 abbrev pub checked_name : List ℕ → Reading (List ℕ)
-checked_name bytes = checked fault.BadName (nat_le (length bytes) 4096 && is_utf8 bytes) bytes
+checked_name bytes = checked fault.BadName (nat_le (length bytes) max_name_len && is_utf8 bytes) bytes
 
 abbrev pub name_in : Option (List ℕ) → Reading (List ℕ)
 name_in None = Ok []
 name_in (Some bytes) = checked_name bytes
 
 unfoldable pub name_of : Table → Reading (List ℕ)
-name_of t = readable (text_of t slot.name) >>= name_in
+name_of t = readable (text_of t fbs.name) >>= name_in
 
 -- An absent vector is an empty one.
 abbrev pub count_in : Option Vector → ℕ
@@ -39,7 +40,7 @@ fields_in below (Some v) = below v
 -- the children of a field of this kind, where `below` reads a vector of fields
 unfoldable pub children_of : (Vector → Reading (List (Rose Entry))) → TypeKind → Table → Reading (List (Rose Entry))
 children_of below k t = do
-  v ← readable (vector_of t slot.children)
+  v ← readable (vector_of t fbs.children)
   both second (needs fault.BadType (may_have k (count_in v))) (fields_in below v)
 
 -- the parts of a field that its kind doesn't bear on, and those that it does
@@ -69,7 +70,7 @@ field l c =
     node (record { name = l.name; nullable = l.nullable; stored = c.storage.stored; coding = c.storage.coding }) (kids_of c.children)
 
 unfoldable pub label_of : Table → Reading Label
-label_of t = both label (name_of t) (bool_of t slot.nullable)
+label_of t = both label (name_of t) (bool_of t fbs.nullable)
 
 -- Where the kind can't be read, or isn't taken, that is the fault, and nothing that it bears on is read.
 unfoldable pub content_of : (Vector → Reading (List (Rose Entry))) → Table → Reading Content
@@ -91,7 +92,7 @@ children_by (Err fs) v = None
 
 abbrev pub children_at : Option Table → Option Vector
 children_at None = None
-children_at (Some t) = children_by (kind_of t) (vector_of t slot.children)
+children_at (Some t) = children_by (kind_of t) (vector_of t fbs.children)
 
 unfoldable pub child_at : Vector → ℕ → Option Vector
 child_at v i = children_at (entry_of v i)

@@ -2,6 +2,7 @@
 use Rattle.std.specs.Prelude.{◌≡◌, ◌≤◌, true, List, Option, None, Some, Ok, length, map}
 use Rattle.std.specs.Str.{is_utf8}
 use Rattle.flatbuf.specs.Layout.{Table}
+use Rattle.values.specs.Limits.{max_fields, max_name_len}
 use Rattle.values.specs.Rose.{Rose, node, Roses, none, more, kids_of, roses_size}
 use Rattle.values.specs.Layouts.{AreLayouts}
 use Rattle.values.specs.ColTypes.{IsSingle, IsType}
@@ -22,7 +23,7 @@ IsCoded (Some c) s = IsSingle s
 -- names that are short texts, and types within their bounds, at all levels
 abbrev mutual
   pub IsGoodField : Rose Entry → Type 0
-  IsGoodField (node e kids) = (length e.name ≤ 4096) × (is_utf8 e.name ≡ true) × IsType e.stored × IsCoded e.coding e.stored × AreGoodFields kids
+  IsGoodField (node e kids) = (length e.name ≤ max_name_len) × (is_utf8 e.name ≡ true) × IsType e.stored × IsCoded e.coding e.stored × AreGoodFields kids
 
   pub AreGoodFields : Roses Entry → Type 0
   AreGoodFields none = Unit {0}
@@ -30,7 +31,7 @@ abbrev mutual
 
 -- They are few at all levels, each has the children that its layout wants, no slot is too large, and no ids of dictionaries clash.
 pub record AreFields (fields : List (Rose Entry)) : Type 0 where
-  pub few : roses_size (kids_of fields) ≤ 1024
+  pub few : roses_size (kids_of fields) ≤ max_fields
   pub layouts : AreLayouts (layouts_of fields)
   pub slots : AreLayouts (slot_layouts_of fields)
   pub slim : are_slim (layouts_of fields) ≡ true

@@ -1,7 +1,8 @@
 -- Framing: Arrow Columnar Format, "Encapsulated message format" and "IPC Streaming Format". A message is four bytes FF, the size of
 -- the metadata in 32 bits, the metadata, and the body, whose length the metadata says. The size 0 marks the end of the stream.
-use Rattle.std.specs.Prelude.{ℕ, ◌+◌, ◌^◌, Ok, Err, List, length, drop, slice_range, Option, None, Some, is_some, nat_lt, nat_le, ◌==◌, if◌then◌else◌}
+use Rattle.std.specs.Prelude.{ℕ, ◌+◌, Ok, Err, List, length, drop, slice_range, Option, None, Some, is_some, nat_lt, nat_le, ◌==◌, if◌then◌else◌}
 use Rattle.byteorder.specs.Endian.{little_number}
+use Rattle.values.specs.Limits.{max_metadata_size}
 use Rattle.values.specs.declared.faults.StreamFault.TheVariants as fault
 use Rattle.values.specs.Reading.{Reading, ◌>>=◌, both, second, one}
 use Rattle.schema_meta.specs.Stage.{Known, Meta, Whole, end_meta}
@@ -13,7 +14,7 @@ mark_of mark = if mark == 4294967295 then Ok tt else Err (one fault.NoContinuati
 
 -- A negative size is above 2^31 when it is read without a sign.
 abbrev pub size_of : ℕ → Reading ℕ
-size_of size = if nat_le size (2 ^ 24) then Ok size else Err (one fault.BadSize)
+size_of size = if nat_le size max_metadata_size then Ok size else Err (one fault.BadSize)
 
 -- the metadata's size, by the first two numbers of a message
 unfoldable pub framed : ℕ → ℕ → Reading ℕ

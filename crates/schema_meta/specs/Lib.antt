@@ -1,5 +1,5 @@
 pub mod Entry
-pub mod Slots
+pub mod MessageFbs
 pub mod Fields
 pub mod Totals
 pub mod Schema

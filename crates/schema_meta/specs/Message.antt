@@ -1,10 +1,10 @@
 -- The metadata of a message: Message.fbs, table `Message`.
 -- Not every fault that could be named is collected: what is left out stands only beside one that is kept, so the same
 -- metadata is read.
-use Rattle.std.specs.Prelude.{ℕ, ◌^◌, pos, Ok, Err, List, Option, None, Some, is_some, unwrap_or, ◌==◌, if◌then◌else◌}
-use Rattle.std.specs.Int.{w16}
+use Rattle.std.specs.Prelude.{ℕ, pos, Ok, Err, List, Option, None, Some, is_some, ◌==◌, if◌then◌else◌}
 use Rattle.std.specs.Ordering.{int_eq}
-use Rattle.flatbuf.specs.Layout.{Table, root_of, number_of, signed_of, subtable_of}
+use Rattle.flatbuf.specs.Layout.{Table, root_of, subtable_of}
+use Rattle.values.specs.Limits.{max_body_size}
 use Rattle.values.specs.declared.faults.StreamFault.TheVariants as fault
 use Rattle.values.specs.Reading.{Reading, ◌>>=◌, both, second, must, one, refused_if, mapped}
 use Rattle.values.specs.Rose.{Rose}
@@ -22,27 +22,31 @@ use Rattle.schema_meta.specs.FieldLayouts.{slot_layouts_of}
 use Rattle.schema_meta.specs.declared.header.DictionaryHeader.{DictionaryHeader}
 use Rattle.schema_meta.specs.Stage.{Known, Meta}
 use Rattle.schema_meta.specs.SameColumns.{is_declared}
+use Rattle.field_types.specs.Reads.{byte_of, needs, short_of}
+use Rattle.field_types.specs.SchemaFbs as schema_fbs
+use Rattle.schema_meta.specs.MessageFbs as fbs
 
 -- Only V5 is read. An absent version is V1.
 unfoldable pub version_of : Table → Reading (Unit {0})
-version_of t =
-    must fault.BadTable (signed_of w16 t 0) >>= λ v. if int_eq (unwrap_or v (pos 0)) (pos 4) then Ok tt else Err (one fault.Version)
+version_of t = short_of t fbs.version (pos 0) >>= λ v. needs fault.Version (int_eq v (pos schema_fbs.v5))
 
 abbrev pub known_kind : ℕ → Reading MessageKind
 known_kind n =
-    if n == 1 then Ok kind.Schema
-    else (if n == 2 then Ok kind.Dictionary else (if n == 3 then Ok kind.Batch else Err (one fault.HeaderKind)))
+    if n == fbs.header_schema then Ok kind.Schema
+    else if n == fbs.header_dictionary_batch then Ok kind.Dictionary
+    else if n == fbs.header_record_batch then Ok kind.Batch
+    else Err (one fault.HeaderKind)
 
 -- the kind of the header
 unfoldable pub kind_of : Table → Reading MessageKind
-kind_of t = must fault.BadTable (number_of 1 t 1) >>= λ n. known_kind (unwrap_or n 0)
+kind_of t = byte_of t fbs.header_kind >>= known_kind
 
 -- the header's own table, which must be there
 unfoldable pub header_table : Table → Reading Table
-header_table t = must fault.BadTable (subtable_of t 2) >>= must fault.BadTable
+header_table t = must fault.BadTable (subtable_of t fbs.header) >>= must fault.BadTable
 
 unfoldable pub body_of : Table → Reading ℕ
-body_of t = count_in fault.BodySize (2 ^ 28) t 3
+body_of t = count_in fault.BodySize max_body_size t fbs.body_length
 
 abbrev pub brings_schema : ℕ → List (Rose Entry) → Meta
 brings_schema body fields = record { header = header.Schema; body = body; schema = Some fields }

@@ -1,13 +1,14 @@
 -- The faults of a schema by paths of slots: each path from the schema's table down is read by itself.
 use Rattle.std.specs.Prelude.{◌≡◌, ℕ, ◌<◌, false, Option, None, Some, Ok, List, [], ◌∷◌, length}
 use Rattle.flatbuf.specs.Layout.{Table, Vector, vector_of, entry_of}
+use Rattle.values.specs.Limits.{max_fields, max_depth}
 use Rattle.values.specs.Reading.{Stands}
 use Rattle.values.specs.declared.faults.StreamFault.{StreamFault}
 use Rattle.values.specs.declared.faults.StreamFault.TheVariants as fault
 use Rattle.field_types.specs.declared.kinds.TypeKind.{TypeKind}
 use Rattle.values.specs.Rose.{Rose}
 use Rattle.schema_meta.specs.Entry.{Entry}
-use Rattle.schema_meta.specs.Slots as slot
+use Rattle.field_types.specs.SchemaFbs as fbs
 use Rattle.field_types.specs.Reads.{readable, bool_of}
 use Rattle.field_types.specs.Kinds.{kind_of, may_have}
 use Rattle.field_types.specs.Types.{type_of}
@@ -21,13 +22,13 @@ use Rattle.schema_meta.specs.Schema.{endianness_of, schema_of}
 -- The fault is one of a slot of the field's own table.
 pub data FaultOfField (t : Table) (c : StreamFault) : Type 0 where
   in_name : Stands (name_of t) c → FaultOfField t c
-  in_nullable : Stands (bool_of t slot.nullable) c → FaultOfField t c
+  in_nullable : Stands (bool_of t fbs.nullable) c → FaultOfField t c
   in_kind : Stands (kind_of t) c → FaultOfField t c
   in_type : (k : TypeKind) → kind_of t ≡ Ok k → Stands (type_of k t) c → FaultOfField t c
   in_dictionary : (k : TypeKind) → kind_of t ≡ Ok k → Stands (coding_of k t) c → FaultOfField t c
-  in_children : (k : TypeKind) → kind_of t ≡ Ok k → Stands (readable (vector_of t slot.children)) c → FaultOfField t c
+  in_children : (k : TypeKind) → kind_of t ≡ Ok k → Stands (readable (vector_of t fbs.children)) c → FaultOfField t c
   in_number :
-      (k : TypeKind) (v : Option Vector) → kind_of t ≡ Ok k → vector_of t slot.children ≡ Some v → may_have k (count_in v) ≡ false
+      (k : TypeKind) (v : Option Vector) → kind_of t ≡ Ok k → vector_of t fbs.children ≡ Some v → may_have k (count_in v) ≡ false
       → fault.BadType ≡ c → FaultOfField t c
 
 abbrev pub FaultOfEntry : Option Table → StreamFault → Type 0
@@ -60,16 +61,16 @@ pub record IsDeeper (depth : ℕ) (v : Vector) : Type 0 where
 -- The faults of the columns: those by paths, too many fields by their counts or by their depth, and where all fields are known a slot that
 -- is too large, and dictionaries of one id with different types.
 pub data FaultOfColumns (v : Vector) (c : StreamFault) : Type 0 where
-  by_path : StandsBelow 16 v c → FaultOfColumns v c
-  by_depth : IsDeeper 16 v → fault.TooManyFields ≡ c → FaultOfColumns v c
-  by_count : 1024 < total 16 v → fault.TooManyFields ≡ c → FaultOfColumns v c
-  by_slot : (fs : List (Rose Entry)) → forest 16 v ≡ Ok fs → are_slim (layouts_of fs) ≡ false → fault.BadType ≡ c → FaultOfColumns v c
-  by_clash : (fs : List (Rose Entry)) → forest 16 v ≡ Ok fs → is_clear fs ≡ false → fault.DictionaryClash ≡ c → FaultOfColumns v c
+  by_path : StandsBelow max_depth v c → FaultOfColumns v c
+  by_depth : IsDeeper max_depth v → fault.TooManyFields ≡ c → FaultOfColumns v c
+  by_count : max_fields < total max_depth v → fault.TooManyFields ≡ c → FaultOfColumns v c
+  by_slot : (fs : List (Rose Entry)) → forest max_depth v ≡ Ok fs → are_slim (layouts_of fs) ≡ false → fault.BadType ≡ c → FaultOfColumns v c
+  by_clash : (fs : List (Rose Entry)) → forest max_depth v ≡ Ok fs → is_clear fs ≡ false → fault.DictionaryClash ≡ c → FaultOfColumns v c
 
 pub data FaultOfSchema (t : Table) (c : StreamFault) : Type 0 where
   in_endianness : Stands (endianness_of t) c → FaultOfSchema t c
-  in_fields : Stands (readable (vector_of t slot.fields)) c → FaultOfSchema t c
-  in_columns : (v : Vector) → vector_of t slot.fields ≡ Some (Some v) → FaultOfColumns v c → FaultOfSchema t c
+  in_fields : Stands (readable (vector_of t fbs.fields)) c → FaultOfSchema t c
+  in_columns : (v : Vector) → vector_of t fbs.fields ≡ Some (Some v) → FaultOfColumns v c → FaultOfSchema t c
 
 -- A fault is in the schema's reading exactly where it stands by a path.
 abbrev pub FoundByPaths : Type 0

@@ -1,14 +1,14 @@
 -- Apache Arrow Schema.fbs, table Schema: what it means, and the faults that stand in it.
-use Rattle.std.specs.Prelude.{pos, List, unwrap_or, nat_le}
-use Rattle.std.specs.Int.{w16}
+use Rattle.std.specs.Prelude.{pos, List, nat_le}
 use Rattle.std.specs.Ordering.{int_eq}
-use Rattle.flatbuf.specs.Layout.{Table, Vector, signed_of, vector_of}
+use Rattle.flatbuf.specs.Layout.{Table, Vector, vector_of}
+use Rattle.values.specs.Limits.{max_fields, max_depth}
 use Rattle.values.specs.Reading.{Reading, ◌>>=◌, both, second}
 use Rattle.values.specs.Rose.{Rose}
 use Rattle.values.specs.declared.faults.StreamFault.TheVariants as fault
 use Rattle.schema_meta.specs.Entry.{Entry}
-use Rattle.schema_meta.specs.Slots as slot
-use Rattle.field_types.specs.Reads.{readable, needs, checked}
+use Rattle.field_types.specs.SchemaFbs as fbs
+use Rattle.field_types.specs.Reads.{readable, needs, checked, short_of}
 use Rattle.schema_meta.specs.FieldLayouts.{layouts_of, are_slim}
 use Rattle.schema_meta.specs.Dictionaries.{is_clear}
 use Rattle.schema_meta.specs.Fields.{forest, fields_in}
@@ -17,7 +17,7 @@ use Rattle.schema_meta.specs.Totals.{total}
 -- The numbers of the bodies are little endian, which is 0. An absent one is 0.
 unfoldable pub endianness_of : Table → Reading (Unit {0})
 endianness_of t =
-    readable (signed_of w16 t slot.endianness) >>= λ e. needs fault.BigEndian (int_eq (unwrap_or e (pos 0)) (pos 0))
+    short_of t fbs.endianness (pos 0) >>= λ e. needs fault.BigEndian (int_eq e (pos fbs.little_endian))
 
 -- The slots of fields, and whether ids clash, are judged where all types are known.
 unfoldable pub judged : List (Rose Entry) → Reading (List (Rose Entry))
@@ -26,7 +26,7 @@ judged fields =
 
 -- At most 1,024 fields at all levels, of at most 16 levels.
 unfoldable pub columns_of : Vector → Reading (List (Rose Entry))
-columns_of v = both second (needs fault.TooManyFields (nat_le (total 16 v) 1024)) (forest 16 v >>= judged)
+columns_of v = both second (needs fault.TooManyFields (nat_le (total max_depth v) max_fields)) (forest max_depth v >>= judged)
 
 unfoldable pub schema_of : Table → Reading (List (Rose Entry))
-schema_of t = both second (endianness_of t) (readable (vector_of t slot.fields) >>= fields_in columns_of)
+schema_of t = both second (endianness_of t) (readable (vector_of t fbs.fields) >>= fields_in columns_of)

@@ -2,9 +2,11 @@
 use Rattle.std.specs.Prelude.{ℕ, ◌≤◌, List, [], ◌∷◌, length}
 use Rattle.flatbuf.specs.Tree.{absent, number, text, table, references, Nodes, no_nodes, nodes_of, node as and_node}
 use Rattle.flatbuf.specs.Written.{whole}
+use Rattle.values.specs.Limits.{max_fields, max_name_len}
 use Rattle.values.specs.Rose.{Rose, node, Roses, none, more, kids_of, roses_size}
 use Rattle.values.specs.Logical.{LogicalField}
 use Rattle.values.specs.ColTypes.{IsType}
+use Rattle.field_types.specs.SchemaFbs as schema_fbs
 use Rattle.field_types.specs.TypeTree.{type_number, type_slots}
 use Rattle.schema_meta.specs.declared.header.MessageKind.TheVariants as kind
 use Rattle.schema_meta.specs.MessageTree.{message_slots}
@@ -22,7 +24,7 @@ abbrev mutual
 
 -- little endian, the fields
 abbrev pub schema_slots : Roses LogicalField → Nodes
-schema_slots fs = nodes_of (number 2 0 ∷ references (field_tables fs) ∷ [])
+schema_slots fs = nodes_of (number 2 schema_fbs.little_endian ∷ references (field_tables fs) ∷ [])
 
 -- the metadata of the Schema message
 unfoldable pub schema_metadata : List (Rose LogicalField) → List ℕ
@@ -31,7 +33,7 @@ schema_metadata fs = whole (message_slots kind.Schema (schema_slots (kids_of fs)
 -- names that are short enough, and types within their bounds, at all levels
 abbrev mutual
   pub IsWithin : Rose LogicalField → Type 0
-  IsWithin (node f kids) = (length f.name ≤ 4096) × IsType f.col_type × AreWithin kids
+  IsWithin (node f kids) = (length f.name ≤ max_name_len) × IsType f.col_type × AreWithin kids
 
   pub AreWithin : Roses LogicalField → Type 0
   AreWithin none = Unit {0}
@@ -39,5 +41,5 @@ abbrev mutual
 
 -- a schema within the limits
 pub record AreColumns (fields : List (Rose LogicalField)) : Type 0 where
-  pub few : roses_size (kids_of fields) ≤ 1024
+  pub few : roses_size (kids_of fields) ≤ max_fields
   pub within : AreWithin (kids_of fields)

@@ -1,5 +1,6 @@
 -- What holds of each message that is handed on, so that a reader of its body need not judge it again.
-use Rattle.std.specs.Prelude.{◌≡◌, ℕ, ◌+◌, ◌^◌, ◌≤◌, List, length, Option, None, Some, All, IsSome, IsSomeAnd, true, ◌<◌}
+use Rattle.std.specs.Prelude.{◌≡◌, ℕ, ◌+◌, ◌≤◌, List, length, Option, None, Some, All, IsSome, IsSomeAnd, true}
+use Rattle.values.specs.Limits.{max_batch_length, max_node_length}
 use Rattle.values.specs.Rose.{Rose, Roses, roses_size}
 use Rattle.values.specs.declared.layout.Layout.{Layout}
 use Rattle.values.specs.declared.col_type.ColType.{ColType}
@@ -18,9 +19,9 @@ use Rattle.schema_meta.specs.Stage.{Known, Meta}
 
 -- the header of a batch fits arrays that lie so, and a body of this length
 pub record Fits (ls : Roses Layout) (body : ℕ) (b : BatchHead) : Type 0 where
-  pub rows : b.rows ≤ 2 ^ 24
+  pub rows : b.rows ≤ max_batch_length
   pub nodes : length b.nodes ≡ roses_size ls
-  pub small : All (λ n. n.length < 2 ^ 31) b.nodes
+  pub small : All (λ n. n.length ≤ max_node_length) b.nodes
   pub lengths : lengths_fit b.rows ls b.nodes ≡ true
   pub spans : length b.spans ≡ spans_below ls
   pub within : All (λ s. s.from + s.len ≤ body) b.spans

@@ -3,9 +3,10 @@ ghost use Rattle.std.specs.Prelude.{◌≡◌};
 ghost use Rattle.values.specs.Reading.{Judges};
 ghost use Rattle.schema_meta.specs.Encoding.{coding_of, dense_of, encoding_of, id_of, index_type_of, may_be_coded};
 
-use crate::slots::{DICTIONARY_ID, DICTIONARY_INDEX_TYPE, DICTIONARY_KIND, FIELD_DICTIONARY};
-use crate::unreadable::unreadable;
-use field_types::{IndexType, TypeKind, read_index_type};
+use field_types::schema_fbs::{
+    DENSE_ARRAY, DICTIONARY_ID, DICTIONARY_INDEX_TYPE, DICTIONARY_KIND, FIELD_DICTIONARY,
+};
+use field_types::{IndexType, TypeKind, read_index_type, read_long, read_short, readable};
 use flatbuf::TableRef;
 use values::{IntWidth, StreamFault};
 
@@ -20,18 +21,13 @@ pub struct Coding {
 fn read_id(encoding: &TableRef) -> Result<i64, StreamFault>
     ensures { Judges (λ id. id) result (id_of encoding.now) }
 {
-    Ok(
-        encoding
-            .i64(DICTIONARY_ID)
-            .map_err(unreadable)?
-            .unwrap_or(0),
-    )
+    read_long(encoding, DICTIONARY_ID)
 }
 
 fn read_index(encoding: &TableRef) -> Result<IndexType, StreamFault>
     ensures { Judges (λ index. index) result (index_type_of encoding.now) }
 {
-    match encoding.table(DICTIONARY_INDEX_TYPE).map_err(unreadable)? {
+    match readable(encoding.table(DICTIONARY_INDEX_TYPE))? {
         None => Ok(IndexType {
             width: IntWidth::Bits32,
             signed: true,
@@ -43,12 +39,8 @@ fn read_index(encoding: &TableRef) -> Result<IndexType, StreamFault>
 fn check_dense(encoding: &TableRef) -> Result<(), StreamFault>
     ensures { Judges (λ u. u) result (dense_of encoding.now) }
 {
-    match encoding
-        .i16(DICTIONARY_KIND)
-        .map_err(unreadable)?
-        .unwrap_or(0)
-    {
-        0 => Ok(()),
+    match read_short(encoding, DICTIONARY_KIND, 0)? {
+        DENSE_ARRAY => Ok(()),
         _ => Err(StreamFault::UnsupportedType),
     }
 }
@@ -78,7 +70,7 @@ fn may_be_coded(kind: TypeKind) -> bool
 pub(crate) fn read_coding(kind: TypeKind, field: &TableRef) -> Result<Option<Coding>, StreamFault>
     ensures { Judges (λ c. c) result (coding_of kind field.now) }
 {
-    let Some(encoding) = field.table(FIELD_DICTIONARY).map_err(unreadable)? else {
+    let Some(encoding) = readable(field.table(FIELD_DICTIONARY))? else {
         return Ok(None);
     };
     if !may_be_coded(kind) {

@@ -3,8 +3,8 @@
 ghost use Rattle.std.specs.Prelude.{◌≡◌, ◌+◌, ◌<◌, MatchOption};
 ghost use Rattle.schema_meta.specs.Totals.{total, total_at};
 
-use crate::slots::FIELD_CHILDREN;
 use field_types::read_kind;
+use field_types::schema_fbs::FIELD_CHILDREN;
 use flatbuf::VectorRef;
 
 /// What is left of `room` after the fields of a vector and those below them, of at most `depth` levels;

@@ -5,9 +5,8 @@ ghost use Rattle.schema_meta.specs.Fields.{checked_name, children_of, entry_by, 
 
 use crate::coding::read_coding;
 use crate::field::Field;
-use crate::slots::{FIELD_CHILDREN, FIELD_NAME, FIELD_NULLABLE};
-use crate::unreadable::unreadable;
-use field_types::{TypeKind, may_have, read_bool, read_kind, read_type};
+use field_types::schema_fbs::{FIELD_CHILDREN, FIELD_NAME, FIELD_NULLABLE};
+use field_types::{TypeKind, may_have, read_bool, read_kind, read_type, readable};
 use flatbuf::{TableRef, VectorRef};
 use std::alloc::Global;
 use values::StreamFault;
@@ -48,7 +47,7 @@ fn read_entry(
     requires { index < vector.now.count }
     ensures { Answers (λ f. f) result (entry_by (forest depth) vector.now index) }
 {
-    let table = vector.table(index).map_err(unreadable)?;
+    let table = readable(vector.table(index))?;
     read_field(alloc, &table, depth)
 }
 
@@ -82,7 +81,7 @@ fn read_children(
 ) -> Result<Vec<Field>, StreamFault>
     ensures { Answers (λ fs. fs.items) result (children_of (forest depth) kind table.now) }
 {
-    let children = table.vector(FIELD_CHILDREN).map_err(unreadable)?;
+    let children = readable(table.vector(FIELD_CHILDREN))?;
     let count = children.as_ref().map_or(0, |vector| vector.len());
     if !may_have(kind, count) {
         return Err(StreamFault::BadType);
@@ -97,7 +96,7 @@ fn read_children(
 fn read_name<'a>(table: &TableRef<'a>) -> Result<&'a str, StreamFault>
     ensures { Judges (λ name. name.now) result (name_of table.now) }
 {
-    match table.text(FIELD_NAME).map_err(unreadable)? {
+    match readable(table.text(FIELD_NAME))? {
         None => Ok(""),
         Some(bytes) => check_name(bytes),
     }

@@ -11,12 +11,11 @@ mod field;
 mod fields;
 mod header;
 mod laws;
+pub mod message_fbs;
 mod parts;
 mod schema;
 mod shape;
 mod slot;
-mod slots;
-mod unreadable;
 mod value_types;
 mod write;
 

@@ -8,9 +8,9 @@ use crate::count::count;
 use crate::field::Field;
 use crate::fields::read_fields;
 use crate::slot::slots_of;
-use crate::slots::{SCHEMA_ENDIANNESS, SCHEMA_FIELDS};
-use crate::unreadable::unreadable;
 use crate::value_types::is_clear;
+use field_types::schema_fbs::{LITTLE_ENDIAN, SCHEMA_ENDIANNESS, SCHEMA_FIELDS};
+use field_types::{read_short, readable};
 use flatbuf::{TableRef, VectorRef};
 use std::alloc::{AllocError, Global};
 use values::limits::{MAX_DEPTH, MAX_FIELDS};
@@ -48,7 +48,7 @@ pub fn read_schema(alloc: Global, schema: &TableRef) -> Result<StreamSchema, Str
     ensures fault { IfErr result (λ c. Fails c (schema_of schema.now)) }
 {
     check_endianness(schema)?;
-    let fields = match schema.vector(SCHEMA_FIELDS).map_err(unreadable)? {
+    let fields = match readable(schema.vector(SCHEMA_FIELDS))? {
         None => Vec::new(alloc),
         Some(columns) => read_columns(alloc, &columns)?,
     };
@@ -75,12 +75,8 @@ fn read_columns(alloc: Global, columns: &VectorRef) -> Result<Vec<Field>, Stream
 fn check_endianness(schema: &TableRef) -> Result<(), StreamFault>
     ensures { Judges (λ u. u) result (endianness_of schema.now) }
 {
-    match schema
-        .i16(SCHEMA_ENDIANNESS)
-        .map_err(unreadable)?
-        .unwrap_or(0)
-    {
-        0 => Ok(()),
+    match read_short(schema, SCHEMA_ENDIANNESS, 0)? {
+        LITTLE_ENDIAN => Ok(()),
         _ => Err(StreamFault::BigEndian),
     }
 }

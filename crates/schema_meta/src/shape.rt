@@ -1,6 +1,7 @@
 //! What a schema wants of its batches: Arrow Columnar Format, "Buffer Listing for Each Layout".
 
 ghost use Rattle.std.specs.Prelude.{◌≡◌, ◌*◌, ◌≤◌};
+ghost use Rattle.values.specs.Limits.{max_fields};
 ghost use Rattle.values.specs.Rose.{kids_of, roses_size};
 ghost use Rattle.array_layout.specs.Placing.{spans_below};
 ghost use Rattle.schema_meta.specs.FieldLayouts.{slot_layouts_of};
@@ -12,7 +13,7 @@ use array_layout::own_spans;
 /// The nodes of these fields and of those below them: one each.
 #[tactic(auto, using(crate::proofs::Counts::counts))]
 fn nodes_of(fields: &[Field]) -> usize
-    requires { roses_size (kids_of fields.now) ≤ 1024 }
+    requires { roses_size (kids_of fields.now) ≤ max_fields }
     ensures { result ≡ roses_size (slot_layouts_of fields.now) }
 {
     let mut nodes = 0;
@@ -25,7 +26,7 @@ fn nodes_of(fields: &[Field]) -> usize
 /// The buffers of these fields and of those below them.
 #[tactic(auto, using(crate::proofs::Counts::counts))]
 fn spans_of(fields: &[Field]) -> usize
-    requires { roses_size (kids_of fields.now) ≤ 1024 }
+    requires { roses_size (kids_of fields.now) ≤ max_fields }
     ensures exact { result ≡ spans_below (slot_layouts_of fields.now) }
     ensures bound { result ≤ 3 * roses_size (kids_of fields.now) }
 {
@@ -39,7 +40,7 @@ fn spans_of(fields: &[Field]) -> usize
 impl StreamSchema {
     /// How many nodes each of its batches has.
     pub fn nodes(&self) -> usize
-        requires { roses_size (kids_of self.now.fields.items) ≤ 1024 }
+        requires { roses_size (kids_of self.now.fields.items) ≤ max_fields }
         ensures { result ≡ roses_size (slot_layouts_of self.now.fields.items) }
     {
         nodes_of(&self.fields)
@@ -47,7 +48,7 @@ impl StreamSchema {
 
     /// How many buffers each of its batches has.
     pub fn spans(&self) -> usize
-        requires { roses_size (kids_of self.now.fields.items) ≤ 1024 }
+        requires { roses_size (kids_of self.now.fields.items) ≤ max_fields }
         ensures { result ≡ spans_below (slot_layouts_of self.now.fields.items) }
     {
         spans_of(&self.fields)

@@ -1,6 +1,7 @@
 //! The slots of fields: what a null of a type weighs.
 
-ghost use Rattle.std.specs.Prelude.{◌≡◌, ◌*◌, ◌^◌, ◌<◌, ◌≤◌, MatchOption, IfSome, true, false};
+ghost use Rattle.std.specs.Prelude.{◌≡◌, ◌*◌, ◌<◌, ◌≤◌, MatchOption, IfSome, true, false};
+ghost use Rattle.values.specs.Limits.{max_fields, max_slot};
 ghost use Rattle.values.specs.Rose.{kids_of, rose_size, roses_size};
 ghost use Rattle.values.specs.Layouts.{slot, slots};
 ghost use Rattle.schema_meta.specs.FieldLayouts.{are_slim, is_slim, layout_of, layouts_of};
@@ -13,9 +14,9 @@ use values::limits::MAX_SLOT;
 #[cycle(slots)]
 #[tactic(auto, using(crate::proofs::Slims::slims))]
 fn slot_of(field: &Field) -> Option<u64>
-    requires { rose_size field.now ≤ 1024 }
+    requires { rose_size field.now ≤ max_fields }
     ensures value { MatchOption result (is_slim (layout_of field.now) ≡ false) (λ n. (is_slim (layout_of field.now) ≡ true) × (n ≡ slot (layout_of field.now))) }
-    ensures bound { IfSome result (λ n. n ≤ 2 ^ 20) }
+    ensures bound { IfSome result (λ n. n ≤ max_slot) }
 {
     let below = slots_of(&field.children)?;
     let layout = field.stored.layout();
@@ -33,9 +34,9 @@ fn slot_of(field: &Field) -> Option<u64>
 #[cycle(slots)]
 #[tactic(auto, using(crate::proofs::Slims::slims))]
 pub(crate) fn slots_of(fields: &[Field]) -> Option<u64>
-    requires { roses_size (kids_of fields.now) ≤ 1024 }
+    requires { roses_size (kids_of fields.now) ≤ max_fields }
     ensures value { MatchOption result (are_slim (layouts_of fields.now) ≡ false) (λ n. (are_slim (layouts_of fields.now) ≡ true) × (n ≡ slots (layouts_of fields.now))) }
-    ensures bound { IfSome result (λ n. n ≤ 2 ^ 20 * roses_size (kids_of fields.now)) }
+    ensures bound { IfSome result (λ n. n ≤ max_slot * roses_size (kids_of fields.now)) }
 {
     let mut slots = 0;
     for field in fields {

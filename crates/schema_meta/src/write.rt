@@ -1,7 +1,8 @@
 //! Writing a message's metadata.
 
-ghost use Rattle.std.specs.Prelude.{◌≡◌, ◌^◌, ◌<◌, length, IfOk};
+ghost use Rattle.std.specs.Prelude.{◌≡◌, ◌<◌, length, IfOk};
 ghost use Rattle.flatbuf.specs.Tree.{table};
+ghost use Rattle.values.specs.Limits.{max_metadata_size};
 ghost use Rattle.values.specs.Rose.{kids_of};
 ghost use Rattle.flatbuf.specs.Written.{up, object_end, whole, IsWritable};
 ghost use Rattle.flatbuf.specs.Built.{listed, slots};
@@ -9,6 +10,8 @@ ghost use Rattle.schema_meta.specs.MessageTree.{header_number, message_slots};
 ghost use Rattle.schema_meta.specs.SchemaTree.{field_slots, field_tables as tables_of, schema_slots, schema_metadata, AreColumns};
 
 use crate::header::MessageKind;
+use crate::message_fbs::{HEADER_DICTIONARY_BATCH, HEADER_RECORD_BATCH, HEADER_SCHEMA};
+use field_types::schema_fbs::{LITTLE_ENDIAN, V5};
 use field_types::{type_number, type_table};
 use flatbuf::{Builder, Tables};
 use std::alloc::{AllocError, Global};
@@ -18,9 +21,9 @@ fn number_of_header(kind: MessageKind) -> u8
     ensures { result ≡ header_number kind }
 {
     match kind {
-        MessageKind::Schema => 1,
-        MessageKind::Dictionary => 2,
-        MessageKind::Batch => 3,
+        MessageKind::Schema => HEADER_SCHEMA,
+        MessageKind::Dictionary => HEADER_DICTIONARY_BATCH,
+        MessageKind::Batch => HEADER_RECORD_BATCH,
     }
 }
 
@@ -36,7 +39,7 @@ pub fn write_message(
     ensures size { IfOk result (λ bytes. length bytes.items ≡ up 8 (object_end 4 (table (message_slots kind (slots header) body_len)))) }
 {
     let mut message = Builder::new(alloc);
-    message.u16(4)?;
+    message.u16(V5 as u16)?;
     message.u8(number_of_header(kind))?;
     message.table(header)?;
     message.u64(body_len)?;
@@ -76,7 +79,7 @@ fn schema_table(alloc: Global, schema: &Schema) -> Result<Builder, AllocError>
     ensures { IfOk result (λ table. slots table ≡ schema_slots (kids_of schema.now.fields.items)) }
 {
     let mut table = Builder::new(alloc);
-    table.u16(0)?;
+    table.u16(LITTLE_ENDIAN as u16)?;
     table.tables(field_tables(alloc, &schema.fields)?)?;
     Ok(table)
 }
@@ -86,7 +89,7 @@ fn schema_table(alloc: Global, schema: &Schema) -> Result<Builder, AllocError>
 pub fn write_schema(alloc: Global, schema: &Schema) -> Result<Vec<u8>, AllocError>
     requires { AreColumns schema.now.fields.items }
     ensures bytes { IfOk result (λ bytes. bytes.items ≡ schema_metadata schema.now.fields.items) }
-    ensures size { IfOk result (λ bytes. length bytes.items < 2 ^ 24) }
+    ensures size { IfOk result (λ bytes. length bytes.items < max_metadata_size) }
 {
     write_message(alloc, MessageKind::Schema, schema_table(alloc, schema)?, 0)
 }

@@ -2,6 +2,7 @@
 use Rattle.std.proofs.Common.{◌≡◌, ℕ, ◌+◌, ◌*◌, ◌^◌, ◌<◌, ◌≤◌, List, [], ◌∷◌, ◌++◌, length, get_or, drop, append_assoc, refl, ap, sym, ◌∙◌, arith}
 use Rattle.std.proofs.lemmas.List.{drop_more}
 use Rattle.std.specs.Int.{w64}
+use Rattle.values.specs.Limits.{max_fields}
 use Rattle.byteorder.specs.Endian.{little_bytes, low_bytes}
 use Rattle.flatbuf.specs.Tree.{structs, table}
 use Rattle.flatbuf.specs.Written.{object_end, table_end, items_place, Fits, IsWritable}
@@ -24,7 +25,7 @@ span_bytes-length (s ∷ ss) = let rest = span_bytes-length ss in omega (arith, 
 whole-structs : (n : ℕ) (xs : List ℕ) → length xs ≡ 16 * n → Fits (structs 16 xs)
 whole-structs n xs e = (omega arith, omega (arith, e))
 
-pub batch-end : (rows body : ℕ) (ns : List Node) (ss : List Span) → length ns ≤ 1024 → length ss ≤ 3072 →
+pub batch-end : (rows body : ℕ) (ns : List Node) (ss : List Span) → length ns ≤ max_fields → length ss ≤ 3 * max_fields →
     object_end 4 (table (message_slots kind.Batch (batch_slots rows ns ss) body)) < 2 ^ 17
 batch-end rows body ns ss few fewer =
     let message : ℕ = table_end 4 (message_slots kind.Batch (batch_slots rows ns ss) body) in
@@ -35,7 +36,7 @@ batch-end rows body ns ss few fewer =
     let spans = items_place-le (items_place header + length (node_bytes ns)) in
     omega (arith, begin, place, nodes, spans, few, fewer, node_bytes-length ns, span_bytes-length ss)
 
-pub batch-writable : (rows body : ℕ) (ns : List Node) (ss : List Span) → length ns ≤ 1024 → length ss ≤ 3072 → rows < 2 ^ 64 → body < 2 ^ 64 →
+pub batch-writable : (rows body : ℕ) (ns : List Node) (ss : List Span) → length ns ≤ max_fields → length ss ≤ 3 * max_fields → rows < 2 ^ 64 → body < 2 ^ 64 →
     IsWritable (message_slots kind.Batch (batch_slots rows ns ss) body)
 batch-writable rows body ns ss few fewer high higher =
     let end = batch-end rows body ns ss few fewer in

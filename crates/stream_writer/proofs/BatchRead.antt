@@ -2,7 +2,7 @@
 use Rattle.std.proofs.Common.{◌≡◌, ℕ, ◌+◌, ◌*◌, ◌^◌, ◌<◌, ◌≤◌, true, List, [], ◌∷◌, ◌++◌, length, drop, Some, None, Ok, refl, ap, sym, subst, ◌∙◌, arith, append_assoc, length-append}
 use Rattle.std.specs.Prelude.{pos, replicate}
 use Rattle.std.specs.Int.{w64}
-use Rattle.std.proofs.lemmas.Bool.{le-leb, lt-ltb, eq-eqb}
+use Rattle.std.proofs.lemmas.Bool.{le-leb, eq-eqb}
 use Rattle.std.proofs.lemmas.Int.{to_z_pos}
 use Rattle.std.proofs.lemmas.List.{drop-drop, drop_at}
 use Rattle.byteorder.specs.Endian.{little_bytes, little_number, low_bytes}
@@ -10,6 +10,7 @@ use Rattle.byteorder.specs.Numbers.{little_number-reads_back, length-bytes_low_f
 use Rattle.flatbuf.specs.Layout.{Table, slot_of}
 use Rattle.flatbuf.specs.Held.{Held}
 use Rattle.flatbuf.proofs.Words.{signed-read, structs-read}
+use Rattle.values.specs.Limits.{max_body_size, max_batch_length, max_node_length}
 use Rattle.values.specs.Reading.{each}
 use Rattle.values.specs.Rose.{Rose, Roses, roses_size}
 use Rattle.values.specs.Datum.{Datum}
@@ -76,7 +77,7 @@ node-back bytes i x small low high =
     let is : x.nulls ≡ pos k = small.1.1 in
     let count : word_at bytes (16 * i + 8) ≡ k = high ∙ ap (low_bytes w64 8) is ∙ low-small k small.1.2 in
     let few = small.1.2 in
-    rw (low, lt-ltb x.length (2 ^ 31) small.0, count, to_z_pos w64 k (omega (arith, few))) (ap (λ z. Ok (record { length = x.length; nulls = z })) (sym is))
+    rw (low, le-leb x.length max_node_length small.0, count, to_z_pos w64 k (omega (arith, few))) (ap (λ z. Ok (record { length = x.length; nulls = z })) (sym is))
 
 nodes-back : (bytes : List ℕ) (i : ℕ) (ns : List Node) → AreSmall ns → drop (16 * i) bytes ≡ node_bytes ns → each (node_of bytes) i (length ns) ≡ Ok ns
 unfolding each
@@ -116,7 +117,7 @@ spans-back body bytes i at (x ∷ xs) short within e =
 -- the header's table
 
 batch-back : (ls : Roses Layout) (rows body : ℕ) (h : Table) (ns : List Node) (ss : List Span) →
-    rows ≤ 2 ^ 24 → length ns ≡ roses_size ls → length ss ≡ spans_below ls →
+    rows ≤ max_batch_length → length ns ≡ roses_size ls → length ss ≡ spans_below ls →
     nodes_in (roses_size ls) (node_bytes ns) ≡ Ok ns → lengths_fit rows ls ns ≡ true → spans_in (spans_below ls) body (span_bytes ss) ≡ Ok ss →
     Held h.bytes (slot_of h) 0 (batch_slots rows ns ss) → slot_of h 3 ≡ Some None → batch_of ls body h ≡ Ok (batch rows ns ss)
 unfolding batch_of plain rows_of nodes_of spans_of
@@ -130,7 +131,7 @@ batch-back ls rows body h ns ss few en es n fit s held none =
       none,
       signed-read w64 rows h 0 held.0,
       to_z_pos w64 rows small,
-      le-leb rows (2 ^ 24) few,
+      le-leb rows max_batch_length few,
       first,
       eq-eqb (length (node_bytes ns)) (16 * roses_size ls) nl,
       n,
@@ -152,7 +153,7 @@ body-nodes ls rows b =
     let P : ℕ → Type 0 = λ k. each (node_of (node_bytes ns)) 0 k ≡ Ok ns in
     subst P (body_nodes-length ls rows) (nodes-back (node_bytes ns) 0 ns (body-small ls rows b) refl)
 
-body-spans : (ls : Roses Layout) (rows : List (List Datum)) → length (body_bytes ls rows) ≤ 2 ^ 28 →
+body-spans : (ls : Roses Layout) (rows : List (List Datum)) → length (body_bytes ls rows) ≤ max_body_size →
     spans_in (spans_below ls) (length (body_bytes ls rows)) (span_bytes (body_spans ls rows)) ≡ Ok (body_spans ls rows)
 unfolding spans_in body_spans body_bytes
 body-spans ls rows short =

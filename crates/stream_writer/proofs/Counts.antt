@@ -1,5 +1,6 @@
 -- How many nodes and buffers the body of a batch has.
-use Rattle.std.proofs.Common.{◌≡◌, ℕ, suc, ◌+◌, ◌≤◌, List, [], ◌∷◌, length, refl, ap, ◌∙◌, arith, length-append}
+use Rattle.std.proofs.Common.{◌≡◌, ℕ, suc, ◌+◌, ◌*◌, ◌≤◌, List, [], ◌∷◌, length, refl, ap, ◌∙◌, arith, length-append}
+use Rattle.values.specs.Limits.{max_fields}
 use Rattle.values.specs.Rose.{Roses, none, more, roses_size}
 use Rattle.values.specs.Datum.{Datum}
 use Rattle.values.specs.declared.layout.Layout.{Layout}
@@ -41,13 +42,13 @@ pub body_spans-length : (ls : Roses Layout) (rows : List (List Datum)) → lengt
 unfolding body_spans
 body_spans-length ls rows = spans_from-length 0 (body_buffers ls rows) ∙ body_buffers-length ls rows
 
-pub body_nodes-few : (ls : Roses Layout) (rows : List (List Datum)) → IsBatch ls rows → length (body_nodes ls rows) ≤ 1024
+pub body_nodes-few : (ls : Roses Layout) (rows : List (List Datum)) → IsBatch ls rows → length (body_nodes ls rows) ≤ max_fields
 body_nodes-few ls rows batch =
     let narrow = batch.narrow in
     let count = body_nodes-length ls rows in
     omega (arith, narrow, count)
 
-pub body_spans-few : (ls : Roses Layout) (rows : List (List Datum)) → IsBatch ls rows → length (body_spans ls rows) ≤ 3072
+pub body_spans-few : (ls : Roses Layout) (rows : List (List Datum)) → IsBatch ls rows → length (body_spans ls rows) ≤ 3 * max_fields
 body_spans-few ls rows batch =
     let narrow = batch.narrow in
     let count = body_spans-length ls rows in

@@ -1,5 +1,5 @@
 -- Rows cut into batches.
-use Rattle.std.proofs.Common.{◌≡◌, ℕ, zero, suc, ◌+◌, ◌-◌, ◌^◌, ◌<◌, ◌≤◌, List, [], ◌∷◌, ◌++◌, length, get_or, take, drop, refl, ap, sym, ◌∙◌, arith, append_assoc, length-drop, subst, inl, inr}
+use Rattle.std.proofs.Common.{◌≡◌, ℕ, zero, suc, ◌+◌, ◌-◌, ◌<◌, ◌≤◌, List, [], ◌∷◌, ◌++◌, length, get_or, take, drop, refl, ap, sym, ◌∙◌, arith, append_assoc, length-drop, subst, inl, inr}
 use Rattle.std.specs.Prelude.{All, Vec, nat_le, if◌then◌else◌}
 use Rattle.std.specs.List.{take-map, drop-map}
 use Rattle.std.specs.declared.alloc.Global.{Global}
@@ -7,6 +7,7 @@ use Rattle.std.proofs.lemmas.Bool.{cases_lt}
 use Rattle.std.proofs.lemmas.Bool.Decides.{nat_tests}
 use Rattle.std.proofs.lemmas.List.{drop_more, drop_all, get_or-map, length-map, length-take, take_all}
 use Rattle.std.proofs.lemmas.List.Elements.{All-head, All-take, All-drop, All-weaker}
+use Rattle.values.specs.Limits.{max_row_weight, max_batch_rows, max_batch_weight}
 use Rattle.values.specs.Datum.{Datum, items_of}
 use Rattle.values.specs.Layouts.{AreLayouts, HoldsEach}
 use Rattle.values.specs.Rose.{Rose, node, Roses, none, more, kids_of, rose_size, roses_size}
@@ -77,10 +78,10 @@ row-of P rows i row all h e =
 
 pub told-weight :
     (ls : Roses Layout) (rows : List (Vec Datum Global)) (i : ℕ) (row : Vec Datum Global) (ds : List Datum) (w : ℕ)
-    → All (λ r. row_weight ls r ≤ 2 ^ 26) (cells_in rows) → i < length rows → row ≡ get_or rows i row → ds ≡ row.items
+    → All (λ r. row_weight ls r ≤ max_row_weight) (cells_in rows) → i < length rows → row ≡ get_or rows i row → ds ≡ row.items
     → w ≡ told (row_weight ls ds) → w ≡ row_weight ls row.items
 told-weight ls rows i row ds w light h e same is =
-    let few : row_weight ls row.items ≤ 2 ^ 26 = row-of (λ r. row_weight ls r ≤ 2 ^ 26) rows i row light h e in
+    let few : row_weight ls row.items ≤ max_row_weight = row-of (λ r. row_weight ls r ≤ max_row_weight) rows i row light h e in
     is ∙ ap (λ xs. told (row_weight ls xs)) same ∙ told-exact (row_weight ls row.items) (omega (arith, few))
 
 pub stops-heavy : (ls : Roses Layout) (n room : ℕ) (rows : List (Vec Datum Global)) (i : ℕ) (row : Vec Datum Global) → i < length rows → row ≡ get_or rows i row → room < row_weight ls row.items →
@@ -99,13 +100,13 @@ pub goes-on : (ls : Roses Layout) (n room : ℕ) (rows : List (Vec Datum Global)
 goes-on ls n room rows i row h e some light =
     ap (λ cs. beginning ls n room cs) (cells-at rows i row h e) ∙ beginning-light ls n room row.items (cells_in (drop (i + 1) rows)) some light
 
-pub batch_len-few : (ls : Roses Layout) (rows : List (List Datum)) → batch_len ls rows ≤ 1024
+pub batch_len-few : (ls : Roses Layout) (rows : List (List Datum)) → batch_len ls rows ≤ max_batch_rows
 unfolding batch_len
-batch_len-few ls rows = beginning-few ls 1024 (2 ^ 27) rows
+batch_len-few ls rows = beginning-few ls max_batch_rows max_batch_weight rows
 
-pub batch_len-within : (ls : Roses Layout) (rows : List (List Datum)) → (batch_len ls rows ≤ length rows) × (rows_weight ls (take (batch_len ls rows) rows) ≤ 2 ^ 27)
+pub batch_len-within : (ls : Roses Layout) (rows : List (List Datum)) → (batch_len ls rows ≤ length rows) × (rows_weight ls (take (batch_len ls rows) rows) ≤ max_batch_weight)
 unfolding batch_len
-batch_len-within ls rows = beginning-within ls 1024 (2 ^ 27) rows
+batch_len-within ls rows = beginning-within ls max_batch_rows max_batch_weight rows
 
 -- batches
 
@@ -113,7 +114,7 @@ sound-some : (fs : List (Rose LogicalField)) (row : List Datum) (rows : List (Li
 unfolding batch_len
 sound-some fs row rows sound =
     let first = (All-head (IsRow fs) row rows sound).light in
-    let some = beginning-light (trees fs) 1024 (2 ^ 27) row rows (omega arith) (omega (arith, first)) in
+    let some = beginning-light (trees fs) max_batch_rows max_batch_weight row rows (omega arith) (omega (arith, first)) in
     omega (arith, some)
 
 -- others fuel than rows changes nothing
@@ -205,10 +206,10 @@ batch-of fs ls rows n same columns layouts sound e =
 
 pub light-of :
     (fs : List (Rose LogicalField)) (ls : Roses Layout) (rows : List (List Datum)) → ls ≡ trees fs → All (IsRow fs) rows
-    → All (λ row. row_weight ls row ≤ 2 ^ 26) rows
+    → All (λ row. row_weight ls row ≤ max_row_weight) rows
 light-of fs ls rows same sound =
-    let Q : Roses Layout → Type 0 = λ us. All (λ row. row_weight us row ≤ 2 ^ 26) rows in
-    subst Q (sym same) (All-weaker (IsRow fs) (λ row. row_weight (trees fs) row ≤ 2 ^ 26) (λ row h. h.light) rows sound)
+    let Q : Roses Layout → Type 0 = λ us. All (λ row. row_weight us row ≤ max_row_weight) rows in
+    subst Q (sym same) (All-weaker (IsRow fs) (λ row. row_weight (trees fs) row ≤ max_row_weight) (λ row h. h.light) rows sound)
 
 pub sound-left : (fs : List (Rose LogicalField)) (rows : List (Vec Datum Global)) (n : ℕ) → n ≤ length rows → All (IsRow fs) (cells_in rows) → All (IsRow fs) (cells_in (take (length rows - n) (drop n rows)))
 sound-left fs rows n h sound =

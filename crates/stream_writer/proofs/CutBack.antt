@@ -1,11 +1,12 @@
 -- The batches of a table's rows, joined, are the rows; none could be longer.
-use Rattle.std.proofs.Common.{◌≡◌, ℕ, zero, suc, ◌+◌, ◌-◌, ◌^◌, ◌<◌, ◌≤◌, List, [], ◌∷◌, ◌++◌, length, take, drop, refl, ap, sym, ◌∙◌, arith, subst, length-drop, inl, inr, ◌⊎◌}
+use Rattle.std.proofs.Common.{◌≡◌, ℕ, zero, suc, ◌+◌, ◌-◌, ◌<◌, ◌≤◌, List, [], ◌∷◌, ◌++◌, length, take, drop, refl, ap, sym, ◌∙◌, arith, subst, length-drop, inl, inr, ◌⊎◌}
 use Rattle.std.specs.Prelude.{All}
 use Rattle.std.specs.List.{flat_map}
 use Rattle.std.proofs.lemmas.Bool.{cases_lt}
 use Rattle.std.proofs.lemmas.List.{take-append-drop, take-take, length-take}
 use Rattle.std.proofs.Math.Seq.{take-add}
 use Rattle.std.proofs.lemmas.List.Elements.{All-drop}
+use Rattle.values.specs.Limits.{max_batch_rows, max_batch_weight}
 use Rattle.values.specs.Datum.{Datum}
 use Rattle.values.specs.Rose.{Rose, Roses}
 use Rattle.values.specs.Layouts.{AreLayouts}
@@ -61,9 +62,9 @@ beginning-full ls (suc n) room (row ∷ rows) h =
     ]
 
 batch_len-full : (ls : Roses Layout) (rows : List (List Datum)) → batch_len ls rows < length rows →
-    (batch_len ls rows ≡ 1024) ⊎ (2 ^ 27 < rows_weight ls (take (batch_len ls rows + 1) rows))
+    (batch_len ls rows ≡ max_batch_rows) ⊎ (max_batch_weight < rows_weight ls (take (batch_len ls rows + 1) rows))
 unfolding batch_len
-batch_len-full ls rows h = beginning-full ls 1024 (2 ^ 27) rows h
+batch_len-full ls rows h = beginning-full ls max_batch_rows max_batch_weight rows h
 
 full : (fs : List (Rose LogicalField)) (most : ℕ) (rows left : List (List Datum)) → All (IsRow fs) left → drop (batch_len (trees fs) rows) rows ≡ left → IsFull (trees fs) (take (batch_len (trees fs) rows) rows) (cut (trees fs) most left)
 unfolding cut
@@ -78,7 +79,7 @@ full fs (suc most) rows (x ∷ xs) sound e =
     let size = length-take n rows in
     let joined : take (n + 1) rows ≡ take n rows ++ take 1 (take (batch_len (trees fs) (x ∷ xs)) (x ∷ xs)) =
     take-add n 1 rows ∙ ap (λ zs. take n rows ++ take 1 zs) e ∙ ap (λ zs. take n rows ++ zs) (sym first) in
-    let Q : List (List Datum) → Type 0 = λ zs. 2 ^ 27 < rows_weight (trees fs) zs in
+    let Q : List (List Datum) → Type 0 = λ zs. max_batch_weight < rows_weight (trees fs) zs in
     elim (batch_len-full (trees fs) rows (omega (arith, left, behind))) [
       | inl all ↦ inl (omega (arith, all, size, left, behind))
       | inr heavy ↦ inr (subst Q joined heavy)

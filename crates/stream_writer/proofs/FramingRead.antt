@@ -5,6 +5,7 @@ use Rattle.std.proofs.lemmas.Bool.{le-leb, le-ltb}
 use Rattle.std.proofs.lemmas.List.{drop-drop, drop_at, take_at}
 use Rattle.byteorder.specs.Endian.{little_bytes, little_number}
 use Rattle.byteorder.specs.Numbers.{little_number-reads_back}
+use Rattle.values.specs.Limits.{max_metadata_size}
 use Rattle.values.specs.Reading.{Reading}
 use Rattle.schema_meta.specs.Stage.{Known, Meta, Whole}
 use Rattle.schema_meta.specs.Message.{meta_of}
@@ -21,9 +22,9 @@ staged-read len n end meta m some room e =
     let there : 8 + n ≤ len = omega (arith, room) in
     rw (le-ltb len 8 begun, some-of n end (message_at len (8 + n) (meta n)) some, le-ltb len (8 + n) there, e, le-ltb len (8 + n + m.body) room) refl
 
-framed-read : (n : ℕ) → n ≤ 2 ^ 24 → framed 4294967295 n ≡ Ok n
+framed-read : (n : ℕ) → n ≤ max_metadata_size → framed 4294967295 n ≡ Ok n
 unfolding framed
-framed-read n small = rw (le-leb n (2 ^ 24) small) refl
+framed-read n small = rw (le-leb n max_metadata_size small) refl
 
 -- the parts of a message, by their lengths
 size-read : (n : ℕ) (rest : List ℕ) → n < 2 ^ 32 → little_number 4 (little_bytes 4 n ++ rest) ≡ n
@@ -45,7 +46,7 @@ abbrev mark : List ℕ
 mark = 255 ∷ 255 ∷ 255 ∷ 255 ∷ []
 
 first-whole : (known : Known) (c metadata rest : List ℕ) (m : Meta) → length c ≡ 4 → little_number 4 (c ++ (metadata ++ rest)) ≡ length metadata →
-    0 < length metadata → length metadata ≤ 2 ^ 24 → m.body ≤ length rest → meta_of known metadata ≡ Ok m →
+    0 < length metadata → length metadata ≤ max_metadata_size → m.body ≤ length rest → meta_of known metadata ≡ Ok m →
     first known (mark ++ (c ++ (metadata ++ rest))) ≡ Ok (Some (record { front = 8 + length metadata; meta = m }))
 unfolding first
 first-whole known c metadata rest m lc size some small body e =

@@ -3,6 +3,7 @@ use Rattle.std.proofs.Common.{◌≡◌, ℕ, suc, ◌+◌, ◌^◌, ◌<◌, �
 use Rattle.std.specs.Prelude.{pos, if◌then◌else◌}
 use Rattle.std.proofs.lemmas.Bool.{le-leb, eq-eqb}
 use Rattle.std.proofs.lemmas.List.{length-map}
+use Rattle.values.specs.Limits.{max_node_length}
 use Rattle.values.specs.Rose.{Rose, node, Roses, none, more, rose_size}
 use Rattle.values.specs.Datum.{Datum}
 use Rattle.values.specs.declared.layout.Layout.{Layout}
@@ -24,7 +25,7 @@ use Rattle.body_writer.proofs.Weighing.{weights_each, weights-split, own-long}
 
 -- a length below 2^31, and no more nulls than slots
 abbrev pub IsSmall : Node → Type 0
-IsSmall x = (x.length < 2 ^ 31) × ((k : ℕ) × (x.nulls ≡ pos k) × (k < 2 ^ 31))
+IsSmall x = (x.length ≤ max_node_length) × ((k : ℕ) × (x.nulls ≡ pos k) × (k < 2 ^ 31))
 
 abbrev pub AreSmall : List Node → Type 0
 AreSmall [] = Unit {0}
@@ -43,7 +44,7 @@ null_count-le [] = omega arith
 null_count-le (c ∷ cs) = let here = one-at-most (is_valid c) in let rest = null_count-le cs in omega (arith, here, rest)
 
 own-small : (cs : List Datum) → length cs < 2 ^ 31 → IsSmall (own_node cs)
-own-small cs h = let few = null_count-le cs in (h, (null_count cs, refl, omega (arith, h, few)))
+own-small cs h = let few = null_count-le cs in (omega (arith, h), (null_count cs, refl, omega (arith, h, few)))
 
 mutual
   nodes-small : (t : Rose Layout) (cs : List Datum) → IsLayout t → All (Holds t) cs → weights t cs < 2 ^ 31 → AreSmall (nodes t cs)

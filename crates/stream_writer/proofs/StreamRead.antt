@@ -1,5 +1,5 @@
 -- The canonical stream of a table is read as the table.
-use Rattle.std.proofs.Common.{Option, ◌≡◌, ℕ, zero, suc, ◌+◌, ◌*◌, ◌/◌, ◌-◌, ◌^◌, ◌<◌, ◌≤◌, List, [], ◌∷◌, ◌++◌, length, take, drop, Some, None, Ok, refl, ap, sym, subst, ◌∙◌, arith, append_assoc, length-append, length-drop}
+use Rattle.std.proofs.Common.{Option, ◌≡◌, ℕ, zero, suc, ◌+◌, ◌*◌, ◌/◌, ◌-◌, ◌<◌, ◌≤◌, List, [], ◌∷◌, ◌++◌, length, take, drop, Some, None, Ok, refl, ap, sym, subst, ◌∙◌, arith, append_assoc, length-append, length-drop}
 use Rattle.std.specs.Prelude.{All, slice_range}
 use Rattle.std.proofs.lemmas.List.{take-append-drop}
 use Rattle.std.proofs.lemmas.List.Elements.{All-drop}
@@ -7,6 +7,7 @@ use Rattle.flatbuf.specs.Tree.{Nodes, table}
 use Rattle.flatbuf.specs.Written.{whole, object_end, IsWritable}
 use Rattle.flatbuf.proofs.Ends.{object_end-le}
 use Rattle.flatbuf.proofs.Lengths.{whole-length}
+use Rattle.values.specs.Limits.{max_metadata_size}
 use Rattle.values.specs.Datum.{Datum}
 use Rattle.dictionaries.specs.Batches.{DictionaryBatch, dictionary_after}
 use Rattle.values.specs.Rose.{Rose, kids_of}
@@ -43,13 +44,13 @@ use Rattle.stream_writer.proofs.AboveZero.{not-zero}
 
 record IsShort (metadata : List ℕ) : Type 0 where
   some : 0 < length metadata
-  small : length metadata ≤ 2 ^ 24
+  small : length metadata ≤ max_metadata_size
 
-whole-short : (s : Nodes) → IsWritable s → object_end 4 (table s) < 2 ^ 24 - 8 → IsShort (whole s)
+whole-short : (s : Nodes) → IsWritable s → object_end 4 (table s) < max_metadata_size - 8 → IsShort (whole s)
 whole-short s h end =
     let n : ℕ = object_end 4 (table s) in
     let low : 4 ≤ n = object_end-le 4 (table s) h.fits in
-    let high : n < 2 ^ 24 - 8 = end in
+    let high : n < max_metadata_size - 8 = end in
     let long : length (whole s) ≡ (n + (8 - 1)) / 8 * 8 = whole-length s h.fits in
     record { some = omega (arith, low, long); small = omega (arith, high, long) }
 

@@ -1,7 +1,8 @@
 -- The cut into batches: the rows of the batches are the rows of the table, in order; each batch has a row and is within the
 -- limits; and no batch could have taken the next row too.
-use Rattle.std.specs.Prelude.{◌≡◌, ℕ, zero, suc, ◌^◌, ◌<◌, ◌⊎◌, List, [], ◌∷◌, ◌++◌, length, take, drop, ⊤}
+use Rattle.std.specs.Prelude.{◌≡◌, ℕ, zero, suc, ◌<◌, ◌⊎◌, List, [], ◌∷◌, ◌++◌, length, take, drop, ⊤}
 use Rattle.std.specs.List.{flat_map}
+use Rattle.values.specs.Limits.{max_batch_rows, max_batch_weight}
 use Rattle.values.specs.Datum.{Datum}
 use Rattle.values.specs.Rose.{Rose, Roses}
 use Rattle.values.specs.declared.layout.Layout.{Layout}
@@ -20,7 +21,7 @@ cut ls (suc most) (row ∷ rows) =
 -- with one row more it would be too long or too heavy
 abbrev pub IsFull : Roses Layout → List (List Datum) → List (List (List Datum)) → Type 0
 IsFull ls batch [] = ⊤
-IsFull ls batch (next ∷ later) = (length batch ≡ 1024) ⊎ (2 ^ 27 < rows_weight ls (batch ++ take 1 next))
+IsFull ls batch (next ∷ later) = (length batch ≡ max_batch_rows) ⊎ (max_batch_weight < rows_weight ls (batch ++ take 1 next))
 
 abbrev pub AreBatches : Roses Layout → List (List (List Datum)) → Type 0
 AreBatches ls [] = ⊤

@@ -1,5 +1,6 @@
 -- A message that is written is found whole, whatever comes after it.
-use Rattle.std.specs.Prelude.{◌≡◌, ℕ, ◌+◌, ◌^◌, ◌<◌, ◌≤◌, List, ◌++◌, length, Some, Ok, IsSome}
+use Rattle.std.specs.Prelude.{◌≡◌, ℕ, ◌+◌, ◌<◌, ◌≤◌, List, ◌++◌, length, Some, Ok, IsSome}
+use Rattle.values.specs.Limits.{max_metadata_size}
 use Rattle.schema_meta.specs.Stage.{Known, Meta, end_meta}
 use Rattle.schema_meta.specs.Message.{meta_of}
 use Rattle.schema_meta.specs.Framing.{first}
@@ -9,7 +10,7 @@ use Rattle.stream_writer.specs.Stream.{message, end_mark}
 abbrev pub FirstLaw : Type 0
 FirstLaw =
     (known : Known) (metadata body rest : List ℕ) (m : Meta)
-    → 0 < length metadata → length metadata ≤ 2 ^ 24 → m.body ≡ length body → meta_of known metadata ≡ Ok m
+    → 0 < length metadata → length metadata ≤ max_metadata_size → m.body ≡ length body → meta_of known metadata ≡ Ok m
     → first known (message metadata body ++ rest) ≡ Ok (Some (record { front = 8 + length metadata; meta = m }))
 
 -- The end mark is one, where a schema came.

@@ -3,8 +3,9 @@
 -- Arrow columnar format, "IPC Streaming Format": the Schema message, record batches, the end mark.
 -- A batch is the longest beginning of the rows that are left with at most 1,024 rows and a summed
 -- weight of at most 2^27. There is no batch for an empty table.
-use Rattle.std.specs.Prelude.{ℕ, zero, suc, ◌+◌, ◌-◌, ◌^◌, nat_le, if◌then◌else◌, List, [], ◌∷◌, ◌++◌, length, take, drop}
+use Rattle.std.specs.Prelude.{ℕ, zero, suc, ◌+◌, ◌-◌, nat_le, if◌then◌else◌, List, [], ◌∷◌, ◌++◌, length, take, drop}
 use Rattle.byteorder.specs.Endian.{little_bytes}
+use Rattle.values.specs.Limits.{max_batch_rows, max_batch_weight}
 use Rattle.values.specs.Datum.{Datum}
 use Rattle.values.specs.Rose.{Rose, Roses, kids_of}
 use Rattle.values.specs.declared.layout.Layout.{Layout}
@@ -35,7 +36,7 @@ beginning ls (suc n) room (row ∷ rows) =
 
 -- how many rows the next batch has
 unfoldable pub batch_len : Roses Layout → List (List Datum) → ℕ
-batch_len ls rows = beginning ls 1024 (2 ^ 27) rows
+batch_len ls rows = beginning ls max_batch_rows max_batch_weight rows
 
 -- the batches of these rows, at most so many
 unfoldable pub batches : Roses Layout → ℕ → List (List Datum) → List ℕ

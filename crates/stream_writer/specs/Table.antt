@@ -1,5 +1,6 @@
 -- A table within the limits.
-use Rattle.std.specs.Prelude.{◌^◌, ◌≤◌, All, List, length}
+use Rattle.std.specs.Prelude.{◌≤◌, All, List, length}
+use Rattle.values.specs.Limits.{max_main_rows, max_row_weight}
 use Rattle.values.specs.Rose.{Rose}
 use Rattle.values.specs.Datum.{Datum, items_of}
 use Rattle.values.specs.Layouts.{AreLayouts, HoldsEach}
@@ -11,10 +12,10 @@ use Rattle.stream_writer.specs.Stream.{trees}
 -- a cell a column, of the column's type, and not too heavy
 pub record IsRow (fields : List (Rose LogicalField)) (row : List Datum) : Type 0 where
   pub held : HoldsEach (trees fields) (items_of row)
-  pub light : row_weight (trees fields) row ≤ 2 ^ 26
+  pub light : row_weight (trees fields) row ≤ max_row_weight
 
 pub record IsTable (fields : List (Rose LogicalField)) (rows : List (List Datum)) : Type 0 where
   pub columns : AreColumns fields
   pub layouts : AreLayouts (trees fields)
-  pub few : length rows ≤ 2 ^ 24
+  pub few : length rows ≤ max_main_rows
   pub sound : All (IsRow fields) rows

@@ -3,6 +3,8 @@
 ghost use Rattle.std.specs.Prelude.{◌≡◌, ◌+◌, ◌^◌, ◌<◌, Err};
 ghost use Rattle.stream_writer.specs.Sinks.{written_of, fault_after};
 
+use std::alloc::AllocError;
+
 /// Why not all was written. `written` is how many bytes the sink took all the same, from the first on.
 #[derive(Clone, Copy, Debug, PartialEq, Eq)]
 pub enum WriteFault {
@@ -26,5 +28,17 @@ impl WriteFault {
                 written: before + written,
             },
         }
+    }
+}
+
+/// Where nothing went out before.
+impl From<AllocError> for WriteFault {
+    ghost use Rattle.std.specs.Prelude.{◌≡◌};
+    ghost use Rattle.stream_writer.specs.declared.faults.WriteFault.TheVariants.{Memory};
+
+    ghost from_gives = { λ _ fault. fault ≡ Memory 0 };
+
+    fn from(_refused: AllocError) -> WriteFault {
+        WriteFault::Memory { written: 0 }
     }
 }

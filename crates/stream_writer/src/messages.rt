@@ -5,6 +5,7 @@ ghost use Rattle.std.specs.Int.{w64};
 ghost use Rattle.byteorder.specs.Endian.{little_bytes, low_bytes};
 ghost use Rattle.flatbuf.specs.Built.{slots};
 ghost use Rattle.schema_meta.specs.SchemaTree.{AreColumns};
+ghost use Rattle.values.specs.Limits.{max_metadata_size, max_fields};
 ghost use Rattle.values.specs.Rose.{kids_of};
 ghost use Rattle.body_writer.specs.Batch.{IsBatch};
 ghost use Rattle.stream_writer.specs.Batch.{node_bytes as nodes_as, span_bytes as spans_as, batch_slots, batch_whole};
@@ -105,8 +106,8 @@ pub fn batch_message(
 }
 
 fn batch_header(alloc: Global, rows: u64, body: &Body) -> Result<Builder, AllocError>
-    requires nodes { length body.now.nodes.items ≤ 1024 }
-    requires spans { length body.now.spans.items ≤ 3072 }
+    requires nodes { length body.now.nodes.items ≤ max_fields }
+    requires spans { length body.now.spans.items ≤ 3 * max_fields }
     ensures { IfOk result (λ header. slots header ≡ batch_slots rows body.now.nodes.items body.now.spans.items) }
 {
     let mut header = Builder::new(alloc);
@@ -117,10 +118,10 @@ fn batch_header(alloc: Global, rows: u64, body: &Body) -> Result<Builder, AllocE
 }
 
 fn batch_metadata(alloc: Global, rows: u64, body: &Body) -> Result<Vec<u8>, AllocError>
-    requires nodes { length body.now.nodes.items ≤ 1024 }
-    requires spans { length body.now.spans.items ≤ 3072 }
+    requires nodes { length body.now.nodes.items ≤ max_fields }
+    requires spans { length body.now.spans.items ≤ 3 * max_fields }
     ensures bytes { IfOk result (λ bytes. bytes.items ≡ batch_whole rows body.now.nodes.items body.now.spans.items (length body.now.bytes.items)) }
-    ensures size { IfOk result (λ bytes. length bytes.items < 2 ^ 24) }
+    ensures size { IfOk result (λ bytes. length bytes.items < max_metadata_size) }
 {
     let header = batch_header(alloc, rows, body)?;
     let bytes = write_message(alloc, MessageKind::Batch, header, body.bytes.len() as u64)?;

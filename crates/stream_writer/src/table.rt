@@ -1,6 +1,7 @@
 //! Writing a table, message by message.
 
 ghost use Rattle.std.specs.Prelude.{ℕ, ◌≡◌, ◌+◌, ◌^◌, ◌<◌, ◌≤◌, ◌++◌, All, IfOk, MatchResult, Err, List, length, map};
+ghost use Rattle.values.specs.Limits.{max_row_weight};
 ghost use Rattle.values.specs.Rose.{kids_of};
 ghost use Rattle.body_writer.specs.Batch.{row_weight};
 ghost use Rattle.stream_writer.specs.Sinks.{Sunk, Writes};
@@ -31,9 +32,7 @@ pub fn write_table<S: Sink>(
     requires { IsTable schema.now.fields.items (map (λ row. row.items) rows.now) }
     ensures { Writes (S.sunk sink.old) (S.sunk sink.new) result (canon schema.now.fields.items (map (λ row. row.items) rows.now)) }
 {
-    let Ok(layouts) = layouts_of(alloc, schema) else {
-        return Err(WriteFault::Memory { written: 0 });
-    };
+    let layouts = layouts_of(alloc, schema)?;
     write_messages(alloc, sink, schema, &layouts, rows)
 }
 
@@ -49,9 +48,7 @@ fn write_messages<S: Sink>(
     requires table { IsTable schema.now.fields.items (map (λ row. row.items) rows.now) }
     ensures { Writes (S.sunk sink.old) (S.sunk sink.new) result (canon schema.now.fields.items (map (λ row. row.items) rows.now)) }
 {
-    let Ok(message) = messages::schema_message(alloc, schema) else {
-        return Err(WriteFault::Memory { written: 0 });
-    };
+    let message = messages::schema_message(alloc, schema)?;
     let mut written = put_after(sink, &message, 0)?;
     let mut left = rows;
     while !left.is_empty() {
@@ -81,7 +78,7 @@ fn put_after<S: Sink>(sink: &mut S, bytes: &[u8], written: u64) -> Result<u64, W
 /// How many rows the next batch has.
 #[tactic(auto, unfolding(crate::specs::Stream::batch_len))]
 fn len_of_batch(layouts: &[LayoutTree], rows: &[Row]) -> usize
-    requires { All (λ row. row_weight (kids_of layouts.now) row ≤ 2 ^ 26) (map (λ row. row.items) rows.now) }
+    requires { All (λ row. row_weight (kids_of layouts.now) row ≤ max_row_weight) (map (λ row. row.items) rows.now) }
     ensures value { result ≡ batch_len (kids_of layouts.now) (map (λ row. row.items) rows.now) }
     ensures bound { result ≤ length rows.now }
 {

@@ -4,7 +4,7 @@ use Rattle.std.specs.Prelude.{All}
 use Rattle.std.proofs.lemmas.Option.{get_or_from_slice_get}
 use Rattle.values.specs.declared.faults.StreamFault.{StreamFault}
 use Rattle.values.specs.declared.faults.StreamFault.TheVariants as fault
-use Rattle.values.specs.Reading.{Reading, ◌>>=◌, both, cons, mapped, must, each, Stands, IsGood, Fails, Decides, with_front}
+use Rattle.values.specs.Reading.{Reading, ReadingOf, ◌>>=◌, both, cons, mapped, must, each, Stands, IsGood, Fails, Decides, with_front}
 
 -- A fault that stands may be answered, and where another fault is read into the same one, that too.
 pub fails-stands : {X : Type 0} (c : StreamFault) (m : Reading X) → Stands m c → Fails c m
@@ -18,12 +18,12 @@ fails_along fault.Memory m w f h = tt
 fails_along c m w f h = f c h
 
 -- `both`: the faults of each side are the faults of the whole
-pub both_left : {X Y Z : Type 0} (g : X → Y → Z) (a : Reading X) (b : Reading Y) (c : StreamFault) → Stands a c → Stands (both g a b) c
+pub both_left : {F X Y Z : Type 0} (g : X → Y → Z) (a : ReadingOf F X) (b : ReadingOf F Y) (c : F) → Stands a c → Stands (both g a b) c
 both_left g (Ok x) b c h = absurd h
 both_left g (Err fs) (Ok y) c h = h
 both_left g (Err fs) (Err gs) c h = inl h
 
-pub both_right : {X Y Z : Type 0} (g : X → Y → Z) (a : Reading X) (b : Reading Y) (c : StreamFault) → Stands b c → Stands (both g a b) c
+pub both_right : {F X Y Z : Type 0} (g : X → Y → Z) (a : ReadingOf F X) (b : ReadingOf F Y) (c : F) → Stands b c → Stands (both g a b) c
 both_right g (Ok x) (Ok y) c h = absurd h
 both_right g (Err fs) (Ok y) c h = absurd h
 both_right g (Ok x) (Err gs) c h = h
@@ -39,7 +39,7 @@ fails_right g a b c h = fails_along c b (both g a b) (λ d. both_right g a b d) 
 
 -- a fault of what is read first is one of the whole
 pub bind_left :
-    {X Y : Type 0} (m : Reading X) (f : X → Reading Y) (c : StreamFault) → Stands m c → Stands (m >>= f) c
+    {F X Y : Type 0} (m : ReadingOf F X) (f : X → ReadingOf F Y) (c : F) → Stands m c → Stands (m >>= f) c
 bind_left (Ok x) f c h = absurd h
 bind_left (Err fs) f c h = h
 
@@ -47,7 +47,7 @@ pub fails_first :
     {X Y : Type 0} (m : Reading X) (f : X → Reading Y) (c : StreamFault) → Fails c m → Fails c (m >>= f)
 fails_first m f c h = fails_along c m (m >>= f) (λ d. bind_left m f d) h
 
-pub stands_mapped : {X Y : Type 0} (f : X → Y) (m : Reading X) (c : StreamFault) → Stands m c → Stands (mapped f m) c
+pub stands_mapped : {F X Y : Type 0} (f : X → Y) (m : ReadingOf F X) (c : F) → Stands m c → Stands (mapped f m) c
 stands_mapped f (Ok x) c h = h
 stands_mapped f (Err fs) c h = h
 
@@ -58,36 +58,36 @@ fails_mapped f m c h = fails_along c m (mapped f m) (λ d. stands_mapped f m d) 
 pub ruleset failing =
     (fails-stands, both_left, both_right, fails_left, fails_right, bind_left, fails_first, stands_mapped, fails_mapped)
 
-pub both_good : {X Y Z : Type 0} (g : X → Y → Z) (a : Reading X) (b : Reading Y) → IsGood a → IsGood b → IsGood (both g a b)
+pub both_good : {F X Y Z : Type 0} (g : X → Y → Z) (a : ReadingOf F X) (b : ReadingOf F Y) → IsGood a → IsGood b → IsGood (both g a b)
 both_good g (Ok x) (Ok y) p q = tt
 both_good g (Ok x) (Err gs) p q = absurd q
 both_good g (Err fs) b p q = absurd p
 
-pub good_left : {X Y Z : Type 0} (g : X → Y → Z) (a : Reading X) (b : Reading Y) → IsGood (both g a b) → IsGood a
+pub good_left : {F X Y Z : Type 0} (g : X → Y → Z) (a : ReadingOf F X) (b : ReadingOf F Y) → IsGood (both g a b) → IsGood a
 good_left g (Ok x) b h = tt
 good_left g (Err fs) (Ok y) h = absurd h
 good_left g (Err fs) (Err gs) h = absurd h
 
-pub good_right : {X Y Z : Type 0} (g : X → Y → Z) (a : Reading X) (b : Reading Y) → IsGood (both g a b) → IsGood b
+pub good_right : {F X Y Z : Type 0} (g : X → Y → Z) (a : ReadingOf F X) (b : ReadingOf F Y) → IsGood (both g a b) → IsGood b
 good_right g a (Ok y) h = tt
 good_right g (Ok x) (Err gs) h = absurd h
 good_right g (Err fs) (Err gs) h = absurd h
 
 -- `each`, one step of it in the form that a loop shows
 pub each_step :
-    {X : Type 0} (f : ℕ → Reading X) (i n : ℕ) → i < n → each f i (n - i) ≡ both cons (f i) (each f (i + 1) (n - (i + 1)))
+    {F X : Type 0} (f : ℕ → ReadingOf F X) (i n : ℕ) → i < n → each f i (n - i) ≡ both cons (f i) (each f (i + 1) (n - (i + 1)))
 unfolding each
 each_step f i n h =
     let k : n - i ≡ suc (n - (i + 1)) = omega arith in
     rw k refl
 
-pub each_none : {X : Type 0} (f : ℕ → Reading X) (i n : ℕ) → n ≤ i → each f i (n - i) ≡ Ok []
+pub each_none : {F X : Type 0} (f : ℕ → ReadingOf F X) (i n : ℕ) → n ≤ i → each f i (n - i) ≡ Ok []
 unfolding each
 each_none f i n h = let k : n - i ≡ 0 = omega arith in rw k refl
 
 -- the parts of a pair of readings that is good
 pub both_Ok :
-    {X Y Z : Type 0} (g : X → Y → Z) (a : Reading X) (b : Reading Y) (z : Z) → both g a b ≡ Ok z
+    {F X Y Z : Type 0} (g : X → Y → Z) (a : ReadingOf F X) (b : ReadingOf F Y) (z : Z) → both g a b ≡ Ok z
     → (x : X) × (y : Y) × (a ≡ Ok x) × (b ≡ Ok y) × (g x y ≡ z)
 both_Ok g (Ok x) (Ok y) z e = (x, y, refl, refl, cc)
 both_Ok g (Ok x) (Err gs) z e = cc
@@ -96,7 +96,7 @@ both_Ok g (Err fs) (Err gs) z e = cc
 
 -- a fault of a pair is one of a side
 pub stands_both :
-    {X Y Z : Type 0} (g : X → Y → Z) (a : Reading X) (b : Reading Y) (c : StreamFault) → Stands (both g a b) c
+    {F X Y Z : Type 0} (g : X → Y → Z) (a : ReadingOf F X) (b : ReadingOf F Y) (c : F) → Stands (both g a b) c
     → Stands a c ⊎ Stands b c
 stands_both g (Ok x) (Ok y) c h = absurd h
 stands_both g (Ok x) (Err gs) c h = inr h
@@ -105,24 +105,24 @@ stands_both g (Err fs) (Err gs) c h = h
 
 -- the parts of what is read one after the other
 pub bind_Ok :
-    {X Y : Type 0} (m : Reading X) (f : X → Reading Y) (z : Y) → (m >>= f) ≡ Ok z → (x : X) × (m ≡ Ok x) × (f x ≡ Ok z)
+    {F X Y : Type 0} (m : ReadingOf F X) (f : X → ReadingOf F Y) (z : Y) → (m >>= f) ≡ Ok z → (x : X) × (m ≡ Ok x) × (f x ≡ Ok z)
 bind_Ok (Ok x) f z e = (x, refl, e)
 bind_Ok (Err fs) f z e = cc
 
-pub mapped_Ok : {X Y : Type 0} (f : X → Y) (m : Reading X) (z : Y) → mapped f m ≡ Ok z → (x : X) × (m ≡ Ok x) × (f x ≡ z)
+pub mapped_Ok : {F X Y : Type 0} (f : X → Y) (m : ReadingOf F X) (z : Y) → mapped f m ≡ Ok z → (x : X) × (m ≡ Ok x) × (f x ≡ z)
 mapped_Ok f (Ok x) z e = (x, refl, cc)
 mapped_Ok f (Err fs) z e = cc
 
-pub must_Ok : {X : Type 0} (c : StreamFault) (o : Option X) (x : X) → must c o ≡ Ok x → o ≡ Some x
+pub must_Ok : {F X : Type 0} (c : F) (o : Option X) (x : X) → must c o ≡ Ok x → o ≡ Some x
 must_Ok c None x e = cc
 must_Ok c (Some y) x e = cc
 
-pub good_Ok : {X : Type 0} (m : Reading X) → IsGood m → (x : X) × (m ≡ Ok x)
+pub good_Ok : {F X : Type 0} (m : ReadingOf F X) → IsGood m → (x : X) × (m ≡ Ok x)
 good_Ok (Ok x) h = (x, refl)
 good_Ok (Err fs) h = absurd h
 
 -- `each`: as many values as there are readings, and each is its own
-pub each_length : {X : Type 0} (f : ℕ → Reading X) (i n : ℕ) (xs : List X) → each f i n ≡ Ok xs → length xs ≡ n
+pub each_length : {F X : Type 0} (f : ℕ → ReadingOf F X) (i n : ℕ) (xs : List X) → each f i n ≡ Ok xs → length xs ≡ n
 unfolding each
 each_length f i zero xs e = let k : [] ≡ xs = cc in subst (λ (zs : List _). length zs ≡ 0) k refl
 each_length f i (suc n) xs e =
@@ -131,7 +131,7 @@ each_length f i (suc n) xs e =
     subst (λ (zs : List _). length zs ≡ suc n) p.4 (ap suc k)
 
 pub each_get :
-    {X : Type 0} (f : ℕ → Reading X) (i n : ℕ) (xs : List X) → each f i n ≡ Ok xs → (k : ℕ) → k < n
+    {F X : Type 0} (f : ℕ → ReadingOf F X) (i n : ℕ) (xs : List X) → each f i n ≡ Ok xs → (k : ℕ) → k < n
     → (x : X) × (slice_get xs k ≡ Some x) × (f (i + k) ≡ Ok x)
 unfolding each
 each_get f i zero xs e k h = absurd (omega arith)
@@ -149,7 +149,7 @@ each_get f i (suc n) xs e (suc k) h =
 
 -- what holds of all that is read so holds of each value
 pub each_all :
-    {X : Type 0} (P : X → Type 0) (f : ℕ → Reading X) (n : ℕ) (xs : List X) → each f 0 n ≡ Ok xs
+    {F X : Type 0} (P : X → Type 0) (f : ℕ → ReadingOf F X) (n : ℕ) (xs : List X) → each f 0 n ≡ Ok xs
     → ((k : ℕ) (x : X) → f k ≡ Ok x → P x) → All P xs
 each_all P f n xs e h = λ k d l.
     let m : length xs ≡ n = each_length f 0 n xs e in
@@ -159,7 +159,7 @@ each_all P f n xs e h = λ k d l.
     subst P (sym g) (h k r.0 (ap f j ∙ r.2))
 
 pub good_each :
-    {X : Type 0} (f : ℕ → Reading X) (i n : ℕ) → IsGood (each f i n) → (k : ℕ) → k < n → IsGood (f (i + k))
+    {F X : Type 0} (f : ℕ → ReadingOf F X) (i n : ℕ) → IsGood (each f i n) → (k : ℕ) → k < n → IsGood (f (i + k))
 unfolding each
 good_each f i zero g k h = absurd (omega arith)
 good_each f i (suc n) g zero h =
@@ -170,7 +170,7 @@ good_each f i (suc n) g (suc k) h =
     subst (λ (m : ℕ). IsGood (f m)) j (good_each f (i + 1) n (good_right cons (f i) (each f (i + 1) n) g) k (omega arith))
 
 pub stands_each :
-    {X : Type 0} (f : ℕ → Reading X) (i n : ℕ) (c : StreamFault) → Stands (each f i n) c
+    {F X : Type 0} (f : ℕ → ReadingOf F X) (i n : ℕ) (c : F) → Stands (each f i n) c
     → (k : ℕ) × (k < n) × Stands (f (i + k)) c
 unfolding each
 stands_each f i zero c h = absurd h
@@ -184,35 +184,35 @@ stands_each f i (suc n) c h =
     ]
 
 -- A loop that gathers: `with_front xs (each f i (n - i)) ≡ w` says that what was read and what is left are the whole.
-pub front_none : {X : Type 0} (m : Reading (List X)) → with_front [] m ≡ m
+pub front_none : {F X : Type 0} (m : ReadingOf F (List X)) → with_front [] m ≡ m
 front_none (Ok ys) = refl
 front_none (Err fs) = refl
 
 front-cons :
-    {X : Type 0} (xs : List X) (x : X) (m : Reading (List X)) → with_front (xs ++ x ∷ []) m ≡ with_front xs (both cons (Ok x) m)
+    {F X : Type 0} (xs : List X) (x : X) (m : ReadingOf F (List X)) → with_front (xs ++ x ∷ []) m ≡ with_front xs (both cons (Ok x) m)
 front-cons xs x (Ok ys) = ap (λ zs. Ok zs) (simp append_assoc)
 front-cons xs x (Err fs) = refl
 
-front-stands : {X : Type 0} (xs : List X) (m : Reading (List X)) (c : StreamFault) → Stands m c → Stands (with_front xs m) c
+front-stands : {F X : Type 0} (xs : List X) (m : ReadingOf F (List X)) (c : F) → Stands m c → Stands (with_front xs m) c
 front-stands xs (Ok ys) c h = h
 front-stands xs (Err fs) c h = h
 
 pub front_step :
-    {X : Type 0} (f : ℕ → Reading X) (i n : ℕ) (xs : List X) (x : X) (w : Reading (List X)) → i < n → f i ≡ Ok x
+    {F X : Type 0} (f : ℕ → ReadingOf F X) (i n : ℕ) (xs : List X) (x : X) (w : ReadingOf F (List X)) → i < n → f i ≡ Ok x
     → with_front xs (each f i (n - i)) ≡ w → with_front (xs ++ x ∷ []) (each f (i + 1) (n - (i + 1))) ≡ w
 front_step f i n xs x w h e k =
-    let r : Reading (List _) = each f (i + 1) (n - (i + 1)) in
-    let P : Reading _ → Type 0 = λ a. with_front xs (both cons a r) ≡ w in
-    let Q : Reading (List _) → Type 0 = λ m. with_front xs m ≡ w in
+    let r : ReadingOf _ (List _) = each f (i + 1) (n - (i + 1)) in
+    let P : ReadingOf _ _ → Type 0 = λ a. with_front xs (both cons a r) ≡ w in
+    let Q : ReadingOf _ (List _) → Type 0 = λ m. with_front xs m ≡ w in
     front-cons xs x r ∙ subst P e (subst Q (each_step f i n h) k)
 
 pub front_fault :
-    {X : Type 0} (f : ℕ → Reading X) (i n : ℕ) (xs : List X) (c : StreamFault) (w : Reading (List X)) → i < n → Stands (f i) c
+    {F X : Type 0} (f : ℕ → ReadingOf F X) (i n : ℕ) (xs : List X) (c : F) (w : ReadingOf F (List X)) → i < n → Stands (f i) c
     → with_front xs (each f i (n - i)) ≡ w → Stands w c
 front_fault f i n xs c w h s k =
-    let r : Reading (List _) = each f (i + 1) (n - (i + 1)) in
-    let Q : Reading (List _) → Type 0 = λ m. Stands (with_front xs m) c in
-    let P : Reading (List _) → Type 0 = λ m. Stands m c in
+    let r : ReadingOf _ (List _) = each f (i + 1) (n - (i + 1)) in
+    let Q : ReadingOf _ (List _) → Type 0 = λ m. Stands (with_front xs m) c in
+    let P : ReadingOf _ (List _) → Type 0 = λ m. Stands m c in
     subst P k (subst Q (sym (each_step f i n h)) (front-stands xs (both cons (f i) r) c (both_left cons (f i) r c s)))
 
 pub front_fails :
@@ -221,48 +221,48 @@ pub front_fails :
 front_fails f i n xs c w h s k = fails_along c (f i) w (λ d t. front_fault f i n xs d w h t k) s
 
 pub front_end :
-    {X : Type 0} (f : ℕ → Reading X) (i n : ℕ) (xs : List X) (w : Reading (List X)) → n ≤ i
+    {F X : Type 0} (f : ℕ → ReadingOf F X) (i n : ℕ) (xs : List X) (w : ReadingOf F (List X)) → n ≤ i
     → with_front xs (each f i (n - i)) ≡ w → w ≡ Ok xs
 front_end f i n xs w h k =
-    let Q : Reading (List _) → Type 0 = λ m. with_front xs m ≡ w in
+    let Q : ReadingOf _ (List _) → Type 0 = λ m. with_front xs m ≡ w in
     sym (subst Q (each_none f i n h) k) ∙ ap (λ zs. Ok zs) (append-nil xs)
 
 pub ruleset gathering = (front_none, front_step, front_fault, front_fails, front_end)
 
 -- A loop that judges: what is left decides the whole.
-pub decides_self : {X : Type 0} (m : Reading X) → Decides m m
+pub decides_self : {F X : Type 0} (m : ReadingOf F X) → Decides m m
 decides_self m = record { good = λ h. h; fault = λ c h. h }
 
 pub decides_both :
-    {X Y Z W : Type 0} (g : X → Y → Z) (a : Reading X) (b : Reading Y) (w : Reading W) → IsGood a → Decides (both g a b) w → Decides b w
+    {F X Y Z W : Type 0} (g : X → Y → Z) (a : ReadingOf F X) (b : ReadingOf F Y) (w : ReadingOf F W) → IsGood a → Decides (both g a b) w → Decides b w
 decides_both g a b w p d =
     record { good = λ h. d.good (both_good g a b p h); fault = λ c h. d.fault c (both_right g a b c h) }
 
 pub decides_both_fault :
-    {X Y Z W : Type 0} (g : X → Y → Z) (a : Reading X) (b : Reading Y) (w : Reading W) (c : StreamFault) → Stands a c
+    {F X Y Z W : Type 0} (g : X → Y → Z) (a : ReadingOf F X) (b : ReadingOf F Y) (w : ReadingOf F W) (c : F) → Stands a c
     → Decides (both g a b) w → Stands w c
 decides_both_fault g a b w c s d = d.fault c (both_left g a b c s)
 
 pub decides_step :
-    {X W : Type 0} (f : ℕ → Reading X) (i n : ℕ) (w : Reading W) → i < n → IsGood (f i) → Decides (each f i (n - i)) w
+    {F X W : Type 0} (f : ℕ → ReadingOf F X) (i n : ℕ) (w : ReadingOf F W) → i < n → IsGood (f i) → Decides (each f i (n - i)) w
     → Decides (each f (i + 1) (n - (i + 1))) w
 decides_step f i n w h p d =
-    let r : Reading (List _) = each f (i + 1) (n - (i + 1)) in
-    let Q : Reading (List _) → Type 0 = λ m. Decides m w in
+    let r : ReadingOf _ (List _) = each f (i + 1) (n - (i + 1)) in
+    let Q : ReadingOf _ (List _) → Type 0 = λ m. Decides m w in
     decides_both cons (f i) r w p (subst Q (each_step f i n h) d)
 
 pub decides_fault :
-    {X W : Type 0} (f : ℕ → Reading X) (i n : ℕ) (w : Reading W) (c : StreamFault) → i < n → Stands (f i) c
+    {F X W : Type 0} (f : ℕ → ReadingOf F X) (i n : ℕ) (w : ReadingOf F W) (c : F) → i < n → Stands (f i) c
     → Decides (each f i (n - i)) w → Stands w c
 decides_fault f i n w c h s d =
-    let r : Reading (List _) = each f (i + 1) (n - (i + 1)) in
-    let Q : Reading (List _) → Type 0 = λ m. Decides m w in
+    let r : ReadingOf _ (List _) = each f (i + 1) (n - (i + 1)) in
+    let Q : ReadingOf _ (List _) → Type 0 = λ m. Decides m w in
     decides_both_fault cons (f i) r w c s (subst Q (each_step f i n h) d)
 
 pub decides_end :
-    {X W : Type 0} (f : ℕ → Reading X) (i n : ℕ) (w : Reading W) → n ≤ i → Decides (each f i (n - i)) w → IsGood w
+    {F X W : Type 0} (f : ℕ → ReadingOf F X) (i n : ℕ) (w : ReadingOf F W) → n ≤ i → Decides (each f i (n - i)) w → IsGood w
 decides_end f i n w h d =
-    let Q : Reading (List _) → Type 0 = λ m. Decides m w in
+    let Q : ReadingOf _ (List _) → Type 0 = λ m. Decides m w in
     let e : Decides (Ok []) w = subst Q (each_none f i n h) d in
     e.good tt
 

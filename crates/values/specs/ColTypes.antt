@@ -1,6 +1,7 @@
 -- The types of columns: their bounds, and how their values lie in memory.
 use Rattle.std.specs.Prelude.{◌≡◌, ℕ, ◌*◌, ◌≤◌, true, length}
 use Rattle.std.specs.Str.{is_utf8}
+use Rattle.values.specs.Limits.{max_name_len, max_precision, max_fixed_width}
 use Rattle.values.specs.Layouts.{bytes_in}
 use Rattle.values.specs.declared.layout.IntWidth.{IntWidth}
 use Rattle.values.specs.declared.layout.IntWidth.TheVariants as int
@@ -17,14 +18,14 @@ use Rattle.values.specs.declared.col_type.ColType.TheVariants as col
 abbrev pub IsType : ColType → Type 0
 IsType col.Bool = Unit {0}
 IsType (col.Int w s) = Unit {0}
-IsType (col.Decimal p s) = (1 ≤ p) × (p ≤ 38) × (s ≤ p)
+IsType (col.Decimal p s) = (1 ≤ p) × (p ≤ max_precision) × (s ≤ p)
 IsType (col.Date u) = Unit {0}
 IsType (col.Time u) = Unit {0}
-IsType (col.Timestamp u z) = (length z ≤ 4096) × (is_utf8 z ≡ true)
+IsType (col.Timestamp u z) = (length z ≤ max_name_len) × (is_utf8 z ≡ true)
 IsType (col.Duration u) = Unit {0}
 IsType (col.Utf8 o) = Unit {0}
 IsType (col.Binary o) = Unit {0}
-IsType (col.Fixed w) = w ≤ 65536
+IsType (col.Fixed w) = w ≤ max_fixed_width
 IsType (col.List o) = Unit {0}
 IsType col.Struct = Unit {0}
 

@@ -1,6 +1,7 @@
 -- What the slots of a layout hold, and what they weigh.
 use Rattle.std.specs.Prelude.{◌≡◌, ℕ, ℤ, pos, ◌+◌, ◌*◌, ◌-◌, ◌^◌, ◌<◌, ◌≤◌, ◌≤ℤ◌, ◌<ℤ◌, neg_ℤ, nat_abs, Bool, true, false, length}
 use Rattle.std.specs.Str.{is_utf8}
+use Rattle.values.specs.Limits.{max_precision}
 use Rattle.values.specs.Datum.{Datum, null, truth, whole, text, bytes, list, structure, Items, no_items, item}
 use Rattle.values.specs.Rose.{Rose, node, Roses, none, more}
 use Rattle.values.specs.declared.layout.IntWidth.{IntWidth}
@@ -25,7 +26,7 @@ offset_bytes offset.Bits64 = 8
 abbrev pub IsNode : Layout → Roses Layout → Type 0
 IsNode Bits none = Unit {0}
 IsNode (Number w s) none = Unit {0}
-IsNode (Decimal p) none = p ≤ 38
+IsNode (Decimal p) none = p ≤ max_precision
 IsNode (Fixed w) none = Unit {0}
 IsNode (Text o) none = Unit {0}
 IsNode (Bytes o) none = Unit {0}

@@ -1,3 +1,4 @@
+pub mod Limits
 pub mod Datum
 pub mod Kinds
 pub mod Layouts

@@ -6,36 +6,43 @@ use Rattle.values.specs.declared.faults.StreamFault.TheVariants as fault
 
 infixl 10 ◌>>=◌
 -- one fault, or those of two sets
-pub data Faults : Type 0 where
-  one : StreamFault → Faults
-  several : Faults → Faults → Faults
+pub data FaultsOf (F : Type 0) : Type 0 where
+  one : F → FaultsOf F
+  several : FaultsOf F → FaultsOf F → FaultsOf F
 
-abbrev pub IsAmong : Faults → StreamFault → Type 0
+abbrev pub IsAmong : {F : Type 0} → FaultsOf F → F → Type 0
 IsAmong (one d) c = d ≡ c
 IsAmong (several fs gs) c = IsAmong fs c ⊎ IsAmong gs c
 
+abbrev pub ReadingOf : Type 0 → Type 0 → Type 0
+ReadingOf F X = Result X (FaultsOf F)
+
+-- what a stream's bytes mean
+abbrev pub Faults : Type 0
+Faults = FaultsOf StreamFault
+
 abbrev pub Reading : Type 0 → Type 0
-Reading X = Result X Faults
+Reading X = ReadingOf StreamFault X
 
 -- What depends on something unreadable isn't read: nothing stands there.
-abbrev pub ◌>>=◌ : {X Y : Type 0} → Reading X → (X → Reading Y) → Reading Y
+abbrev pub ◌>>=◌ : {F X Y : Type 0} → ReadingOf F X → (X → ReadingOf F Y) → ReadingOf F Y
 Ok x >>= f = f x
 Err fs >>= f = Err fs
 
 -- Two things that are read each by itself: the faults of both stand.
-abbrev pub both : {X Y Z : Type 0} → (X → Y → Z) → Reading X → Reading Y → Reading Z
+abbrev pub both : {F X Y Z : Type 0} → (X → Y → Z) → ReadingOf F X → ReadingOf F Y → ReadingOf F Z
 both join (Ok x) (Ok y) = Ok (join x y)
 both join (Ok x) (Err gs) = Err gs
 both join (Err fs) (Ok y) = Err fs
 both join (Err fs) (Err gs) = Err (several fs gs)
 
 -- the value, or this fault where there is none
-abbrev pub must : {X : Type 0} → StreamFault → Option X → Reading X
+abbrev pub must : {F X : Type 0} → F → Option X → ReadingOf F X
 must c None = Err (one c)
 must c (Some x) = Ok x
 
 -- this fault where the test holds
-abbrev pub refused_if : StreamFault → Bool → Reading (Unit {0})
+abbrev pub refused_if : {F : Type 0} → F → Bool → ReadingOf F (Unit {0})
 refused_if c true = Err (one c)
 refused_if c false = Ok tt
 
@@ -53,22 +60,22 @@ abbrev pub append_to : {X : Type 0} → List X → List X → List X
 append_to xs ys = xs ++ ys
 
 -- what a change of the value makes of a reading
-abbrev pub mapped : {X Y : Type 0} → (X → Y) → Reading X → Reading Y
+abbrev pub mapped : {F X Y : Type 0} → (X → Y) → ReadingOf F X → ReadingOf F Y
 mapped f (Ok x) = Ok (f x)
 mapped f (Err fs) = Err fs
 
 -- the n readings from number i on
-unfoldable pub each : {X : Type 0} → (ℕ → Reading X) → ℕ → ℕ → Reading (List X)
+unfoldable pub each : {F X : Type 0} → (ℕ → ReadingOf F X) → ℕ → ℕ → ReadingOf F (List X)
 each f i zero = Ok []
 each f i (suc n) = both cons (f i) (each f (i + 1) n)
 
 -- this fault stands
-abbrev pub Stands : {X : Type 0} → Reading X → StreamFault → Type 0
+abbrev pub Stands : {F X : Type 0} → ReadingOf F X → F → Type 0
 Stands (Ok x) c = ⊥
 Stands (Err fs) c = IsAmong fs c
 
 -- no fault stands
-abbrev pub IsGood : {X : Type 0} → Reading X → Type 0
+abbrev pub IsGood : {F X : Type 0} → ReadingOf F X → Type 0
 IsGood (Ok x) = Unit {0}
 IsGood (Err fs) = ⊥
 
@@ -79,7 +86,7 @@ Fails c m = Stands m c
 
 -- What a call answers that reads without taking memory: `Ok` exactly where no fault stands, and then the value
 -- as contracts see it; otherwise a fault that stands.
-abbrev pub Judges : {X Y : Type 0} → (X → Y) → Result X StreamFault → Reading Y → Type 0
+abbrev pub Judges : {F X Y : Type 0} → (X → Y) → Result X F → ReadingOf F Y → Type 0
 Judges view (Ok x) m = m ≡ Ok (view x)
 Judges view (Err c) m = Stands m c
 
@@ -89,15 +96,15 @@ Answers view (Ok x) m = m ≡ Ok (view x)
 Answers view (Err c) m = Fails c m
 
 -- what a check answers that gives no value: `Ok` exactly where no fault stands
-abbrev pub Passes : {X : Type 0} → Result (Unit {0}) StreamFault → Reading X → Type 0
+abbrev pub Passes : {F X : Type 0} → Result (Unit {0}) F → ReadingOf F X → Type 0
 Passes (Ok u) m = IsGood m
 Passes (Err c) m = Stands m c
 
 -- What is left to read decides the whole: the invariant of a loop that judges one thing after another.
-pub record Decides {X Y : Type 0} (rest : Reading X) (whole : Reading Y) : Type 0 where
+pub record Decides {F X Y : Type 0} (rest : ReadingOf F X) (whole : ReadingOf F Y) : Type 0 where
   pub good : IsGood rest → IsGood whole
-  pub fault : (c : StreamFault) → Stands rest c → Stands whole c
+  pub fault : (c : F) → Stands rest c → Stands whole c
 
 -- a list that is read after another: the invariant of a loop that gathers
-abbrev pub with_front : {X : Type 0} → List X → Reading (List X) → Reading (List X)
+abbrev pub with_front : {F X : Type 0} → List X → ReadingOf F (List X) → ReadingOf F (List X)
 with_front xs m = mapped (append_to xs) m

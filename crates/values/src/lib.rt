@@ -3,7 +3,7 @@
 //!
 //! The contracts are equations on definitions of `specs/`: `ColTypes` (the types, and how each lies in memory), `TypeText` (how a
 //! type is printed), `Logical` (a schema as contracts see it), `Datum` (a value as contracts see it), `Order`, `Layouts` (what a
-//! layout holds, and what it weighs), `Causes`. `Reading` has the words for what bytes mean where some of them may be at fault, and
+//! layout holds, and what it weighs), `Causes`, `Limits`. `Reading` has the words for what bytes mean where some of them may be at fault, and
 //! `Rose` the tree that stored fields and arrays are seen as; the crates above cite both.
 #![tactic(auto)]
 
@@ -31,7 +31,7 @@ pub use col_type::ColType;
 pub use faults::StreamFault;
 pub use key::Key;
 pub use key_parts::{KeyBytes, KeyText};
-pub use laws::{equality_law, key_law};
+pub use laws::{equality_law, key_law, limits_law};
 pub use layout::{IntWidth, Layout, LayoutTree, OffsetWidth};
 pub use order::cmp_values;
 pub use schema::{Named, Schema};

@@ -15,6 +15,12 @@ pub const MAX_DEPTH: u8 = 16;
 /// The longest name of a field, and the longest time zone, in bytes.
 pub const MAX_NAME_LEN: usize = 4096;
 
+/// The most digits of a decimal, those of 128 bits.
+pub const MAX_PRECISION: u8 = 38;
+
+/// The widest value of `FixedSizeBinary`, in bytes.
+pub const MAX_FIXED_WIDTH: u32 = 65_536;
+
 /// The greatest slot of a field's type.
 pub const MAX_SLOT: u64 = 1 << 20;
 

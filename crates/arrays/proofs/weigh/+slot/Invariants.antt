@@ -1,4 +1,5 @@
-use Rattle.std.proofs.Common.{◌≡◌, ◌+◌, ◌*◌, ◌≤◌, ◌^◌, drop, suc}
+use Rattle.std.proofs.Common.{◌≡◌, ◌+◌, ◌*◌, ◌≤◌, drop, suc}
+use Rattle.values.specs.Limits.{max_cell_weight}
 use Rattle.values.specs.Rose.{kids_of, rose_size, roses_size}
 use Rattle.values.specs.Layouts.{slots}
 use Rattle.array_layout.specs.Placing.{layouts_of}
@@ -17,4 +18,4 @@ decreases-slots l = 3 * roses_size (kids_of l.children.now) + 2
 abbrev pub invariant-slots-loop-child : goal.invariant-slots-loop-child
 invariant-slots-loop-child l =
     (capped (l.sum + slots (layouts_of (kids_of (drop l.child-index l.children)))) ≡ capped (1 + slots (layouts_of (kids_of l.children))))
-    × (l.sum ≤ 2 ^ 20 + 1)
+    × (l.sum ≤ max_cell_weight + 1)

@@ -1,4 +1,5 @@
-use Rattle.std.proofs.Common.{◌≡◌, ◌+◌, ◌*◌, ◌-◌, ◌≤◌, ◌^◌, drop, suc}
+use Rattle.std.proofs.Common.{◌≡◌, ◌+◌, ◌*◌, ◌-◌, ◌≤◌, drop, suc}
+use Rattle.values.specs.Limits.{max_cell_weight}
 use Rattle.values.specs.Rose.{kids_of, rose_size, roses_size}
 use Rattle.arrays.specs.Weights.{capped, sum_from, weight_at, weight_beside}
 use Rattle.arrays.proofs.weigh.+weigh.Given as goal
@@ -24,9 +25,9 @@ decreases-weigh_row l = 5 * roses_size (kids_of l.children.now) + 3
 abbrev pub invariant-weigh_items-loop-i : goal.invariant-weigh_items-loop-i
 invariant-weigh_items-loop-i l =
     (capped (l.sum + sum_from (weight_at l.body l.array) l.i (l.to - l.i)) ≡ capped (5 + sum_from (weight_at l.body l.array) l.from (l.to - l.from)))
-    × (l.sum ≤ 2 ^ 20 + 1)
+    × (l.sum ≤ max_cell_weight + 1)
 
 abbrev pub invariant-weigh_row-loop-child : goal.invariant-weigh_row-loop-child
 invariant-weigh_row-loop-child l =
     (capped (l.sum + weight_beside l.body (kids_of (drop l.child-index l.children)) l.i) ≡ capped (1 + weight_beside l.body (kids_of l.children) l.i))
-    × (l.sum ≤ 2 ^ 20 + 1)
+    × (l.sum ≤ max_cell_weight + 1)

@@ -1,10 +1,11 @@
 use Rattle.schema_meta.proofs.FieldFacts.{few_read}
 use Rattle.schema_meta.proofs.ColumnsRead.{all_read}
 use Rattle.schema_meta.proofs.schema.read_columns.Goals as goal
+use Rattle.values.specs.Limits.{max_fields}
 
 pub slots_of-requires : goal.slots_of-requires
 slots_of-requires c =
-    rw c.deref.ensures.value (few_read c.args.columns.now c.in_ok-fields.fields.items c.in-Some.field-0 1024 c.in_ok-fields.ensures c.in-Some.ensures)
+    rw c.deref.ensures.value (few_read c.args.columns.now c.in_ok-fields.fields.items c.in-Some.field-0 max_fields c.in_ok-fields.ensures c.in-Some.ensures)
 
 pub returns : goal.returns
 returns c =

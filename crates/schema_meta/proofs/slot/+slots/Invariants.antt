@@ -1,4 +1,5 @@
-use Rattle.std.proofs.Common.{◌≡◌, ◌+◌, ◌*◌, ◌^◌, ◌≤◌, drop}
+use Rattle.std.proofs.Common.{◌≡◌, ◌+◌, ◌*◌, ◌≤◌, drop}
+use Rattle.values.specs.Limits.{max_slot}
 use Rattle.values.specs.Rose.{kids_of, rose_size, roses_size}
 use Rattle.values.specs.Layouts.{slots}
 use Rattle.schema_meta.specs.FieldLayouts.{are_slim, layouts_below}
@@ -14,4 +15,4 @@ abbrev pub invariant-slots_of-loop-field : goal.invariant-slots_of-loop-field
 invariant-slots_of-loop-field l =
     (are_slim (layouts_below (kids_of (drop l.field-index l.fields))) ≡ are_slim (layouts_below (kids_of l.fields)))
     × (l.slots + slots (layouts_below (kids_of (drop l.field-index l.fields))) ≡ slots (layouts_below (kids_of l.fields)))
-    × (l.slots + 2 ^ 20 * roses_size (kids_of (drop l.field-index l.fields)) ≤ 2 ^ 20 * roses_size (kids_of l.fields))
+    × (l.slots + max_slot * roses_size (kids_of (drop l.field-index l.fields)) ≤ max_slot * roses_size (kids_of l.fields))

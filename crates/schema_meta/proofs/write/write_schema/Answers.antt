@@ -1,7 +1,8 @@
-use Rattle.std.proofs.Common.{◌≡◌, ℕ, ◌-◌, ◌<◌, ◌^◌, length, arith, sym, subst}
+use Rattle.std.proofs.Common.{◌≡◌, ℕ, ◌-◌, ◌<◌, length, arith, sym, subst}
 use Rattle.std.specs.Prelude.{Vec}
 use Rattle.std.specs.declared.alloc.Global.{Global}
 use Rattle.std.proofs.lemmas.Result.{IfOk-weaker}
+use Rattle.values.specs.Limits.{max_metadata_size}
 use Rattle.flatbuf.specs.Tree.{Nodes, table}
 use Rattle.flatbuf.specs.Written.{up, object_end, IsWritable}
 use Rattle.flatbuf.specs.Built.{slots}
@@ -17,10 +18,10 @@ write_message-requires c =
 
 pub returns-clause-size : goal.returns-clause-size
 returns-clause-size c =
-    let E : Nodes → Type 0 = λ s. object_end 4 (table (message_slots kind.Schema s 0)) < 2 ^ 24 - 8 in
+    let E : Nodes → Type 0 = λ s. object_end 4 (table (message_slots kind.Schema s 0)) < max_metadata_size - 8 in
     let end = subst E (sym c.in_ok-schema_table.ensures) (schema-end c.args.schema.now.fields.items c.requires) in
     let at : ℕ = object_end 4 (table (message_slots kind.Schema (slots c.in_ok-schema_table.field-0) 0)) in
     let fill = up8-le at in
     let P : Vec ℕ Global → Type 0 = λ bytes. length bytes.items ≡ up 8 at in
-    let Q : Vec ℕ Global → Type 0 = λ bytes. length bytes.items < 2 ^ 24 in
+    let Q : Vec ℕ Global → Type 0 = λ bytes. length bytes.items < max_metadata_size in
     IfOk-weaker c.write_message.result P Q (λ bytes same. omega (arith, same, fill, end)) c.write_message.ensures.size

@@ -11,8 +11,8 @@ returns-in_err-written g c =
     let fs = c.args.schema.now.fields.items in
     let rows = cells_in c.args.rows.now in
     let start = g.S.Sink.sunk c.args.sink.now in
-    let comes = first-comes start fs rows c.deref.result.now (c.deref.ensures.value ∙ c.in-Ok.ensures.bytes) in
-    from-err start (g.S.Sink.sunk c.put_after.new.sink) c.from_residual.result c.in_err-written.field-0.0 (canon fs rows) c.from_residual.ensures.1
+    let comes = first-comes start fs rows c.deref.result.now (c.deref.ensures.value ∙ c.in_ok-message.ensures.bytes) in
+    from-err start (g.S.Sink.sunk c.put_after.new.sink) c.from_residual-in_err-written.result c.in_err-written.field-0.0 (canon fs rows) c.from_residual-in_err-written.ensures.1
     (c.in_err-written.ensures.goes start (canon fs rows) (batches (trees fs) (length rows) rows ++ end_mark) comes)
 
 pub loop-left-init : goal.loop-left-init
@@ -20,11 +20,11 @@ loop-left-init g c =
     let fs = c.args.schema.now.fields.items in
     let rows = cells_in c.args.rows.now in
     let start = g.S.Sink.sunk c.args.sink.now in
-    let comes = first-comes start fs rows c.deref.result.now (c.deref.ensures.value ∙ c.in-Ok.ensures.bytes) in
+    let comes = first-comes start fs rows c.deref.result.now (c.deref.ensures.value ∙ c.in_ok-message.ensures.bytes) in
     let few = c.requires.table.few in
     let same = cells-length c.args.rows.now in
     let counted = c.in_ok-written.ensures.counted in
-    let size = c.in-Ok.ensures.size in
+    let size = c.in_ok-message.ensures.size in
     let same_bytes = ap length c.deref.ensures.value in
     record {
       went = c.in_ok-written.ensures.goes start (canon fs rows) (batches (trees fs) (length rows) rows ++ end_mark) comes;
@@ -51,7 +51,7 @@ returns-in_err-written-2 g c =
     let behind = cells_in (take (length left - n) (drop n left)) in
     let some = some-left c.is_empty.result (length left) c.is_empty.ensures c.loop-left-test.true in
     let value = c.len_of_batch-count.ensures.value ∙ ap (λ us. batch_len us (cells_in left)) c.requires.layouts in
-    let bytes = c.deref-in-loop-left.ensures.value ∙ c.in-Ok-batch_message.ensures.bytes ∙ ap (λ us. batch_message us (cells_in (take n left))) c.requires.layouts in
+    let bytes = c.deref-in-loop-left.ensures.value ∙ c.in-Ok.ensures.bytes ∙ ap (λ us. batch_message us (cells_in (take n left))) c.requires.layouts in
     let comes = batch-comes start (g.S.Sink.sunk c.loop-left.sink) c.loop-left.written whole fs left n c.deref-in-loop-left.result.now c.loop-left.invariant.went some c.len_of_batch-count.ensures.bound
     c.loop-left.invariant.sound value bytes in
     from-err start (g.S.Sink.sunk c.put_after-in-loop-left.new.sink) c.from_residual-in_err-written-2.result c.in_err-written-2.field-0.0 whole c.from_residual-in_err-written-2.ensures.1
@@ -79,7 +79,7 @@ loop-left-preserved g c =
     let inv = c.loop-left.invariant in
     let inside = c.len_of_batch-count.ensures.bound in
     let value = c.len_of_batch-count.ensures.value ∙ ap (λ us. batch_len us (cells_in left)) c.requires.layouts in
-    let bytes = c.deref-in-loop-left.ensures.value ∙ c.in-Ok-batch_message.ensures.bytes ∙ ap (λ us. batch_message us (cells_in (take n left))) c.requires.layouts in
+    let bytes = c.deref-in-loop-left.ensures.value ∙ c.in-Ok.ensures.bytes ∙ ap (λ us. batch_message us (cells_in (take n left))) c.requires.layouts in
     let some = some-left c.is_empty.result (length left) c.is_empty.ensures c.loop-left-test.true in
     let one = batch-some fs (cells_in left) (omega (arith, some, cells-length left)) inv.sound in
     let comes = batch-comes start (g.S.Sink.sunk c.loop-left.sink) c.loop-left.written whole fs left n c.deref-in-loop-left.result.now inv.went some inside
@@ -87,7 +87,7 @@ loop-left-preserved g c =
     let fewer = ap length (left-is left n inside) in
     let rest = length-drop n left in
     let counted = c.in_ok-written-2.ensures.counted in
-    let size = c.in-Ok-batch_message.ensures.size in
+    let size = c.in-Ok.ensures.size in
     let same = ap length c.deref-in-loop-left.ensures.value in
     record {
       went = c.in_ok-written-2.ensures.goes start whole (batches (trees fs) (length behind) behind ++ end_mark) comes;

@@ -1,0 +1,56 @@
+//! What is read of any table: its numbers and truth values, with their defaults.
+
+ghost use Rattle.std.specs.Result.{result_ok};
+ghost use Rattle.values.specs.Reading.{Judges, must};
+ghost use Rattle.field_types.specs.Reads.{bool_of, byte_of, long_of, short_of, word_of};
+
+use flatbuf::{BadTable, TableRef};
+use values::StreamFault;
+
+/// What was read of a table, or the fault of an unreadable one.
+pub fn readable<T: Drop>(found: Result<T, BadTable>) -> Result<T, StreamFault>
+    ensures { Judges (λ x. x) result (must StreamFault.BadTable (result_ok found)) }
+{
+    match found {
+        Ok(value) => Ok(value),
+        Err(BadTable) => Err(StreamFault::BadTable),
+    }
+}
+
+/// A bool of a table, `false` where it is absent.
+#[tactic(auto, unfolding(crate::specs::Reads::bool_of))]
+pub fn read_bool(table: &TableRef, slot: u16) -> Result<bool, StreamFault>
+    ensures { Judges (λ b. b) result (bool_of table.now slot) }
+{
+    Ok(read_byte(table, slot)? != 0)
+}
+
+/// A byte of a table, 0 where it is absent.
+pub fn read_byte(table: &TableRef, slot: u16) -> Result<u8, StreamFault>
+    ensures { Judges (λ n. n) result (byte_of table.now slot) }
+{
+    Ok(readable(table.u8(slot))?.unwrap_or(0))
+}
+
+/// A number of 16 bits, or this default where it is absent.
+#[tactic(auto, unfolding(crate::specs::Reads::short_of))]
+pub fn read_short(table: &TableRef, slot: u16, default: i16) -> Result<i16, StreamFault>
+    ensures { Judges (λ n. n) result (short_of table.now slot default) }
+{
+    Ok(readable(table.i16(slot))?.unwrap_or(default))
+}
+
+/// A number of 32 bits, or this default where it is absent.
+#[tactic(auto, unfolding(crate::specs::Reads::word_of))]
+pub(crate) fn read_word(table: &TableRef, slot: u16, default: i32) -> Result<i32, StreamFault>
+    ensures { Judges (λ n. n) result (word_of table.now slot default) }
+{
+    Ok(readable(table.i32(slot))?.unwrap_or(default))
+}
+
+/// A number of 64 bits, 0 where it is absent.
+pub fn read_long(table: &TableRef, slot: u16) -> Result<i64, StreamFault>
+    ensures { Judges (λ n. n) result (long_of table.now slot) }
+{
+    Ok(readable(table.i64(slot))?.unwrap_or(0))
+}
