@@ -1,6 +1,6 @@
 //! Laws of the definitions, each the contract of a function that does nothing.
 ghost use Rattle.schema_meta.specs.ClashLaw.{ClashLaw, TypeLaw};
-ghost use Rattle.schema_meta.specs.FieldsLaw.{ColumnsFit, FieldsLaw};
+ghost use Rattle.schema_meta.specs.FieldsLaw.{ColumnsFit, ColumnsNamed, FieldsLaw};
 ghost use Rattle.schema_meta.specs.LogicalLaw.{LogicalTrees, NarrowFits, NarrowHolds, NarrowHoldsEach, NarrowRowWeighs, NarrowWeighs};
 ghost use Rattle.schema_meta.specs.PlaceLaw.{PlaceLaw, SameWords, ValuesLaw, WordsLaw};
 ghost use Rattle.schema_meta.specs.PlainLaw.{PlainArrays, PlainSlots};
@@ -15,11 +15,13 @@ pub fn path_law()
     ensures stands { StandsByPaths }
 {}
 
-/// Fields that are read are at most 1,024 at all levels, with short names, types within their bounds, the children that each
-/// layout wants, slots within the limit, and no two dictionaries of one id and of different types; and their logical fields can be written.
+/// Fields that are read are at most 1,024 at all levels, nested to 16 levels, with short names, types within their bounds, the
+/// children that each layout wants, slots within the limit, and no two dictionaries of one id and of different types. Their logical
+/// fields can be written, and are read back.
 pub fn fields_law()
     ensures read { FieldsLaw }
     ensures fit { ColumnsFit }
+    ensures named { ColumnsNamed }
 {}
 
 /// The metadata of the Schema message that is written for a logical schema is read as the columns of
