@@ -6,7 +6,7 @@ ghost use Rattle.schema_meta.specs.PlaceLaw.{PlaceLaw, SameWords, ValuesLaw, Wor
 ghost use Rattle.schema_meta.specs.PlainLaw.{PlainArrays, PlainSlots};
 ghost use Rattle.schema_meta.specs.Paths.{FoundByPaths, StandsByPaths};
 ghost use Rattle.schema_meta.specs.SchemaLaw.{ColumnsLaw, SchemaLaw};
-ghost use Rattle.schema_meta.specs.SignLaw.{SignedLength, SignedOffsets, SignedRange, SignedSize};
+ghost use Rattle.schema_meta.specs.SignLaw.{SignedArrays, SignedBound, SignedFloor, SignedLargeOffsets, SignedLength, SignedOffsets, SignedRange, SignedSize};
 
 /// A fault stands in a schema's reading exactly where it stands at the end of a path of slots from the
 /// schema's table down, each path read by itself; too many fields stand by their counts or their depth.
@@ -34,11 +34,16 @@ pub fn schema_law()
 
 /// The definitions compare sizes, lengths, places and offsets by their bits, without a sign. Each of
 /// these comparisons holds exactly where the signed numbers, as the format has them, compare so and none
-/// of them is negative.
+/// of them is negative. `arrays` says so of all offsets of an array, of either width: 24 stands in them exactly
+/// where one is negative, falls, or points behind what there is.
 pub fn sign_law()
     ensures length { SignedLength }
+    ensures bound { SignedBound }
+    ensures floor { SignedFloor }
     ensures range { SignedRange }
     ensures offsets { SignedOffsets }
+    ensures large_offsets { SignedLargeOffsets }
+    ensures arrays { SignedArrays }
     ensures size { SignedSize }
 {}
 
