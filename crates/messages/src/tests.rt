@@ -380,7 +380,7 @@ fn declared(rt: &HostRuntime, name: &str) -> Result<Schema, Fail> {
     let mut fields = Vec::with_capacity(rt.alloc(), 2)?;
     fields.push(int64(rt.alloc(), "k")?)?;
     fields.push(int64(rt.alloc(), name)?)?;
-    Ok(Schema { fields })
+    Ok(Schema::new(rt.alloc(), fields)?)
 }
 
 #[test]

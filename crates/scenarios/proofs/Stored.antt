@@ -1,7 +1,7 @@
--- The table of the stored stream can be written.
-use Rattle.std.proofs.Common.{zero, suc, arith}
+-- The table of the stored stream can be written, and one of texts without rows.
+use Rattle.std.proofs.Common.{[], zero, suc, arith}
 use Rattle.std.specs.Prelude.{All}
-use Rattle.stream_writer.specs.Sample.{sample_fields, sample_rows}
+use Rattle.stream_writer.specs.Sample.{sample_fields, sample_rows, text_fields}
 use Rattle.stream_writer.specs.Table.{IsRow, IsTable}
 
 sound : All (IsRow sample_fields) sample_rows
@@ -17,4 +17,13 @@ is_table =
       layouts = ((tt, tt), ((tt, tt), tt));
       few = omega arith;
       sound = sound;
+    }
+
+pub is_text_table : IsTable text_fields []
+is_text_table =
+    record {
+      columns = record { few = omega arith; within = ((omega arith, tt, tt), ((omega arith, tt, ((omega arith, tt, tt), tt)), tt)) };
+      layouts = ((tt, tt), ((tt, ((tt, tt), tt)), tt));
+      few = omega arith;
+      sound = λ k d below. absurd (omega (arith, below));
     }

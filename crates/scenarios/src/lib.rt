@@ -3,7 +3,7 @@
 //! `sample` is a stored stream, `table` the table that it means, built cell by cell, and `streams` builds
 //! other streams by hand, `typed` those of columns of any type, `coded` those with dictionaries. `checks` compares one answer. The
 //! tests are `r1_rows`, what is written and refused of each kind of stream, `r2_rows`, the same of each type, `r3_rows`, the same of
-//! dictionaries, `r3_feeds`, a stream that comes in pieces, `cuts`, the stored stream cut short or bent, `inspect_texts`, what is
+//! dictionaries, `r3_feeds`, a stream that comes in pieces, `declared`, one whose columns were declared, `cuts`, the stored stream cut short or bent, `inspect_texts`, what is
 //! said of streams, and `printed`, what `lv` prints.
 //! Nothing here is for other crates.
 #![tactic(auto)]
@@ -14,6 +14,8 @@ mod checks;
 mod coded;
 #[cfg(test)]
 mod cuts;
+#[cfg(test)]
+mod declared;
 #[cfg(test)]
 mod inspect_texts;
 #[cfg(test)]

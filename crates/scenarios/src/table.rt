@@ -32,7 +32,7 @@ pub fn schema(alloc: Global) -> Result<Schema, AllocError>
     let mut fields = Vec::new(alloc);
     fields.push(int64(alloc, "k")?)?;
     fields.push(int64(alloc, "v")?)?;
-    Ok(Schema { fields })
+    Schema::new(alloc, fields)
 }
 
 fn row(alloc: Global, key: Kind, value: Kind) -> Result<Row, AllocError>

@@ -7,7 +7,7 @@ use Rattle.flatbuf.specs.Layout.{Table, Vector, text_of, subtable_of, vector_of,
 use Rattle.values.specs.Limits.{max_fields, max_depth, max_name_len}
 use Rattle.values.specs.Reading.{Reading, ◌>>=◌, both, second, mapped, each, one, cons}
 use Rattle.values.specs.declared.faults.StreamFault.TheVariants as fault
-use Rattle.values.specs.Rose.{Rose, node, Roses, none, more, kids_of, rose_size, roses_size}
+use Rattle.values.specs.Rose.{Rose, node, Roses, none, more, kids_of, rose_size, roses_size, rose_depth, roses_depth}
 use Rattle.values.specs.Layouts.{IsNode, IsLayout, AreLayouts}
 use Rattle.values.specs.declared.layout.IntWidth.{IntWidth}
 use Rattle.values.specs.declared.layout.Layout.{Layout}
@@ -105,58 +105,68 @@ slot_node : (c : Option Coding) (s : ColType) (kids : Roses Layout) → IsCoded 
 slot_node None s kids is h = h
 slot_node (Some c) s kids is h = single_node s c.index.width c.index.signed kids is h
 
--- what is known of the fields of a vector that was read: how many they are, and with those below them
-pub record AreKnown (n total : ℕ) (fs : List (Rose Entry)) : Type 0 where
+-- what is known of the fields of a vector that was read: how many they are, and with those below them, and how deep they go
+pub record AreKnown (n total depth : ℕ) (fs : List (Rose Entry)) : Type 0 where
   pub long : length fs ≡ n
   pub size : roses_size (kids_of fs) ≡ total
+  pub shallow : roses_depth (kids_of fs) ≤ depth
   pub layouts : AreLayouts (layouts_of fs)
   pub slots : AreLayouts (slot_layouts_of fs)
   pub good : AreGoodFields (kids_of fs)
 
-abbrev pub Known : (Vector → ℕ) → Vector → List (Rose Entry) → Type 0
-Known count v fs = AreKnown v.count (count v) fs
+abbrev pub Known : ℕ → (Vector → ℕ) → Vector → List (Rose Entry) → Type 0
+Known depth count v fs = AreKnown v.count (count v) depth fs
 
 is_zero : (n : ℕ) → (n == 0) ≡ true → n ≡ 0
 is_zero n e = grind (arith, nat_tests, e)
 
 -- the children of a field
-pub record Below (count : Vector → ℕ) (k : TypeKind) (o : Option Vector) (fs : List (Rose Entry)) : Type 0 where
+pub record Below (depth : ℕ) (count : Vector → ℕ) (k : TypeKind) (o : Option Vector) (fs : List (Rose Entry)) : Type 0 where
   pub may : may_have k (length fs) ≡ true
   pub size : roses_size (kids_of fs) ≡ total_in count o
+  pub shallow : roses_depth (kids_of fs) ≤ depth
   pub layouts : AreLayouts (layouts_of fs)
   pub slots : AreLayouts (slot_layouts_of fs)
   pub good : AreGoodFields (kids_of fs)
 
 below_in :
-    (below : Vector → Reading (List (Rose Entry))) (count : Vector → ℕ) (k : TypeKind) (o : Option Vector) (fs : List (Rose Entry))
-    → ((v : Vector) (gs : List (Rose Entry)) → below v ≡ Ok gs → Known count v gs) → may_have k (count_in o) ≡ true → fields_in below o ≡ Ok fs
-    → Below count k o fs
-below_in below count k None fs known may e =
-    let P : List (Rose Entry) → Type 0 = λ gs. Below count k None gs in
+    (below : Vector → Reading (List (Rose Entry))) (depth : ℕ) (count : Vector → ℕ) (k : TypeKind) (o : Option Vector) (fs : List (Rose Entry))
+    → ((v : Vector) (gs : List (Rose Entry)) → below v ≡ Ok gs → Known depth count v gs) → may_have k (count_in o) ≡ true
+    → fields_in below o ≡ Ok fs → Below depth count k o fs
+below_in below depth count k None fs known may e =
+    let P : List (Rose Entry) → Type 0 = λ gs. Below depth count k None gs in
     let is : [] ≡ fs = cc in
-    subst P is (record { may = may; size = refl; layouts = tt; slots = tt; good = tt })
-below_in below count k (Some v) fs known may e =
+    subst P is (record { may = may; size = refl; shallow = omega arith; layouts = tt; slots = tt; good = tt })
+below_in below depth count k (Some v) fs known may e =
     let here = known v fs e in
     let P : ℕ → Type 0 = λ n. may_have k n ≡ true in
-    record { may = subst P (sym here.long) may; size = here.size; layouts = here.layouts; slots = here.slots; good = here.good }
+    record {
+      may = subst P (sym here.long) may;
+      size = here.size;
+      shallow = here.shallow;
+      layouts = here.layouts;
+      slots = here.slots;
+      good = here.good;
+    }
 
 children_known :
-    (below : Vector → Reading (List (Rose Entry))) (count : Vector → ℕ) (k : TypeKind) (t : Table) (fs : List (Rose Entry))
-    → ((v : Vector) (gs : List (Rose Entry)) → below v ≡ Ok gs → Known count v gs) → children_of below k t ≡ Ok fs
-    → (o : Option Vector) × (vector_of t fbs.children ≡ Some o) × Below count k o fs
+    (below : Vector → Reading (List (Rose Entry))) (depth : ℕ) (count : Vector → ℕ) (k : TypeKind) (t : Table) (fs : List (Rose Entry))
+    → ((v : Vector) (gs : List (Rose Entry)) → below v ≡ Ok gs → Known depth count v gs) → children_of below k t ≡ Ok fs
+    → (o : Option Vector) × (vector_of t fbs.children ≡ Some o) × Below depth count k o fs
 unfolding children_of
-children_known below count k t fs known e =
+children_known below depth count k t fs known e =
     let read = bind_Ok (readable (vector_of t fbs.children)) (λ v. both second (needs fault.BadType (may_have k (count_in v))) (fields_in below v)) fs e in
     let parts = both_Ok second (needs fault.BadType (may_have k (count_in read.0))) (fields_in below read.0) fs read.2 in
-    let P : List (Rose Entry) → Type 0 = λ gs. Below count k read.0 gs in (
+    let P : List (Rose Entry) → Type 0 = λ gs. Below depth count k read.0 gs in (
       read.0,
       must_Ok fault.BadTable (vector_of t fbs.children) read.0 read.1,
-      subst P parts.4 (below_in below count k read.0 parts.1 known (needed _ _ parts.0 parts.2) parts.3),
+      subst P parts.4 (below_in below depth count k read.0 parts.1 known (needed _ _ parts.0 parts.2) parts.3),
     )
 
--- a field: how many there are with those below it, and that its layout is whole
-pub record IsKnown (count : Vector → ℕ) (v : Vector) (i : ℕ) (f : Rose Entry) : Type 0 where
+-- a field: how many there are with those below it, how deep they go, and that its layout is whole
+pub record IsKnown (depth : ℕ) (count : Vector → ℕ) (v : Vector) (i : ℕ) (f : Rose Entry) : Type 0 where
   pub size : rose_size f ≡ 1 + total_at count v i
+  pub shallow : rose_depth f ≤ suc depth
   pub layout : IsLayout (layout_of f)
   pub slots : IsLayout (slot_layout_of f)
   pub good : IsGoodField f
@@ -194,18 +204,19 @@ sum_is count v i o is = ap (total_in count) is
 
 -- a field of parts that were read
 made_known :
-    (count : Vector → ℕ) (v : Vector) (i : ℕ) (f : Rose Entry) (l : Label) (c : Content) (u : Storage) (s : ColType) (d : Option Coding)
-    (kids : List (Rose Entry)) → storage s d ≡ u → content u kids ≡ c → field l c ≡ f
-    → IsKnown count v i (field l (content (storage s d) kids)) → IsKnown count v i f
-made_known count v i f l c u s d kids stores made is known =
-    let P : Rose Entry → Type 0 = λ g. IsKnown count v i g in
+    (depth : ℕ) (count : Vector → ℕ) (v : Vector) (i : ℕ) (f : Rose Entry) (l : Label) (c : Content) (u : Storage) (s : ColType)
+    (d : Option Coding) (kids : List (Rose Entry)) → storage s d ≡ u → content u kids ≡ c → field l c ≡ f
+    → IsKnown depth count v i (field l (content (storage s d) kids)) → IsKnown depth count v i f
+made_known depth count v i f l c u s d kids stores made is known =
+    let P : Rose Entry → Type 0 = λ g. IsKnown depth count v i g in
     subst P (ap (λ x. field l (content x kids)) stores ∙ ap (field l) made ∙ is) known
 
 entry_known :
-    (below : Vector → Reading (List (Rose Entry))) (count : Vector → ℕ) (v : Vector) (i : ℕ) (f : Rose Entry)
-    → ((w : Vector) (gs : List (Rose Entry)) → below w ≡ Ok gs → Known count w gs) → entry_by below v i ≡ Ok f → IsKnown count v i f
+    (below : Vector → Reading (List (Rose Entry))) (depth : ℕ) (count : Vector → ℕ) (v : Vector) (i : ℕ) (f : Rose Entry)
+    → ((w : Vector) (gs : List (Rose Entry)) → below w ≡ Ok gs → Known depth count w gs) → entry_by below v i ≡ Ok f
+    → IsKnown depth count v i f
 unfolding entry_by field_of content_of
-entry_known below count v i f known e =
+entry_known below depth count v i f known e =
     let entry = bind_Ok (readable (entry_of v i)) (field_of below) f e in
     let t : Table = entry.0 in
     let here : entry_of v i ≡ Some t = must_Ok fault.BadTable (entry_of v i) t entry.1 in
@@ -218,52 +229,54 @@ entry_known below count v i f known e =
     let name = label_good t parts.0 parts.2 in
     let typed = read-is-type k t stores.0 stores.2 in
     let coded = coding_good k t stores.0 stores.1 stores.3 typed.1 in
-    let kids = children_known below count k t made.1 known made.3 in
+    let kids = children_known below depth count k t made.1 known made.3 in
     let sum = sum_is count v i kids.0 (child_is v i t k kids.0 here kinds.1 kids.1) in
     let May : ℕ → Type 0 = λ n. may_have k n ≡ true in
     let values = fit_node k t stores.0 (layouts_of made.1) stores.2 (subst May (sym (kids_of_all made.1)) kids.2.may) in
     let indices = fit_node k t stores.0 (slot_layouts_of made.1) stores.2 (subst May (sym (slots_of_all made.1)) kids.2.may) in
-    made_known count v i f parts.0 parts.1 made.0 stores.0 stores.1 made.1 stores.4 made.4 parts.4 (record {
+    made_known depth count v i f parts.0 parts.1 made.0 stores.0 stores.1 made.1 stores.4 made.4 parts.4 (record {
       size = omega (arith, kids.2.size, sum);
+      shallow = omega (arith, kids.2.shallow);
       layout = (values, kids.2.layouts);
       slots = (slot_node stores.1 stores.0 (slot_layouts_of made.1) coded indices, kids.2.slots);
       good = (name.0, name.1, typed.0, coded, kids.2.good);
     })
 
 each_known :
-    (below : Vector → Reading (List (Rose Entry))) (count : Vector → ℕ) (v : Vector) (i n : ℕ) (fs : List (Rose Entry))
-    → ((w : Vector) (gs : List (Rose Entry)) → below w ≡ Ok gs → Known count w gs) → each (entry_by below v) i n ≡ Ok fs
-    → AreKnown n (n + sum_from (total_at count v) i n) fs
+    (below : Vector → Reading (List (Rose Entry))) (depth : ℕ) (count : Vector → ℕ) (v : Vector) (i n : ℕ) (fs : List (Rose Entry))
+    → ((w : Vector) (gs : List (Rose Entry)) → below w ≡ Ok gs → Known depth count w gs) → each (entry_by below v) i n ≡ Ok fs
+    → AreKnown n (n + sum_from (total_at count v) i n) (suc depth) fs
 unfolding each sum_from
-each_known below count v i zero fs known e =
+each_known below depth count v i zero fs known e =
     let none : [] ≡ fs = cc in
-    let P : List (Rose Entry) → Type 0 = λ gs. AreKnown 0 0 gs in
-    subst P none (record { long = refl; size = refl; layouts = tt; slots = tt; good = tt })
-each_known below count v i (suc n) fs known e =
+    let P : List (Rose Entry) → Type 0 = λ gs. AreKnown 0 0 (suc depth) gs in
+    subst P none (record { long = refl; size = refl; shallow = omega arith; layouts = tt; slots = tt; good = tt })
+each_known below depth count v i (suc n) fs known e =
     let parts = both_Ok cons (entry_by below v i) (each (entry_by below v) (i + 1) n) fs e in
-    let here = entry_known below count v i parts.0 known parts.2 in
-    let rest = each_known below count v (i + 1) n parts.1 known parts.3 in
+    let here = entry_known below depth count v i parts.0 known parts.2 in
+    let rest = each_known below depth count v (i + 1) n parts.1 known parts.3 in
     let P : List (Rose Entry) → Type 0 =
-    λ gs. AreKnown (suc n) (suc n + (total_at count v i + sum_from (total_at count v) (i + 1) n)) gs in
+    λ gs. AreKnown (suc n) (suc n + (total_at count v i + sum_from (total_at count v) (i + 1) n)) (suc depth) gs in
     subst P parts.4 (record {
       long = ap suc rest.long;
       size = omega (arith, here.size, rest.size);
+      shallow = omega (arith, here.shallow, rest.shallow);
       layouts = (here.layout, rest.layouts);
       slots = (here.slots, rest.slots);
       good = (here.good, rest.good);
     })
 
-forest_known : (depth : ℕ) (v : Vector) (fs : List (Rose Entry)) → forest depth v ≡ Ok fs → Known (total depth) v fs
+forest_known : (depth : ℕ) (v : Vector) (fs : List (Rose Entry)) → forest depth v ≡ Ok fs → Known depth (total depth) v fs
 unfolding forest total
 forest_known zero v fs e = by_count (v.count == 0) refl e where
-  by_count : (b : Bool) → (v.count == 0) ≡ b → (if b then Ok [] else Err (one fault.TooManyFields)) ≡ Ok fs → Known (total zero) v fs
+  by_count : (b : Bool) → (v.count == 0) ≡ b → (if b then Ok [] else Err (one fault.TooManyFields)) ≡ Ok fs → Known zero (total zero) v fs
   by_count true empty e =
       let is : [] ≡ fs = cc in
-      let P : List (Rose Entry) → Type 0 = λ gs. Known (total zero) v gs in
-      subst P is (record { long = sym (is_zero v.count empty); size = refl; layouts = tt; slots = tt; good = tt })
+      let P : List (Rose Entry) → Type 0 = λ gs. Known zero (total zero) v gs in
+      subst P is (record { long = sym (is_zero v.count empty); size = refl; shallow = omega arith; layouts = tt; slots = tt; good = tt })
   by_count false some e = absurd (cc)
 forest_known (suc depth) v fs e =
-    each_known (forest depth) (total depth) v 0 v.count fs (forest_known depth) e
+    each_known (forest depth) depth (total depth) v 0 v.count fs (forest_known depth) e
 
 pub few_read : (v : Vector) (fs : List (Rose Entry)) (left room : ℕ) → forest max_depth v ≡ Ok fs → left + total max_depth v ≡ room → roses_size (kids_of fs) ≤ room
 few_read v fs left room read count = omega (arith, (forest_known max_depth v fs read).size, count)
@@ -286,6 +299,7 @@ columns_known v fs e =
     let P : List (Rose Entry) → Type 0 = λ gs. AreFields gs in
     subst P (are.2 ∙ parts.4) (record {
       few = omega (arith, known.size, few);
+      shallow = known.shallow;
       layouts = known.layouts;
       slots = known.slots;
       slim = are.0;
@@ -298,7 +312,7 @@ unfolding is_clear
 in_known None fs e =
     let none : [] ≡ fs = cc in
     let P : List (Rose Entry) → Type 0 = λ gs. AreFields gs in
-    subst P none (record { few = omega arith; layouts = tt; slots = tt; slim = refl; clear = refl; good = tt })
+    subst P none (record { few = omega arith; shallow = omega arith; layouts = tt; slots = tt; slim = refl; clear = refl; good = tt })
 in_known (Some v) fs e = columns_known v fs e
 
 pub fields_known : FieldsLaw

@@ -1,15 +1,23 @@
--- The logical fields of what was read can be written.
-use Rattle.std.proofs.Common.{◌≡◌, ℕ, ◌≤◌, List, [], ◌∷◌, length, map, refl, arith}
+-- The logical fields of what was read can be written, and are read back.
+use Rattle.std.proofs.Common.{◌≡◌, ℕ, zero, suc, ◌<◌, ◌≤◌, true, List, [], ◌∷◌, length, map, refl, ap, ◌∙◌, slice_index, arith}
+use Rattle.std.specs.Str.{is_utf8}
+use Rattle.std.proofs.lemmas.Str.{is_utf8-from_IsUtf8, IsUtf8-from_ascii}
 use Rattle.values.specs.Limits.{max_name_len}
-use Rattle.values.specs.Rose.{Rose, node, Roses, none, more, kids_of, roses_size}
+use Rattle.values.specs.Rose.{Rose, node, Roses, none, more, kids_of, roses_size, roses_depth}
+use Rattle.values.specs.Layouts.{slot}
+use Rattle.values.specs.declared.layout.Layout.{Layout}
 use Rattle.values.specs.ColTypes.{IsType}
-use Rattle.values.specs.Logical.{narrow, child_name}
+use Rattle.values.specs.Logical.{narrow, child_name, item_name, logical_below, AreLogical}
+use Rattle.values.proofs.Logicals.{narrow-again, child-again, are-narrow}
 use Rattle.values.specs.declared.col_type.ColType.{ColType}
 use Rattle.values.specs.declared.col_type.ColType.TheVariants as stored
 use Rattle.schema_meta.specs.Entry.{Entry}
-use Rattle.schema_meta.specs.Logical.{logical_field, logical_below}
-use Rattle.schema_meta.specs.FieldsLaw.{AreGoodFields, ColumnsFit}
+use Rattle.schema_meta.specs.Logical.{logical_field, named_below}
+use Rattle.schema_meta.specs.FieldLayouts.{layouts_of, is_slim, are_slim}
+use Rattle.schema_meta.specs.FieldsLaw.{AreGoodFields, ColumnsFit, ColumnsNamed}
+use Rattle.schema_meta.specs.LogicalLaw.{narrow_tree, narrow_trees}
 use Rattle.schema_meta.specs.SchemaTree.{AreWithin}
+use Rattle.schema_meta.proofs.Narrowing.{logical-trees, narrow-fits, slot-narrow}
 
 narrow-type : (s : ColType) → IsType s → IsType (narrow s)
 narrow-type stored.Bool h = tt
@@ -39,12 +47,12 @@ child-name (stored.Fixed w) n h = h
 child-name (stored.List o) n h = omega arith
 child-name stored.Struct n h = h
 
-below-within : (s : ColType) (fs : Roses Entry) → AreGoodFields fs → AreWithin (logical_below s fs)
+below-within : (s : ColType) (fs : Roses Entry) → AreGoodFields fs → AreWithin (logical_below s (named_below fs))
 below-within s none h = tt
 below-within s (more (node e kids) fs) h =
     ((child-name s e.name h.0.0, narrow-type e.stored h.0.2, below-within e.stored kids h.0.4), below-within s fs h.1)
 
-below-size : (s : ColType) (fs : Roses Entry) → roses_size (logical_below s fs) ≡ roses_size fs
+below-size : (s : ColType) (fs : Roses Entry) → roses_size (logical_below s (named_below fs)) ≡ roses_size fs
 below-size s none = refl
 below-size s (more (node e kids) fs) =
     let kids-same = below-size e.stored kids in let rest = below-size s fs in omega (arith, kids-same, rest)
@@ -59,3 +67,73 @@ all-size (node e kids ∷ fs) = let kids-same = below-size e.stored kids in let 
 
 pub columns_fit : ColumnsFit
 columns_fit fields known = record { few = omega (arith, all-size fields, known.few); within = all-within fields known.good }
+
+-- names, and the width of offsets
+
+item-text : is_utf8 item_name ≡ true
+item-text = is_utf8-from_IsUtf8 item_name (IsUtf8-from_ascii item_name ascii)
+  where
+    ascii : (i : ℕ) → slice_index item_name i < 128
+    ascii zero = omega arith
+    ascii (suc zero) = omega arith
+    ascii (suc (suc zero)) = omega arith
+    ascii (suc (suc (suc zero))) = omega arith
+    ascii (suc (suc (suc (suc i)))) = omega arith
+
+child-text : (s : ColType) (n : List ℕ) → is_utf8 n ≡ true → is_utf8 (child_name s n) ≡ true
+child-text stored.Bool n h = h
+child-text (stored.Int w s) n h = h
+child-text (stored.Decimal p s) n h = h
+child-text (stored.Date u) n h = h
+child-text (stored.Time u) n h = h
+child-text (stored.Timestamp u z) n h = h
+child-text (stored.Duration u) n h = h
+child-text (stored.Utf8 o) n h = h
+child-text (stored.Binary o) n h = h
+child-text (stored.Fixed w) n h = h
+child-text (stored.List o) n h = item-text
+child-text stored.Struct n h = h
+
+below-logical : (s : ColType) (fs : Roses Entry) → AreGoodFields fs → AreLogical s (logical_below s (named_below fs))
+below-logical s none h = tt
+below-logical s (more (node e kids) fs) h = (
+  (
+    child-text s e.name h.0.1,
+    child-again s e.name,
+    narrow-again e.stored,
+    are-narrow e.stored _ (below-logical e.stored kids h.0.4),
+  ),
+  below-logical s fs h.1,
+)
+
+-- the columns below none, as those below a struct
+columns-below : (fs : List (Rose Entry)) → kids_of (map logical_field fs) ≡ logical_below stored.Struct (named_below (kids_of fs))
+columns-below [] = refl
+columns-below (f ∷ fs) = ap (λ r. more (logical_field f) r) (columns-below fs)
+
+-- the depth stays
+
+below-depth : (s : ColType) (fs : Roses Entry) → roses_depth (logical_below s (named_below fs)) ≡ roses_depth fs
+below-depth s none = refl
+below-depth s (more (node e kids) fs) = rw (below-depth e.stored kids, below-depth s fs) refl
+
+-- so do the slots
+
+mutual
+  slim-narrow : (t : Rose Layout) → is_slim (narrow_tree t) ≡ is_slim t
+  slim-narrow (node l kids) = rw (slot-narrow (node l kids), slims-narrow kids) refl
+
+  slims-narrow : (ts : Roses Layout) → are_slim (narrow_trees ts) ≡ are_slim ts
+  slims-narrow none = refl
+  slims-narrow (more t ts) = rw (slim-narrow t, slims-narrow ts) refl
+
+pub columns-named : ColumnsNamed
+columns-named fields known =
+    let below = columns-below fields in
+    let trees = logical-trees fields in
+    record {
+      logical = rw below (below-logical stored.Struct (kids_of fields) known.good);
+      layouts = rw trees (narrow-fits (layouts_of fields) known.layouts);
+      shallow = rw below (let same = below-depth stored.Struct (kids_of fields) in omega (arith, same, known.shallow));
+      slim = rw trees (slims-narrow (layouts_of fields) ∙ known.slim);
+    }

@@ -6,12 +6,12 @@ use Rattle.values.specs.Layouts.{IsNode, IsLayout, AreLayouts, Holds, HoldsAll, 
 use Rattle.values.specs.declared.layout.Layout.{Layout}
 use Rattle.values.specs.declared.layout.Layout.TheVariants.{Bits, Number, Decimal, Fixed, Text, Bytes, List as Listed, Struct}
 use Rattle.values.specs.ColTypes.{layout_of as layout_by}
-use Rattle.values.specs.Logical.{narrow, trees_of}
+use Rattle.values.specs.Logical.{narrow, logical_below, trees_of}
 use Rattle.values.specs.declared.col_type.ColType.{ColType}
 use Rattle.values.specs.declared.col_type.ColType.TheVariants as stored
 use Rattle.schema_meta.specs.Entry.{Entry}
 use Rattle.schema_meta.specs.FieldLayouts.{layouts_below}
-use Rattle.schema_meta.specs.Logical.{logical_below}
+use Rattle.schema_meta.specs.Logical.{named_below}
 use Rattle.schema_meta.specs.LogicalLaw.{narrow_layout, narrow_tree, narrow_trees, LogicalTrees}
 
 layout-narrow : (s : ColType) → layout_by (narrow s) ≡ narrow_layout (layout_by s)
@@ -28,7 +28,7 @@ layout-narrow (stored.Fixed w) = refl
 layout-narrow (stored.List o) = refl
 layout-narrow stored.Struct = refl
 
-below-trees : (s : ColType) (fs : Roses Entry) → trees_of (logical_below s fs) ≡ narrow_trees (layouts_below fs)
+below-trees : (s : ColType) (fs : Roses Entry) → trees_of (logical_below s (named_below fs)) ≡ narrow_trees (layouts_below fs)
 below-trees s none = refl
 below-trees s (more (node e kids) fs) =
     let kids-same = below-trees e.stored kids in
@@ -105,7 +105,7 @@ mutual
   narrow-holds-each (more t ts) (item d es) h = (narrow-holds t d h.0, narrow-holds-each ts es h.1)
 
 mutual
-  slot-narrow : (t : Rose Layout) → slot (narrow_tree t) ≡ slot t
+  pub slot-narrow : (t : Rose Layout) → slot (narrow_tree t) ≡ slot t
   slot-narrow (node Bits kids) = refl
   slot-narrow (node (Number w s) kids) = refl
   slot-narrow (node (Decimal p) kids) = refl

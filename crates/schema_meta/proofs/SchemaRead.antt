@@ -14,11 +14,12 @@ use Rattle.flatbuf.proofs.Words.{number-read, signed-read, subtable-read, vector
 use Rattle.values.specs.Limits.{max_body_size, max_fields, max_depth}
 use Rattle.values.specs.Rose.{Rose, node, Roses, none, more, kids_of, roses_size}
 use Rattle.values.specs.declared.layout.Layout.{Layout}
-use Rattle.values.specs.Logical.{LogicalField, child_name, narrow}
+use Rattle.values.specs.Logical.{LogicalField, AreLogicalColumns, logical_column}
 use Rattle.values.specs.contracts.col_type.ColTypePartialEq.TheImpl as types
 use Rattle.values.specs.declared.col_type.ColType.{ColType}
 use Rattle.values.specs.declared.col_type.ColType.TheVariants as stored
 use Rattle.values.proofs.Equality.{types-exact}
+use Rattle.values.proofs.Logicals.{is-same}
 use Rattle.schema_meta.specs.declared.header.MessageKind.{MessageKind}
 use Rattle.schema_meta.specs.declared.header.MessageKind.TheVariants as kind
 use Rattle.field_types.specs.Reads.{short_of}
@@ -30,8 +31,8 @@ use Rattle.schema_meta.specs.Stage.{Known, Meta}
 use Rattle.schema_meta.specs.Message.{version_of, kind_of, header_table, body_of, expected, new_schema, header_of, meta_of, brings_schema}
 use Rattle.schema_meta.specs.MessageTree.{header_number, message_slots}
 use Rattle.schema_meta.specs.SchemaTree.{field_tables, schema_slots, schema_metadata, AreColumns}
-use Rattle.schema_meta.specs.SchemaLaw.{stored_below, stored_fields, AreLogical, AreNamed, before, AreExpected, SchemaLaw, ColumnsLaw}
-use Rattle.schema_meta.specs.Logical.{logical_below, logical_field}
+use Rattle.schema_meta.specs.SchemaLaw.{stored_field, stored_fields, AreNamed, before, AreExpected, SchemaLaw, ColumnsLaw}
+use Rattle.schema_meta.specs.Logical.{logical_field}
 use Rattle.schema_meta.specs.SameColumns.{are_same, is_declared}
 use Rattle.schema_meta.specs.Totals.{total}
 use Rattle.schema_meta.proofs.SchemaFits.{schema-writable}
@@ -39,6 +40,7 @@ use Rattle.schema_meta.proofs.ColumnsRead.{all_read}
 use Rattle.schema_meta.proofs.SoundFields.{Sound, tables-count, entries-fields, layouts-read}
 use Rattle.schema_meta.proofs.Plain.{plain-clear}
 use Rattle.schema_meta.proofs.FieldRead.{forest-read, total-read}
+use Rattle.schema_meta.proofs.Logicals.{named-stored}
 
 sound-columns : (fs : List (Rose LogicalField)) → AreColumns fs → AreNamed fs → Sound max_depth stored.Struct (kids_of fs)
 sound-columns fs columns named =
@@ -120,25 +122,10 @@ same-all : (fs : Roses LogicalField) → are_same fs fs ≡ true
 same-all none = refl
 same-all (more (node f kids) fs) = rw (same-bytes f.name, same-type f.col_type, same-all kids, same-all fs) refl
 
-abbrev field_named : List ℕ → ColType → LogicalField
-field_named name s = record { name = name; col_type = s }
-
--- a field whose parts are those of another
-logical-node :
-    (f : LogicalField) (name : List ℕ) (s : ColType) (below kids : Roses LogicalField) → name ≡ f.name → s ≡ f.col_type → below ≡ kids
-    → node (field_named name s) below ≡ node f kids
-logical-node f name s below kids named typed same = rw (named, typed, same) refl
-
-logical-below : (s : ColType) (fs : Roses LogicalField) → AreLogical s fs → logical_below s (stored_below fs) ≡ fs
-logical-below s none h = refl
-logical-below s (more (node f kids) fs) h =
-    let here = logical-node f (child_name s f.name) (narrow f.col_type) (logical_below f.col_type (stored_below kids)) kids h.0.1 h.0.2 (logical-below f.col_type kids h.0.3) in
-    rw (here, logical-below s fs h.1) refl
-
-logical-all : (fs : List (Rose LogicalField)) → AreLogical stored.Struct (kids_of fs) → map logical_field (stored_fields fs) ≡ fs
+logical-all : (fs : List (Rose LogicalField)) → AreLogicalColumns fs → map logical_field (stored_fields fs) ≡ fs
 logical-all [] h = refl
-logical-all (node f kids ∷ fs) h =
-    let here = logical-node f f.name (narrow f.col_type) (logical_below f.col_type (stored_below kids)) kids refl h.0.2 (logical-below f.col_type kids h.0.3) in
+logical-all (f ∷ fs) h =
+    let here : logical_field (stored_field f) ≡ f = ap logical_column (named-stored f) ∙ is-same stored.Struct f h.0 in
     rw (here, logical-all fs h.1) refl
 
 pub columns-law : ColumnsLaw

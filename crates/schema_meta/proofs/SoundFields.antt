@@ -2,24 +2,24 @@
 use Rattle.std.proofs.Common.{◌≡◌, ℕ, suc, ◌≤◌, true, List, [], ◌∷◌, refl, ap, subst, arith}
 use Rattle.std.specs.Prelude.{max}
 use Rattle.flatbuf.specs.Tree.{count}
-use Rattle.values.specs.Rose.{Rose, node, Roses, none, more, kids_of}
+use Rattle.values.specs.Rose.{Rose, node, Roses, none, more, kids_of, roses_depth}
 use Rattle.values.specs.Layouts.{AreLayouts}
 use Rattle.field_types.specs.Kinds.{may_have, kind_of_type}
-use Rattle.values.specs.Logical.{LogicalField, tree_of, trees_of}
+use Rattle.values.specs.Logical.{LogicalField, AreLogical, tree_of, trees_of}
 use Rattle.field_types.specs.StoredLaws.{kids_count}
 use Rattle.values.specs.declared.col_type.ColType.{ColType}
 use Rattle.field_types.proofs.Children.{children-fit}
 use Rattle.schema_meta.specs.Entry.{Entry}
 use Rattle.schema_meta.specs.FieldLayouts.{layout_of, layouts_below, layouts_of}
 use Rattle.schema_meta.specs.SchemaTree.{field_tables, AreWithin}
-use Rattle.schema_meta.specs.SchemaLaw.{stored_field, stored_below, stored_fields, depth_below, AreLogical}
+use Rattle.schema_meta.specs.SchemaLaw.{stored_field, stored_below, stored_fields}
 
 -- the fields below one of this type, at most so many levels of them
 pub record Sound (depth : ℕ) (parent : ColType) (fs : Roses LogicalField) : Type 0 where
   pub within : AreWithin fs
   pub logical : AreLogical parent fs
   pub layouts : AreLayouts (trees_of fs)
-  pub shallow : depth_below fs ≤ depth
+  pub shallow : roses_depth fs ≤ depth
 
 max-left : (a b d : ℕ) → max a b ≤ d → a ≤ d
 max-left a b d h = omega (arith, h)
@@ -29,14 +29,14 @@ max-right a b d h = omega (arith, h)
 
 pub no-level : (p : ColType) (f : Rose LogicalField) (fs : Roses LogicalField) → ¬ (Sound 0 p (more f fs))
 no-level p (node f kids) fs s =
-    let first = max-left (suc (depth_below kids)) (depth_below fs) 0 s.shallow in
+    let first = max-left (suc (roses_depth kids)) (roses_depth fs) 0 s.shallow in
     absurd (omega (arith, first))
 
 pub sound-below :
     (depth : ℕ) (p : ColType) (f : LogicalField) (kids fs : Roses LogicalField) → Sound (suc depth) p (more (node f kids) fs)
     → Sound depth f.col_type kids
 sound-below depth p f kids fs s =
-    let first = max-left (suc (depth_below kids)) (depth_below fs) (suc depth) s.shallow in
+    let first = max-left (suc (roses_depth kids)) (roses_depth fs) (suc depth) s.shallow in
     record { within = s.within.0.2; logical = s.logical.0.3; layouts = s.layouts.0.1; shallow = omega (arith, first) }
 
 pub sound-rest :
@@ -46,7 +46,7 @@ sound-rest depth p f kids fs s =
       within = s.within.1;
       logical = s.logical.1;
       layouts = s.layouts.1;
-      shallow = max-right (suc (depth_below kids)) (depth_below fs) depth s.shallow;
+      shallow = max-right (suc (roses_depth kids)) (roses_depth fs) depth s.shallow;
     }
 
 -- children

@@ -2,8 +2,8 @@
 use Rattle.std.specs.Prelude.{◌≡◌, ◌≤◌, true, List, Option, None, Some, Ok, length, map}
 use Rattle.std.specs.Str.{is_utf8}
 use Rattle.flatbuf.specs.Layout.{Table}
-use Rattle.values.specs.Limits.{max_fields, max_name_len}
-use Rattle.values.specs.Rose.{Rose, node, Roses, none, more, kids_of, roses_size}
+use Rattle.values.specs.Limits.{max_fields, max_depth, max_name_len}
+use Rattle.values.specs.Rose.{Rose, node, Roses, none, more, kids_of, roses_size, roses_depth}
 use Rattle.values.specs.Layouts.{AreLayouts}
 use Rattle.values.specs.ColTypes.{IsSingle, IsType}
 use Rattle.values.specs.declared.col_type.ColType.{ColType}
@@ -14,6 +14,7 @@ use Rattle.schema_meta.specs.FieldLayouts.{are_slim, layouts_of, slot_layouts_of
 use Rattle.schema_meta.specs.Logical.{logical_field}
 use Rattle.schema_meta.specs.Schema.{schema_of}
 use Rattle.schema_meta.specs.SchemaTree.{AreColumns}
+use Rattle.schema_meta.specs.SchemaLaw.{AreNamed}
 
 -- what a dictionary has is no list or struct
 abbrev pub IsCoded : Option Coding → ColType → Type 0
@@ -29,9 +30,10 @@ abbrev mutual
   AreGoodFields none = Unit {0}
   AreGoodFields (more f fs) = IsGoodField f × AreGoodFields fs
 
--- They are few at all levels, each has the children that its layout wants, no slot is too large, and no ids of dictionaries clash.
+-- They are few at all levels, and not too deep, each has the children that its layout wants, no slot is too large, and no ids of dictionaries clash.
 pub record AreFields (fields : List (Rose Entry)) : Type 0 where
   pub few : roses_size (kids_of fields) ≤ max_fields
+  pub shallow : roses_depth (kids_of fields) ≤ max_depth
   pub layouts : AreLayouts (layouts_of fields)
   pub slots : AreLayouts (slot_layouts_of fields)
   pub slim : are_slim (layouts_of fields) ≡ true
@@ -44,3 +46,7 @@ FieldsLaw = (t : Table) (fields : List (Rose Entry)) → schema_of t ≡ Ok fiel
 -- A schema of such fields can be written.
 abbrev pub ColumnsFit : Type 0
 ColumnsFit = (fields : List (Rose Entry)) → AreFields fields → AreColumns (map logical_field fields)
+
+-- A schema of such fields that is written is read back.
+abbrev pub ColumnsNamed : Type 0
+ColumnsNamed = (fields : List (Rose Entry)) → AreFields fields → AreNamed (map logical_field fields)

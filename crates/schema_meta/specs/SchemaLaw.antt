@@ -1,11 +1,8 @@
 -- What is written of a logical schema is read as that schema.
-use Rattle.std.specs.Prelude.{◌≡◌, ◌≤◌, ℕ, suc, max, true, List, [], map, Option, None, Some, Ok, ⊤}
-use Rattle.std.specs.Str.{is_utf8}
-use Rattle.values.specs.Rose.{Rose, node, Roses, none, more, kids_of}
+use Rattle.std.specs.Prelude.{◌≡◌, ◌≤◌, true, List, [], map, Option, None, Some, Ok, ⊤}
+use Rattle.values.specs.Rose.{Rose, node, Roses, none, more, kids_of, roses_depth}
 use Rattle.values.specs.Layouts.{AreLayouts}
-use Rattle.values.specs.Logical.{LogicalField, child_name, narrow, trees_of}
-use Rattle.values.specs.declared.col_type.ColType.{ColType}
-use Rattle.values.specs.declared.col_type.ColType.TheVariants as stored
+use Rattle.values.specs.Logical.{LogicalField, AreLogicalColumns, trees_of}
 use Rattle.schema_meta.specs.Entry.{Entry}
 use Rattle.schema_meta.specs.FieldLayouts.{are_slim}
 use Rattle.schema_meta.specs.Logical.{logical_field}
@@ -25,31 +22,12 @@ abbrev mutual
 abbrev pub stored_fields : List (Rose LogicalField) → List (Rose Entry)
 stored_fields fs = map stored_field fs
 
--- how many levels of fields there are
-abbrev mutual
-  pub depth_of : Rose LogicalField → ℕ
-  depth_of (node f kids) = suc (depth_below kids)
-
-  pub depth_below : Roses LogicalField → ℕ
-  depth_below none = 0
-  depth_below (more f fs) = max (depth_of f) (depth_below fs)
-
--- Below a field of this type: names are texts, the items of lists are named `item`, and offsets have 32 bits.
-abbrev mutual
-  pub IsLogical : ColType → Rose LogicalField → Type 0
-  IsLogical parent (node f kids) =
-      (is_utf8 f.name ≡ true) × (child_name parent f.name ≡ f.name) × (narrow f.col_type ≡ f.col_type) × AreLogical f.col_type kids
-
-  pub AreLogical : ColType → Roses LogicalField → Type 0
-  AreLogical parent none = Unit {0}
-  AreLogical parent (more f fs) = IsLogical parent f × AreLogical parent fs
-
 -- The columns of a logical schema, which a stream can have: each field has the children that its type wants, and they are
 -- neither too deep nor too wide.
 pub record AreNamed (fields : List (Rose LogicalField)) : Type 0 where
-  pub logical : AreLogical stored.Struct (kids_of fields)
+  pub logical : AreLogicalColumns fields
   pub layouts : AreLayouts (trees_of (kids_of fields))
-  pub shallow : depth_below (kids_of fields) ≤ 16
+  pub shallow : roses_depth (kids_of fields) ≤ 16
   pub slim : are_slim (trees_of (kids_of fields)) ≡ true
 
 -- a stream before its schema, with the columns that are declared for it, if any are

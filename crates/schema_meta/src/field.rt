@@ -1,14 +1,12 @@
 //! A field of the stored schema.
-ghost use Rattle.std.specs.Prelude.{◌≡◌, IfOk};
-ghost use Rattle.values.specs.Rose.{kids_of};
-ghost use Rattle.values.specs.Logical.{child_name, narrow};
+ghost use Rattle.std.specs.Prelude.{◌≡◌, IfOk, map};
 ghost use Rattle.schema_meta.specs.FieldLayouts.{own_layout};
-ghost use Rattle.schema_meta.specs.Logical.{logical_as, logical_below, logical_field};
+ghost use Rattle.schema_meta.specs.Logical.{named_field};
 
 use crate::coding::Coding;
 use std::alloc::{AllocError, Global};
 use std::marker::Model;
-use values::{ColType, Layout, Named, OffsetWidth};
+use values::{ColType, Layout, Named};
 
 /// A field as it is stored: a column, or a part of one.
 ///
@@ -55,65 +53,30 @@ impl Field {
             },
         }
     }
-
-    /// The field with the type of its values, whatever they are stored as.
-    pub fn logical(&self, alloc: Global) -> Result<Named, AllocError>
-        ensures { IfOk result (λ n. n ≡ logical_field self.now) }
-    {
-        logical_as(alloc, self.name.as_str(), self)
-    }
 }
 
-/// The logical field of this name.
-#[cycle(logical)]
-#[tactic(auto, using(crate::proofs::Logicals::logicals))]
-fn logical_as(alloc: Global, name: &str, field: &Field) -> Result<Named, AllocError>
-    ensures { IfOk result (λ n. n ≡ logical_as name.now field.now) }
+/// A field's name and the type of its values, with those below it.
+#[cycle(named)]
+#[tactic(auto, using(crate::proofs::Logicals::named))]
+fn named_field(alloc: Global, field: &Field) -> Result<Named, AllocError>
+    ensures { IfOk result (λ n. n ≡ named_field field.now) }
 {
     Ok(Named {
-        name: String::from_str(alloc, name)?,
-        col_type: narrow(alloc, &field.stored)?,
-        children: logical_below(alloc, &field.stored, &field.children)?,
+        name: String::from_str(alloc, field.name.as_str())?,
+        col_type: field.stored.copy(alloc)?,
+        children: named_fields(alloc, &field.children)?,
     })
 }
 
-/// The logical fields below one of this type.
-#[cycle(logical)]
-#[tactic(auto, using(crate::proofs::Logicals::logicals))]
-fn logical_below(
-    alloc: Global,
-    parent: &ColType,
-    fields: &[Field],
-) -> Result<Vec<Named>, AllocError>
-    ensures { IfOk result (λ ns. kids_of ns.items ≡ logical_below parent.now (kids_of fields.now)) }
+/// The names of fields and the types of their values.
+#[cycle(named)]
+#[tactic(auto, using(crate::proofs::Logicals::named))]
+pub(crate) fn named_fields(alloc: Global, fields: &[Field]) -> Result<Vec<Named>, AllocError>
+    ensures { IfOk result (λ ns. ns.items ≡ map named_field fields.now) }
 {
     let mut named = Vec::with_capacity(alloc, fields.len())?;
     for field in fields {
-        let name = child_name(parent, field.name.as_str());
-        named.push(logical_as(alloc, name, field)?)?;
+        named.push(named_field(alloc, field)?)?;
     }
     Ok(named)
-}
-
-/// The name of a child of a field of this type.
-fn child_name<'a>(parent: &ColType, name: &'a str) -> &'a str
-    ensures { result.now ≡ child_name parent.now name.now }
-{
-    match parent {
-        ColType::List { .. } => "item",
-        _ => name,
-    }
-}
-
-/// The type with offsets of 32 bits.
-fn narrow(alloc: Global, stored: &ColType) -> Result<ColType, AllocError>
-    ensures { IfOk result (λ s. s ≡ narrow stored.now) }
-{
-    let offsets = OffsetWidth::Bits32;
-    match stored {
-        ColType::Utf8 { .. } => Ok(ColType::Utf8 { offsets }),
-        ColType::Binary { .. } => Ok(ColType::Binary { offsets }),
-        ColType::List { .. } => Ok(ColType::List { offsets }),
-        _ => stored.copy(alloc),
-    }
 }

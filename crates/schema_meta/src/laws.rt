@@ -1,12 +1,12 @@
 //! Laws of the definitions, each the contract of a function that does nothing.
 ghost use Rattle.schema_meta.specs.ClashLaw.{ClashLaw, TypeLaw};
-ghost use Rattle.schema_meta.specs.FieldsLaw.{ColumnsFit, FieldsLaw};
+ghost use Rattle.schema_meta.specs.FieldsLaw.{ColumnsFit, ColumnsNamed, FieldsLaw};
 ghost use Rattle.schema_meta.specs.LogicalLaw.{LogicalTrees, NarrowFits, NarrowHolds, NarrowHoldsEach, NarrowRowWeighs, NarrowWeighs};
 ghost use Rattle.schema_meta.specs.PlaceLaw.{PlaceLaw, SameWords, ValuesLaw, WordsLaw};
 ghost use Rattle.schema_meta.specs.PlainLaw.{PlainArrays, PlainSlots};
 ghost use Rattle.schema_meta.specs.Paths.{FoundByPaths, StandsByPaths};
 ghost use Rattle.schema_meta.specs.SchemaLaw.{ColumnsLaw, SchemaLaw};
-ghost use Rattle.schema_meta.specs.SignLaw.{SignedLength, SignedOffsets, SignedRange, SignedSize};
+ghost use Rattle.schema_meta.specs.SignLaw.{SignedArrays, SignedBound, SignedFloor, SignedLargeOffsets, SignedLength, SignedOffsets, SignedRange, SignedSize};
 
 /// A fault stands in a schema's reading exactly where it stands at the end of a path of slots from the
 /// schema's table down, each path read by itself; too many fields stand by their counts or their depth.
@@ -15,11 +15,13 @@ pub fn path_law()
     ensures stands { StandsByPaths }
 {}
 
-/// Fields that are read are at most 1,024 at all levels, with short names, types within their bounds, the children that each
-/// layout wants, slots within the limit, and no two dictionaries of one id and of different types; and their logical fields can be written.
+/// Fields that are read are at most 1,024 at all levels, nested to 16 levels, with short names, types within their bounds, the
+/// children that each layout wants, slots within the limit, and no two dictionaries of one id and of different types. Their logical
+/// fields can be written, and are read back.
 pub fn fields_law()
     ensures read { FieldsLaw }
     ensures fit { ColumnsFit }
+    ensures named { ColumnsNamed }
 {}
 
 /// The metadata of the Schema message that is written for a logical schema is read as the columns of
@@ -32,11 +34,16 @@ pub fn schema_law()
 
 /// The definitions compare sizes, lengths, places and offsets by their bits, without a sign. Each of
 /// these comparisons holds exactly where the signed numbers, as the format has them, compare so and none
-/// of them is negative.
+/// of them is negative. `arrays` says so of all offsets of an array, of either width: 24 stands in them exactly
+/// where one is negative, falls, or points behind what there is.
 pub fn sign_law()
     ensures length { SignedLength }
+    ensures bound { SignedBound }
+    ensures floor { SignedFloor }
     ensures range { SignedRange }
     ensures offsets { SignedOffsets }
+    ensures large_offsets { SignedLargeOffsets }
+    ensures arrays { SignedArrays }
     ensures size { SignedSize }
 {}
 

@@ -5,7 +5,7 @@ ghost use Rattle.schema_meta.specs.Logical.{logical_field};
 ghost use Rattle.schema_meta.specs.Schema.{columns_of, endianness_of, schema_of};
 
 use crate::count::count;
-use crate::field::Field;
+use crate::field::{Field, named_fields};
 use crate::fields::read_fields;
 use crate::slot::slots_of;
 use crate::value_types::is_clear;
@@ -23,15 +23,12 @@ pub struct StreamSchema {
 }
 
 impl StreamSchema {
-    /// The columns' names and the types of their values.
+    /// The columns' names and the types of their values, whatever they are stored as.
+    #[tactic(auto, using(crate::proofs::Logicals::named))]
     pub fn logical(&self, alloc: Global) -> Result<Schema, AllocError>
         ensures { IfOk result (λ s. s.fields.items ≡ map logical_field self.now.fields.items) }
     {
-        let mut fields = Vec::with_capacity(alloc, self.fields.len())?;
-        for field in &self.fields {
-            fields.push(field.logical(alloc)?)?;
-        }
-        Ok(Schema { fields })
+        Schema::new(alloc, named_fields(alloc, &self.fields)?)
     }
 }
 

@@ -29,7 +29,7 @@ fn sample_schema(alloc: Global) -> Result<Schema, AllocError>
     let mut fields = Vec::new(alloc);
     fields.push(column(alloc, "k")?)?;
     fields.push(column(alloc, "v")?)?;
-    Ok(Schema { fields })
+    Schema::new(alloc, fields)
 }
 
 fn row(alloc: Global, first: Kind, second: Kind) -> Result<Row, AllocError>

@@ -4,3 +4,4 @@ pub mod ItemSizes
 pub mod KeyLaws
 pub mod Equality
 pub mod Weighing
+pub mod Logicals

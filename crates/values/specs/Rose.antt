@@ -1,5 +1,5 @@
 -- A tree with any number of children at each node, as stored fields and arrays are.
-use Rattle.std.specs.Prelude.{◌≡◌, ℕ, suc, ◌+◌, ◌≤◌, Option, None, Some, List, [], ◌∷◌, refl}
+use Rattle.std.specs.Prelude.{◌≡◌, ℕ, suc, max, ◌+◌, ◌≤◌, Option, None, Some, List, [], ◌∷◌, refl}
 use Rattle.std.proofs.Common.{ap, arith, ◌∙◌}
 use Rattle.std.specs.Coded.{Coded, code_by, coded×, coded_list, coded_option}
 use denote.Param.Weighed.{most}
@@ -30,6 +30,15 @@ abbrev mutual
   pub roses_size : {A : Type 0} → Roses A → ℕ
   roses_size none = 0
   roses_size (more t ts) = rose_size t + roses_size ts
+
+-- how many levels of nodes
+abbrev mutual
+  pub rose_depth : {A : Type 0} → Rose A → ℕ
+  rose_depth (node a kids) = suc (roses_depth kids)
+
+  pub roses_depth : {A : Type 0} → Roses A → ℕ
+  roses_depth none = 0
+  roses_depth (more t ts) = max (rose_depth t) (roses_depth ts)
 
 -- The code of a tree is its first node and then, for the children in preorder, `Some` of each node and `None` where a
 -- list of children ends. It is read from its end, on a stack of the lists that were read.

@@ -1,9 +1,15 @@
 //! The logical schema: what columns hold, whatever they are stored as.
 
+ghost use Rattle.std.specs.Prelude.{◌≡◌, IfOk, map};
+ghost use Rattle.values.specs.Rose.{kids_of};
+ghost use Rattle.values.specs.Logical.{AreLogical, AreLogicalColumns, AreLogicalColumns-prop, IsLogical, logical_column, logical_in, narrow};
+
 use crate::col_type::ColType;
+use crate::layout::OffsetWidth;
+use std::alloc::{AllocError, Global};
 use std::marker::Model;
 
-/// A field's name and type, with the fields below it: of a list its items, which are named `item`, of a struct its children.
+/// A field's name and type, with the fields below it: of a list its items, of a struct its children.
 ///
 /// Contracts see it as a tree with a `LogicalField` of `specs/Logical.antt` at each node.
 #[derive(Debug, Drop)]
@@ -30,8 +36,75 @@ impl Model for Named {
     ghost size_decreases = { λ n h. omega (arith, most_le-roses_size n.children.items) };
 }
 
-/// The columns of a table, in order.
+/// The columns of a table, in order: their names and logical types. Offsets have 32 bits, and the items of a list are named `item`;
+/// no value of this type says anything else of how columns are stored.
 #[derive(Debug, Drop)]
 pub struct Schema {
     pub fields: Vec<Named>,
+    pub ghost logical: { AreLogicalColumns fields.items } by { AreLogicalColumns-prop fields.items },
+}
+
+impl Schema {
+    /// The schema of these columns, whatever they say of how they are stored: offsets are narrowed, and the items of lists renamed.
+    pub fn new(alloc: Global, fields: Vec<Named>) -> Result<Schema, AllocError>
+        ensures { IfOk result (λ s. s.fields.items ≡ map logical_column fields.items) }
+    {
+        let fields = logical_below(alloc, &ColType::Struct, fields)?;
+        Ok(Schema { fields })
+    }
+}
+
+/// A field below one of type `parent` as a logical one, and those below it.
+#[cycle(logical)]
+#[tactic(auto, using(crate::proofs::Logicals::logicals))]
+fn logical_in(alloc: Global, parent: &ColType, field: Named) -> Result<Named, AllocError>
+    ensures value { IfOk result (λ n. n ≡ logical_in parent.now field) }
+    ensures logical { IfOk result (λ n. IsLogical parent.now n) }
+{
+    let Named {
+        name,
+        col_type,
+        children,
+    } = field;
+    let children = logical_below(alloc, &col_type, children)?;
+    let name = match parent {
+        ColType::List { .. } => String::from_str(alloc, "item")?,
+        _ => name,
+    };
+    Ok(Named {
+        name,
+        col_type: narrow(col_type),
+        children,
+    })
+}
+
+/// The fields below one of type `parent` as logical ones.
+#[cycle(logical)]
+#[tactic(auto, using(crate::proofs::Logicals::logicals))]
+fn logical_below(
+    alloc: Global,
+    parent: &ColType,
+    fields: Vec<Named>,
+) -> Result<Vec<Named>, AllocError>
+    ensures value { IfOk result (λ ns. ns.items ≡ map (logical_in parent.now) fields.items) }
+    ensures logical { IfOk result (λ ns. AreLogical parent.now (kids_of ns.items)) }
+{
+    let mut logical = Vec::with_capacity(alloc, fields.len())?;
+    for field in fields {
+        logical.push(logical_in(alloc, parent, field)?)?;
+    }
+    Ok(logical)
+}
+
+/// The type with offsets of 32 bits.
+fn narrow(col_type: ColType) -> ColType
+    ensures { result ≡ narrow col_type }
+{
+    let offsets = OffsetWidth::Bits32;
+    match col_type {
+        ColType::Utf8 { .. } => ColType::Utf8 { offsets },
+        ColType::Binary { .. } => ColType::Binary { offsets },
+        ColType::List { .. } => ColType::List { offsets },
+        other => other,
+    }
 }

@@ -1,8 +1,8 @@
 //! Copies, order, keys and weights of values of every kind, and types as text.
 
 use crate::{
-    ColType, DateUnit, IntWidth, Key, Kind, Layout, LayoutTree, OffsetWidth, TimeUnit, Value, Zone,
-    cmp_values, copy_row, row_weight, slot, weight,
+    ColType, DateUnit, IntWidth, Key, Kind, Layout, LayoutTree, Named, OffsetWidth, Schema,
+    TimeUnit, Value, Zone, cmp_values, copy_row, row_weight, slot, weight,
 };
 use std::alloc::{AllocError, Global};
 use std::cmp::Ordering;
@@ -225,5 +225,41 @@ fn lies_in_memory_as_a_number(rt: HostRuntime) -> Result<(), Fail> {
     assert_eq!(rt; days.width(), IntWidth::Bits32);
     assert_eq!(rt; TimeUnit::Microsecond.width(), IntWidth::Bits64);
     assert_eq!(rt; TimeUnit::Microsecond.bits(), 64);
+    Ok(())
+}
+
+/// Lists of texts with offsets of 64 bits, whose items are named `element`.
+fn large_lists(alloc: Global) -> Result<Named, AllocError> {
+    let offsets = OffsetWidth::Bits64;
+    let mut children = Vec::new(alloc);
+    children.push(Named {
+        name: String::from_str(alloc, "element")?,
+        col_type: ColType::Utf8 { offsets },
+        children: Vec::new(alloc),
+    })?;
+    Ok(Named {
+        name: String::from_str(alloc, "lists")?,
+        col_type: ColType::List { offsets },
+        children,
+    })
+}
+
+#[test]
+fn drops_how_columns_are_stored(rt: HostRuntime) -> Result<(), Fail> {
+    let alloc = rt.alloc();
+    let mut fields = Vec::new(alloc);
+    fields.push(large_lists(alloc)?)?;
+    let schema = Schema::new(alloc, fields)?;
+    let [lists] = schema.fields.as_slice() else {
+        return Err(Fail::from("not one column"));
+    };
+    let [items] = lists.children.as_slice() else {
+        return Err(Fail::from("not one child"));
+    };
+    let offsets = OffsetWidth::Bits32;
+    assert_eq!(rt; lists.name.as_str(), "lists");
+    assert_eq!(rt; &lists.col_type, &ColType::List { offsets });
+    assert_eq!(rt; items.name.as_str(), "item");
+    assert_eq!(rt; &items.col_type, &ColType::Utf8 { offsets });
     Ok(())
 }
