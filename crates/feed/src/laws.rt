@@ -3,7 +3,7 @@
 ghost use Rattle.feed.specs.CutLaw.{FaultsStay, PartialJoins, PartialUses, WholeStays, WholeUses};
 ghost use Rattle.feed.specs.StoryLaw.{AllIsTold, EventTells, FaultsTell, NoneHeld, PartialIsHeld, PartialTells, TaleKnows};
 
-use messages::{message_law, more_bytes_law};
+use messages::first_message_law;
 
 /// However a stream is cut into pieces, a feed gives the same events, and the same faults stand: a piece without an event may be joined
 /// with the next, and more bytes change neither a whole message nor a fault. A whole message uses some of its piece.
@@ -14,8 +14,7 @@ pub fn cut_law()
     ensures uses { WholeUses }
     ensures all { PartialUses }
 {
-    more_bytes_law();
-    message_law();
+    first_message_law();
 }
 
 /// What the events of a feed tell of the whole stream: the reading of the bytes that are left, event by event.
@@ -28,6 +27,5 @@ pub fn story_law()
     ensures partial { PartialTells }
     ensures knows { TaleKnows }
 {
-    more_bytes_law();
-    message_law();
+    first_message_law();
 }

@@ -7,6 +7,7 @@ use Rattle.schema_meta.specs.Stage.{Known, Whole, end_of}
 use Rattle.schema_meta.specs.Framing.{first}
 use Rattle.messages.specs.declared.headers.Framed.{Framed}
 use Rattle.messages.specs.Handed.{MessageView}
+use Rattle.messages.specs.MessageLaw.{MessageLaw}
 use Rattle.messages.specs.Stream.{Stream, Frames}
 use Rattle.messages.specs.Run.{Run, run_of, run_behind, whole_run}
 use Rattle.messages.specs.Feeding.{End, Feeds}
@@ -38,6 +39,16 @@ WholeAlone =
 -- No byte is no message yet.
 abbrev pub NothingYet : Type 0
 NothingYet = (known : Known) → first known [] ≡ Ok None
+
+-- All that holds of the first message of some bytes, in one.
+pub record FirstMessageLaw : Type 0 where
+  pub whole : WholeStays
+  pub within : WholeWithin
+  pub fault : FaultStays
+  pub faults : FaultsStay
+  pub alone : WholeAlone
+  pub none : NothingYet
+  pub message : MessageLaw
 
 -- A push changes nothing of the messages of a stream: those of what was held, the piece and all that comes later are the one
 -- that the push hands on, if it does, and those of what is held then, the rest of the piece and all that comes later.
