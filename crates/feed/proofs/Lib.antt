@@ -1,5 +1,7 @@
 pub mod Keeping
 pub mod Cutting
+pub mod Transcribing
+pub mod Pieces
 pub mod Telling
 pub mod Gathering
 pub mod Batching

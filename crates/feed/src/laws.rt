@@ -1,6 +1,7 @@
 //! Laws of the definitions: functions that do nothing, whose contracts are theorems.
 
 ghost use Rattle.feed.specs.CutLaw.{FaultsStay, PartialJoins, PartialUses, WholeStays, WholeUses};
+ghost use Rattle.feed.specs.Pieces.{CutsAgree, FeedFollows, FeedsEnd, NothingLeft, PushKeeps, RefusalEnds};
 ghost use Rattle.feed.specs.StoryLaw.{AllIsTold, EventTells, FaultsTell, NoneHeld, PartialIsHeld, PartialTells, TaleKnows};
 
 use messages::first_message_law;
@@ -13,6 +14,20 @@ pub fn cut_law()
     ensures faults { FaultsStay }
     ensures uses { WholeUses }
     ensures all { PartialUses }
+{
+    first_message_law();
+}
+
+/// However a stream is cut into pieces, pushing them gives the events of its bytes and leaves the feed where they lead, or a refusal
+/// names one of the faults that stand there; what a push leaves of a piece is pushed next. `none`, `push` and `refusal` say it of one
+/// push, `feed` of a list of pieces, `cuts` that two lists with the same bytes come to the same, and `end` that each list comes to an end.
+pub fn pieces_law()
+    ensures none { NothingLeft }
+    ensures push { PushKeeps }
+    ensures refusal { RefusalEnds }
+    ensures feed { FeedFollows }
+    ensures cuts { CutsAgree }
+    ensures end { FeedsEnd }
 {
     first_message_law();
 }

@@ -1,5 +1,5 @@
 -- Feeding pieces, by the messages of all their bytes.
-use Rattle.std.proofs.Common.{◌≡◌, inl, ℕ, zero, suc, ◌+◌, ◌-◌, ◌<◌, ◌≤◌, Option, None, Some, Ok, Err, List, [], ◌∷◌, ◌++◌, length, drop, refl, ap, sym, subst, ◌∙◌, arith, append_assoc, append-nil, length-append, length-drop}
+use Rattle.std.proofs.Common.{◌≡◌, inl, ℕ, zero, suc, ◌+◌, ◌-◌, ◌<◌, ◌≤◌, Option, None, Some, Result, Ok, Err, List, [], ◌∷◌, ◌++◌, length, drop, refl, ap, sym, subst, ◌∙◌, arith, append_assoc, append-nil, length-append, length-drop}
 use Rattle.std.specs.List.{concat}
 use Rattle.std.proofs.Math.Seq.{drop-length}
 use Rattle.values.specs.declared.faults.StreamFault.{StreamFault}
@@ -166,13 +166,13 @@ feed_law old pieces messages end p h =
     subst P (run_enough (length bytes) old.known bytes (omega arith))
     (feed_follows old pieces messages end h (length bytes) p (omega arith))
 
-agree :
-    (rest : Reading Stream) (end other : End) → Judges (λ s. s) end rest → Judges (λ s. s) other rest
+pub agree :
+    {S : Type 0} (rest : Reading S) (end other : Result S StreamFault) → Judges (λ s. s) end rest → Judges (λ s. s) other rest
     → AgreeIn rest end other
-agree rest (Ok s) (Ok t) h k = let e : Ok s ≡ Ok t = sym h ∙ k in cc
-agree rest (Err c) (Err d) h k = (h, k)
-agree rest (Ok s) (Err d) h k = let P : Reading Stream → Type 0 = λ m. Stands m d in absurd (subst P h k)
-agree rest (Err c) (Ok t) h k = let P : Reading Stream → Type 0 = λ m. Stands m c in absurd (subst P k h)
+agree {S} rest (Ok s) (Ok t) h k = let e : Ok s ≡ Ok t = sym h ∙ k in cc
+agree {S} rest (Err c) (Err d) h k = (h, k)
+agree {S} rest (Ok s) (Err d) h k = let P : Reading S → Type 0 = λ m. Stands m d in absurd (subst P h k)
+agree {S} rest (Err c) (Ok t) h k = let P : Reading S → Type 0 = λ m. Stands m c in absurd (subst P k h)
 
 pub cuts_law : CutsAgree
 cuts_law old pieces others messages theirs end other p same h k =
@@ -186,7 +186,7 @@ cuts_law old pieces others messages theirs end other p same h k =
 abbrev Ends : Stream → List (List ℕ) → Type 0
 Ends s pieces = (messages : List MessageView) × (end : End) × Feeds s pieces messages end
 
-some_fault : (fs : Faults) → (c : StreamFault) × IsAmong fs c
+pub some_fault : (fs : Faults) → (c : StreamFault) × IsAmong fs c
 some_fault (one c) = (c, refl)
 some_fault (several fs gs) = let p = some_fault fs in (p.0, inl p.1)
 

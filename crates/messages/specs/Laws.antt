@@ -1,5 +1,5 @@
 -- What pieces can't change.
-use Rattle.std.specs.Prelude.{◌≡◌, ℕ, suc, ◌≤◌, List, [], ◌++◌, length, take, drop, None, Some, Ok, Err}
+use Rattle.std.specs.Prelude.{◌≡◌, ℕ, suc, ◌≤◌, List, [], ◌++◌, length, take, drop, None, Some, Result, Ok, Err}
 use Rattle.std.specs.List.{concat}
 use Rattle.values.specs.declared.faults.StreamFault.{StreamFault}
 use Rattle.values.specs.Reading.{Faults, Judges, Reading, Stands}
@@ -77,8 +77,8 @@ FeedFollowsRun =
     → first old.known old.held ≡ Ok None → Feeds old pieces messages end
     → Follows messages end (whole_run old.known (old.held ++ concat pieces))
 
--- the same stream is left, or both refusals name faults of the same set
-abbrev pub AgreeIn : Reading Stream → End → End → Type 0
+-- the same is left, or both refusals name faults of the same set
+abbrev pub AgreeIn : {S : Type 0} → Reading S → Result S StreamFault → Result S StreamFault → Type 0
 AgreeIn rest (Ok s) (Ok t) = s ≡ t
 AgreeIn rest (Err c) (Err d) = Stands rest c × Stands rest d
 AgreeIn rest (Ok s) (Err d) = ⊥
