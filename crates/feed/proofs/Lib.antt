@@ -3,6 +3,7 @@ pub mod Cutting
 pub mod Transcribing
 pub mod Pieces
 pub mod Telling
+pub mod Folding
 pub mod Gathering
 pub mod Batching
 pub mod Judging

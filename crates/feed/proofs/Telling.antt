@@ -35,7 +35,7 @@ zero_by n false e = elim (cases_lt 0 n) [
   | inr none ↦ absurd (eqb-false n 0 e (omega (arith, none)))
 ]
 
-zero_cases : (n : ℕ) → (((n == 0) ≡ true) × (n ≡ 0)) ⊎ (((n == 0) ≡ false) × (0 < n))
+pub zero_cases : (n : ℕ) → (((n == 0) ≡ true) × (n ≡ 0)) ⊎ (((n == 0) ≡ false) × (0 < n))
 zero_cases n = zero_by n (n == 0) refl
 
 abbrev story_with : Option (List (Rose Entry)) → List (List Datum) → Reading (Unit {0}) → Story
@@ -67,7 +67,7 @@ knowing-same None s same = refl
 knowing-same (Some fields) s same = ap (λ m. story_with m s.rows s.end) (sym (same fields refl))
 
 module _ (laws : FirstMessageLaw) where
-  brings : (known : Known) (bytes : List ℕ) (w : Whole) → first known bytes ≡ Ok (Some w) → Brings known.schema w.meta.schema w.meta.header
+  pub brings : (known : Known) (bytes : List ℕ) (w : Whole) → first known bytes ≡ Ok (Some w) → Brings known.schema w.meta.schema w.meta.header
   brings known bytes w is =
       let m : IsMessage known bytes w = laws.message known bytes w is in
       m.brings
@@ -140,7 +140,7 @@ module _ (laws : FirstMessageLaw) where
   first-between : (k : Kept) (bytes : List ℕ) (r : Reading (Option Whole)) → k.held ≡ [] → first k.known (k.held ++ bytes) ≡ r → first k.known bytes ≡ r
   first-between k bytes r none is = ap (λ h. first k.known (h ++ bytes)) (sym none) ∙ is
 
-  gives-open : (s : FeedState) (bytes : List ℕ) → s.condition ≡ condition.Opened → gives s bytes ≡ reading (kept_in s) bytes
+  pub gives-open : (s : FeedState) (bytes : List ℕ) → s.condition ≡ condition.Opened → gives s bytes ≡ reading (kept_in s) bytes
   unfolding gives
   gives-open s bytes is = ap (λ c. given_when c (kept_in s) bytes) is
 
@@ -157,7 +157,7 @@ module _ (laws : FirstMessageLaw) where
       omega (arith, less)
 
   -- what is kept after a message between two
-  kept-next :
+  pub kept-next :
       (s : FeedState) (bytes : List ℕ) (used : ℕ) (e : Event) (w : Whole) → first (kept_in s).known ((kept_in s).held ++ bytes) ≡ Ok (Some w)
       → end_of w - length (kept_in s).held ≡ used
       → kept_in (after_push s bytes (Ok (given used (Some e)))) ≡ kept_behind (kept_in s) bytes w

@@ -2,7 +2,7 @@
 
 ghost use Rattle.feed.specs.CutLaw.{FaultsStay, PartialJoins, PartialUses, WholeStays, WholeUses};
 ghost use Rattle.feed.specs.Pieces.{CutsAgree, FeedFollows, FeedsEnd, NothingLeft, PushKeeps, RefusalEnds};
-ghost use Rattle.feed.specs.StoryLaw.{AllIsTold, EventTells, FaultsTell, NoneHeld, PartialIsHeld, PartialTells, TaleKnows};
+ghost use Rattle.feed.specs.StoryLaw.{AllIsTold, EventTells, EventsTellAll, FaultsTell, NoneHeld, PartialIsHeld, PartialTells, TaleKnows};
 
 use messages::first_message_law;
 
@@ -32,7 +32,8 @@ pub fn pieces_law()
     first_message_law();
 }
 
-/// What the events of a feed tell of the whole stream: the reading of the bytes that are left, event by event.
+/// What the events of a feed tell of the whole stream: the reading of the bytes that are left, event by event; and `events`, of all of
+/// them.
 pub fn story_law()
     ensures all { AllIsTold }
     ensures event { EventTells }
@@ -41,6 +42,7 @@ pub fn story_law()
     ensures faults { FaultsTell }
     ensures partial { PartialTells }
     ensures knows { TaleKnows }
+    ensures events { EventsTellAll }
 {
     first_message_law();
 }

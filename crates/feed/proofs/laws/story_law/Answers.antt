@@ -1,4 +1,5 @@
 use Rattle.feed.proofs.Telling.{all-is-told, event-tells, none-held, faults-tell, partial-is-held, partial-tells, tale-knows}
+use Rattle.feed.proofs.Folding.{events-tell-all}
 use Rattle.feed.proofs.laws.story_law.Goals as goal
 
 pub returns-clause-all : goal.returns-clause-all
@@ -21,3 +22,6 @@ returns-clause-partial c = partial-tells c.first_message_law.ensures
 
 pub returns-clause-knows : goal.returns-clause-knows
 returns-clause-knows c = tale-knows
+
+pub returns-clause-events : goal.returns-clause-events
+returns-clause-events c = events-tell-all c.first_message_law.ensures
