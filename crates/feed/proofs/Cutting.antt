@@ -12,6 +12,7 @@ use Rattle.schema_meta.specs.Framing.{first}
 use Rattle.schema_meta.specs.SchemaLaw.{before}
 use Rattle.schema_meta.specs.Sound.{after}
 use Rattle.schema_meta.specs.Stage.{Known, Whole, end_of}
+use Rattle.messages.specs.Laws.{FirstMessageLaw}
 use Rattle.messages.specs.MessageLaw.{IsMessage}
 use Rattle.feed.specs.declared.condition.Condition.{Condition}
 use Rattle.feed.specs.declared.condition.Condition.TheVariants as condition
@@ -19,7 +20,7 @@ use Rattle.feed.specs.Kept.{Kept, kept, kept_of, kept_after, brought}
 use Rattle.feed.specs.Events.{Event, Given, given, given_by, event_by, reading}
 use Rattle.feed.specs.States.{FeedState, kept_in, gives, given_when, closed, condition_after, after_push}
 use Rattle.feed.specs.CutLaw.{PartialJoins, WholeStays, FaultsStay, WholeUses, PartialUses, shifted}
-use Rattle.feed.proofs.Keeping.{FirstLaws, same-range, front-below, kept_here, after-partial, left-after}
+use Rattle.feed.proofs.Keeping.{same-range, front-below, kept_here, after-partial, left-after}
 
 -- two ends of one thing
 pub ok-err : {X : Type 0} (m : Reading X) (x : X) (fs : Faults) → m ≡ Ok x → m ≡ Err fs → ⊥
@@ -94,7 +95,7 @@ partial-by k piece g is none = elim (read-by k piece) [
   | by_whole w found m ↦ absurd (none-by-whole (end_of w - length k.held) (event_by (after k.known w.meta) k.dictionaries (slice_range (k.held ++ piece) w.front (end_of w)) w.meta.header) g (sym m ∙ is) none)
 ]
 
-module _ (laws : FirstLaws) where
+module _ (laws : FirstMessageLaw) where
   -- what was not whole ends beyond
   pub ends-beyond :
       (known : Known) (bytes more : List ℕ) (w : Whole) → first known bytes ≡ Ok None → first known (bytes ++ more) ≡ Ok (Some w)

@@ -10,7 +10,7 @@ use Rattle.values.specs.Rose.{Rose}
 use Rattle.values.specs.Reading.{Fails, Passes, Stands}
 use Rattle.values.specs.declared.faults.StreamFault.{StreamFault}
 use Rattle.values.specs.declared.faults.StreamFault.TheVariants as fault
-use Rattle.dictionaries.specs.Batches.{DictionaryBatch, found_after}
+use Rattle.dictionaries.specs.Batches.{DictionaryBatch}
 use Rattle.dictionaries.specs.Law.{NoneAtFirst, StandsAfter}
 use Rattle.dictionaries.specs.Table.{Change, Changes, Table, found, values_in}
 use Rattle.values.specs.Logical.{LogicalField}
@@ -22,7 +22,7 @@ use Rattle.feed.specs.declared.condition.Condition.{Condition}
 use Rattle.feed.specs.declared.condition.Condition.TheVariants as condition
 use Rattle.feed.specs.declared.message.Coming.{Coming}
 use Rattle.feed.specs.declared.judge.Judged.{Judged}
-use Rattle.feed.specs.Kept.{Kept, kept, kept_of, stream_in}
+use Rattle.feed.specs.Kept.{Kept, kept, kept_of}
 use Rattle.feed.specs.Events.{Given, given, reading}
 use Rattle.feed.specs.States.{FeedState, Finishes, Gives, MayLack, after_finish, after_push, closed, condition_after, condition_faulty, finishing_when, fresh, gives, given_when, in_condition, kept_in}
 use Rattle.feed.specs.Shown.{FeedParts, HasValues, change_coming, event_coming, event_seen, judged_seen, IsAt, IsFeed, IsSettled, Leads, Shows, WillBeAt, found_next, values_next}
@@ -37,6 +37,13 @@ pub open-shows :
 unfolding kept_of kept
 open-shows law declared framing table change next stream none =
     record { stream = stream; dictionaries = law table none; condition = refl }
+
+-- what a feed's view shows, its parts show
+pub shown : (f g : FeedParts) (s : FeedState) → f ≡ g → Shows g s → Shows f s
+shown f g s same shows = subst (λ x. Shows x s) (sym same) shows
+
+pub opened : (f g : FeedParts) → f ≡ g → g.condition ≡ condition.Opened → f.condition ≡ condition.Opened
+opened f g same is = ap (λ x. x.condition) same ∙ is
 
 pub is-at : (f : FeedParts) (s : FeedState) → Shows f s → IsAt (kept_in s) f.framing.current f.table
 is-at f s shows = (shows.stream, shows.dictionaries)
@@ -196,31 +203,17 @@ closed-some f s [] empty shut is some shows = absurd (true-false empty is some) 
   true-false false p q = absurd (cc)
 closed-some f s (x ∷ xs) empty shut is some shows = subst (λ m. Stands m fault.AfterEnd) (sym (gives-closed f s (x ∷ xs) shut shows)) refl
 
--- a feed that nothing happened to
-pub still-shows :
-    (f : FeedParts) (s : FeedState) (framing : Framing) → Shows f s → framing.current ≡ f.framing.current
-    → Shows (parts framing f.table f.condition None f.condition) s
-still-shows f s framing shows stream =
-    record { stream = stream ∙ shows.stream; dictionaries = shows.dictionaries; condition = shows.condition }
-
 pub closed-fault :
     (f : FeedParts) (s : FeedState) (piece : List ℕ) (framing : Framing) (change : Option Change) (next : Condition) → Shows f s
     → framing.current ≡ f.framing.current → Shows (parts framing f.table condition.Broken change next) (after_push s piece (Err fault.AfterEnd))
 unfolding after_push
 closed-fault f s piece framing change next shows stream = shows-in f s framing f.table condition.Broken change next shows stream refl
 
--- Nothing leads to where the feed stands.
-pub leads-nowhere :
-    (f : FeedParts) (s : FeedState) (piece : List ℕ) (framing : Framing) → Shows f s → framing.prepared ≡ f.framing.current
-    → Leads (parts framing f.table f.condition None f.condition) (after_push s piece (Ok (given 0 None)))
+-- An empty piece leads to where the feed stands.
+pub leads-empty : (f : FeedParts) (s : FeedState) (piece : List ℕ) → Leads f s → Leads f (after_push s piece (Ok (given 0 None)))
 unfolding after_push
-leads-nowhere f s piece framing shows stream =
-    let k : kept_of s.declared (s.bytes ++ []) ≡ kept_of s.declared s.bytes = ap (λ xs. kept_of s.declared xs) (append-nil s.bytes) in
-    record {
-      stream = stream ∙ shows.stream ∙ sym (ap (λ x. stream_in x) k);
-      dictionaries = λ id. shows.dictionaries id ∙ sym (ap (λ x. found_after x.dictionaries id) k);
-      condition = shows.condition;
-    }
+leads-empty f s piece leads =
+    subst (λ bs. Leads f (record { declared = s.declared; bytes = bs; condition = s.condition })) (sym (append-nil s.bytes)) leads
 
 -- nothing is made ready
 pub settled : (f : FeedParts) → f.framing.prepared ≡ f.framing.current → f.change ≡ None → f.next ≡ f.condition → IsSettled f

@@ -9,8 +9,8 @@ use Rattle.values.specs.Rose.{Rose}
 use Rattle.values.specs.Reading.{Fails, Reading, ◌>>=◌, Stands, mapped}
 use Rattle.values.specs.declared.faults.StreamFault.{StreamFault}
 use Rattle.values.proofs.Readings.{fails_along}
-use Rattle.dictionaries.specs.Batches.{DictionaryBatch, dictionary_after}
-use Rattle.dictionaries.specs.Law.{StandsAfter, ValuesAfter}
+use Rattle.dictionaries.specs.Batches.{dictionary_after}
+use Rattle.dictionaries.specs.Law.{ValuesAfter}
 use Rattle.dictionaries.specs.Table.{Change, Table, values_in}
 use Rattle.values.specs.Logical.{LogicalField}
 use Rattle.schema_meta.specs.Entry.{Entry}
@@ -21,15 +21,16 @@ use Rattle.schema_meta.specs.PlaceLaw.{SameWords}
 use Rattle.schema_meta.specs.Rows.{columns_in}
 use Rattle.schema_meta.specs.Sound.{after, schema_after}
 use Rattle.schema_meta.specs.Stage.{Known, Whole, end_of}
-use Rattle.schema_meta.specs.Story.{fields_of}
 use Rattle.messages.specs.declared.headers.Framed.{Framed}
 use Rattle.messages.specs.Handed.{MessageView}
+use Rattle.messages.specs.Laws.{FirstMessageLaw}
 use Rattle.messages.specs.MessageLaw.{Brings, IsMessage, MessageLaw}
 use Rattle.messages.specs.Stream.{Frames, Stream, message_of}
-use Rattle.feed.specs.Kept.{Kept, brought_by, kept_of, stream_in}
+use Rattle.feed.specs.Kept.{Kept, kept_of, stream_in}
 use Rattle.feed.specs.Events.{Event, batch, event_by, event_in, given, given_by, reading}
 use Rattle.feed.specs.Shown.{HasValues, IsAt, WillBeAt, WillStandAfter}
-use Rattle.feed.proofs.Keeping.{FirstLaws, after-partial, after-whole}
+use Rattle.feed.specs.Calls.{Adds, message_brings, message_event}
+use Rattle.feed.proofs.Keeping.{after-partial, after-whole}
 
 stands-bind : {X Y : Type 0} (m : Reading X) (f : X → Reading Y) (c : StreamFault) → Stands m c → Stands (m >>= f) c
 stands-bind (Ok x) f c h = absurd h
@@ -59,7 +60,7 @@ waits-by :
     (k : Kept) (piece : List ℕ) (f : Framed) (new : Stream) (r : Reading (Option Whole)) → first k.known (k.held ++ piece) ≡ r
     → Frames r (stream_in k) piece f new → f.message ≡ None → Waits k piece f.used new
 waits-by k piece f new (Ok None) is frames none = record { is = is; all = frames.0; next = frames.2 }
-waits-by k piece f new (Ok (Some w)) is frames none = absurd (some-none f.message (message_of w (k.held ++ piece)) frames.1 none) where
+waits-by k piece f new (Ok (Some w)) is frames none = absurd (some-none f.message (message_of k.known w (k.held ++ piece)) frames.1 none) where
   some-none : (m : Option MessageView) (v : MessageView) → m ≡ Some v → m ≡ None → ⊥
   some-none None v a b = absurd (cc)
   some-none (Some x) v a b = absurd (cc)
@@ -89,7 +90,7 @@ pub record Came (k : Kept) (piece : List ℕ) (used : ℕ) (m : MessageView) (ne
   pub whole : Whole
   pub is : first k.known (k.held ++ piece) ≡ Ok (Some whole)
   pub size : used + length k.held ≡ end_of whole
-  pub seen : m ≡ message_of whole (k.held ++ piece)
+  pub seen : m ≡ message_of k.known whole (k.held ++ piece)
   pub next : new ≡ record { known = after k.known whole.meta; held = [] }
 
 came-by :
@@ -100,7 +101,7 @@ came-by k piece f m new (Ok None) is frames some = absurd (none-some f.message m
   none-some None v a b = absurd (cc)
   none-some (Some x) v a b = absurd (cc)
 came-by k piece f m new (Ok (Some w)) is frames some =
-    record { whole = w; is = is; size = frames.0; seen = same f.message m (message_of w (k.held ++ piece)) some frames.1; next = frames.2 } where
+    record { whole = w; is = is; size = frames.0; seen = same f.message m (message_of k.known w (k.held ++ piece)) some frames.1; next = frames.2 } where
       same : (x : Option MessageView) (a b : MessageView) → x ≡ Some a → x ≡ Some b → a ≡ b
       same None a b p q = absurd (cc)
       same (Some x) a b p q = cc
@@ -125,40 +126,35 @@ event-same law fields values others body header.End same = refl
 -- the piece, by the event of its message
 read-came :
     (law : SameWords) (batches : ValuesAfter) (k : Kept) (old new : Stream) (t : Table) (piece : List ℕ) (used : ℕ) (m : MessageView)
-    (fields : List (Rose Entry)) → IsAt k old t → (c : Came k piece used m new) → unwrap_or new.known.schema [] ≡ fields
-    → reading k piece ≡ mapped (λ e. given used (Some e)) (event_in fields (values_in t) m.body m.header)
+    → IsAt k old t → Came k piece used m new → reading k piece ≡ mapped (λ e. given used (Some e)) (message_event m (values_in t))
 unfolding reading
-read-came law batches k old new t piece used m fields at c known =
+read-came law batches k old new t piece used m at c =
     let now : Known = after k.known c.whole.meta in
-    let all : List ℕ = k.held ++ piece in
-    let columns : fields_of now ≡ fields = ap (λ s. unwrap_or s.known.schema []) (sym c.next) ∙ known in
+    let body : List ℕ = slice_range (k.held ++ piece) c.whole.front (end_of c.whole) in
     let size : end_of c.whole - length k.held ≡ used = omega (arith, c.size) in
     ap (λ r. r >>= given_by k piece) c.is
-    ∙ ap (λ n. mapped (λ e. given n (Some e)) (event_by now k.dictionaries (slice_range all c.whole.front (end_of c.whole)) c.whole.meta.header)) size
-    ∙ ap (λ v. mapped (λ e. given used (Some e)) (event_by now k.dictionaries v.body v.header)) (sym c.seen)
-    ∙ ap (λ fs. mapped (λ e. given used (Some e)) (event_in fs (dictionary_after k.dictionaries) m.body m.header)) columns
-    ∙ ap (λ e. mapped (λ x. given used (Some x)) e)
-    (sym (event-same law fields (values_in t) (dictionary_after k.dictionaries) m.body m.header (batches k.dictionaries t at.1)))
+    ∙ ap (λ n. mapped (λ e. given n (Some e)) (event_by now k.dictionaries body c.whole.meta.header)) size
+    ∙ ap (λ v. mapped (λ e. given used (Some e)) (message_event v (dictionary_after k.dictionaries))) (sym c.seen)
+    ∙ ap (λ r. mapped (λ e. given used (Some e)) r)
+    (sym (event-same law m.schema (values_in t) (dictionary_after k.dictionaries) m.body m.header (batches k.dictionaries t at.1)))
 
 pub judged-event :
-    (law : SameWords) (batches : ValuesAfter) (k : Kept) (old new : Stream) (t : Table) (piece : List ℕ) (used : ℕ) (m : MessageView)
-    (fields : List (Rose Entry)) (e : Event) → IsAt k old t → Came k piece used m new → unwrap_or new.known.schema [] ≡ fields
-    → event_in fields (values_in t) m.body m.header ≡ Ok e → reading k piece ≡ Ok (given used (Some e))
-judged-event law batches k old new t piece used m fields e at c known is =
-    read-came law batches k old new t piece used m fields at c known ∙ ap (λ r. mapped (λ x. given used (Some x)) r) is
+    (law : SameWords) (batches : ValuesAfter) (k : Kept) (old new : Stream) (t : Table) (piece : List ℕ) (used : ℕ) (m : MessageView) (e : Event)
+    → IsAt k old t → Came k piece used m new → message_event m (values_in t) ≡ Ok e → reading k piece ≡ Ok (given used (Some e))
+judged-event law batches k old new t piece used m e at c is =
+    read-came law batches k old new t piece used m at c ∙ ap (λ r. mapped (λ x. given used (Some x)) r) is
 
 pub judged-body :
     (law : SameWords) (batches : ValuesAfter) (k : Kept) (old new : Stream) (t : Table) (piece : List ℕ) (used : ℕ) (m : MessageView)
-    (fields : List (Rose Entry)) (c : StreamFault) → IsAt k old t → Came k piece used m new → unwrap_or new.known.schema [] ≡ fields
-    → Fails c (event_in fields (values_in t) m.body m.header) → Fails c (reading k piece)
-judged-body law batches k old new t piece used m fields c at x known fails =
-    let r : Reading Event = event_in fields (values_in t) m.body m.header in
-    subst (Fails c) (sym (read-came law batches k old new t piece used m fields at x known))
+    (c : StreamFault) → IsAt k old t → Came k piece used m new → Fails c (message_event m (values_in t)) → Fails c (reading k piece)
+judged-body law batches k old new t piece used m c at x fails =
+    let r : Reading Event = message_event m (values_in t) in
+    subst (Fails c) (sym (read-came law batches k old new t piece used m at x))
     (fails_along c r (mapped (λ e. given used (Some e)) r) (λ d h. stands-mapped (λ e. given used (Some e)) r d h) fails)
 
 -- where it leads
 pub leads-none :
-    (laws : FirstLaws) (declared : Option (List (Rose LogicalField))) (bytes : List ℕ) (old new : Stream) (t u : Table) (piece : List ℕ) (f : Framed)
+    (laws : FirstMessageLaw) (declared : Option (List (Rose LogicalField))) (bytes : List ℕ) (old new : Stream) (t u : Table) (piece : List ℕ) (f : Framed)
     → IsAt (kept_of declared bytes) old t → Frames (first old.known (old.held ++ piece)) old piece f new → f.message ≡ None
     → u.entries ≡ t.entries → WillBeAt (kept_of declared (bytes ++ take f.used piece)) new u None
 leads-none laws declared bytes old new t u piece f at frames none same =
@@ -170,20 +166,14 @@ leads-none laws declared bytes old new t u piece f at frames none same =
     subst (λ x. WillBeAt x new u None) (sym next) (w.next, λ id. ap (λ es. lookup (int_eq id) es) same ∙ at.1 id)
 
 pub leads-whole :
-    (laws : FirstLaws) (declared : Option (List (Rose LogicalField))) (bytes : List ℕ) (old new : Stream) (t u : Table) (piece : List ℕ) (used : ℕ)
-    (m : MessageView) (fields : List (Rose Entry)) (change : Option Change) → IsAt (kept_of declared bytes) old t
-    → Came (kept_of declared bytes) piece used m new → unwrap_or new.known.schema [] ≡ fields
-    → ((ds : List DictionaryBatch) → StandsAfter ds t → WillStandAfter (ds ++ brought_by fields m.body m.header) u change)
-    → WillBeAt (kept_of declared (bytes ++ take used piece)) new u change
-leads-whole laws declared bytes old new t u piece used m fields change at c known will =
+    (laws : FirstMessageLaw) (declared : Option (List (Rose LogicalField))) (bytes : List ℕ) (old new : Stream) (t u : Table) (piece : List ℕ)
+    (used : ℕ) (m : MessageView) (change : Option Change) → IsAt (kept_of declared bytes) old t → Came (kept_of declared bytes) piece used m new
+    → Adds t u change (message_brings m) → WillBeAt (kept_of declared (bytes ++ take used piece)) new u change
+leads-whole laws declared bytes old new t u piece used m change at c adds =
     let k : Kept = kept_of declared bytes in
-    let now : Known = after k.known c.whole.meta in
-    let columns : fields_of now ≡ fields = ap (λ s. unwrap_or s.known.schema []) (sym c.next) ∙ known in
     let next = after-whole laws declared bytes piece k c.whole used refl c.is c.size in
-    let same : brought_by (fields_of now) (slice_range (k.held ++ piece) c.whole.front (end_of c.whole)) c.whole.meta.header ≡ brought_by fields m.body m.header =
-    ap (λ v. brought_by (fields_of now) v.body v.header) (sym c.seen) ∙ ap (λ fs. brought_by fs m.body m.header) columns in
     subst (λ x. WillBeAt x new u change) (sym next)
-    (c.next, subst (λ es. WillStandAfter (k.dictionaries ++ es) u change) (sym same) (will k.dictionaries at.1))
+    (c.next, subst (λ v. WillStandAfter (k.dictionaries ++ message_brings v) u change) c.seen (adds k.dictionaries at.1))
 
 -- The dictionaries' values are of their types also once a message brings a schema: there are none yet.
 has-brought :

@@ -12,17 +12,9 @@ use Rattle.schema_meta.specs.SchemaLaw.{before}
 use Rattle.schema_meta.specs.Sound.{after}
 use Rattle.schema_meta.specs.Story.{fields_of}
 use Rattle.schema_meta.specs.Stage.{Known, Whole, end_of}
-use Rattle.messages.specs.Laws.{WholeStays, WholeAlone, NothingYet, FaultsStay}
-use Rattle.messages.specs.MessageLaw.{MessageLaw, IsMessage}
+use Rattle.messages.specs.Laws.{FirstMessageLaw}
+use Rattle.messages.specs.MessageLaw.{IsMessage}
 use Rattle.feed.specs.Kept.{Kept, kept, kept_of, kept_after, brought, brought_by}
-
--- what the contracts of messages say of the first message of some bytes
-pub record FirstLaws : Type 0 where
-  pub whole : WholeStays
-  pub faults : FaultsStay
-  pub alone : WholeAlone
-  pub none : NothingYet
-  pub message : MessageLaw
 
 abbrev pub kept_here : Known → List DictionaryBatch → List ℕ → Kept
 kept_here known ds bytes = record { known = known; dictionaries = ds; held = bytes }
@@ -56,7 +48,7 @@ abbrev pub kept_behind : Kept → List ℕ → Whole → Kept
 kept_behind k piece w =
     record { known = after k.known w.meta; dictionaries = k.dictionaries ++ brought (after k.known w.meta) (k.held ++ piece) w; held = [] }
 
-module _ (laws : FirstLaws) where
+module _ (laws : FirstMessageLaw) where
   pub kept-step :
       (n : ℕ) (known : Known) (ds : List DictionaryBatch) (bytes : List ℕ) (r : Reading (Option Whole)) → first known bytes ≡ r
       → kept (suc n) known ds bytes ≡ kept_after (kept n) known ds bytes r

@@ -1,6 +1,9 @@
 pub mod Keeping
 pub mod Cutting
+pub mod Transcribing
+pub mod Pieces
 pub mod Telling
+pub mod Folding
 pub mod Gathering
 pub mod Batching
 pub mod Judging

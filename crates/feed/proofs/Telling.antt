@@ -18,13 +18,14 @@ use Rattle.schema_meta.specs.Rows.{columns_in, rows_in, rows_of, values_of}
 use Rattle.schema_meta.specs.Sound.{after, schema_after}
 use Rattle.schema_meta.specs.Stage.{Known, Meta, Whole, end_of}
 use Rattle.schema_meta.specs.Story.{Story, after_batch, after_rows, after_values, at_end_mark, ends, fields_of, knowing, story, story_of, told, told_by}
+use Rattle.messages.specs.Laws.{FirstMessageLaw}
 use Rattle.messages.specs.MessageLaw.{Brings, IsMessage}
 use Rattle.feed.specs.declared.condition.Condition.TheVariants as condition
 use Rattle.feed.specs.Kept.{Kept, kept, kept_of, brought_by, taken}
 use Rattle.feed.specs.Events.{Event, batch, dictionary, ended, schema, Given, given, event_by, reading}
 use Rattle.feed.specs.States.{FeedState, after_push, given_when, gives, kept_in}
 use Rattle.feed.specs.StoryLaw.{AllIsTold, EventTells, FaultsTell, NoneHeld, PartialIsHeld, PartialTells, TaleKnows, tale, tale_from}
-use Rattle.feed.proofs.Keeping.{FirstLaws, after-partial, after-whole, kept_behind, left-after}
+use Rattle.feed.proofs.Keeping.{after-partial, after-whole, kept_behind, left-after}
 use Rattle.feed.proofs.Cutting.{event_of, by_fault, by_none, by_whole, event-by, read-by, partial-by, ends-in-piece, ok-err, ok-same}
 
 zero_by : (n : ℕ) (b : Bool) → (n == 0) ≡ b → (((n == 0) ≡ true) × (n ≡ 0)) ⊎ (((n == 0) ≡ false) × (0 < n))
@@ -34,7 +35,7 @@ zero_by n false e = elim (cases_lt 0 n) [
   | inr none ↦ absurd (eqb-false n 0 e (omega (arith, none)))
 ]
 
-zero_cases : (n : ℕ) → (((n == 0) ≡ true) × (n ≡ 0)) ⊎ (((n == 0) ≡ false) × (0 < n))
+pub zero_cases : (n : ℕ) → (((n == 0) ≡ true) × (n ≡ 0)) ⊎ (((n == 0) ≡ false) × (0 < n))
 zero_cases n = zero_by n (n == 0) refl
 
 abbrev story_with : Option (List (Rose Entry)) → List (List Datum) → Reading (Unit {0}) → Story
@@ -65,8 +66,8 @@ knowing-same : (o : Option (List (Rose Entry))) (s : Story) → ((fields : List 
 knowing-same None s same = refl
 knowing-same (Some fields) s same = ap (λ m. story_with m s.rows s.end) (sym (same fields refl))
 
-module _ (laws : FirstLaws) where
-  brings : (known : Known) (bytes : List ℕ) (w : Whole) → first known bytes ≡ Ok (Some w) → Brings known.schema w.meta.schema w.meta.header
+module _ (laws : FirstMessageLaw) where
+  pub brings : (known : Known) (bytes : List ℕ) (w : Whole) → first known bytes ≡ Ok (Some w) → Brings known.schema w.meta.schema w.meta.header
   brings known bytes w is =
       let m : IsMessage known bytes w = laws.message known bytes w is in
       m.brings
@@ -139,7 +140,7 @@ module _ (laws : FirstLaws) where
   first-between : (k : Kept) (bytes : List ℕ) (r : Reading (Option Whole)) → k.held ≡ [] → first k.known (k.held ++ bytes) ≡ r → first k.known bytes ≡ r
   first-between k bytes r none is = ap (λ h. first k.known (h ++ bytes)) (sym none) ∙ is
 
-  gives-open : (s : FeedState) (bytes : List ℕ) → s.condition ≡ condition.Opened → gives s bytes ≡ reading (kept_in s) bytes
+  pub gives-open : (s : FeedState) (bytes : List ℕ) → s.condition ≡ condition.Opened → gives s bytes ≡ reading (kept_in s) bytes
   unfolding gives
   gives-open s bytes is = ap (λ c. given_when c (kept_in s) bytes) is
 
@@ -156,7 +157,7 @@ module _ (laws : FirstLaws) where
       omega (arith, less)
 
   -- what is kept after a message between two
-  kept-next :
+  pub kept-next :
       (s : FeedState) (bytes : List ℕ) (used : ℕ) (e : Event) (w : Whole) → first (kept_in s).known ((kept_in s).held ++ bytes) ≡ Ok (Some w)
       → end_of w - length (kept_in s).held ≡ used
       → kept_in (after_push s bytes (Ok (given used (Some e)))) ≡ kept_behind (kept_in s) bytes w

@@ -5,6 +5,8 @@ use Rattle.values.specs.Reading.{Reading, ◌>>=◌, mapped}
 use Rattle.values.specs.Rose.{Rose}
 use Rattle.dictionaries.specs.Batches.{DictionaryBatch, dictionary_after}
 use Rattle.schema_meta.specs.Entry.{Entry}
+use Rattle.schema_meta.specs.BatchHead.{BatchHead}
+use Rattle.schema_meta.specs.declared.header.DictionaryHeader.{DictionaryHeader}
 use Rattle.schema_meta.specs.declared.header.Header.{Header}
 use Rattle.schema_meta.specs.declared.header.Header.TheVariants as header
 use Rattle.schema_meta.specs.Framing.{first}
@@ -24,12 +26,19 @@ pub data Event : Type 0 where
   batch : List (List Datum) → ℕ → ℕ → Event
   ended : Event
 
+-- a dictionary batch of a stream with these columns, by the values that it brings
+abbrev pub dictionary_event : List (Rose Entry) → DictionaryHeader → List ℕ → Reading Event
+dictionary_event fields d body = mapped (λ vs. dictionary d.id d.is_delta (length vs)) (values_of fields d body)
+
+-- a record batch, by its columns, where the dictionaries have these values
+abbrev pub batch_event : (ℤ → List Datum) → List (Rose Entry) → BatchHead → List ℕ → Reading Event
+batch_event values fields b body = mapped (λ columns. batch columns b.rows (length body)) (columns_in body (arrays_of values fields b))
+
 -- The message with this header and body, in a stream with these columns, whose dictionaries have these values.
 abbrev pub event_in : List (Rose Entry) → (ℤ → List Datum) → List ℕ → Header → Reading Event
 event_in fields values body header.Schema = Ok (schema fields)
-event_in fields values body (header.Dictionary d) = mapped (λ vs. dictionary d.id d.is_delta (length vs)) (values_of fields d body)
-event_in fields values body (header.Batch b) =
-    mapped (λ columns. batch columns b.rows (length body)) (columns_in body (arrays_of values fields b))
+event_in fields values body (header.Dictionary d) = dictionary_event fields d body
+event_in fields values body (header.Batch b) = batch_event values fields b body
 event_in fields values body header.End = Ok ended
 
 -- the same where so much is known after it, and these dictionary batches came before it

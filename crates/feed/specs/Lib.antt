@@ -3,5 +3,8 @@ pub mod Kept
 pub mod Events
 pub mod States
 pub mod Shown
+pub mod Calls
+pub mod Transcript
+pub mod Pieces
 pub mod CutLaw
 pub mod StoryLaw

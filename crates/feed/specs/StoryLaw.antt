@@ -1,15 +1,17 @@
 -- What a feed's events tell of the whole stream: as the reading of the bytes that are left says.
-use Rattle.std.specs.Prelude.{◌≡◌, ℕ, ◌++◌, ◌<◌, List, [], None, Some, Ok, Err, length, drop}
-use Rattle.values.specs.Reading.{Faults, one}
+use Rattle.std.specs.Prelude.{◌≡◌, ℕ, ◌++◌, ◌<◌, List, [], ◌∷◌, Option, None, Some, Ok, Err, flat_map, length, drop}
+use Rattle.values.specs.Datum.{Datum}
+use Rattle.values.specs.Reading.{Faults, Reading, ◌>>=◌, one}
 use Rattle.values.specs.Rose.{Rose}
 use Rattle.values.specs.declared.faults.StreamFault.TheVariants as fault
 use Rattle.schema_meta.specs.Entry.{Entry}
 use Rattle.schema_meta.specs.Rows.{rows_in}
 use Rattle.schema_meta.specs.Story.{Story, after_rows, at_end_mark, ends, story, story_of}
 use Rattle.feed.specs.declared.condition.Condition.TheVariants as condition
-use Rattle.feed.specs.Kept.{Kept}
+use Rattle.feed.specs.Kept.{Kept, stream_in}
 use Rattle.feed.specs.Events.{Event, batch, dictionary, ended, schema, given}
-use Rattle.feed.specs.States.{FeedState, after_push, fresh, gives, kept_in}
+use Rattle.feed.specs.States.{FeedState, after_push, finishing_when, fresh, gives, kept_in}
+use Rattle.feed.specs.Transcript.{Transcript, transcript}
 
 -- what these bytes tell where so much is kept
 abbrev pub tale : Kept → List ℕ → Story
@@ -61,3 +63,29 @@ AllIsTold = (bytes : List ℕ) → story_of bytes ≡ tale (kept_in (fresh None)
 -- Once there is a schema, it is that of the stream.
 abbrev pub TaleKnows : Type 0
 TaleKnows = (k : Kept) (bytes : List ℕ) (fields : List (Rose Entry)) → k.known.schema ≡ Some fields → (tale k bytes).schema ≡ Some fields
+
+-- the schema that comes among these events
+abbrev pub schema_in : List Event → Option (List (Rose Entry))
+schema_in [] = None
+schema_in (schema fields ∷ es) = Some fields
+schema_in (dictionary id delta values ∷ es) = schema_in es
+schema_in (batch columns rows body ∷ es) = schema_in es
+schema_in (ended ∷ es) = schema_in es
+
+abbrev pub rows_at : Event → List (List Datum)
+rows_at (schema fields) = []
+rows_at (dictionary id delta values) = []
+rows_at (batch columns rows body) = rows_in rows columns
+rows_at ended = []
+
+-- whether the input may end where the feed stands then
+abbrev pub input_end : Reading FeedState → Reading (Unit {0})
+input_end end = end >>= λ s. finishing_when s.condition (stream_in (kept_in s))
+
+-- what a transcript tells: the schema among its events, the rows of its batches, and whether the input may end there
+abbrev pub story_in : Transcript → Story
+story_in t = record { schema = schema_in t.events; rows = flat_map rows_at t.events; end = input_end t.end }
+
+-- The reading of a whole stream is what its transcript tells.
+abbrev pub EventsTellAll : Type 0
+EventsTellAll = (bytes : List ℕ) → story_of bytes ≡ story_in (transcript (fresh None) bytes)

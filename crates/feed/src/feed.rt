@@ -1,12 +1,13 @@
 //! A feed.
 
-ghost use Rattle.std.specs.Prelude.{◌≡◌, IfErr, IfOk, IfSome, IsSome, OnErr, OnOk, Ok, Err, false};
+ghost use Rattle.std.specs.Prelude.{◌≡◌, IfErr, IfOk, IfSome, IsSome, OnErr, OnOk, Err, false};
 ghost use Rattle.std.specs.Option.{option_map};
 ghost use Rattle.values.specs.declared.faults.StreamFault.TheVariants as fault;
 ghost use Rattle.schema_meta.specs.FieldsLaw.{AreFields};
 ghost use Rattle.values.specs.Reading.{Passes};
-ghost use Rattle.feed.specs.States.{FeedState, Finishes, Gives, after_finish, after_push, finishing_when, fresh, is_broken, kept_in};
-ghost use Rattle.feed.specs.Shown.{IsSettled, IsTypedEvent, Leads, Shows, answer_seen, breaks, seen};
+ghost use Rattle.feed.specs.States.{FeedState, Finishes, finishing_when, fresh, is_broken};
+ghost use Rattle.feed.specs.Shown.{IsSettled, Leads, Shows, answer_seen, breaks, seen};
+ghost use Rattle.feed.specs.Calls.{IsTyped, MayAnswer, ShowsAfter, ShowsFinished, ShowsSchema, StillShows, WillTake};
 
 use crate::condition::{Condition, condition_after};
 use crate::event::Fed;
@@ -91,7 +92,7 @@ impl Feed {
     /// The columns of its stream, once they have come.
     pub fn schema(&self) -> Option<&Rc<StreamSchema>>
         ensures fields { IfSome result (λ s. AreFields s.now.value.fields.items) }
-        ensures shown { (s : FeedState) → Shows self.now s → option_map (λ c. c.now.value.fields.items) result ≡ (kept_in s).known.schema }
+        ensures shown { ShowsSchema self.now (option_map (λ c. c.now.value.fields.items) result) }
     {
         self.framer.schema()
     }
@@ -105,56 +106,80 @@ impl Feed {
     {
         self.change = None;
         self.next = self.condition;
-        // An empty piece is never refused, and nothing comes of it.
-        let _ = self.framer.prepare(&[]);
+        self.framer.discard();
+    }
+
+    /// `prepare` while the stream goes on.
+    fn prepare_open(&mut self, piece: &[u8]) -> Result<Fed, StreamFault>
+        requires { self.old.condition ≡ Condition.Opened }
+        ensures answer { MayAnswer self.old piece.now (answer_seen result) }
+        ensures leads { IfOk result (λ f. WillTake self.old piece.now (seen f) self.new) }
+        ensures or_memory { IfOk result (λ f. IsSome f.event → MayAnswer self.old piece.now (Err fault.Memory)) }
+        ensures same { OnOk result (StillShows self.old self.new) }
+        ensures fault { IfErr result (λ c. ShowsAfter self.old piece.now (Err c) self.new) }
+        ensures refused { OnErr result (IsSettled self.new) }
+        ensures typed { IfOk result (IsTyped self.new.framing.prepared.known.schema) }
+    {
+        self.change = None;
+        self.next = self.condition;
+        let judged = match judge(self.alloc, &mut self.framer, &mut self.dicts, piece) {
+            Ok(judged) => judged,
+            Err(fault) => {
+                self.condition = condition_after(fault, self.condition);
+                self.settle();
+                return Err(fault);
+            }
+        };
+        let Judged { used, coming } = judged;
+        let Some(coming) = coming else {
+            return Ok(Fed { used, event: None });
+        };
+        self.change = coming.change;
+        self.next = coming.next;
+        Ok(Fed {
+            used,
+            event: Some(coming.event),
+        })
+    }
+
+    /// `prepare` after the end: an empty piece comes to nothing, and no other may come.
+    fn prepare_closed(&mut self, piece: &[u8]) -> Result<Fed, StreamFault>
+        requires { self.old.condition ≡ Condition.Opened → ⊥ }
+        ensures answer { MayAnswer self.old piece.now (answer_seen result) }
+        ensures leads { IfOk result (λ f. WillTake self.old piece.now (seen f) self.new) }
+        ensures or_memory { IfOk result (λ f. IsSome f.event → MayAnswer self.old piece.now (Err fault.Memory)) }
+        ensures same { OnOk result (StillShows self.old self.new) }
+        ensures fault { IfErr result (λ c. ShowsAfter self.old piece.now (Err c) self.new) }
+        ensures refused { OnErr result (IsSettled self.new) }
+        ensures typed { IfOk result (IsTyped self.new.framing.prepared.known.schema) }
+    {
+        if !piece.is_empty() {
+            self.condition = Condition::Broken;
+            self.settle();
+            return Err(StreamFault::AfterEnd);
+        }
+        self.settle();
+        Ok(Fed {
+            used: 0,
+            event: None,
+        })
     }
 
     /// Judges a piece, and makes the room for what comes of it: answers what `push` would answer, and changes nothing but that a
     /// fault breaks the feed. `commit` makes the change, of a refusal none; another call of `prepare`, `push` or `finish` drops it.
     pub fn prepare(&mut self, piece: &[u8]) -> Result<Fed, StreamFault>
         requires { breaks self.old ≡ false }
-        ensures answer { (s : FeedState) → Shows self.old s → Gives s piece.now (answer_seen result) }
-        ensures leads { IfOk result (λ f. (s : FeedState) → Shows self.old s → Leads self.new (after_push s piece.now (Ok (seen f)))) }
-        ensures or_memory { IfOk result (λ f. (s : FeedState) → Shows self.old s → IsSome f.event → Gives s piece.now (Err fault.Memory)) }
-        ensures same { OnOk result ((s : FeedState) → Shows self.old s → Shows self.new s) }
-        ensures fault { IfErr result (λ c. (s : FeedState) → Shows self.old s → Shows self.new (after_push s piece.now (Err c))) }
+        ensures answer { MayAnswer self.old piece.now (answer_seen result) }
+        ensures leads { IfOk result (λ f. WillTake self.old piece.now (seen f) self.new) }
+        ensures or_memory { IfOk result (λ f. IsSome f.event → MayAnswer self.old piece.now (Err fault.Memory)) }
+        ensures same { OnOk result (StillShows self.old self.new) }
+        ensures fault { IfErr result (λ c. ShowsAfter self.old piece.now (Err c) self.new) }
         ensures refused { OnErr result (IsSettled self.new) }
-        ensures typed { IfOk result (λ f. IfSome f.event (IsTypedEvent self.new.framing.prepared.known.schema)) }
+        ensures typed { IfOk result (IsTyped self.new.framing.prepared.known.schema) }
     {
-        self.change = None;
-        self.next = self.condition;
         match self.condition {
-            Condition::Opened => match judge(self.alloc, &mut self.framer, &mut self.dicts, piece) {
-                Ok(judged) => {
-                    let Judged { used, coming } = judged;
-                    let Some(coming) = coming else {
-                        return Ok(Fed { used, event: None });
-                    };
-                    self.change = coming.change;
-                    self.next = coming.next;
-                    Ok(Fed {
-                        used,
-                        event: Some(coming.event),
-                    })
-                }
-                Err(fault) => {
-                    self.condition = condition_after(fault, self.condition);
-                    self.settle();
-                    Err(fault)
-                }
-            },
-            _ => {
-                self.framer.prepare(&[])?;
-                if !piece.is_empty() {
-                    self.condition = Condition::Broken;
-                    self.next = Condition::Broken;
-                    return Err(StreamFault::AfterEnd);
-                }
-                Ok(Fed {
-                    used: 0,
-                    event: None,
-                })
-            }
+            Condition::Opened => self.prepare_open(piece),
+            _ => self.prepare_closed(piece),
         }
     }
 
@@ -178,10 +203,10 @@ impl Feed {
     /// `Memory`, after which all is as it was. An empty piece consumes nothing.
     pub fn push(&mut self, piece: &[u8]) -> Result<Fed, StreamFault>
         requires { breaks self.old ≡ false }
-        ensures answer { (s : FeedState) → Shows self.old s → Gives s piece.now (answer_seen result) }
-        ensures after { (s : FeedState) → Shows self.old s → Shows self.new (after_push s piece.now (answer_seen result)) }
+        ensures answer { MayAnswer self.old piece.now (answer_seen result) }
+        ensures after { ShowsAfter self.old piece.now (answer_seen result) self.new }
         ensures settled { IsSettled self.new }
-        ensures typed { IfOk result (λ f. IfSome f.event (IsTypedEvent self.new.framing.current.known.schema)) }
+        ensures typed { IfOk result (IsTyped self.new.framing.current.known.schema) }
     {
         let fed = self.prepare(piece)?;
         self.commit();
@@ -193,7 +218,7 @@ impl Feed {
     pub fn finish(&mut self) -> Result<(), StreamFault>
         requires { breaks self.old ≡ false }
         ensures answer { (s : FeedState) → Shows self.old s → Finishes s result }
-        ensures after { (s : FeedState) → Shows self.old s → Shows self.new (after_finish s result) }
+        ensures after { ShowsFinished self.old result self.new }
         ensures settled { IsSettled self.new }
     {
         match judge_end(self.condition, &self.framer) {

@@ -1,9 +1,10 @@
 //! Laws of the definitions: functions that do nothing, whose contracts are theorems.
 
 ghost use Rattle.feed.specs.CutLaw.{FaultsStay, PartialJoins, PartialUses, WholeStays, WholeUses};
-ghost use Rattle.feed.specs.StoryLaw.{AllIsTold, EventTells, FaultsTell, NoneHeld, PartialIsHeld, PartialTells, TaleKnows};
+ghost use Rattle.feed.specs.Pieces.{CutsAgree, FeedFollows, FeedsEnd, NothingLeft, PushKeeps, RefusalEnds};
+ghost use Rattle.feed.specs.StoryLaw.{AllIsTold, EventTells, EventsTellAll, FaultsTell, NoneHeld, PartialIsHeld, PartialTells, TaleKnows};
 
-use messages::{message_law, more_bytes_law};
+use messages::first_message_law;
 
 /// However a stream is cut into pieces, a feed gives the same events, and the same faults stand: a piece without an event may be joined
 /// with the next, and more bytes change neither a whole message nor a fault. A whole message uses some of its piece.
@@ -14,11 +15,25 @@ pub fn cut_law()
     ensures uses { WholeUses }
     ensures all { PartialUses }
 {
-    more_bytes_law();
-    message_law();
+    first_message_law();
 }
 
-/// What the events of a feed tell of the whole stream: the reading of the bytes that are left, event by event.
+/// However a stream is cut into pieces, pushing them gives the events of its bytes and leaves the feed where they lead, or a refusal
+/// names one of the faults that stand there; what a push leaves of a piece is pushed next. `none`, `push` and `refusal` say it of one
+/// push, `feed` of a list of pieces, `cuts` that two lists with the same bytes come to the same, and `end` that each list comes to an end.
+pub fn pieces_law()
+    ensures none { NothingLeft }
+    ensures push { PushKeeps }
+    ensures refusal { RefusalEnds }
+    ensures feed { FeedFollows }
+    ensures cuts { CutsAgree }
+    ensures end { FeedsEnd }
+{
+    first_message_law();
+}
+
+/// What the events of a feed tell of the whole stream: the reading of the bytes that are left, event by event; and `events`, of all of
+/// them.
 pub fn story_law()
     ensures all { AllIsTold }
     ensures event { EventTells }
@@ -27,7 +42,7 @@ pub fn story_law()
     ensures faults { FaultsTell }
     ensures partial { PartialTells }
     ensures knows { TaleKnows }
+    ensures events { EventsTellAll }
 {
-    more_bytes_law();
-    message_law();
+    first_message_law();
 }

@@ -2,6 +2,7 @@
 //!
 //! A feed is a function of the bytes that it consumed. `specs/Kept.antt` says what they leave, `specs/Events.antt` what a piece gives then,
 //! `specs/States.antt` what each call may answer and where it leads, and `specs/Shown.antt` which states a feed in memory shows.
+//! `specs/Transcript.antt` is what a whole stream gives, event by event, however it is cut (`specs/Pieces.antt`).
 #![tactic(auto)]
 
 mod cells;
@@ -16,4 +17,4 @@ mod message;
 pub use condition::Condition;
 pub use event::{Fed, FeedEvent};
 pub use feed::Feed;
-pub use laws::{cut_law, story_law};
+pub use laws::{cut_law, pieces_law, story_law};

@@ -1,6 +1,6 @@
 -- What is written of a stream, message by message.
 use Rattle.std.proofs.lemmas.List.{take_all}
-use Rattle.std.proofs.Common.{◌≡◌, ◌⊎◌, inl, inr, ℕ, zero, suc, ◌-◌, ◌<◌, ◌≤◌, Bool, true, false, Option, None, Some, Ok, Err, List, [], ◌∷◌, ◌++◌, length, take, drop, refl, ap, sym, subst, ◌∙◌, arith, append_assoc, append-nil, length-drop}
+use Rattle.std.proofs.Common.{◌≡◌, ◌⊎◌, inl, inr, ℕ, ◌-◌, ◌<◌, ◌≤◌, Bool, true, false, Option, None, Some, Ok, Err, List, [], ◌∷◌, ◌++◌, length, take, drop, refl, ap, sym, subst, ◌∙◌, arith, append_assoc, append-nil, length-drop}
 use Rattle.std.specs.Prelude.{if◌then◌else◌, string_bytes}
 use Rattle.std.specs.Option.{option_map}
 use Rattle.values.specs.Reading.{Reading, Stands, mapped}
@@ -15,7 +15,9 @@ use Rattle.feed.specs.Events.{Event, Given, batch, dictionary, ended, given, sch
 use Rattle.feed.specs.Kept.{Kept, stream_in}
 use Rattle.feed.specs.Shown.{FeedParts, Shows, breaks, event_seen, seen}
 use Rattle.feed.specs.States.{FeedState, Finishes, Gives, after_push, closed, condition_after, finishing_when, fresh, gives, given_when, is_broken, kept_in}
-use Rattle.liveviews.specs.Inspect.{Account, Closes, Tells, account, account_of, after_given, after_lines, at_end, last_line, refusal_line}
+use Rattle.feed.specs.Pieces.{NothingLeft, PushKeeps, RefusalEnds}
+use Rattle.feed.specs.Transcript.{Transcript, led_by, no_events, transcript}
+use Rattle.liveviews.specs.Inspect.{Account, Closes, Tells, account_in, account_of, after_lines, last_in, last_line, refusal_line}
 use Rattle.liveviews.specs.Inspecting.{Breaks, IsFresh, IsLeft, IsOpen, StopsAt, condition_when}
 use Rattle.liveviews.specs.declared.inspecting.Inspection.{Inspection}
 use Rattle.liveviews.specs.Lines.{ended_after, given_lines, is_end}
@@ -37,28 +39,22 @@ fresh-left i bytes f = record {
   state = fresh None;
   shows = f.shows;
   goes = sym (ap condition_when f.before);
-  steps = length bytes;
-  enough = omega arith;
   tells = ap (λ t. after_lines t (account_of bytes)) (sym f.empty);
 }
 
--- a step of the account
-pub account-step :
-    (n : ℕ) (s : FeedState) (bytes : List ℕ) (g : Reading Given) → 0 < length bytes → gives s bytes ≡ g
-    → account (suc n) s bytes ≡ after_given (account n) s bytes g
-unfolding account
-account-step n s [] g some is = absurd (omega (arith, some))
-account-step n s (b ∷ bs) g some is = ap (after_given (account n) s (b ∷ bs)) is
+-- an account by its first event
+account-led : (o : Option Event) (t : Transcript) → account_in (led_by o t) ≡ after_lines (given_lines o) (account_in t)
+account-led None t = refl
+account-led (Some e) t = refl
 
-pub account-end : (n : ℕ) (s : FeedState) (bytes : List ℕ) → length bytes ≤ 0 → account n s bytes ≡ at_end s
-unfolding account
-account-end zero s bytes none = refl
-account-end (suc n) s [] none = refl
-account-end (suc n) s (b ∷ bs) none = absurd (omega (arith, none))
-
-pred-of : (n m : ℕ) → 0 < m → m ≤ n → (k : ℕ) × (n ≡ suc k)
-pred-of zero m some enough = absurd (omega (arith, some, enough))
-pred-of (suc k) m some enough = (k, refl)
+push-step :
+    (law : PushKeeps) (s : FeedState) (bytes : List ℕ) (g : Given) → gives s bytes ≡ Ok g
+    → account_in (transcript s bytes) ≡ after_lines (given_lines g.event) (account_in (transcript (after_push s bytes (Ok g)) (drop g.used bytes)))
+push-step law s bytes g is =
+    let next : FeedState = after_push s bytes (Ok g) in
+    ap (λ ys. account_in (transcript s ys)) (sym (append-nil bytes)) ∙ ap account_in (law s bytes [] g is)
+    ∙ ap (λ ys. account_in (led_by g.event (transcript next ys))) (append-nil (drop g.used bytes))
+    ∙ account-led g.event (transcript next (drop g.used bytes))
 
 closed-none : (bytes : List ℕ) (used : ℕ) (e : Event) → closed bytes ≡ Ok (given used (Some e)) → ⊥
 closed-none [] used e is =
@@ -115,30 +111,23 @@ after-shows s bytes g = refl
 
 -- A push was taken, and its lines were written.
 pub left-step :
-    (all : PartialUses) (uses : WholeUses) (a : Account) (old new : Inspection) (pushed : FeedParts) (bytes : List ℕ) (f : Fed) → 0 < length bytes
+    (law : PushKeeps) (a : Account) (old new : Inspection) (pushed : FeedParts) (bytes : List ℕ) (f : Fed)
     → ((t : FeedState) → Shows old.feed t → Gives t bytes (Ok (seen f)))
     → ((t : FeedState) → Shows old.feed t → Shows pushed (after_push t bytes (Ok (seen f)))) → new.feed ≡ pushed
     → string_bytes new.text ≡ string_bytes old.text ++ given_lines (option_map event_seen f.event)
     → new.ended ≡ ended_after old.ended (option_map event_seen f.event) → IsLeft a old bytes → IsLeft a new (drop f.used bytes)
-left-step all uses a old new pushed bytes f some answer after feed text marked l =
+left-step law a old new pushed bytes f answer after feed text marked l =
     let o : Option Event = option_map event_seen f.event in
     let is : gives l.state bytes ≡ Ok (seen f) = gave l.state bytes f (answer l.state l.shows) in
-    let left = pred-of l.steps (length bytes) some l.enough in
-    let used = uses-some all uses l.state bytes f.used o some is in
     let next : FeedState = after_push l.state bytes (Ok (seen f)) in
-    let rest : Account = account left.0 next (drop f.used bytes) in
-    let size : length (drop f.used bytes) ≡ length bytes - f.used = length-drop f.used bytes in
-    let more : account l.steps l.state bytes ≡ after_lines (given_lines o) rest =
-    ap (λ n. account n l.state bytes) left.1 ∙ account-step left.0 l.state bytes (Ok (seen f)) some is in
+    let rest : Account = account_in (transcript next (drop f.used bytes)) in
     record {
       state = next;
       shows = subst (λ (p : FeedParts). Shows p next) (sym feed) (after l.state l.shows);
       goes =
           after-shows l.state bytes (seen f) ∙ goes-on l.state bytes f.used o old.ended is l.goes ∙ ap condition_when (sym marked);
-      steps = left.0;
-      enough = let all : length bytes ≤ l.steps = l.enough in omega (arith, all, left.1, used.0, size);
       tells =
-          l.tells ∙ ap (after_lines (string_bytes old.text)) more
+          l.tells ∙ ap (after_lines (string_bytes old.text)) (push-step law l.state bytes (seen f) is)
           ∙ ap (λ t. record { lines = t; end = rest.end }) (sym (append_assoc (string_bytes old.text) (given_lines o) rest.lines))
           ∙ ap (λ t. after_lines t rest) (sym text);
     }
@@ -178,12 +167,12 @@ gives-fault s bytes fault.AfterEnd h = inr h
 gives-fault s bytes fault.Truncated h = inr h
 
 stops-at :
-    (a : Account) (n : ℕ) (s : FeedState) (text bytes : List ℕ) (f : StreamFault) (m : Reading Given) → 0 < length bytes → 0 < n
-    → a ≡ after_lines text (account n s bytes) → gives s bytes ≡ m → Stands m f → StopsAt a text f
-stops-at a zero s text bytes f m some enough tells is stands = absurd (omega (arith, enough))
-stops-at a (suc n) s text bytes f (Ok g) some enough tells is stands = absurd stands
-stops-at a (suc n) s text bytes f (Err fs) some enough tells is stands =
-    let here : a ≡ after_lines text (record { lines = []; end = Err fs }) = tells ∙ ap (after_lines text) (account-step n s bytes (Err fs) some is) in
+    (law : RefusalEnds) (a : Account) (s : FeedState) (text bytes : List ℕ) (f : StreamFault) (m : Reading Given) → 0 < length bytes
+    → a ≡ after_lines text (account_in (transcript s bytes)) → gives s bytes ≡ m → Stands m f → StopsAt a text f
+stops-at law a s text bytes f (Ok g) some tells is stands = absurd stands
+stops-at law a s text bytes f (Err fs) some tells is stands =
+    let none : transcript s bytes ≡ no_events (Err fs) = ap (transcript s) (sym (append-nil bytes)) ∙ law s bytes [] fs some is in
+    let here : a ≡ after_lines text (record { lines = []; end = Err fs }) = tells ∙ ap (λ t. after_lines text (account_in t)) none in
     record {
       whole = sym (ap (λ x. x.lines) here ∙ append-nil text);
       stands = subst (λ (x : Reading (List ℕ)). Stands x f) (sym (ap (λ x. x.end) here)) stands;
@@ -191,11 +180,11 @@ stops-at a (suc n) s text bytes f (Err fs) some enough tells is stands =
 
 -- A push was refused.
 pub left-breaks :
-    (a : Account) (i : Inspection) (bytes : List ℕ) (f : StreamFault) → 0 < length bytes
+    (law : RefusalEnds) (a : Account) (i : Inspection) (bytes : List ℕ) (f : StreamFault) → 0 < length bytes
     → ((t : FeedState) → Shows i.feed t → Gives t bytes (Err f)) → IsLeft a i bytes → Breaks a (string_bytes i.text) f
-left-breaks a i bytes f some answer l = elim (gives-fault l.state bytes f (answer l.state l.shows)) [
+left-breaks law a i bytes f some answer l = elim (gives-fault l.state bytes f (answer l.state l.shows)) [
   | inl memory ↦ inl memory
-  | inr stands ↦ inr (stops-at a l.steps l.state (string_bytes i.text) bytes f (gives l.state bytes) some (let e : length bytes ≤ l.steps = l.enough in omega (arith, some, e)) l.tells refl stands)
+  | inr stands ↦ inr (stops-at law a l.state (string_bytes i.text) bytes f (gives l.state bytes) some l.tells refl stands)
 ]
 
 -- what is left, as the code has it
@@ -214,8 +203,11 @@ pub left-all : (a : Account) (i : Inspection) (bytes : List ℕ) → length byte
 left-all a i bytes none l = subst (IsLeft a i) (no-bytes bytes none) l
 
 -- the end of the input
-at-end-tells : (a : Account) (i : Inspection) → (l : IsLeft a i []) → a ≡ after_lines (string_bytes i.text) (at_end l.state)
-at-end-tells a i l = l.tells ∙ ap (after_lines (string_bytes i.text)) (account-end l.steps l.state [] (omega arith))
+abbrev at_end : FeedState → Account
+at_end s = record { lines = []; end = last_in s }
+
+at-end-tells : (law : NothingLeft) (a : Account) (i : Inspection) → (l : IsLeft a i []) → a ≡ after_lines (string_bytes i.text) (at_end l.state)
+at-end-tells law a i l = l.tells ∙ ap (λ t. after_lines (string_bytes i.text) (account_in t)) (law l.state)
 
 finish-good : (s : FeedState) (u : Unit {0}) → Finishes s (Ok u) → (x : Unit {0}) × (finishing_when s.condition (stream_in (kept_in s)) ≡ Ok x)
 unfolding Finishes
@@ -230,12 +222,12 @@ last-when true = refl
 last-when false = refl
 
 pub left-finishes :
-    (a : Account) (i : Inspection) (u : Unit {0}) (text : List ℕ) → IsLeft a i [] → ((t : FeedState) → Shows i.feed t → Finishes t (Ok u))
+    (law : NothingLeft) (a : Account) (i : Inspection) (u : Unit {0}) (text : List ℕ) → IsLeft a i [] → ((t : FeedState) → Shows i.feed t → Finishes t (Ok u))
     → text ≡ string_bytes i.text ++ (if i.ended then [] else last_line condition.Opened) → Tells a text 0
-left-finishes a i u text l answer written =
+left-finishes law a i u text l answer written =
     let good = finish-good l.state u (answer l.state l.shows) in
     let last : List ℕ = last_line l.state.condition in
-    let here : a ≡ after_lines (string_bytes i.text) (at_end l.state) = at-end-tells a i l in
+    let here : a ≡ after_lines (string_bytes i.text) (at_end l.state) = at-end-tells law a i l in
     let end : a.end ≡ Ok last = ap (λ x. x.end) here ∙ ap (λ m. mapped (λ u. last) m) good.1 in
     let named : (if i.ended then [] else last_line condition.Opened) ≡ last = sym (ap last_line l.goes ∙ last-when i.ended) in
     record {
@@ -247,10 +239,10 @@ left-finishes a i u text l answer written =
     }
 
 pub left-ends :
-    (a : Account) (i : Inspection) (c : StreamFault) → IsLeft a i [] → ((t : FeedState) → Shows i.feed t → Finishes t (Err c))
+    (law : NothingLeft) (a : Account) (i : Inspection) (c : StreamFault) → IsLeft a i [] → ((t : FeedState) → Shows i.feed t → Finishes t (Err c))
     → Breaks a (string_bytes i.text) c
-left-ends a i c l answer =
-    let here : a ≡ after_lines (string_bytes i.text) (at_end l.state) = at-end-tells a i l in
+left-ends law a i c l answer =
+    let here : a ≡ after_lines (string_bytes i.text) (at_end l.state) = at-end-tells law a i l in
     let stands = stands_mapped (λ u. last_line l.state.condition) (finishing_when l.state.condition (stream_in (kept_in l.state))) c
     (finish-fault l.state c (answer l.state l.shows)) in
     inr (record {

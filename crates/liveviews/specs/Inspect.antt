@@ -1,17 +1,17 @@
 -- What is printed of a whole stream: the lines of its messages, and then that of its end or of a fault that stands.
-use Rattle.std.specs.Prelude.{◌≡◌, ℕ, zero, suc, List, [], ◌∷◌, ◌++◌, None, Ok, Err, codes, drop, length}
+use Rattle.std.specs.Prelude.{◌≡◌, ℕ, List, [], ◌++◌, None, Ok, Err, codes, flat_map}
 use Rattle.std.specs.Fmt.{decimal}
 use Rattle.values.specs.Causes.{name_of, number_of}
-use Rattle.values.specs.Reading.{IsAmong, Reading, mapped}
+use Rattle.values.specs.Reading.{IsAmong, Reading, ◌>>=◌, mapped}
 use Rattle.values.specs.StreamCauses.{cause_of}
 use Rattle.values.specs.declared.faults.StreamFault.{StreamFault}
 use Rattle.schema_meta.specs.Story.{story_of}
 use Rattle.feed.specs.declared.condition.Condition.{Condition}
 use Rattle.feed.specs.declared.condition.Condition.TheVariants as condition
-use Rattle.feed.specs.Events.{Given}
 use Rattle.feed.specs.Kept.{stream_in}
-use Rattle.feed.specs.States.{FeedState, after_push, finishing_when, fresh, gives, kept_in}
-use Rattle.liveviews.specs.Lines.{given_lines, newline}
+use Rattle.feed.specs.States.{FeedState, finishing_when, fresh, kept_in}
+use Rattle.feed.specs.Transcript.{Transcript, transcript}
+use Rattle.liveviews.specs.Lines.{event_lines, newline}
 
 -- the lines of the messages, and then the last one, or the faults at which the stream breaks
 pub record Account : Type 0 where
@@ -27,22 +27,16 @@ abbrev pub last_line : Condition → List ℕ
 last_line condition.Opened = codes "end of input" ++ newline
 last_line _ = []
 
-abbrev pub at_end : FeedState → Account
-at_end s = record { lines = []; end = mapped (λ u. last_line s.condition) (finishing_when s.condition (stream_in (kept_in s))) }
+-- the last line where all bytes are consumed, if the input may end there
+abbrev pub last_in : FeedState → Reading (List ℕ)
+last_in s = mapped (λ u. last_line s.condition) (finishing_when s.condition (stream_in (kept_in s)))
 
-abbrev pub after_given : (FeedState → List ℕ → Account) → FeedState → List ℕ → Reading Given → Account
-after_given next s bytes (Ok g) = after_lines (given_lines g.event) (next (after_push s bytes (Ok g)) (drop g.used bytes))
-after_given next s bytes (Err fs) = record { lines = []; end = Err fs }
+-- what is told of a transcript: the lines of its events, in their order
+abbrev pub account_in : Transcript → Account
+account_in t = record { lines = flat_map event_lines t.events; end = t.end >>= last_in }
 
--- the account of these bytes, of which at most n messages are looked at
-unfoldable pub account : ℕ → FeedState → List ℕ → Account
-account zero s bytes = at_end s
-account (suc n) s [] = at_end s
-account (suc n) s (b ∷ bs) = after_given (account n) s (b ∷ bs) (gives s (b ∷ bs))
-
--- Each message has a byte at least.
 abbrev pub account_of : List ℕ → Account
-account_of bytes = account (length bytes) (fresh None) bytes
+account_of bytes = account_in (transcript (fresh None) bytes)
 
 abbrev pub refusal_line : StreamFault → List ℕ
 refusal_line f = codes "refused " ++ (decimal (number_of (cause_of f)) ++ (codes " " ++ (name_of (cause_of f) ++ newline)))

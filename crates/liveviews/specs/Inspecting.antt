@@ -1,5 +1,5 @@
 -- Where an inspection stands.
-use Rattle.std.specs.Prelude.{◌≡◌, ◌⊎◌, ℕ, ◌≤◌, Bool, false, List, [], None, if◌then◌else◌, length, string_bytes}
+use Rattle.std.specs.Prelude.{◌≡◌, ◌⊎◌, ℕ, Bool, false, List, [], None, if◌then◌else◌, string_bytes}
 use Rattle.values.specs.Reading.{Stands}
 use Rattle.values.specs.declared.faults.StreamFault.{StreamFault}
 use Rattle.values.specs.declared.faults.StreamFault.TheVariants as fault
@@ -7,7 +7,8 @@ use Rattle.feed.specs.declared.condition.Condition.{Condition}
 use Rattle.feed.specs.declared.condition.Condition.TheVariants as condition
 use Rattle.feed.specs.Shown.{Shows}
 use Rattle.feed.specs.States.{FeedState, fresh}
-use Rattle.liveviews.specs.Inspect.{Account, account, after_lines}
+use Rattle.feed.specs.Transcript.{transcript}
+use Rattle.liveviews.specs.Inspect.{Account, account_in, after_lines}
 use Rattle.liveviews.specs.declared.inspecting.Inspection.{Inspection}
 
 pub record IsFresh (i : Inspection) : Type 0 where
@@ -26,9 +27,7 @@ pub record IsLeft (a : Account) (i : Inspection) (rest : List ℕ) : Type 0 wher
   pub state : FeedState
   pub shows : Shows i.feed state
   pub goes : state.condition ≡ condition_when i.ended
-  pub steps : ℕ
-  pub enough : length rest ≤ steps
-  pub tells : a ≡ after_lines (string_bytes i.text) (account steps state rest)
+  pub tells : a ≡ after_lines (string_bytes i.text) (account_in (transcript state rest))
 
 -- All lines before it were written, and then this fault stands.
 pub record StopsAt (a : Account) (text : List ℕ) (f : StreamFault) : Type 0 where

@@ -10,7 +10,7 @@ ghost use Rattle.liveviews.specs.Lines.{ended_after, given_lines};
 
 use crate::laws::account_law;
 use crate::lines::{is_ended, write_fed};
-use feed::{Fed, Feed, cut_law};
+use feed::{Fed, Feed, cut_law, pieces_law};
 use std::alloc::{AllocError, Global};
 use values::StreamFault;
 
@@ -65,8 +65,9 @@ impl Inspection {
         ensures left { IfOk result (λ n. (a : Account) → IsLeft a self.old bytes.now → IsLeft a self.new (drop n bytes.now)) }
         ensures fault { IfErr result (λ f. (a : Account) → IsLeft a self.old bytes.now → Breaks a (string_bytes self.new.text) f) }
     {
-        // It does nothing: the proof takes from it that a push uses some bytes.
+        // They do nothing: the proof takes from them that a push uses some bytes, and what it leaves.
         cut_law();
+        pieces_law();
         let fed = self.feed.push(bytes)?;
         Ok(self.note(fed)?)
     }
@@ -91,6 +92,8 @@ impl Inspection {
         ensures told { OnOk result (Tells (account_of input.now) (string_bytes self.new.text) 0) }
         ensures fault { IfErr result (Breaks (account_of input.now) (string_bytes self.new.text)) }
     {
+        // It does nothing: the proof takes from it that nothing is told where no byte is left.
+        pieces_law();
         self.take_all(input)?;
         self.feed.finish()?;
         if !self.ended {

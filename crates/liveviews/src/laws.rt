@@ -2,12 +2,11 @@
 
 ghost use Rattle.liveviews.specs.Inspect.{EndsAlike};
 
-use feed::{cut_law, story_law};
+use feed::story_law;
 
 /// The account of a stream ends with the faults that stand in its reading, or with none.
 pub fn account_law()
     ensures { EndsAlike }
 {
     story_law();
-    cut_law();
 }

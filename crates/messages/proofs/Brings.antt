@@ -18,11 +18,13 @@ use Rattle.schema_meta.specs.Framing.{framed, end_mark, first}
 use Rattle.messages.proofs.Stages.{staged_from}
 use Rattle.schema_meta.specs.Logical.{logical_field}
 use Rattle.schema_meta.specs.SchemaTree.{AreColumns}
+use Rattle.messages.specs.Laws.{FirstMessageLaw}
 use Rattle.messages.specs.MessageLaw.{Brings, MessageLaw}
 use Rattle.messages.proofs.Facts.{expected_same, meta_header}
 use Rattle.schema_meta.proofs.FieldFacts.{fields_known}
 use Rattle.schema_meta.proofs.LogicalFits.{columns_fit}
 use Rattle.messages.proofs.Messages.{first_within}
+use Rattle.messages.proofs.Lawful.{whole_law, within_law, fault_law, faults_law, alone_law, none_law}
 
 columns-sound : (t : Table) (fs : List (Rose Entry)) → schema_of t ≡ Ok fs → AreColumns (map logical_field fs)
 columns-sound t fs e = columns_fit fs (fields_known t fs e)
@@ -88,4 +90,15 @@ message-law known bytes w e =
     let there = first_within known bytes w e in
     record { behind = there.0; within = there.1; brings = first_brings known bytes w e }
 
-pub ruleset message_laws = (message-law)
+pub first-message-law : FirstMessageLaw
+first-message-law = record {
+  whole = whole_law;
+  within = within_law;
+  fault = fault_law;
+  faults = faults_law;
+  alone = alone_law;
+  none = none_law;
+  message = message-law;
+}
+
+pub ruleset message_laws = (message-law, first-message-law)

@@ -1,5 +1,5 @@
 -- Feeding pieces, by the messages of all their bytes.
-use Rattle.std.proofs.Common.{◌≡◌, inl, ℕ, zero, suc, ◌+◌, ◌-◌, ◌<◌, ◌≤◌, Option, None, Some, Ok, Err, List, [], ◌∷◌, ◌++◌, length, drop, refl, ap, sym, subst, ◌∙◌, arith, append_assoc, append-nil, length-append, length-drop}
+use Rattle.std.proofs.Common.{◌≡◌, inl, ℕ, zero, suc, ◌+◌, ◌-◌, ◌<◌, ◌≤◌, Option, None, Some, Result, Ok, Err, List, [], ◌∷◌, ◌++◌, length, drop, refl, ap, sym, subst, ◌∙◌, arith, append_assoc, append-nil, length-append, length-drop}
 use Rattle.std.specs.List.{concat}
 use Rattle.std.proofs.Math.Seq.{drop-length}
 use Rattle.values.specs.declared.faults.StreamFault.{StreamFault}
@@ -28,7 +28,7 @@ enough_by n known bytes (Ok (Some w)) l ih e =
     let rest : List ℕ = drop (end_of w) bytes in
     let k : length rest ≤ n = omega (arith, length-drop (end_of w) bytes, within.0, within.1) in
     run_step (suc n) known bytes (Ok (Some w)) e
-    ∙ (ap (λ r. led_by (message_of w bytes) r) (ih (after known w.meta) rest k) ∙ sym (run_step n known bytes (Ok (Some w)) e))
+    ∙ (ap (λ r. led_by (message_of known w bytes) r) (ih (after known w.meta) rest k) ∙ sym (run_step n known bytes (Ok (Some w)) e))
 enough_by n known bytes (Err fs) l ih e = run_step (suc n) known bytes (Err fs) e ∙ sym (run_step n known bytes (Err fs) e)
 
 no_bytes : (known : Known) → run_of 1 known [] ≡ run_of 0 known []
@@ -83,7 +83,7 @@ follows_led m messages end r h = record { same = ap (λ ms. m ∷ ms) h.same; le
 hands_follow :
     (n : ℕ) (old new : Stream) (piece later : List ℕ) (f : Framed) (w : Whole) (messages : List MessageView)
     (end : End) → first old.known (old.held ++ piece) ≡ Ok (Some w)
-    → f.used + length old.held ≡ end_of w → f.message ≡ Some (message_of w (old.held ++ piece))
+    → f.used + length old.held ≡ end_of w → f.message ≡ Some (message_of old.known w (old.held ++ piece))
     → new ≡ record { known = after old.known w.meta; held = [] } → length (old.held ++ (piece ++ later)) ≤ suc n
     → ((m : ℕ) → first new.known new.held ≡ Ok None → length (new.held ++ (drop f.used piece ++ later)) ≤ m
     → Follows messages end (run_of (suc m) new.known (new.held ++ (drop f.used piece ++ later))))
@@ -91,7 +91,7 @@ hands_follow :
 hands_follow n old new piece later f w messages end e u m s l ih =
     let bytes : List ℕ = old.held ++ (piece ++ later) in
     let rest : List ℕ = new.held ++ (drop f.used piece ++ later) in
-    let message : MessageView = message_of w (old.held ++ piece) in
+    let message : MessageView = message_of old.known w (old.held ++ piece) in
     let within = first_within old.known (old.held ++ piece) w e in
     let E : Stream → Type 0 = λ t. first t.known t.held ≡ Ok None in
     let h : length new.held ≡ 0 = ap (λ t. length t.held) s in
@@ -166,13 +166,13 @@ feed_law old pieces messages end p h =
     subst P (run_enough (length bytes) old.known bytes (omega arith))
     (feed_follows old pieces messages end h (length bytes) p (omega arith))
 
-agree :
-    (rest : Reading Stream) (end other : End) → Judges (λ s. s) end rest → Judges (λ s. s) other rest
+pub agree :
+    {S : Type 0} (rest : Reading S) (end other : Result S StreamFault) → Judges (λ s. s) end rest → Judges (λ s. s) other rest
     → AgreeIn rest end other
-agree rest (Ok s) (Ok t) h k = let e : Ok s ≡ Ok t = sym h ∙ k in cc
-agree rest (Err c) (Err d) h k = (h, k)
-agree rest (Ok s) (Err d) h k = let P : Reading Stream → Type 0 = λ m. Stands m d in absurd (subst P h k)
-agree rest (Err c) (Ok t) h k = let P : Reading Stream → Type 0 = λ m. Stands m c in absurd (subst P k h)
+agree {S} rest (Ok s) (Ok t) h k = let e : Ok s ≡ Ok t = sym h ∙ k in cc
+agree {S} rest (Err c) (Err d) h k = (h, k)
+agree {S} rest (Ok s) (Err d) h k = let P : Reading S → Type 0 = λ m. Stands m d in absurd (subst P h k)
+agree {S} rest (Err c) (Ok t) h k = let P : Reading S → Type 0 = λ m. Stands m c in absurd (subst P k h)
 
 pub cuts_law : CutsAgree
 cuts_law old pieces others messages theirs end other p same h k =
@@ -186,7 +186,7 @@ cuts_law old pieces others messages theirs end other p same h k =
 abbrev Ends : Stream → List (List ℕ) → Type 0
 Ends s pieces = (messages : List MessageView) × (end : End) × Feeds s pieces messages end
 
-some_fault : (fs : Faults) → (c : StreamFault) × IsAmong fs c
+pub some_fault : (fs : Faults) → (c : StreamFault) × IsAmong fs c
 some_fault (one c) = (c, refl)
 some_fault (several fs gs) = let p = some_fault fs in (p.0, inl p.1)
 
@@ -219,7 +219,7 @@ hands_ends :
 hands_ends old piece pieces n w l p e later =
     let new : Stream = record { known = after old.known w.meta; held = [] } in
     let used : ℕ = end_of w - length old.held in
-    let f : Framed = record { used = used; message = Some (message_of w (old.held ++ piece)) } in
+    let f : Framed = record { used = used; message = Some (message_of old.known w (old.held ++ piece)) } in
     let beyond = first_beyond old.known old.held piece w p e in
     let u : used + length old.held ≡ end_of w = omega (arith, beyond) in
     let k : length (drop used piece) ≤ n = omega (arith, l, beyond, length-drop used piece) in

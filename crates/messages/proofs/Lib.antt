@@ -8,9 +8,8 @@ pub mod Facts
 pub mod Sounds
 pub mod Streams
 pub mod Framers
-pub mod Brings
 pub mod Lawful
+pub mod Brings
 pub mod Runs
 pub mod Feedings
 mod Sample
-pub mod Pushed

@@ -10,6 +10,7 @@ use Rattle.messages.specs.Handed.{MessageView}
 use Rattle.schema_meta.specs.Stage.{Known, Whole, end_of}
 use Rattle.schema_meta.specs.Sound.{after}
 use Rattle.schema_meta.specs.Framing.{first}
+use Rattle.schema_meta.specs.Story.{fields_of}
 use Rattle.messages.specs.Stream.{Stream, Frames, message_of}
 use Rattle.messages.specs.Run.{Run, led_by, run_after, run_of, run_behind}
 use Rattle.messages.specs.Laws.{PushKeepsRun, RefusalEndsRun}
@@ -22,9 +23,9 @@ slice-append xs ys from end l m =
     ap (λ bs. take (end - from) bs) (drop-append-le from xs ys (omega arith))
     ∙ take-append-le (end - from) (drop from xs) ys (omega (arith, length-drop from xs))
 
-same_message : (w : Whole) (xs ys : List ℕ) → end_of w ≤ length xs → message_of w (xs ++ ys) ≡ message_of w xs
-same_message w xs ys l =
-    ap (λ bs. record { header = w.meta.header; body = bs }) (slice-append xs ys w.front (end_of w) (omega arith) l)
+same_message : (known : Known) (w : Whole) (xs ys : List ℕ) → end_of w ≤ length xs → message_of known w (xs ++ ys) ≡ message_of known w xs
+same_message known w xs ys l =
+    ap (λ bs. record { schema = fields_of (after known w.meta); header = w.meta.header; body = bs }) (slice-append xs ys w.front (end_of w) (omega arith) l)
 
 pub run_step :
     (n : ℕ) (known : Known) (bytes : List ℕ) (r : Reading (Option Whole)) → first known bytes ≡ r
@@ -43,7 +44,7 @@ rest_behind held piece later used end u l =
 
 pub push_whole :
     (n : ℕ) (old new : Stream) (piece later : List ℕ) (f : Framed) (w : Whole) → first old.known (old.held ++ piece) ≡ Ok (Some w)
-    → f.used + length old.held ≡ end_of w → f.message ≡ Some (message_of w (old.held ++ piece))
+    → f.used + length old.held ≡ end_of w → f.message ≡ Some (message_of old.known w (old.held ++ piece))
     → new ≡ record { known = after old.known w.meta; held = [] }
     → run_of (suc n) old.known (old.held ++ (piece ++ later))
     ≡ run_behind f.message (λ k. run_of k new.known (new.held ++ (drop f.used piece ++ later))) n
@@ -53,18 +54,18 @@ push_whole n old new piece later f w e u m s =
     let a : old.held ++ (piece ++ later) ≡ bytes ++ later = sym (append_assoc old.held piece later) in
     let next : Known = after old.known w.meta in
     let one : run_of (suc n) old.known (bytes ++ later)
-    ≡ led_by (message_of w (bytes ++ later)) (run_of n next (drop (end_of w) (bytes ++ later))) =
+    ≡ led_by (message_of old.known w (bytes ++ later)) (run_of n next (drop (end_of w) (bytes ++ later))) =
     run_step n old.known (bytes ++ later) (Ok (Some w)) (whole_stays old.known bytes later w e) in
-    let two : led_by (message_of w (bytes ++ later)) (run_of n next (drop (end_of w) (bytes ++ later)))
-    ≡ led_by (message_of w bytes) (run_of n next (drop f.used piece ++ later)) =
-    ap (λ v. led_by v (run_of n next (drop (end_of w) (bytes ++ later)))) (same_message w bytes later l)
-    ∙ ap (λ bs. led_by (message_of w bytes) (run_of n next bs)) (rest_behind old.held piece later f.used (end_of w) u l) in
+    let two : led_by (message_of old.known w (bytes ++ later)) (run_of n next (drop (end_of w) (bytes ++ later)))
+    ≡ led_by (message_of old.known w bytes) (run_of n next (drop f.used piece ++ later)) =
+    ap (λ v. led_by v (run_of n next (drop (end_of w) (bytes ++ later)))) (same_message old.known w bytes later l)
+    ∙ ap (λ bs. led_by (message_of old.known w bytes) (run_of n next bs)) (rest_behind old.held piece later f.used (end_of w) u l) in
     let P : Option MessageView → Type 0 =
     λ o. run_of (suc n) old.known (old.held ++ (piece ++ later))
     ≡ run_behind o (λ k. run_of k new.known (new.held ++ (drop f.used piece ++ later))) n in
     let Q : Stream → Type 0 =
     λ t. run_of (suc n) old.known (old.held ++ (piece ++ later))
-    ≡ led_by (message_of w bytes) (run_of n t.known (t.held ++ (drop f.used piece ++ later))) in
+    ≡ led_by (message_of old.known w bytes) (run_of n t.known (t.held ++ (drop f.used piece ++ later))) in
     subst P (sym m) (subst Q (sym s) (ap (λ bs. run_of (suc n) old.known bs) a ∙ (one ∙ two)))
 
 pub push_partial :

@@ -14,6 +14,7 @@ use Rattle.schema_meta.specs.declared.header.Header.TheVariants as header
 use Rattle.schema_meta.specs.BatchHead.{BatchHead}
 use Rattle.schema_meta.specs.Batch.{word_at, node_of, span_of, rows_of, nodes_in, nodes_of, spans_in, spans_of, plain, lengths_fit, batch_of}
 use Rattle.schema_meta.specs.Stage.{Known, Whole}
+use Rattle.schema_meta.specs.Story.{fields_of}
 use Rattle.schema_meta.specs.Message.{version_of, kind_of, header_table, body_of, record_batch, header_of, meta_of}
 use Rattle.schema_meta.specs.Framing.{framed, message_at, staged, first}
 use Rattle.messages.specs.Run.{run_of, whole_run}
@@ -93,7 +94,9 @@ end_mark = 255 ∷ 255 ∷ 255 ∷ 255 ∷ 0 ∷ 0 ∷ 0 ∷ 0 ∷ []
 pub messages :
     whole_run open_stream (message ++ (end_mark ++ (255 ∷ 255 ∷ [])))
     ≡ record {
-      messages = record { header = header.Batch sample_header; body = drop 208 message } ∷ record { header = header.End; body = [] } ∷ [];
+      messages =
+          record { schema = fields_of open_stream; header = header.Batch sample_header; body = drop 208 message }
+          ∷ record { schema = fields_of open_stream; header = header.End; body = [] } ∷ [];
       rest = Ok (record { known = open_stream; held = 255 ∷ 255 ∷ [] });
     }
 unfolding number_at signed_at target_at bytes_at block_at place_of_vtable vtable_at table_at root_of slot_of number_of signed_of structs_of subtable_of vector_at vector_of entry_of each word_at node_of span_of rows_of nodes_in nodes_of spans_in spans_of plain batch_of lengths_fit short_of version_of kind_of header_table body_of record_batch header_of meta_of framed message_at staged first run_of

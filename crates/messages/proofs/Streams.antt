@@ -1,12 +1,15 @@
 -- A stream before and after a message.
 use Rattle.std.proofs.Common.{◌≡◌, ℕ, ◌+◌, ◌-◌, ◌<◌, ◌≤◌, Option, None, Some, Ok, List, [], ◌++◌, length, take, drop, refl, ap, sym, subst, ◌∙◌, arith, length-append, length-drop}
-use Rattle.std.specs.Prelude.{slice_range}
+use Rattle.std.specs.Prelude.{IsSome, IsSomeAnd, slice_range}
 use Rattle.std.proofs.lemmas.List.{length-take-le}
 use Rattle.values.specs.Rose.{Rose}
 use Rattle.schema_meta.specs.Entry.{Entry}
 use Rattle.schema_meta.specs.Stage.{Known, Whole, end_of}
 use Rattle.messages.specs.State.{IsRead}
-use Rattle.schema_meta.specs.Sound.{IsFitting, schema_after, after}
+use Rattle.schema_meta.specs.FieldLayouts.{slot_layouts_of}
+use Rattle.schema_meta.specs.declared.header.Header.{Header}
+use Rattle.schema_meta.specs.declared.header.Header.TheVariants as header
+use Rattle.schema_meta.specs.Sound.{Fits, FitsValues, IsFitting, schema_after, after}
 use Rattle.schema_meta.specs.Framing.{staged, first}
 use Rattle.messages.specs.Stream.{IsStream}
 use Rattle.messages.proofs.Messages.{first_within, first_beyond}
@@ -46,6 +49,17 @@ next_fits known next bytes body w read e n b =
     let P : Known → Type 0 = λ k. IsFitting k.schema w.meta.header (length body) in
     let Q : ℕ → Type 0 = λ m. IsFitting (schema_after known.schema w.meta.schema) w.meta.header m in
     subst P (sym n) (subst Q (sym l) sound.0)
+
+some_of : {X : Type 0} (o : Option X) (P : X → Type 0) → IsSomeAnd o P → IsSome o
+some_of None P h = absurd h
+some_of (Some x) P h = refl
+
+-- A message that fits comes where a schema is known.
+pub schema_known : (o : Option (List (Rose Entry))) (h : Header) (body : ℕ) → IsFitting o h body → IsSome o
+schema_known o header.Schema body fits = fits
+schema_known o (header.Dictionary d) body fits = some_of o (λ fields. FitsValues fields body d) fits
+schema_known o (header.Batch b) body fits = some_of o (λ fields. Fits (slot_layouts_of fields) body b) fits
+schema_known o header.End body fits = fits
 
 pub used_within :
     (known : Known) (old piece : List ℕ) (used : ℕ) (w : Whole) → first known (old ++ piece) ≡ Ok (Some w)

@@ -1,5 +1,5 @@
 -- What pieces can't change.
-use Rattle.std.specs.Prelude.{◌≡◌, ℕ, suc, ◌≤◌, List, [], ◌++◌, length, take, drop, None, Some, Ok, Err}
+use Rattle.std.specs.Prelude.{◌≡◌, ℕ, suc, ◌≤◌, List, [], ◌++◌, length, take, drop, None, Some, Result, Ok, Err}
 use Rattle.std.specs.List.{concat}
 use Rattle.values.specs.declared.faults.StreamFault.{StreamFault}
 use Rattle.values.specs.Reading.{Faults, Judges, Reading, Stands}
@@ -7,6 +7,7 @@ use Rattle.schema_meta.specs.Stage.{Known, Whole, end_of}
 use Rattle.schema_meta.specs.Framing.{first}
 use Rattle.messages.specs.declared.headers.Framed.{Framed}
 use Rattle.messages.specs.Handed.{MessageView}
+use Rattle.messages.specs.MessageLaw.{MessageLaw}
 use Rattle.messages.specs.Stream.{Stream, Frames}
 use Rattle.messages.specs.Run.{Run, run_of, run_behind, whole_run}
 use Rattle.messages.specs.Feeding.{End, Feeds}
@@ -39,6 +40,16 @@ WholeAlone =
 abbrev pub NothingYet : Type 0
 NothingYet = (known : Known) → first known [] ≡ Ok None
 
+-- All that holds of the first message of some bytes, in one.
+pub record FirstMessageLaw : Type 0 where
+  pub whole : WholeStays
+  pub within : WholeWithin
+  pub fault : FaultStays
+  pub faults : FaultsStay
+  pub alone : WholeAlone
+  pub none : NothingYet
+  pub message : MessageLaw
+
 -- A push changes nothing of the messages of a stream: those of what was held, the piece and all that comes later are the one
 -- that the push hands on, if it does, and those of what is held then, the rest of the piece and all that comes later.
 abbrev pub PushKeepsRun : Type 0
@@ -66,8 +77,8 @@ FeedFollowsRun =
     → first old.known old.held ≡ Ok None → Feeds old pieces messages end
     → Follows messages end (whole_run old.known (old.held ++ concat pieces))
 
--- the same stream is left, or both refusals name faults of the same set
-abbrev pub AgreeIn : Reading Stream → End → End → Type 0
+-- the same is left, or both refusals name faults of the same set
+abbrev pub AgreeIn : {S : Type 0} → Reading S → Result S StreamFault → Result S StreamFault → Type 0
 AgreeIn rest (Ok s) (Ok t) = s ≡ t
 AgreeIn rest (Err c) (Err d) = Stands rest c × Stands rest d
 AgreeIn rest (Ok s) (Err d) = ⊥

@@ -22,7 +22,7 @@ stopped rest = record { messages = []; rest = rest }
 abbrev pub run_after : (Known → List ℕ → Run) → Known → List ℕ → Reading (Option Whole) → Run
 run_after later known bytes (Ok None) = stopped (Ok (record { known = known; held = bytes }))
 run_after later known bytes (Ok (Some w)) =
-    led_by (message_of w bytes) (later (after known w.meta) (drop (end_of w) bytes))
+    led_by (message_of known w bytes) (later (after known w.meta) (drop (end_of w) bytes))
 run_after later known bytes (Err fs) = stopped (Err fs)
 
 -- the messages of the bytes, no more than n

@@ -1,5 +1,5 @@
 -- A stream between two pieces, what a push makes of it, and the stream that a piece was made ready for.
-use Rattle.std.specs.Prelude.{◌≡◌, ℕ, ℤ, ◌+◌, List, [], ◌++◌, length, slice_range, Option, None, Some, Ok, Err, refl}
+use Rattle.std.specs.Prelude.{◌≡◌, ℕ, ℤ, ◌+◌, List, [], ◌++◌, length, slice_range, Option, None, Some, Ok, Err, IfSome, refl}
 use Rattle.std.specs.Coded.{Coded, code_by, coded×, coded_ℕ, coded_ℤ, coded_list, coded_option}
 use Rattle.values.specs.Logical.{LogicalField, logical_code}
 use Rattle.values.specs.Reading.{Reading}
@@ -8,7 +8,9 @@ use Rattle.schema_meta.specs.Entry.{Entry, entry_code}
 use Rattle.messages.specs.declared.headers.Framed.{Framed}
 use Rattle.messages.specs.Handed.{MessageView}
 use Rattle.schema_meta.specs.Stage.{Known, Whole, end_of}
-use Rattle.schema_meta.specs.Sound.{after}
+use Rattle.schema_meta.specs.SchemaLaw.{before}
+use Rattle.schema_meta.specs.Sound.{IsFitting, after}
+use Rattle.schema_meta.specs.Story.{fields_of}
 use Rattle.messages.specs.State.{IsRead}
 use Rattle.messages.specs.Wanted.{Wants, followed}
 use Rattle.schema_meta.specs.Framing.{first}
@@ -47,9 +49,14 @@ pub record IsStream (known : Known) (held : List ℕ) (wanted : ℕ) : Type 0 wh
   pub small : IsRead known.schema
   pub wants : Wants (followed known held) wanted
 
+-- of which nothing has come; these columns are declared for it, if any are
+abbrev pub opened : Option (List (Rose LogicalField)) → Stream
+opened declared = record { known = before declared; held = [] }
+
 -- a message that is handed on, out of all bytes
-abbrev pub message_of : Whole → List ℕ → MessageView
-message_of w bytes = record { header = w.meta.header; body = slice_range bytes w.front (end_of w) }
+abbrev pub message_of : Known → Whole → List ℕ → MessageView
+message_of known w bytes =
+    record { schema = fields_of (after known w.meta); header = w.meta.header; body = slice_range bytes w.front (end_of w) }
 
 -- What a push answers, where the first message of what was held and the piece is this: without a message all of the piece is
 -- held, and a message is handed on.
@@ -57,6 +64,25 @@ abbrev pub Frames : Reading (Option Whole) → Stream → List ℕ → Framed �
 Frames (Ok None) old piece f new =
     (f.used ≡ length piece) × (f.message ≡ None) × (new ≡ record { known = old.known; held = old.held ++ piece })
 Frames (Ok (Some w)) old piece f new =
-    (f.used + length old.held ≡ end_of w) × (f.message ≡ Some (message_of w (old.held ++ piece)))
+    (f.used + length old.held ≡ end_of w) × (f.message ≡ Some (message_of old.known w (old.held ++ piece)))
     × (new ≡ record { known = after old.known w.meta; held = [] })
 Frames (Err fs) old piece f new = ⊥
+
+-- the first message of what is held and of a piece
+abbrev pub first_in : Stream → List ℕ → Reading (Option Whole)
+first_in s piece = first s.known (s.held ++ piece)
+
+-- A push of the piece answers this, and the stream stands there then.
+abbrev pub Takes : Stream → List ℕ → Framed → Stream → Type 0
+Takes old piece f new = Frames (first_in old piece) old piece f new
+
+-- Nothing was taken, and nothing came of it.
+abbrev pub IsNothing : Framed → Type 0
+IsNothing f = (f.used ≡ 0) × (f.message ≡ None)
+
+-- A message that is handed on has the schema that is known then, and fits it.
+abbrev pub HasSchema : Option (List (Rose Entry)) → Framed → Type 0
+HasSchema schema f = IfSome f.message (λ m. schema ≡ Some m.schema)
+
+abbrev pub FitsSchema : Option (List (Rose Entry)) → Framed → Type 0
+FitsSchema schema f = IfSome f.message (λ m. IsFitting schema m.header (length m.body))

@@ -1,26 +1,31 @@
 //! Messages as they are handed on.
 
-use schema_meta::Header;
+use schema_meta::{Header, StreamSchema};
 use std::marker::Model;
+use std::rc::Rc;
 
 /// A whole message.
-#[derive(Debug, Drop)]
+#[derive(Drop)]
 pub struct Message {
+    /// The schema of the stream: the one that this message brings, or that came before it.
+    pub schema: Rc<StreamSchema>,
     pub header: Header,
     /// The bytes that a batch's buffers lie in. A schema may have a body too, which means nothing.
     pub body: Vec<u8>,
 }
 
 impl Model for Message {
-    ghost use Rattle.messages.specs.Handed.{MessageView};
+    ghost use Rattle.messages.specs.Handed.{MessageView, view_code};
 
     ghost Value = { MessageView };
 
-    ghost view = { λ m. record { header = m.header; body = m.body.items } };
+    ghost coded = { view_code };
+
+    ghost view = { λ m. record { schema = m.schema.value.fields.items; header = m.header; body = m.body.items } };
 }
 
 /// What a push came to.
-#[derive(Debug, Drop)]
+#[derive(Drop)]
 pub struct Framed {
     /// How many bytes of the piece were taken: up to the end of the message, or all.
     pub used: usize,

@@ -1,7 +1,7 @@
 //! Laws of the definitions: functions that do nothing, whose contracts are theorems.
 
 ghost use Rattle.messages.specs.MessageLaw.{MessageLaw};
-ghost use Rattle.messages.specs.Laws.{CutsAgree, FaultStays, FaultsStay, FeedFollowsRun, FeedsEnd, NothingYet, PushKeepsRun, RefusalEndsRun, WholeAlone, WholeStays, WholeWithin};
+ghost use Rattle.messages.specs.Laws.{CutsAgree, FaultStays, FaultsStay, FeedFollowsRun, FeedsEnd, FirstMessageLaw, NothingYet, PushKeepsRun, RefusalEndsRun, WholeAlone, WholeStays, WholeWithin};
 
 /// More bytes change neither a whole message nor the faults that stand, so neither depends on where the input is cut; and a
 /// message is whole as soon as its own bytes are there.
@@ -32,4 +32,10 @@ pub fn pieces_law()
 #[tactic(auto, using(crate::proofs::Brings::message_laws))]
 pub fn message_law()
     ensures { MessageLaw }
+{}
+
+/// `more_bytes_law` and `message_law` in one clause, for laws that rest on both.
+#[tactic(auto, using(crate::proofs::Brings::message_laws))]
+pub fn first_message_law()
+    ensures { FirstMessageLaw }
 {}

@@ -29,6 +29,6 @@ mod stream;
 mod tests;
 
 pub use headers::{Framed, Message};
-pub use laws::{message_law, more_bytes_law, pieces_law};
+pub use laws::{first_message_law, message_law, more_bytes_law, pieces_law};
 pub use schema_meta::{BatchHeader, Header};
 pub use stream::Framer;

@@ -1,11 +1,12 @@
 //! What is known of a stream between its messages.
 
-ghost use Rattle.std.specs.Prelude.{◌≡◌, IfOk};
+ghost use Rattle.std.specs.Prelude.{◌≡◌, IfOk, IsSome, Some};
 ghost use Rattle.std.specs.Option.{option_map};
 ghost use Rattle.indexmap.specs.IndexMap.{spare};
 ghost use Rattle.messages.specs.Counts.{HasRoom, IsCounted, counted};
 ghost use Rattle.messages.specs.State.{known_of, learnt};
 ghost use Rattle.schema_meta.specs.DictionaryBatch.{counts_after};
+ghost use Rattle.schema_meta.specs.Sound.{schema_after};
 
 use crate::counts::{Count, count_after};
 use indexmap::IndexMap;
@@ -36,6 +37,20 @@ impl State {
             self.counts.reserve(1)?;
         }
         Ok(count)
+    }
+
+    /// The schema after a message that brings this one, or none.
+    pub(crate) fn schema_after(
+        &self,
+        brought: &Option<Rc<StreamSchema>>,
+    ) -> Result<Rc<StreamSchema>, AllocError>
+        requires { IsSome (schema_after (known_of self.now).schema (option_map (λ s. s.value.fields.items) brought.now)) }
+        ensures { IfOk result (λ s. schema_after (known_of self.now).schema (option_map (λ s. s.value.fields.items) brought.now) ≡ Some s.value.fields.items) }
+    {
+        match brought {
+            Some(schema) => schema.clone(),
+            None => self.schema.as_ref().unwrap().clone(),
+        }
     }
 
     /// Keeps what a message brings: a schema, or how many values a dictionary has. It takes no memory.

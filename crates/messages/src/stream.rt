@@ -1,12 +1,9 @@
 //! A stream of messages, from pieces.
 
-ghost use Rattle.std.specs.Prelude.{◌≡◌, [], ◌++◌, ◌<◌, ◌≤◌, Some, None, length, IfOk, IfErr, IfSome, IsOkAnd, OnErr};
+ghost use Rattle.std.specs.Prelude.{◌≡◌, [], ◌<◌, ◌≤◌, length, IfOk, IfErr, IsOkAnd, OnErr};
 ghost use Rattle.std.specs.Option.{option_map};
 ghost use Rattle.values.specs.Reading.{Fails};
-ghost use Rattle.schema_meta.specs.Framing.{first};
-ghost use Rattle.messages.specs.Stream.{Frames};
-ghost use Rattle.schema_meta.specs.SchemaLaw.{before};
-ghost use Rattle.schema_meta.specs.Sound.{IsFitting};
+ghost use Rattle.messages.specs.Stream.{FitsSchema, HasSchema, IsNothing, Takes, first_in, opened};
 
 use crate::gather::{Step, advance};
 use crate::headers::{Framed, Message};
@@ -55,7 +52,7 @@ impl Model for Framer {
 impl Framer {
     /// A stream of which nothing has come. Where a schema is declared, the stream's must have its columns.
     pub fn open(alloc: Global, declared: Option<Schema>) -> Framer
-        ensures current { result.current ≡ record { known = before (option_map (λ s. s.fields.items) declared); held = [] } }
+        ensures current { result.current ≡ opened (option_map (λ s. s.fields.items) declared) }
         ensures settled { result.prepared ≡ result.current }
     {
         Framer {
@@ -79,24 +76,19 @@ impl Framer {
         self.state.schema.as_ref()
     }
 
-    /// The schema that is known once what was made ready is done.
-    pub fn next_schema(&self) -> Option<&Rc<StreamSchema>>
-        ensures { option_map (λ s. s.now.value.fields.items) result ≡ self.now.prepared.known.schema }
-    {
-        match &self.pending {
-            Pending::Message {
-                schema: Some(brought),
-                ..
-            } => Some(brought),
-            _ => self.schema(),
-        }
-    }
-
     /// How many bytes of a message are held that isn't whole yet.
     pub fn held(&self) -> usize
         ensures { result ≡ length self.now.current.held }
     {
         self.len
+    }
+
+    /// Drops what was made ready, if it isn't done yet.
+    pub fn discard(&mut self)
+        ensures same { self.new.current ≡ self.old.current }
+        ensures settled { self.new.prepared ≡ self.old.current }
+    {
+        drop(replace(&mut self.pending, Pending::Nothing));
     }
 
     /// Judges the piece up to the end of the first message that it completes, or all of it, and makes the room that `commit`
@@ -106,14 +98,15 @@ impl Framer {
     /// `Memory`; nothing is ready then. A fault of the framing stands once 8 bytes of a message are there, one of the
     /// metadata once all of that is.
     pub fn prepare(&mut self, piece: &[u8]) -> Result<Framed, StreamFault>
-        ensures ok { IfOk result (λ f. Frames (first self.old.current.known (self.old.current.held ++ piece.now)) self.old.current piece.now f self.new.prepared) }
-        ensures fault { IfErr result (λ e. Fails e (first self.old.current.known (self.old.current.held ++ piece.now))) }
+        ensures ok { IfOk result (λ f. Takes self.old.current piece.now f self.new.prepared) }
+        ensures fault { IfErr result (λ e. Fails e (first_in self.old.current piece.now)) }
         ensures same { self.new.current ≡ self.old.current }
         ensures refused { OnErr result (self.new.prepared ≡ self.old.current) }
-        ensures empty { piece.now ≡ [] → IsOkAnd result (λ f. (f.used ≡ 0) × (f.message ≡ None)) × (self.new.prepared ≡ self.old.current) }
+        ensures empty { piece.now ≡ [] → IsOkAnd result IsNothing × (self.new.prepared ≡ self.old.current) }
         ensures used { IfOk result (λ f. f.used ≤ length piece.now) }
         ensures progress { IfOk result (λ f. 0 < length piece.now → 0 < f.used) }
-        ensures fits { IfOk result (λ f. IfSome f.message (λ m. IsFitting self.new.prepared.known.schema m.header (length m.body))) }
+        ensures schema { IfOk result (HasSchema self.new.prepared.known.schema) }
+        ensures fits { IfOk result (FitsSchema self.new.prepared.known.schema) }
     {
         self.bytes.truncate(self.len);
         self.pending = Pending::Nothing;
@@ -126,12 +119,24 @@ impl Framer {
                 })
             }
             Step::Whole { used, found, body } => {
-                let Metadata { header, schema, .. } = found.metadata;
+                let Metadata {
+                    header,
+                    schema: brought,
+                    ..
+                } = found.metadata;
+                let schema = self.state.schema_after(&brought)?;
                 let count = self.state.count(&header)?;
-                self.pending = Pending::Message { schema, count };
+                self.pending = Pending::Message {
+                    schema: brought,
+                    count,
+                };
                 Ok(Framed {
                     used,
-                    message: Some(Message { header, body }),
+                    message: Some(Message {
+                        schema,
+                        header,
+                        body,
+                    }),
                 })
             }
         }
@@ -159,13 +164,14 @@ impl Framer {
     /// Takes the piece up to the end of the first message that it completes, or all of it: `prepare`, and then `commit`.
     /// Where it is refused the stream stays as it stands.
     pub fn push(&mut self, piece: &[u8]) -> Result<Framed, StreamFault>
-        ensures ok { IfOk result (λ f. Frames (first self.old.current.known (self.old.current.held ++ piece.now)) self.old.current piece.now f self.new.current) }
-        ensures fault { IfErr result (λ e. Fails e (first self.old.current.known (self.old.current.held ++ piece.now))) }
+        ensures ok { IfOk result (λ f. Takes self.old.current piece.now f self.new.current) }
+        ensures fault { IfErr result (λ e. Fails e (first_in self.old.current piece.now)) }
         ensures unchanged { OnErr result (self.new.current ≡ self.old.current) }
-        ensures empty { piece.now ≡ [] → IsOkAnd result (λ f. (f.used ≡ 0) × (f.message ≡ None)) × (self.new.current ≡ self.old.current) }
+        ensures empty { piece.now ≡ [] → IsOkAnd result IsNothing × (self.new.current ≡ self.old.current) }
         ensures used { IfOk result (λ f. f.used ≤ length piece.now) }
         ensures progress { IfOk result (λ f. 0 < length piece.now → 0 < f.used) }
-        ensures fits { IfOk result (λ f. IfSome f.message (λ m. IsFitting self.new.current.known.schema m.header (length m.body))) }
+        ensures schema { IfOk result (HasSchema self.new.current.known.schema) }
+        ensures fits { IfOk result (FitsSchema self.new.current.known.schema) }
         ensures settled { self.new.prepared ≡ self.new.current }
     {
         let framed = self.prepare(piece)?;

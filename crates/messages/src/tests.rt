@@ -75,6 +75,10 @@ fn commit(framer: &mut Framer) {
     framer.commit();
 }
 
+fn discard(framer: &mut Framer) {
+    framer.discard();
+}
+
 #[test]
 fn whole(rt: HostRuntime) {
     let mut framer = Framer::open(rt.alloc(), None);
@@ -82,6 +86,11 @@ fn whole(rt: HostRuntime) {
     assert_eq!(rt; push(&mut framer, &SAMPLE[232..]), Ok((264, Some(3))));
     assert_eq!(rt; push(&mut framer, &SAMPLE[496..]), Ok((8, Some(0))));
     assert_eq!(rt; framer.held(), 0);
+}
+
+/// How many columns the message's schema has.
+fn width(framed: Framed) -> Option<usize> {
+    Some(framed.message?.schema.fields.len())
 }
 
 /// The length of a batch's body, and its rows, nodes and buffers.
@@ -103,6 +112,14 @@ fn reads_the_batch(rt: HostRuntime) -> Result<(), Fail> {
     let mut framer = Framer::open(rt.alloc(), None);
     assert_eq!(rt; push(&mut framer, &SAMPLE), Ok((232, Some(1))));
     assert_eq!(rt; batch(framer.push(&SAMPLE[232..])?), Some([56, 3, 2, 4]));
+    Ok(())
+}
+
+#[test]
+fn hands_on_the_schema(rt: HostRuntime) -> Result<(), Fail> {
+    let mut framer = Framer::open(rt.alloc(), None);
+    assert_eq!(rt; width(framer.push(&SAMPLE)?), Some(2));
+    assert_eq!(rt; width(framer.push(&SAMPLE[232..])?), Some(2));
     Ok(())
 }
 
@@ -420,12 +437,11 @@ fn commits_what_was_made_ready(rt: HostRuntime) {
     assert_eq!(rt; prepare(&mut framer, rest), Ok((132, Some(1))));
     assert_eq!(rt; framer.held(), 100);
     assert!(rt; framer.schema().is_none());
-    assert!(rt; framer.next_schema().is_some());
     commit(&mut framer);
     assert_eq!(rt; framer.held(), 0);
     assert!(rt; framer.schema().is_some());
     commit(&mut framer);
-    assert!(rt; framer.next_schema().is_some());
+    assert!(rt; framer.schema().is_some());
     assert_eq!(rt; push(&mut framer, &SAMPLE[232..]), Ok((264, Some(3))));
 }
 
@@ -435,9 +451,12 @@ fn drops_what_was_made_ready(rt: HostRuntime) {
     assert_eq!(rt; push(&mut framer, &SAMPLE[..4]), Ok((4, None)));
     assert_eq!(rt; prepare(&mut framer, &SAMPLE[4..100]), Ok((96, None)));
     assert_eq!(rt; prepare(&mut framer, &SAMPLE[4..]), Ok((228, Some(1))));
-    assert!(rt; framer.next_schema().is_some());
+    discard(&mut framer);
+    commit(&mut framer);
+    assert_eq!(rt; framer.held(), 4);
+    assert!(rt; framer.schema().is_none());
+    assert_eq!(rt; prepare(&mut framer, &SAMPLE[4..]), Ok((228, Some(1))));
     assert_eq!(rt; prepare(&mut framer, &SAMPLE[4..6]), Ok((2, None)));
-    assert!(rt; framer.next_schema().is_none());
     commit(&mut framer);
     assert_eq!(rt; framer.held(), 6);
     assert!(rt; framer.schema().is_none());

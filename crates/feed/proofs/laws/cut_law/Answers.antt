@@ -2,46 +2,16 @@ use Rattle.feed.proofs.Cutting.{partial-joins, whole-stays, faults-stay, whole-u
 use Rattle.feed.proofs.laws.cut_law.Goals as goal
 
 pub returns-clause-partial : goal.returns-clause-partial
-returns-clause-partial c = partial-joins (record {
-  whole = c.more_bytes_law.ensures.whole;
-  faults = c.more_bytes_law.ensures.faults;
-  alone = c.more_bytes_law.ensures.alone;
-  none = c.more_bytes_law.ensures.none;
-  message = c.message_law.ensures;
-})
+returns-clause-partial c = partial-joins c.first_message_law.ensures
 
 pub returns-clause-whole : goal.returns-clause-whole
-returns-clause-whole c = whole-stays (record {
-  whole = c.more_bytes_law.ensures.whole;
-  faults = c.more_bytes_law.ensures.faults;
-  alone = c.more_bytes_law.ensures.alone;
-  none = c.more_bytes_law.ensures.none;
-  message = c.message_law.ensures;
-})
+returns-clause-whole c = whole-stays c.first_message_law.ensures
 
 pub returns-clause-faults : goal.returns-clause-faults
-returns-clause-faults c = faults-stay (record {
-  whole = c.more_bytes_law.ensures.whole;
-  faults = c.more_bytes_law.ensures.faults;
-  alone = c.more_bytes_law.ensures.alone;
-  none = c.more_bytes_law.ensures.none;
-  message = c.message_law.ensures;
-})
+returns-clause-faults c = faults-stay c.first_message_law.ensures
 
 pub returns-clause-uses : goal.returns-clause-uses
-returns-clause-uses c = whole-uses (record {
-  whole = c.more_bytes_law.ensures.whole;
-  faults = c.more_bytes_law.ensures.faults;
-  alone = c.more_bytes_law.ensures.alone;
-  none = c.more_bytes_law.ensures.none;
-  message = c.message_law.ensures;
-})
+returns-clause-uses c = whole-uses c.first_message_law.ensures
 
 pub returns-clause-all : goal.returns-clause-all
-returns-clause-all c = partial-uses (record {
-  whole = c.more_bytes_law.ensures.whole;
-  faults = c.more_bytes_law.ensures.faults;
-  alone = c.more_bytes_law.ensures.alone;
-  none = c.more_bytes_law.ensures.none;
-  message = c.message_law.ensures;
-})
+returns-clause-all c = partial-uses c.first_message_law.ensures

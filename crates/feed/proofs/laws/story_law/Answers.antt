@@ -1,53 +1,27 @@
 use Rattle.feed.proofs.Telling.{all-is-told, event-tells, none-held, faults-tell, partial-is-held, partial-tells, tale-knows}
+use Rattle.feed.proofs.Folding.{events-tell-all}
 use Rattle.feed.proofs.laws.story_law.Goals as goal
 
 pub returns-clause-all : goal.returns-clause-all
 returns-clause-all c = all-is-told
 
 pub returns-clause-event : goal.returns-clause-event
-returns-clause-event c = event-tells (record {
-  whole = c.more_bytes_law.ensures.whole;
-  faults = c.more_bytes_law.ensures.faults;
-  alone = c.more_bytes_law.ensures.alone;
-  none = c.more_bytes_law.ensures.none;
-  message = c.message_law.ensures;
-})
+returns-clause-event c = event-tells c.first_message_law.ensures
 
 pub returns-clause-held : goal.returns-clause-held
-returns-clause-held c = none-held (record {
-  whole = c.more_bytes_law.ensures.whole;
-  faults = c.more_bytes_law.ensures.faults;
-  alone = c.more_bytes_law.ensures.alone;
-  none = c.more_bytes_law.ensures.none;
-  message = c.message_law.ensures;
-})
+returns-clause-held c = none-held c.first_message_law.ensures
 
 pub returns-clause-partial_held : goal.returns-clause-partial_held
-returns-clause-partial_held c = partial-is-held (record {
-  whole = c.more_bytes_law.ensures.whole;
-  faults = c.more_bytes_law.ensures.faults;
-  alone = c.more_bytes_law.ensures.alone;
-  none = c.more_bytes_law.ensures.none;
-  message = c.message_law.ensures;
-})
+returns-clause-partial_held c = partial-is-held c.first_message_law.ensures
 
 pub returns-clause-faults : goal.returns-clause-faults
-returns-clause-faults c = faults-tell (record {
-  whole = c.more_bytes_law.ensures.whole;
-  faults = c.more_bytes_law.ensures.faults;
-  alone = c.more_bytes_law.ensures.alone;
-  none = c.more_bytes_law.ensures.none;
-  message = c.message_law.ensures;
-})
+returns-clause-faults c = faults-tell c.first_message_law.ensures
 
 pub returns-clause-partial : goal.returns-clause-partial
-returns-clause-partial c = partial-tells (record {
-  whole = c.more_bytes_law.ensures.whole;
-  faults = c.more_bytes_law.ensures.faults;
-  alone = c.more_bytes_law.ensures.alone;
-  none = c.more_bytes_law.ensures.none;
-  message = c.message_law.ensures;
-})
+returns-clause-partial c = partial-tells c.first_message_law.ensures
 
 pub returns-clause-knows : goal.returns-clause-knows
 returns-clause-knows c = tale-knows
+
+pub returns-clause-events : goal.returns-clause-events
+returns-clause-events c = events-tell-all c.first_message_law.ensures

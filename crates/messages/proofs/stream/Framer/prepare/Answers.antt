@@ -4,9 +4,15 @@ use Rattle.schema_meta.specs.Stage.{Whole}
 use Rattle.schema_meta.specs.Sound.{after}
 use Rattle.messages.specs.State.{known_of, whole_seen}
 use Rattle.messages.proofs.Sounds.{first_sound}
-use Rattle.messages.proofs.Streams.{next_fits, used_within, used_some}
+use Rattle.messages.proofs.Streams.{next_fits, schema_known, used_within, used_some}
 use Rattle.messages.proofs.Framers.{message_ready}
 use Rattle.messages.proofs.stream.Framer.prepare.Goals as goal
+
+pub schema_after-requires : goal.schema_after-requires
+schema_after-requires c =
+    let e = rw c.in-Whole.is at c.in_ok-wanted.ensures.ok in
+    schema_known _ c.in-Whole.found.metadata.header c.in-Whole.found.metadata.body
+    (first_sound (known_of c.self.inside.state) (c.truncate.new.self.items ++ c.args.piece.now) (whole_seen c.in-Whole.found) c.self.invariant.stream.small e.0).0
 
 pub count-requires : goal.count-requires
 count-requires c =

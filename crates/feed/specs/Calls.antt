@@ -1,0 +1,78 @@
+-- Words for what the calls of a feed are said to do, from whatever state it shows.
+use Rattle.std.specs.Prelude.{◌≡◌, ℕ, ℤ, ◌++◌, List, Option, Some, Result, Ok, IfSome, take}
+use Rattle.values.specs.Datum.{Datum}
+use Rattle.values.specs.Logical.{LogicalField}
+use Rattle.values.specs.Reading.{Reading}
+use Rattle.values.specs.Rose.{Rose}
+use Rattle.values.specs.declared.faults.StreamFault.{StreamFault}
+use Rattle.dictionaries.specs.Batches.{DictionaryBatch}
+use Rattle.dictionaries.specs.Law.{StandsAfter}
+use Rattle.dictionaries.specs.Table.{Change, Table}
+use Rattle.schema_meta.specs.Entry.{Entry}
+use Rattle.messages.specs.Handed.{MessageView}
+use Rattle.messages.specs.Stream.{Stream}
+use Rattle.feed.specs.declared.condition.Condition.TheVariants as condition
+use Rattle.feed.specs.declared.event.Fed.{Fed}
+use Rattle.feed.specs.declared.message.Coming.{Coming}
+use Rattle.feed.specs.declared.judge.Judged.{Judged}
+use Rattle.feed.specs.Kept.{Kept, brought_by, kept_of}
+use Rattle.feed.specs.Events.{Event, Given, event_in}
+use Rattle.feed.specs.States.{FeedState, Gives, after_finish, after_push, condition_after, kept_in}
+use Rattle.feed.specs.Shown.{FeedParts, HasValues, IsAt, IsTypedEvent, Leads, Shows, WillBeAt, WillStandAfter, change_coming, event_seen, values_next}
+
+-- a push may answer this
+abbrev pub MayAnswer : FeedParts → List ℕ → Result Given StreamFault → Type 0
+MayAnswer f piece answer = (s : FeedState) → Shows f s → Gives s piece answer
+
+abbrev pub ShowsAfter : FeedParts → List ℕ → Result Given StreamFault → FeedParts → Type 0
+ShowsAfter old piece answer new = (s : FeedState) → Shows old s → Shows new (after_push s piece answer)
+
+abbrev pub WillTake : FeedParts → List ℕ → Given → FeedParts → Type 0
+WillTake old piece g new = (s : FeedState) → Shows old s → Leads new (after_push s piece (Ok g))
+
+abbrev pub StillShows : FeedParts → FeedParts → Type 0
+StillShows old new = (s : FeedState) → Shows old s → Shows new s
+
+abbrev pub ShowsFinished : FeedParts → Result (Unit {0}) StreamFault → FeedParts → Type 0
+ShowsFinished old answer new = (s : FeedState) → Shows old s → Shows new (after_finish s answer)
+
+abbrev pub ShowsSchema : FeedParts → Option (List (Rose Entry)) → Type 0
+ShowsSchema f fields = (s : FeedState) → Shows f s → fields ≡ (kept_in s).known.schema
+
+-- The event of a push has columns as the schema has them.
+abbrev pub IsTyped : Option (List (Rose Entry)) → Fed → Type 0
+IsTyped fields f = IfSome f.event (IsTypedEvent fields)
+
+-- a message's event, in the definitions' words, and the dictionary batch that it brings
+abbrev pub coming_seen : Coming → Event
+coming_seen c = event_seen c.event
+
+abbrev pub message_event : MessageView → (ℤ → List Datum) → Reading Event
+message_event m values = event_in m.schema values m.body m.header
+
+abbrev pub message_brings : MessageView → List DictionaryBatch
+message_brings m = brought_by m.schema m.body m.header
+
+-- The feed goes on as the event says.
+abbrev pub IsFollowed : Coming → Type 0
+IsFollowed c = c.next ≡ condition_after condition.Opened (Some (event_seen c.event))
+
+-- Where some dictionary batches came before, these come to them by a change.
+abbrev pub Adds : Table → Table → Option Change → List DictionaryBatch → Type 0
+Adds old new c more = (ds : List DictionaryBatch) → StandsAfter ds old → WillStandAfter (ds ++ more) new c
+
+-- What is said of an open feed, whatever it keeps that stands there.
+abbrev pub AtEach : Stream → Table → (Kept → Type 0) → Type 0
+AtEach stream t claim = (k : Kept) → IsAt k stream t → claim k
+
+-- What was judged of a piece leads there, whatever bytes came before it.
+abbrev pub GoesTo : Stream → Table → List ℕ → Stream → Table → Judged → Type 0
+GoesTo old t piece new u j =
+    (declared : Option (List (Rose LogicalField))) (bytes : List ℕ) → IsAt (kept_of declared bytes) old t
+    → WillBeAt (kept_of declared (bytes ++ take j.used piece)) new u (change_coming j.coming)
+
+abbrev pub HasNext : Option (List (Rose Entry)) → Table → Judged → Type 0
+HasNext fields t j = HasValues fields (values_next t (change_coming j.coming))
+
+abbrev pub IsTypedComing : Option (List (Rose Entry)) → Judged → Type 0
+IsTypedComing fields j = IfSome j.coming (λ c. IsTypedEvent fields c.event)
