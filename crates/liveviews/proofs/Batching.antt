@@ -1,7 +1,8 @@
 -- The rows of a batch, from its columns.
-use Rattle.std.proofs.Common.{◌≡◌, ℕ, zero, suc, List, ◌++◌, ◌+◌, ◌<◌, ◌≤◌, ◌^◌, length, All, Any, slice_index_or, OnOk, Result, Ok, Err, refl, ap, sym, subst, ◌∙◌, arith}
+use Rattle.std.proofs.Common.{◌≡◌, ℕ, zero, suc, List, ◌++◌, ◌+◌, ◌<◌, ◌≤◌, length, All, Any, slice_index_or, OnOk, Result, Ok, Err, refl, ap, sym, subst, ◌∙◌, arith}
 use Rattle.std.proofs.lemmas.List.{length-append}
 use Rattle.std.proofs.lemmas.List.Elements.{All-append}
+use Rattle.values.specs.Limits.{max_main_rows}
 use Rattle.values.specs.Datum.{Datum}
 use Rattle.values.specs.Rose.{Roses}
 use Rattle.values.specs.declared.causes.Cause.{Cause}
@@ -26,7 +27,7 @@ rows_from-at columns i (suc n) (suc k) d below =
     rows_from-at columns (i + 1) n k d (omega (arith, below)) ∙ ap (row_at columns) same
 
 pub rows-many :
-    (ls : Roses Layout) (columns : List (List Datum)) (n before : ℕ) → 2 ^ 24 < before + n
+    (ls : Roses Layout) (columns : List (List Datum)) (n before : ℕ) → max_main_rows < before + n
     → RefusesBatch ls (rows_in n columns) before cause.TooManyRows
 rows-many ls columns n before many =
     let size : length (rows_in n columns) ≡ n = rows_from-length columns 0 n in omega (arith, many, size)
@@ -47,7 +48,7 @@ rows-refused ls columns n before _ h = absurd h
 -- the rows that were added are taken like those before
 pub taken-rows :
     (ls : Roses Layout) (columns old new : List (List Datum)) (n : ℕ) → new ≡ old ++ rows_in n columns → AreFit ls columns n
-    → length old + n ≤ 2 ^ 24 → AreTaken ls old → AreTaken ls new
+    → length old + n ≤ max_main_rows → AreTaken ls old → AreTaken ls new
 taken-rows ls columns old new n all fits room before =
     let size : length (rows_in n columns) ≡ n = rows_from-length columns 0 n in
     let each : All (IsTakenRow ls) (rows_in n columns) = λ k d below.

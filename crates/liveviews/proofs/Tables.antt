@@ -1,9 +1,10 @@
 -- The table at the end of a stream.
-use Rattle.std.proofs.Common.{◌≡◌, ℕ, ◌-◌, ◌^◌, ◌<◌, ◌≤◌, Bool, true, false, Option, None, Some, Result, Ok, Err, OnOk, List, [], ◌∷◌, length, take, drop, map, refl, ap, sym, subst, ◌∙◌, arith, append-nil, length-drop}
+use Rattle.std.proofs.Common.{◌≡◌, ℕ, ◌-◌, ◌<◌, ◌≤◌, Bool, true, false, Option, None, Some, Result, Ok, Err, OnOk, List, [], ◌∷◌, length, take, drop, map, refl, ap, sym, subst, ◌∙◌, arith, append-nil, length-drop}
 use Rattle.std.specs.Prelude.{if◌then◌else◌, ◌==◌}
 use Rattle.std.specs.Option.{option_map}
 use Rattle.std.proofs.lemmas.List.{take_all}
 use Rattle.std.proofs.lemmas.Bool.{eqb-true}
+use Rattle.values.specs.Limits.{max_row_weight}
 use Rattle.values.specs.Datum.{Datum, items_of}
 use Rattle.values.specs.Layouts.{AreLayouts, HoldsEach, row_weight}
 use Rattle.values.specs.Reading.{Reading, Stands, one}
@@ -35,9 +36,9 @@ module _ (trees : LogicalTrees) (fits : NarrowFits) (holds : NarrowHoldsEach) (w
       let ls : Roses Layout = layouts_of fields in
       let same : logical_trees fields ≡ narrow_trees ls = trees fields in
       let P : Roses Layout → Type 0 = λ ts. HoldsEach ts (items_of row) in
-      let Q : Roses Layout → Type 0 = λ ts. row_weight ts (items_of row) ≤ 2 ^ 26 in
+      let Q : Roses Layout → Type 0 = λ ts. row_weight ts (items_of row) ≤ max_row_weight in
       let narrow : row_weight (narrow_trees ls) (items_of row) ≡ row_weight ls (items_of row) = weighs ls (items_of row) in
-      let light : row_weight (narrow_trees ls) (items_of row) ≤ 2 ^ 26 = omega (arith, narrow, taken.light.whole) in
+      let light : row_weight (narrow_trees ls) (items_of row) ≤ max_row_weight = omega (arith, narrow, taken.light.whole) in
       record { held = subst P (sym same) (holds ls (items_of row) taken.held); light = subst Q (sym same) light }
 
   pub table-fits :

@@ -1,8 +1,9 @@
 -- A row's weight, cell by cell.
-use Rattle.std.proofs.Common.{◌≡◌, inl, inr, ℕ, List, [], ◌∷◌, ◌+◌, ◌^◌, ◌<◌, ◌≤◌, length, drop, get_or, IfSome, slice_get, All, sym, subst, arith}
+use Rattle.std.proofs.Common.{◌≡◌, inl, inr, ℕ, List, [], ◌∷◌, ◌+◌, ◌<◌, ◌≤◌, length, drop, get_or, IfSome, slice_get, All, sym, subst, arith}
 use Rattle.std.proofs.lemmas.List.{drop_more, drop_all}
 use Rattle.std.proofs.lemmas.Option.{slice_get-get_or}
 use Rattle.std.proofs.lemmas.List.Elements.{All-get_or}
+use Rattle.values.specs.Limits.{max_cell_weight, max_row_weight}
 use Rattle.values.specs.Datum.{null}
 use Rattle.values.specs.Layouts.{weight}
 use Rattle.arrays.specs.Checked.{CheckedColumn}
@@ -23,9 +24,9 @@ light_left cs k = AreLightCells (layouts_in cs) (row_at (cells_in cs) k)
 -- What is left of a row, after cells of this sum, decides whether the whole row is heavy.
 pub record Weighs (sum : ℕ) (rest columns : List CheckedColumn) (k : ℕ) : Type 0 where
   pub cell : heavy_left rest k → IsHeavy (layouts_in columns) (row_at (cells_in columns) k)
-  pub row : 2 ^ 26 < sum + weight_left rest k → IsHeavy (layouts_in columns) (row_at (cells_in columns) k)
-  pub light : light_left rest k → sum + weight_left rest k ≤ 2 ^ 26 → IsLight (layouts_in columns) (row_at (cells_in columns) k)
-  pub below : sum ≤ 2 ^ 26
+  pub row : max_row_weight < sum + weight_left rest k → IsHeavy (layouts_in columns) (row_at (cells_in columns) k)
+  pub light : light_left rest k → sum + weight_left rest k ≤ max_row_weight → IsLight (layouts_in columns) (row_at (cells_in columns) k)
+  pub below : sum ≤ max_row_weight
 
 pub weighs-all : (columns : List CheckedColumn) (k : ℕ) → Weighs 0 columns columns k
 weighs-all columns k = record {
@@ -59,7 +60,7 @@ weight_said c k w below says =
 
 pub weighs-heavy :
     (sum i k w : ℕ) (columns whole : List CheckedColumn) (c : CheckedColumn) → c ≡ get_or columns i c → i < length columns → k < length c.cells
-    → IfSome (slice_get c.cells k) (λ d. Says w (weight c.layouts d)) → 2 ^ 20 < w → Weighs sum (drop i columns) whole k
+    → IfSome (slice_get c.cells k) (λ d. Says w (weight c.layouts d)) → max_cell_weight < w → Weighs sum (drop i columns) whole k
     → IsHeavy (layouts_in whole) (row_at (cells_in whole) k)
 weighs-heavy sum i k w columns whole c is below inside says heavy left =
     let P : List CheckedColumn → Type 0 = λ cs. Weighs sum cs whole k in
@@ -68,7 +69,7 @@ weighs-heavy sum i k w columns whole c is below inside says heavy left =
 
 pub weighs-over :
     (sum i k w : ℕ) (columns whole : List CheckedColumn) (c : CheckedColumn) → c ≡ get_or columns i c → i < length columns → k < length c.cells
-    → IfSome (slice_get c.cells k) (λ d. Says w (weight c.layouts d)) → w ≤ 2 ^ 20 → 2 ^ 26 < sum + w → Weighs sum (drop i columns) whole k
+    → IfSome (slice_get c.cells k) (λ d. Says w (weight c.layouts d)) → w ≤ max_cell_weight → max_row_weight < sum + w → Weighs sum (drop i columns) whole k
     → IsHeavy (layouts_in whole) (row_at (cells_in whole) k)
 weighs-over sum i k w columns whole c is below inside says light heavy left =
     let P : List CheckedColumn → Type 0 = λ cs. Weighs sum cs whole k in
@@ -78,7 +79,7 @@ weighs-over sum i k w columns whole c is below inside says light heavy left =
 
 pub weighs-more :
     (sum i k w : ℕ) (columns whole : List CheckedColumn) (c : CheckedColumn) → c ≡ get_or columns i c → i < length columns → k < length c.cells
-    → IfSome (slice_get c.cells k) (λ d. Says w (weight c.layouts d)) → w ≤ 2 ^ 20 → sum + w ≤ 2 ^ 26 → Weighs sum (drop i columns) whole k
+    → IfSome (slice_get c.cells k) (λ d. Says w (weight c.layouts d)) → w ≤ max_cell_weight → sum + w ≤ max_row_weight → Weighs sum (drop i columns) whole k
     → Weighs (sum + w) (drop (i + 1) columns) whole k
 weighs-more sum i k w columns whole c is below inside says light within left =
     let P : List CheckedColumn → Type 0 = λ cs. Weighs sum cs whole k in

@@ -26,6 +26,11 @@ pub record IsUntouched (old new : Sunk) (written : ℕ) : Type 0 where
   pub same : new ≡ old
   pub none : written ≡ 0
 
+-- a table that was not written whole
+abbrev pub fault_of : WriteFault → RecastFault
+fault_of (write.Memory n) = record { cause = cause.Memory; written = n }
+fault_of (write.Device n) = record { cause = cause.Device; written = n }
+
 abbrev pub Stops : Sunk → Sunk → Cause → ℕ → Story → Type 0
 Stops old new cause.Memory written s = IsUntouched old new written ⊎ WritesTable old new (Err (write.Memory written)) s
 Stops old new cause.Device written s = WritesTable old new (Err (write.Device written)) s

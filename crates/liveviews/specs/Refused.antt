@@ -1,5 +1,6 @@
 -- Why the rows of a batch, or of a whole stream, are not taken.
-use Rattle.std.specs.Prelude.{◌≡◌, ℕ, ◌+◌, ◌^◌, ◌<◌, List, length, Any}
+use Rattle.std.specs.Prelude.{◌≡◌, ℕ, ◌+◌, ◌<◌, List, length, Any}
+use Rattle.values.specs.Limits.{max_main_rows}
 use Rattle.values.specs.Datum.{Datum}
 use Rattle.values.specs.Reading.{Reading, Stands}
 use Rattle.values.specs.Rose.{Roses}
@@ -17,6 +18,6 @@ StandsAs m c = (f : StreamFault) × (cause_of f ≡ c) × Stands m f
 -- The rows of a batch are too many with those before, or one is too heavy.
 abbrev pub RefusesBatch : Roses Layout → List (List Datum) → ℕ → Cause → Type 0
 RefusesBatch ls rows before cause.Memory = Unit {0}
-RefusesBatch ls rows before cause.TooManyRows = 2 ^ 24 < before + length rows
+RefusesBatch ls rows before cause.TooManyRows = max_main_rows < before + length rows
 RefusesBatch ls rows before cause.CellTooHeavy = Any (IsHeavy ls) rows
 RefusesBatch ls rows before c = ⊥

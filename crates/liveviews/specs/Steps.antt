@@ -1,5 +1,6 @@
 -- What reading a stream event by event tells of the whole stream.
-use Rattle.std.specs.Prelude.{◌≡◌, ℕ, ◌^◌, ◌<◌, List, [], Option, None, Some, Any, length, drop}
+use Rattle.std.specs.Prelude.{◌≡◌, ℕ, ◌<◌, List, [], Option, None, Some, Any, length, drop}
+use Rattle.values.specs.Limits.{max_main_rows}
 use Rattle.values.specs.Datum.{Datum}
 use Rattle.values.specs.Rose.{Rose}
 use Rattle.values.specs.declared.causes.Cause.{Cause}
@@ -29,7 +30,7 @@ HasHeavyRow (Some fields) rows = Any (IsHeavy (layouts_of fields)) rows
 -- A stream is refused for this cause: a fault stands in it, it has too many rows, or one that is too heavy.
 abbrev pub Refuses : Story → Cause → Type 0
 Refuses s cause.Memory = Unit {0}
-Refuses s cause.TooManyRows = 2 ^ 24 < length s.rows
+Refuses s cause.TooManyRows = max_main_rows < length s.rows
 Refuses s cause.CellTooHeavy = HasHeavyRow s.schema s.rows
 Refuses s c = StandsAs s.end c
 

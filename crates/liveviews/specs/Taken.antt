@@ -1,6 +1,7 @@
 -- Rows that are taken from a batch, and rows that are refused.
-use Rattle.std.specs.Prelude.{ℕ, ◌^◌, ◌<◌, ◌≤◌, All, List, length, map, Vec}
+use Rattle.std.specs.Prelude.{ℕ, ◌<◌, ◌≤◌, All, List, length, map, Vec}
 use Rattle.std.specs.declared.alloc.Global.{Global}
+use Rattle.values.specs.Limits.{max_main_rows}
 use Rattle.values.specs.Datum.{Datum, items_of}
 use Rattle.values.specs.Layouts.{HoldsEach}
 use Rattle.values.specs.Rose.{Roses}
@@ -20,7 +21,7 @@ pub record IsTakenRow (ls : Roses Layout) (row : List Datum) : Type 0 where
   pub light : IsLight ls row
 
 pub record AreTaken (ls : Roses Layout) (rows : List (List Datum)) : Type 0 where
-  pub few : length rows ≤ 2 ^ 24
+  pub few : length rows ≤ max_main_rows
   pub each : All (IsTakenRow ls) rows
 
 -- each of the first n rows can be taken

@@ -65,12 +65,7 @@ pub(crate) fn add_rows(
         if is_heavy(columns, index) {
             return Err(Cause::CellTooHeavy);
         }
-        let Ok(row) = read_row(alloc, columns, index) else {
-            return Err(Cause::Memory);
-        };
-        if rows.push(row).is_err() {
-            return Err(Cause::Memory);
-        }
+        rows.push(read_row(alloc, columns, index)?)?;
     }
     Ok(())
 }

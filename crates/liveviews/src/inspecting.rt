@@ -12,7 +12,7 @@ use crate::laws::account_law;
 use crate::lines::{is_ended, write_fed};
 use feed::{Fed, Feed, cut_law, pieces_law};
 use std::alloc::{AllocError, Global};
-use values::StreamFault;
+use values::{Cause, StreamFault};
 
 /// What a stream holds, message by message.
 #[derive(Debug, Drop, PartialEq, Eq)]
@@ -107,7 +107,7 @@ impl Inspection {
 fn write_refusal(text: &mut String, fault: StreamFault) -> Result<(), AllocError>
     ensures { OnOk result (string_bytes text.new ≡ string_bytes text.old ++ refusal_line fault) }
 {
-    let cause = fault.cause();
+    let cause = Cause::from(fault);
     let number = cause.number();
     writeln!(text, "refused {number} {cause}")
 }

@@ -231,10 +231,10 @@ fn done<'a, F: Files>(
 {
     match parse(alloc, words)? {
         Asked::Inspect { file } => Ok(Outcome::Inspected(inspect_file(alloc, file, files)?)),
-        Asked::Recast { from, to } => match recast_file(alloc, from, to, files) {
-            Ok(written) => Ok(Outcome::Recast { written }),
-            Err(refusal) => Err(refusal),
-        },
+        Asked::Recast { from, to } => {
+            let written = recast_file(alloc, from, to, files)?;
+            Ok(Outcome::Recast { written })
+        }
     }
 }
 

@@ -19,6 +19,37 @@ pub struct RecastFault {
     pub written: u64,
 }
 
+/// A cause before anything was put.
+impl From<Cause> for RecastFault {
+    ghost use Rattle.std.specs.Prelude.{◌≡◌};
+
+    ghost from_gives = { λ cause fault. fault ≡ record { cause = cause; written = 0 } };
+
+    fn from(cause: Cause) -> RecastFault {
+        RecastFault { cause, written: 0 }
+    }
+}
+
+impl From<WriteFault> for RecastFault {
+    ghost use Rattle.std.specs.Prelude.{◌≡◌};
+    ghost use Rattle.liveviews.specs.Recast.{fault_of};
+
+    ghost from_gives = { λ write fault. fault ≡ fault_of write };
+
+    fn from(fault: WriteFault) -> RecastFault {
+        match fault {
+            WriteFault::Memory { written } => RecastFault {
+                cause: Cause::Memory,
+                written,
+            },
+            WriteFault::Device { written } => RecastFault {
+                cause: Cause::Device,
+                written,
+            },
+        }
+    }
+}
+
 /// Reads a whole stream and puts the canonical stream of its rows; answers how many bytes went out.
 ///
 /// Nothing is put before all of the input was accepted. Where several causes stand, any of them may come.
@@ -29,19 +60,7 @@ pub fn recast<S: Sink>(alloc: Global, input: &[u8], sink: &mut S) -> Result<u64,
     // On Ok no limit is passed either: at most 2^24 rows, none too heavy.
     ensures accepted { OnOk result (AreTakenSo (story_of input.now).schema (story_of input.now).rows) }
 {
-    let table = match Table::read(alloc, input) {
-        Ok(table) => table,
-        Err(cause) => return Err(RecastFault { cause, written: 0 }),
-    };
-    match write_table(alloc, sink, &table.schema, table.rows.as_slice()) {
-        Ok(written) => Ok(written),
-        Err(WriteFault::Memory { written }) => Err(RecastFault {
-            cause: Cause::Memory,
-            written,
-        }),
-        Err(WriteFault::Device { written }) => Err(RecastFault {
-            cause: Cause::Device,
-            written,
-        }),
-    }
+    let table = Table::read(alloc, input)?;
+    let written = write_table(alloc, sink, &table.schema, table.rows.as_slice())?;
+    Ok(written)
 }

@@ -70,10 +70,7 @@ fn take_message(
     // They do nothing: the proof takes from them what an event tells of the stream, and that it uses some bytes.
     story_law();
     cut_law();
-    let fed = match feed.push(bytes) {
-        Ok(fed) => fed,
-        Err(fault) => return Err(fault.cause()),
-    };
+    let fed = feed.push(bytes)?;
     let Fed { used, event } = fed;
     let Some(event) = event else {
         return Err(Cause::Truncated);
@@ -102,13 +99,11 @@ fn finish(alloc: Global, feed: &Feed, rows: Vec<Row>) -> Result<Table, Cause>
     // They do nothing: the proof takes from them that the schema can be written, with these rows.
     fields_law();
     logical_law();
-    match feed.schema() {
-        None => Err(Cause::NoSchema),
-        Some(schema) => match schema.logical(alloc) {
-            Ok(schema) => Ok(Table { schema, rows }),
-            Err(_) => Err(Cause::Memory),
-        },
-    }
+    let Some(schema) = feed.schema() else {
+        return Err(Cause::NoSchema);
+    };
+    let schema = schema.logical(alloc)?;
+    Ok(Table { schema, rows })
 }
 
 /// Takes all messages of `input`, which are all that is left of a stream.

@@ -1,8 +1,5 @@
 //! What can be wrong with a stream.
 
-ghost use Rattle.std.specs.Prelude.{◌≡◌};
-ghost use Rattle.values.specs.StreamCauses.{cause_of};
-
 use crate::causes::Cause;
 use std::alloc::{AllocError, AllocFailed};
 
@@ -73,12 +70,14 @@ pub enum StreamFault {
     Memory,
 }
 
-impl StreamFault {
-    /// The cause of the same name.
-    pub fn cause(self) -> Cause
-        ensures { result ≡ cause_of self }
-    {
-        match self {
+impl From<StreamFault> for Cause {
+    ghost use Rattle.std.specs.Prelude.{◌≡◌};
+    ghost use Rattle.values.specs.StreamCauses.{cause_of};
+
+    ghost from_gives = { λ fault cause. cause ≡ cause_of fault };
+
+    fn from(fault: StreamFault) -> Cause {
+        match fault {
             StreamFault::NoContinuation => Cause::NoContinuation,
             StreamFault::BadSize => Cause::BadSize,
             StreamFault::BadTable => Cause::BadTable,

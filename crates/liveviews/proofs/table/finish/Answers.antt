@@ -3,17 +3,17 @@ use Rattle.liveviews.specs.Taken.{cells_of_rows}
 use Rattle.liveviews.proofs.Tables.{table-fits, told-lacks, told-means, told-taken}
 use Rattle.liveviews.proofs.table.finish.Goals as goal
 
-pub returns-in-None-clause-lacks : goal.returns-in-None-clause-lacks
-returns-in-None-clause-lacks c = λ s. told-lacks s c.args.feed.now (cells_of_rows c.args.rows.items) c.in-None.ensures.shown
+pub returns-in_default-clause-lacks : goal.returns-in_default-clause-lacks
+returns-in_default-clause-lacks c = λ s. told-lacks s c.args.feed.now (cells_of_rows c.args.rows.items) c.in_default.ensures.shown
 
-pub returns-in-Ok-clause-means : goal.returns-in-Ok-clause-means
-returns-in-Ok-clause-means c = λ s.
-    let named = rw c.deref.ensures at c.in-Ok.ensures in
+pub returns-clause-means : goal.returns-clause-means
+returns-clause-means c = λ s.
+    let named = rw c.deref.ensures at c.in_ok-schema.ensures in
     told-means s c.args.feed.now (cells_of_rows c.args.rows.items) _ _ _ c.in-Some.ensures.shown named refl
 
-pub returns-in-Ok-clause-within : goal.returns-in-Ok-clause-within
-returns-in-Ok-clause-within c = λ s told.
+pub returns-clause-within : goal.returns-clause-within
+returns-clause-within c = λ s told.
     let law = c.logical_law.ensures in
-    let named = rw c.deref.ensures at c.in-Ok.ensures in
+    let named = rw c.deref.ensures at c.in_ok-schema.ensures in
     let taken = told-taken s c.args.feed.now (cells_of_rows c.args.rows.items) _ c.in-Some.ensures.shown told in
     rw named (table-fits law.trees law.fits law.rows law.row_weights c.fields_law.ensures.fit _ _ c.in-Some.ensures.fields taken)
