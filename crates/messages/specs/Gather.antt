@@ -1,11 +1,17 @@
 -- What a piece makes of the bytes that are held: all bytes so far are those that were held, and the piece.
 use Rattle.std.specs.Prelude.{◌≡◌, ℕ, ◌+◌, ◌≤◌, List, ◌++◌, length, take, slice_range, Option, None, Some, Ok}
+use Rattle.values.specs.Reading.{Reading}
 use Rattle.messages.specs.declared.gather.Step.{Step}
 use Rattle.messages.specs.declared.gather.Step.TheVariants as step
-use Rattle.messages.specs.State.{whole_seen}
+use Rattle.messages.specs.declared.state.State.{State}
+use Rattle.messages.specs.State.{known_of, whole_seen}
 use Rattle.messages.specs.Wanted.{Wants, followed}
 use Rattle.schema_meta.specs.Stage.{Known, Whole, end_of}
 use Rattle.schema_meta.specs.Framing.{first}
+
+-- the first message of what is held and of a piece
+abbrev pub first_with : State → List ℕ → List ℕ → Reading (Option Whole)
+first_with s held piece = first (known_of s) (held ++ piece)
 
 -- Held are all bytes where no message is whole, else a beginning of them that has the message.
 abbrev pub Gathers : Option Whole → List ℕ → List ℕ → Type 0

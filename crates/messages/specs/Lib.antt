@@ -1,6 +1,7 @@
 pub mod Handed
 pub mod Counts
 pub mod Columns
+pub mod Lengths
 pub mod State
 pub mod Wanted
 pub mod Gather

@@ -3,7 +3,7 @@
 ghost use Rattle.std.specs.Prelude.{◌≡◌, ◌+◌, ◌++◌, Ok, None, [], length, take, IfOk, IfErr, IsOk, IsOkAnd, OnOk, OnErr};
 ghost use Rattle.values.specs.Reading.{Answers, Fails};
 ghost use Rattle.schema_meta.specs.Framing.{first};
-ghost use Rattle.messages.specs.Gather.{Gathers, IsWaiting, Steps};
+ghost use Rattle.messages.specs.Gather.{Gathers, IsWaiting, Steps, first_with};
 ghost use Rattle.messages.specs.State.{IsRead, known_of, progress_seen};
 ghost use Rattle.messages.specs.Wanted.{Awaits, Wants, followed};
 
@@ -23,7 +23,7 @@ fn grow(
 ) -> Result<Progress, StreamFault>
     requires small { IsRead (known_of state.now).schema }
     requires wants { Wants (followed (known_of state.now) held.old.items) wanted }
-    ensures found { Answers progress_seen result (first (known_of state.now) (held.old.items ++ bytes.now)) }
+    ensures found { Answers progress_seen result (first_with state.now held.old.items bytes.now) }
     ensures wanted { IfOk result (λ p. Awaits (followed (known_of state.now) held.new.items) p) }
     ensures grown { OnOk result (held.new.items ≡ held.old.items ++ bytes.now) }
     ensures kept { OnErr result (take (length held.old.items) held.new.items ≡ held.old.items) }
@@ -50,7 +50,7 @@ fn gather(
     requires small { IsRead (known_of state.now).schema }
     requires partial { first (known_of state.now) held.old.items ≡ Ok None }
     requires wants { Wants (followed (known_of state.now) held.old.items) wanted }
-    ensures found { Answers progress_seen result (first (known_of state.now) (held.old.items ++ piece.now)) }
+    ensures found { Answers progress_seen result (first_with state.now held.old.items piece.now) }
     ensures wanted { IfOk result (λ p. Awaits (followed (known_of state.now) held.new.items) p) }
     ensures grown { IfOk result (λ p. Gathers (progress_seen p) (held.old.items ++ piece.now) held.new.items) }
     ensures unchanged { OnErr result (held.new.items ≡ held.old.items) }
@@ -102,7 +102,7 @@ pub(crate) fn advance(
     requires partial { first (known_of state.now) held.old.items ≡ Ok None }
     requires wants { Wants (followed (known_of state.now) held.old.items) wanted }
     ensures ok { IfOk result (λ s. Steps (known_of state.now) held.old.items piece.now s held.new.items) }
-    ensures fault { IfErr result (λ e. Fails e (first (known_of state.now) (held.old.items ++ piece.now))) }
+    ensures fault { IfErr result (λ e. Fails e (first_with state.now held.old.items piece.now)) }
     ensures unchanged { OnErr result (held.new.items ≡ held.old.items) }
     ensures empty { piece.now ≡ [] → IsOkAnd result IsWaiting }
 {

@@ -1,10 +1,11 @@
 //! Whether the arrays of a batch are long enough: Arrow Columnar Format, "Struct Layout" and "RecordBatch message".
 
-ghost use Rattle.std.specs.Prelude.{◌≡◌, ◌+◌, ◌≤◌, MatchOption, length, true, false};
+ghost use Rattle.std.specs.Prelude.{◌≡◌, ◌+◌, ◌≤◌, length};
 ghost use Rattle.values.specs.Rose.{rose_size, roses_size};
 ghost use Rattle.array_layout.specs.Placing.{node_at};
 ghost use Rattle.schema_meta.specs.FieldLayouts.{slot_layout_of, slot_layouts_of};
-ghost use Rattle.schema_meta.specs.Batch.{are_long, is_long, least, lengths_fit};
+ghost use Rattle.schema_meta.specs.Batch.{least, lengths_fit};
+ghost use Rattle.messages.specs.Lengths.{SkipsAll, SkipsOne};
 
 use array_layout::Node;
 use schema_meta::{Field, StreamSchema};
@@ -36,7 +37,7 @@ fn least_below(layout: Layout, len: usize) -> usize
 #[tactic(auto, using(crate::proofs::LongEnough::lengths))]
 fn behind(field: &Field, nodes: &[Node], index: usize, floor: usize) -> Option<usize>
     requires { index + rose_size (slot_layout_of field.now) ≤ length nodes.now }
-    ensures { MatchOption result (is_long nodes.now index floor (slot_layout_of field.now) ≡ false) (λ next. (is_long nodes.now index floor (slot_layout_of field.now) ≡ true) × (next ≡ index + rose_size (slot_layout_of field.now))) }
+    ensures { SkipsOne nodes.now index floor (slot_layout_of field.now) result }
 {
     let len = length_at(nodes, index);
     if len < floor {
@@ -55,7 +56,7 @@ fn behind(field: &Field, nodes: &[Node], index: usize, floor: usize) -> Option<u
 #[tactic(auto, using(crate::proofs::LongEnough::lengths))]
 fn behind_all(fields: &[Field], nodes: &[Node], index: usize, floor: usize) -> Option<usize>
     requires { index + roses_size (slot_layouts_of fields.now) ≤ length nodes.now }
-    ensures { MatchOption result (are_long nodes.now index floor (slot_layouts_of fields.now) ≡ false) (λ next. (are_long nodes.now index floor (slot_layouts_of fields.now) ≡ true) × (next ≡ index + roses_size (slot_layouts_of fields.now))) }
+    ensures { SkipsAll nodes.now index floor (slot_layouts_of fields.now) result }
 {
     let mut next = index;
     for field in fields {
