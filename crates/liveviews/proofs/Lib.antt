@@ -4,6 +4,7 @@ pub mod Taking
 pub mod Batching
 pub mod Stories
 pub mod Tables
+pub mod ReadBack
 pub mod Recasts
 pub mod TypeTexts
 pub mod LineTexts

@@ -8,12 +8,13 @@ use Rattle.values.specs.declared.causes.Cause.TheVariants as cause
 use Rattle.values.specs.StreamCauses.{cause_of}
 use Rattle.values.specs.declared.faults.StreamFault.{StreamFault}
 use Rattle.values.specs.declared.faults.StreamFault.TheVariants as fault
-use Rattle.schema_meta.specs.Story.{Story}
+use Rattle.schema_meta.specs.Story.{Story, story_of}
 use Rattle.schema_meta.specs.Means.{Means}
 use Rattle.stream_writer.specs.Sinks.{Sunk, Writes}
 use Rattle.stream_writer.specs.Stream.{canon}
 use Rattle.stream_writer.specs.declared.faults.WriteFault.{WriteFault}
-use Rattle.liveviews.specs.Steps.{Refuses}
+use Rattle.liveviews.specs.ReadBack.{ReadBack}
+use Rattle.liveviews.specs.Steps.{AreTakenSo, Refuses}
 use Rattle.liveviews.specs.Recast.{WritesTable, IsUntouched, Stops}
 
 untouched : (old : Sunk) → IsUntouched old old 0
@@ -107,8 +108,10 @@ refused-stops old cause.OverLimit s h = (untouched old, h)
 refused-stops old cause.Shape s h = (untouched old, h)
 
 pub written-table :
-    (old new : Sunk) (answer : Result ℕ WriteFault) (s : Story) (fields : List (Rose LogicalField)) (rows : List (List Datum)) → Means s fields rows
-    → Writes old new answer (canon fields rows) → WritesTable old new answer s
-written-table old new answer s fields rows means writes = record { fields = fields; rows = rows; means = means; writes = writes }
+    (law : ReadBack) (old new : Sunk) (answer : Result ℕ WriteFault) (input : List ℕ) (fields : List (Rose LogicalField))
+    (rows : List (List Datum)) → Means (story_of input) fields rows → AreTakenSo (story_of input).schema (story_of input).rows
+    → Writes old new answer (canon fields rows) → WritesTable old new answer (story_of input)
+written-table law old new answer input fields rows means taken writes =
+    record { fields = fields; rows = rows; means = means; writes = writes; back = law input fields rows means taken }
 
 pub ruleset recasts = (refused-stops, written-table)

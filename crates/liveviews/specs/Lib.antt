@@ -2,6 +2,7 @@ pub mod Heavy
 pub mod Taken
 pub mod Refused
 pub mod Steps
+pub mod ReadBack
 pub mod Recast
 pub mod Lines
 pub mod Inspect

@@ -5,7 +5,7 @@ use Rattle.values.specs.Rose.{Rose}
 use Rattle.values.specs.Logical.{LogicalField}
 use Rattle.values.specs.declared.causes.Cause.{Cause}
 use Rattle.values.specs.declared.causes.Cause.TheVariants as cause
-use Rattle.schema_meta.specs.Story.{Story}
+use Rattle.schema_meta.specs.Story.{Story, story_of}
 use Rattle.schema_meta.specs.Means.{Means}
 use Rattle.stream_writer.specs.Sinks.{Sunk, Writes}
 use Rattle.stream_writer.specs.Stream.{canon}
@@ -14,12 +14,13 @@ use Rattle.stream_writer.specs.declared.faults.WriteFault.TheVariants as write
 use Rattle.liveviews.specs.Steps.{Refuses}
 use Rattle.liveviews.specs.declared.recasting.RecastFault.{RecastFault}
 
--- The stream means a table, and this came of writing the table's canonical stream.
+-- The stream means a table, this came of writing the table's canonical stream, and that stream means the table too.
 pub record WritesTable (old new : Sunk) (answer : Result ℕ WriteFault) (s : Story) : Type 0 where
   pub fields : List (Rose LogicalField)
   pub rows : List (List Datum)
   pub means : Means s fields rows
   pub writes : Writes old new answer (canon fields rows)
+  pub back : Means (story_of (canon fields rows)) fields rows
 
 -- nothing was put
 pub record IsUntouched (old new : Sunk) (written : ℕ) : Type 0 where

@@ -1,12 +1,28 @@
 //! Laws of the definitions: functions that do nothing, whose contracts are theorems.
 
 ghost use Rattle.liveviews.specs.Inspect.{EndsAlike};
+ghost use Rattle.liveviews.specs.ReadBack.{DeclaredReadBack, ReadBack};
 
 use feed::story_law;
+use messages::message_law;
+use schema_meta::{fields_law, logical_law};
+use stream_writer::canon_law;
 
 /// The account of a stream ends with the faults that stand in its reading, or with none.
 pub fn account_law()
     ensures { EndsAlike }
 {
     story_law();
+}
+
+/// Where a whole input means a table within the limits, the canonical stream of that table means it too: no fault stands in it, and its
+/// columns and rows are the same; also where these columns were declared for the stream.
+pub fn recast_law()
+    ensures back { ReadBack }
+    ensures declared_back { DeclaredReadBack }
+{
+    message_law();
+    fields_law();
+    logical_law();
+    canon_law();
 }

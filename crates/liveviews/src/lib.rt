@@ -13,6 +13,6 @@ mod types;
 
 pub use files::{FileFault, Files};
 pub use inspecting::{Inspected, inspect};
-pub use laws::account_law;
+pub use laws::{account_law, recast_law};
 pub use program::lv;
 pub use recasting::{RecastFault, recast};

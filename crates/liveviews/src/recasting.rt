@@ -5,6 +5,7 @@ ghost use Rattle.std.specs.Prelude.{OnOk};
 ghost use Rattle.liveviews.specs.Recast.{Recasts};
 ghost use Rattle.liveviews.specs.Steps.{AreTakenSo};
 
+use crate::laws::recast_law;
 use crate::table::Table;
 use std::alloc::Global;
 use stream_writer::{Sink, WriteFault, write_table};
@@ -60,6 +61,8 @@ pub fn recast<S: Sink>(alloc: Global, input: &[u8], sink: &mut S) -> Result<u64,
     // On Ok no limit is passed either: at most 2^24 rows, none too heavy.
     ensures accepted { OnOk result (AreTakenSo (story_of input.now).schema (story_of input.now).rows) }
 {
+    // It does nothing: the proof takes from it that what is written is read back.
+    recast_law();
     let table = Table::read(alloc, input)?;
     let written = write_table(alloc, sink, &table.schema, table.rows.as_slice())?;
     Ok(written)
