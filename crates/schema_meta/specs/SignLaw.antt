@@ -1,6 +1,6 @@
 -- Arrow's sizes, lengths and offsets have a sign. The definitions compare their bits without one: that is to compare the signed numbers
 -- where none of them is negative, and to refuse a negative one.
-use Rattle.std.specs.Prelude.{◌≡◌, ℕ, ℤ, pos, List, Ok, length, slice_index, ◌+◌, ◌*◌, ◌^◌, ◌<◌, ◌≤◌, ◌≤ℤ◌, ◌+ℤ◌, ◌↔◌}
+use Rattle.std.specs.Prelude.{◌≡◌, ℕ, ℤ, pos, true, List, Ok, length, slice_index, ◌+◌, ◌*◌, ◌^◌, ◌<◌, ◌≤◌, ◌≤ℤ◌, ◌+ℤ◌, ◌↔◌}
 use Rattle.std.specs.Int.{w32, w64, cast_signed}
 use Rattle.values.specs.Reading.{Stands}
 use Rattle.values.specs.Layouts.{offset_bytes}
