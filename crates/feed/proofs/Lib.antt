@@ -1,5 +1,6 @@
 pub mod Keeping
 pub mod Cutting
+pub mod KeptRuns
 pub mod Transcribing
 pub mod Pieces
 pub mod Telling

@@ -1,14 +1,23 @@
 -- Words for what the calls of a feed are said to do, from whatever state it shows.
-use Rattle.std.specs.Prelude.{◌≡◌, ℕ, ℤ, ◌++◌, List, Option, Some, Result, Ok, IfSome, take}
+use Rattle.std.specs.Prelude.{◌≡◌, ℕ, ℤ, ◌++◌, List, Option, Some, Result, Ok, Err, All, IfSome, IsSome, take}
 use Rattle.values.specs.Datum.{Datum}
+use Rattle.values.specs.Layouts.{Holds}
 use Rattle.values.specs.Logical.{LogicalField}
 use Rattle.values.specs.Reading.{Reading}
 use Rattle.values.specs.Rose.{Rose}
+use Rattle.values.specs.declared.col_type.ColType.{ColType}
 use Rattle.values.specs.declared.faults.StreamFault.{StreamFault}
+use Rattle.values.specs.declared.faults.StreamFault.TheVariants as fault
 use Rattle.dictionaries.specs.Batches.{DictionaryBatch}
 use Rattle.dictionaries.specs.Law.{StandsAfter}
 use Rattle.dictionaries.specs.Table.{Change, Table}
+use Rattle.schema_meta.specs.BatchHead.{BatchHead}
+use Rattle.schema_meta.specs.declared.header.DictionaryHeader.{DictionaryHeader}
+use Rattle.schema_meta.specs.Dictionaries.{value_type}
+use Rattle.schema_meta.specs.DictionaryBatch.{value_layout}
 use Rattle.schema_meta.specs.Entry.{Entry}
+use Rattle.schema_meta.specs.Parts.{arrays_of}
+use Rattle.schema_meta.specs.Rows.{columns_in}
 use Rattle.messages.specs.Handed.{MessageView}
 use Rattle.messages.specs.Stream.{Stream}
 use Rattle.feed.specs.declared.condition.Condition.TheVariants as condition
@@ -76,3 +85,15 @@ HasNext fields t j = HasValues fields (values_next t (change_coming j.coming))
 
 abbrev pub IsTypedComing : Option (List (Rose Entry)) → Judged → Type 0
 IsTypedComing fields j = IfSome j.coming (λ c. IsTypedEvent fields c.event)
+
+-- Where an event comes, memory might have run out too.
+abbrev pub MayLackFor : FeedParts → List ℕ → Fed → Type 0
+MayLackFor f piece fed = IsSome fed.event → MayAnswer f piece (Err fault.Memory)
+
+-- the values that a dictionary batch brings are of the type that its id has
+abbrev pub AreOfType : List (Rose Entry) → DictionaryHeader → List Datum → Type 0
+AreOfType fields d vs = (s : ColType) → value_type fields d.id ≡ Some s → All (Holds (value_layout s)) vs
+
+-- the columns of a batch, where the dictionaries have these values
+abbrev pub batch_columns : (ℤ → List Datum) → List (Rose Entry) → BatchHead → List ℕ → Reading (List (List Datum))
+batch_columns values fields b body = columns_in body (arrays_of values fields b)

@@ -6,5 +6,6 @@ pub mod Shown
 pub mod Calls
 pub mod Transcript
 pub mod Pieces
+pub mod KeptLaw
 pub mod CutLaw
 pub mod StoryLaw

@@ -1,6 +1,6 @@
 //! The values that a dictionary batch brings.
 
-ghost use Rattle.std.specs.Prelude.{◌≡◌, All, IfOk, Some, length};
+ghost use Rattle.std.specs.Prelude.{◌≡◌, All, IfOk, length};
 ghost use Rattle.std.specs.Option.{option_copied};
 ghost use Rattle.values.specs.Layouts.{Holds};
 ghost use Rattle.values.specs.Reading.{Answers};
@@ -11,6 +11,7 @@ ghost use Rattle.schema_meta.specs.DictionaryBatch.{value_layout, value_layouts}
 ghost use Rattle.schema_meta.specs.Parts.{values_array};
 ghost use Rattle.schema_meta.specs.Rows.{values_of};
 ghost use Rattle.schema_meta.specs.Sound.{Fits, FitsValues};
+ghost use Rattle.feed.specs.Calls.{AreOfType};
 
 use arrays::Column;
 use schema_meta::{BatchHeader, DictionaryHeader, StreamSchema, place_law, place_values};
@@ -39,7 +40,8 @@ fn check_values(
     body: Vec<u8>,
 ) -> Result<Column, StreamFault>
     requires { Fits (value_layouts stored.now) (length body.items) header.now }
-    ensures reading { Answers (λ c. c.cells) result (column_of body.items (values_array stored.now header.now)) }
+    ensures reading { Answers (λ c. c.cells) result
+        (column_of body.items (values_array stored.now header.now)) }
     ensures typed { IfOk result (λ c. c.layouts ≡ value_layout stored.now) }
 {
     // It does nothing: the proof takes from it how the array lies.
@@ -64,8 +66,9 @@ pub(crate) fn take_values(
     body: Vec<u8>,
 ) -> Result<Vec<Value>, StreamFault>
     requires { FitsValues schema.now.fields.items (length body.items) header.now }
-    ensures reading { Answers (λ vs. vs.items) result (values_of schema.now.fields.items header.now body.items) }
-    ensures typed { IfOk result (λ vs. (s : ColType) → value_type schema.now.fields.items header.now.id ≡ Some s → All (Holds (value_layout s)) vs.items) }
+    ensures reading { Answers (λ vs. vs.items) result
+        (values_of schema.now.fields.items header.now body.items) }
+    ensures typed { IfOk result (λ vs. AreOfType schema.now.fields.items header.now vs.items) }
 {
     let Some(stored) = value_type(schema, header) else {
         return Err(StreamFault::UnknownDictionary);

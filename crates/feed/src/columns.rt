@@ -10,12 +10,12 @@ ghost use Rattle.array_layout.specs.Typed.{AreTyped, IsTyped};
 ghost use Rattle.dictionaries.specs.Table.{values_in};
 ghost use Rattle.schema_meta.specs.FieldLayouts.{slot_layouts_of};
 ghost use Rattle.schema_meta.specs.FieldsLaw.{AreFields};
-ghost use Rattle.schema_meta.specs.Parts.{arrays_of};
 ghost use Rattle.schema_meta.specs.PlaceLaw.{AreValues};
 ghost use Rattle.schema_meta.specs.Rows.{columns_in};
 ghost use Rattle.schema_meta.specs.Sound.{Fits};
 ghost use Rattle.feed.specs.Columns.{cells_in, layouts_in};
 ghost use Rattle.feed.specs.Shown.{HasColumns};
+ghost use Rattle.feed.specs.Calls.{batch_columns};
 
 use array_layout::Array;
 use arrays::Column;
@@ -45,8 +45,10 @@ fn check_columns(
 ) -> Result<Vec<Column>, StreamFault>
     requires placed { ArePlaced body.now.value.items (kids_of arrays.items) }
     requires words { AreTyped (kids_of arrays.items) }
-    ensures reading { Answers (λ cs. cells_in cs.items) result (columns_in body.now.value.items (kids_of arrays.items)) }
-    ensures typed { IfOk result (λ cs. layouts_in cs.items ≡ layouts_of_arrays (kids_of arrays.items)) }
+    ensures reading { Answers (λ cs. cells_in cs.items) result
+        (columns_in body.now.value.items (kids_of arrays.items)) }
+    ensures typed { IfOk result
+        (λ cs. layouts_in cs.items ≡ layouts_of_arrays (kids_of arrays.items)) }
 {
     let mut columns = Vec::with_capacity(alloc, arrays.len())?;
     for array in arrays {
@@ -66,7 +68,8 @@ pub(crate) fn take_columns(
     requires fits { Fits (slot_layouts_of schema.now.fields.items) (length body.items) header.now }
     requires fields { AreFields schema.now.fields.items }
     requires values { AreValues schema.now.fields.items (values_in dicts.now) }
-    ensures reading { Answers (λ cs. cells_in cs.items) result (columns_in body.items (arrays_of (values_in dicts.now) schema.now.fields.items header.now)) }
+    ensures reading { Answers (λ cs. cells_in cs.items) result
+        (batch_columns (values_in dicts.now) schema.now.fields.items header.now body.items) }
     ensures typed { IfOk result (λ cs. HasColumns schema.now.fields.items cs.items header.now.rows) }
 {
     // It does nothing: the proof takes from it how the arrays lie.

@@ -1,13 +1,12 @@
 //! A feed.
 
-ghost use Rattle.std.specs.Prelude.{◌≡◌, IfErr, IfOk, IfSome, IsSome, OnErr, OnOk, Err, false};
+ghost use Rattle.std.specs.Prelude.{◌≡◌, IfErr, IfOk, IfSome, OnErr, OnOk, Err, false};
 ghost use Rattle.std.specs.Option.{option_map};
-ghost use Rattle.values.specs.declared.faults.StreamFault.TheVariants as fault;
 ghost use Rattle.schema_meta.specs.FieldsLaw.{AreFields};
 ghost use Rattle.values.specs.Reading.{Passes};
 ghost use Rattle.feed.specs.States.{FeedState, Finishes, finishing_when, fresh, is_broken};
 ghost use Rattle.feed.specs.Shown.{IsSettled, Leads, Shows, answer_seen, breaks, seen};
-ghost use Rattle.feed.specs.Calls.{IsTyped, MayAnswer, ShowsAfter, ShowsFinished, ShowsSchema, StillShows, WillTake};
+ghost use Rattle.feed.specs.Calls.{IsTyped, MayAnswer, MayLackFor, ShowsAfter, ShowsFinished, ShowsSchema, StillShows, WillTake};
 
 use crate::condition::{Condition, condition_after};
 use crate::event::Fed;
@@ -114,7 +113,7 @@ impl Feed {
         requires { self.old.condition ≡ Condition.Opened }
         ensures answer { MayAnswer self.old piece.now (answer_seen result) }
         ensures leads { IfOk result (λ f. WillTake self.old piece.now (seen f) self.new) }
-        ensures or_memory { IfOk result (λ f. IsSome f.event → MayAnswer self.old piece.now (Err fault.Memory)) }
+        ensures or_memory { IfOk result (MayLackFor self.old piece.now) }
         ensures same { OnOk result (StillShows self.old self.new) }
         ensures fault { IfErr result (λ c. ShowsAfter self.old piece.now (Err c) self.new) }
         ensures refused { OnErr result (IsSettled self.new) }
@@ -147,7 +146,7 @@ impl Feed {
         requires { self.old.condition ≡ Condition.Opened → ⊥ }
         ensures answer { MayAnswer self.old piece.now (answer_seen result) }
         ensures leads { IfOk result (λ f. WillTake self.old piece.now (seen f) self.new) }
-        ensures or_memory { IfOk result (λ f. IsSome f.event → MayAnswer self.old piece.now (Err fault.Memory)) }
+        ensures or_memory { IfOk result (MayLackFor self.old piece.now) }
         ensures same { OnOk result (StillShows self.old self.new) }
         ensures fault { IfErr result (λ c. ShowsAfter self.old piece.now (Err c) self.new) }
         ensures refused { OnErr result (IsSettled self.new) }
@@ -171,7 +170,7 @@ impl Feed {
         requires { breaks self.old ≡ false }
         ensures answer { MayAnswer self.old piece.now (answer_seen result) }
         ensures leads { IfOk result (λ f. WillTake self.old piece.now (seen f) self.new) }
-        ensures or_memory { IfOk result (λ f. IsSome f.event → MayAnswer self.old piece.now (Err fault.Memory)) }
+        ensures or_memory { IfOk result (MayLackFor self.old piece.now) }
         ensures same { OnOk result (StillShows self.old self.new) }
         ensures fault { IfErr result (λ c. ShowsAfter self.old piece.now (Err c) self.new) }
         ensures refused { OnErr result (IsSettled self.new) }

@@ -29,14 +29,17 @@ pub(crate) fn judge(
     piece: &[u8],
 ) -> Result<Judged, StreamFault>
     requires { HasValues framer.old.current.known.schema (values_in dicts.old) }
-    ensures answer { AtEach framer.old.current dicts.old (λ k. Answers judged_seen result (reading k piece.now)) }
+    ensures answer { AtEach framer.old.current dicts.old
+        (λ k. Answers judged_seen result (reading k piece.now)) }
     ensures lack { OnErr result (0 < length piece.now) }
     ensures some { IfOk result (λ j. IfSome j.coming (λ c. 0 < length piece.now)) }
     ensures same { framer.new.current ≡ framer.old.current }
     ensures entries { dicts.new.entries ≡ dicts.old.entries }
-    ensures leads { IfOk result (GoesTo framer.old.current dicts.old piece.now framer.new.prepared dicts.new) }
+    ensures leads { IfOk result
+        (GoesTo framer.old.current dicts.old piece.now framer.new.prepared dicts.new) }
     ensures has { IfOk result (HasNext framer.new.prepared.known.schema dicts.new) }
-    ensures has_none { OnErr result (HasValues framer.new.prepared.known.schema (values_in dicts.new)) }
+    ensures has_none { OnErr result
+        (HasValues framer.new.prepared.known.schema (values_in dicts.new)) }
     ensures room { IfOk result (λ j. HasRoomFor dicts.new (change_coming j.coming)) }
     ensures next { IfOk result (λ j. IfSome j.coming IsFollowed) }
     ensures typed { IfOk result (IsTypedComing framer.new.prepared.known.schema) }

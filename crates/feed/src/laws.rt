@@ -1,6 +1,7 @@
 //! Laws of the definitions: functions that do nothing, whose contracts are theorems.
 
 ghost use Rattle.feed.specs.CutLaw.{FaultsStay, PartialJoins, PartialUses, WholeStays, WholeUses};
+ghost use Rattle.feed.specs.KeptLaw.{KeptByMessages};
 ghost use Rattle.feed.specs.Pieces.{CutsAgree, FeedFollows, FeedsEnd, NothingLeft, PushKeeps, RefusalEnds};
 ghost use Rattle.feed.specs.StoryLaw.{AllIsTold, EventTells, EventsTellAll, FaultsTell, NoneHeld, PartialIsHeld, PartialTells, TaleKnows};
 
@@ -31,6 +32,11 @@ pub fn pieces_law()
 {
     first_message_law();
 }
+
+/// What a feed keeps of its bytes is what the messages leave that the framer hands on: one list of messages, which is kept, and read.
+pub fn kept_law()
+    ensures { KeptByMessages }
+{}
 
 /// What the events of a feed tell of the whole stream: the reading of the bytes that are left, event by event; and `events`, of all of
 /// them.

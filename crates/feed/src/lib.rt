@@ -17,4 +17,4 @@ mod message;
 pub use condition::Condition;
 pub use event::{Fed, FeedEvent};
 pub use feed::Feed;
-pub use laws::{cut_law, pieces_law, story_law};
+pub use laws::{cut_law, kept_law, pieces_law, story_law};

@@ -53,11 +53,13 @@ fn take_dictionary(
 ) -> Result<Coming, StreamFault>
     requires fits { FitsValues schema.now.fields.items (length body.items) header.now }
     requires has { HasValues (Some schema.now.fields.items) (values_in dicts.old) }
-    ensures seen { Answers coming_seen result (dictionary_event schema.now.fields.items header.now body.items) }
+    ensures seen { Answers coming_seen result
+        (dictionary_event schema.now.fields.items header.now body.items) }
     ensures same { dicts.new.entries ≡ dicts.old.entries }
     ensures change { IfOk result (λ c. Adds dicts.old dicts.new c.change
         (taken header.now (values_of schema.now.fields.items header.now body.items))) }
-    ensures has { IfOk result (λ c. HasValues (Some schema.now.fields.items) (values_next dicts.new c.change)) }
+    ensures has { IfOk result
+        (λ c. HasValues (Some schema.now.fields.items) (values_next dicts.new c.change)) }
     ensures room { IfOk result (λ c. HasRoomFor dicts.new c.change) }
     ensures next { IfOk result IsFollowed }
     ensures typed { IfOk result (λ c. IsTypedEvent (Some schema.now.fields.items) c.event) }
@@ -124,7 +126,8 @@ pub(crate) fn take_message(
     ensures seen { Answers coming_seen result (message_event message (values_in dicts.old)) }
     ensures same { dicts.new.entries ≡ dicts.old.entries }
     ensures change { IfOk result (λ c. Adds dicts.old dicts.new c.change (message_brings message)) }
-    ensures has { IfOk result (λ c. HasValues (Some message.schema) (values_next dicts.new c.change)) }
+    ensures has { IfOk result
+        (λ c. HasValues (Some message.schema) (values_next dicts.new c.change)) }
     ensures room { IfOk result (λ c. HasRoomFor dicts.new c.change) }
     ensures next { IfOk result IsFollowed }
     ensures typed { IfOk result (λ c. IsTypedEvent (Some message.schema) c.event) }
