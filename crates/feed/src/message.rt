@@ -37,7 +37,8 @@ fn prepare_change(
     values: Vec<Value>,
 ) -> Result<Ready, AllocError>
     ensures same { dicts.new.entries ≡ dicts.old.entries }
-    ensures change { IfOk result (λ r. r ≡ change_of dicts.old (values_batch header.now.id header.now.is_delta values.items)) }
+    ensures change { IfOk result
+        (λ r. r ≡ change_of dicts.old (values_batch header.now.id header.now.is_delta values.items)) }
     ensures room { OnOk result (HasRoom dicts.new) }
 {
     dicts.prepare(header.id, header.is_delta, values)

@@ -80,7 +80,8 @@ pub(crate) fn read_dictionary_header(
     body: usize,
 ) -> Result<DictionaryHeader, StreamFault>
     requires { body ≤ max_body_size }
-    ensures { Answers (λ d. d) result (dictionary_of schema.now.fields.items counts.now.entries body table.now) }
+    ensures { Answers (λ d. d) result
+        (dictionary_of schema.now.fields.items counts.now.entries body table.now) }
 {
     let id = id_of(table)?;
     let Some(stored) = schema.value_type(id) else {

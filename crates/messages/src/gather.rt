@@ -52,7 +52,8 @@ fn gather(
     requires wants { Wants (followed (known_of state.now) held.old.items) wanted }
     ensures found { Answers progress_seen result (first_with state.now held.old.items piece.now) }
     ensures wanted { IfOk result (λ p. Awaits (followed (known_of state.now) held.new.items) p) }
-    ensures grown { IfOk result (λ p. Gathers (progress_seen p) (held.old.items ++ piece.now) held.new.items) }
+    ensures grown { IfOk result
+        (λ p. Gathers (progress_seen p) (held.old.items ++ piece.now) held.new.items) }
     ensures unchanged { OnErr result (held.new.items ≡ held.old.items) }
     ensures empty { piece.now ≡ [] → IsOk result }
 {

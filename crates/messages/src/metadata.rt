@@ -80,7 +80,8 @@ fn check_declared(
     declared: &Option<Schema>,
     schema: &StreamSchema,
 ) -> Result<(), StreamFault>
-    ensures { Answers (λ u. schema.now.fields.items) result (expected (option_map (λ d. d.fields.items) declared.now) schema.now.fields.items) }
+    ensures { Answers (λ u. schema.now.fields.items) result
+        (expected (option_map (λ d. d.fields.items) declared.now) schema.now.fields.items) }
 {
     let Some(declared) = declared else {
         return Ok(());

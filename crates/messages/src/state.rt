@@ -29,7 +29,8 @@ impl State {
     pub(crate) fn count(&mut self, header: &Header) -> Result<Option<Count>, AllocError>
         requires { IsCounted (known_of self.old).counts header.now }
         ensures same { known_of self.new ≡ known_of self.old }
-        ensures counted { IfOk result (λ c. counted (known_of self.old).counts c ≡ counts_after (known_of self.old).counts header.now) }
+        ensures counted { IfOk result
+            (λ c. counted (known_of self.old).counts c ≡ counts_after (known_of self.old).counts header.now) }
         ensures room { IfOk result (λ c. HasRoom c (spare self.new.counts)) }
     {
         let count = count_after(&self.counts, header);
@@ -44,8 +45,11 @@ impl State {
         &self,
         brought: &Option<Rc<StreamSchema>>,
     ) -> Result<Rc<StreamSchema>, AllocError>
-        requires { IsSome (schema_after (known_of self.now).schema (option_map (λ s. s.value.fields.items) brought.now)) }
-        ensures { IfOk result (λ s. schema_after (known_of self.now).schema (option_map (λ s. s.value.fields.items) brought.now) ≡ Some s.value.fields.items) }
+        requires { IsSome
+            (schema_after (known_of self.now).schema (option_map (λ s. s.value.fields.items) brought.now)) }
+        ensures { IfOk result (λ s.
+            schema_after (known_of self.now).schema (option_map (λ s. s.value.fields.items) brought.now)
+            ≡ Some s.value.fields.items) }
     {
         match brought {
             Some(schema) => schema.clone(),
@@ -56,7 +60,8 @@ impl State {
     /// Keeps what a message brings: a schema, or how many values a dictionary has. It takes no memory.
     pub(crate) fn learn(&mut self, schema: Option<Rc<StreamSchema>>, count: Option<Count>)
         requires { HasRoom count (spare self.old.counts) }
-        ensures { known_of self.new ≡ learnt (known_of self.old) (option_map (λ s. s.value.fields.items) schema) count }
+        ensures { known_of self.new
+            ≡ learnt (known_of self.old) (option_map (λ s. s.value.fields.items) schema) count }
     {
         if let Some(schema) = schema {
             self.schema = Some(schema);

@@ -102,7 +102,8 @@ impl Framer {
         ensures fault { IfErr result (λ e. Fails e (first_in self.old.current piece.now)) }
         ensures same { self.new.current ≡ self.old.current }
         ensures refused { OnErr result (self.new.prepared ≡ self.old.current) }
-        ensures empty { piece.now ≡ [] → IsOkAnd result IsNothing × (self.new.prepared ≡ self.old.current) }
+        ensures empty { piece.now ≡ []
+            → IsOkAnd result IsNothing × (self.new.prepared ≡ self.old.current) }
         ensures used { IfOk result (λ f. f.used ≤ length piece.now) }
         ensures progress { IfOk result (λ f. 0 < length piece.now → 0 < f.used) }
         ensures schema { IfOk result (HasSchema self.new.prepared.known.schema) }
@@ -167,7 +168,8 @@ impl Framer {
         ensures ok { IfOk result (λ f. Takes self.old.current piece.now f self.new.current) }
         ensures fault { IfErr result (λ e. Fails e (first_in self.old.current piece.now)) }
         ensures unchanged { OnErr result (self.new.current ≡ self.old.current) }
-        ensures empty { piece.now ≡ [] → IsOkAnd result IsNothing × (self.new.current ≡ self.old.current) }
+        ensures empty { piece.now ≡ []
+            → IsOkAnd result IsNothing × (self.new.current ≡ self.old.current) }
         ensures used { IfOk result (λ f. f.used ≤ length piece.now) }
         ensures progress { IfOk result (λ f. 0 < length piece.now → 0 < f.used) }
         ensures schema { IfOk result (HasSchema self.new.current.known.schema) }
