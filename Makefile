@@ -1,16 +1,21 @@
-# The ways in: `make run`, `make test`, `make edits`, `make ci`, `make limits` and `make bench`.
+# The ways in: `make try`, `make run`, `make test`, `make edits`, `make ci`, `make limits` and `make bench`.
 
 PREFIX ?= /usr/local
 LV := crates/lv/out/lv
 OUT ?= out/orders.canon.arrows
 
-.PHONY: run test edits ci limits bench install lv need-rt need-python
+.PHONY: try run test edits ci limits bench install lv need-rt need-python
 
 # Recasts the sample stream to a file of its own, and inspects that file.
 run: lv
 	@mkdir -p out
 	$(LV) recast examples/orders.arrows $(OUT)
 	$(LV) inspect $(OUT)
+
+# A first look, within two minutes of cloning: lv is compiled with checks that stop it, and nothing is proved.
+try: need-rt
+	@cd crates/lv && rt try --data orders.arrows=../../examples/orders.arrows -- inspect orders.arrows
+	@echo "(proved=no: this was a try; make run proves lv first)"
 
 # The merge gate: every proof from nothing, contracts, layout, tests, must-fail edits, and the program over its runs. Of crates whose
 # edits were all refused as they stand (tools/edits-tried.txt) it tries a fifth.
