@@ -59,6 +59,14 @@ def run(words, cwd):
     return Ran(started.returncode, text, used.ru_utime + used.ru_stime)
 
 
+def link(source, to):
+    """Links a file, or copies it where the two places have no file system in common."""
+    try:
+        os.link(source, to)
+    except OSError:
+        shutil.copy2(source, to)
+
+
 class Lane:
     def __init__(self, root, folder):
         self.root, self.folder = root, folder
@@ -66,12 +74,12 @@ class Lane:
         for file in ("crates.txt", "HANDLES"):
             shutil.copy(f"{root}/{file}", folder)
         for crate in crates_of(root):
-            for name in os.listdir(f"{root}/crates/{crate}"):
-                at = f"{root}/crates/{crate}/{name}"
-                if name in PARTS or name == "data":
-                    shutil.copytree(at, f"{folder}/crates/{crate}/{name}")
+            for part in PARTS:
+                at = f"{root}/crates/{crate}/{part}"
+                if os.path.isdir(at):
+                    shutil.copytree(at, f"{folder}/crates/{crate}/{part}")
             # rt replaces a built library as a whole, so links to its files are enough
-            self.take(crate, "rlib", os.link)
+            self.take(crate, "rlib", link)
 
     def take(self, crate, part, copy):
         """Puts what the tree has of a crate's out/ in the place of what the lane has."""
