@@ -30,7 +30,7 @@ PROGRAM = "lv"
 BACKENDS = {"llvm": "lv", "rattle": "lv.by-rattle"}
 RUNS = ("check-examples.sh", "check-outputs.sh", "refuse-memory.sh")
 # What the last line of a check may say of a proved crate: nothing of bounds, foreign functions or contracts that say nothing.
-PROVED = {"logic", "functions", "sum", "target", "native", "logic-built", "libraries-built", "statements", "incremental"}
+PROVED = {"logic", "functions", "sum", "axioms", "target", "cpu", "native", "logic-built", "libraries-built", "statements", "incremental"}
 EMPTY = re.compile(r"^(warning: no call of `(?![^`]*::fn::)|note: the search for empty contracts did not end)", re.M)
 
 
