@@ -400,14 +400,29 @@ fn declared(rt: &HostRuntime, name: &str) -> Result<Schema, Fail> {
     Ok(Schema::new(rt.alloc(), fields)?)
 }
 
+/// A framer for a stream of columns `k` and `name`.
+fn framer_of(rt: &HostRuntime, name: &str) -> Result<Framer, Fail> {
+    Ok(Framer::open(rt.alloc(), Some(declared(rt, name)?)))
+}
+
 #[test]
-fn wants_the_declared_schema(rt: HostRuntime) -> Result<(), Fail> {
-    let mut framer = Framer::open(rt.alloc(), Some(declared(&rt, "v")?));
+fn takes_the_declared_schema(rt: HostRuntime) -> Result<(), Fail> {
+    let mut framer = framer_of(&rt, "v")?;
     assert_eq!(rt; push(&mut framer, &SAMPLE), Ok((232, Some(1))));
-    let mut framer = Framer::open(rt.alloc(), Some(declared(&rt, "w")?));
+    Ok(())
+}
+
+#[test]
+fn refuses_another_schema(rt: HostRuntime) -> Result<(), Fail> {
+    let mut framer = framer_of(&rt, "w")?;
     let whole = fault_of_whole(&mut framer, &SAMPLE);
     assert_eq!(rt; whole, Some(StreamFault::SchemaMismatch));
-    let mut framer = Framer::open(rt.alloc(), Some(declared(&rt, "w")?));
+    Ok(())
+}
+
+#[test]
+fn refuses_another_schema_in_pieces(rt: HostRuntime) -> Result<(), Fail> {
+    let mut framer = framer_of(&rt, "w")?;
     let cut = fault_of_bytes(&mut framer, &SAMPLE);
     assert_eq!(rt; cut, Some(StreamFault::SchemaMismatch));
     Ok(())
