@@ -1,4 +1,4 @@
 pub mod Sample
 pub mod Bits
-pub mod Rising
-pub mod Sounding
+pub mod OffsetLemmas
+pub mod SoundLemmas

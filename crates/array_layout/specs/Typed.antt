@@ -2,17 +2,17 @@
 use Rattle.std.specs.Prelude.{All, Option, None, Some}
 use Rattle.values.specs.Layouts.{Holds}
 use Rattle.values.specs.Rose.{Rose, node, Roses, none, more}
-use Rattle.array_layout.specs.declared.array.Words.{Words}
-use Rattle.array_layout.specs.declared.array.Part.{Part}
+use Rattle.array_layout.specs.declared.array.DictionaryValues.{DictionaryValues}
+use Rattle.array_layout.specs.declared.array.ArrayData.{ArrayData}
 
-abbrev pub AreWords : Option Words → Type 0
-AreWords None = Unit {0}
-AreWords (Some w) = All (Holds (node w.layout none)) w.values
+abbrev pub IsTypedDictionary : Option DictionaryValues → Type 0
+IsTypedDictionary None = Unit {0}
+IsTypedDictionary (Some w) = All (Holds (node w.layout none)) w.values
 
 abbrev mutual
-  pub IsTyped : Rose Part → Type 0
-  IsTyped (node p kids) = AreWords p.words × AreTyped kids
+  pub IsTyped : Rose ArrayData → Type 0
+  IsTyped (node p kids) = IsTypedDictionary p.dictionary × AreTyped kids
 
-  pub AreTyped : Roses Part → Type 0
+  pub AreTyped : Roses ArrayData → Type 0
   AreTyped none = Unit {0}
   AreTyped (more t ts) = IsTyped t × AreTyped ts

@@ -1,7 +1,7 @@
-//! Arrays, as a record batch's header tells them.
+//! Arrays as a record batch header describes them: field nodes, and the byte ranges of buffers.
 
 ghost use Rattle.std.specs.Prelude.{◌≡◌, ◌≤◌};
-ghost use Rattle.array_layout.specs.Placing.{own_spans};
+ghost use Rattle.array_layout.specs.Placing.{own_ranges};
 
 use dictionaries::Dictionary;
 use std::marker::Model;
@@ -9,26 +9,26 @@ use values::Layout;
 
 /// The length of an array and the nulls that are claimed for it: Message.fbs, struct `FieldNode`.
 #[derive(Clone, Copy, Debug, PartialEq, Eq)]
-pub struct Node {
+pub struct FieldNode {
     pub length: usize,
-    /// As stored: whether it is true is judged on the body.
+    /// As stored: whether it is true is checked on the body.
     pub nulls: i64,
 }
 
 /// A buffer's place in the body, in bytes: Message.fbs, struct `Buffer`.
 #[derive(Clone, Copy, Debug, PartialEq, Eq)]
-pub struct Span {
+pub struct BufferRange {
     pub from: usize,
     pub len: usize,
 }
 
 /// How many buffers an array of this layout has of its own.
-pub fn own_spans(layout: Layout) -> usize
-    ensures exact { result ≡ own_spans layout }
+pub fn own_ranges(layout: Layout) -> usize
+    ensures exact { result ≡ own_ranges layout }
     ensures bound { result ≤ 3 }
 {
     match layout {
-        Layout::Text { .. } | Layout::Bytes { .. } => 3,
+        Layout::Utf8 { .. } | Layout::Binary { .. } => 3,
         Layout::Struct => 1,
         _ => 2,
     }
@@ -36,49 +36,49 @@ pub fn own_spans(layout: Layout) -> usize
 
 /// The values of a dictionary, and how they would lie in an array of their own.
 #[derive(Drop)]
-pub struct Words {
+pub struct DictionaryValues {
     pub layout: Layout,
     pub values: Dictionary,
 }
 
 /// What an array has of its own: its layout, its node, and where its buffers lie in the body.
 #[derive(Drop)]
-pub struct Part {
+pub struct ArrayData {
     /// How its slots lie: of indices into a dictionary, where it has one.
     pub layout: Layout,
     /// The dictionary whose values its slots stand for, as it is for this batch.
-    pub words: Option<Words>,
+    pub dictionary: Option<DictionaryValues>,
     /// The number of slots.
     pub len: usize,
     /// How many of them are said to be null.
     pub nulls: i64,
-    pub validity: Span,
+    pub validity: BufferRange,
     /// Of texts, bytes and lists; elsewhere of length 0.
-    pub offsets: Span,
+    pub offsets: BufferRange,
     /// The bits or numbers of the slots, or the bytes that the offsets point into; of lists and structs of length 0.
-    pub values: Span,
+    pub values: BufferRange,
 }
 
 /// An array with its children.
 ///
-/// Contracts see it as a tree with a `Part` at each node.
+/// Contracts see it as a tree with a `ArrayData` at each node.
 #[derive(Drop)]
 pub struct Array {
-    pub part: Part,
+    pub own: ArrayData,
     pub children: Vec<Array>,
 }
 
 impl Model for Array {
     ghost use Rattle.std.proofs.Common.{arith};
     ghost use Rattle.values.specs.Rose.{Rose, node, kids_of, rose_code, rose_size, most_le-roses_size};
-    ghost use Rattle.array_layout.specs.declared.array.Part.{Part};
-    ghost use Rattle.array_layout.specs.contracts.array.Part.{the_row};
+    ghost use Rattle.array_layout.specs.declared.array.ArrayData.{ArrayData};
+    ghost use Rattle.array_layout.specs.contracts.array.ArrayData.{the_row};
 
-    ghost Value = { Rose Part };
+    ghost Value = { Rose ArrayData };
 
     ghost coded = { rose_code the_row.coded };
 
-    ghost view = { λ a. node a.part (kids_of a.children.items) };
+    ghost view = { λ a. node a.own (kids_of a.children.items) };
 
     ghost size = { rose_size };
 

@@ -1,4 +1,4 @@
-//! The readers of buffers.
+//! Reads bits, numbers, offsets and slices from an array's buffers.
 
 ghost use Rattle.std.specs.Prelude.{◌≡◌, ◌+◌, ◌*◌, ◌<◌, ◌≤◌, length, true};
 ghost use Rattle.bitmaps.specs.Bits.{HasBits, bit_at};
@@ -7,16 +7,16 @@ ghost use Rattle.array_layout.specs.Placing.{bytes_of};
 ghost use Rattle.array_layout.specs.Sound.{LiesIn};
 ghost use Rattle.array_layout.specs.Buffers.{is_null, number_at, fixed_at, offset_at, slice_at};
 
-use crate::array::Span;
+use crate::array::BufferRange;
 use byteorder::{ByteOrder, LittleEndian};
 use values::{IntWidth, OffsetWidth};
 
 /// The bytes of a buffer.
-pub fn buffer<'a>(body: &'a [u8], span: &Span) -> &'a [u8]
-    requires { LiesIn body.now span.now }
-    ensures { result.now ≡ bytes_of body.now span.now }
+pub fn buffer<'a>(body: &'a [u8], range: &BufferRange) -> &'a [u8]
+    requires { LiesIn body.now range.now }
+    ensures { result.now ≡ bytes_of body.now range.now }
 {
-    &body[span.from..span.from + span.len]
+    &body[range.from..range.from + range.len]
 }
 
 /// Bit `i`.
@@ -37,7 +37,7 @@ pub fn is_null_at(bits: &[u8], i: usize) -> bool
 }
 
 /// Number `i`, in two's complement.
-#[tactic(auto, unfolding(crate::specs::Buffers::number_at, crate::specs::Buffers::word_at))]
+#[tactic(auto, unfolding(crate::specs::Buffers::number_at, crate::specs::Buffers::unsigned_at))]
 fn signed_number(bytes: &[u8], width: usize, i: usize) -> i128
     requires low { 1 ≤ width }
     requires high { width ≤ 16 }
@@ -48,7 +48,7 @@ fn signed_number(bytes: &[u8], width: usize, i: usize) -> i128
 }
 
 /// Number `i`.
-#[tactic(auto, unfolding(crate::specs::Buffers::number_at, crate::specs::Buffers::word_at))]
+#[tactic(auto, unfolding(crate::specs::Buffers::number_at, crate::specs::Buffers::unsigned_at))]
 pub fn number(bytes: &[u8], width: IntWidth, signed: bool, i: usize) -> i128
     requires { bytes_in width * (i + 1) ≤ length bytes.now }
     ensures { result ≡ number_at signed (bytes_in width) bytes.now i }
@@ -79,7 +79,7 @@ pub fn fixed(bytes: &[u8], width: usize, i: usize) -> &[u8]
 }
 
 /// Offset `i`, without its sign.
-#[tactic(auto, unfolding(crate::specs::Buffers::offset_at, crate::specs::Buffers::word_at))]
+#[tactic(auto, unfolding(crate::specs::Buffers::offset_at, crate::specs::Buffers::unsigned_at))]
 pub fn offset(offsets: &[u8], width: OffsetWidth, i: usize) -> usize
     requires { offset_bytes width * (i + 1) ≤ length offsets.now }
     ensures { result ≡ offset_at width offsets.now i }

@@ -1,4 +1,4 @@
-//! The checks of an array's buffers: 22 BufferShort, 23 NullCount, 24 Offsets.
+//! Checks of an array's buffers: 22 BufferShort, 23 NullCount, 24 Offsets.
 
 ghost use Rattle.std.specs.Prelude.{◌≡◌, ◌+◌, ◌*◌, ◌<◌, ◌≤◌, ◌^◌, length, OnOk};
 ghost use Rattle.values.specs.Limits.{max_node_length};
@@ -7,9 +7,23 @@ ghost use Rattle.values.specs.Rose.{kids_of};
 ghost use Rattle.values.specs.Layouts.{offset_bytes};
 ghost use Rattle.bitmaps.specs.Bits.{HasBits};
 ghost use Rattle.array_layout.specs.Buffers.{zeros, is_rising};
-ghost use Rattle.array_layout.specs.Sound.{validity_of, bits_of, slots_of, offsets_of, values_by, own_faults, faults_in, first_len, LiesIn, IsPlaced, IsSound, AreFit, HasRoom};
+ghost use Rattle.array_layout.specs.Sound.{
+  validity_of,
+  bits_of,
+  slots_of,
+  offsets_of,
+  values_by,
+  own_faults,
+  faults_in,
+  first_len,
+  LiesIn,
+  IsPlaced,
+  IsSound,
+  AreFit,
+  HasRoom,
+};
 
-use crate::array::{Array, Part};
+use crate::array::{Array, ArrayData};
 use crate::buffers::{buffer, offset};
 use bitmaps::Bits;
 use values::{Layout, OffsetWidth, StreamFault};
@@ -70,7 +84,7 @@ fn check_slots(bytes: &[u8], width: usize, len: usize) -> Result<(), StreamFault
 }
 
 /// Whether no offset falls.
-#[tactic(auto, using(crate::proofs::Rising::rising_steps), unfolding(crate::specs::Buffers::is_rising))]
+#[tactic(auto, using(crate::proofs::OffsetLemmas::rising_steps), unfolding(crate::specs::Buffers::is_rising))]
 fn rises(offsets: &[u8], width: OffsetWidth, len: usize) -> bool
     requires room { offset_bytes width * (len + 1) ≤ length offsets.now }
     requires small { len ≤ max_node_length }
@@ -87,7 +101,7 @@ fn rises(offsets: &[u8], width: OffsetWidth, len: usize) -> bool
     true
 }
 
-#[tactic(auto, using(crate::proofs::Rising::rising_steps), unfolding(crate::specs::Sound::offsets_of))]
+#[tactic(auto, using(crate::proofs::OffsetLemmas::rising_steps), unfolding(crate::specs::Sound::offsets_of))]
 fn check_offsets(
     offsets: &[u8],
     width: OffsetWidth,
@@ -118,61 +132,61 @@ fn first_len(children: &[Array]) -> usize
     ensures { result ≡ first_len (kids_of children.now) }
 {
     match children.first() {
-        Some(child) => child.part.len,
+        Some(child) => child.own.len,
         None => 0,
     }
 }
 
-/// Judges the buffers beside validity of one array.
-fn check_values(body: &[u8], part: &Part, slots: usize) -> Result<(), StreamFault>
-    requires offsets { LiesIn body.now part.now.offsets }
-    requires values { LiesIn body.now part.now.values }
-    requires small { part.now.len ≤ max_node_length }
-    ensures passes { Passes result (values_by part.now.layout body.now part.now slots) }
-    ensures room { OnOk result (HasRoom part.now.layout body.now part.now slots) }
+/// Checks the buffers beside validity of one array.
+fn check_values(body: &[u8], own: &ArrayData, slots: usize) -> Result<(), StreamFault>
+    requires offsets { LiesIn body.now own.now.offsets }
+    requires values { LiesIn body.now own.now.values }
+    requires small { own.now.len ≤ max_node_length }
+    ensures passes { Passes result (values_by own.now.layout body.now own.now slots) }
+    ensures room { OnOk result (HasRoom own.now.layout body.now own.now slots) }
 {
-    let values = buffer(body, &part.values);
-    let offsets = buffer(body, &part.offsets);
-    match part.layout {
-        Layout::Bits => check_bits(values, part.len),
-        Layout::Number { width, .. } => check_slots(values, width.bytes(), part.len),
-        Layout::Decimal { .. } => check_slots(values, 16, part.len),
-        Layout::Fixed { width } => check_slots(values, width as usize, part.len),
-        Layout::Text { offsets: width } | Layout::Bytes { offsets: width } => check_offsets(
+    let values = buffer(body, &own.values);
+    let offsets = buffer(body, &own.offsets);
+    match own.layout {
+        Layout::Bool => check_bits(values, own.len),
+        Layout::Int { width, .. } => check_slots(values, width.bytes(), own.len),
+        Layout::Decimal { .. } => check_slots(values, 16, own.len),
+        Layout::FixedSizeBinary { width } => check_slots(values, width as usize, own.len),
+        Layout::Utf8 { offsets: width } | Layout::Binary { offsets: width } => check_offsets(
             offsets,
             width,
-            part.len,
+            own.len,
             values.len(),
         ),
-        Layout::List { offsets: width } => check_offsets(offsets, width, part.len, slots),
+        Layout::List { offsets: width } => check_offsets(offsets, width, own.len, slots),
         Layout::Struct => Ok(()),
     }
 }
 
-/// Judges the buffers of one array.
-#[tactic(auto, using(values::proofs::Readings::failing, values::proofs::Readings::both_good), unfolding(crate::specs::Sound::own_faults))]
-fn check_part(body: &[u8], part: &Part, slots: usize) -> Result<(), StreamFault>
-    requires validity { LiesIn body.now part.now.validity }
-    requires offsets { LiesIn body.now part.now.offsets }
-    requires values { LiesIn body.now part.now.values }
-    requires small { part.now.len ≤ max_node_length }
-    ensures passes { Passes result (own_faults body.now part.now slots) }
-    ensures bits { OnOk result (0 < part.now.validity.len → part.now.len ≤ 8 * part.now.validity.len) }
-    ensures room { OnOk result (HasRoom part.now.layout body.now part.now slots) }
+/// Checks the buffers of one array.
+#[tactic(auto, using(values::proofs::Readings::failing, values::proofs::Readings::both_valid), unfolding(crate::specs::Sound::own_faults))]
+fn check_data(body: &[u8], own: &ArrayData, slots: usize) -> Result<(), StreamFault>
+    requires validity { LiesIn body.now own.now.validity }
+    requires offsets { LiesIn body.now own.now.offsets }
+    requires values { LiesIn body.now own.now.values }
+    requires small { own.now.len ≤ max_node_length }
+    ensures passes { Passes result (own_faults body.now own.now slots) }
+    ensures bits { OnOk result (0 < own.now.validity.len → own.now.len ≤ 8 * own.now.validity.len) }
+    ensures room { OnOk result (HasRoom own.now.layout body.now own.now slots) }
 {
-    check_validity(buffer(body, &part.validity), part.len, part.nulls)?;
-    check_values(body, part, slots)
+    check_validity(buffer(body, &own.validity), own.len, own.nulls)?;
+    check_values(body, own, slots)
 }
 
-/// Judges the buffers of an array and of all arrays below it: 22, 23 and 24.
-#[tactic(auto, using(crate::proofs::Sounding::sounding, values::proofs::Roses::kid_smaller, values::proofs::Readings::both_left))]
+/// Checks the buffers of an array and of all arrays below it: 22, 23 and 24.
+#[tactic(auto, using(crate::proofs::SoundLemmas::sounding, values::proofs::Roses::kid_smaller, values::proofs::Readings::both_left))]
 pub fn check_layout(body: &[u8], array: &Array) -> Result<(), StreamFault>
     requires { IsPlaced body.now array.now }
     ensures passes { Passes result (faults_in body.now array.now) }
     ensures sound { OnOk result (IsSound body.now array.now) }
 {
     let children: &[Array] = &array.children;
-    check_part(body, &array.part, first_len(children))?;
+    check_data(body, &array.own, first_len(children))?;
     for child in children {
         check_layout(body, child)?;
     }

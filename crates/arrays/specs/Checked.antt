@@ -13,10 +13,11 @@ pub record CheckedColumn : Type 0 where
 
 abbrev pub column_code : Coded CheckedColumn
 column_code =
-    code_by (Rose Layout × List Datum) (coded× (rose_code the_row.coded) (coded_list datum_code)) (λ c. (c.layouts, c.cells))
+    code_by (Rose Layout × List Datum) (coded× (rose_code the_row.coded) (coded_list datum_code))
+    (λ c. (c.layouts, c.cells))
     (λ p. record { layouts = p.0; cells = p.1 }) (λ _. refl)
 
 -- the values where no fault stands
-abbrev pub good_of : Reading (List Datum) → List Datum
-good_of (Ok ds) = ds
-good_of (Err fs) = []
+abbrev pub valid_of : Reading (List Datum) → List Datum
+valid_of (Ok ds) = ds
+valid_of (Err fs) = []

@@ -3,7 +3,7 @@ use Rattle.std.specs.Prelude.{◌≡◌, ℕ, ◌<◌, List, Ok}
 use Rattle.values.specs.Rose.{Rose}
 use Rattle.values.specs.Datum.{Datum}
 use Rattle.values.specs.Layouts.{weight}
-use Rattle.array_layout.specs.declared.array.Part.{Part}
+use Rattle.array_layout.specs.declared.array.ArrayData.{ArrayData}
 use Rattle.array_layout.specs.Placing.{layout_of}
 use Rattle.array_layout.specs.Sound.{IsSound}
 use Rattle.array_layout.specs.Cells.{cell, len_of}
@@ -12,5 +12,5 @@ use Rattle.arrays.specs.Weights.{weight_at}
 -- a cell weighs where it lies what its value weighs
 abbrev pub WeighsAsRead : Type 0
 WeighsAsRead =
-    (body : List ℕ) (t : Rose Part) (i : ℕ) (d : Datum) → IsSound body t → i < len_of t → cell body t i ≡ Ok d
+    (body : List ℕ) (t : Rose ArrayData) (i : ℕ) (d : Datum) → IsSound body t → i < len_of t → cell body t i ≡ Ok d
     → weight_at body t i ≡ weight (layout_of t) d

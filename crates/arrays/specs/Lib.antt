@@ -1,6 +1,6 @@
-pub mod Calm
+pub mod AlwaysValid
 pub mod Checked
 pub mod Weights
 pub mod Laws
 pub mod Reached
-pub mod Coded
+pub mod Encoded

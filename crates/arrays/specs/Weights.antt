@@ -1,15 +1,32 @@
 -- The weight of a cell where it lies.
-use Rattle.std.specs.Prelude.{◌≡◌, ℕ, zero, suc, ◌+◌, ◌-◌, ◌<◌, ◌≤◌, List, Option, None, Some, Ok, Err, if◌then◌else◌, nat_lt}
+use Rattle.std.specs.Prelude.{
+  ◌≡◌,
+  ℕ,
+  zero,
+  suc,
+  ◌+◌,
+  ◌-◌,
+  ◌<◌,
+  ◌≤◌,
+  List,
+  Option,
+  None,
+  Some,
+  Ok,
+  Err,
+  if◌then◌else◌,
+  nat_lt,
+}
 use Rattle.values.specs.Limits.{max_cell_weight}
 use Rattle.values.specs.Reading.{Reading}
 use Rattle.values.specs.Datum.{Datum}
 use Rattle.values.specs.Rose.{Rose, node, Roses, none, more}
 use Rattle.values.specs.declared.layout.OffsetWidth.{OffsetWidth}
 use Rattle.values.specs.declared.layout.Layout.{Layout}
-use Rattle.values.specs.declared.layout.Layout.TheVariants.{Text, Bytes, List as Listed, Struct}
+use Rattle.values.specs.declared.layout.Layout.TheVariants.{Utf8, Binary, List as Listed, Struct}
 use Rattle.values.specs.Layouts.{slot, weight}
-use Rattle.array_layout.specs.declared.array.Words.{Words}
-use Rattle.array_layout.specs.declared.array.Part.{Part}
+use Rattle.array_layout.specs.declared.array.DictionaryValues.{DictionaryValues}
+use Rattle.array_layout.specs.declared.array.ArrayData.{ArrayData}
 use Rattle.array_layout.specs.Placing.{bytes_of, layout_by, layouts_of}
 use Rattle.array_layout.specs.Buffers.{is_null, offset_at}
 use Rattle.array_layout.specs.Cells.{coded_by}
@@ -23,39 +40,42 @@ sum_from f i (suc n) = f i + sum_from f (i + 1) n
 abbrev pub extent : OffsetWidth → List ℕ → ℕ → ℕ
 extent o offsets i = offset_at o offsets (i + 1) - offset_at o offsets i
 
--- A valid slot of an array of values, by layout: `here` weighs the slots of the first child, `beside` those of all children at one place.
-abbrev pub weight_by : Layout → List ℕ → Part → ℕ → (ℕ → ℕ) → (ℕ → ℕ) → ℕ → ℕ
-weight_by (Text o) body p bare here beside i = 5 + extent o (bytes_of body p.offsets) i
-weight_by (Bytes o) body p bare here beside i = 5 + extent o (bytes_of body p.offsets) i
+-- A valid slot of an array of values, by layout: `here` weighs the slots of the first child, `beside` those of all
+-- children at one place.
+abbrev pub weight_by : Layout → List ℕ → ArrayData → ℕ → (ℕ → ℕ) → (ℕ → ℕ) → ℕ → ℕ
+weight_by (Utf8 o) body p bare here beside i = 5 + extent o (bytes_of body p.offsets) i
+weight_by (Binary o) body p bare here beside i = 5 + extent o (bytes_of body p.offsets) i
 weight_by (Listed o) body p bare here beside i =
     5 + sum_from here (offset_at o (bytes_of body p.offsets) i) (extent o (bytes_of body p.offsets) i)
 weight_by Struct body p bare here beside i = 1 + beside i
 weight_by l body p bare here beside i = bare
 
 -- A slot that stands for a value of a dictionary weighs what the value weighs.
-abbrev pub word_weight : Layout → Reading Datum → ℕ
-word_weight l (Ok d) = weight (node l none) d
-word_weight l (Err fs) = slot (node l none)
+abbrev pub encoded_weight : Layout → Reading Datum → ℕ
+encoded_weight l (Ok d) = weight (node l none) d
+encoded_weight l (Err fs) = slot (node l none)
 
 -- a valid slot
-abbrev pub slot_weight : Option Words → List ℕ → Part → ℕ → (ℕ → ℕ) → (ℕ → ℕ) → ℕ → ℕ
+abbrev pub slot_weight : Option DictionaryValues → List ℕ → ArrayData → ℕ → (ℕ → ℕ) → (ℕ → ℕ) → ℕ → ℕ
 slot_weight None body p bare here beside i = weight_by p.layout body p bare here beside i
-slot_weight (Some w) body p bare here beside i = word_weight w.layout (coded_by p.layout w.values (bytes_of body p.values) i)
+slot_weight (Some w) body p bare here beside i =
+    encoded_weight w.layout (coded_by p.layout w.values (bytes_of body p.values) i)
 
-unfoldable pub weight_in : List ℕ → Part → ℕ → (ℕ → ℕ) → (ℕ → ℕ) → ℕ → ℕ
+unfoldable pub weight_in : List ℕ → ArrayData → ℕ → (ℕ → ℕ) → (ℕ → ℕ) → ℕ → ℕ
 weight_in body p bare here beside i =
-    if is_null (bytes_of body p.validity) i then bare else slot_weight p.words body p bare here beside i
+    if is_null (bytes_of body p.validity) i then bare else slot_weight p.dictionary body p bare here beside i
 
 abbrev mutual
-  pub weight_at : List ℕ → Rose Part → ℕ → ℕ
+  pub weight_at : List ℕ → Rose ArrayData → ℕ → ℕ
   weight_at body (node p kids) i =
-      weight_in body p (slot (node (layout_by p.words p.layout) (layouts_of kids))) (λ j. first_weight body kids j) (λ j. weight_beside body kids j) i
+      weight_in body p (slot (node (layout_by p.dictionary p.layout) (layouts_of kids))) (λ j. first_weight body kids j)
+      (λ j. weight_beside body kids j) i
 
-  pub first_weight : List ℕ → Roses Part → ℕ → ℕ
+  pub first_weight : List ℕ → Roses ArrayData → ℕ → ℕ
   first_weight body none i = 0
   first_weight body (more t ts) i = weight_at body t i
 
-  pub weight_beside : List ℕ → Roses Part → ℕ → ℕ
+  pub weight_beside : List ℕ → Roses ArrayData → ℕ → ℕ
   weight_beside body none i = 0
   weight_beside body (more t ts) i = weight_at body t i + weight_beside body ts i
 

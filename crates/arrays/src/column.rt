@@ -1,7 +1,7 @@
-//! A column of a batch, judged once and then read cell by cell.
+//! A column of a record batch: validated once, then read cell by cell.
 
 ghost use Rattle.std.specs.Prelude.{◌≡◌, ◌<◌, length, slice_get, Some, IfOk, IfSome, Ok};
-ghost use Rattle.values.specs.Reading.{Judges, Passes, IsGood};
+ghost use Rattle.values.specs.Reading.{Judges, Passes, IsValid};
 ghost use Rattle.values.specs.Layouts.{Holds, weight};
 ghost use Rattle.array_layout.specs.Placing.{layout_of};
 ghost use Rattle.array_layout.specs.Sound.{IsPlaced, IsSound};
@@ -9,8 +9,8 @@ ghost use Rattle.array_layout.specs.Cells.{cell, cells, column_of, len_of};
 ghost use Rattle.array_layout.specs.Typed.{IsTyped};
 ghost use Rattle.arrays.specs.Weights.{Says};
 
-use crate::judge::judge_items;
 use crate::read::read;
+use crate::validate::validate_items;
 use crate::weigh::weigh;
 use array_layout::{Array, check_layout};
 use std::alloc::{AllocError, Global};
@@ -18,7 +18,7 @@ use std::marker::Model;
 use std::rc::Rc;
 use values::{StreamFault, Value};
 
-/// A column whose buffers and cells were judged. Contracts see it as its layouts and the list of its cells.
+/// A column whose buffers and cells were validated. Contracts see it as its layouts and the list of its cells.
 ///
 /// It shares the body of its message with the other columns of the batch.
 #[derive(Drop)]
@@ -28,38 +28,38 @@ pub struct Column {
 }
 
 impl Model for Column {
-    ghost use Rattle.values.specs.Reading.{IsGood};
+    ghost use Rattle.values.specs.Reading.{IsValid};
     ghost use Rattle.array_layout.specs.Placing.{layout_of};
     ghost use Rattle.array_layout.specs.Sound.{IsSound};
     ghost use Rattle.array_layout.specs.Cells.{cells};
     ghost use Rattle.array_layout.specs.Typed.{IsTyped};
-    ghost use Rattle.arrays.specs.Checked.{CheckedColumn, column_code, good_of};
+    ghost use Rattle.arrays.specs.Checked.{CheckedColumn, column_code, valid_of};
 
     ghost Value = { CheckedColumn };
 
     ghost coded = { column_code };
 
-    ghost view = { λ c. record { layouts = layout_of c.root; cells = good_of (cells c.body.value.items c.root) } };
+    ghost view = { λ c. record { layouts = layout_of c.root; cells = valid_of (cells c.body.value.items c.root) } };
 
-    ghost invariant = { λ c. IsSound c.body.value.items c.root × IsGood (cells c.body.value.items c.root) × IsTyped c.root };
+    ghost invariant = { λ c. IsSound c.body.value.items c.root × IsValid (cells c.body.value.items c.root) × IsTyped c.root };
 }
 
-/// Judges all cells of an array.
-#[tactic(auto, using(crate::proofs::ColumnCells::judged_all))]
-fn judge_cells(body: &[u8], array: &Array) -> Result<(), StreamFault>
+/// Validates all cells of an array.
+#[tactic(auto, using(crate::proofs::ColumnCells::validated_all))]
+fn validate_cells(body: &[u8], array: &Array) -> Result<(), StreamFault>
     requires { IsSound body.now array.now }
     ensures { Passes result (cells body.now array.now) }
 {
-    judge_items(body, array, 0, array.part.len)
+    validate_items(body, array, 0, array.own.len)
 }
 
-/// A copy of a cell.
-#[tactic(auto, using(crate::proofs::Typing::typing))]
+/// Copies a cell.
+#[tactic(auto, using(crate::proofs::TypeLemmas::typing))]
 fn read_cell(alloc: Global, body: &[u8], array: &Array, i: usize) -> Result<Value, AllocError>
     requires sound { IsSound body.now array.now }
     requires below { i < len_of array.now }
-    requires good { IsGood (cell body.now array.now i) }
-    requires words { IsTyped array.now }
+    requires valid { IsValid (cell body.now array.now i) }
+    requires dictionary { IsTyped array.now }
     ensures value { IfOk result (λ v. cell body.now array.now i ≡ Ok v) }
     ensures typed { IfOk result (λ v. Holds (layout_of array.now) v) }
 {
@@ -68,15 +68,15 @@ fn read_cell(alloc: Global, body: &[u8], array: &Array, i: usize) -> Result<Valu
 
 #[tactic(auto, using(crate::proofs::ColumnCells::column_laws))]
 impl Column {
-    /// Judges the buffers and the cells of one column: 22 to 27.
+    /// Checks the buffers and validates the cells of one column: 22 to 27.
     pub fn check(body: Rc<Vec<u8>>, array: Array) -> Result<Column, StreamFault>
         requires placed { IsPlaced body.value.items array }
-        requires words { IsTyped array }
+        requires dictionary { IsTyped array }
         ensures reading { Judges (λ c. c.cells) result (column_of body.value.items array) }
         ensures typed { IfOk result (λ c. c.layouts ≡ layout_of array) }
     {
         check_layout(&body, &array)?;
-        judge_cells(&body, &array)?;
+        validate_cells(&body, &array)?;
         Ok(Column { body, root: array })
     }
 
@@ -84,10 +84,10 @@ impl Column {
     pub fn len(&self) -> usize
         ensures { result ≡ length self.now.cells }
     {
-        self.root.part.len
+        self.root.own.len
     }
 
-    /// A copy of cell `i`.
+    /// Copies cell `i`.
     pub fn cell(&self, alloc: Global, i: usize) -> Result<Value, AllocError>
         requires { i < length self.now.cells }
         ensures value { IfOk result (λ v. slice_get self.now.cells i ≡ Some v) }
@@ -95,7 +95,7 @@ impl Column {
     {
         read_cell(alloc, &self.body, &self.root, i)
     }
-    /// The weight of cell `i`, which is not copied for it: exact up to the limit of a cell, and 1 more than the limit where it is above.
+    /// The weight of cell `i`, without copying it: exact up to the limit of a cell, and the limit plus 1 above it.
     pub fn weight(&self, i: usize) -> u64
         requires { i < length self.now.cells }
         ensures { IfSome (slice_get self.now.cells i) (λ d. Says result (weight self.now.layouts d)) }

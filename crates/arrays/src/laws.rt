@@ -10,7 +10,7 @@ pub fn weight_law()
 {}
 
 /// A fault stands in a cell exactly where a slot that it reaches has it.
-#[tactic(auto, using(crate::proofs::Reaching::reaching))]
+#[tactic(auto, using(crate::proofs::ReachLemmas::reaching))]
 pub fn reached_law()
     ensures found { FaultsAreReached }
     ensures stands { ReachedFaultsStand }

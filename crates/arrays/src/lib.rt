@@ -1,18 +1,18 @@
-//! Columns of any type: their cells are judged once, and then read and weighed where they lie.
+//! Columns of any type: their cells are validated once, and then read and weighed in place.
 //!
 //! A cell is a reading (`array_layout/specs/Cells.antt`): a value, or the faults of the slots that it reaches.
 #![tactic(auto)]
 
-mod calm;
+mod always_valid;
 mod column;
-mod judge;
+mod dictionary;
 mod laws;
 mod read;
 mod slots;
 #[cfg(test)]
 mod tests;
+mod validate;
 mod weigh;
-mod words;
 
 pub use column::Column;
 pub use laws::{reached_law, weight_law};

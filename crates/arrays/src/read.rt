@@ -1,17 +1,17 @@
-//! Copies of cells that were judged.
+//! Copies of validated cells.
 
 ghost use Rattle.std.specs.Prelude.{◌≡◌, ◌+◌, ◌-◌, ◌<◌, ◌≤◌, IfOk, Ok};
-ghost use Rattle.values.specs.Reading.{IsGood, each};
+ghost use Rattle.values.specs.Reading.{IsValid, each};
 ghost use Rattle.values.specs.Rose.{node, kids_of};
 ghost use Rattle.values.specs.declared.layout.Layout.TheVariants.{List as Listed, Struct};
 ghost use Rattle.array_layout.specs.Placing.{bytes_of};
 ghost use Rattle.array_layout.specs.Sound.{IsSound, AreSound, AreLong};
 ghost use Rattle.array_layout.specs.Cells.{cell, first_cell, row, value_by, items_at, len_of};
 
-use crate::judge::items_array;
+use crate::dictionary::copy_value;
 use crate::slots::{bytes_slot, is_null_slot, text_from};
-use crate::words::copy_word;
-use array_layout::{Array, Part, bit, buffer, decimal, fixed, number, offset};
+use crate::validate::items_array;
+use array_layout::{Array, ArrayData, bit, buffer, decimal, fixed, number, offset};
 use std::alloc::{AllocError, Global};
 use values::{Kind, Layout, OffsetWidth, Value};
 
@@ -20,90 +20,97 @@ use values::{Kind, Layout, OffsetWidth, Value};
 pub(crate) fn read(alloc: Global, body: &[u8], array: &Array, i: usize) -> Result<Value, AllocError>
     requires sound { IsSound body.now array.now }
     requires below { i < len_of array.now }
-    requires good { IsGood (cell body.now array.now i) }
+    requires valid { IsValid (cell body.now array.now i) }
     ensures { IfOk result (λ v. cell body.now array.now i ≡ Ok v) }
 {
-    read_slot(alloc, body, &array.part, &array.children, i)
+    read_slot(alloc, body, &array.own, &array.children, i)
 }
 
 #[cycle(read)]
-#[tactic(auto, using(crate::proofs::Copying::null_laws), unfolding(array_layout::specs::Cells::cell_by))]
+#[tactic(auto, using(crate::proofs::CopyLemmas::null_laws), unfolding(array_layout::specs::Cells::cell_by))]
 fn read_slot(
     alloc: Global,
     body: &[u8],
-    part: &Part,
+    own: &ArrayData,
     children: &[Array],
     i: usize,
 ) -> Result<Value, AllocError>
-    requires sound { IsSound body.now (node part.now (kids_of children.now)) }
-    requires below { i < part.now.len }
-    requires good { IsGood (cell body.now (node part.now (kids_of children.now)) i) }
-    ensures { IfOk result (λ v. cell body.now (node part.now (kids_of children.now)) i ≡ Ok v) }
+    requires sound { IsSound body.now (node own.now (kids_of children.now)) }
+    requires below { i < own.now.len }
+    requires valid { IsValid (cell body.now (node own.now (kids_of children.now)) i) }
+    ensures { IfOk result (λ v. cell body.now (node own.now (kids_of children.now)) i ≡ Ok v) }
 {
-    if is_null_slot(body, part, i) {
+    if is_null_slot(body, own, i) {
         return Ok(Value { kind: Kind::Null });
     }
-    match &part.words {
-        Some(words) => copy_word(alloc, body, part, words, i),
-        None => read_value(alloc, body, part, children, i),
+    match &own.dictionary {
+        Some(dictionary) => copy_value(alloc, body, own, dictionary, i),
+        None => read_value(alloc, body, own, children, i),
     }
 }
 
 /// The value of a slot that isn't null, of an array without a dictionary.
 #[cycle(read)]
-#[tactic(auto, using(crate::proofs::Copying::value_laws))]
+#[tactic(auto, using(crate::proofs::CopyLemmas::value_laws))]
 fn read_value(
     alloc: Global,
     body: &[u8],
-    part: &Part,
+    own: &ArrayData,
     children: &[Array],
     i: usize,
 ) -> Result<Value, AllocError>
-    requires sound { IsSound body.now (node part.now (kids_of children.now)) }
-    requires below { i < part.now.len }
-    requires good { IsGood (value_by part.now.layout body.now part.now (λ j. first_cell body.now (kids_of children.now) j) (λ j. row body.now (kids_of children.now) j) i) }
-    ensures { IfOk result (λ v. value_by part.now.layout body.now part.now (λ j. first_cell body.now (kids_of children.now) j) (λ j. row body.now (kids_of children.now) j) i ≡ Ok v) }
+    requires sound { IsSound body.now (node own.now (kids_of children.now)) }
+    requires below { i < own.now.len }
+    requires valid { IsValid
+        (value_by own.now.layout body.now own.now (λ j. first_cell body.now (kids_of children.now) j)
+        (λ j. row body.now (kids_of children.now) j) i) }
+    ensures { IfOk result
+        (λ v. value_by own.now.layout body.now own.now (λ j. first_cell body.now (kids_of children.now) j)
+        (λ j. row body.now (kids_of children.now) j) i ≡ Ok v) }
 {
-    let values = buffer(body, &part.values);
-    let kind = match part.layout {
-        Layout::Bits => Kind::Truth(bit(values, i)),
-        Layout::Number { width, signed } => Kind::Whole(number(values, width, signed, i)),
-        Layout::Decimal { .. } => Kind::Whole(decimal(values, i)),
-        Layout::Fixed { width } => Kind::Bytes(Vec::from_slice(
+    let values = buffer(body, &own.values);
+    let kind = match own.layout {
+        Layout::Bool => Kind::Bool(bit(values, i)),
+        Layout::Int { width, signed } => Kind::Int(number(values, width, signed, i)),
+        Layout::Decimal { .. } => Kind::Int(decimal(values, i)),
+        Layout::FixedSizeBinary { width } => Kind::Binary(Vec::from_slice(
             alloc,
             fixed(values, width as usize, i),
         )?),
-        Layout::Text { offsets } => Kind::Text(text_from(
+        Layout::Utf8 { offsets } => Kind::Utf8(text_from(
             alloc,
-            bytes_slot(body, part, offsets, i),
+            bytes_slot(body, own, offsets, i),
         )?),
-        Layout::Bytes { offsets } => Kind::Bytes(Vec::from_slice(
+        Layout::Binary { offsets } => Kind::Binary(Vec::from_slice(
             alloc,
-            bytes_slot(body, part, offsets, i),
+            bytes_slot(body, own, offsets, i),
         )?),
-        Layout::List { offsets } => Kind::List(read_list(alloc, body, part, children, offsets, i)?),
+        Layout::List { offsets } => Kind::List(read_list(alloc, body, own, children, offsets, i)?),
         Layout::Struct => Kind::Struct(read_row(alloc, body, children, i)?),
     };
     Ok(Value { kind })
 }
 
 #[cycle(read)]
-#[tactic(auto, using(crate::proofs::Copying::list_laws))]
+#[tactic(auto, using(crate::proofs::CopyLemmas::list_laws))]
 fn read_list(
     alloc: Global,
     body: &[u8],
-    part: &Part,
+    own: &ArrayData,
     children: &[Array],
     width: OffsetWidth,
     i: usize,
 ) -> Result<Vec<Value>, AllocError>
-    requires sound { IsSound body.now (node part.now (kids_of children.now)) }
-    requires listed { part.now.layout ≡ Listed width }
-    requires below { i < part.now.len }
-    requires good { IsGood (items_at (λ j. first_cell body.now (kids_of children.now) j) width (bytes_of body.now part.now.offsets) i) }
-    ensures { IfOk result (λ items. items_at (λ j. first_cell body.now (kids_of children.now) j) width (bytes_of body.now part.now.offsets) i ≡ Ok items.items) }
+    requires sound { IsSound body.now (node own.now (kids_of children.now)) }
+    requires listed { own.now.layout ≡ Listed width }
+    requires below { i < own.now.len }
+    requires valid { IsValid
+        (items_at (λ j. first_cell body.now (kids_of children.now) j) width (bytes_of body.now own.now.offsets) i) }
+    ensures { IfOk result (λ items.
+        items_at (λ j. first_cell body.now (kids_of children.now) j) width (bytes_of body.now own.now.offsets) i ≡ Ok
+        items.items) }
 {
-    let offsets = buffer(body, &part.offsets);
+    let offsets = buffer(body, &own.offsets);
     read_items(
         alloc,
         body,
@@ -115,7 +122,7 @@ fn read_list(
 
 /// The cells of the slots `from` to `to`.
 #[cycle(read)]
-#[tactic(auto, using(values::proofs::Readings::gathering, crate::proofs::Copying::left_laws))]
+#[tactic(auto, using(values::proofs::Readings::gathering, crate::proofs::CopyLemmas::left_laws))]
 fn read_items(
     alloc: Global,
     body: &[u8],
@@ -126,7 +133,7 @@ fn read_items(
     requires sound { IsSound body.now array.now }
     requires order { from ≤ to }
     requires within { to ≤ len_of array.now }
-    requires good { IsGood (each (cell body.now array.now) from (to - from)) }
+    requires valid { IsValid (each (cell body.now array.now) from (to - from)) }
     ensures { IfOk result (λ items. each (cell body.now array.now) from (to - from) ≡ Ok items.items) }
 {
     let mut items = Vec::new(alloc);
@@ -138,7 +145,7 @@ fn read_items(
 
 /// The children's cells of slot `i`.
 #[cycle(read)]
-#[tactic(auto, using(crate::proofs::Copying::row_laws))]
+#[tactic(auto, using(crate::proofs::CopyLemmas::row_laws))]
 fn read_row(
     alloc: Global,
     body: &[u8],
@@ -147,7 +154,7 @@ fn read_row(
 ) -> Result<Vec<Value>, AllocError>
     requires sound { AreSound body.now (kids_of children.now) }
     requires long { AreLong Struct (i + 1) (kids_of children.now) }
-    requires good { IsGood (row body.now (kids_of children.now) i) }
+    requires valid { IsValid (row body.now (kids_of children.now) i) }
     ensures { IfOk result (λ cells. row body.now (kids_of children.now) i ≡ Ok cells.items) }
 {
     let mut cells = Vec::new(alloc);

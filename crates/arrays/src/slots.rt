@@ -1,4 +1,4 @@
-//! What an array's own buffers hold for a slot.
+//! Reads one slot from an array's own buffers.
 
 ghost use Rattle.std.specs.Prelude.{◌≡◌, ◌*◌, ◌<◌, ◌≤◌, string_bytes, IfOk, true};
 ghost use Rattle.std.specs.Str.{is_utf8};
@@ -9,32 +9,37 @@ ghost use Rattle.array_layout.specs.Buffers.{is_null, slice_at};
 ghost use Rattle.array_layout.specs.Sound.{LiesIn, AreFit};
 ghost use Rattle.array_layout.specs.Cells.{text_of, decimal_of};
 
-use array_layout::{Part, buffer, decimal, is_null_at, slice};
+use array_layout::{ArrayData, buffer, decimal, is_null_at, slice};
 use simdutf8::basic::from_utf8;
 use std::alloc::{AllocError, Global};
 use values::{OffsetWidth, StreamFault};
 
 /// Whether slot `i` is null.
-pub(crate) fn is_null_slot(body: &[u8], part: &Part, i: usize) -> bool
-    requires lies { LiesIn body.now part.now.validity }
-    requires bits { 0 < part.now.validity.len → part.now.len ≤ 8 * part.now.validity.len }
-    requires below { i < part.now.len }
-    ensures { result ≡ is_null (bytes_of body.now part.now.validity) i }
+pub(crate) fn is_null_slot(body: &[u8], own: &ArrayData, i: usize) -> bool
+    requires lies { LiesIn body.now own.now.validity }
+    requires bits { 0 < own.now.validity.len → own.now.len ≤ 8 * own.now.validity.len }
+    requires below { i < own.now.len }
+    ensures { result ≡ is_null (bytes_of body.now own.now.validity) i }
 {
-    is_null_at(buffer(body, &part.validity), i)
+    is_null_at(buffer(body, &own.validity), i)
 }
 
 /// The bytes of slot `i`.
-pub(crate) fn bytes_slot<'a>(body: &'a [u8], part: &Part, width: OffsetWidth, i: usize) -> &'a [u8]
-    requires offsets { LiesIn body.now part.now.offsets }
-    requires values { LiesIn body.now part.now.values }
-    requires fit { AreFit width (bytes_of body.now part.now.offsets) part.now.len part.now.values.len }
-    requires below { i < part.now.len }
-    ensures { result.now ≡ slice_at width (bytes_of body.now part.now.offsets) (bytes_of body.now part.now.values) i }
+pub(crate) fn bytes_slot<'a>(
+    body: &'a [u8],
+    own: &ArrayData,
+    width: OffsetWidth,
+    i: usize,
+) -> &'a [u8]
+    requires offsets { LiesIn body.now own.now.offsets }
+    requires values { LiesIn body.now own.now.values }
+    requires fit { AreFit width (bytes_of body.now own.now.offsets) own.now.len own.now.values.len }
+    requires below { i < own.now.len }
+    ensures { result.now ≡ slice_at width (bytes_of body.now own.now.offsets) (bytes_of body.now own.now.values) i }
 {
     slice(
-        buffer(body, &part.offsets),
-        buffer(body, &part.values),
+        buffer(body, &own.offsets),
+        buffer(body, &own.values),
         width,
         i,
     )
@@ -48,8 +53,8 @@ fn is_text(bytes: &[u8]) -> bool
     from_utf8(bytes).is_ok()
 }
 
-/// Judges a text.
-pub(crate) fn judge_text(bytes: &[u8]) -> Result<(), StreamFault>
+/// Validates a text.
+pub(crate) fn validate_text(bytes: &[u8]) -> Result<(), StreamFault>
     ensures { Passes result (text_of bytes.now) }
 {
     if is_text(bytes) {
@@ -59,9 +64,9 @@ pub(crate) fn judge_text(bytes: &[u8]) -> Result<(), StreamFault>
     }
 }
 
-/// Judges a decimal's digits.
+/// Validates the digits of a decimal.
 #[tactic(auto, using(crate::proofs::Powers::powers))]
-pub(crate) fn judge_decimal(number: i128, precision: u8) -> Result<(), StreamFault>
+pub(crate) fn validate_decimal(number: i128, precision: u8) -> Result<(), StreamFault>
     requires { precision ≤ max_precision }
     ensures { Passes result (decimal_of precision number) }
 {
@@ -72,7 +77,7 @@ pub(crate) fn judge_decimal(number: i128, precision: u8) -> Result<(), StreamFau
     }
 }
 
-/// A text of its own from bytes that are known to be one.
+/// Copies bytes that are known to be UTF-8.
 #[tactic(auto, using(crate::proofs::Texts::text_tests))]
 pub(crate) fn text_from(alloc: Global, bytes: &[u8]) -> Result<String, AllocError>
     requires { is_utf8 bytes.now ≡ true }

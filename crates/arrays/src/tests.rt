@@ -3,11 +3,11 @@
 ghost use Rattle.std.specs.Prelude.{All, IfOk};
 ghost use Rattle.values.specs.Rose.{node, none};
 ghost use Rattle.values.specs.declared.layout.OffsetWidth.TheVariants as offset;
-ghost use Rattle.values.specs.declared.layout.Layout.TheVariants.{Bytes};
+ghost use Rattle.values.specs.declared.layout.Layout.TheVariants.{Binary};
 ghost use Rattle.values.specs.Layouts.{IsNode, Holds};
 
 use crate::Column;
-use array_layout::{Array, Part, Span, Words};
+use array_layout::{Array, ArrayData, BufferRange, DictionaryValues};
 use dictionaries::{Dictionary, Dicts};
 use std::alloc::{AllocError, Global};
 use std::rc::Rc;
@@ -15,11 +15,11 @@ use std::test::Fail;
 use values::limits::{MAX_CELL_WEIGHT, MAX_NODE_LENGTH};
 use values::{IntWidth, Kind, Layout, OffsetWidth, StreamFault, Value};
 
-const NOWHERE: Span = Span { from: 0, len: 0 };
+const NOWHERE: BufferRange = BufferRange { from: 0, len: 0 };
 
 fn is_truth(value: &Value, truth: bool) -> bool {
     match &value.kind {
-        Kind::Truth(found) => *found == truth,
+        Kind::Bool(found) => *found == truth,
         _ => false,
     }
 }
@@ -66,17 +66,17 @@ fn weight_at(column: &Column, i: usize) -> u64 {
 fn the_ninth_bit_is_null(rt: HostRuntime) -> Result<(), Fail> {
     let alloc = rt.alloc();
     let body = Rc::new(alloc, vec![in alloc; 0xFF, 0xFE, 0x55, 0xFF]?)?;
-    let part = Part {
-        layout: Layout::Bits,
-        words: None,
+    let own = ArrayData {
+        layout: Layout::Bool,
+        dictionary: None,
         len: 9,
         nulls: 1,
-        validity: Span { from: 0, len: 2 },
+        validity: BufferRange { from: 0, len: 2 },
         offsets: NOWHERE,
-        values: Span { from: 2, len: 2 },
+        values: BufferRange { from: 2, len: 2 },
     };
     let root = Array {
-        part,
+        own,
         children: Vec::new(alloc),
     };
     let column = Column::check(body, root)?;
@@ -98,48 +98,48 @@ fn a_text_under_a_null_is_not_reached(rt: HostRuntime) -> Result<(), Fail> {
             1, 5, 6, 0, 0, 0, 0, 1, 0, 0, 0, 3, 0, 0, 0, 0x78, 0xFF, 0xFF,
         ]?,
     )?;
-    let numbers = Part {
-        layout: Layout::Number {
+    let numbers = ArrayData {
+        layout: Layout::Int {
             width: IntWidth::Bits8,
             signed: true,
         },
-        words: None,
+        dictionary: None,
         len: 2,
         nulls: 0,
         validity: NOWHERE,
         offsets: NOWHERE,
-        values: Span { from: 1, len: 2 },
+        values: BufferRange { from: 1, len: 2 },
     };
-    let texts = Part {
-        layout: Layout::Text {
+    let texts = ArrayData {
+        layout: Layout::Utf8 {
             offsets: OffsetWidth::Bits32,
         },
-        words: None,
+        dictionary: None,
         len: 2,
         nulls: 0,
         validity: NOWHERE,
-        offsets: Span { from: 3, len: 12 },
-        values: Span { from: 15, len: 3 },
+        offsets: BufferRange { from: 3, len: 12 },
+        values: BufferRange { from: 15, len: 3 },
     };
-    let part = Part {
+    let own = ArrayData {
         layout: Layout::Struct,
-        words: None,
+        dictionary: None,
         len: 2,
         nulls: 1,
-        validity: Span { from: 0, len: 1 },
+        validity: BufferRange { from: 0, len: 1 },
         offsets: NOWHERE,
         values: NOWHERE,
     };
     let number_child = Array {
-        part: numbers,
+        own: numbers,
         children: Vec::new(alloc),
     };
     let text_child = Array {
-        part: texts,
+        own: texts,
         children: Vec::new(alloc),
     };
     let root = Array {
-        part,
+        own,
         children: vec![in alloc; number_child, text_child]?,
     };
     let column = Column::check(body, root)?;
@@ -155,32 +155,32 @@ fn list_of(alloc: Global, layout: Layout) -> Result<Column, Fail>
     requires { IsNode layout none }
 {
     let body = Rc::new(alloc, vec![in alloc; 0, 0, 0, 0, 0xFF, 0xFF, 0xFF, 0x7F]?)?;
-    let items = Part {
+    let items = ArrayData {
         layout,
-        words: None,
+        dictionary: None,
         len: MAX_NODE_LENGTH,
         nulls: 0,
         validity: NOWHERE,
         offsets: NOWHERE,
         values: NOWHERE,
     };
-    let part = Part {
+    let own = ArrayData {
         layout: Layout::List {
             offsets: OffsetWidth::Bits32,
         },
-        words: None,
+        dictionary: None,
         len: 1,
         nulls: 0,
         validity: NOWHERE,
-        offsets: Span { from: 0, len: 8 },
+        offsets: BufferRange { from: 0, len: 8 },
         values: NOWHERE,
     };
     let child = Array {
-        part: items,
+        own: items,
         children: Vec::new(alloc),
     };
     let root = Array {
-        part,
+        own,
         children: vec![in alloc; child]?,
     };
     Ok(Column::check(body, root)?)
@@ -189,7 +189,7 @@ fn list_of(alloc: Global, layout: Layout) -> Result<Column, Fail>
 #[test]
 fn items_without_bytes_are_weighed_at_once(rt: HostRuntime) -> Result<(), Fail> {
     let alloc = rt.alloc();
-    let empty = list_of(alloc, Layout::Fixed { width: 0 })?;
+    let empty = list_of(alloc, Layout::FixedSizeBinary { width: 0 })?;
     assert!(rt; weight_at(&empty, 0) > MAX_CELL_WEIGHT);
     let bare = list_of(alloc, Layout::Struct)?;
     assert!(rt; weight_at(&bare, 0) > MAX_CELL_WEIGHT);
@@ -197,16 +197,16 @@ fn items_without_bytes_are_weighed_at_once(rt: HostRuntime) -> Result<(), Fail> 
 }
 
 fn bytes_value(alloc: Global, bytes: &[u8]) -> Result<Value, AllocError>
-    ensures { IfOk result (λ v. Holds (node (Bytes offset.Bits32) none) v) }
+    ensures { IfOk result (λ v. Holds (node (Binary offset.Bits32) none) v) }
 {
     Ok(Value {
-        kind: Kind::Bytes(Vec::from_slice(alloc, bytes)?),
+        kind: Kind::Binary(Vec::from_slice(alloc, bytes)?),
     })
 }
 
 /// A dictionary of the values 1 and 2, 3.
 fn dictionary(alloc: Global) -> Result<Dictionary, Fail>
-    ensures { IfOk result (λ d. All (Holds (node (Bytes offset.Bits32) none)) d) }
+    ensures { IfOk result (λ d. All (Holds (node (Binary offset.Bits32) none)) d) }
 {
     let short = bytes_value(alloc, &[1])?;
     let long = bytes_value(alloc, &[2, 3])?;
@@ -225,26 +225,26 @@ fn coded(
     second: u8,
 ) -> Result<Result<Column, StreamFault>, Fail> {
     let body = Rc::new(alloc, vec![in alloc; valid, first, second]?)?;
-    let words = Words {
-        layout: Layout::Bytes {
+    let dictionary = DictionaryValues {
+        layout: Layout::Binary {
             offsets: OffsetWidth::Bits32,
         },
         values: dictionary(alloc)?,
     };
-    let part = Part {
-        layout: Layout::Number {
+    let own = ArrayData {
+        layout: Layout::Int {
             width: IntWidth::Bits8,
             signed: true,
         },
-        words: Some(words),
+        dictionary: Some(dictionary),
         len: 2,
         nulls,
-        validity: Span { from: 0, len: 1 },
+        validity: BufferRange { from: 0, len: 1 },
         offsets: NOWHERE,
-        values: Span { from: 1, len: 2 },
+        values: BufferRange { from: 1, len: 2 },
     };
     let root = Array {
-        part,
+        own,
         children: Vec::new(alloc),
     };
     Ok(Column::check(body, root))
@@ -253,7 +253,7 @@ fn coded(
 fn has_bytes(column: &Column, alloc: Global, i: usize, wanted: &[u8]) -> Result<bool, AllocError> {
     match cell_at(column, alloc, i)? {
         Some(value) => match &value.kind {
-            Kind::Bytes(bytes) => Ok(bytes.as_slice() == wanted),
+            Kind::Binary(bytes) => Ok(bytes.as_slice() == wanted),
             _ => Ok(false),
         },
         None => Ok(false),

@@ -1,5 +1,5 @@
 pub mod Runs
-pub mod Packing
-pub mod Pushing
-pub mod Making
+pub mod PackLemmas
+pub mod PushLemmas
+pub mod KernelLemmas
 pub mod Sample

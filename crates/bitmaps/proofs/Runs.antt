@@ -1,5 +1,23 @@
 -- Runs of bits.
-use Rattle.std.proofs.Common.{◌≡◌, ℕ, zero, suc, ◌+◌, ◌<◌, ◌≤◌, List, [], ◌∷◌, length, get_or, drop, refl, ap, ◌∙◌, arith}
+use Rattle.std.proofs.Common.{
+  ◌≡◌,
+  ℕ,
+  zero,
+  suc,
+  ◌+◌,
+  ◌<◌,
+  ◌≤◌,
+  List,
+  [],
+  ◌∷◌,
+  length,
+  get_or,
+  drop,
+  refl,
+  ap,
+  ◌∙◌,
+  arith,
+}
 use Rattle.std.specs.Prelude.{Bool, true, false, if◌then◌else◌, slice_get, Some, None}
 use Rattle.std.proofs.lemmas.List.{drop_all, drop_more}
 use Rattle.std.proofs.lemmas.Option.{slice_get-get_or, slice_get_past}
@@ -17,7 +35,8 @@ get_or-bits_at bytes i (suc n) zero h = ap (bit_at bytes) (omega arith)
 get_or-bits_at bytes i (suc n) (suc k) h =
     get_or-bits_at bytes (i + 1) n k (omega (arith, h)) ∙ ap (bit_at bytes) (omega arith)
 
-pub ones-step : (bs : List Bool) (i : ℕ) → i < length bs → ones (drop i bs) ≡ (if get_or bs i false then 1 else 0) + ones (drop (i + 1) bs)
+pub ones-step : (bs : List Bool) (i : ℕ) → i < length bs
+    → ones (drop i bs) ≡ (if get_or bs i false then 1 else 0) + ones (drop (i + 1) bs)
 unfolding ones
 ones-step bs i h = ap ones (drop_more bs i false h)
 

@@ -1,5 +1,23 @@
 -- The bits of a bitmap (Arrow Columnar Format, "Validity bitmaps"), and what is made of lists of them.
-use Rattle.std.specs.Prelude.{ℕ, zero, suc, ◌+◌, ◌*◌, ◌/◌, ◌%◌, ◌^◌, ◌≤◌, ◌==◌, Bool, if◌then◌else◌, List, [], ◌∷◌, length, slice_index}
+use Rattle.std.specs.Prelude.{
+  ℕ,
+  zero,
+  suc,
+  ◌+◌,
+  ◌*◌,
+  ◌/◌,
+  ◌%◌,
+  ◌^◌,
+  ◌≤◌,
+  ◌==◌,
+  Bool,
+  if◌then◌else◌,
+  List,
+  [],
+  ◌∷◌,
+  length,
+  slice_index,
+}
 
 -- bit i: bit i mod 8, least significant first, of byte i / 8
 abbrev pub bit_at : List ℕ → ℕ → Bool

@@ -1,4 +1,4 @@
-//! Bits of one's own.
+//! Owned bitmaps.
 
 ghost use Rattle.std.specs.Prelude.{◌≡◌, ◌+◌, ◌<◌, ◌++◌, ◌∷◌, ◌^◌, [], length, IfOk, OnErr};
 ghost use Rattle.bitmaps.specs.Bits.{bits_at};
@@ -28,7 +28,7 @@ impl Model for Bitmap {
 }
 
 /// Adds a bit to the `len` that the bytes hold.
-#[tactic(auto, using(crate::proofs::Pushing::pushing))]
+#[tactic(auto, using(crate::proofs::PushLemmas::pushing))]
 fn push_bit(bytes: &mut Vec<u8>, len: usize, bit: bool) -> Result<(), AllocError>
     requires { IsPacked bytes.old.items len }
     ensures pushed { IfOk result (λ _. bytes.new.items ≡ bytes_of (bits_at bytes.old.items 0 len ++ bit ∷ [])) }
@@ -43,7 +43,7 @@ fn push_bit(bytes: &mut Vec<u8>, len: usize, bit: bool) -> Result<(), AllocError
     Ok(())
 }
 
-#[tactic(auto, using(crate::proofs::Packing::packing))]
+#[tactic(auto, using(crate::proofs::PackLemmas::packing))]
 impl Bitmap {
     /// No bits. It takes no memory.
     pub fn new(alloc: Global) -> Bitmap

@@ -1,4 +1,4 @@
-//! Bits where they lie.
+//! Borrowed views of bitmaps.
 
 ghost use Rattle.std.specs.Prelude.{◌≡◌, ◌+◌, ◌<◌, ◌^◌, length, false, get_or, nat_eq, slice_get};
 ghost use Rattle.bitmaps.specs.Bits.{HasBits, bit_at, bits_at, ones};

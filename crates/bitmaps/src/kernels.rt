@@ -1,4 +1,4 @@
-//! What is made of bitmaps bit by bit.
+//! Bitwise kernels over bitmaps: and, or, not, select.
 
 ghost use Rattle.std.specs.Prelude.{◌≡◌, ◌&&◌, ◌||◌, not, map, length, if◌then◌else◌, IfOk};
 ghost use Rattle.bitmaps.specs.Bits.{pairwise, selected};
@@ -13,7 +13,7 @@ fn pick(mask: bool, yes: bool, no: bool) -> bool
     if mask { yes } else { no }
 }
 
-#[tactic(auto, using(crate::proofs::Making::making, crate::proofs::Runs::runs))]
+#[tactic(auto, using(crate::proofs::KernelLemmas::making, crate::proofs::Runs::runs))]
 impl<'a> Bits<'a> {
     /// 1 where both bits are.
     pub fn and(&self, alloc: Global, other: &Bits<'_>) -> Result<Bitmap, AllocError>

@@ -1,5 +1,28 @@
 -- What cells are, for the functions that read them.
-use Rattle.std.proofs.Common.{◌≡◌, ℕ, ◌+◌, ◌<◌, ◌^◌, List, [], ◌∷◌, ◌++◌, length, get_or, drop, Option, None, Some, refl, ap, sym, ◌∙◌, ◌≤◌, append-nil, arith}
+use Rattle.std.proofs.Common.{
+  ◌≡◌,
+  ℕ,
+  ◌+◌,
+  ◌<◌,
+  ◌^◌,
+  List,
+  [],
+  ◌∷◌,
+  ◌++◌,
+  length,
+  get_or,
+  drop,
+  Option,
+  None,
+  Some,
+  refl,
+  ap,
+  sym,
+  ◌∙◌,
+  ◌≤◌,
+  append-nil,
+  arith,
+}
 use Rattle.std.specs.Prelude.{unwrap_or, Bool, map, ◌≢◌}
 use Rattle.std.specs.Option.{option_copied}
 use Rattle.std.proofs.lemmas.List.{drop_all, drop_more, length-map}
@@ -9,7 +32,7 @@ use Rattle.body_writer.specs.Columns.{validity}
 use Rattle.values.specs.Rose.{Rose}
 use Rattle.values.specs.declared.layout.Layout.{Layout}
 use Rattle.values.specs.Weights.{weights}
-use Rattle.body_writer.proofs.Weighing.{weights-long}
+use Rattle.body_writer.proofs.WeightLemmas.{weights-long}
 use denote.Ref.{Bor}
 use Rattle.values.specs.Datum.{Datum, null, list, structure, items_of}
 use Rattle.body_writer.specs.Slots.{cell_of, cells_of, is_valid, items_in, null_count, listed, length_in, part}
@@ -32,8 +55,9 @@ part-read (Some r) j ds c e is = e ∙ sym (part-listed j ds) ∙ ap (part j) (s
 
 pub ruleset reading = (length-listed, listed-items_of)
 
-pub cells-at : (cells : List (Option (Bor Datum))) (i : ℕ) (cell : Option (Bor Datum)) → i < length cells → cell ≡ get_or cells i cell →
-    cells_of (drop i cells) ≡ cell_of cell ∷ cells_of (drop (i + 1) cells)
+pub cells-at : (cells : List (Option (Bor Datum))) (i : ℕ) (cell : Option (Bor Datum)) → i < length cells
+    → cell ≡ get_or cells i cell
+    → cells_of (drop i cells) ≡ cell_of cell ∷ cells_of (drop (i + 1) cells)
 cells-at cells i cell h e =
     ap cells_of (drop_more cells i cell h) ∙ ap (λ c. cell_of c ∷ cells_of (drop (i + 1) cells)) (sym e)
 
@@ -43,7 +67,8 @@ pub validity-none : (cs : List Datum) → null_count cs ≡ 0 → bytes_of [] �
 unfolding bytes_of validity
 validity-none cs h = rw h refl
 
-pub validity-some : (cs : List Datum) (set : List Bool) → null_count cs ≢ 0 → set ≡ map is_valid cs → bytes_of set ≡ validity cs
+pub validity-some : (cs : List Datum) (set : List Bool) → null_count cs ≢ 0 → set ≡ map is_valid cs
+    → bytes_of set ≡ validity cs
 unfolding validity
 validity-some cs set h e = rw e (grind (arith, nat_tests))
 
@@ -64,7 +89,8 @@ items-read c ds items made before i is same h e =
     sym (append-nil made) ∙ ap (λ rest. made ++ rest) (sym (drop_all i items h)) ∙ e
     ∙ ap (λ xs. before ++ xs) (same ∙ sym (listed-items_of ds) ∙ ap items_in (sym is))
 
-pub few-cells : (t : Rose Layout) (cells : List (Option (Bor Datum))) → weights t (cells_of cells) < 2 ^ 31 → length cells < 2 ^ 31
+pub few-cells : (t : Rose Layout) (cells : List (Option (Bor Datum))) → weights t (cells_of cells) < 2 ^ 31
+    → length cells < 2 ^ 31
 few-cells t cells h =
     let same = length-map cells cell_of in
     let long = weights-long t (cells_of cells) in

@@ -1,5 +1,28 @@
 -- Numbers that are written are read back.
-use Rattle.std.proofs.Common.{◌≡◌, ℕ, suc, ◌+◌, ◌*◌, ◌-◌, ◌^◌, ◌<◌, ◌≤◌, List, length, take, drop, get_or, true, false, Bool, Ok, refl, ap, ◌∙◌, arith}
+use Rattle.std.proofs.Common.{
+  ◌≡◌,
+  ℕ,
+  suc,
+  ◌+◌,
+  ◌*◌,
+  ◌-◌,
+  ◌^◌,
+  ◌<◌,
+  ◌≤◌,
+  List,
+  length,
+  take,
+  drop,
+  get_or,
+  true,
+  false,
+  Bool,
+  Ok,
+  refl,
+  ap,
+  ◌∙◌,
+  arith,
+}
 use Rattle.std.specs.Prelude.{pos, negsuc, ℤ, nat_abs, ◌-ℤ◌}
 use Rattle.std.specs.Int.{w128, cast_unsigned}
 use Rattle.std.specs.List.{flat_map}
@@ -14,7 +37,7 @@ use Rattle.values.specs.Datum.{Datum, null, whole}
 use Rattle.values.specs.declared.layout.IntWidth.{IntWidth}
 use Rattle.values.specs.declared.layout.IntWidth.TheVariants as int
 use Rattle.values.specs.Layouts.{bytes_in as width_of, FitsIn}
-use Rattle.array_layout.specs.Buffers.{word_at, number_by, number_at, fixed_at}
+use Rattle.array_layout.specs.Buffers.{unsigned_at, number_by, number_at, fixed_at}
 use Rattle.array_layout.specs.Sound.{slots_of}
 use Rattle.body_writer.specs.Slots.{whole_in, number_in, fixed_in}
 use Rattle.body_writer.specs.Columns.{numbers, fixed}
@@ -33,11 +56,13 @@ numbers-length w cs = length-even (number_bytes w) w cs (one-width w cs)
 abbrev IsSmall : ℕ → Type 0
 IsSmall w = (c : Datum) → number_in w c < 256 ^ w
 
-pub word-read : (w : ℕ) (cs : List Datum) (i : ℕ) → IsSmall w → i < length cs → word_at w (numbers w cs) i ≡ number_in w (get_or cs i null)
-unfolding word_at numbers
-word-read w cs i small h =
+pub unsigned-read : (w : ℕ) (cs : List Datum) (i : ℕ) → IsSmall w → i < length cs
+    → unsigned_at w (numbers w cs) i ≡ number_in w (get_or cs i null)
+unfolding unsigned_at numbers
+unsigned-read w cs i small h =
     let p = even-at (number_bytes w) w cs i h (one-width w cs) in
-    ap (little_number w) p.1 ∙ little_number-reads_back w (number_in w (get_or cs i null)) p.0 (small (get_or cs i null))
+    ap (little_number w) p.1
+    ∙ little_number-reads_back w (number_in w (get_or cs i null)) p.0 (small (get_or cs i null))
 
 small-1 : IsSmall 1
 small-1 c = mod-lt (cast_unsigned w128 (whole_in c)) {m = 2 ^ 8} (omega arith)
@@ -105,7 +130,8 @@ back-8 (negsuc k) h = back-high 8 (low_bytes w128 8 (negsuc k)) k (omega (arith,
 
 back-16 : IsBack 16
 back-16 (pos k) h = back-low 16 (low_bytes w128 16 (pos k)) k (omega (arith, ints, h.1)) (omega (arith, ints, h.1))
-back-16 (negsuc k) h = back-high 16 (low_bytes w128 16 (negsuc k)) k (omega (arith, ints, h.0)) (omega (arith, ints, h.0))
+back-16 (negsuc k) h =
+    back-high 16 (low_bytes w128 16 (negsuc k)) k (omega (arith, ints, h.0)) (omega (arith, ints, h.0))
 
 signed-back : (w : IntWidth) → IsBack (width_of w)
 signed-back int.Bits8 = back-1
@@ -113,31 +139,38 @@ signed-back int.Bits16 = back-2
 signed-back int.Bits32 = back-4
 signed-back int.Bits64 = back-8
 
-low-back : (s : Bool) (w : IntWidth) (z : ℤ) → FitsIn s (width_of w) z → number_by s (width_of w) (low_bytes w128 (width_of w) z) ≡ z
+low-back : (s : Bool) (w : IntWidth) (z : ℤ) → FitsIn s (width_of w) z
+    → number_by s (width_of w) (low_bytes w128 (width_of w) z) ≡ z
 low-back true w z h = signed-back w z h
 low-back false w z h = unsigned-back w z h
 
 pub number-back :
-    (s : Bool) (w : IntWidth) (cs : List Datum) (i : ℕ) (z : ℤ) → i < length cs → get_or cs i null ≡ whole z → FitsIn s (width_of w) z
+    (s : Bool) (w : IntWidth) (cs : List Datum) (i : ℕ) (z : ℤ) → i < length cs → get_or cs i null ≡ whole z
+    → FitsIn s (width_of w) z
     → number_at s (width_of w) (numbers (width_of w) cs) i ≡ z
 unfolding number_at
 number-back s w cs i z h e fits =
-    ap (number_by s (width_of w)) (word-read (width_of w) cs i (small w) h ∙ ap (number_in (width_of w)) e) ∙ low-back s w z fits
+    ap (number_by s (width_of w)) (unsigned-read (width_of w) cs i (small w) h ∙ ap (number_in (width_of w)) e)
+    ∙ low-back s w z fits
 
 -- decimals have less than 2^127
 digits : (p : ℕ) → p ≤ max_precision → 10 ^ p ≤ 10 ^ max_precision
 digits p h = pow-le-pow_right (omega arith) h
 
 decimal-fits : (p : ℕ) (z : ℤ) → p ≤ max_precision → nat_abs z < 10 ^ p → FitsIn true 16 z
-decimal-fits p (pos k) h small = let most = digits p h in (omega (arith, ints, most, small), omega (arith, ints, most, small))
-decimal-fits p (negsuc k) h small = let most = digits p h in (omega (arith, ints, most, small), omega (arith, ints, most, small))
+decimal-fits p (pos k) h small = let most = digits p h in
+    (omega (arith, ints, most, small), omega (arith, ints, most, small))
+decimal-fits p (negsuc k) h small = let most = digits p h in
+    (omega (arith, ints, most, small), omega (arith, ints, most, small))
 
 pub decimal-back :
-    (p : ℕ) (cs : List Datum) (i : ℕ) (z : ℤ) → p ≤ max_precision → i < length cs → get_or cs i null ≡ whole z → nat_abs z < 10 ^ p
+    (p : ℕ) (cs : List Datum) (i : ℕ) (z : ℤ) → p ≤ max_precision → i < length cs → get_or cs i null ≡ whole z
+    → nat_abs z < 10 ^ p
     → number_at true 16 (numbers 16 cs) i ≡ z
 unfolding number_at
 decimal-back p cs i z most h e fits =
-    ap (twos_complement 16) (word-read 16 cs i small-16 h ∙ ap (number_in 16) e) ∙ back-16 z (decimal-fits p z most fits)
+    ap (twos_complement 16) (unsigned-read 16 cs i small-16 h ∙ ap (number_in 16) e)
+    ∙ back-16 z (decimal-fits p z most fits)
 
 -- room for each slot
 
@@ -157,7 +190,8 @@ fixed-length w cs even = length-even (fixed_in w) w cs even
 pub fixed-sound : (w : ℕ) (cs : List Datum) → HaveWidth (fixed_in w) w cs → slots_of w (fixed w cs) (length cs) ≡ Ok tt
 fixed-sound w cs even = room-sound w (fixed w cs) (length cs) (fixed-length w cs even)
 
-pub fixed-back : (w : ℕ) (cs : List Datum) (i : ℕ) → i < length cs → HaveWidth (fixed_in w) w cs → fixed_at w (fixed w cs) i ≡ fixed_in w (get_or cs i null)
+pub fixed-back : (w : ℕ) (cs : List Datum) (i : ℕ) → i < length cs → HaveWidth (fixed_in w) w cs
+    → fixed_at w (fixed w cs) i ≡ fixed_in w (get_or cs i null)
 unfolding fixed_at fixed
 fixed-back w cs i h even =
     let p = even-at (fixed_in w) w cs i h even in

@@ -1,5 +1,29 @@
 -- What cells give, one after the other, is found where it stands.
-use Rattle.std.proofs.Common.{◌≡◌, ℕ, zero, suc, ◌+◌, ◌*◌, ◌<◌, ◌≤◌, List, [], ◌∷◌, ◌++◌, length, get_or, drop, refl, ap, sym, ◌∙◌, arith, length-append, length-drop, Ok}
+use Rattle.std.proofs.Common.{
+  ◌≡◌,
+  ℕ,
+  zero,
+  suc,
+  ◌+◌,
+  ◌*◌,
+  ◌<◌,
+  ◌≤◌,
+  List,
+  [],
+  ◌∷◌,
+  ◌++◌,
+  length,
+  get_or,
+  drop,
+  refl,
+  ap,
+  sym,
+  ◌∙◌,
+  arith,
+  length-append,
+  length-drop,
+  Ok,
+}
 use Rattle.std.specs.Prelude.{map}
 use Rattle.std.specs.List.{flat_map}
 use Rattle.std.proofs.lemmas.List.{drop_at, drop-drop, length-map}
@@ -45,7 +69,8 @@ unfolding total
 total-lengths f [] = refl
 total-lengths f (c ∷ cs) = let rest = total-lengths f cs in omega (arith, rest, length-append (f c) (flat_map f cs))
 
-pub lengths-at : {A : Type 0} (f : Datum → List A) (cs : List Datum) (i : ℕ) → i < length cs → get_or (lengths f cs) i 0 ≡ length (f (get_or cs i null))
+pub lengths-at : {A : Type 0} (f : Datum → List A) (cs : List Datum) (i : ℕ) → i < length cs
+    → get_or (lengths f cs) i 0 ≡ length (f (get_or cs i null))
 lengths-at f [] i h = absurd (omega (arith, h))
 lengths-at f (c ∷ cs) zero h = refl
 lengths-at f (c ∷ cs) (suc i) h = lengths-at f cs i (omega (arith, h))
@@ -69,7 +94,8 @@ piece-at f (c ∷ cs) (suc i) h =
 abbrev pub HaveWidth : {A : Type 0} → (Datum → List A) → ℕ → List Datum → Type 0
 HaveWidth f w cs = (i : ℕ) → i < length cs → length (f (get_or cs i null)) ≡ w
 
-pub start-even : {A : Type 0} (f : Datum → List A) (w : ℕ) (cs : List Datum) (i : ℕ) → i ≤ length cs → HaveWidth f w cs → start i (lengths f cs) ≡ w * i
+pub start-even : {A : Type 0} (f : Datum → List A) (w : ℕ) (cs : List Datum) (i : ℕ) → i ≤ length cs → HaveWidth f w cs
+    → start i (lengths f cs) ≡ w * i
 unfolding start
 start-even f w cs zero h even = omega arith
 start-even f w [] (suc i) h even = absurd (omega (arith, h))
@@ -86,7 +112,8 @@ even-at f w cs i h even =
     let p = piece-at f cs i h in
     (p.0, ap (λ n. drop n (flat_map f cs)) (sym (start-even f w cs i (omega (arith, h)) even)) ∙ p.1)
 
-pub length-even : {A : Type 0} (f : Datum → List A) (w : ℕ) (cs : List Datum) → HaveWidth f w cs → length (flat_map f cs) ≡ w * length cs
+pub length-even : {A : Type 0} (f : Datum → List A) (w : ℕ) (cs : List Datum) → HaveWidth f w cs
+    → length (flat_map f cs) ≡ w * length cs
 length-even f w cs even =
     let same = length-map cs (λ c. length (f c)) in
     sym (total-lengths f cs) ∙ sym (start-all (lengths f cs)) ∙ ap (λ n. start n (lengths f cs)) same
@@ -94,19 +121,22 @@ length-even f w cs even =
 
 -- n readings in a row
 
-run-inside : {X : Type 0} (all : List X) (from : ℕ) (x : X) (rest : List X) → drop from all ≡ x ∷ rest → from < length all
+run-inside : {X : Type 0} (all : List X) (from : ℕ) (x : X) (rest : List X) → drop from all ≡ x ∷ rest
+    → from < length all
 run-inside all from x rest e =
     let some = ap length e in
     let left = length-drop from all in
     omega (arith, some, left)
 
-run-first : {X : Type 0} (d : X) (all : List X) (from : ℕ) (x : X) (rest : List X) → drop from all ≡ x ∷ rest → get_or all from d ≡ x
+run-first : {X : Type 0} (d : X) (all : List X) (from : ℕ) (x : X) (rest : List X) → drop from all ≡ x ∷ rest
+    → get_or all from d ≡ x
 run-first d [] zero x rest e = absurd (omega (arith, ap length e))
 run-first d [] (suc k) x rest e = absurd (omega (arith, ap length e))
 run-first d (y ∷ all) zero x rest e = ap (λ zs. get_or zs 0 d) e
 run-first d (y ∷ all) (suc k) x rest e = run-first d all k x rest e
 
-run-next : {X : Type 0} (all : List X) (from : ℕ) (x : X) (rest : List X) → drop from all ≡ x ∷ rest → drop (from + 1) all ≡ rest
+run-next : {X : Type 0} (all : List X) (from : ℕ) (x : X) (rest : List X) → drop from all ≡ x ∷ rest
+    → drop (from + 1) all ≡ rest
 run-next all from x rest e = sym (drop-drop 1 from all) ∙ ap (λ zs. drop 1 zs) e
 
 pub each-run :

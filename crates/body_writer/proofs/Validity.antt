@@ -1,5 +1,33 @@
 -- A validity bitmap that is written is read back.
-use Rattle.std.proofs.Common.{◌≡◌, ℕ, zero, suc, ◌+◌, ◌*◌, ◌/◌, ◌<◌, ◌≤◌, ◌==◌, List, [], ◌∷◌, length, get_or, true, false, Bool, Ok, refl, ap, sym, subst, ◌∙◌, arith, inl, inr}
+use Rattle.std.proofs.Common.{
+  ◌≡◌,
+  ℕ,
+  zero,
+  suc,
+  ◌+◌,
+  ◌*◌,
+  ◌/◌,
+  ◌<◌,
+  ◌≤◌,
+  ◌==◌,
+  List,
+  [],
+  ◌∷◌,
+  length,
+  get_or,
+  true,
+  false,
+  Bool,
+  Ok,
+  refl,
+  ap,
+  sym,
+  subst,
+  ◌∙◌,
+  arith,
+  inl,
+  inr,
+}
 use Rattle.std.specs.Prelude.{map, pos, ℤ, not, if◌then◌else◌}
 use Rattle.std.specs.Ordering.{int_eq}
 use Rattle.std.proofs.lemmas.Cmp.{int_eq_equiv}
@@ -8,7 +36,7 @@ use Rattle.std.proofs.lemmas.Bool.Decides.{nat_tests}
 use Rattle.std.proofs.lemmas.List.{length-map, get_or-map}
 use Rattle.bitmaps.specs.Bits.{bit_at, bits_at, ones}
 use Rattle.bitmaps.specs.Packed.{bytes_of}
-use Rattle.bitmaps.proofs.Packing.{bits-back, length-bytes_of}
+use Rattle.bitmaps.proofs.PackLemmas.{bits-back, length-bytes_of}
 use Rattle.bitmaps.proofs.Runs.{get_or-bits_at}
 use Rattle.values.specs.Datum.{Datum, null}
 use Rattle.array_layout.specs.Buffers.{zeros, is_null}
@@ -27,9 +55,11 @@ some-of n x y h = grind (arith, nat_tests)
 bit-back : (bs : List Bool) (i : ℕ) → i < length bs → bit_at (bytes_of bs) i ≡ get_or bs i false
 bit-back bs i h =
     let e : 0 + i ≡ i = omega arith in
-    ap (λ k. bit_at (bytes_of bs) k) (sym e) ∙ sym (get_or-bits_at (bytes_of bs) 0 (length bs) i h) ∙ ap (λ xs. get_or xs i false) (bits-back bs)
+    ap (λ k. bit_at (bytes_of bs) k) (sym e) ∙ sym (get_or-bits_at (bytes_of bs) 0 (length bs) i h)
+    ∙ ap (λ xs. get_or xs i false) (bits-back bs)
 
-cell-bit : (f : Datum → Bool) (cs : List Datum) (i : ℕ) → i < length cs → f null ≡ false → bit_at (bytes_of (map f cs)) i ≡ f (get_or cs i null)
+cell-bit : (f : Datum → Bool) (cs : List Datum) (i : ℕ) → i < length cs → f null ≡ false
+    → bit_at (bytes_of (map f cs)) i ≡ f (get_or cs i null)
 cell-bit f cs i h e =
     let same = length-map cs f in
     bit-back (map f cs) i (omega (arith, h, same)) ∙ get_or-map f cs i null false h
@@ -57,14 +87,17 @@ pub null_count-le : (cs : List Datum) → null_count cs ≤ length cs
 null_count-le [] = omega arith
 null_count-le (c ∷ cs) =
     let rest = null_count-le cs in
-    elim (is_valid c) as (λ b. (if b then 0 else 1) + null_count cs ≤ length (c ∷ cs)) [ true ↦ omega (arith, rest) | false ↦ omega (arith, rest) ]
+    elim (is_valid c) as (λ b. (if b then 0 else 1) + null_count cs ≤ length (c ∷ cs))
+    [ true ↦ omega (arith, rest) | false ↦ omega (arith, rest) ]
 
 nulls-and-ones : (cs : List Datum) → null_count cs + ones (map is_valid cs) ≡ length cs
 unfolding ones
 nulls-and-ones [] = refl
 nulls-and-ones (c ∷ cs) =
     let rest = nulls-and-ones cs in
-    elim (is_valid c) as (λ b. ((if b then 0 else 1) + null_count cs) + ((if b then 1 else 0) + ones (map is_valid cs)) ≡ length (c ∷ cs)) [ true ↦ omega (arith, rest) | false ↦ omega (arith, rest) ]
+    elim (is_valid c) as
+    (λ b. ((if b then 0 else 1) + null_count cs) + ((if b then 1 else 0) + ones (map is_valid cs)) ≡ length
+    (c ∷ cs)) [ true ↦ omega (arith, rest) | false ↦ omega (arith, rest) ]
 
 zeros-all : (cs : List Datum) → zeros (bytes_of (map is_valid cs)) (length cs) ≡ null_count cs
 unfolding zeros
@@ -87,7 +120,8 @@ some-validity cs h = some-of (null_count cs) [] (bytes_of (map is_valid cs)) h
 same-number : (z : ℤ) → int_eq z z ≡ true
 same-number z = int_eq_equiv.refl z
 
-checked-validity : (bits : List ℕ) (n nulls : ℕ) → 0 < length bits → n ≤ 8 * length bits → zeros bits n ≡ nulls → validity_of bits n (pos nulls) ≡ Ok tt
+checked-validity : (bits : List ℕ) (n nulls : ℕ) → 0 < length bits → n ≤ 8 * length bits → zeros bits n ≡ nulls
+    → validity_of bits n (pos nulls) ≡ Ok tt
 unfolding validity_of
 checked-validity bits n nulls some room e =
     rw (not-zero (length bits) some, le-ltb (8 * length bits) n room, e, same-number (pos nulls)) refl
@@ -103,7 +137,9 @@ validity-sound cs =
     let le = null_count-le cs in
     elim (cases_lt 0 (null_count cs)) [
       | inl some ↦
-          subst P (sym (some-validity cs some)) (checked-validity (bytes_of (map is_valid cs)) (length cs) (null_count cs) (omega (arith, long, le, some)) (omega (arith, long)) (zeros-all cs))
+          subst P (sym (some-validity cs some))
+          (checked-validity (bytes_of (map is_valid cs)) (length cs) (null_count cs) (omega (arith, long, le, some))
+          (omega (arith, long)) (zeros-all cs))
       | inr none ↦
           let z : null_count cs ≡ 0 = omega (arith, none) in
           subst P (sym (no-validity cs z)) (empty-validity (length cs) (null_count cs) z)
@@ -114,7 +150,8 @@ validity-length cs =
     let long = bits-length is_valid cs in
     elim (cases_lt 0 (null_count cs)) [
       | inl some ↦ let e = ap length (some-validity cs some) in omega (arith, long, e)
-      | inr none ↦ let z : null_count cs ≡ 0 = omega (arith, none) in let e = ap length (no-validity cs z) in omega (arith, e)
+      | inr none ↦ let z : null_count cs ≡ 0 = omega (arith, none) in let e = ap length (no-validity cs z) in
+          omega (arith, e)
     ]
 
 all-valid : (cs : List Datum) (i : ℕ) → null_count cs ≡ 0 → i < length cs → is_valid (get_or cs i null) ≡ true
@@ -132,7 +169,8 @@ unfolding is_null
 null-read cs i h = elim (cases_lt 0 (null_count cs)) [
   | inl some ↦
       let long = bits-length is_valid cs in
-      rw (some-validity cs some) (some-bits (bytes_of (map is_valid cs)) i (omega (arith, long, h)) ∙ ap not (cell-bit is_valid cs i h refl))
+      rw (some-validity cs some) (some-bits (bytes_of (map is_valid cs)) i (omega (arith, long, h))
+      ∙ ap not (cell-bit is_valid cs i h refl))
   | inr none ↦
       let z : null_count cs ≡ 0 = omega (arith, none) in
       rw (no-validity cs z, all-valid cs i z h) refl

@@ -1,5 +1,5 @@
--- The body of a record batch (Arrow Columnar Format, "RecordBatch message"): its columns stand as the children of a struct would, whose
--- cells are the rows.
+-- The body of a record batch (Arrow Columnar Format, "RecordBatch message"): its columns stand as the children of a
+-- struct would, whose cells are the rows.
 use Rattle.std.specs.Prelude.{ℕ, ◌+◌, ◌≤◌, All, List, [], ◌∷◌, length, map}
 use Rattle.values.specs.Limits.{max_fields, max_batch_rows, max_batch_weight}
 use Rattle.values.specs.Rose.{Roses, roses_size}
@@ -7,9 +7,9 @@ use Rattle.values.specs.Datum.{Datum, structure, items_of}
 use Rattle.values.specs.declared.layout.Layout.{Layout}
 use Rattle.values.specs.declared.layout.Layout.TheVariants.{Struct}
 use Rattle.values.specs.Layouts.{AreLayouts, HoldsEach, row_weight as weight_beside}
-use Rattle.array_layout.specs.declared.array.Node.{Node}
-use Rattle.array_layout.specs.declared.array.Span.{Span}
-use Rattle.body_writer.specs.Body.{laid, spans_from}
+use Rattle.array_layout.specs.declared.array.FieldNode.{FieldNode}
+use Rattle.array_layout.specs.declared.array.BufferRange.{BufferRange}
+use Rattle.body_writer.specs.Body.{laid, ranges_from}
 use Rattle.body_writer.specs.Columns.{buffers_below, nodes_below}
 
 -- the struct that a row is
@@ -19,14 +19,14 @@ row_cell row = structure (items_of row)
 abbrev pub row_cells : List (List Datum) → List Datum
 row_cells rows = map row_cell rows
 
-unfoldable pub body_nodes : Roses Layout → List (List Datum) → List Node
+unfoldable pub body_nodes : Roses Layout → List (List Datum) → List FieldNode
 body_nodes ls rows = nodes_below Struct 0 ls (row_cells rows)
 
 unfoldable pub body_buffers : Roses Layout → List (List Datum) → List (List ℕ)
 body_buffers ls rows = buffers_below Struct 0 ls (row_cells rows)
 
-unfoldable pub body_spans : Roses Layout → List (List Datum) → List Span
-body_spans ls rows = spans_from 0 (body_buffers ls rows)
+unfoldable pub body_ranges : Roses Layout → List (List Datum) → List BufferRange
+body_ranges ls rows = ranges_from 0 (body_buffers ls rows)
 
 unfoldable pub body_bytes : Roses Layout → List (List Datum) → List ℕ
 body_bytes ls rows = laid (body_buffers ls rows)

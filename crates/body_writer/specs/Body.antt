@@ -1,7 +1,8 @@
--- Buffers one after the other in a body (Arrow Columnar Format, "Encapsulated message format" and "RecordBatch message").
+-- Buffers one after the other in a body (Arrow Columnar Format, "Encapsulated message format" and "RecordBatch
+-- message").
 use Rattle.std.specs.Prelude.{ℕ, ◌+◌, ◌-◌, ◌%◌, List, [], ◌∷◌, ◌++◌, length, replicate}
 use Rattle.std.specs.List.{flat_map}
-use Rattle.array_layout.specs.declared.array.Span.{Span}
+use Rattle.array_layout.specs.declared.array.BufferRange.{BufferRange}
 
 abbrev pub padding : ℕ → ℕ
 padding n = (8 - n % 8) % 8
@@ -14,6 +15,6 @@ abbrev pub laid : List (List ℕ) → List ℕ
 laid xs = flat_map padded xs
 
 -- where the buffers stand in the body, the first at `at`, and their lengths without padding
-abbrev pub spans_from : ℕ → List (List ℕ) → List Span
-spans_from at [] = []
-spans_from at (x ∷ xs) = record { from = at; len = length x } ∷ spans_from (at + length (padded x)) xs
+abbrev pub ranges_from : ℕ → List (List ℕ) → List BufferRange
+ranges_from at [] = []
+ranges_from at (x ∷ xs) = record { from = at; len = length x } ∷ ranges_from (at + length (padded x)) xs

@@ -1,5 +1,5 @@
--- The canonical buffers of a column, and its nodes (Arrow Columnar Format, "Physical Memory Layout" and "RecordBatch message"): both in
--- preorder, an array's own and then those of its children.
+-- The canonical buffers of a column, and its nodes (Arrow Columnar Format, "Physical Memory Layout" and "RecordBatch
+-- message"): both in preorder, an array's own and then those of its children.
 use Rattle.std.specs.Prelude.{ℕ, suc, pos, ◌+◌, ◌==◌, if◌then◌else◌, List, [], ◌∷◌, ◌++◌, length, map}
 use Rattle.std.specs.List.{flat_map}
 use Rattle.byteorder.specs.Endian.{little_bytes}
@@ -8,10 +8,29 @@ use Rattle.values.specs.Rose.{Rose, node, Roses, none, more}
 use Rattle.values.specs.Datum.{Datum}
 use Rattle.values.specs.declared.layout.OffsetWidth.{OffsetWidth}
 use Rattle.values.specs.declared.layout.Layout.{Layout}
-use Rattle.values.specs.declared.layout.Layout.TheVariants.{Bits, Number, Decimal, Fixed, Text, Bytes, List as Listed, Struct}
+use Rattle.values.specs.declared.layout.Layout.TheVariants.{
+  Bool as Booleans,
+  Int,
+  Decimal,
+  FixedSizeBinary,
+  Utf8,
+  Binary,
+  List as Listed,
+  Struct,
+}
 use Rattle.values.specs.Layouts.{bytes_in as width_of, offset_bytes}
-use Rattle.array_layout.specs.declared.array.Node.{Node}
-use Rattle.body_writer.specs.Slots.{is_valid, null_count, truth_in, number_in, fixed_in, bytes_in, items_in, length_in, part}
+use Rattle.array_layout.specs.declared.array.FieldNode.{FieldNode}
+use Rattle.body_writer.specs.Slots.{
+  is_valid,
+  null_count,
+  truth_in,
+  number_in,
+  fixed_in,
+  bytes_in,
+  items_in,
+  length_in,
+  part,
+}
 
 -- no bytes where nothing is null
 unfoldable pub validity : List Datum → List ℕ
@@ -45,12 +64,12 @@ offsets o cs = offsets_from o 0 (map length_in cs)
 
 -- what an array's slots hold: after validity, its offsets and its values
 abbrev pub value_buffers : Layout → List Datum → List (List ℕ)
-value_buffers Bits cs = truths cs ∷ []
-value_buffers (Number w s) cs = numbers (width_of w) cs ∷ []
+value_buffers Booleans cs = truths cs ∷ []
+value_buffers (Int w s) cs = numbers (width_of w) cs ∷ []
 value_buffers (Decimal p) cs = numbers 16 cs ∷ []
-value_buffers (Fixed w) cs = fixed w cs ∷ []
-value_buffers (Text o) cs = offsets o cs ∷ joined cs ∷ []
-value_buffers (Bytes o) cs = offsets o cs ∷ joined cs ∷ []
+value_buffers (FixedSizeBinary w) cs = fixed w cs ∷ []
+value_buffers (Utf8 o) cs = offsets o cs ∷ joined cs ∷ []
+value_buffers (Binary o) cs = offsets o cs ∷ joined cs ∷ []
 value_buffers (Listed o) cs = offsets o cs ∷ []
 value_buffers Struct cs = []
 
@@ -73,13 +92,13 @@ abbrev mutual
   buffers_below l j none cs = []
   buffers_below l j (more t ts) cs = buffers t (child_cells l j cs) ++ buffers_below l (suc j) ts cs
 
-abbrev pub own_node : List Datum → Node
+abbrev pub own_node : List Datum → FieldNode
 own_node cs = record { length = length cs; nulls = pos (null_count cs) }
 
 abbrev mutual
-  pub nodes : Rose Layout → List Datum → List Node
+  pub nodes : Rose Layout → List Datum → List FieldNode
   nodes (node l kids) cs = own_node cs ∷ nodes_below l 0 kids cs
 
-  pub nodes_below : Layout → ℕ → Roses Layout → List Datum → List Node
+  pub nodes_below : Layout → ℕ → Roses Layout → List Datum → List FieldNode
   nodes_below l j none cs = []
   nodes_below l j (more t ts) cs = nodes t (child_cells l j cs) ++ nodes_below l (suc j) ts cs

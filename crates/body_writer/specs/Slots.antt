@@ -1,5 +1,24 @@
 -- What a cell gives to the buffers of its column. A null gives zeros, or nothing.
-use Rattle.std.specs.Prelude.{ℕ, ℤ, pos, ◌+◌, Bool, true, false, if◌then◌else◌, List, [], ◌∷◌, get_or, length, map, replicate, Option, None, Some}
+use Rattle.std.specs.Prelude.{
+  ℕ,
+  ℤ,
+  pos,
+  ◌+◌,
+  Bool,
+  true,
+  false,
+  if◌then◌else◌,
+  List,
+  [],
+  ◌∷◌,
+  get_or,
+  length,
+  map,
+  replicate,
+  Option,
+  None,
+  Some,
+}
 use denote.Ref.{Bor}
 use Rattle.std.specs.Int.{w128}
 use Rattle.byteorder.specs.Endian.{low_bytes}

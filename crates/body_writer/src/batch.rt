@@ -1,10 +1,10 @@
-//! The body of a record batch, column after column.
+//! Writes the body of a record batch, column by column.
 
 ghost use Rattle.std.specs.Prelude.{◌≡◌, ◌≤◌, IfOk, length, map};
 ghost use Rattle.values.specs.Limits.{max_body_size};
 ghost use Rattle.values.specs.Rose.{kids_of};
 ghost use Rattle.body_writer.specs.Slots.{part, cells_of};
-ghost use Rattle.body_writer.specs.Batch.{IsBatch, body_bytes, body_nodes, body_spans, row_cells};
+ghost use Rattle.body_writer.specs.Batch.{IsBatch, body_bytes, body_nodes, body_ranges, row_cells};
 
 use crate::body::Body;
 use crate::column::write_column;
@@ -28,11 +28,11 @@ fn column_cells<'a>(
 }
 
 /// The body of the batch of these rows, in columns of these layouts.
-#[tactic(auto, using(crate::proofs::Rows::batch), unfolding(crate::specs::Batch::body_nodes, crate::specs::Batch::body_spans, crate::specs::Batch::body_bytes))]
+#[tactic(auto, using(crate::proofs::Rows::batch), unfolding(crate::specs::Batch::body_nodes, crate::specs::Batch::body_ranges, crate::specs::Batch::body_bytes))]
 pub fn write_body(alloc: Global, layouts: &[LayoutTree], rows: &[Row]) -> Result<Body, AllocError>
     requires { IsBatch (kids_of layouts.now) (map (λ r. r.items) rows.now) }
     ensures nodes { IfOk result (λ body. body.nodes.items ≡ body_nodes (kids_of layouts.now) (map (λ r. r.items) rows.now)) }
-    ensures spans { IfOk result (λ body. body.spans.items ≡ body_spans (kids_of layouts.now) (map (λ r. r.items) rows.now)) }
+    ensures ranges { IfOk result (λ body. body.ranges.items ≡ body_ranges (kids_of layouts.now) (map (λ r. r.items) rows.now)) }
     ensures bytes { IfOk result (λ body. body.bytes.items ≡ body_bytes (kids_of layouts.now) (map (λ r. r.items) rows.now)) }
     ensures size { IfOk result (λ body. length body.bytes.items ≤ max_body_size) }
 {

@@ -1,18 +1,18 @@
-//! A body to which columns are written.
+//! A message body under construction: its bytes, field nodes and buffer ranges.
 
 ghost use Rattle.std.specs.Prelude.{◌≡◌, OnOk, [], ◌∷◌};
 ghost use Rattle.body_writer.specs.Grows.{Appends};
 
-use array_layout::{Node, Span};
+use array_layout::{BufferRange, FieldNode};
 use std::alloc::{AllocError, Global};
 
-/// A body, and what a record batch's header says of it.
+/// A message body, with the field nodes and buffer ranges of its header.
 #[derive(Debug, Drop)]
 pub struct Body {
     /// One an array, in preorder.
-    pub nodes: Vec<Node>,
+    pub nodes: Vec<FieldNode>,
     /// The buffers in the same order, their lengths without padding.
-    pub spans: Vec<Span>,
+    pub ranges: Vec<BufferRange>,
     /// Each buffer with zeros up to a multiple of 8.
     pub bytes: Vec<u8>,
 }
@@ -21,23 +21,23 @@ impl Body {
     /// An empty body. It takes no memory.
     pub fn new(alloc: Global) -> Self
         ensures nodes { result.nodes.items ≡ [] }
-        ensures spans { result.spans.items ≡ [] }
+        ensures ranges { result.ranges.items ≡ [] }
         ensures bytes { result.bytes.items ≡ [] }
     {
         Body {
             nodes: Vec::new(alloc),
-            spans: Vec::new(alloc),
+            ranges: Vec::new(alloc),
             bytes: Vec::new(alloc),
         }
     }
 
     /// Appends a buffer, and zeros up to a multiple of 8.
-    #[tactic(auto, using(crate::proofs::Growing::lengths))]
+    #[tactic(auto, using(crate::proofs::GrowthLemmas::lengths))]
     pub(crate) fn append(&mut self, buffer: &[u8]) -> Result<(), AllocError>
         ensures { OnOk result (Appends self.old self.new (buffer.now ∷ [])) }
     {
         let zeros = [0u8; 8];
-        self.spans.push(Span {
+        self.ranges.push(BufferRange {
             from: self.bytes.len(),
             len: buffer.len(),
         })?;

@@ -3,10 +3,27 @@
 ghost use Rattle.std.specs.Prelude.{◌≡◌, ◌+◌, ◌*◌, ◌^◌, ◌<◌, ◌≤◌, ◌++◌, IfOk, OnOk, length, map, replicate};
 ghost use Rattle.std.specs.Int.{w128};
 ghost use Rattle.byteorder.specs.Endian.{little_bytes, low_bytes};
-ghost use Rattle.body_writer.specs.Slots.{part as part_of, cell_of, cells_of, null_count, fixed_in, items_in, total_length};
+ghost use Rattle.body_writer.specs.Slots.{
+  part as part_of,
+  cell_of,
+  cells_of,
+  null_count,
+  fixed_in,
+  items_in,
+  total_length,
+};
 ghost use Rattle.bitmaps.specs.Packed.{bytes_of};
 ghost use Rattle.values.specs.Layouts.{offset_bytes};
-ghost use Rattle.body_writer.specs.Columns.{validity as validity_of, truths as truths_of, numbers as numbers_of, fixed as fixed_of, offsets as offsets_of, joined as joined_of, items as items_of, child_cells as cells_of_child};
+ghost use Rattle.body_writer.specs.Columns.{
+  validity as validity_of,
+  truths as truths_of,
+  numbers as numbers_of,
+  fixed as fixed_of,
+  offsets as offsets_of,
+  joined as joined_of,
+  items as items_of,
+  child_cells as cells_of_child,
+};
 
 use crate::slots;
 use bitmaps::Bitmap;
@@ -97,7 +114,7 @@ fn push_fixed(buffer: &mut Vec<u8>, cell: Option<&Value>, width: usize) -> Resul
         return push_zeros(buffer, width);
     };
     match &value.kind {
-        Kind::Bytes(bytes) => buffer.extend_from_slice(bytes),
+        Kind::Binary(bytes) => buffer.extend_from_slice(bytes),
         _ => push_zeros(buffer, width),
     }
 }

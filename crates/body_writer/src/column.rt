@@ -1,16 +1,26 @@
-//! A column of any layout.
+//! Writes one column of any layout, with its children.
 
 ghost use Rattle.std.specs.Prelude.{◌^◌, ◌<◌, OnOk, All, length, [], ◌∷◌};
 ghost use Rattle.values.specs.Rose.{node, kids_of};
 ghost use Rattle.values.specs.Layouts.{IsNode, IsLayout, AreLayouts, Holds};
 ghost use Rattle.body_writer.specs.Slots.{cells_of, total_length};
-ghost use Rattle.body_writer.specs.Columns.{value_buffers, own_node, own_buffers, nodes, nodes_below, buffers, buffers_below, offsets as offsets_of, joined as joined_of};
+ghost use Rattle.body_writer.specs.Columns.{
+  value_buffers,
+  own_node,
+  own_buffers,
+  nodes,
+  nodes_below,
+  buffers,
+  buffers_below,
+  offsets as offsets_of,
+  joined as joined_of,
+};
 ghost use Rattle.values.specs.Weights.{weights};
 ghost use Rattle.body_writer.specs.Grows.{Appends, Grows};
 
 use crate::body::Body;
 use crate::buffers;
-use array_layout::Node;
+use array_layout::FieldNode;
 use std::alloc::{AllocError, Global};
 use values::{Layout, LayoutTree, OffsetWidth, Value};
 
@@ -22,7 +32,8 @@ fn append_runs(
     body: &mut Body,
 ) -> Result<(), AllocError>
     requires { total_length (cells_of cells.now) < 2 ^ 31 }
-    ensures { OnOk result (Appends body.old body.new (offsets_of offsets (cells_of cells.now) ∷ joined_of (cells_of cells.now) ∷ [])) }
+    ensures { OnOk result
+        (Appends body.old body.new (offsets_of offsets (cells_of cells.now) ∷ joined_of (cells_of cells.now) ∷ [])) }
 {
     body.append(&buffers::offsets(alloc, cells, offsets)?)?;
     body.append(&buffers::joined(alloc, cells)?)
@@ -40,14 +51,18 @@ fn append_values(
     ensures { OnOk result (Appends body.old body.new (value_buffers layout (cells_of cells.now))) }
 {
     match layout {
-        Layout::Bits => body.append(buffers::truths(alloc, cells)?.as_bytes()),
-        Layout::Number { width, .. } => {
+        Layout::Bool => body.append(buffers::truths(alloc, cells)?.as_bytes()),
+        Layout::Int { width, .. } => {
             body.append(&buffers::numbers(alloc, cells, width.bytes())?)
         }
         Layout::Decimal { .. } => body.append(&buffers::numbers(alloc, cells, 16)?),
-        Layout::Fixed { width } => body.append(&buffers::fixed(alloc, cells, width as usize)?),
-        Layout::Text { offsets } => append_runs(alloc, offsets, cells, body),
-        Layout::Bytes { offsets } => append_runs(alloc, offsets, cells, body),
+        Layout::FixedSizeBinary { width } => body.append(&buffers::fixed(
+            alloc,
+            cells,
+            width as usize,
+        )?),
+        Layout::Utf8 { offsets } => append_runs(alloc, offsets, cells, body),
+        Layout::Binary { offsets } => append_runs(alloc, offsets, cells, body),
         Layout::List { offsets } => body.append(&buffers::offsets(alloc, cells, offsets)?),
         Layout::Struct => Ok(()),
     }
@@ -62,9 +77,10 @@ fn write_own(
 ) -> Result<(), AllocError>
     requires few { length cells.now < 2 ^ 31 }
     requires short { total_length (cells_of cells.now) < 2 ^ 31 }
-    ensures { OnOk result (Grows body.old body.new (own_node (cells_of cells.now) ∷ []) (own_buffers layout (cells_of cells.now))) }
+    ensures { OnOk result
+        (Grows body.old body.new (own_node (cells_of cells.now) ∷ []) (own_buffers layout (cells_of cells.now))) }
 {
-    body.nodes.push(Node {
+    body.nodes.push(FieldNode {
         length: cells.len(),
         nulls: buffers::count_nulls(cells) as i64,
     })?;
@@ -96,7 +112,8 @@ fn write_children(
     Ok(())
 }
 
-/// Appends the column of these cells: its nodes, and its buffers, each with zeros up to a multiple of 8. No cell is a null.
+/// Appends the column of these cells: its nodes, and its buffers, each with zeros up to a multiple of 8. No cell is a
+/// null.
 ///
 /// Where memory runs out, what the body holds has no meaning.
 #[cycle(column)]
@@ -109,7 +126,8 @@ pub fn write_column(
     requires layouts { IsLayout layout.now }
     requires held { All (Holds layout.now) (cells_of cells.now) }
     requires light { weights layout.now (cells_of cells.now) < 2 ^ 31 }
-    ensures { OnOk result (Grows body.old body.new (nodes layout.now (cells_of cells.now)) (buffers layout.now (cells_of cells.now))) }
+    ensures { OnOk result
+        (Grows body.old body.new (nodes layout.now (cells_of cells.now)) (buffers layout.now (cells_of cells.now))) }
 {
     write_own(alloc, layout.layout, cells, body)?;
     write_children(alloc, layout.layout, &layout.children, cells, body)

@@ -1,7 +1,15 @@
-//! What a cell gives to the buffers of its column.
+//! Reads from a cell what its column stores: a bit, a number, bytes, a length, a child cell.
 
 ghost use Rattle.std.specs.Prelude.{◌≡◌};
-ghost use Rattle.body_writer.specs.Slots.{cell_of, is_valid, truth_in as truth_of, whole_in as whole_of, bytes_in as bytes_of, length_in as length_of, part as part_of};
+ghost use Rattle.body_writer.specs.Slots.{
+  cell_of,
+  is_valid,
+  truth_in as truth_of,
+  whole_in as whole_of,
+  bytes_in as bytes_of,
+  length_in as length_of,
+  part as part_of,
+};
 
 use values::{Kind, Value};
 
@@ -24,7 +32,7 @@ pub fn truth_in(cell: Option<&Value>) -> bool
         return false;
     };
     match &value.kind {
-        Kind::Truth(truth) => *truth,
+        Kind::Bool(truth) => *truth,
         _ => false,
     }
 }
@@ -36,7 +44,7 @@ pub fn whole_in(cell: Option<&Value>) -> i128
         return 0;
     };
     match &value.kind {
-        Kind::Whole(number) => *number,
+        Kind::Int(number) => *number,
         _ => 0,
     }
 }
@@ -49,8 +57,8 @@ pub fn bytes_in<'a>(cell: Option<&'a Value>) -> &'a [u8]
         return &[];
     };
     match &value.kind {
-        Kind::Text(text) => text.as_bytes(),
-        Kind::Bytes(bytes) => bytes,
+        Kind::Utf8(text) => text.as_bytes(),
+        Kind::Binary(bytes) => bytes,
         _ => &[],
     }
 }
@@ -64,8 +72,8 @@ pub fn length_in(cell: Option<&Value>) -> usize
         return 0;
     };
     match &value.kind {
-        Kind::Text(text) => text.len(),
-        Kind::Bytes(bytes) => bytes.len(),
+        Kind::Utf8(text) => text.len(),
+        Kind::Binary(bytes) => bytes.len(),
         Kind::List(items) => items.len(),
         _ => 0,
     }

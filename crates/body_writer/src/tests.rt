@@ -6,7 +6,7 @@ ghost use Rattle.values.specs.Kinds.{datum_of};
 ghost use Rattle.body_writer.specs.Sample.{sample_layout, sample_layouts, sample_rows};
 
 use crate::{Body, write_body, write_column};
-use array_layout::{Node, Span};
+use array_layout::{BufferRange, FieldNode};
 use std::alloc::{AllocError, Global};
 use std::test::Fail;
 use values::{IntWidth, Kind, Layout, LayoutTree, Row, Value};
@@ -15,14 +15,14 @@ use values::{IntWidth, Kind, Layout, LayoutTree, Row, Value};
 fn writes_nine_truths(rt: HostRuntime) -> Result<(), Fail> {
     let alloc = rt.alloc();
     let layout = LayoutTree {
-        layout: Layout::Bits,
+        layout: Layout::Bool,
         children: Vec::new(alloc),
     };
     let yes = Value {
-        kind: Kind::Truth(true),
+        kind: Kind::Bool(true),
     };
     let no = Value {
-        kind: Kind::Truth(false),
+        kind: Kind::Bool(false),
     };
     let cells = [
         Some(&yes),
@@ -42,12 +42,16 @@ fn writes_nine_truths(rt: HostRuntime) -> Result<(), Fail> {
         [0xFF, 0, 0, 0, 0, 0, 0, 0, 0x55, 0, 0, 0, 0, 0, 0, 0].as_slice()
     );
     assert_eq!(rt;
-        body.spans.as_slice(),
-        [Span { from: 0, len: 2 }, Span { from: 8, len: 2 }].as_slice()
+        body.ranges.as_slice(),
+        [
+            BufferRange { from: 0, len: 2 },
+            BufferRange { from: 8, len: 2 }
+        ]
+        .as_slice()
     );
     assert_eq!(rt;
         body.nodes.as_slice(),
-        [Node {
+        [FieldNode {
             length: 9,
             nulls: 1
         }]
@@ -60,7 +64,7 @@ fn number(alloc: Global) -> LayoutTree
     ensures { result ≡ sample_layout }
 {
     LayoutTree {
-        layout: Layout::Number {
+        layout: Layout::Int {
             width: IntWidth::Bits64,
             signed: true,
         },
@@ -90,9 +94,9 @@ fn three_rows(alloc: Global) -> Result<Vec<Row>, AllocError>
     ensures { IfOk result (λ rows. map (λ row. row.items) rows.items ≡ sample_rows) }
 {
     let mut rows = Vec::new(alloc);
-    rows.push(row(alloc, Kind::Whole(1), Kind::Whole(10))?)?;
-    rows.push(row(alloc, Kind::Whole(2), Kind::Null)?)?;
-    rows.push(row(alloc, Kind::Whole(3), Kind::Whole(30))?)?;
+    rows.push(row(alloc, Kind::Int(1), Kind::Int(10))?)?;
+    rows.push(row(alloc, Kind::Int(2), Kind::Null)?)?;
+    rows.push(row(alloc, Kind::Int(3), Kind::Int(30))?)?;
     Ok(rows)
 }
 
@@ -118,11 +122,11 @@ fn writes_three_rows(rt: HostRuntime) -> Result<(), Fail> {
     assert_eq!(rt;
         body.nodes.as_slice(),
         [
-            Node {
+            FieldNode {
                 length: 3,
                 nulls: 0
             },
-            Node {
+            FieldNode {
                 length: 3,
                 nulls: 1
             }

@@ -11,36 +11,36 @@ use std::test::Fail;
 /// Two streams that are taken, and not as the same.
 fn differ(
     rt: &(impl Abort + AllocGlobal),
-    good: &[u8],
+    valid: &[u8],
     other: &[u8],
     place: usize,
 ) -> Result<(), AllocError> {
-    assert_eq!(rt; feed_both(rt, good, good)?, Outcome::Taken, "at {place}");
+    assert_eq!(rt; feed_both(rt, valid, valid)?, Outcome::Taken, "at {place}");
     assert_eq!(rt; feed_both(rt, other, other)?, Outcome::Taken, "at {place}");
-    assert_eq!(rt; feed_both(rt, good, other)?, Outcome::Apart, "at {place}");
-    assert_eq!(rt; feed_both(rt, other, good)?, Outcome::Apart, "at {place}");
+    assert_eq!(rt; feed_both(rt, valid, other)?, Outcome::Apart, "at {place}");
+    assert_eq!(rt; feed_both(rt, other, valid)?, Outcome::Apart, "at {place}");
     Ok(())
 }
 
 fn turned(
     rt: &(impl Abort + AllocGlobal),
-    good: &[u8],
+    valid: &[u8],
     place: usize,
     bit: u8,
 ) -> Result<Vec<u8>, AllocError> {
-    assert!(rt; place < good.len() && bit < 8);
-    flipped(rt.alloc(), good, place, bit)
+    assert!(rt; place < valid.len() && bit < 8);
+    flipped(rt.alloc(), valid, place, bit)
 }
 
 /// A stream and the same with one bit turned.
 fn differs(
     rt: &(impl Abort + AllocGlobal),
-    good: &[u8],
+    valid: &[u8],
     place: usize,
     bit: u8,
 ) -> Result<(), AllocError> {
-    let other = turned(rt, good, place, bit)?;
-    differ(rt, good, &other, place)
+    let other = turned(rt, valid, place, bit)?;
+    differ(rt, valid, &other, place)
 }
 
 /// A field's name, whether it is nullable, its type, what its indices are, and a child's name.
@@ -73,11 +73,11 @@ fn cells(rt: HostRuntime) -> Result<(), Fail> {
 fn dictionaries(rt: HostRuntime) -> Result<(), Fail> {
     differs(&rt, &CODED, 704, 0)?;
     differs(&rt, &CODED[..560], 432, 0)?;
-    let good = &CODED[..360];
+    let valid = &CODED[..360];
     // No row, and no slot.
-    let rows = turned(&rt, good, 256, 0)?;
+    let rows = turned(&rt, valid, 256, 0)?;
     let none = turned(&rt, &rows, 272, 0)?;
-    differ(&rt, good, &none, 256)?;
+    differ(&rt, valid, &none, 256)?;
     Ok(())
 }
 

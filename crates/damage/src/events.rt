@@ -1,4 +1,4 @@
-//! Whether two feeds handed on the same.
+//! Compares the events of two feeds.
 
 use arrays::Column;
 use feed::FeedEvent;
@@ -12,7 +12,7 @@ fn same_field(a: &Field, b: &Field) -> bool {
     a.name == b.name
         && a.nullable == b.nullable
         && a.stored == b.stored
-        && a.coding == b.coding
+        && a.encoding == b.encoding
         && same_fields(&a.children, &b.children)
 }
 

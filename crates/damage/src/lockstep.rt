@@ -1,4 +1,4 @@
-//! Two feeds in turn: one gets its bytes as they are, the other one by one.
+//! Feeds the same bytes to two feeds: whole to one, byte by byte to the other.
 
 use crate::events::same_event;
 use feed::{Fed, Feed};

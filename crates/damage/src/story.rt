@@ -1,4 +1,4 @@
-//! What is taken of a good stream.
+//! The events expected of an undamaged stream.
 
 use crate::lockstep::{finish, push};
 use feed::{Fed, Feed, FeedEvent};
@@ -8,7 +8,7 @@ use values::StreamFault;
 
 /// One event of a stream of one kind of column.
 #[derive(Clone, Copy, Debug, PartialEq, Eq)]
-pub enum Told {
+pub enum EventKind {
     /// A schema: how many columns, and the type of the values of the first.
     Schema {
         columns: usize,
@@ -28,28 +28,28 @@ pub enum Told {
 }
 
 /// Where a message ends, and what it brings.
-pub type Chapter = (usize, Told);
+pub type Chapter = (usize, EventKind);
 
-fn told_by(event: FeedEvent) -> Told {
+fn kind_of_event(event: FeedEvent) -> EventKind {
     match event {
-        FeedEvent::Schema(schema) => Told::Schema {
+        FeedEvent::Schema(schema) => EventKind::Schema {
             columns: schema.fields.len(),
             kind: schema
                 .fields
                 .first()
                 .map(|field| TypeKind::of(&field.stored)),
         },
-        FeedEvent::Dictionary { id, delta, values } => Told::Dictionary { id, delta, values },
+        FeedEvent::Dictionary { id, delta, values } => EventKind::Dictionary { id, delta, values },
         FeedEvent::Batch {
             columns,
             rows,
             body,
-        } => Told::Batch {
+        } => EventKind::Batch {
             columns: columns.len(),
             rows,
             body,
         },
-        FeedEvent::End => Told::End,
+        FeedEvent::End => EventKind::End,
     }
 }
 
@@ -58,21 +58,21 @@ fn tell(
     rt: &impl Abort,
     feed: &mut Feed,
     piece: &[u8],
-) -> Result<(usize, Option<Told>), StreamFault> {
+) -> Result<(usize, Option<EventKind>), StreamFault> {
     let Fed { used, event } = push(rt, feed, piece)?;
-    Ok((used, event.map(told_by)))
+    Ok((used, event.map(kind_of_event)))
 }
 
 /// A stream is taken whole, and tells this.
-pub fn tells(rt: &(impl Abort + AllocGlobal), good: &[u8], story: &[Chapter]) {
+pub fn tells(rt: &(impl Abort + AllocGlobal), valid: &[u8], story: &[Chapter]) {
     let mut feed = Feed::open(rt.alloc(), None);
     let mut start = 0;
     for &(end, told) in story {
-        assert!(rt; start < end && end <= good.len());
-        let came = tell(rt, &mut feed, &good[start..]);
+        assert!(rt; start < end && end <= valid.len());
+        let came = tell(rt, &mut feed, &valid[start..]);
         assert_eq!(rt; came, Ok((end - start, Some(told))), "at {start}");
         start = end;
     }
-    assert_eq!(rt; start, good.len());
+    assert_eq!(rt; start, valid.len());
     assert_eq!(rt; finish(rt, &mut feed), Ok(()));
 }

@@ -1,4 +1,5 @@
-//! A good stream for each kind of column, with few rows: a Schema message, one batch, and the end mark in the last 8 bytes. The last has dictionaries.
+//! A good stream for each kind of column, with few rows: a Schema message, one batch, and the end mark in the last 8
+//! bytes. The last has dictionaries.
 
 /// Truth values: true, null, false.
 pub static BOOLS: [u8; 264] = [

@@ -3,7 +3,7 @@
 use crate::harm::{dropped, flipped};
 use crate::lockstep::{Outcome, feed_both};
 use crate::sample::SAMPLE;
-use crate::story::{Chapter, Told, tells};
+use crate::story::{Chapter, EventKind, tells};
 use crate::streams::{
     BOOLS, BYTES, CODED, DATES, DECIMALS, DURATIONS, FIXED, LARGE_BYTES, LARGE_LISTS, LARGE_TEXTS,
     LISTS, NESTED, STRUCTS, TEXTS, TIMES, TIMESTAMPS,
@@ -15,9 +15,9 @@ use std::test::Fail;
 use values::{OffsetWidth, StreamFault};
 
 /// Without any one byte: what stands behind it is out of place, and the stream is never taken.
-fn drops(rt: &(impl Abort + AllocGlobal), good: &[u8]) -> Result<(), AllocError> {
-    for place in 0..good.len() {
-        let bytes = dropped(rt.alloc(), good, place)?;
+fn drops(rt: &(impl Abort + AllocGlobal), valid: &[u8]) -> Result<(), AllocError> {
+    for place in 0..valid.len() {
+        let bytes = dropped(rt.alloc(), valid, place)?;
         let outcome = feed_both(rt, &bytes, &bytes)?;
         assert!(rt;
             matches!(outcome, Outcome::Broken(_)),
@@ -28,10 +28,10 @@ fn drops(rt: &(impl Abort + AllocGlobal), good: &[u8]) -> Result<(), AllocError>
 }
 
 /// With any bit turned of one byte.
-fn flips_at(rt: &(impl Abort + AllocGlobal), good: &[u8], place: usize) -> Result<(), AllocError> {
-    assert!(rt; place < good.len());
+fn flips_at(rt: &(impl Abort + AllocGlobal), valid: &[u8], place: usize) -> Result<(), AllocError> {
+    assert!(rt; place < valid.len());
     for bit in 0..8 {
-        let bytes = flipped(rt.alloc(), good, place, bit)?;
+        let bytes = flipped(rt.alloc(), valid, place, bit)?;
         let outcome = feed_both(rt, &bytes, &bytes)?;
         assert!(rt;
             outcome != Outcome::Apart,
@@ -41,9 +41,9 @@ fn flips_at(rt: &(impl Abort + AllocGlobal), good: &[u8], place: usize) -> Resul
     Ok(())
 }
 
-fn flips(rt: &(impl Abort + AllocGlobal), good: &[u8]) -> Result<(), AllocError> {
-    for place in 0..good.len() {
-        flips_at(rt, good, place)?;
+fn flips(rt: &(impl Abort + AllocGlobal), valid: &[u8]) -> Result<(), AllocError> {
+    for place in 0..valid.len() {
+        flips_at(rt, valid, place)?;
     }
     Ok(())
 }
@@ -60,9 +60,13 @@ fn cut_outcome(story: &[Chapter], place: usize) -> Outcome {
 }
 
 /// Cut at each place, also behind the last byte.
-fn cuts(rt: &(impl Abort + AllocGlobal), good: &[u8], story: &[Chapter]) -> Result<(), AllocError> {
-    for place in 0..=good.len() {
-        let bytes = &good[..place];
+fn cuts(
+    rt: &(impl Abort + AllocGlobal),
+    valid: &[u8],
+    story: &[Chapter],
+) -> Result<(), AllocError> {
+    for place in 0..=valid.len() {
+        let bytes = &valid[..place];
         let outcome = feed_both(rt, bytes, bytes)?;
         assert_eq!(rt; outcome, cut_outcome(story, place), "cut at {place}");
     }
@@ -71,44 +75,44 @@ fn cuts(rt: &(impl Abort + AllocGlobal), good: &[u8], story: &[Chapter]) -> Resu
 
 fn sweep(
     rt: &(impl Abort + AllocGlobal),
-    good: &[u8],
+    valid: &[u8],
     story: &[Chapter],
 ) -> Result<(), AllocError> {
-    tells(rt, good, story);
-    drops(rt, good)?;
-    flips(rt, good)?;
-    cuts(rt, good, story)
+    tells(rt, valid, story);
+    drops(rt, valid)?;
+    flips(rt, valid)?;
+    cuts(rt, valid, story)
 }
 
 /// A stream of one column and one batch, whose Schema message ends at `schema`.
 fn sweep_one(
     rt: &(impl Abort + AllocGlobal),
-    good: &[u8],
+    valid: &[u8],
     schema: usize,
     kind: TypeKind,
     rows: usize,
     body: usize,
 ) -> Result<(), AllocError> {
-    assert!(rt; good.len() > 8);
+    assert!(rt; valid.len() > 8);
     let story = [
         (
             schema,
-            Told::Schema {
+            EventKind::Schema {
                 columns: 1,
                 kind: Some(kind),
             },
         ),
         (
-            good.len() - 8,
-            Told::Batch {
+            valid.len() - 8,
+            EventKind::Batch {
                 columns: 1,
                 rows,
                 body,
             },
         ),
-        (good.len(), Told::End),
+        (valid.len(), EventKind::End),
     ];
-    sweep(rt, good, &story)
+    sweep(rt, valid, &story)
 }
 
 const SMALL: OffsetWidth = OffsetWidth::Bits32;
@@ -120,20 +124,20 @@ fn int64s(rt: HostRuntime) -> Result<(), Fail> {
     let story = [
         (
             232,
-            Told::Schema {
+            EventKind::Schema {
                 columns: 2,
                 kind: Some(TypeKind::Int),
             },
         ),
         (
             496,
-            Told::Batch {
+            EventKind::Batch {
                 columns: 2,
                 rows: 3,
                 body: 56,
             },
         ),
-        (504, Told::End),
+        (504, EventKind::End),
     ];
     Ok(sweep(&rt, &SAMPLE, &story)?)
 }
@@ -204,7 +208,7 @@ fn large_bytes(rt: HostRuntime) -> Result<(), Fail> {
 
 #[test]
 fn fixed(rt: HostRuntime) -> Result<(), Fail> {
-    Ok(sweep_one(&rt, &FIXED, 112, TypeKind::Fixed, 2, 16)?)
+    Ok(sweep_one(&rt, &FIXED, 112, TypeKind::FixedSizeBinary, 2, 16)?)
 }
 
 #[test]
@@ -239,14 +243,14 @@ fn coded(rt: HostRuntime) -> Result<(), Fail> {
     let story = [
         (
             160,
-            Told::Schema {
+            EventKind::Schema {
                 columns: 1,
                 kind: Some(TypeKind::Utf8 { offsets: SMALL }),
             },
         ),
         (
             360,
-            Told::Dictionary {
+            EventKind::Dictionary {
                 id: 7,
                 delta: false,
                 values: 1,
@@ -254,7 +258,7 @@ fn coded(rt: HostRuntime) -> Result<(), Fail> {
         ),
         (
             560,
-            Told::Dictionary {
+            EventKind::Dictionary {
                 id: 7,
                 delta: true,
                 values: 1,
@@ -262,7 +266,7 @@ fn coded(rt: HostRuntime) -> Result<(), Fail> {
         ),
         (
             712,
-            Told::Batch {
+            EventKind::Batch {
                 columns: 1,
                 rows: 3,
                 body: 16,
@@ -270,7 +274,7 @@ fn coded(rt: HostRuntime) -> Result<(), Fail> {
         ),
         (
             912,
-            Told::Dictionary {
+            EventKind::Dictionary {
                 id: 7,
                 delta: false,
                 values: 1,
@@ -278,13 +282,13 @@ fn coded(rt: HostRuntime) -> Result<(), Fail> {
         ),
         (
             1056,
-            Told::Batch {
+            EventKind::Batch {
                 columns: 1,
                 rows: 1,
                 body: 8,
             },
         ),
-        (1064, Told::End),
+        (1064, EventKind::End),
     ];
     Ok(sweep(&rt, &CODED, &story)?)
 }

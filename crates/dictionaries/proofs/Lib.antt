@@ -1,3 +1,3 @@
-pub mod Joining
+pub mod JoinLemmas
 pub mod Batches
 pub mod Sample

@@ -12,15 +12,18 @@ abbrev pub NoneAtFirst : Type 0
 NoneAtFirst = (t : Table) → t.entries ≡ [] → StandsAfter [] t
 
 abbrev pub TakingIsOneMore : Type 0
-TakingIsOneMore = (bs : List DictionaryBatch) (b : DictionaryBatch) (old new : Table) → StandsAfter bs old → Takes old new b → StandsAfter (bs ++ b ∷ []) new
+TakingIsOneMore = (bs : List DictionaryBatch) (b : DictionaryBatch) (old new : Table) → StandsAfter bs old
+    → Takes old new b → StandsAfter (bs ++ b ∷ []) new
 
 -- what an id has after one more batch
 abbrev pub OneMore : Type 0
 OneMore =
     (bs : List DictionaryBatch) (b : DictionaryBatch) (id : ℤ)
     → found_after (bs ++ b ∷ []) id
-    ≡ (if int_eq b.id id then Some (if b.is_delta then unwrap_or (found_after bs b.id) [] ++ b.values else b.values) else found_after bs id)
+    ≡ (if int_eq b.id id then Some (if b.is_delta then unwrap_or (found_after bs b.id) [] ++ b.values else b.values)
+    else found_after bs id)
 
 -- and what is handed out for it are these values
 abbrev pub ValuesAfter : Type 0
-ValuesAfter = (bs : List DictionaryBatch) (t : Table) → StandsAfter bs t → (id : ℤ) → values_in t id ≡ dictionary_after bs id
+ValuesAfter = (bs : List DictionaryBatch) (t : Table) → StandsAfter bs t → (id : ℤ)
+    → values_in t id ≡ dictionary_after bs id

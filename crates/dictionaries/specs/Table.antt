@@ -23,10 +23,15 @@ abbrev pub change : ℤ → List Datum → Change
 change id values = record { id = id; values = values }
 
 abbrev pub table_code : Coded Table
-table_code = code_by (List (ℤ × List Datum) × ℕ) (coded× (coded_list (coded× coded_ℤ (coded_list datum_code))) coded_ℕ) (λ t. (t.entries, t.room)) (λ v. table v.0 v.1) (λ t. refl)
+table_code =
+    code_by (List (ℤ × List Datum)
+    × ℕ) (coded× (coded_list (coded× coded_ℤ (coded_list datum_code))) coded_ℕ) (λ t. (t.entries, t.room))
+    (λ v. table v.0 v.1) (λ t. refl)
 
 abbrev pub change_code : Coded Change
-change_code = code_by (ℤ × List Datum) (coded× coded_ℤ (coded_list datum_code)) (λ c. (c.id, c.values)) (λ v. change v.0 v.1) (λ c. refl)
+change_code =
+    code_by (ℤ × List Datum) (coded× coded_ℤ (coded_list datum_code)) (λ c. (c.id, c.values)) (λ v. change v.0 v.1)
+    (λ c. refl)
 
 abbrev pub HasRoom : Table → Type 0
 HasRoom t = 0 < t.room

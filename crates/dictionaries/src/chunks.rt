@@ -1,4 +1,4 @@
-//! Runs of values that several dictionaries share.
+//! Chunks of values, shared between versions of a dictionary.
 
 ghost use Rattle.std.specs.Prelude.{◌≡◌, ◌≤◌, ◌++◌, length, slice_get, IfOk};
 ghost use Rattle.std.specs.Option.{option_copied};
@@ -56,7 +56,7 @@ fn value_in(values: &[Value], i: usize) -> Option<&Value>
 }
 
 /// Value `i` of the chunks in order, if there are more than `i`.
-#[tactic(auto, using(crate::proofs::Joining::reading))]
+#[tactic(auto, using(crate::proofs::JoinLemmas::reading))]
 pub fn value_at(chunks: &[Chunk], i: usize) -> Option<&Value>
     ensures { option_copied result ≡ slice_get (joined chunks.now) i }
 {
@@ -71,23 +71,25 @@ pub fn value_at(chunks: &[Chunk], i: usize) -> Option<&Value>
     None
 }
 
-/// How many chunks stay as they are where `added` values come behind them: those behind are short, and are merged with what comes.
+/// How many chunks stay as they are where `added` values come behind them: those behind are short, and are merged with
+/// what comes.
 ///
-/// So each chunk is more than twice as long as the next, there are few of them, and a value is copied a logarithmic number of times.
-fn kept(chunks: &[Chunk], added: usize) -> usize
+/// So each chunk is more than twice as long as the next, there are few of them, and a value is copied a logarithmic
+/// number of times.
+fn unmerged(chunks: &[Chunk], added: usize) -> usize
     ensures { result ≤ length chunks.now }
 {
-    let mut kept = chunks.len();
+    let mut unmerged = chunks.len();
     let mut merged = added;
-    while kept > 0 {
-        let len = chunks[kept - 1].values().len();
+    while unmerged > 0 {
+        let len = chunks[unmerged - 1].values().len();
         if len > merged.saturating_mul(2) {
             break;
         }
         merged = merged.saturating_add(len);
-        kept -= 1;
+        unmerged -= 1;
     }
-    kept
+    unmerged
 }
 
 fn share_all(alloc: Global, chunks: &[Chunk]) -> Result<Vec<Chunk>, AllocError>
@@ -101,7 +103,7 @@ fn share_all(alloc: Global, chunks: &[Chunk]) -> Result<Vec<Chunk>, AllocError>
 }
 
 /// The values of the chunks, and others behind them.
-#[tactic(auto, using(crate::proofs::Joining::merging))]
+#[tactic(auto, using(crate::proofs::JoinLemmas::merging))]
 fn merge(alloc: Global, chunks: &[Chunk], mut values: Vec<Value>) -> Result<Vec<Value>, AllocError>
     ensures { IfOk result (λ all. all.items ≡ joined chunks.now ++ values.items) }
 {
@@ -118,12 +120,12 @@ fn merge(alloc: Global, chunks: &[Chunk], mut values: Vec<Value>) -> Result<Vec<
 }
 
 /// Chunks of the same values, and of others behind them.
-#[tactic(auto, using(crate::proofs::Joining::merging))]
+#[tactic(auto, using(crate::proofs::JoinLemmas::merging))]
 pub fn extend(alloc: Global, chunks: &[Chunk], values: Vec<Value>) -> Result<Vec<Chunk>, AllocError>
     ensures { IfOk result (λ all. joined all.items ≡ joined chunks.now ++ values.items) }
 {
-    let (kept, short) = chunks.split_at(kept(chunks, values.len()));
-    let mut all = share_all(alloc, kept)?;
+    let (unmerged, short) = chunks.split_at(unmerged(chunks, values.len()));
+    let mut all = share_all(alloc, unmerged)?;
     let merged = merge(alloc, short, values)?;
     all.push(Chunk::new(alloc, merged)?)?;
     Ok(all)

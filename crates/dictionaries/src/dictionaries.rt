@@ -1,4 +1,4 @@
-//! Dictionaries by id.
+//! The dictionaries of a stream, by id.
 
 ghost use Rattle.std.specs.Prelude.{◌≡◌, [], IfOk, OnOk, OnErr};
 ghost use Rattle.std.specs.Option.{option_copied};

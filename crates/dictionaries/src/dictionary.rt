@@ -1,4 +1,4 @@
-//! The values of one dictionary.
+//! One version of a dictionary: a list of values.
 
 ghost use Rattle.std.specs.Prelude.{◌≡◌, ◌++◌, length, nat_eq, slice_get, IfOk};
 ghost use Rattle.std.specs.Option.{option_copied};

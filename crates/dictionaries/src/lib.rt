@@ -1,8 +1,8 @@
 //! The values of dictionaries by id, as dictionary batches bring them (Arrow Columnar Format, "Dictionary Messages").
 //!
-//! A batch that isn't a delta brings new values for its id, a delta adds to those that are there. A [`Dictionary`] that was handed out
-//! keeps its values. `specs/Batches.antt` says what the values are after any batches, and contracts see a `Dictionary` as the list
-//! of its values.
+//! A batch that isn't a delta brings new values for its id, a delta adds to those that are there. A [`Dictionary`] that
+//! was handed out keeps its values. `specs/Batches.antt` says what the values are after any batches, and contracts see
+//! a `Dictionary` as the list of its values.
 #![tactic(auto)]
 
 mod chunks;

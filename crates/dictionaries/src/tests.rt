@@ -9,7 +9,7 @@ fn numbers(alloc: Global, numbers: &[i128]) -> Result<Vec<Value>, AllocError> {
     let mut values = Vec::new(alloc);
     for number in numbers {
         values.push(Value {
-            kind: Kind::Whole(*number),
+            kind: Kind::Int(*number),
         })?;
     }
     Ok(values)
@@ -20,7 +20,7 @@ fn holds(dictionary: &Dictionary, numbers: &[i128]) -> bool {
         let Some(value) = dictionary.get(i) else {
             return false;
         };
-        let Kind::Whole(found) = &value.kind else {
+        let Kind::Int(found) = &value.kind else {
             return false;
         };
         if found != number {

@@ -1,5 +1,31 @@
 -- Pushing a list of pieces.
-use Rattle.std.proofs.Common.{◌≡◌, ℕ, zero, suc, ◌-◌, ◌<◌, ◌≤◌, Option, None, Some, Ok, Err, List, [], ◌∷◌, ◌++◌, length, drop, refl, ap, sym, subst, ◌∙◌, arith, length-drop}
+use Rattle.std.proofs.Common.{
+  ◌≡◌,
+  ℕ,
+  zero,
+  suc,
+  ◌-◌,
+  ◌<◌,
+  ◌≤◌,
+  Option,
+  None,
+  Some,
+  Ok,
+  Err,
+  List,
+  [],
+  ◌∷◌,
+  ◌++◌,
+  length,
+  drop,
+  refl,
+  ap,
+  sym,
+  subst,
+  ◌∙◌,
+  arith,
+  length-drop,
+}
 use Rattle.std.specs.List.{concat}
 use Rattle.values.specs.declared.faults.StreamFault.{StreamFault}
 use Rattle.values.specs.Reading.{Reading, Stands}
@@ -8,20 +34,35 @@ use Rattle.messages.proofs.Feedings.{agree, some_fault}
 use Rattle.feed.specs.Events.{Event, Given}
 use Rattle.feed.specs.States.{FeedState, after_push, gives}
 use Rattle.feed.specs.Transcript.{Transcript, led_by, transcript}
-use Rattle.feed.specs.Pieces.{CutsAgree, End, FeedFollows, Feeds, FeedsEnd, Follows, all_pushed, pushed, refused, used_up, with_event}
-use Rattle.feed.proofs.Transcribing.{nothing-left, push-keeps, refusal-ends, uses-some}
+use Rattle.feed.specs.Pieces.{
+  CutsAgree,
+  End,
+  FeedFollows,
+  Feeds,
+  FeedsEnd,
+  Follows,
+  all_pushed,
+  pushed,
+  refused,
+  used_up,
+  with_event,
+}
+use Rattle.feed.proofs.TranscriptLemmas.{nothing-left, push-keeps, refusal-ends, uses-some}
 
-follows-led : (o : Option Event) (events : List Event) (end : End) (t : Transcript) → Follows events end t → Follows (with_event o events) end (led_by o t)
+follows-led : (o : Option Event) (events : List Event) (end : End) (t : Transcript) → Follows events end t
+    → Follows (with_event o events) end (led_by o t)
 follows-led None events end t f = f
 follows-led (Some e) events end t f = record { same = ap (λ es. e ∷ es) f.same; left = f.left }
 
 module _ (laws : FirstMessageLaw) where
   refused-follows :
-      (s : FeedState) (piece later : List ℕ) (c : StreamFault) (r : Reading Given) → 0 < length piece → gives s piece ≡ r → Stands r c
+      (s : FeedState) (piece later : List ℕ) (c : StreamFault) (r : Reading Given) → 0 < length piece
+      → gives s piece ≡ r → Stands r c
       → Follows [] (Err c) (transcript s (piece ++ later))
   refused-follows s piece later c (Ok g) some is stands = absurd stands
   refused-follows s piece later c (Err fs) some is stands =
-      subst (Follows [] (Err c)) (sym (refusal-ends laws s piece later fs some is)) (record { same = refl; left = stands })
+      subst (Follows [] (Err c)) (sym (refusal-ends laws s piece later fs some is))
+      (record { same = refl; left = stands })
 
   follows : (s : FeedState) (pieces : List (List ℕ)) (events : List Event) (end : End) → Feeds s pieces events end
       → Follows events end (transcript s (concat pieces))
@@ -48,21 +89,25 @@ module _ (laws : FirstMessageLaw) where
   abbrev Ends : FeedState → List (List ℕ) → Type 0
   Ends s pieces = (events : List Event) × (end : End) × Feeds s pieces events end
 
-  piece-ends : (n : ℕ) (pieces : List (List ℕ)) → ((s : FeedState) → Ends s pieces) → (s : FeedState) (piece : List ℕ) → length piece ≤ n
+  piece-ends : (n : ℕ) (pieces : List (List ℕ)) → ((s : FeedState) → Ends s pieces) → (s : FeedState) (piece : List ℕ)
+      → length piece ≤ n
       → Ends s (piece ∷ pieces)
   piece-ends n pieces later s [] small = let h = later s in (h.0, h.1, used_up s pieces h.0 h.1 h.2)
   piece-ends zero pieces later s (x ∷ xs) small = absurd (omega (arith, small))
-  piece-ends (suc n) pieces later s (x ∷ xs) small = by_reading (λ t ys. piece-ends n pieces later t ys) (gives s (x ∷ xs)) refl where
-    by_reading : ((t : FeedState) (ys : List ℕ) → length ys ≤ n → Ends t (ys ∷ pieces)) → (r : Reading Given) → gives s (x ∷ xs) ≡ r
-        → Ends s ((x ∷ xs) ∷ pieces)
-    by_reading more (Err fs) is =
-        let c = some_fault fs in
-        ([], Err c.0, refused s (x ∷ xs) pieces c.0 (omega arith) (subst (λ r. Stands r c.0) (sym is) c.1))
-    by_reading more (Ok g) is =
-        let less = uses-some laws s (x ∷ xs) g.used g.event (omega arith) is in
-        let size : length (drop g.used (x ∷ xs)) ≡ length (x ∷ xs) - g.used = length-drop g.used (x ∷ xs) in
-        let h = more (after_push s (x ∷ xs) (Ok g)) (drop g.used (x ∷ xs)) (omega (arith, small, less.0, less.1, size)) in
-        (with_event g.event h.0, h.1, pushed s (x ∷ xs) pieces g h.0 h.1 is h.2)
+  piece-ends (suc n) pieces later s (x ∷ xs) small =
+      by_reading (λ t ys. piece-ends n pieces later t ys) (gives s (x ∷ xs)) refl where
+        by_reading : ((t : FeedState) (ys : List ℕ) → length ys ≤ n → Ends t (ys ∷ pieces)) → (r : Reading Given)
+            → gives s (x ∷ xs) ≡ r
+            → Ends s ((x ∷ xs) ∷ pieces)
+        by_reading more (Err fs) is =
+            let c = some_fault fs in
+            ([], Err c.0, refused s (x ∷ xs) pieces c.0 (omega arith) (subst (λ r. Stands r c.0) (sym is) c.1))
+        by_reading more (Ok g) is =
+            let less = uses-some laws s (x ∷ xs) g.used g.event (omega arith) is in
+            let size : length (drop g.used (x ∷ xs)) ≡ length (x ∷ xs) - g.used = length-drop g.used (x ∷ xs) in
+            let h = more (after_push s (x ∷ xs) (Ok g)) (drop g.used (x ∷ xs))
+            (omega (arith, small, less.0, less.1, size)) in
+            (with_event g.event h.0, h.1, pushed s (x ∷ xs) pieces g h.0 h.1 is h.2)
 
   pub feeds-end : FeedsEnd
   feeds-end s [] = ([], Ok s, all_pushed s)

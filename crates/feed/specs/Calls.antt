@@ -2,7 +2,7 @@
 use Rattle.std.specs.Prelude.{◌≡◌, ℕ, ℤ, ◌++◌, List, Option, Some, Result, Ok, Err, All, IfSome, IsSome, take}
 use Rattle.values.specs.Datum.{Datum}
 use Rattle.values.specs.Layouts.{Holds}
-use Rattle.values.specs.Logical.{LogicalField}
+use Rattle.values.specs.Logical.{NamedType}
 use Rattle.values.specs.Reading.{Reading}
 use Rattle.values.specs.Rose.{Rose}
 use Rattle.values.specs.declared.col_type.ColType.{ColType}
@@ -23,11 +23,23 @@ use Rattle.messages.specs.Stream.{Stream}
 use Rattle.feed.specs.declared.condition.Condition.TheVariants as condition
 use Rattle.feed.specs.declared.event.Fed.{Fed}
 use Rattle.feed.specs.declared.message.Coming.{Coming}
-use Rattle.feed.specs.declared.judge.Judged.{Judged}
-use Rattle.feed.specs.Kept.{Kept, brought_by, kept_of}
+use Rattle.feed.specs.declared.validate.Validated.{Validated}
+use Rattle.feed.specs.Retained.{Retained, brought_by, retained_of}
 use Rattle.feed.specs.Events.{Event, Given, event_in}
-use Rattle.feed.specs.States.{FeedState, Gives, after_finish, after_push, condition_after, kept_in}
-use Rattle.feed.specs.Shown.{FeedParts, HasValues, IsAt, IsTypedEvent, Leads, Shows, WillBeAt, WillStandAfter, change_coming, event_seen, values_next}
+use Rattle.feed.specs.States.{FeedState, Gives, after_finish, after_push, condition_after, retained_in}
+use Rattle.feed.specs.Shown.{
+  FeedParts,
+  HasValues,
+  IsAt,
+  IsTypedEvent,
+  Leads,
+  Shows,
+  WillBeAt,
+  WillStandAfter,
+  change_coming,
+  event_seen,
+  values_next,
+}
 
 -- a push may answer this
 abbrev pub MayAnswer : FeedParts → List ℕ → Result Given StreamFault → Type 0
@@ -46,7 +58,7 @@ abbrev pub ShowsFinished : FeedParts → Result (Unit {0}) StreamFault → FeedP
 ShowsFinished old answer new = (s : FeedState) → Shows old s → Shows new (after_finish s answer)
 
 abbrev pub ShowsSchema : FeedParts → Option (List (Rose Entry)) → Type 0
-ShowsSchema f fields = (s : FeedState) → Shows f s → fields ≡ (kept_in s).known.schema
+ShowsSchema f fields = (s : FeedState) → Shows f s → fields ≡ (retained_in s).known.schema
 
 -- The event of a push has columns as the schema has them.
 abbrev pub IsTyped : Option (List (Rose Entry)) → Fed → Type 0
@@ -71,19 +83,19 @@ abbrev pub Adds : Table → Table → Option Change → List DictionaryBatch →
 Adds old new c more = (ds : List DictionaryBatch) → StandsAfter ds old → WillStandAfter (ds ++ more) new c
 
 -- What is said of an open feed, whatever it keeps that stands there.
-abbrev pub AtEach : Stream → Table → (Kept → Type 0) → Type 0
-AtEach stream t claim = (k : Kept) → IsAt k stream t → claim k
+abbrev pub AtEach : Stream → Table → (Retained → Type 0) → Type 0
+AtEach stream t claim = (k : Retained) → IsAt k stream t → claim k
 
--- What was judged of a piece leads there, whatever bytes came before it.
-abbrev pub GoesTo : Stream → Table → List ℕ → Stream → Table → Judged → Type 0
+-- What was checked of a piece leads there, whatever bytes came before it.
+abbrev pub GoesTo : Stream → Table → List ℕ → Stream → Table → Validated → Type 0
 GoesTo old t piece new u j =
-    (declared : Option (List (Rose LogicalField))) (bytes : List ℕ) → IsAt (kept_of declared bytes) old t
-    → WillBeAt (kept_of declared (bytes ++ take j.used piece)) new u (change_coming j.coming)
+    (declared : Option (List (Rose NamedType))) (bytes : List ℕ) → IsAt (retained_of declared bytes) old t
+    → WillBeAt (retained_of declared (bytes ++ take j.used piece)) new u (change_coming j.coming)
 
-abbrev pub HasNext : Option (List (Rose Entry)) → Table → Judged → Type 0
+abbrev pub HasNext : Option (List (Rose Entry)) → Table → Validated → Type 0
 HasNext fields t j = HasValues fields (values_next t (change_coming j.coming))
 
-abbrev pub IsTypedComing : Option (List (Rose Entry)) → Judged → Type 0
+abbrev pub IsTypedComing : Option (List (Rose Entry)) → Validated → Type 0
 IsTypedComing fields j = IfSome j.coming (λ c. IsTypedEvent fields c.event)
 
 -- Where an event comes, memory might have run out too.

@@ -17,14 +17,16 @@ PartialJoins =
 -- More bytes change neither a whole message nor the faults that stand.
 abbrev pub WholeStays : Type 0
 WholeStays =
-    (s : FeedState) (p q : List ℕ) (used : ℕ) (e : Event) → gives s p ≡ Ok (given used (Some e)) → gives s (p ++ q) ≡ Ok (given used (Some e))
+    (s : FeedState) (p q : List ℕ) (used : ℕ) (e : Event) → gives s p ≡ Ok (given used (Some e))
+    → gives s (p ++ q) ≡ Ok (given used (Some e))
 
 abbrev pub FaultsStay : Type 0
 FaultsStay = (s : FeedState) (p q : List ℕ) (fs : Faults) → gives s p ≡ Err fs → gives s (p ++ q) ≡ Err fs
 
 -- A whole message uses some of the piece, and no more than it has. Without one all of the piece is used.
 abbrev pub WholeUses : Type 0
-WholeUses = (s : FeedState) (p : List ℕ) (used : ℕ) (e : Event) → gives s p ≡ Ok (given used (Some e)) → (0 < used) × (used ≤ length p)
+WholeUses = (s : FeedState) (p : List ℕ) (used : ℕ) (e : Event) → gives s p ≡ Ok (given used (Some e))
+    → (0 < used) × (used ≤ length p)
 
 abbrev pub PartialUses : Type 0
 PartialUses = (s : FeedState) (p : List ℕ) (used : ℕ) → gives s p ≡ Ok (given used None) → used ≡ length p

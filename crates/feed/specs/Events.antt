@@ -15,7 +15,7 @@ use Rattle.schema_meta.specs.Rows.{columns_in, values_of}
 use Rattle.schema_meta.specs.Sound.{after}
 use Rattle.schema_meta.specs.Stage.{Known, Whole, end_of}
 use Rattle.schema_meta.specs.Story.{fields_of}
-use Rattle.feed.specs.Kept.{Kept}
+use Rattle.feed.specs.Retained.{Retained}
 
 pub data Event : Type 0 where
   -- the columns
@@ -32,7 +32,8 @@ dictionary_event fields d body = mapped (λ vs. dictionary d.id d.is_delta (leng
 
 -- a record batch, by its columns, where the dictionaries have these values
 abbrev pub batch_event : (ℤ → List Datum) → List (Rose Entry) → BatchHead → List ℕ → Reading Event
-batch_event values fields b body = mapped (λ columns. batch columns b.rows (length body)) (columns_in body (arrays_of values fields b))
+batch_event values fields b body =
+    mapped (λ columns. batch columns b.rows (length body)) (columns_in body (arrays_of values fields b))
 
 -- The message with this header and body, in a stream with these columns, whose dictionaries have these values.
 abbrev pub event_in : List (Rose Entry) → (ℤ → List Datum) → List ℕ → Header → Reading Event
@@ -52,12 +53,12 @@ pub record Given : Type 0 where
 abbrev pub given : ℕ → Option Event → Given
 given used event = record { used = used; event = event }
 
-abbrev pub given_by : Kept → List ℕ → Option Whole → Reading Given
+abbrev pub given_by : Retained → List ℕ → Option Whole → Reading Given
 given_by k piece None = Ok (given (length piece) None)
 given_by k piece (Some w) =
     mapped (λ e. given (end_of w - length k.held) (Some e))
     (event_by (after k.known w.meta) k.dictionaries (slice_range (k.held ++ piece) w.front (end_of w)) w.meta.header)
 
 -- stage by stage: the message, and then its body
-unfoldable pub reading : Kept → List ℕ → Reading Given
+unfoldable pub reading : Retained → List ℕ → Reading Given
 reading k piece = first k.known (k.held ++ piece) >>= given_by k piece

@@ -1,11 +1,11 @@
 pub mod Columns
-pub mod Kept
+pub mod Retained
 pub mod Events
 pub mod States
 pub mod Shown
 pub mod Calls
 pub mod Transcript
 pub mod Pieces
-pub mod KeptLaw
+pub mod RetainedLaw
 pub mod CutLaw
 pub mod StoryLaw

@@ -16,28 +16,33 @@ with_event (Some e) events = e ∷ events
 abbrev pub End : Type 0
 End = Result FeedState StreamFault
 
--- Pushing pieces to a feed gives these events and comes to this end. What a push leaves of a piece is pushed next. A push that memory ran
--- out in left the feed as it was, and doesn't count.
+-- Pushing pieces to a feed gives these events and comes to this end. What a push leaves of a piece is pushed next. A
+-- push that memory ran out in left the feed as it was, and doesn't count.
 pub data Feeds : FeedState → List (List ℕ) → List Event → End → Type 0 where
   -- No piece is left.
   all_pushed : (s : FeedState) → Feeds s [] [] (Ok s)
   -- Nothing is left of a piece.
-  used_up : (s : FeedState) (pieces : List (List ℕ)) (events : List Event) (end : End) → Feeds s pieces events end → Feeds s ([] ∷ pieces) events end
+  used_up : (s : FeedState) (pieces : List (List ℕ)) (events : List Event) (end : End) → Feeds s pieces events end
+      → Feeds s ([] ∷ pieces) events end
   -- A push takes some of a piece.
-  pushed : (s : FeedState) (piece : List ℕ) (pieces : List (List ℕ)) (g : Given) (events : List Event) (end : End) → gives s piece ≡ Ok g → Feeds (after_push s piece (Ok g)) (drop g.used piece ∷ pieces) events end → Feeds s (piece ∷ pieces) (with_event g.event events) end
+  pushed : (s : FeedState) (piece : List ℕ) (pieces : List (List ℕ)) (g : Given) (events : List Event) (end : End)
+      → gives s piece ≡ Ok g → Feeds (after_push s piece (Ok g)) (drop g.used piece ∷ pieces) events end
+      → Feeds s (piece ∷ pieces) (with_event g.event events) end
   -- A push is refused.
-  refused : (s : FeedState) (piece : List ℕ) (pieces : List (List ℕ)) (c : StreamFault) → 0 < length piece → Stands (gives s piece) c → Feeds s (piece ∷ pieces) [] (Err c)
+  refused : (s : FeedState) (piece : List ℕ) (pieces : List (List ℕ)) (c : StreamFault) → 0 < length piece
+      → Stands (gives s piece) c → Feeds s (piece ∷ pieces) [] (Err c)
 
 -- Where no byte is left there is no event.
 abbrev pub NothingLeft : Type 0
 NothingLeft = (s : FeedState) → transcript s [] ≡ no_events (Ok s)
 
--- A push changes nothing of a stream's transcript: that of the piece and of all that comes later is the event that the push gives, if it
--- does, and then that of the rest of the piece and of all that comes later.
+-- A push changes nothing of a stream's transcript: that of the piece and of all that comes later is the event that the
+-- push gives, if it does, and then that of the rest of the piece and of all that comes later.
 abbrev pub PushKeeps : Type 0
 PushKeeps =
     (s : FeedState) (piece later : List ℕ) (g : Given) → gives s piece ≡ Ok g
-    → transcript s (piece ++ later) ≡ led_by g.event (transcript (after_push s piece (Ok g)) (drop g.used piece ++ later))
+    → transcript s (piece ++ later) ≡ led_by g.event
+    (transcript (after_push s piece (Ok g)) (drop g.used piece ++ later))
 
 -- Where faults stand in a piece they end the transcript, whatever comes later.
 abbrev pub RefusalEnds : Type 0
@@ -50,8 +55,8 @@ pub record Follows (events : List Event) (end : End) (t : Transcript) : Type 0 w
   pub same : t.events ≡ events
   pub left : Judges (λ s. s) end t.end
 
--- Pushing pieces gives the events of all their bytes, and leaves the feed where they lead, or a refusal names one of the faults that stand
--- there.
+-- Pushing pieces gives the events of all their bytes, and leaves the feed where they lead, or a refusal names one of
+-- the faults that stand there.
 abbrev pub FeedFollows : Type 0
 FeedFollows =
     (s : FeedState) (pieces : List (List ℕ)) (events : List Event) (end : End) → Feeds s pieces events end
@@ -60,7 +65,8 @@ FeedFollows =
 -- However bytes are cut into pieces, the events are the same, and so is the end.
 abbrev pub CutsAgree : Type 0
 CutsAgree =
-    (s : FeedState) (pieces others : List (List ℕ)) (events theirs : List Event) (end other : End) → concat pieces ≡ concat others
+    (s : FeedState) (pieces others : List (List ℕ)) (events theirs : List Event) (end other : End)
+    → concat pieces ≡ concat others
     → Feeds s pieces events end → Feeds s others theirs other
     → (events ≡ theirs) × AgreeIn (transcript s (concat pieces)).end end other
 

@@ -1,5 +1,24 @@
 -- What a feed in memory shows of a feed by its bytes.
-use Rattle.std.specs.Prelude.{◌≡◌, ℕ, ℤ, Bool, List, [], Option, None, Some, Result, Ok, Err, if◌then◌else◌, All, IsSome, IsSomeAnd, length, refl}
+use Rattle.std.specs.Prelude.{
+  ◌≡◌,
+  ℕ,
+  ℤ,
+  Bool,
+  List,
+  [],
+  Option,
+  None,
+  Some,
+  Result,
+  Ok,
+  Err,
+  if◌then◌else◌,
+  All,
+  IsSome,
+  IsSomeAnd,
+  length,
+  refl,
+}
 use Rattle.std.specs.Coded.{Coded, code_by, coded×, coded_option}
 use Rattle.std.specs.Option.{option_map}
 use Rattle.std.specs.Ordering.{int_eq}
@@ -21,11 +40,11 @@ use Rattle.feed.specs.declared.event.FeedEvent.{FeedEvent}
 use Rattle.feed.specs.declared.event.FeedEvent.TheVariants as feed_event
 use Rattle.feed.specs.declared.event.Fed.{Fed}
 use Rattle.feed.specs.declared.message.Coming.{Coming}
-use Rattle.feed.specs.declared.judge.Judged.{Judged}
+use Rattle.feed.specs.declared.validate.Validated.{Validated}
 use Rattle.feed.specs.Columns.{cells_in, layouts_in}
-use Rattle.feed.specs.Kept.{Kept, stream_in}
+use Rattle.feed.specs.Retained.{Retained, stream_in}
 use Rattle.feed.specs.Events.{Event, batch, dictionary, ended, schema, Given, given}
-use Rattle.feed.specs.States.{FeedState, is_broken, kept_in}
+use Rattle.feed.specs.States.{FeedState, is_broken, retained_in}
 
 -- What a feed is made of: its framing, its dictionaries and its condition, and beside them what was made ready.
 pub record FeedParts : Type 0 where
@@ -40,10 +59,11 @@ parts_code =
     code_by (Framing × (Table × (Condition × (Option Change × Condition))))
     (coded× framing_code (coded× table_code (coded× the_row.coded (coded× (coded_option change_code) the_row.coded))))
     (λ f. (f.framing, (f.table, (f.condition, (f.change, f.next)))))
-    (λ p. record { framing = p.0; table = p.1.0; condition = p.1.1.0; change = p.1.1.1.0; next = p.1.1.1.1 }) (λ _. refl)
+    (λ p. record { framing = p.0; table = p.1.0; condition = p.1.1.0; change = p.1.1.1.0; next = p.1.1.1.1 })
+    (λ _. refl)
 
 -- an open feed stands where so much is kept
-abbrev pub IsAt : Kept → Stream → Table → Type 0
+abbrev pub IsAt : Retained → Stream → Table → Type 0
 IsAt k stream t = (stream ≡ stream_in k) × StandsAfter k.dictionaries t
 
 abbrev pub breaks : FeedParts → Bool
@@ -51,8 +71,8 @@ breaks f = is_broken f.condition
 
 -- It stands where this state is.
 pub record Shows (f : FeedParts) (s : FeedState) : Type 0 where
-  pub stream : f.framing.current ≡ stream_in (kept_in s)
-  pub dictionaries : StandsAfter (kept_in s).dictionaries f.table
+  pub stream : f.framing.current ≡ stream_in (retained_in s)
+  pub dictionaries : StandsAfter (retained_in s).dictionaries f.table
   pub condition : f.condition ≡ s.condition
 
 -- the values of an id once a change is made
@@ -68,18 +88,18 @@ abbrev pub WillStandAfter : List DictionaryBatch → Table → Option Change →
 WillStandAfter bs t c = (id : ℤ) → found_next t c id ≡ found_after bs id
 
 -- an open feed will stand where so much is kept, once a change is made
-abbrev pub WillBeAt : Kept → Stream → Table → Option Change → Type 0
+abbrev pub WillBeAt : Retained → Stream → Table → Option Change → Type 0
 WillBeAt k stream t c = (stream ≡ stream_in k) × WillStandAfter k.dictionaries t c
 
 -- It will, once what was made ready is done.
 pub record Leads (f : FeedParts) (s : FeedState) : Type 0 where
-  pub stream : f.framing.prepared ≡ stream_in (kept_in s)
-  pub dictionaries : WillStandAfter (kept_in s).dictionaries f.table f.change
+  pub stream : f.framing.prepared ≡ stream_in (retained_in s)
+  pub dictionaries : WillStandAfter (retained_in s).dictionaries f.table f.change
   pub condition : f.next ≡ s.condition
 
 -- Nothing is made ready: it leads to where the feed stands.
-abbrev pub IsSettled : FeedParts → Type 0
-IsSettled f = (s : FeedState) → Shows f s → Leads f s
+abbrev pub NothingPrepared : FeedParts → Type 0
+NothingPrepared f = (s : FeedState) → Shows f s → Leads f s
 
 -- The columns are as they are read, and the dictionaries' values are of their types; without a schema there are none.
 abbrev pub HasValues : Option (List (Rose Entry)) → (ℤ → List Datum) → Type 0
@@ -114,8 +134,8 @@ abbrev pub event_coming : Option Coming → Option Event
 event_coming None = None
 event_coming (Some c) = Some (event_seen c.event)
 
-abbrev pub judged_seen : Judged → Given
-judged_seen j = given j.used (event_coming j.coming)
+abbrev pub validated_seen : Validated → Given
+validated_seen j = given j.used (event_coming j.coming)
 
 abbrev pub change_coming : Option Coming → Option Change
 change_coming None = None

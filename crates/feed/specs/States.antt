@@ -1,28 +1,49 @@
 -- A feed by the bytes that it consumed, and what its calls make of it.
-use Rattle.std.specs.Prelude.{◌≡◌, ℕ, Bool, true, false, ◌++◌, ◌<◌, ◌==◌, List, [], ◌∷◌, Option, None, Some, Result, Ok, Err, if◌then◌else◌, length, take}
+use Rattle.std.specs.Prelude.{
+  ◌≡◌,
+  ℕ,
+  Bool,
+  true,
+  false,
+  ◌++◌,
+  ◌<◌,
+  ◌==◌,
+  List,
+  [],
+  ◌∷◌,
+  Option,
+  None,
+  Some,
+  Result,
+  Ok,
+  Err,
+  if◌then◌else◌,
+  length,
+  take,
+}
 use Rattle.values.specs.Reading.{Reading, Passes, Stands, one}
 use Rattle.values.specs.Rose.{Rose}
 use Rattle.values.specs.declared.faults.StreamFault.{StreamFault}
 use Rattle.values.specs.declared.faults.StreamFault.TheVariants as fault
-use Rattle.values.specs.Logical.{LogicalField}
+use Rattle.values.specs.Logical.{NamedType}
 use Rattle.schema_meta.specs.Story.{at_input_end}
 use Rattle.feed.specs.declared.condition.Condition.{Condition}
 use Rattle.feed.specs.declared.condition.Condition.TheVariants as condition
 use Rattle.messages.specs.Stream.{Stream}
-use Rattle.feed.specs.Kept.{Kept, kept_of, stream_in}
+use Rattle.feed.specs.Retained.{Retained, retained_of, stream_in}
 use Rattle.feed.specs.Events.{Event, batch, dictionary, ended, schema, Given, given, reading}
 
 -- the columns that are declared for it, if any are, the bytes that it consumed, and whether it is open
 pub record FeedState : Type 0 where
-  pub declared : Option (List (Rose LogicalField))
+  pub declared : Option (List (Rose NamedType))
   pub bytes : List ℕ
   pub condition : Condition
 
-abbrev pub fresh : Option (List (Rose LogicalField)) → FeedState
+abbrev pub fresh : Option (List (Rose NamedType)) → FeedState
 fresh declared = record { declared = declared; bytes = []; condition = condition.Opened }
 
-abbrev pub kept_in : FeedState → Kept
-kept_in s = kept_of s.declared s.bytes
+abbrev pub retained_in : FeedState → Retained
+retained_in s = retained_of s.declared s.bytes
 
 abbrev pub is_broken : Condition → Bool
 is_broken condition.Broken = true
@@ -35,7 +56,7 @@ abbrev pub closed : List ℕ → Reading Given
 closed [] = Ok (given 0 None)
 closed (b ∷ bs) = Err (one fault.AfterEnd)
 
-abbrev pub given_when : Condition → Kept → List ℕ → Reading Given
+abbrev pub given_when : Condition → Retained → List ℕ → Reading Given
 given_when condition.Opened k piece = reading k piece
 given_when condition.Ended k piece = closed piece
 given_when condition.Finished k piece = closed piece
@@ -43,7 +64,7 @@ given_when condition.Broken k piece = closed piece
 
 -- what a piece gives
 unfoldable pub gives : FeedState → List ℕ → Reading Given
-gives s piece = given_when s.condition (kept_in s) piece
+gives s piece = given_when s.condition (retained_in s) piece
 
 -- Memory may run out where a piece is taken that isn't empty.
 abbrev pub MayLack : Condition → List ℕ → Type 0
@@ -76,7 +97,11 @@ after_fault s f = in_condition s (condition_faulty f s.condition)
 
 unfoldable pub after_push : FeedState → List ℕ → Result Given StreamFault → FeedState
 after_push s piece (Ok g) =
-    record { declared = s.declared; bytes = s.bytes ++ take g.used piece; condition = condition_after s.condition g.event }
+    record {
+      declared = s.declared;
+      bytes = s.bytes ++ take g.used piece;
+      condition = condition_after s.condition g.event;
+    }
 after_push s piece (Err c) = after_fault s c
 
 -- The input may end between two messages where a schema came, and after the end.
@@ -91,7 +116,7 @@ finishing_when condition.Broken stream = Ok tt
 
 -- what `finish` may answer
 unfoldable pub Finishes : FeedState → Result (Unit {0}) StreamFault → Type 0
-Finishes s answer = Passes answer (finishing_when s.condition (stream_in (kept_in s)))
+Finishes s answer = Passes answer (finishing_when s.condition (stream_in (retained_in s)))
 
 unfoldable pub after_finish : FeedState → Result (Unit {0}) StreamFault → FeedState
 after_finish s (Ok u) = in_condition s condition.Finished

@@ -8,61 +8,64 @@ use Rattle.schema_meta.specs.Entry.{Entry}
 use Rattle.schema_meta.specs.Rows.{rows_in}
 use Rattle.schema_meta.specs.Story.{Story, after_rows, at_end_mark, ends, story, story_of}
 use Rattle.feed.specs.declared.condition.Condition.TheVariants as condition
-use Rattle.feed.specs.Kept.{Kept, stream_in}
+use Rattle.feed.specs.Retained.{Retained, stream_in}
 use Rattle.feed.specs.Events.{Event, batch, dictionary, ended, schema, given}
-use Rattle.feed.specs.States.{FeedState, after_push, finishing_when, fresh, gives, kept_in}
+use Rattle.feed.specs.States.{FeedState, after_push, finishing_when, fresh, gives, retained_in}
 use Rattle.feed.specs.Transcript.{Transcript, transcript}
 
 -- what these bytes tell where so much is kept
-abbrev pub tale : Kept → List ℕ → Story
-tale k bytes = story (length bytes) k.known k.dictionaries bytes
+abbrev pub rest_story : Retained → List ℕ → Story
+rest_story k bytes = story (length bytes) k.known k.dictionaries bytes
 
 -- an event, and then what the bytes behind it tell, where so much is kept after it
-abbrev pub tale_from : Event → Kept → List ℕ → Story
-tale_from (schema fields) k rest = tale k rest
-tale_from (dictionary id delta values) k rest = tale k rest
-tale_from (batch columns rows body) k rest = after_rows (rows_in rows columns) (tale k rest)
-tale_from ended k rest = ends k.known (at_end_mark rest)
+abbrev pub rest_story_from : Event → Retained → List ℕ → Story
+rest_story_from (schema fields) k rest = rest_story k rest
+rest_story_from (dictionary id delta values) k rest = rest_story k rest
+rest_story_from (batch columns rows body) k rest = after_rows (rows_in rows columns) (rest_story k rest)
+rest_story_from ended k rest = ends k.known (at_end_mark rest)
 
 -- between two messages of a stream that goes on
 pub record IsBetween (s : FeedState) : Type 0 where
   pub goes_on : s.condition ≡ condition.Opened
-  pub none_held : (kept_in s).held ≡ []
+  pub none_held : (retained_in s).held ≡ []
 
 abbrev pub EventTells : Type 0
 EventTells =
     (s : FeedState) (bytes : List ℕ) (used : ℕ) (e : Event) → IsBetween s → gives s bytes ≡ Ok (given used (Some e))
-    → tale (kept_in s) bytes ≡ tale_from e (kept_in (after_push s bytes (Ok (given used (Some e))))) (drop used bytes)
+    → rest_story (retained_in s) bytes ≡ rest_story_from e (retained_in (after_push s bytes (Ok (given used (Some e)))))
+    (drop used bytes)
 
 -- Nothing is held behind a message.
 abbrev pub NoneHeld : Type 0
 NoneHeld =
-    (s : FeedState) (bytes : List ℕ) (used : ℕ) (e : Event) → s.condition ≡ condition.Opened → gives s bytes ≡ Ok (given used (Some e))
-    → (kept_in (after_push s bytes (Ok (given used (Some e))))).held ≡ []
+    (s : FeedState) (bytes : List ℕ) (used : ℕ) (e : Event) → s.condition ≡ condition.Opened
+    → gives s bytes ≡ Ok (given used (Some e))
+    → (retained_in (after_push s bytes (Ok (given used (Some e))))).held ≡ []
 
 -- Without one, the piece is held behind the bytes that were.
 abbrev pub PartialIsHeld : Type 0
 PartialIsHeld =
     (s : FeedState) (bytes : List ℕ) (used : ℕ) → s.condition ≡ condition.Opened → gives s bytes ≡ Ok (given used None)
-    → (kept_in (after_push s bytes (Ok (given used None)))).held ≡ (kept_in s).held ++ bytes
+    → (retained_in (after_push s bytes (Ok (given used None)))).held ≡ (retained_in s).held ++ bytes
 
 abbrev pub FaultsTell : Type 0
 FaultsTell =
     (s : FeedState) (bytes : List ℕ) (fs : Faults) → IsBetween s → gives s bytes ≡ Err fs
-    → tale (kept_in s) bytes ≡ ends (kept_in s).known (Err fs)
+    → rest_story (retained_in s) bytes ≡ ends (retained_in s).known (Err fs)
 
 -- A beginning of a message alone is no whole stream.
 abbrev pub PartialTells : Type 0
 PartialTells =
     (s : FeedState) (bytes : List ℕ) (used : ℕ) → IsBetween s → 0 < length bytes → gives s bytes ≡ Ok (given used None)
-    → tale (kept_in s) bytes ≡ ends (kept_in s).known (Err (one fault.Truncated))
+    → rest_story (retained_in s) bytes ≡ ends (retained_in s).known (Err (one fault.Truncated))
 
 abbrev pub AllIsTold : Type 0
-AllIsTold = (bytes : List ℕ) → story_of bytes ≡ tale (kept_in (fresh None)) bytes
+AllIsTold = (bytes : List ℕ) → story_of bytes ≡ rest_story (retained_in (fresh None)) bytes
 
 -- Once there is a schema, it is that of the stream.
-abbrev pub TaleKnows : Type 0
-TaleKnows = (k : Kept) (bytes : List ℕ) (fields : List (Rose Entry)) → k.known.schema ≡ Some fields → (tale k bytes).schema ≡ Some fields
+abbrev pub StoryKnowsSchema : Type 0
+StoryKnowsSchema = (k : Retained) (bytes : List ℕ) (fields : List (Rose Entry)) → k.known.schema ≡ Some fields
+    → (rest_story k bytes).schema ≡ Some fields
 
 -- the schema that comes among these events
 abbrev pub schema_in : List Event → Option (List (Rose Entry))
@@ -80,7 +83,7 @@ rows_at ended = []
 
 -- whether the input may end where the feed stands then
 abbrev pub input_end : Reading FeedState → Reading (Unit {0})
-input_end end = end >>= λ s. finishing_when s.condition (stream_in (kept_in s))
+input_end end = end >>= λ s. finishing_when s.condition (stream_in (retained_in s))
 
 -- what a transcript tells: the schema among its events, the rows of its batches, and whether the input may end there
 abbrev pub story_in : Transcript → Story

@@ -1,4 +1,4 @@
-//! The values that a dictionary batch brings.
+//! Reads the values of a dictionary batch.
 
 ghost use Rattle.std.specs.Prelude.{◌≡◌, All, IfOk, length};
 ghost use Rattle.std.specs.Option.{option_copied};
@@ -19,8 +19,8 @@ use std::alloc::{AllocError, Global};
 use std::rc::Rc;
 use values::{ColType, StreamFault, Value};
 
-/// All cells of a column.
-#[tactic(auto, using(crate::proofs::Gathering::reading_cells))]
+/// Copies all cells of a column.
+#[tactic(auto, using(crate::proofs::GatherLemmas::reading_cells))]
 fn read_cells(alloc: Global, column: &Column) -> Result<Vec<Value>, AllocError>
     ensures cells { IfOk result (λ vs. vs.items ≡ column.now.cells) }
     ensures typed { IfOk result (λ vs. All (Holds column.now.layouts) vs.items) }
@@ -32,7 +32,7 @@ fn read_cells(alloc: Global, column: &Column) -> Result<Vec<Value>, AllocError>
     Ok(cells)
 }
 
-/// The column of a dictionary batch with values of this type.
+/// Validates the column of a dictionary batch whose values have this type.
 fn check_values(
     alloc: Global,
     stored: &ColType,
@@ -50,14 +50,14 @@ fn check_values(
     Column::check(Rc::new(alloc, body)?, array)
 }
 
-/// The type of the values of a dictionary batch, if a field has its dictionary.
+/// The value type of dictionary `id`; `None` if no field refers to it.
 fn value_type<'a>(schema: &'a StreamSchema, header: &DictionaryHeader) -> Option<&'a ColType>
     ensures { option_copied result ≡ value_type schema.now.fields.items header.now.id }
 {
     schema.value_type(header.id)
 }
 
-/// The values of a dictionary batch of this schema.
+/// Reads the values of a dictionary batch.
 #[tactic(auto, using(values::proofs::Readings::failing), unfolding(schema_meta::specs::Rows::values_of))]
 pub(crate) fn take_values(
     alloc: Global,

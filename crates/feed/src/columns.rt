@@ -1,4 +1,4 @@
-//! The columns of a record batch.
+//! Validates the columns of a record batch.
 
 ghost use Rattle.std.specs.Prelude.{◌≡◌, IfOk, length};
 ghost use Rattle.values.specs.Reading.{Answers};
@@ -25,26 +25,26 @@ use std::alloc::Global;
 use std::rc::Rc;
 use values::StreamFault;
 
-/// One column of a batch.
+/// Validates one column of a batch.
 #[tactic(auto, using(values::proofs::Readings::failing))]
 fn check_column(body: &Rc<Vec<u8>>, array: Array) -> Result<Column, StreamFault>
     requires placed { IsPlaced body.now.value.items array }
-    requires words { IsTyped array }
+    requires dictionary { IsTyped array }
     ensures reading { Answers (λ c. c.cells) result (column_of body.now.value.items array) }
     ensures typed { IfOk result (λ c. c.layouts ≡ layout_of array) }
 {
     Column::check(body.clone()?, array)
 }
 
-/// The columns of a batch, each judged by itself: 22 to 27.
-#[tactic(auto, using(crate::proofs::Gathering::columns))]
+/// Validates the columns of a batch, each by itself: 22 to 27.
+#[tactic(auto, using(crate::proofs::GatherLemmas::columns))]
 fn check_columns(
     alloc: Global,
     body: &Rc<Vec<u8>>,
     arrays: Vec<Array>,
 ) -> Result<Vec<Column>, StreamFault>
     requires placed { ArePlaced body.now.value.items (kids_of arrays.items) }
-    requires words { AreTyped (kids_of arrays.items) }
+    requires dictionary { AreTyped (kids_of arrays.items) }
     ensures reading { Answers (λ cs. cells_in cs.items) result
         (columns_in body.now.value.items (kids_of arrays.items)) }
     ensures typed { IfOk result
@@ -57,7 +57,7 @@ fn check_columns(
     Ok(columns)
 }
 
-/// The columns of a batch of this schema, with the dictionaries as they are.
+/// Reads the columns of a record batch, with the dictionaries as they stand now.
 pub(crate) fn take_columns(
     alloc: Global,
     schema: &StreamSchema,

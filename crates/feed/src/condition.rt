@@ -1,20 +1,20 @@
-//! Whether a feed goes on.
+//! Whether a feed accepts more bytes.
 
 ghost use Rattle.std.specs.Prelude.{◌≡◌};
 ghost use Rattle.feed.specs.States.{condition_faulty, is_broken};
 
 use values::StreamFault;
 
-/// What may come to a feed.
+/// Whether a feed accepts more bytes, and why not.
 #[derive(Clone, Copy, Debug, PartialEq, Eq)]
 pub enum Condition {
-    /// The next bytes of its stream.
+    /// It accepts the next bytes of its stream.
     Opened,
-    /// Nothing: the end mark came.
+    /// The end mark came.
     Ended,
-    /// Nothing: its caller said that the input ended.
+    /// The caller marked the end of the input.
     Finished,
-    /// Nothing: a fault stood.
+    /// The stream was refused.
     Broken,
 }
 
@@ -29,7 +29,7 @@ impl Condition {
     }
 }
 
-/// The condition of a feed after a fault, or after memory ran out.
+/// The condition after a refusal: want of memory leaves it, any other fault breaks the feed.
 pub(crate) fn condition_after(fault: StreamFault, condition: Condition) -> Condition
     ensures { result ≡ condition_faulty fault condition }
 {

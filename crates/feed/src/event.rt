@@ -1,21 +1,21 @@
-//! What comes of a piece.
+//! Events that a feed reports for a pushed piece.
 
 use arrays::Column;
 use schema_meta::StreamSchema;
 use std::rc::Rc;
 
-/// A whole message.
+/// A complete message, as a feed reports it.
 #[derive(Drop)]
 pub enum FeedEvent {
     /// The schema of the stream.
     Schema(Rc<StreamSchema>),
-    /// Values for a dictionary, and how many.
+    /// A dictionary batch, with the number of its values.
     Dictionary {
         id: i64,
         delta: bool,
         values: usize,
     },
-    /// The rows of a record batch, and how many; `body` is the length of its body in bytes.
+    /// A record batch: its columns, the number of its rows, and the length of its body in bytes.
     Batch {
         columns: Vec<Column>,
         rows: usize,
@@ -25,10 +25,10 @@ pub enum FeedEvent {
     End,
 }
 
-/// What a push came to.
+/// The result of a push.
 #[derive(Drop)]
 pub struct Fed {
-    /// How many bytes of the piece were consumed: up to the end of the message, or all.
+    /// The number of bytes consumed of the piece: up to the end of the message, or all.
     pub used: usize,
     /// The message that the piece completes, if it does.
     pub event: Option<FeedEvent>,

@@ -1,16 +1,25 @@
-//! A feed.
+//! A feed: one stream, pushed in pieces, with its schema and dictionaries.
 
 ghost use Rattle.std.specs.Prelude.{◌≡◌, IfErr, IfOk, IfSome, OnErr, OnOk, Err, false};
 ghost use Rattle.std.specs.Option.{option_map};
 ghost use Rattle.schema_meta.specs.FieldsLaw.{AreFields};
 ghost use Rattle.values.specs.Reading.{Passes};
 ghost use Rattle.feed.specs.States.{FeedState, Finishes, finishing_when, fresh, is_broken};
-ghost use Rattle.feed.specs.Shown.{IsSettled, Leads, Shows, answer_seen, breaks, seen};
-ghost use Rattle.feed.specs.Calls.{IsTyped, MayAnswer, MayLackFor, ShowsAfter, ShowsFinished, ShowsSchema, StillShows, WillTake};
+ghost use Rattle.feed.specs.Shown.{NothingPrepared, Leads, Shows, answer_seen, breaks, seen};
+ghost use Rattle.feed.specs.Calls.{
+  IsTyped,
+  MayAnswer,
+  MayLackFor,
+  ShowsAfter,
+  ShowsFinished,
+  ShowsSchema,
+  StillShows,
+  WillTake,
+};
 
 use crate::condition::{Condition, condition_after};
 use crate::event::Fed;
-use crate::judge::{Judged, judge};
+use crate::validate::{Validated, validate};
 use dictionaries::{Dicts, Ready, batches_law};
 use messages::Framer;
 use schema_meta::StreamSchema;
@@ -21,8 +30,8 @@ use values::{Schema, StreamFault};
 
 /// One stream, which comes in pieces.
 ///
-/// What it keeps are its schema, its dictionaries and the bytes of a message that isn't whole yet. `prepare` judges a piece and makes
-/// room for what comes of it, and `commit` then makes the change; `push` is the two in turn.
+/// What it keeps are its schema, its dictionaries and the bytes of a message that isn't whole yet. `prepare` checks a
+/// piece and makes room for what comes of it, and `commit` then makes the change; `push` is the two in turn.
 #[derive(Drop)]
 pub struct Feed {
     alloc: Global,
@@ -41,13 +50,20 @@ impl Model for Feed {
 
     ghost coded = { parts_code };
 
-    ghost view = { λ f. record { framing = f.framer; table = f.dicts; condition = f.condition; change = f.change; next = f.next } };
+    ghost view = { λ f. record {
+      framing = f.framer;
+      table = f.dicts;
+      condition = f.condition;
+      change = f.change;
+      next = f.next;
+    } };
 
-    ghost invariant = { λ f. IsFeed (record { framing = f.framer; table = f.dicts; condition = f.condition; change = f.change; next = f.next }) };
+    ghost invariant = { λ f. IsFeed
+        (record { framing = f.framer; table = f.dicts; condition = f.condition; change = f.change; next = f.next }) };
 }
 
-/// Whether the input may end here.
-fn judge_end(condition: Condition, framer: &Framer) -> Result<(), StreamFault>
+/// Checks that the input may end here.
+fn validate_end(condition: Condition, framer: &Framer) -> Result<(), StreamFault>
     ensures { Passes result (finishing_when condition framer.now.current) }
 {
     if condition != Condition::Opened {
@@ -63,10 +79,10 @@ fn judge_end(condition: Condition, framer: &Framer) -> Result<(), StreamFault>
 }
 
 impl Feed {
-    /// A feed of which nothing has come. Where a schema is declared, the stream's must have its columns.
+    /// Opens a feed that has consumed nothing. Where a schema is declared, that of the stream must have its columns.
     pub fn open(alloc: Global, declared: Option<Schema>) -> Feed
         ensures shown { Shows result (fresh (option_map (λ s. s.fields.items) declared)) }
-        ensures settled { IsSettled result }
+        ensures nothing_prepared { NothingPrepared result }
     {
         // It does nothing: the proof takes from it that there are no dictionaries without batches.
         batches_law();
@@ -80,7 +96,7 @@ impl Feed {
         }
     }
 
-    /// Whether a fault stood. Nothing more may come to it then.
+    /// Whether the stream was refused. A broken feed accepts nothing more.
     pub fn is_broken(&self) -> bool
         ensures answer { result ≡ breaks self.now }
         ensures shown { (s : FeedState) → Shows self.now s → result ≡ is_broken s.condition }
@@ -88,7 +104,7 @@ impl Feed {
         self.condition.is_broken()
     }
 
-    /// The columns of its stream, once they have come.
+    /// The schema of the stream, once it has come.
     pub fn schema(&self) -> Option<&Rc<StreamSchema>>
         ensures fields { IfSome result (λ s. AreFields s.now.value.fields.items) }
         ensures shown { ShowsSchema self.now (option_map (λ c. c.now.value.fields.items) result) }
@@ -96,12 +112,12 @@ impl Feed {
         self.framer.schema()
     }
 
-    /// Drops what was made ready.
-    fn settle(&mut self)
+    /// Discards what `prepare` made ready.
+    fn discard_prepared(&mut self)
         ensures framing { self.new.framing.current ≡ self.old.framing.current }
         ensures table { self.new.table ≡ self.old.table }
         ensures condition { self.new.condition ≡ self.old.condition }
-        ensures settled { IsSettled self.new }
+        ensures nothing_prepared { NothingPrepared self.new }
     {
         self.change = None;
         self.next = self.condition;
@@ -116,20 +132,20 @@ impl Feed {
         ensures or_memory { IfOk result (MayLackFor self.old piece.now) }
         ensures same { OnOk result (StillShows self.old self.new) }
         ensures fault { IfErr result (λ c. ShowsAfter self.old piece.now (Err c) self.new) }
-        ensures refused { OnErr result (IsSettled self.new) }
+        ensures refused { OnErr result (NothingPrepared self.new) }
         ensures typed { IfOk result (IsTyped self.new.framing.prepared.known.schema) }
     {
         self.change = None;
         self.next = self.condition;
-        let judged = match judge(self.alloc, &mut self.framer, &mut self.dicts, piece) {
-            Ok(judged) => judged,
+        let validated = match validate(self.alloc, &mut self.framer, &mut self.dicts, piece) {
+            Ok(validated) => validated,
             Err(fault) => {
                 self.condition = condition_after(fault, self.condition);
-                self.settle();
+                self.discard_prepared();
                 return Err(fault);
             }
         };
-        let Judged { used, coming } = judged;
+        let Validated { used, coming } = validated;
         let Some(coming) = coming else {
             return Ok(Fed { used, event: None });
         };
@@ -149,23 +165,24 @@ impl Feed {
         ensures or_memory { IfOk result (MayLackFor self.old piece.now) }
         ensures same { OnOk result (StillShows self.old self.new) }
         ensures fault { IfErr result (λ c. ShowsAfter self.old piece.now (Err c) self.new) }
-        ensures refused { OnErr result (IsSettled self.new) }
+        ensures refused { OnErr result (NothingPrepared self.new) }
         ensures typed { IfOk result (IsTyped self.new.framing.prepared.known.schema) }
     {
         if !piece.is_empty() {
             self.condition = Condition::Broken;
-            self.settle();
+            self.discard_prepared();
             return Err(StreamFault::AfterEnd);
         }
-        self.settle();
+        self.discard_prepared();
         Ok(Fed {
             used: 0,
             event: None,
         })
     }
 
-    /// Judges a piece, and makes the room for what comes of it: answers what `push` would answer, and changes nothing but that a
-    /// fault breaks the feed. `commit` makes the change, of a refusal none; another call of `prepare`, `push` or `finish` drops it.
+    /// Checks a piece, and makes the room for what comes of it: answers what `push` would answer, and changes nothing
+    /// but that a fault breaks the feed. `commit` makes the change, of a refusal none; another call of `prepare`,
+    /// `push` or `finish` drops it.
     pub fn prepare(&mut self, piece: &[u8]) -> Result<Fed, StreamFault>
         requires { breaks self.old ≡ false }
         ensures answer { MayAnswer self.old piece.now (answer_seen result) }
@@ -173,7 +190,7 @@ impl Feed {
         ensures or_memory { IfOk result (MayLackFor self.old piece.now) }
         ensures same { OnOk result (StillShows self.old self.new) }
         ensures fault { IfErr result (λ c. ShowsAfter self.old piece.now (Err c) self.new) }
-        ensures refused { OnErr result (IsSettled self.new) }
+        ensures refused { OnErr result (NothingPrepared self.new) }
         ensures typed { IfOk result (IsTyped self.new.framing.prepared.known.schema) }
     {
         match self.condition {
@@ -182,11 +199,11 @@ impl Feed {
         }
     }
 
-    /// Makes the change that `prepare` made ready, if nothing came between: else, and once it is made, it changes nothing. It takes no
-    /// memory.
+    /// Makes the change that `prepare` made ready, if nothing came between: else, and once it is made, it changes
+    /// nothing. It takes no memory.
     pub fn commit(&mut self)
         ensures change { (s : FeedState) → Leads self.old s → Shows self.new s }
-        ensures settled { IsSettled self.new }
+        ensures nothing_prepared { NothingPrepared self.new }
         ensures stream { self.new.framing.current ≡ self.old.framing.prepared }
     {
         self.framer.commit();
@@ -198,13 +215,13 @@ impl Feed {
 
     /// Consumes the piece up to the end of the first message that it completes, or all of it.
     ///
-    /// The error is a fault of the earliest stage that has one: the framing, the metadata or the body. It breaks the feed, but for
-    /// `Memory`, after which all is as it was. An empty piece consumes nothing.
+    /// The error is a fault of the earliest stage that has one: the framing, the metadata or the body. It breaks the
+    /// feed, but for `Memory`, after which all is as it was. An empty piece consumes nothing.
     pub fn push(&mut self, piece: &[u8]) -> Result<Fed, StreamFault>
         requires { breaks self.old ≡ false }
         ensures answer { MayAnswer self.old piece.now (answer_seen result) }
         ensures after { ShowsAfter self.old piece.now (answer_seen result) self.new }
-        ensures settled { IsSettled self.new }
+        ensures nothing_prepared { NothingPrepared self.new }
         ensures typed { IfOk result (IsTyped self.new.framing.current.known.schema) }
     {
         let fed = self.prepare(piece)?;
@@ -212,23 +229,23 @@ impl Feed {
         Ok(fed)
     }
 
-    /// Says that the input has ended: `Truncated` inside a message, `NoSchema` where nothing came, and else all is well, also once
-    /// more.
+    /// Marks the end of input. `Truncated` inside a message, `NoSchema` before a schema; otherwise Ok, and it may be
+    /// called again.
     pub fn finish(&mut self) -> Result<(), StreamFault>
         requires { breaks self.old ≡ false }
         ensures answer { (s : FeedState) → Shows self.old s → Finishes s result }
         ensures after { ShowsFinished self.old result self.new }
-        ensures settled { IsSettled self.new }
+        ensures nothing_prepared { NothingPrepared self.new }
     {
-        match judge_end(self.condition, &self.framer) {
+        match validate_end(self.condition, &self.framer) {
             Ok(()) => {
                 self.condition = Condition::Finished;
-                self.settle();
+                self.discard_prepared();
                 Ok(())
             }
             Err(fault) => {
                 self.condition = Condition::Broken;
-                self.settle();
+                self.discard_prepared();
                 Err(fault)
             }
         }

@@ -1,14 +1,24 @@
 //! Laws of the definitions: functions that do nothing, whose contracts are theorems.
 
 ghost use Rattle.feed.specs.CutLaw.{FaultsStay, PartialJoins, PartialUses, WholeStays, WholeUses};
-ghost use Rattle.feed.specs.KeptLaw.{KeptByMessages};
+ghost use Rattle.feed.specs.RetainedLaw.{RetainedByMessages};
 ghost use Rattle.feed.specs.Pieces.{CutsAgree, FeedFollows, FeedsEnd, NothingLeft, PushKeeps, RefusalEnds};
-ghost use Rattle.feed.specs.StoryLaw.{AllIsTold, EventTells, EventsTellAll, FaultsTell, NoneHeld, PartialIsHeld, PartialTells, TaleKnows};
+ghost use Rattle.feed.specs.StoryLaw.{
+  AllIsTold,
+  EventTells,
+  EventsTellAll,
+  FaultsTell,
+  NoneHeld,
+  PartialIsHeld,
+  PartialTells,
+  StoryKnowsSchema,
+};
 
 use messages::first_message_law;
 
-/// However a stream is cut into pieces, a feed gives the same events, and the same faults stand: a piece without an event may be joined
-/// with the next, and more bytes change neither a whole message nor a fault. A whole message uses some of its piece.
+/// However a stream is cut into pieces, a feed gives the same events, and the same faults stand: a piece without an
+/// event may be joined with the next, and more bytes change neither a whole message nor a fault. A whole message uses
+/// some of its piece.
 pub fn cut_law()
     ensures partial { PartialJoins }
     ensures whole { WholeStays }
@@ -19,9 +29,10 @@ pub fn cut_law()
     first_message_law();
 }
 
-/// However a stream is cut into pieces, pushing them gives the events of its bytes and leaves the feed where they lead, or a refusal
-/// names one of the faults that stand there; what a push leaves of a piece is pushed next. `none`, `push` and `refusal` say it of one
-/// push, `feed` of a list of pieces, `cuts` that two lists with the same bytes come to the same, and `end` that each list comes to an end.
+/// However a stream is cut into pieces, pushing them gives the events of its bytes and leaves the feed where they lead,
+/// or a refusal names one of the faults that stand there; what a push leaves of a piece is pushed next. `none`, `push`
+/// and `refusal` say it of one push, `feed` of a list of pieces, `cuts` that two lists with the same bytes come to the
+/// same, and `end` that each list comes to an end.
 pub fn pieces_law()
     ensures none { NothingLeft }
     ensures push { PushKeeps }
@@ -33,13 +44,14 @@ pub fn pieces_law()
     first_message_law();
 }
 
-/// What a feed keeps of its bytes is what the messages leave that the framer hands on: one list of messages, which is kept, and read.
-pub fn kept_law()
-    ensures { KeptByMessages }
+/// What a feed keeps of its bytes is what the messages leave that the framer hands on: one list of messages, which is
+/// kept, and read.
+pub fn retained_law()
+    ensures { RetainedByMessages }
 {}
 
-/// What the events of a feed tell of the whole stream: the reading of the bytes that are left, event by event; and `events`, of all of
-/// them.
+/// What the events of a feed tell of the whole stream: the reading of the bytes that are left, event by event; and
+/// `events`, of all of them.
 pub fn story_law()
     ensures all { AllIsTold }
     ensures event { EventTells }
@@ -47,7 +59,7 @@ pub fn story_law()
     ensures partial_held { PartialIsHeld }
     ensures faults { FaultsTell }
     ensures partial { PartialTells }
-    ensures knows { TaleKnows }
+    ensures knows { StoryKnowsSchema }
     ensures events { EventsTellAll }
 {
     first_message_law();

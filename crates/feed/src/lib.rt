@@ -1,8 +1,9 @@
-//! One stream, from pieces to events: messages are framed, their bodies are judged, and dictionaries are kept.
+//! One stream, from pieces to events: messages are framed, their bodies are checked, and dictionaries are kept.
 //!
-//! A feed is a function of the bytes that it consumed. `specs/Kept.antt` says what they leave, `specs/Events.antt` what a piece gives then,
-//! `specs/States.antt` what each call may answer and where it leads, and `specs/Shown.antt` which states a feed in memory shows.
-//! `specs/Transcript.antt` is what a whole stream gives, event by event, however it is cut (`specs/Pieces.antt`).
+//! A feed is a function of the bytes that it consumed. `specs/Retained.antt` says what they leave, `specs/Events.antt`
+//! what a piece gives then, `specs/States.antt` what each call may answer and where it leads, and `specs/Shown.antt`
+//! which states a feed in memory shows. `specs/Transcript.antt` is what a whole stream gives, event by event, however
+//! it is cut (`specs/Pieces.antt`).
 #![tactic(auto)]
 
 mod cells;
@@ -10,11 +11,11 @@ mod columns;
 mod condition;
 mod event;
 mod feed;
-mod judge;
 mod laws;
 mod message;
+mod validate;
 
 pub use condition::Condition;
 pub use event::{Fed, FeedEvent};
 pub use feed::Feed;
-pub use laws::{cut_law, kept_law, pieces_law, story_law};
+pub use laws::{cut_law, pieces_law, retained_law, story_law};

@@ -1,4 +1,4 @@
-//! What a message makes of a feed, beside its framing.
+//! Applies a complete message to a feed: its dictionary change and its event.
 
 ghost use Rattle.std.specs.Prelude.{◌≡◌, IfOk, None, OnOk, Some, length};
 ghost use Rattle.values.specs.Reading.{Answers};
@@ -7,7 +7,7 @@ ghost use Rattle.dictionaries.specs.Table.{HasRoom, change_of, values_in};
 ghost use Rattle.schema_meta.specs.FieldLayouts.{slot_layouts_of};
 ghost use Rattle.schema_meta.specs.Rows.{values_of};
 ghost use Rattle.schema_meta.specs.Sound.{Fits, FitsValues, IsFitting};
-ghost use Rattle.feed.specs.Kept.{taken};
+ghost use Rattle.feed.specs.Retained.{taken};
 ghost use Rattle.feed.specs.Events.{batch_event, dictionary_event};
 ghost use Rattle.feed.specs.Shown.{HasRoomFor, HasValues, IsTypedEvent, event_seen, values_next};
 ghost use Rattle.feed.specs.Calls.{Adds, IsFollowed, coming_seen, message_brings, message_event};
@@ -22,7 +22,7 @@ use schema_meta::{BatchHeader, DictionaryHeader, Header, StreamSchema};
 use std::alloc::{AllocError, Global};
 use values::{StreamFault, Value};
 
-/// What a message is, and what is to be done for it.
+/// The event of a message and the change that it makes.
 #[derive(Drop)]
 pub(crate) struct Coming {
     pub event: FeedEvent,
@@ -30,7 +30,7 @@ pub(crate) struct Coming {
     pub next: Condition,
 }
 
-/// Makes ready what a dictionary batch with these values changes.
+/// Prepares the dictionary change of a batch with these values.
 fn prepare_change(
     dicts: &mut Dicts,
     header: &DictionaryHeader,
@@ -44,7 +44,7 @@ fn prepare_change(
     dicts.prepare(header.id, header.is_delta, values)
 }
 
-/// A dictionary batch. No dictionary is changed yet.
+/// Reads a dictionary batch and prepares its change.
 fn take_dictionary(
     alloc: Global,
     schema: &StreamSchema,
@@ -81,7 +81,7 @@ fn take_dictionary(
     })
 }
 
-/// A record batch.
+/// Reads a record batch.
 fn take_batch(
     alloc: Global,
     schema: &StreamSchema,
@@ -105,8 +105,8 @@ fn take_batch(
     })
 }
 
-/// What a message without a dictionary batch brings.
-fn settled(event: FeedEvent, next: Condition) -> Coming
+/// The effect of a message that changes no dictionary.
+fn nothing_prepared(event: FeedEvent, next: Condition) -> Coming
     ensures { result ≡ record { event = event; change = None; next = next } }
 {
     Coming {
@@ -116,7 +116,7 @@ fn settled(event: FeedEvent, next: Condition) -> Coming
     }
 }
 
-/// What a whole message brings.
+/// Reads a complete message and prepares its effect.
 pub(crate) fn take_message(
     alloc: Global,
     dicts: &mut Dicts,
@@ -139,12 +139,12 @@ pub(crate) fn take_message(
         body,
     } = message;
     match header {
-        Header::Schema => Ok(settled(FeedEvent::Schema(schema), Condition::Opened)),
+        Header::Schema => Ok(nothing_prepared(FeedEvent::Schema(schema), Condition::Opened)),
         Header::Dictionary(header) => take_dictionary(alloc, &schema, &header, body, dicts),
-        Header::Batch(header) => Ok(settled(
+        Header::Batch(header) => Ok(nothing_prepared(
             take_batch(alloc, &schema, &header, body, dicts)?,
             Condition::Opened,
         )),
-        Header::End => Ok(settled(FeedEvent::End, Condition::Ended)),
+        Header::End => Ok(nothing_prepared(FeedEvent::End, Condition::Ended)),
     }
 }

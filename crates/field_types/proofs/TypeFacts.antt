@@ -15,9 +15,35 @@ use Rattle.field_types.specs.declared.kinds.TypeKind.{TypeKind}
 use Rattle.field_types.specs.declared.kinds.TypeKind.TheVariants as kind
 use Rattle.values.specs.declared.col_type.ColType.{ColType}
 use Rattle.values.specs.declared.col_type.ColType.TheVariants as stored
-use Rattle.field_types.specs.Reads.{readable, checked, short_of, word_of, bool_of}
+use Rattle.field_types.specs.Reads.{readable, checked, short_of, i32_of, bool_of}
 use Rattle.field_types.specs.SchemaFbs as fbs
-use Rattle.field_types.specs.Types.{ranged, precision_of, wide_of, date_unit_numbered, decimal_type, digits_of, decimal_of, int_type, int_of, width_of, date_type, date_of, time_type, time_of, time_unit_of, timestamp_type, timestamp_of, zone_in, zone_of, duration_type, duration_of, fixed_type, fixed_of, stored_by, type_of}
+use Rattle.field_types.specs.Types.{
+  ranged,
+  precision_of,
+  wide_of,
+  date_unit_numbered,
+  decimal_type,
+  digits_of,
+  decimal_of,
+  int_type,
+  int_of,
+  width_of,
+  date_type,
+  date_of,
+  time_type,
+  time_of,
+  time_unit_of,
+  timestamp_type,
+  timestamp_of,
+  zone_in,
+  zone_of,
+  duration_type,
+  duration_of,
+  fixed_type,
+  fixed_of,
+  stored_by,
+  type_of,
+}
 use Rattle.values.specs.ColTypes.{bits_of_time, IsType}
 use Rattle.field_types.specs.Kinds.{kind_of_type}
 use Rattle.field_types.specs.StoredLaws.{ReadIsType}
@@ -59,12 +85,13 @@ gives-int t s e =
 gives-digits : (t : Table) → Gives kind.Decimal (digits_of t)
 unfolding digits_of precision_of IsOf Gives
 gives-digits t s e =
-    let whole = bind_Ok (both decimal_type (precision_of t) (word_of t fbs.scale (pos 0))) (λ taken. taken) s e in
-    let parts = both_Ok decimal_type (precision_of t) (word_of t fbs.scale (pos 0)) whole.0 whole.1 in
-    let number = bind_Ok (word_of t fbs.precision (pos 0)) (λ n. ranged (pos 1) (pos max_precision) n) parts.0 parts.2 in
+    let whole = bind_Ok (both decimal_type (precision_of t) (i32_of t fbs.scale (pos 0))) (λ taken. taken) s e in
+    let parts = both_Ok decimal_type (precision_of t) (i32_of t fbs.scale (pos 0)) whole.0 whole.1 in
+    let number = bind_Ok (i32_of t fbs.precision (pos 0)) (λ n. ranged (pos 1) (pos max_precision) n) parts.0 parts.2 in
     let digits = ranged_Ok 1 max_precision number.0 parts.0 number.2 in
     let P : Reading ColType → Type 0 = λ m. m ≡ Ok s in
-    let made = mapped_Ok (stored.Decimal parts.0) (ranged (pos 0) (pos parts.0) parts.1) s (subst P (sym parts.4) whole.2) in
+    let made =
+    mapped_Ok (stored.Decimal parts.0) (ranged (pos 0) (pos parts.0) parts.1) s (subst P (sym parts.4) whole.2) in
     let within = ranged_Ok 0 parts.0 parts.1 made.0 made.1 in
     along kind.Decimal s (stored.Decimal parts.0 made.0) made.2 ((digits.0, digits.1, within.1), refl)
 
@@ -83,8 +110,9 @@ gives-date t s e =
 gives-time : (t : Table) → Gives kind.Time (time_of t)
 unfolding time_of IsOf Gives
 gives-time t s e =
-    let whole = bind_Ok (both time_type (time_unit_of t (pos 1)) (word_of t fbs.time_bits (pos 32))) (λ taken. taken) s e in
-    let parts = both_Ok time_type (time_unit_of t (pos 1)) (word_of t fbs.time_bits (pos 32)) whole.0 whole.1 in
+    let whole =
+    bind_Ok (both time_type (time_unit_of t (pos 1)) (i32_of t fbs.time_bits (pos 32))) (λ taken. taken) s e in
+    let parts = both_Ok time_type (time_unit_of t (pos 1)) (i32_of t fbs.time_bits (pos 32)) whole.0 whole.1 in
     let P : Reading ColType → Type 0 = λ m. m ≡ Ok s in
     let passed = subst P (sym parts.4) whole.2 in
     let made = checked_Ok fault.BadType (int_eq parts.1 (pos (bits_of_time parts.0))) (stored.Time parts.0) s passed in
@@ -95,7 +123,8 @@ IsZone z = (length z ≤ max_name_len) × (is_utf8 z ≡ true)
 
 zone_in_Ok : (o : Option (List ℕ)) (z : List ℕ) → zone_in o ≡ Ok z → IsZone z
 unfolding IsZone
-zone_in_Ok None z e = let q : [] ≡ z = cc in subst IsZone q (omega arith, is_utf8-from_IsUtf8 [] (IsUtf8-from_ascii [] (λ k. omega arith)))
+zone_in_Ok None z e = let q : [] ≡ z = cc in
+    subst IsZone q (omega arith, is_utf8-from_IsUtf8 [] (IsUtf8-from_ascii [] (λ k. omega arith)))
 zone_in_Ok (Some bs) z e =
     let p = checked_Ok fault.BadType (nat_le (length bs) max_name_len && is_utf8 bs) bs z e in
     let tests = and_parts (nat_le (length bs) max_name_len) (is_utf8 bs) p.0 in
@@ -114,13 +143,14 @@ gives-duration t s e =
     let p = mapped_Ok duration_type (time_unit_of t (pos 1)) s e in
     along kind.Duration s (duration_type p.0) p.2 (tt, refl)
 
-gives-fixed : (t : Table) → Gives kind.Fixed (fixed_of t)
+gives-fixed : (t : Table) → Gives kind.FixedSizeBinary (fixed_of t)
 unfolding fixed_of IsOf Gives
 gives-fixed t s e =
-    let whole = mapped_Ok fixed_type (word_of t fbs.byte_width (pos 0) >>= ranged (pos 0) (pos max_fixed_width)) s e in
-    let number = bind_Ok (word_of t fbs.byte_width (pos 0)) (λ n. ranged (pos 0) (pos max_fixed_width) n) whole.0 whole.1 in
+    let whole = mapped_Ok fixed_type (i32_of t fbs.byte_width (pos 0) >>= ranged (pos 0) (pos max_fixed_width)) s e in
+    let number =
+    bind_Ok (i32_of t fbs.byte_width (pos 0)) (λ n. ranged (pos 0) (pos max_fixed_width) n) whole.0 whole.1 in
     let width = ranged_Ok 0 max_fixed_width number.0 whole.0 number.2 in
-    along kind.Fixed s (fixed_type whole.0) whole.2 (width.1, refl)
+    along kind.FixedSizeBinary s (fixed_type whole.0) whole.2 (width.1, refl)
 
 gives-stored : (k : TypeKind) (t : Table) → Gives k (stored_by k t)
 unfolding IsOf
@@ -133,7 +163,7 @@ gives-stored kind.Timestamp t = gives-timestamp t
 gives-stored kind.Duration t = gives-duration t
 gives-stored (kind.Utf8 o) t = gives-Ok (kind.Utf8 o) (stored.Utf8 o) (tt, refl)
 gives-stored (kind.Binary o) t = gives-Ok (kind.Binary o) (stored.Binary o) (tt, refl)
-gives-stored kind.Fixed t = gives-fixed t
+gives-stored kind.FixedSizeBinary t = gives-fixed t
 gives-stored (kind.List o) t = gives-Ok (kind.List o) (stored.List o) (tt, refl)
 gives-stored kind.Struct t = gives-Ok kind.Struct stored.Struct (tt, refl)
 
@@ -144,7 +174,8 @@ read-is-type k t s e =
     gives-stored k table.0 s table.2
 
 -- what a call answers by this reading is a type
-pub answers-fit : (r : Result ColType StreamFault) (k : TypeKind) (t : Table) → Answers (λ s. s) r (stored_by k t) → IfOk r IsType
+pub answers-fit : (r : Result ColType StreamFault) (k : TypeKind) (t : Table) → Answers (λ s. s) r (stored_by k t)
+    → IfOk r IsType
 unfolding Gives IsOf
 answers-fit (Ok s) k t e = (gives-stored k t s e).0
 answers-fit (Err c) k t e = tt

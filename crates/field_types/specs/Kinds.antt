@@ -1,4 +1,5 @@
--- Apache Arrow Schema.fbs, union Type: the kinds of types that are taken, by their numbers in the union. Under any other nothing is read.
+-- Apache Arrow Schema.fbs, union Type: the kinds of types that are taken, by their numbers in the union. Under any
+-- other nothing is read.
 use Rattle.std.specs.Prelude.{ℕ, Bool, true, Ok, Err, ◌==◌, if◌then◌else◌}
 use Rattle.flatbuf.specs.Layout.{Table}
 use Rattle.values.specs.Reading.{Reading, ◌>>=◌, one}
@@ -23,7 +24,7 @@ kind_numbered n =
     else if n == fbs.type_timestamp then Ok kind.Timestamp
     else if n == fbs.type_list then Ok (kind.List offset.Bits32)
     else if n == fbs.type_struct then Ok kind.Struct
-    else if n == fbs.type_fixed_size_binary then Ok kind.Fixed
+    else if n == fbs.type_fixed_size_binary then Ok kind.FixedSizeBinary
     else if n == fbs.type_duration then Ok kind.Duration
     else if n == fbs.type_large_binary then Ok (kind.Binary offset.Bits64)
     else if n == fbs.type_large_utf8 then Ok (kind.Utf8 offset.Bits64)
@@ -50,6 +51,6 @@ kind_of_type (stored.Timestamp u z) = kind.Timestamp
 kind_of_type (stored.Duration u) = kind.Duration
 kind_of_type (stored.Utf8 o) = kind.Utf8 o
 kind_of_type (stored.Binary o) = kind.Binary o
-kind_of_type (stored.Fixed w) = kind.Fixed
+kind_of_type (stored.FixedSizeBinary w) = kind.FixedSizeBinary
 kind_of_type (stored.List o) = kind.List o
 kind_of_type stored.Struct = kind.Struct

@@ -41,8 +41,8 @@ or_default d n = unwrap_or n d
 unfoldable pub short_of : Table → ℕ → ℤ → Reading ℤ
 short_of t k d = mapped (or_default d) (readable (signed_of w16 t k))
 
-unfoldable pub word_of : Table → ℕ → ℤ → Reading ℤ
-word_of t k d = mapped (or_default d) (readable (signed_of w32 t k))
+unfoldable pub i32_of : Table → ℕ → ℤ → Reading ℤ
+i32_of t k d = mapped (or_default d) (readable (signed_of w32 t k))
 
 abbrev pub long_of : Table → ℕ → Reading ℤ
 long_of t k = mapped (or_default (pos 0)) (readable (signed_of w64 t k))

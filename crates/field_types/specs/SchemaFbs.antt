@@ -1,4 +1,5 @@
--- Apache Arrow Schema.fbs: the slots of its tables, numbered in the order of their fields, where a union takes two, and the numbers of its unions and enums.
+-- Apache Arrow Schema.fbs: the slots of its tables, numbered in the order of their fields, where a union takes two, and
+-- the numbers of its unions and enums.
 use Rattle.std.specs.Prelude.{ℕ}
 
 -- table Schema

@@ -1,5 +1,5 @@
--- Apache Arrow Schema.fbs, union Type and its tables, as they are written: each slot of a type's table, also where it holds the default.
--- A time zone stands only where there is one.
+-- Apache Arrow Schema.fbs, union Type and its tables, as they are written: each slot of a type's table, also where it
+-- holds the default. A time zone stands only where there is one.
 use Rattle.std.specs.Prelude.{ℕ, ◌*◌, Bool, true, false, List, [], ◌∷◌}
 use Rattle.flatbuf.specs.Tree.{Node, absent, number, text, Nodes, no_nodes, nodes_of}
 use Rattle.values.specs.Layouts.{bytes_in}
@@ -30,7 +30,7 @@ type_number (stored.Timestamp u z) = fbs.type_timestamp
 type_number (stored.Duration u) = fbs.type_duration
 type_number (stored.Utf8 o) = by_offsets o fbs.type_utf8 fbs.type_large_utf8
 type_number (stored.Binary o) = by_offsets o fbs.type_binary fbs.type_large_binary
-type_number (stored.Fixed w) = fbs.type_fixed_size_binary
+type_number (stored.FixedSizeBinary w) = fbs.type_fixed_size_binary
 type_number (stored.List o) = by_offsets o fbs.type_list fbs.type_large_list
 type_number stored.Struct = fbs.type_struct
 
@@ -65,6 +65,6 @@ type_slots (stored.Timestamp u z) = nodes_of (number 2 (time_unit_number u) ∷ 
 type_slots (stored.Duration u) = nodes_of (number 2 (time_unit_number u) ∷ [])
 type_slots (stored.Utf8 o) = no_nodes
 type_slots (stored.Binary o) = no_nodes
-type_slots (stored.Fixed w) = nodes_of (number 4 w ∷ [])
+type_slots (stored.FixedSizeBinary w) = nodes_of (number 4 w ∷ [])
 type_slots (stored.List o) = no_nodes
 type_slots stored.Struct = no_nodes

@@ -1,5 +1,24 @@
--- Apache Arrow Schema.fbs, the tables of union Type: the type that a field is stored in. Its parameters are read each by itself.
-use Rattle.std.specs.Prelude.{ℕ, ℤ, pos, nat_abs, Bool, ◌&&◌, Option, None, Some, Ok, Err, List, [], length, nat_le, int_le, if◌then◌else◌}
+-- Apache Arrow Schema.fbs, the tables of union Type: the type that a field is stored in. Its parameters are read each
+-- by itself.
+use Rattle.std.specs.Prelude.{
+  ℕ,
+  ℤ,
+  pos,
+  nat_abs,
+  Bool,
+  ◌&&◌,
+  Option,
+  None,
+  Some,
+  Ok,
+  Err,
+  List,
+  [],
+  length,
+  nat_le,
+  int_le,
+  if◌then◌else◌,
+}
 use Rattle.std.specs.Ordering.{int_eq}
 use Rattle.std.specs.Str.{is_utf8}
 use Rattle.flatbuf.specs.Layout.{Table, text_of, subtable_of}
@@ -19,7 +38,7 @@ use Rattle.values.specs.declared.col_type.ColType.{ColType}
 use Rattle.values.specs.declared.col_type.ColType.TheVariants as stored
 use Rattle.values.specs.ColTypes.{bits_of_time}
 use Rattle.field_types.specs.SchemaFbs as fbs
-use Rattle.field_types.specs.Reads.{readable, checked, needs, bool_of, short_of, word_of}
+use Rattle.field_types.specs.Reads.{readable, checked, needs, bool_of, short_of, i32_of}
 
 -- a number between bounds that are no negative numbers
 abbrev pub ranged : ℤ → ℤ → ℤ → Reading ℕ
@@ -28,11 +47,12 @@ ranged low high n = checked fault.BadType (int_le low n && int_le n high) (nat_a
 -- table Int: whole numbers of 8, 16, 32 or 64 bits, with a sign or without
 abbrev pub width_numbered : ℤ → Reading IntWidth
 width_numbered n =
-    if int_eq n (pos 8) then Ok int.Bits8 else if int_eq n (pos 16) then Ok int.Bits16 else if int_eq n (pos 32) then Ok int.Bits32
+    if int_eq n (pos 8) then Ok int.Bits8 else if int_eq n (pos 16) then Ok int.Bits16 else if int_eq n (pos 32)
+    then Ok int.Bits32
     else if int_eq n (pos 64) then Ok int.Bits64 else Err (one fault.BadType)
 
 unfoldable pub width_of : Table → Reading IntWidth
-width_of t = word_of t fbs.bit_width (pos 0) >>= width_numbered
+width_of t = i32_of t fbs.bit_width (pos 0) >>= width_numbered
 
 abbrev pub int_type : IntWidth → Bool → ColType
 int_type width signed = stored.Int width signed
@@ -49,16 +69,16 @@ index_of t = both index_type (width_of t) (bool_of t fbs.is_signed)
 
 -- table Decimal: 1 to 38 digits, none or some or all of them after the point. Only decimals of 128 bits are taken.
 unfoldable pub precision_of : Table → Reading ℕ
-precision_of t = word_of t fbs.precision (pos 0) >>= ranged (pos 1) (pos max_precision)
+precision_of t = i32_of t fbs.precision (pos 0) >>= ranged (pos 1) (pos max_precision)
 
 abbrev pub decimal_type : ℕ → ℤ → Reading ColType
 decimal_type precision scale = mapped (stored.Decimal precision) (ranged (pos 0) (pos precision) scale)
 
 unfoldable pub digits_of : Table → Reading ColType
-digits_of t = both decimal_type (precision_of t) (word_of t fbs.scale (pos 0)) >>= λ taken. taken
+digits_of t = both decimal_type (precision_of t) (i32_of t fbs.scale (pos 0)) >>= λ taken. taken
 
 unfoldable pub wide_of : Table → Reading (Unit {0})
-wide_of t = word_of t fbs.decimal_bits (pos 128) >>= λ bits. needs fault.UnsupportedType (int_eq bits (pos 128))
+wide_of t = i32_of t fbs.decimal_bits (pos 128) >>= λ bits. needs fault.UnsupportedType (int_eq bits (pos 128))
 
 unfoldable pub decimal_of : Table → Reading ColType
 decimal_of t = both first (digits_of t) (wide_of t)
@@ -78,7 +98,8 @@ date_of t = mapped date_type (short_of t fbs.unit (pos 1) >>= date_unit_numbered
 abbrev pub time_unit_numbered : ℤ → Reading TimeUnit
 time_unit_numbered n =
     if int_eq n (pos 0) then Ok time.Second else if int_eq n (pos 1) then Ok time.Millisecond
-    else if int_eq n (pos 2) then Ok time.Microsecond else if int_eq n (pos 3) then Ok time.Nanosecond else Err (one fault.BadType)
+    else if int_eq n (pos 2) then Ok time.Microsecond else if int_eq n (pos 3) then Ok time.Nanosecond
+    else Err (one fault.BadType)
 
 unfoldable pub time_unit_of : Table → ℤ → Reading TimeUnit
 time_unit_of t d = short_of t fbs.unit d >>= time_unit_numbered
@@ -88,7 +109,7 @@ abbrev pub time_type : TimeUnit → ℤ → Reading ColType
 time_type unit bits = checked fault.BadType (int_eq bits (pos (bits_of_time unit))) (stored.Time unit)
 
 unfoldable pub time_of : Table → Reading ColType
-time_of t = both time_type (time_unit_of t (pos 1)) (word_of t fbs.time_bits (pos 32)) >>= λ taken. taken
+time_of t = both time_type (time_unit_of t (pos 1)) (i32_of t fbs.time_bits (pos 32)) >>= λ taken. taken
 
 -- table Timestamp: seconds where no unit is said. A time zone is UTF-8 of at most 4,096 bytes; an absent one is empty.
 abbrev pub checked_zone : List ℕ → Reading (List ℕ)
@@ -116,10 +137,10 @@ duration_of t = mapped duration_type (time_unit_of t (pos 1))
 
 -- table FixedSizeBinary: at most 65,536 bytes
 abbrev pub fixed_type : ℕ → ColType
-fixed_type width = stored.Fixed width
+fixed_type width = stored.FixedSizeBinary width
 
 unfoldable pub fixed_of : Table → Reading ColType
-fixed_of t = mapped fixed_type (word_of t fbs.byte_width (pos 0) >>= ranged (pos 0) (pos max_fixed_width))
+fixed_of t = mapped fixed_type (i32_of t fbs.byte_width (pos 0) >>= ranged (pos 0) (pos max_fixed_width))
 
 -- the type that a type table of this kind says. The other tables have no slots.
 abbrev pub stored_by : TypeKind → Table → Reading ColType
@@ -132,7 +153,7 @@ stored_by kind.Timestamp t = timestamp_of t
 stored_by kind.Duration t = duration_of t
 stored_by (kind.Utf8 o) t = Ok (stored.Utf8 o)
 stored_by (kind.Binary o) t = Ok (stored.Binary o)
-stored_by kind.Fixed t = fixed_of t
+stored_by kind.FixedSizeBinary t = fixed_of t
 stored_by (kind.List o) t = Ok (stored.List o)
 stored_by kind.Struct t = Ok stored.Struct
 

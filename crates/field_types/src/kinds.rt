@@ -1,4 +1,4 @@
-//! The kinds of types.
+//! The kinds of types: Schema.fbs, union `Type`.
 
 ghost use Rattle.std.specs.Prelude.{◌≡◌};
 ghost use Rattle.values.specs.Reading.{Judges};
@@ -25,7 +25,7 @@ pub enum TypeKind {
     Duration,
     Utf8 { offsets: OffsetWidth },
     Binary { offsets: OffsetWidth },
-    Fixed,
+    FixedSizeBinary,
     List { offsets: OffsetWidth },
     Struct,
 }
@@ -45,7 +45,7 @@ impl TypeKind {
             ColType::Duration { .. } => TypeKind::Duration,
             ColType::Utf8 { offsets } => TypeKind::Utf8 { offsets: *offsets },
             ColType::Binary { offsets } => TypeKind::Binary { offsets: *offsets },
-            ColType::Fixed { .. } => TypeKind::Fixed,
+            ColType::FixedSizeBinary { .. } => TypeKind::FixedSizeBinary,
             ColType::List { offsets } => TypeKind::List { offsets: *offsets },
             ColType::Struct => TypeKind::Struct,
         }
@@ -71,7 +71,7 @@ pub fn read_kind(field: &TableRef) -> Result<TypeKind, StreamFault>
         TYPE_TIMESTAMP => Ok(TypeKind::Timestamp),
         TYPE_LIST => Ok(TypeKind::List { offsets: small }),
         TYPE_STRUCT => Ok(TypeKind::Struct),
-        TYPE_FIXED_SIZE_BINARY => Ok(TypeKind::Fixed),
+        TYPE_FIXED_SIZE_BINARY => Ok(TypeKind::FixedSizeBinary),
         TYPE_DURATION => Ok(TypeKind::Duration),
         TYPE_LARGE_BINARY => Ok(TypeKind::Binary { offsets: large }),
         TYPE_LARGE_UTF8 => Ok(TypeKind::Utf8 { offsets: large }),

@@ -3,8 +3,8 @@
 ghost use Rattle.field_types.specs.StoredLaws.{ChildrenFit, ReadIsType};
 ghost use Rattle.field_types.specs.TypeLaw.{TypeFits, TypeIsRead, TypeIsShort};
 
-/// A type that is read is within its bounds and of the kind that it was read as, and the children that its kind allows are those that its
-/// layout has.
+/// A type that is read is within its bounds and of the kind that it was read as, and the children that its kind allows
+/// are those that its layout has.
 #[tactic(auto, using(crate::proofs::StoredLaws::stored_laws))]
 pub fn stored_law()
     ensures read { ReadIsType }

@@ -1,7 +1,7 @@
 //! The tables of Schema.fbs that say a field's type.
 //!
-//! `specs/Types.antt` says what a field's type means and which faults stand in it, `specs/Kinds.antt` of which kind it is, and
-//! `specs/TypeTree.antt` what is written for each. The types themselves are `values::ColType`.
+//! `specs/Types.antt` says what a field's type means and which faults stand in it, `specs/Kinds.antt` of which kind it
+//! is, and `specs/TypeTree.antt` what is written for each. The types themselves are `values::ColType`.
 #![tactic(auto)]
 
 mod index;

@@ -1,11 +1,21 @@
-//! The parameters of types.
+//! Checks of type parameters: widths, units, precision, scale, time zones.
 
 ghost use Rattle.std.specs.Prelude.{◌≤◌, pos, ◌≤ℤ◌, IfOk};
 ghost use Rattle.values.specs.Limits.{max_precision};
 ghost use Rattle.values.specs.Reading.{Judges};
-ghost use Rattle.field_types.specs.Types.{checked_zone, date_unit_numbered, precision_of, ranged as ranged_between, time_unit_of, time_unit_numbered, wide_of, width_of, zone_of};
+ghost use Rattle.field_types.specs.Types.{
+  checked_zone,
+  date_unit_numbered,
+  precision_of,
+  ranged as ranged_between,
+  time_unit_of,
+  time_unit_numbered,
+  wide_of,
+  width_of,
+  zone_of,
+};
 
-use crate::reads::{read_short, read_word, readable};
+use crate::reads::{read_i32, read_short, readable};
 use crate::schema_fbs::{
     DECIMAL_BIT_WIDTH, DECIMAL_PRECISION, INT_BIT_WIDTH, TIMESTAMP_ZONE, UNIT,
 };
@@ -30,7 +40,7 @@ pub(crate) fn ranged(low: i32, high: i32, number: i32) -> Result<u32, StreamFaul
 pub(crate) fn read_width(table: &TableRef) -> Result<IntWidth, StreamFault>
     ensures { Judges (λ w. w) result (width_of table.now) }
 {
-    match read_word(table, INT_BIT_WIDTH, 0)? {
+    match read_i32(table, INT_BIT_WIDTH, 0)? {
         8 => Ok(IntWidth::Bits8),
         16 => Ok(IntWidth::Bits16),
         32 => Ok(IntWidth::Bits32),
@@ -44,7 +54,7 @@ pub(crate) fn read_precision(table: &TableRef) -> Result<u8, StreamFault>
     ensures exact { Judges (λ n. n) result (precision_of table.now) }
     ensures within { IfOk result (λ n. n ≤ max_precision) }
 {
-    let precision = read_word(table, DECIMAL_PRECISION, 0)?;
+    let precision = read_i32(table, DECIMAL_PRECISION, 0)?;
     let precision = ranged(1, MAX_PRECISION as i32, precision)?;
     Ok(precision as u8)
 }
@@ -54,7 +64,7 @@ pub(crate) fn read_precision(table: &TableRef) -> Result<u8, StreamFault>
 pub(crate) fn check_decimal_bits(table: &TableRef) -> Result<(), StreamFault>
     ensures { Judges (λ u. u) result (wide_of table.now) }
 {
-    if read_word(table, DECIMAL_BIT_WIDTH, 128)? == 128 {
+    if read_i32(table, DECIMAL_BIT_WIDTH, 128)? == 128 {
         Ok(())
     } else {
         Err(StreamFault::UnsupportedType)

@@ -1,8 +1,8 @@
-//! What is read of any table: its numbers and truth values, with their defaults.
+//! Reads scalars of FlatBuffers tables, with their defaults.
 
 ghost use Rattle.std.specs.Result.{result_ok};
 ghost use Rattle.values.specs.Reading.{Judges, must};
-ghost use Rattle.field_types.specs.Reads.{bool_of, byte_of, long_of, short_of, word_of};
+ghost use Rattle.field_types.specs.Reads.{bool_of, byte_of, long_of, short_of, i32_of};
 
 use flatbuf::{BadTable, TableRef};
 use values::StreamFault;
@@ -41,9 +41,9 @@ pub fn read_short(table: &TableRef, slot: u16, default: i16) -> Result<i16, Stre
 }
 
 /// A number of 32 bits, or this default where it is absent.
-#[tactic(auto, unfolding(crate::specs::Reads::word_of))]
-pub(crate) fn read_word(table: &TableRef, slot: u16, default: i32) -> Result<i32, StreamFault>
-    ensures { Judges (λ n. n) result (word_of table.now slot default) }
+#[tactic(auto, unfolding(crate::specs::Reads::i32_of))]
+pub(crate) fn read_i32(table: &TableRef, slot: u16, default: i32) -> Result<i32, StreamFault>
+    ensures { Judges (λ n. n) result (i32_of table.now slot default) }
 {
     Ok(readable(table.i32(slot))?.unwrap_or(default))
 }

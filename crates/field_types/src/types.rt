@@ -1,15 +1,26 @@
-//! The types of Schema.fbs, as they are read.
+//! Reads the type of a field: Schema.fbs, union `Type`.
 
 ghost use Rattle.values.specs.Reading.{Answers, Judges};
 ghost use Rattle.values.specs.ColTypes.{IsType};
-ghost use Rattle.field_types.specs.Types.{date_of, decimal_of, digits_of, duration_of, fixed_of, int_of, stored_by, time_of, timestamp_of, type_of};
+ghost use Rattle.field_types.specs.Types.{
+  date_of,
+  decimal_of,
+  digits_of,
+  duration_of,
+  fixed_of,
+  int_of,
+  stored_by,
+  time_of,
+  timestamp_of,
+  type_of,
+};
 ghost use Rattle.std.specs.Prelude.{IfOk};
 
 use crate::kinds::TypeKind;
 use crate::parameters::{
     check_decimal_bits, date_unit, ranged, read_precision, read_time_unit, read_width, read_zone,
 };
-use crate::reads::{read_bool, read_short, read_word, readable};
+use crate::reads::{read_bool, read_i32, read_short, readable};
 use crate::schema_fbs::{
     DECIMAL_SCALE, FIELD_TYPE, FIXED_BYTE_WIDTH, INT_IS_SIGNED, TIME_BIT_WIDTH, UNIT,
 };
@@ -20,8 +31,8 @@ use values::{ColType, StreamFault, Zone};
 
 /// A field's type, of a known kind.
 ///
-/// A type whose table is absent, or whose parameters are out of range, is `BadType`; a decimal of other widths than 128 bits is
-/// `UnsupportedType`.
+/// A type whose table is absent, or whose parameters are out of range, is `BadType`; a decimal of other widths than 128
+/// bits is `UnsupportedType`.
 #[tactic(auto, using(crate::proofs::Faults::faults, crate::proofs::TypeFacts::type_facts), unfolding(crate::specs::Types::type_of))]
 pub fn read_type(alloc: Global, kind: TypeKind, field: &TableRef) -> Result<ColType, StreamFault>
     ensures exact { Answers (λ t. t) result (type_of kind field.now) }
@@ -46,7 +57,7 @@ fn read_parameters(alloc: Global, kind: TypeKind, table: &TableRef) -> Result<Co
         TypeKind::Duration => read_duration(table),
         TypeKind::Utf8 { offsets } => Ok(ColType::Utf8 { offsets }),
         TypeKind::Binary { offsets } => Ok(ColType::Binary { offsets }),
-        TypeKind::Fixed => read_fixed(table),
+        TypeKind::FixedSizeBinary => read_fixed(table),
         TypeKind::List { offsets } => Ok(ColType::List { offsets }),
         TypeKind::Struct => Ok(ColType::Struct),
     }
@@ -75,7 +86,7 @@ fn read_digits(table: &TableRef) -> Result<ColType, StreamFault>
     ensures { Judges (λ t. t) result (digits_of table.now) }
 {
     let precision = read_precision(table)?;
-    let scale = ranged(0, precision as i32, read_word(table, DECIMAL_SCALE, 0)?)?;
+    let scale = ranged(0, precision as i32, read_i32(table, DECIMAL_SCALE, 0)?)?;
     Ok(ColType::Decimal {
         precision,
         scale: scale as u8,
@@ -95,7 +106,7 @@ fn read_time(table: &TableRef) -> Result<ColType, StreamFault>
     ensures { Judges (λ t. t) result (time_of table.now) }
 {
     let unit = read_time_unit(table, 1)?;
-    let bits = read_word(table, TIME_BIT_WIDTH, 32)?;
+    let bits = read_i32(table, TIME_BIT_WIDTH, 32)?;
     if bits == unit.bits() as i32 {
         Ok(ColType::Time { unit })
     } else {
@@ -127,7 +138,7 @@ fn read_duration(table: &TableRef) -> Result<ColType, StreamFault>
 fn read_fixed(table: &TableRef) -> Result<ColType, StreamFault>
     ensures { Judges (λ t. t) result (fixed_of table.now) }
 {
-    let width = read_word(table, FIXED_BYTE_WIDTH, 0)?;
+    let width = read_i32(table, FIXED_BYTE_WIDTH, 0)?;
     let width = ranged(0, MAX_FIXED_WIDTH as i32, width)?;
-    Ok(ColType::Fixed { width })
+    Ok(ColType::FixedSizeBinary { width })
 }

@@ -1,8 +1,15 @@
-//! Writing types.
+//! Writes the type of a field: Schema.fbs, union `Type`.
 
 ghost use Rattle.std.specs.Prelude.{◌≡◌, IfOk};
 ghost use Rattle.flatbuf.specs.Built.{slots};
-ghost use Rattle.field_types.specs.TypeTree.{bool_number, by_offsets, date_unit_number, time_unit_number, type_number as number_in_union, type_slots};
+ghost use Rattle.field_types.specs.TypeTree.{
+  bool_number,
+  by_offsets,
+  date_unit_number,
+  time_unit_number,
+  type_number as number_in_union,
+  type_slots,
+};
 
 use crate::schema_fbs::{
     TYPE_BINARY, TYPE_BOOL, TYPE_DATE, TYPE_DECIMAL, TYPE_DURATION, TYPE_FIXED_SIZE_BINARY,
@@ -36,7 +43,7 @@ pub fn type_number(stored: &ColType) -> u8
         ColType::Duration { .. } => TYPE_DURATION,
         ColType::Utf8 { offsets } => with_offsets(*offsets, TYPE_UTF8, TYPE_LARGE_UTF8),
         ColType::Binary { offsets } => with_offsets(*offsets, TYPE_BINARY, TYPE_LARGE_BINARY),
-        ColType::Fixed { .. } => TYPE_FIXED_SIZE_BINARY,
+        ColType::FixedSizeBinary { .. } => TYPE_FIXED_SIZE_BINARY,
         ColType::List { offsets } => with_offsets(*offsets, TYPE_LIST, TYPE_LARGE_LIST),
         ColType::Struct => TYPE_STRUCT,
     }
@@ -97,7 +104,7 @@ pub fn type_table(alloc: Global, stored: &ColType) -> Result<Builder, AllocError
             }
         }
         ColType::Duration { unit } => table.u16(time_number(*unit))?,
-        ColType::Fixed { width } => table.u32(*width)?,
+        ColType::FixedSizeBinary { width } => table.u32(*width)?,
         ColType::Bool
         | ColType::Utf8 { .. }
         | ColType::Binary { .. }

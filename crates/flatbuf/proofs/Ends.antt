@@ -2,7 +2,18 @@
 use Rattle.std.proofs.Common.{◌≡◌, ℕ, ◌+◌, ◌*◌, ◌/◌, ◌%◌, ◌-◌, ◌<◌, ◌≤◌, List, length, get_or, drop, refl, arith}
 use Rattle.std.proofs.Math.Nat.{div-add-mod', mod-lt}
 use Rattle.flatbuf.specs.Tree.{Node, absent, number, text, structs, table, references, Nodes, node, no_nodes}
-use Rattle.flatbuf.specs.Written.{up, alignment, field_end, fields_end, table_end, items_end, object_end, objects_end, Fits, FitAll}
+use Rattle.flatbuf.specs.Written.{
+  up,
+  alignment,
+  field_end,
+  fields_end,
+  table_end,
+  items_end,
+  object_end,
+  objects_end,
+  Fits,
+  FitAll,
+}
 use Rattle.flatbuf.specs.declared.slot.Slot.{Slot}
 use Rattle.flatbuf.specs.Slots.{view, views}
 use Rattle.flatbuf.proofs.Views.{views-at}
@@ -52,16 +63,20 @@ pub ruleset ends = (fields_end-le, object_end-le, objects_end-le)
 
 -- the next of some slots, and those behind it
 
-pub next-fits : (xs : List Slot) (i : ℕ) (x : Slot) → i < length xs → x ≡ get_or xs i x → FitAll (views (drop i xs)) → Fits (view x) × FitAll (views (drop (i + 1) xs))
+pub next-fits : (xs : List Slot) (i : ℕ) (x : Slot) → i < length xs → x ≡ get_or xs i x → FitAll (views (drop i xs))
+    → Fits (view x) × FitAll (views (drop (i + 1) xs))
 next-fits xs i x h e f = rw (views-at xs i x h e) at f
 
-pub next-object : (at : ℕ) (xs : List Slot) (i : ℕ) (x : Slot) → i < length xs → x ≡ get_or xs i x → FitAll (views (drop i xs)) → object_end at (view x) ≤ objects_end at (views (drop i xs))
+pub next-object : (at : ℕ) (xs : List Slot) (i : ℕ) (x : Slot) → i < length xs → x ≡ get_or xs i x
+    → FitAll (views (drop i xs)) → object_end at (view x) ≤ objects_end at (views (drop i xs))
 next-object at xs i x h e f =
     let rest = objects_end-le (object_end at (view x)) (views (drop (i + 1) xs)) (next-fits xs i x h e f).1 in
     rw (views-at xs i x h e) rest
 
-pub next-objects : (at : ℕ) (xs : List Slot) (i : ℕ) (x : Slot) → i < length xs → x ≡ get_or xs i x → objects_end (object_end at (view x)) (views (drop (i + 1) xs)) ≡ objects_end at (views (drop i xs))
+pub next-objects : (at : ℕ) (xs : List Slot) (i : ℕ) (x : Slot) → i < length xs → x ≡ get_or xs i x
+    → objects_end (object_end at (view x)) (views (drop (i + 1) xs)) ≡ objects_end at (views (drop i xs))
 next-objects at xs i x h e = rw (views-at xs i x h e) refl
 
-pub next-fields : (c : ℕ) (xs : List Slot) (i : ℕ) (x : Slot) → i < length xs → x ≡ get_or xs i x → fields_end (field_end c (view x)) (views (drop (i + 1) xs)) ≡ fields_end c (views (drop i xs))
+pub next-fields : (c : ℕ) (xs : List Slot) (i : ℕ) (x : Slot) → i < length xs → x ≡ get_or xs i x
+    → fields_end (field_end c (view x)) (views (drop (i + 1) xs)) ≡ fields_end c (views (drop i xs))
 next-fields c xs i x h e = rw (views-at xs i x h e) refl

@@ -4,7 +4,36 @@ use Rattle.std.proofs.lemmas.List.{length-replicate}
 use Rattle.byteorder.specs.Endian.{little_bytes}
 use Rattle.byteorder.specs.Numbers.{length-bytes_low_first}
 use Rattle.flatbuf.specs.Tree.{Node, absent, number, text, structs, table, references, Nodes, node, no_nodes, count}
-use Rattle.flatbuf.specs.Written.{zeros, up, up_count, alignment, field_len, field_place, field_end, fields_end, vtable_len, table_place, table_end, items_place, items_end, object_place, object_end, objects_end, content, fields, entry, entries, table_bytes, elements, counted, object, objects, whole, Fits, FitAll}
+use Rattle.flatbuf.specs.Written.{
+  zeros,
+  up,
+  up_count,
+  alignment,
+  field_len,
+  field_place,
+  field_end,
+  fields_end,
+  vtable_len,
+  table_place,
+  table_end,
+  items_place,
+  items_end,
+  object_place,
+  object_end,
+  objects_end,
+  content,
+  fields,
+  entry,
+  entries,
+  table_bytes,
+  elements,
+  counted,
+  object,
+  objects,
+  whole,
+  Fits,
+  FitAll,
+}
 use Rattle.flatbuf.proofs.Ends.{up-le, alignment-fits}
 
 pub length-zeros : (n : ℕ) → length (zeros n) ≡ n
@@ -34,7 +63,8 @@ fields-length t c at (node x r) h =
 pub entries-length : (c : ℕ) (s : Nodes) → length (entries c s) ≡ 2 * count s
 entries-length c no_nodes = refl
 entries-length c (node x r) =
-    let others = entries-length (field_end c x) r in omega (arith, others, length-append (little_bytes 2 (entry c x)) (entries (field_end c x) r))
+    let others = entries-length (field_end c x) r in
+    omega (arith, others, length-append (little_bytes 2 (entry c x)) (entries (field_end c x) r))
 
 pub elements-length : (p at : ℕ) (s : Nodes) → length (elements p at s) ≡ 4 * count s
 elements-length p at no_nodes = refl
@@ -89,7 +119,14 @@ mutual
       let mine = elements-length (items_place at) (items_end at s) s in
       let others = objects-length (items_end at s) s h.0 in
       let list = elements (items_place at) (items_end at s) s in
-      omega (arith, first, mine, others, length-append (counted at (count s)) (list ++ objects (items_end at s) s), length-append list (objects (items_end at s) s))
+      omega (
+        arith,
+        first,
+        mine,
+        others,
+        length-append (counted at (count s)) (list ++ objects (items_end at s) s),
+        length-append list (objects (items_end at s) s),
+      )
 
   pub objects-length : (at : ℕ) (s : Nodes) → FitAll s → at + length (objects at s) ≡ objects_end at s
   objects-length at no_nodes h = omega arith
@@ -105,6 +142,13 @@ whole-length s h =
     let fill = zeros (up 8 end - end) in
     let filled = length-zeros (up 8 end - end) in
     let low = up-le 8 end (omega arith) in
-    omega (arith, mine, filled, low, length-append (little_bytes 4 (table_place 4 s)) (object 4 (table s) ++ fill), length-append (object 4 (table s)) fill)
+    omega (
+      arith,
+      mine,
+      filled,
+      low,
+      length-append (little_bytes 4 (table_place 4 s)) (object 4 (table s) ++ fill),
+      length-append (object 4 (table s)) fill,
+    )
 
 pub ruleset lengths = (whole-length)

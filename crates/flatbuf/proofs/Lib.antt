@@ -1,9 +1,9 @@
 pub mod Ends
 pub mod Views
 mod Sample
-pub mod Pushed
+pub mod PushLemmas
 pub mod Lengths
 pub mod Places
 pub mod Slots
 pub mod ReadsBack
-pub mod Words
+pub mod ReaderAnswers

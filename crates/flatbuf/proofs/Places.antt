@@ -1,5 +1,29 @@
 -- What stands at a place is what is read there.
-use Rattle.std.proofs.Common.{◌≡◌, ℕ, ◌+◌, ◌*◌, ◌-◌, ◌^◌, ◌<◌, ◌≤◌, List, [], ◌++◌, length, drop, Some, refl, ap, sym, subst, ◌∙◌, arith, append_assoc, append-nil, length-append}
+use Rattle.std.proofs.Common.{
+  ◌≡◌,
+  ℕ,
+  ◌+◌,
+  ◌*◌,
+  ◌-◌,
+  ◌^◌,
+  ◌<◌,
+  ◌≤◌,
+  List,
+  [],
+  ◌++◌,
+  length,
+  drop,
+  Some,
+  refl,
+  ap,
+  sym,
+  subst,
+  ◌∙◌,
+  arith,
+  append_assoc,
+  append-nil,
+  length-append,
+}
 use Rattle.std.proofs.lemmas.List.{drop-drop, drop_at, take_at}
 use Rattle.std.proofs.lemmas.Bool.{le-leb}
 use Rattle.byteorder.specs.Endian.{little_bytes}
@@ -18,14 +42,20 @@ At-all b = record { rest = []; is = sym (append-nil b); room = omega arith }
 pub At-front : (b : List ℕ) (p : ℕ) (xs ys : List ℕ) → At b p (xs ++ ys) → At b p xs
 At-front b p xs ys a =
     let room = a.room in
-    record { rest = ys ++ a.rest; is = a.is ∙ append_assoc xs ys a.rest; room = omega (arith, room, length-append xs ys) }
+    record {
+      rest = ys ++ a.rest;
+      is = a.is
+          ∙ append_assoc xs ys a.rest;
+      room = omega (arith, room, length-append xs ys);
+    }
 
 pub At-back : (b : List ℕ) (p q : ℕ) (xs ys : List ℕ) → At b p (xs ++ ys) → p + length xs ≡ q → At b q ys
 At-back b p q xs ys a e =
     let room = a.room in
     let P : ℕ → Type 0 = λ n. drop n b ≡ ys ++ a.rest in
     let moved : drop (p + length xs) b ≡ ys ++ a.rest =
-    sym (drop-drop (length xs) p b) ∙ ap (drop (length xs)) (a.is ∙ append_assoc xs ys a.rest) ∙ drop_at xs (ys ++ a.rest) (length xs) refl in
+    sym (drop-drop (length xs) p b) ∙ ap (drop (length xs)) (a.is ∙ append_assoc xs ys a.rest)
+    ∙ drop_at xs (ys ++ a.rest) (length xs) refl in
     record { rest = a.rest; is = subst P e moved; room = omega (arith, room, e, length-append xs ys) }
 
 pub number-at : (b : List ℕ) (p w n : ℕ) → n < 256 ^ w → At b p (little_bytes w n) → number_at w b p ≡ Some n
@@ -48,7 +78,8 @@ target-at b q p le short a =
     let back : q + (p - q) ≡ p = omega arith in
     rw (number-at b q 4 (p - q) small a, back) refl
 
-pub block-at : (b : List ℕ) (p w n : ℕ) (xs : List ℕ) → n < 2 ^ 32 → length xs ≡ n * w → At b p (little_bytes 4 n) → At b (p + 4) xs → block_at w b p ≡ Some xs
+pub block-at : (b : List ℕ) (p w n : ℕ) (xs : List ℕ) → n < 2 ^ 32 → length xs ≡ n * w → At b p (little_bytes 4 n)
+    → At b (p + 4) xs → block_at w b p ≡ Some xs
 unfolding block_at
 block-at b p w n xs few e count elements =
     let small : n < 256 ^ 4 = omega arith in

@@ -1,5 +1,23 @@
 -- The tree of a slot by its variant, and of slots by their first.
-use Rattle.std.proofs.Common.{rules, ◌≡◌, ℕ, ◌+◌, ◌<◌, List, [], ◌∷◌, ◌++◌, length, get_or, drop, refl, ap, sym, ◌∙◌, arith}
+use Rattle.std.proofs.Common.{
+  rules,
+  ◌≡◌,
+  ℕ,
+  ◌+◌,
+  ◌<◌,
+  List,
+  [],
+  ◌∷◌,
+  ◌++◌,
+  length,
+  get_or,
+  drop,
+  refl,
+  ap,
+  sym,
+  ◌∙◌,
+  arith,
+}
 use Rattle.std.proofs.lemmas.List.{drop_more}
 use Rattle.std.specs.Prelude.{Vec}
 use Rattle.std.specs.declared.alloc.Global.{Global}
@@ -19,7 +37,8 @@ pub count-views : (xs : List Slot) → count (views xs) ≡ length xs
 count-views [] = refl
 count-views (x ∷ xs) = let rest = count-views xs in omega (arith, rest)
 
-pub views-at : (xs : List Slot) (i : ℕ) (x : Slot) → i < length xs → x ≡ get_or xs i x → views (drop i xs) ≡ node (view x) (views (drop (i + 1) xs))
+pub views-at : (xs : List Slot) (i : ℕ) (x : Slot) → i < length xs → x ≡ get_or xs i x
+    → views (drop i xs) ≡ node (view x) (views (drop (i + 1) xs))
 views-at xs i x h e = ap views (drop_more xs i x h) ∙ ap (λ y. node (view y) (views (drop (i + 1) xs))) (sym e)
 
 pub ruleset slots = (view-Table, view-References, count-views, views-at)

@@ -12,7 +12,8 @@ abbrev mutual
   pub NodeHeld : List ℕ → Option (Option ℕ) → Node → Type 0
   NodeHeld b o absent = o ≡ Some None
   NodeHeld b o (number w n) = (q : ℕ) × (o ≡ Some (Some q)) × (number_at w b q ≡ Some n)
-  NodeHeld b o (text xs) = (q : ℕ) × (p : ℕ) × (o ≡ Some (Some q)) × (target_at b q ≡ Some p) × (block_at 1 b p ≡ Some xs)
+  NodeHeld b o (text xs) = (q : ℕ) × (p : ℕ) × (o ≡ Some (Some q)) × (target_at b q ≡ Some p)
+      × (block_at 1 b p ≡ Some xs)
   NodeHeld b o (structs w xs) =
       (q : ℕ) × (p : ℕ) × (o ≡ Some (Some q)) × (target_at b q ≡ Some p) × (block_at w b p ≡ Some xs)
   NodeHeld b o (table s) =

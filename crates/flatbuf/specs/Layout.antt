@@ -1,5 +1,24 @@
--- What the bytes of a FlatBuffer mean. A function into `Option` answers `None` where a byte that it reads lies outside the buffer.
-use Rattle.std.specs.Prelude.{ℕ, ◌+◌, ◌-◌, ◌*◌, ◌^◌, ℤ, List, length, take, drop, Option, Some, None, nat_lt, nat_le, ◌==◌, if◌then◌else◌}
+-- What the bytes of a FlatBuffer mean. A function into `Option` answers `None` where a byte that it reads lies outside
+-- the buffer.
+use Rattle.std.specs.Prelude.{
+  ℕ,
+  ◌+◌,
+  ◌-◌,
+  ◌*◌,
+  ◌^◌,
+  ℤ,
+  List,
+  length,
+  take,
+  drop,
+  Option,
+  Some,
+  None,
+  nat_lt,
+  nat_le,
+  ◌==◌,
+  if◌then◌else◌,
+}
 use Rattle.std.specs.Int.{Width, byte_len, cast_signed}
 use Rattle.std.specs.Option.{option_map}
 use Rattle.byteorder.specs.Endian.{little_number}
@@ -18,7 +37,8 @@ number_at n bytes p = if nat_le (p + n) (length bytes) then Some (little_number 
 unfoldable pub signed_at : Width → List ℕ → ℕ → Option ℤ
 signed_at w bytes p = option_map (λ n. cast_signed w n) (number_at (byte_len w) bytes p)
 
--- FlatBuffers binary format, "Offsets": what is stored elsewhere stands at a distance of 32 bits from the place of that distance.
+-- FlatBuffers binary format, "Offsets": what is stored elsewhere stands at a distance of 32 bits from the place of that
+-- distance.
 unfoldable pub target_at : List ℕ → ℕ → Option ℕ
 target_at bytes p = option_map (λ distance. p + distance) (number_at 4 bytes p)
 
@@ -26,12 +46,13 @@ target_at bytes p = option_map (λ distance. p + distance) (number_at 4 bytes p)
 unfoldable pub bytes_at : ℕ → List ℕ → ℕ → Option (List ℕ)
 bytes_at n bytes p = if nat_le (p + n) (length bytes) then Some (take n (drop p bytes)) else None
 
--- FlatBuffers binary format, "Vectors", "Strings": a count of 32 bits, and the elements, each of this width. A string is a vector of
--- bytes; the zero byte after it is not read.
+-- FlatBuffers binary format, "Vectors", "Strings": a count of 32 bits, and the elements, each of this width. A string
+-- is a vector of bytes; the zero byte after it is not read.
 unfoldable pub block_at : ℕ → List ℕ → ℕ → Option (List ℕ)
 block_at width bytes p = number_at 4 bytes p >>= λ count. bytes_at (count * width) bytes (p + 4)
 
--- FlatBuffers binary format, "Tables": a table stands at a place, and begins with the signed distance back to its vtable
+-- FlatBuffers binary format, "Tables": a table stands at a place, and begins with the signed distance back to its
+-- vtable
 pub record Table : Type 0 where
   pub bytes : List ℕ
   pub place : ℕ
@@ -48,7 +69,8 @@ unfoldable pub place_of_vtable : ℕ → ℕ → Option ℕ
 place_of_vtable p n =
     if nat_lt n (2 ^ 31) then (if nat_le n p then Some (p - n) else None) else Some (p + (2 ^ 32 - n))
 
--- A vtable begins with its own size in bytes and the table's, 16 bits each. So its own size is no less than 4. The table's is not read.
+-- A vtable begins with its own size in bytes and the table's, 16 bits each. So its own size is no less than 4. The
+-- table's is not read.
 abbrev pub checked_size : ℕ → Option ℕ
 checked_size size = if nat_lt size 4 then None else Some size
 
@@ -67,8 +89,8 @@ table_at bytes p = option_map (λ vtable. table_in bytes p) (vtable_at bytes p)
 unfoldable pub root_of : List ℕ → Option Table
 root_of bytes = target_at bytes 0 >>= table_at bytes
 
--- A vtable holds 16 bits for each slot: how far behind the table's place the field stands. A slot is absent where this is 0, or is not
--- wholly within the vtable's own size.
+-- A vtable holds 16 bits for each slot: how far behind the table's place the field stands. A slot is absent where this
+-- is 0, or is not wholly within the vtable's own size.
 abbrev pub field_place : Table → ℕ → Option ℕ
 field_place t offset = if offset == 0 then None else Some (t.place + offset)
 

@@ -1,4 +1,4 @@
-//! Building a table slot by slot, and writing it.
+//! Builds tables slot by slot and writes them in the canonical layout.
 
 ghost use Rattle.std.specs.Prelude.{◌≡◌, length, IfOk, OnOk, OnErr};
 ghost use Rattle.flatbuf.specs.Tree.{absent, number, text, structs, table, references, no_nodes};

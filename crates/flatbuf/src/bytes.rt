@@ -1,9 +1,29 @@
-//! The bytes of the layout, appended front to back.
+//! Appends the objects of the canonical layout, front to back.
 
 ghost use Rattle.std.specs.Prelude.{◌≡◌, ◌+◌, ◌-◌, ◌^◌, ◌<◌, ◌≤◌, ◌*◌, ◌++◌, length, IfOk, OnOk};
 ghost use Rattle.byteorder.specs.Endian.{little_bytes};
 ghost use Rattle.flatbuf.specs.Tree.{text, structs, table, references, count};
-ghost use Rattle.flatbuf.specs.Written.{zeros, fields_end, object_end, objects_end, content, fields, entry, entries, table_bytes, elements, counted, object, objects, whole, Fits, FitAll, IsWritable, items_place, items_end};
+ghost use Rattle.flatbuf.specs.Written.{
+  zeros,
+  fields_end,
+  object_end,
+  objects_end,
+  content,
+  fields,
+  entry,
+  entries,
+  table_bytes,
+  elements,
+  counted,
+  object,
+  objects,
+  whole,
+  Fits,
+  FitAll,
+  IsWritable,
+  items_place,
+  items_end,
+};
 ghost use Rattle.flatbuf.specs.Slots.{view, views};
 
 use crate::layout;
@@ -223,7 +243,9 @@ fn push_structs(out: &mut Vec<u8>, at: u64, width: usize, bytes: &[u8]) -> Resul
 fn push_references(out: &mut Vec<u8>, at: u64, slots: &[Slot]) -> Result<(), AllocError>
     requires fits { FitAll (views slots.now) }
     requires room { object_end at (references (views slots.now)) < 2 ^ 32 }
-    ensures { OnOk result (out.new.items ≡ out.old.items ++ (counted at (count (views slots.now)) ++ elements (items_place at) (items_end at (views slots.now)) (views slots.now))) }
+    ensures { OnOk result (out.new.items ≡ out.old.items
+        ++ (counted at (count (views slots.now))
+        ++ elements (items_place at) (items_end at (views slots.now)) (views slots.now))) }
 {
     push_count(out, at, slots.len() as u64)?;
     push_elements(

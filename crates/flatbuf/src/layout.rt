@@ -1,8 +1,26 @@
-//! Where each object stands: the numbers of the layout, without its bytes.
+//! Computes the place and size of each object of the canonical layout.
 
 ghost use Rattle.std.specs.Prelude.{◌≡◌, ◌+◌, ◌-◌, ◌*◌, ◌^◌, ◌<◌, ◌≤◌};
 ghost use Rattle.flatbuf.specs.Tree.{count, table};
-ghost use Rattle.flatbuf.specs.Written.{up, up_count, alignment, field_len, field_place, field_end, fields_end, vtable_len, table_place, table_end, items_place, items_end, object_place, object_end, objects_end, Fits, FitAll};
+ghost use Rattle.flatbuf.specs.Written.{
+  up,
+  up_count,
+  alignment,
+  field_len,
+  field_place,
+  field_end,
+  fields_end,
+  vtable_len,
+  table_place,
+  table_end,
+  items_place,
+  items_end,
+  object_place,
+  object_end,
+  objects_end,
+  Fits,
+  FitAll,
+};
 ghost use Rattle.flatbuf.specs.Slots.{view, views};
 
 use crate::slot::Slot;

@@ -1,4 +1,4 @@
-//! What stands at a place of the buffer: numbers, distances and runs of bytes.
+//! Reads little-endian numbers, distances and byte runs at a place of the buffer.
 ghost use Rattle.std.specs.Prelude.{◌≡◌, ◌↔◌, ◌+◌, ◌≤◌, length, IsTrue};
 ghost use Rattle.std.specs.Result.{result_ok};
 ghost use Rattle.std.specs.Option.{option_copied};

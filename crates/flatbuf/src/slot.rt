@@ -1,4 +1,4 @@
-//! What one slot of a table holds, before it has a place.
+//! The content of one slot of a table under construction.
 
 /// A slot of a table, or an element of a vector of references.
 #[derive(Drop)]

@@ -1,9 +1,20 @@
-//! Tables: fields in slots, found by way of the table's vtable.
+//! Reads tables: slots are found through the vtable.
 ghost use Rattle.std.specs.Prelude.{◌≡◌, ◌<◌, ◌^◌, is_some};
 ghost use Rattle.std.specs.Int.{w16, w32, w64};
 ghost use Rattle.std.specs.Option.{option_copied, option_map};
 ghost use Rattle.std.specs.Result.{result_ok};
-ghost use Rattle.flatbuf.specs.Layout.{number_of, place_of_vtable, root_of, signed_of, slot_of, structs_of, subtable_of, table_at, text_of, vector_of};
+ghost use Rattle.flatbuf.specs.Layout.{
+  number_of,
+  place_of_vtable,
+  root_of,
+  signed_of,
+  slot_of,
+  structs_of,
+  subtable_of,
+  table_at,
+  text_of,
+  vector_of,
+};
 
 use crate::bad_table::BadTable;
 use crate::numbers::{block, target, u8_at, u16_at, u32_at, u64_at};

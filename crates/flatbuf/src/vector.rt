@@ -1,4 +1,4 @@
-//! Vectors of tables.
+//! Reads vectors of tables.
 ghost use Rattle.std.specs.Prelude.{◌≡◌, ◌<◌, ◌==◌};
 ghost use Rattle.std.specs.Result.{result_ok};
 ghost use Rattle.flatbuf.specs.Layout.{entry_of, vector_at};

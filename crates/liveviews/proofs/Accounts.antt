@@ -1,23 +1,79 @@
 -- What is written of a stream, message by message.
 use Rattle.std.proofs.lemmas.List.{take_all}
-use Rattle.std.proofs.Common.{◌≡◌, ◌⊎◌, inl, inr, ℕ, ◌-◌, ◌<◌, ◌≤◌, Bool, true, false, Option, None, Some, Ok, Err, List, [], ◌∷◌, ◌++◌, length, take, drop, refl, ap, sym, subst, ◌∙◌, arith, append_assoc, append-nil, length-drop}
+use Rattle.std.proofs.Common.{
+  ◌≡◌,
+  ◌⊎◌,
+  inl,
+  inr,
+  ℕ,
+  ◌-◌,
+  ◌<◌,
+  ◌≤◌,
+  Bool,
+  true,
+  false,
+  Option,
+  None,
+  Some,
+  Ok,
+  Err,
+  List,
+  [],
+  ◌∷◌,
+  ◌++◌,
+  length,
+  take,
+  drop,
+  refl,
+  ap,
+  sym,
+  subst,
+  ◌∙◌,
+  arith,
+  append_assoc,
+  append-nil,
+  length-drop,
+}
 use Rattle.std.specs.Prelude.{if◌then◌else◌, string_bytes}
 use Rattle.std.specs.Option.{option_map}
 use Rattle.values.specs.Reading.{Reading, Stands, mapped}
 use Rattle.values.specs.declared.faults.StreamFault.{StreamFault}
 use Rattle.values.specs.declared.faults.StreamFault.TheVariants as fault
-use Rattle.values.proofs.Readings.{good_Ok, stands_mapped}
+use Rattle.values.proofs.Readings.{valid_Ok, stands_mapped}
 use Rattle.feed.specs.declared.condition.Condition.{Condition}
 use Rattle.feed.specs.declared.condition.Condition.TheVariants as condition
 use Rattle.feed.specs.declared.event.Fed.{Fed}
 use Rattle.feed.specs.CutLaw.{PartialUses, WholeUses}
 use Rattle.feed.specs.Events.{Event, Given, batch, dictionary, ended, given, schema}
-use Rattle.feed.specs.Kept.{Kept, stream_in}
+use Rattle.feed.specs.Retained.{Retained, stream_in}
 use Rattle.feed.specs.Shown.{FeedParts, Shows, breaks, event_seen, seen}
-use Rattle.feed.specs.States.{FeedState, Finishes, Gives, after_push, closed, condition_after, finishing_when, fresh, gives, given_when, is_broken, kept_in}
+use Rattle.feed.specs.States.{
+  FeedState,
+  Finishes,
+  Gives,
+  after_push,
+  closed,
+  condition_after,
+  finishing_when,
+  fresh,
+  gives,
+  given_when,
+  is_broken,
+  retained_in,
+}
 use Rattle.feed.specs.Pieces.{NothingLeft, PushKeeps, RefusalEnds}
 use Rattle.feed.specs.Transcript.{Transcript, led_by, no_events, transcript}
-use Rattle.liveviews.specs.Inspect.{Account, Closes, Tells, account_in, account_of, after_lines, last_in, last_line, refusal_line}
+use Rattle.liveviews.specs.Inspect.{
+  Account,
+  Closes,
+  Tells,
+  account_in,
+  account_of,
+  after_lines,
+  last_in,
+  last_line,
+  refusal_line,
+}
 use Rattle.liveviews.specs.Inspecting.{Breaks, IsFresh, IsLeft, IsOpen, StopsAt, condition_when}
 use Rattle.liveviews.specs.declared.inspecting.Inspection.{Inspection}
 use Rattle.liveviews.specs.Lines.{ended_after, given_lines, is_end}
@@ -49,7 +105,8 @@ account-led (Some e) t = refl
 
 push-step :
     (law : PushKeeps) (s : FeedState) (bytes : List ℕ) (g : Given) → gives s bytes ≡ Ok g
-    → account_in (transcript s bytes) ≡ after_lines (given_lines g.event) (account_in (transcript (after_push s bytes (Ok g)) (drop g.used bytes)))
+    → account_in (transcript s bytes) ≡ after_lines (given_lines g.event)
+    (account_in (transcript (after_push s bytes (Ok g)) (drop g.used bytes)))
 push-step law s bytes g is =
     let next : FeedState = after_push s bytes (Ok g) in
     ap (λ ys. account_in (transcript s ys)) (sym (append-nil bytes)) ∙ ap account_in (law s bytes [] g is)
@@ -64,15 +121,17 @@ closed-none [] used e is =
 closed-none (b ∷ bs) used e is = absurd (cc)
 
 -- A feed hands on events only before the end.
-event-opened : (c : Condition) (k : Kept) (bytes : List ℕ) (used : ℕ) (e : Event) → given_when c k bytes ≡ Ok (given used (Some e)) → c ≡ condition.Opened
+event-opened : (c : Condition) (k : Retained) (bytes : List ℕ) (used : ℕ) (e : Event)
+    → given_when c k bytes ≡ Ok (given used (Some e)) → c ≡ condition.Opened
 event-opened condition.Opened k bytes used e is = refl
 event-opened condition.Ended k bytes used e is = absurd (closed-none bytes used e is)
 event-opened condition.Finished k bytes used e is = absurd (closed-none bytes used e is)
 event-opened condition.Broken k bytes used e is = absurd (closed-none bytes used e is)
 
-state-opened : (s : FeedState) (bytes : List ℕ) (used : ℕ) (e : Event) → gives s bytes ≡ Ok (given used (Some e)) → s.condition ≡ condition.Opened
+state-opened : (s : FeedState) (bytes : List ℕ) (used : ℕ) (e : Event) → gives s bytes ≡ Ok (given used (Some e))
+    → s.condition ≡ condition.Opened
 unfolding gives
-state-opened s bytes used e is = event-opened s.condition (kept_in s) bytes used e is
+state-opened s bytes used e is = event-opened s.condition (retained_in s) bytes used e is
 
 event-ends : (e : Event) → condition_after condition.Opened (Some e) ≡ condition_when (is_end e)
 event-ends (schema fields) = refl
@@ -89,7 +148,8 @@ goes-on s bytes used (Some e) before is goes =
 
 -- Some bytes are used.
 uses-some :
-    (all : PartialUses) (uses : WholeUses) (s : FeedState) (bytes : List ℕ) (used : ℕ) (o : Option Event) → 0 < length bytes
+    (all : PartialUses) (uses : WholeUses) (s : FeedState) (bytes : List ℕ) (used : ℕ) (o : Option Event)
+    → 0 < length bytes
     → gives s bytes ≡ Ok (given used o) → (0 < used) × (used ≤ length bytes)
 uses-some all uses s bytes used None some is =
     let whole : used ≡ length bytes = all s bytes used is in (omega (arith, some, whole), omega (arith, whole))
@@ -105,7 +165,8 @@ pub push-uses :
 push-uses all uses i bytes f some (s, shows, goes) answer =
     uses-some all uses s bytes f.used (option_map event_seen f.event) some (gave s bytes f (answer s shows))
 
-pub after-shows : (s : FeedState) (bytes : List ℕ) (g : Given) → (after_push s bytes (Ok g)).condition ≡ condition_after s.condition g.event
+pub after-shows : (s : FeedState) (bytes : List ℕ) (g : Given)
+    → (after_push s bytes (Ok g)).condition ≡ condition_after s.condition g.event
 unfolding after_push
 after-shows s bytes g = refl
 
@@ -115,7 +176,8 @@ pub left-step :
     → ((t : FeedState) → Shows old.feed t → Gives t bytes (Ok (seen f)))
     → ((t : FeedState) → Shows old.feed t → Shows pushed (after_push t bytes (Ok (seen f)))) → new.feed ≡ pushed
     → string_bytes new.text ≡ string_bytes old.text ++ given_lines (option_map event_seen f.event)
-    → new.ended ≡ ended_after old.ended (option_map event_seen f.event) → IsLeft a old bytes → IsLeft a new (drop f.used bytes)
+    → new.ended ≡ ended_after old.ended (option_map event_seen f.event) → IsLeft a old bytes
+    → IsLeft a new (drop f.used bytes)
 left-step law a old new pushed bytes f answer after feed text marked l =
     let o : Option Event = option_map event_seen f.event in
     let is : gives l.state bytes ≡ Ok (seen f) = gave l.state bytes f (answer l.state l.shows) in
@@ -125,14 +187,17 @@ left-step law a old new pushed bytes f answer after feed text marked l =
       state = next;
       shows = subst (λ (p : FeedParts). Shows p next) (sym feed) (after l.state l.shows);
       goes =
-          after-shows l.state bytes (seen f) ∙ goes-on l.state bytes f.used o old.ended is l.goes ∙ ap condition_when (sym marked);
+          after-shows l.state bytes (seen f) ∙ goes-on l.state bytes f.used o old.ended is l.goes
+          ∙ ap condition_when (sym marked);
       tells =
           l.tells ∙ ap (after_lines (string_bytes old.text)) (push-step law l.state bytes (seen f) is)
-          ∙ ap (λ t. record { lines = t; end = rest.end }) (sym (append_assoc (string_bytes old.text) (given_lines o) rest.lines))
+          ∙ ap (λ t. record { lines = t; end = rest.end })
+          (sym (append_assoc (string_bytes old.text) (given_lines o) rest.lines))
           ∙ ap (λ t. after_lines t rest) (sym text);
     }
 
-gives-fault : (s : FeedState) (bytes : List ℕ) (f : StreamFault) → Gives s bytes (Err f) → (f ≡ fault.Memory) ⊎ Stands (gives s bytes) f
+gives-fault : (s : FeedState) (bytes : List ℕ) (f : StreamFault) → Gives s bytes (Err f)
+    → (f ≡ fault.Memory) ⊎ Stands (gives s bytes) f
 unfolding Gives
 gives-fault s bytes fault.Memory h = inl refl
 gives-fault s bytes fault.NoContinuation h = inr h
@@ -167,12 +232,15 @@ gives-fault s bytes fault.AfterEnd h = inr h
 gives-fault s bytes fault.Truncated h = inr h
 
 stops-at :
-    (law : RefusalEnds) (a : Account) (s : FeedState) (text bytes : List ℕ) (f : StreamFault) (m : Reading Given) → 0 < length bytes
+    (law : RefusalEnds) (a : Account) (s : FeedState) (text bytes : List ℕ) (f : StreamFault) (m : Reading Given)
+    → 0 < length bytes
     → a ≡ after_lines text (account_in (transcript s bytes)) → gives s bytes ≡ m → Stands m f → StopsAt a text f
 stops-at law a s text bytes f (Ok g) some tells is stands = absurd stands
 stops-at law a s text bytes f (Err fs) some tells is stands =
-    let none : transcript s bytes ≡ no_events (Err fs) = ap (transcript s) (sym (append-nil bytes)) ∙ law s bytes [] fs some is in
-    let here : a ≡ after_lines text (record { lines = []; end = Err fs }) = tells ∙ ap (λ t. after_lines text (account_in t)) none in
+    let none : transcript s bytes ≡ no_events (Err fs) =
+    ap (transcript s) (sym (append-nil bytes)) ∙ law s bytes [] fs some is in
+    let here : a ≡ after_lines text (record { lines = []; end = Err fs }) =
+    tells ∙ ap (λ t. after_lines text (account_in t)) none in
     record {
       whole = sym (ap (λ x. x.lines) here ∙ append-nil text);
       stands = subst (λ (x : Reading (List ℕ)). Stands x f) (sym (ap (λ x. x.end) here)) stands;
@@ -184,14 +252,17 @@ pub left-breaks :
     → ((t : FeedState) → Shows i.feed t → Gives t bytes (Err f)) → IsLeft a i bytes → Breaks a (string_bytes i.text) f
 left-breaks law a i bytes f some answer l = elim (gives-fault l.state bytes f (answer l.state l.shows)) [
   | inl memory ↦ inl memory
-  | inr stands ↦ inr (stops-at law a l.state (string_bytes i.text) bytes f (gives l.state bytes) some l.tells refl stands)
+  | inr stands ↦ inr
+      (stops-at law a l.state (string_bytes i.text) bytes f (gives l.state bytes) some l.tells refl stands)
 ]
 
 -- what is left, as the code has it
-pub left-rest : (a : Account) (i : Inspection) (bytes : List ℕ) (n : ℕ) → IsLeft a i (drop n bytes) → IsLeft a i (take (length bytes - n) (drop n bytes))
+pub left-rest : (a : Account) (i : Inspection) (bytes : List ℕ) (n : ℕ) → IsLeft a i (drop n bytes)
+    → IsLeft a i (take (length bytes - n) (drop n bytes))
 left-rest a i bytes n l =
     let size : length (drop n bytes) ≡ length bytes - n = length-drop n bytes in
-    let whole : take (length bytes - n) (drop n bytes) ≡ drop n bytes = take_all (length bytes - n) (drop n bytes) (omega (arith, size)) in
+    let whole : take (length bytes - n) (drop n bytes) ≡ drop n bytes =
+    take_all (length bytes - n) (drop n bytes) (omega (arith, size)) in
     subst (IsLeft a i) (sym whole) l
 
 -- Nothing is left.
@@ -206,14 +277,17 @@ left-all a i bytes none l = subst (IsLeft a i) (no-bytes bytes none) l
 abbrev at_end : FeedState → Account
 at_end s = record { lines = []; end = last_in s }
 
-at-end-tells : (law : NothingLeft) (a : Account) (i : Inspection) → (l : IsLeft a i []) → a ≡ after_lines (string_bytes i.text) (at_end l.state)
+at-end-tells : (law : NothingLeft) (a : Account) (i : Inspection) → (l : IsLeft a i [])
+    → a ≡ after_lines (string_bytes i.text) (at_end l.state)
 at-end-tells law a i l = l.tells ∙ ap (λ t. after_lines (string_bytes i.text) (account_in t)) (law l.state)
 
-finish-good : (s : FeedState) (u : Unit {0}) → Finishes s (Ok u) → (x : Unit {0}) × (finishing_when s.condition (stream_in (kept_in s)) ≡ Ok x)
+finish-valid : (s : FeedState) (u : Unit {0}) → Finishes s (Ok u)
+    → (x : Unit {0}) × (finishing_when s.condition (stream_in (retained_in s)) ≡ Ok x)
 unfolding Finishes
-finish-good s u h = good_Ok (finishing_when s.condition (stream_in (kept_in s))) h
+finish-valid s u h = valid_Ok (finishing_when s.condition (stream_in (retained_in s))) h
 
-finish-fault : (s : FeedState) (f : StreamFault) → Finishes s (Err f) → Stands (finishing_when s.condition (stream_in (kept_in s))) f
+finish-fault : (s : FeedState) (f : StreamFault) → Finishes s (Err f)
+    → Stands (finishing_when s.condition (stream_in (retained_in s))) f
 unfolding Finishes
 finish-fault s f h = h
 
@@ -222,14 +296,16 @@ last-when true = refl
 last-when false = refl
 
 pub left-finishes :
-    (law : NothingLeft) (a : Account) (i : Inspection) (u : Unit {0}) (text : List ℕ) → IsLeft a i [] → ((t : FeedState) → Shows i.feed t → Finishes t (Ok u))
+    (law : NothingLeft) (a : Account) (i : Inspection) (u : Unit {0}) (text : List ℕ) → IsLeft a i []
+    → ((t : FeedState) → Shows i.feed t → Finishes t (Ok u))
     → text ≡ string_bytes i.text ++ (if i.ended then [] else last_line condition.Opened) → Tells a text 0
 left-finishes law a i u text l answer written =
-    let good = finish-good l.state u (answer l.state l.shows) in
+    let valid = finish-valid l.state u (answer l.state l.shows) in
     let last : List ℕ = last_line l.state.condition in
     let here : a ≡ after_lines (string_bytes i.text) (at_end l.state) = at-end-tells law a i l in
-    let end : a.end ≡ Ok last = ap (λ x. x.end) here ∙ ap (λ m. mapped (λ u. last) m) good.1 in
-    let named : (if i.ended then [] else last_line condition.Opened) ≡ last = sym (ap last_line l.goes ∙ last-when i.ended) in
+    let end : a.end ≡ Ok last = ap (λ x. x.end) here ∙ ap (λ m. mapped (λ u. last) m) valid.1 in
+    let named : (if i.ended then [] else last_line condition.Opened) ≡ last =
+    sym (ap last_line l.goes ∙ last-when i.ended) in
     record {
       last = last;
       whole =
@@ -239,11 +315,14 @@ left-finishes law a i u text l answer written =
     }
 
 pub left-ends :
-    (law : NothingLeft) (a : Account) (i : Inspection) (c : StreamFault) → IsLeft a i [] → ((t : FeedState) → Shows i.feed t → Finishes t (Err c))
+    (law : NothingLeft) (a : Account) (i : Inspection) (c : StreamFault) → IsLeft a i []
+    → ((t : FeedState) → Shows i.feed t → Finishes t (Err c))
     → Breaks a (string_bytes i.text) c
 left-ends law a i c l answer =
     let here : a ≡ after_lines (string_bytes i.text) (at_end l.state) = at-end-tells law a i l in
-    let stands = stands_mapped (λ u. last_line l.state.condition) (finishing_when l.state.condition (stream_in (kept_in l.state))) c
+    let stands =
+    stands_mapped (λ u. last_line l.state.condition)
+    (finishing_when l.state.condition (stream_in (retained_in l.state))) c
     (finish-fault l.state c (answer l.state l.shows)) in
     inr (record {
       whole = sym (ap (λ x. x.lines) here ∙ append-nil (string_bytes i.text));
@@ -255,7 +334,8 @@ refused-ends : (m : Reading (List ℕ)) (f : StreamFault) → Stands m f → Clo
 refused-ends (Ok x) f stands = absurd stands
 refused-ends (Err fs) f stands = (f, stands, refl, refl)
 
-pub stop-tells : (a : Account) (text : List ℕ) (f : StreamFault) (all : List ℕ) → StopsAt a text f → all ≡ text ++ refusal_line f → Tells a all 1
+pub stop-tells : (a : Account) (text : List ℕ) (f : StreamFault) (all : List ℕ) → StopsAt a text f
+    → all ≡ text ++ refusal_line f → Tells a all 1
 stop-tells a text f all s is = record {
   last = refusal_line f;
   whole = is ∙ ap (λ t. t ++ refusal_line f) s.whole;
@@ -268,6 +348,7 @@ pub written-end :
 written-end true old new is written = absurd (cc)
 written-end false old new is written = written
 
-pub written-none : (marked : Bool) (old : List ℕ) → marked ≡ true → old ≡ old ++ (if marked then [] else last_line condition.Opened)
+pub written-none : (marked : Bool) (old : List ℕ) → marked ≡ true
+    → old ≡ old ++ (if marked then [] else last_line condition.Opened)
 written-none true old is = sym (append-nil old)
 written-none false old is = absurd (cc)

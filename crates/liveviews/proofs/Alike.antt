@@ -2,8 +2,8 @@
 use Rattle.std.proofs.Common.{◌≡◌, ℕ, None, Ok, Err, List, refl, ap, sym, ◌∙◌}
 use Rattle.values.specs.Reading.{Reading, ◌>>=◌, mapped}
 use Rattle.schema_meta.specs.Story.{story_of}
-use Rattle.feed.specs.Kept.{stream_in}
-use Rattle.feed.specs.States.{FeedState, finishing_when, fresh, kept_in}
+use Rattle.feed.specs.Retained.{stream_in}
+use Rattle.feed.specs.States.{FeedState, finishing_when, fresh, retained_in}
 use Rattle.feed.specs.StoryLaw.{EventsTellAll, input_end}
 use Rattle.feed.specs.Transcript.{transcript}
 use Rattle.liveviews.specs.Inspect.{Closes, EndsAlike, Tells, account_of, last_in, last_line, status_where}
@@ -14,17 +14,20 @@ unsaid text (Err fs) = refl
 
 -- the last line, or that the input may end
 ends-by : (end : Reading FeedState) → mapped (λ (last : List ℕ). tt) (end >>= last_in) ≡ input_end end
-ends-by (Ok s) = unsaid (last_line s.condition) (finishing_when s.condition (stream_in (kept_in s)))
+ends-by (Ok s) = unsaid (last_line s.condition) (finishing_when s.condition (stream_in (retained_in s)))
 ends-by (Err fs) = refl
 
 pub account-ends : EventsTellAll → EndsAlike
 account-ends law bytes = ends-by (transcript (fresh None) bytes).end ∙ sym (ap (λ s. s.end) (law bytes))
 
 -- the status
-closes-status : (m : Reading (List ℕ)) (last : List ℕ) (status : ℕ) → Closes m last status → status ≡ status_where {X = Unit {0}} (mapped (λ x. tt) m)
+closes-status : (m : Reading (List ℕ)) (last : List ℕ) (status : ℕ) → Closes m last status
+    → status ≡ status_where {X = Unit {0}} (mapped (λ x. tt) m)
 closes-status (Ok x) last status c = c.1
 closes-status (Err fs) last status c = c.3
 
 pub tells-status :
-    (alike : EndsAlike) (bytes text : List ℕ) (status : ℕ) → Tells (account_of bytes) text status → status ≡ status_where (story_of bytes).end
-tells-status alike bytes text status t = closes-status (account_of bytes).end t.last status t.closes ∙ ap status_where (alike bytes)
+    (alike : EndsAlike) (bytes text : List ℕ) (status : ℕ) → Tells (account_of bytes) text status
+    → status ≡ status_where (story_of bytes).end
+tells-status alike bytes text status t =
+    closes-status (account_of bytes).end t.last status t.closes ∙ ap status_where (alike bytes)

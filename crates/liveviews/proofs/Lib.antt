@@ -1,7 +1,7 @@
 pub mod Batches
-pub mod Weighing
-pub mod Taking
-pub mod Batching
+pub mod WeightLemmas
+pub mod TakenLemmas
+pub mod BatchLemmas
 pub mod Stories
 pub mod Tables
 pub mod ReadBack
@@ -10,4 +10,4 @@ pub mod TypeTexts
 pub mod LineTexts
 pub mod Accounts
 pub mod Alike
-pub mod Endings
+pub mod EndLemmas

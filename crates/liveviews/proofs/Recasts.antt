@@ -2,7 +2,7 @@
 use Rattle.std.proofs.Common.{◌≡◌, inl, ℕ, List, Result, refl}
 use Rattle.values.specs.Datum.{Datum}
 use Rattle.values.specs.Rose.{Rose}
-use Rattle.values.specs.Logical.{LogicalField}
+use Rattle.values.specs.Logical.{NamedType}
 use Rattle.values.specs.declared.causes.Cause.{Cause}
 use Rattle.values.specs.declared.causes.Cause.TheVariants as cause
 use Rattle.values.specs.StreamCauses.{cause_of}
@@ -108,8 +108,9 @@ refused-stops old cause.OverLimit s h = (untouched old, h)
 refused-stops old cause.Shape s h = (untouched old, h)
 
 pub written-table :
-    (law : ReadBack) (old new : Sunk) (answer : Result ℕ WriteFault) (input : List ℕ) (fields : List (Rose LogicalField))
-    (rows : List (List Datum)) → Means (story_of input) fields rows → AreTakenSo (story_of input).schema (story_of input).rows
+    (law : ReadBack) (old new : Sunk) (answer : Result ℕ WriteFault) (input : List ℕ) (fields : List (Rose NamedType))
+    (rows : List (List Datum)) → Means (story_of input) fields rows
+    → AreTakenSo (story_of input).schema (story_of input).rows
     → Writes old new answer (canon fields rows) → WritesTable old new answer (story_of input)
 written-table law old new answer input fields rows means taken writes =
     record { fields = fields; rows = rows; means = means; writes = writes; back = law input fields rows means taken }

@@ -1,5 +1,29 @@
 -- What an event of a feed tells of its stream.
-use Rattle.std.proofs.Common.{◌≡◌, ℕ, ◌+◌, ◌<◌, ◌≤◌, Option, None, Some, Ok, Err, List, ◌++◌, length, drop, Any, refl, ap, sym, subst, ◌∙◌, arith, append_assoc, length-append}
+use Rattle.std.proofs.Common.{
+  ◌≡◌,
+  ℕ,
+  ◌+◌,
+  ◌<◌,
+  ◌≤◌,
+  Option,
+  None,
+  Some,
+  Ok,
+  Err,
+  List,
+  ◌++◌,
+  length,
+  drop,
+  Any,
+  refl,
+  ap,
+  sym,
+  subst,
+  ◌∙◌,
+  arith,
+  append_assoc,
+  length-append,
+}
 use Rattle.std.specs.Option.{IfSome, IsSome, IsSomeAnd, option_map}
 use Rattle.std.proofs.lemmas.List.{get_or_append_left, get_or-append-add}
 use Rattle.values.specs.Datum.{Datum}
@@ -21,11 +45,20 @@ use Rattle.feed.specs.declared.event.Fed.{Fed}
 use Rattle.feed.specs.declared.event.FeedEvent.{FeedEvent}
 use Rattle.feed.specs.Columns.{cells_in, layouts_in}
 use Rattle.feed.specs.CutLaw.{WholeUses}
-use Rattle.feed.specs.Kept.{Kept}
+use Rattle.feed.specs.Retained.{Retained}
 use Rattle.feed.specs.Events.{Event, Given, batch, ended, given}
 use Rattle.feed.specs.Shown.{FeedParts, HasColumns, IsTypedEvent, Shows, event_seen, seen}
-use Rattle.feed.specs.States.{FeedState, Gives, after_push, condition_after, gives, kept_in}
-use Rattle.feed.specs.StoryLaw.{EventTells, FaultsTell, IsBetween, NoneHeld, PartialTells, TaleKnows, tale, tale_from}
+use Rattle.feed.specs.States.{FeedState, Gives, after_push, condition_after, gives, retained_in}
+use Rattle.feed.specs.StoryLaw.{
+  EventTells,
+  FaultsTell,
+  IsBetween,
+  NoneHeld,
+  PartialTells,
+  StoryKnowsSchema,
+  rest_story,
+  rest_story_from,
+}
 use Rattle.liveviews.specs.Heavy.{IsHeavy}
 use Rattle.liveviews.specs.Refused.{RefusesBatch}
 use Rattle.liveviews.specs.Steps.{AreTakenSo, Ended, HasHeavyRow, IsOpen, Reached, Refuses, Tells}
@@ -69,8 +102,9 @@ fault-refuses st t bytes fault.AfterEnd h g = (fault.AfterEnd, refl, g _ h)
 fault-refuses st t bytes fault.Truncated h g = (fault.Truncated, refl, g _ h)
 
 fault-ends :
-    (law : FaultsTell) (st : Story) (rows : List (List Datum)) (t : FeedState) (bytes : List ℕ) (m : Reading Given) (c : StreamFault)
-    → IsBetween t → Tells st rows (kept_in t) bytes → gives t bytes ≡ m → Stands m c → Stands st.end c
+    (law : FaultsTell) (st : Story) (rows : List (List Datum)) (t : FeedState) (bytes : List ℕ) (m : Reading Given)
+    (c : StreamFault)
+    → IsBetween t → Tells st rows (retained_in t) bytes → gives t bytes ≡ m → Stands m c → Stands st.end c
 fault-ends law st rows t bytes (Ok g) c between tells is h = absurd h
 fault-ends law st rows t bytes (Err fs) c between tells is h =
     let end : st.end ≡ Err fs = ap (λ x. x.end) tells ∙ ap (λ x. x.end) (law t bytes fs between is) in
@@ -84,13 +118,16 @@ push-refused law st rows old bytes f answer r =
     (λ c. fault-ends law st rows r.state bytes (gives r.state bytes) c r.between r.tells refl)
 
 given-none :
-    (t : FeedState) (bytes : List ℕ) (f : Fed) → Gives t bytes (Ok (seen f)) → f.event ≡ None → gives t bytes ≡ Ok (given f.used None)
+    (t : FeedState) (bytes : List ℕ) (f : Fed) → Gives t bytes (Ok (seen f)) → f.event ≡ None
+    → gives t bytes ≡ Ok (given f.used None)
 unfolding Gives
 given-none t bytes f answer none = answer ∙ ap (λ o. Ok (given f.used (option_map event_seen o))) none
 
 pub push-partial :
-    (law : PartialTells) (st : Story) (rows : List (List Datum)) (old : FeedParts) (bytes : List ℕ) (f : Fed) → 0 < length bytes
-    → ((t : FeedState) → Shows old t → Gives t bytes (Ok (seen f))) → f.event ≡ None → Reached st old rows bytes → Refuses st cause.Truncated
+    (law : PartialTells) (st : Story) (rows : List (List Datum)) (old : FeedParts) (bytes : List ℕ) (f : Fed)
+    → 0 < length bytes
+    → ((t : FeedState) → Shows old t → Gives t bytes (Ok (seen f))) → f.event ≡ None → Reached st old rows bytes
+    → Refuses st cause.Truncated
 push-partial law st rows old bytes f some answer none r =
     let is : gives r.state bytes ≡ Ok (given f.used None) = given-none r.state bytes f (answer r.state r.shows) none in
     let end : st.end ≡ Err (one fault.Truncated) =
@@ -103,25 +140,30 @@ pub record Came (old new : FeedParts) (bytes : List ℕ) (used : ℕ) (v : Event
   pub after : (t : FeedState) → Shows old t → Shows new (after_push t bytes (Ok (given used (Some v))))
 
 given-some :
-    (t : FeedState) (bytes : List ℕ) (f : Fed) (o : Option Event) → Gives t bytes (Ok (seen f)) → option_map event_seen f.event ≡ o
+    (t : FeedState) (bytes : List ℕ) (f : Fed) (o : Option Event) → Gives t bytes (Ok (seen f))
+    → option_map event_seen f.event ≡ o
     → gives t bytes ≡ Ok (given f.used o)
 unfolding Gives
 given-some t bytes f o answer is = answer ∙ ap (λ x. Ok (given f.used x)) is
 
 pub came :
-    (old new : FeedParts) (bytes : List ℕ) (f : Fed) (e : FeedEvent) (v : Event) → ((t : FeedState) → Shows old t → Gives t bytes (Ok (seen f)))
-    → ((t : FeedState) → Shows old t → Shows new (after_push t bytes (Ok (seen f)))) → f.event ≡ Some e → event_seen e ≡ v
+    (old new : FeedParts) (bytes : List ℕ) (f : Fed) (e : FeedEvent) (v : Event)
+    → ((t : FeedState) → Shows old t → Gives t bytes (Ok (seen f)))
+    → ((t : FeedState) → Shows old t → Shows new (after_push t bytes (Ok (seen f)))) → f.event ≡ Some e
+    → event_seen e ≡ v
     → Came old new bytes f.used v
 came old new bytes f e v answer after there is =
     let same : option_map event_seen f.event ≡ Some v = ap (option_map event_seen) there ∙ ap (λ x. Some x) is in
     record {
       gave = λ t shows. given-some t bytes f (Some v) (answer t shows) same;
-      after = λ t shows. subst (λ (o : Option Event). Shows new (after_push t bytes (Ok (given f.used o)))) same (after t shows);
+      after = λ t shows. subst (λ (o : Option Event). Shows new (after_push t bytes (Ok (given f.used o)))) same
+          (after t shows);
     }
 
 -- Some bytes are used, and no more than there are.
 pub came-uses :
-    (law : WholeUses) (old new : FeedParts) (bytes : List ℕ) (used : ℕ) (v : Event) → Came old new bytes used v → IsOpen old
+    (law : WholeUses) (old new : FeedParts) (bytes : List ℕ) (used : ℕ) (v : Event) → Came old new bytes used v
+    → IsOpen old
     → (0 < used) × (used ≤ length bytes)
 came-uses law old new bytes used v c (t, shows, between) = law t bytes used v (c.gave t shows)
 
@@ -139,14 +181,20 @@ between-after held t bytes used v passes between is = record {
 }
 
 pub came-open :
-    (held : NoneHeld) (old new : FeedParts) (bytes : List ℕ) (used : ℕ) (v : Event) → Passes v → Came old new bytes used v → IsOpen old → IsOpen new
-came-open held old new bytes used v passes c (t, shows, between) =
-    (after_push t bytes (Ok (given used (Some v))), c.after t shows, between-after held t bytes used v passes between (c.gave t shows))
+    (held : NoneHeld) (old new : FeedParts) (bytes : List ℕ) (used : ℕ) (v : Event) → Passes v
+    → Came old new bytes used v → IsOpen old → IsOpen new
+came-open held old new bytes used v passes c (t, shows, between) = (
+  after_push t bytes (Ok (given used (Some v))),
+  c.after t shows,
+  between-after held t bytes used v passes between (c.gave t shows),
+)
 
 -- a schema, or a dictionary batch
 pub next-reached :
-    (law : EventTells) (held : NoneHeld) (st : Story) (rows : List (List Datum)) (old new : FeedParts) (bytes : List ℕ) (used : ℕ) (v : Event)
-    → Passes v → ((k : Kept) (rest : List ℕ) → tale_from v k rest ≡ tale k rest) → Came old new bytes used v → Reached st old rows bytes
+    (law : EventTells) (held : NoneHeld) (st : Story) (rows : List (List Datum)) (old new : FeedParts) (bytes : List ℕ)
+    (used : ℕ) (v : Event)
+    → Passes v → ((k : Retained) (rest : List ℕ) → rest_story_from v k rest ≡ rest_story k rest)
+    → Came old new bytes used v → Reached st old rows bytes
     → Reached st new rows (drop used bytes)
 next-reached law held st rows old new bytes used v passes silent c r =
     let gave : gives r.state bytes ≡ Ok (given used (Some v)) = c.gave r.state r.shows in
@@ -156,7 +204,9 @@ next-reached law held st rows old new bytes used v passes silent c r =
       shows = c.after r.state r.shows;
       between = between-after held r.state bytes used v passes r.between gave;
       taken = r.taken;
-      tells = r.tells ∙ ap (after_rows rows) (law r.state bytes used v r.between gave ∙ silent (kept_in next) (drop used bytes));
+      tells = r.tells
+          ∙ ap (after_rows rows) (law r.state bytes used v r.between gave
+          ∙ silent (retained_in next) (drop used bytes));
     }
 
 some-fields : (o : Option (List (Rose Entry))) → IsSome o → (fields : List (Rose Entry)) × (o ≡ Some fields)
@@ -166,11 +216,13 @@ some-fields (Some fields) some = (fields, refl)
 -- the end mark
 pub end-reached :
     (law : EventTells) (st : Story) (rows : List (List Datum)) (old new : FeedParts) (bytes : List ℕ) (used : ℕ)
-    → Came old new bytes used ended → IsSome new.framing.current.known.schema → Reached st old rows bytes → Ended st new rows (drop used bytes)
+    → Came old new bytes used ended → IsSome new.framing.current.known.schema → Reached st old rows bytes
+    → Ended st new rows (drop used bytes)
 end-reached law st rows old new bytes used c typed r =
     let gave : gives r.state bytes ≡ Ok (given used (Some ended)) = c.gave r.state r.shows in
     let next : FeedState = after_push r.state bytes (Ok (given used (Some ended))) in
-    let here : tale (kept_in r.state) bytes ≡ ends (kept_in next).known (at_end_mark (drop used bytes)) = law r.state bytes used ended r.between gave in
+    let here : rest_story (retained_in r.state) bytes ≡ ends (retained_in next).known (at_end_mark (drop used bytes)) =
+    law r.state bytes used ended r.between gave in
     let shows : Shows new next = c.after r.state r.shows in
     let there = some-fields new.framing.current.known.schema typed in
     record {
@@ -183,48 +235,56 @@ end-reached law st rows old new bytes used c typed r =
     }
 
 -- a batch of rows: what the stream tells, and the columns that it has
-record TellsBatch (st : Story) (new : FeedParts) (rows got : List (List Datum)) (rest : List ℕ) (fields : List (Rose Entry)) : Type 0 where
+record TellsBatch (st : Story) (new : FeedParts) (rows got : List (List Datum)) (rest : List ℕ)
+    (fields : List (Rose Entry)) : Type 0 where
   state : FeedState
   shows : Shows new state
   between : IsBetween state
-  tells : st ≡ after_rows rows (after_rows got (tale (kept_in state) rest))
-  schema : (tale (kept_in state) rest).schema ≡ Some fields
+  tells : st ≡ after_rows rows (after_rows got (rest_story (retained_in state) rest))
+  schema : (rest_story (retained_in state) rest).schema ≡ Some fields
 
 batch-tells :
-    (law : EventTells) (held : NoneHeld) (knows : TaleKnows) (st : Story) (rows : List (List Datum)) (old new : FeedParts) (bytes : List ℕ)
-    (used : ℕ) (columns : List (List Datum)) (n body : ℕ) (fields : List (Rose Entry)) → Came old new bytes used (batch columns n body)
-    → new.framing.current.known.schema ≡ Some fields → Reached st old rows bytes → TellsBatch st new rows (rows_in n columns) (drop used bytes) fields
+    (law : EventTells) (held : NoneHeld) (knows : StoryKnowsSchema) (st : Story) (rows : List (List Datum))
+    (old new : FeedParts) (bytes : List ℕ)
+    (used : ℕ) (columns : List (List Datum)) (n body : ℕ) (fields : List (Rose Entry))
+    → Came old new bytes used (batch columns n body)
+    → new.framing.current.known.schema ≡ Some fields → Reached st old rows bytes
+    → TellsBatch st new rows (rows_in n columns) (drop used bytes) fields
 batch-tells law held knows st rows old new bytes used columns n body fields c there r =
     let v : Event = batch columns n body in
     let gave : gives r.state bytes ≡ Ok (given used (Some v)) = c.gave r.state r.shows in
     let next : FeedState = after_push r.state bytes (Ok (given used (Some v))) in
     let shows : Shows new next = c.after r.state r.shows in
-    let known : (kept_in next).known.schema ≡ Some fields = sym (ap (λ x. x.known.schema) shows.stream) ∙ there in
+    let known : (retained_in next).known.schema ≡ Some fields = sym (ap (λ x. x.known.schema) shows.stream) ∙ there in
     record {
       state = next;
       shows = shows;
       between = between-after held r.state bytes used v (record { stays = refl }) r.between gave;
       tells = r.tells ∙ ap (after_rows rows) (law r.state bytes used v r.between gave);
-      schema = knows (kept_in next) (drop used bytes) fields known;
+      schema = knows (retained_in next) (drop used bytes) fields known;
     }
 
 pub batch-reached :
-    (law : EventTells) (held : NoneHeld) (knows : TaleKnows) (st : Story) (rows taken : List (List Datum)) (old new : FeedParts)
+    (law : EventTells) (held : NoneHeld) (knows : StoryKnowsSchema) (st : Story) (rows taken : List (List Datum))
+    (old new : FeedParts)
     (bytes : List ℕ) (used : ℕ) (columns : List (List Datum)) (n body : ℕ) (fields : List (Rose Entry))
-    → Came old new bytes used (batch columns n body) → new.framing.current.known.schema ≡ Some fields → taken ≡ rows ++ rows_in n columns
-    → (AreTaken (layouts_of fields) rows → AreTaken (layouts_of fields) taken) → Reached st old rows bytes → Reached st new taken (drop used bytes)
-batch-reached law held knows st rows taken old new bytes used columns n body fields c there all kept r =
+    → Came old new bytes used (batch columns n body) → new.framing.current.known.schema ≡ Some fields
+    → taken ≡ rows ++ rows_in n columns
+    → (AreTaken (layouts_of fields) rows → AreTaken (layouts_of fields) taken) → Reached st old rows bytes
+    → Reached st new taken (drop used bytes)
+batch-reached law held knows st rows taken old new bytes used columns n body fields c there all retained r =
     let b = batch-tells law held knows st rows old new bytes used columns n body fields c there r in
-    let rest : Story = tale (kept_in b.state) (drop used bytes) in
+    let rest : Story = rest_story (retained_in b.state) (drop used bytes) in
     let schema : st.schema ≡ Some fields = ap (λ x. x.schema) b.tells ∙ b.schema in
-    let before : AreTakenSo (Some fields) rows = subst (λ (o : Option (List (Rose Entry))). AreTakenSo o rows) schema r.taken in
+    let before : AreTakenSo (Some fields) rows =
+    subst (λ (o : Option (List (Rose Entry))). AreTakenSo o rows) schema r.taken in
     let joined : (rows ++ (rows_in n columns ++ rest.rows)) ≡ taken ++ rest.rows =
     sym (append_assoc rows (rows_in n columns) rest.rows) ∙ ap (λ xs. xs ++ rest.rows) (sym all) in
     record {
       state = b.state;
       shows = b.shows;
       between = b.between;
-      taken = subst (λ (o : Option (List (Rose Entry))). AreTakenSo o taken) (sym schema) (kept before);
+      taken = subst (λ (o : Option (List (Rose Entry))). AreTakenSo o taken) (sym schema) (retained before);
       tells = b.tells ∙ ap (told_with rest.schema rest.end) joined;
     } where
       told_with : Option (List (Rose Entry)) → Reading (Unit {0}) → List (List Datum) → Story
@@ -239,16 +299,18 @@ any-right P xs ys (k, x, below, is, holds) =
     (length xs + k, x, omega (arith, below, length-append xs ys), get_or-append-add xs ys k x ∙ is, holds)
 
 refused-by :
-    (st : Story) (new : FeedParts) (rows got : List (List Datum)) (rest : List ℕ) (fields : List (Rose Entry)) (c : Cause)
+    (st : Story) (new : FeedParts) (rows got : List (List Datum)) (rest : List ℕ) (fields : List (Rose Entry))
+    (c : Cause)
     → TellsBatch st new rows got rest fields → RefusesBatch (layouts_of fields) got (length rows) c → Refuses st c
 refused-by st new rows got rest fields cause.Memory b h = tt
 refused-by st new rows got rest fields cause.TooManyRows b many =
-    let left : List (List Datum) = (tale (kept_in b.state) rest).rows in
+    let left : List (List Datum) = (rest_story (retained_in b.state) rest).rows in
     let long : length st.rows ≡ length rows + (length got + length left) =
-    ap (λ x. length x.rows) b.tells ∙ length-append rows (got ++ left) ∙ ap (λ n. length rows + n) (length-append got left) in
+    ap (λ x. length x.rows) b.tells ∙ length-append rows (got ++ left)
+    ∙ ap (λ n. length rows + n) (length-append got left) in
     omega (arith, many, long)
 refused-by st new rows got rest fields cause.CellTooHeavy b heavy =
-    let left : List (List Datum) = (tale (kept_in b.state) rest).rows in
+    let left : List (List Datum) = (rest_story (retained_in b.state) rest).rows in
     let P : List Datum → Type 0 = IsHeavy (layouts_of fields) in
     let here : Any P (rows ++ (got ++ left)) = any-right P rows (got ++ left) (any-left P got left heavy) in
     let schema : st.schema ≡ Some fields = ap (λ x. x.schema) b.tells ∙ b.schema in
@@ -257,7 +319,8 @@ refused-by st new rows got rest fields cause.CellTooHeavy b heavy =
 refused-by st new rows got rest fields _ b h = absurd h
 
 pub batch-refused :
-    (law : EventTells) (held : NoneHeld) (knows : TaleKnows) (st : Story) (rows : List (List Datum)) (old new : FeedParts) (bytes : List ℕ)
+    (law : EventTells) (held : NoneHeld) (knows : StoryKnowsSchema) (st : Story) (rows : List (List Datum))
+    (old new : FeedParts) (bytes : List ℕ)
     (used : ℕ) (columns : List (List Datum)) (n body : ℕ) (fields : List (Rose Entry)) (c : Cause)
     → Came old new bytes used (batch columns n body) → new.framing.current.known.schema ≡ Some fields
     → RefusesBatch (layouts_of fields) (rows_in n columns) (length rows) c → Reached st old rows bytes → Refuses st c
@@ -267,35 +330,46 @@ batch-refused law held knows st rows old new bytes used columns n body fields c 
 
 -- the same in the words of the code, which has the columns
 pub typed-event :
-    (o : Option (List (Rose Entry))) (f : Fed) (e d : FeedEvent) → IfSome f.event (IsTypedEvent o) → f.event ≡ Some e → e ≡ d → IsTypedEvent o d
+    (o : Option (List (Rose Entry))) (f : Fed) (e d : FeedEvent) → IfSome f.event (IsTypedEvent o) → f.event ≡ Some e
+    → e ≡ d → IsTypedEvent o d
 typed-event o f e d typed there is =
-    let here : IfSome (Some e) (IsTypedEvent o) = subst (λ (x : Option FeedEvent). IfSome x (IsTypedEvent o)) there typed in
+    let here : IfSome (Some e) (IsTypedEvent o) =
+    subst (λ (x : Option FeedEvent). IfSome x (IsTypedEvent o)) there typed in
     subst (IsTypedEvent o) is here
 
 typed-fields :
-    (o : Option (List (Rose Entry))) (columns : List CheckedColumn) (n : ℕ) → IsSomeAnd o (λ fs. HasColumns fs columns n)
+    (o : Option (List (Rose Entry))) (columns : List CheckedColumn) (n : ℕ)
+    → IsSomeAnd o (λ fs. HasColumns fs columns n)
     → (fs : List (Rose Entry)) × (o ≡ Some fs) × (layouts_in columns ≡ layouts_of fs)
 typed-fields None columns n typed = absurd typed
 typed-fields (Some fs) columns n typed = (fs, refl, typed.0)
 
 pub columns-reached :
-    (law : EventTells) (held : NoneHeld) (knows : TaleKnows) (st : Story) (rows taken : List (List Datum)) (old new : FeedParts)
-    (bytes : List ℕ) (used : ℕ) (columns : List CheckedColumn) (n body : ℕ) → Came old new bytes used (batch (cells_in columns) n body)
-    → IsSomeAnd new.framing.current.known.schema (λ fs. HasColumns fs columns n) → taken ≡ rows ++ rows_in n (cells_in columns)
-    → (AreTaken (layouts_in columns) rows → AreTaken (layouts_in columns) taken) → Reached st old rows bytes → Reached st new taken (drop used bytes)
-columns-reached law held knows st rows taken old new bytes used columns n body c typed all kept r =
+    (law : EventTells) (held : NoneHeld) (knows : StoryKnowsSchema) (st : Story) (rows taken : List (List Datum))
+    (old new : FeedParts)
+    (bytes : List ℕ) (used : ℕ) (columns : List CheckedColumn) (n body : ℕ)
+    → Came old new bytes used (batch (cells_in columns) n body)
+    → IsSomeAnd new.framing.current.known.schema (λ fs. HasColumns fs columns n)
+    → taken ≡ rows ++ rows_in n (cells_in columns)
+    → (AreTaken (layouts_in columns) rows → AreTaken (layouts_in columns) taken) → Reached st old rows bytes
+    → Reached st new taken (drop used bytes)
+columns-reached law held knows st rows taken old new bytes used columns n body c typed all retained r =
     let t = typed-fields new.framing.current.known.schema columns n typed in
     batch-reached law held knows st rows taken old new bytes used (cells_in columns) n body t.0 c t.1 all
-    (subst (λ (ls : Roses Layout). AreTaken ls rows → AreTaken ls taken) t.2 kept) r
+    (subst (λ (ls : Roses Layout). AreTaken ls rows → AreTaken ls taken) t.2 retained) r
 
 pub columns-refused :
-    (law : EventTells) (held : NoneHeld) (knows : TaleKnows) (st : Story) (rows : List (List Datum)) (old new : FeedParts) (bytes : List ℕ)
-    (used : ℕ) (columns : List CheckedColumn) (n body before : ℕ) (k : Cause) → Came old new bytes used (batch (cells_in columns) n body)
+    (law : EventTells) (held : NoneHeld) (knows : StoryKnowsSchema) (st : Story) (rows : List (List Datum))
+    (old new : FeedParts) (bytes : List ℕ)
+    (used : ℕ) (columns : List CheckedColumn) (n body before : ℕ) (k : Cause)
+    → Came old new bytes used (batch (cells_in columns) n body)
     → IsSomeAnd new.framing.current.known.schema (λ fs. HasColumns fs columns n) → before ≡ length rows
-    → RefusesBatch (layouts_in columns) (rows_in n (cells_in columns)) before k → Reached st old rows bytes → Refuses st k
+    → RefusesBatch (layouts_in columns) (rows_in n (cells_in columns)) before k → Reached st old rows bytes
+    → Refuses st k
 columns-refused law held knows st rows old new bytes used columns n body before k c typed size refused r =
     let t = typed-fields new.framing.current.known.schema columns n typed in
     let got : List (List Datum) = rows_in n (cells_in columns) in
-    let sized : RefusesBatch (layouts_in columns) got (length rows) k = subst (λ (m : ℕ). RefusesBatch (layouts_in columns) got m k) size refused in
+    let sized : RefusesBatch (layouts_in columns) got (length rows) k =
+    subst (λ (m : ℕ). RefusesBatch (layouts_in columns) got m k) size refused in
     batch-refused law held knows st rows old new bytes used (cells_in columns) n body t.0 k c t.1
     (subst (λ (ls : Roses Layout). RefusesBatch ls got (length rows) k) t.2 sized) r

@@ -1,5 +1,36 @@
 -- The table at the end of a stream.
-use Rattle.std.proofs.Common.{◌≡◌, ℕ, ◌-◌, ◌<◌, ◌≤◌, Bool, true, false, Option, None, Some, Result, Ok, Err, OnOk, List, [], ◌∷◌, length, take, drop, map, refl, ap, sym, subst, ◌∙◌, arith, append-nil, length-drop}
+use Rattle.std.proofs.Common.{
+  ◌≡◌,
+  ℕ,
+  ◌-◌,
+  ◌<◌,
+  ◌≤◌,
+  Bool,
+  true,
+  false,
+  Option,
+  None,
+  Some,
+  Result,
+  Ok,
+  Err,
+  OnOk,
+  List,
+  [],
+  ◌∷◌,
+  length,
+  take,
+  drop,
+  map,
+  refl,
+  ap,
+  sym,
+  subst,
+  ◌∙◌,
+  arith,
+  append-nil,
+  length-drop,
+}
 use Rattle.std.specs.Prelude.{if◌then◌else◌, ◌==◌}
 use Rattle.std.specs.Option.{option_map}
 use Rattle.std.proofs.lemmas.List.{take_all}
@@ -12,37 +43,48 @@ use Rattle.values.specs.Rose.{Rose, Roses}
 use Rattle.values.specs.declared.layout.Layout.{Layout}
 use Rattle.values.specs.declared.faults.StreamFault.TheVariants as fault
 use Rattle.values.specs.declared.causes.Cause.TheVariants as cause
-use Rattle.values.specs.Logical.{LogicalField}
+use Rattle.values.specs.Logical.{NamedType}
 use Rattle.schema_meta.specs.Entry.{Entry}
 use Rattle.schema_meta.specs.FieldLayouts.{layouts_of}
 use Rattle.schema_meta.specs.FieldsLaw.{AreFields, ColumnsFit}
 use Rattle.schema_meta.specs.Logical.{logical_field}
-use Rattle.schema_meta.specs.LogicalLaw.{LogicalTrees, NarrowFits, NarrowHoldsEach, NarrowRowWeighs, logical_trees, narrow_trees}
+use Rattle.schema_meta.specs.LogicalLaw.{
+  LogicalTrees,
+  NarrowFits,
+  NarrowHoldsEach,
+  NarrowRowWeighs,
+  logical_trees,
+  narrow_trees,
+}
 use Rattle.schema_meta.specs.Story.{Story, story, story_of, ends, at_input_end, at_end_mark, after_rows}
 use Rattle.schema_meta.specs.Means.{Means}
 use Rattle.stream_writer.specs.Table.{IsRow, IsTable}
-use Rattle.feed.specs.Kept.{Kept, kept, kept_of}
+use Rattle.feed.specs.Retained.{Retained, retained, retained_of}
 use Rattle.feed.specs.Shown.{FeedParts, Shows}
-use Rattle.feed.specs.States.{FeedState, fresh, kept_in}
-use Rattle.feed.specs.StoryLaw.{AllIsTold, IsBetween, tale}
+use Rattle.feed.specs.States.{FeedState, fresh, retained_in}
+use Rattle.feed.specs.StoryLaw.{AllIsTold, IsBetween, rest_story}
 use Rattle.liveviews.specs.Taken.{AreTaken, IsTakenRow}
-use Rattle.liveviews.specs.Steps.{AreTakenSo, Ended, IsOpen, Reached, Refuses, Told}
+use Rattle.liveviews.specs.Steps.{AreTakenSo, Ended, IsOpen, Reached, Refuses, IsComplete}
 
 -- What is known of the logical columns is handed in: it is the contract of `logical_law`.
 module _ (trees : LogicalTrees) (fits : NarrowFits) (holds : NarrowHoldsEach) (weighs : NarrowRowWeighs) where
   -- rows that the columns hold as they are stored are rows of the logical columns
-  row-fits : (fields : List (Rose Entry)) (row : List Datum) → IsTakenRow (layouts_of fields) row → IsRow (map logical_field fields) row
+  row-fits : (fields : List (Rose Entry)) (row : List Datum) → IsTakenRow (layouts_of fields) row
+      → IsRow (map logical_field fields) row
   row-fits fields row taken =
       let ls : Roses Layout = layouts_of fields in
       let same : logical_trees fields ≡ narrow_trees ls = trees fields in
       let P : Roses Layout → Type 0 = λ ts. HoldsEach ts (items_of row) in
       let Q : Roses Layout → Type 0 = λ ts. row_weight ts (items_of row) ≤ max_row_weight in
-      let narrow : row_weight (narrow_trees ls) (items_of row) ≡ row_weight ls (items_of row) = weighs ls (items_of row) in
-      let light : row_weight (narrow_trees ls) (items_of row) ≤ max_row_weight = omega (arith, narrow, taken.light.whole) in
+      let narrow : row_weight (narrow_trees ls) (items_of row) ≡ row_weight ls (items_of row) =
+      weighs ls (items_of row) in
+      let light : row_weight (narrow_trees ls) (items_of row) ≤ max_row_weight =
+      omega (arith, narrow, taken.light.whole) in
       record { held = subst P (sym same) (holds ls (items_of row) taken.held); light = subst Q (sym same) light }
 
   pub table-fits :
-      (columns : ColumnsFit) (fields : List (Rose Entry)) (rows : List (List Datum)) → AreFields fields → AreTaken (layouts_of fields) rows
+      (columns : ColumnsFit) (fields : List (Rose Entry)) (rows : List (List Datum)) → AreFields fields
+      → AreTaken (layouts_of fields) rows
       → IsTable (map logical_field fields) rows
   table-fits columns fields rows sound taken = record {
     columns = columns fields sound;
@@ -52,45 +94,55 @@ module _ (trees : LogicalTrees) (fits : NarrowFits) (holds : NarrowHoldsEach) (w
   }
 
 -- what was told of a stream of these columns
-told-schema :
-    (s : Story) (f : FeedParts) (rows : List (List Datum)) (o : Option (List (Rose Entry))) → ((t : FeedState) → Shows f t → o ≡ (kept_in t).known.schema)
-    → (told : Told s f rows) → s.schema ≡ o
-told-schema s f rows o shown told = ap (λ x. x.schema) told.tells ∙ sym (shown told.state told.shows)
+complete-schema :
+    (s : Story) (f : FeedParts) (rows : List (List Datum)) (o : Option (List (Rose Entry)))
+    → ((t : FeedState) → Shows f t → o ≡ (retained_in t).known.schema)
+    → (complete : IsComplete s f rows) → s.schema ≡ o
+complete-schema s f rows o shown complete =
+    ap (λ x. x.schema) complete.tells ∙ sym (shown complete.state complete.shows)
 
-pub told-means :
-    (s : Story) (f : FeedParts) (rows cells : List (List Datum)) (fs : List (Rose Entry)) (fields : List (Rose LogicalField))
-    → ((t : FeedState) → Shows f t → Some fs ≡ (kept_in t).known.schema) → fields ≡ map logical_field fs → cells ≡ rows → Told s f rows
+pub complete-means :
+    (s : Story) (f : FeedParts) (rows cells : List (List Datum)) (fs : List (Rose Entry))
+    (fields : List (Rose NamedType))
+    → ((t : FeedState) → Shows f t → Some fs ≡ (retained_in t).known.schema) → fields ≡ map logical_field fs
+    → cells ≡ rows → IsComplete s f rows
     → Means s fields cells
-told-means s f rows cells fs fields shown named same told = record {
-  whole = ap (λ x. x.end) told.tells ∙ ap at_input_end (sym (shown told.state told.shows));
-  columns = ap (option_map (λ gs. map logical_field gs)) (told-schema s f rows (Some fs) shown told) ∙ ap (λ xs. Some xs) (sym named);
-  cells = ap (λ x. x.rows) told.tells ∙ append-nil rows ∙ sym same;
+complete-means s f rows cells fs fields shown named same complete = record {
+  whole = ap (λ x. x.end) complete.tells ∙ ap at_input_end (sym (shown complete.state complete.shows));
+  columns = ap (option_map (λ gs. map logical_field gs)) (complete-schema s f rows (Some fs) shown complete)
+      ∙ ap (λ xs. Some xs) (sym named);
+  cells = ap (λ x. x.rows) complete.tells ∙ append-nil rows ∙ sym same;
 }
 
 -- what was taken of it
-pub told-taken :
-    (s : Story) (f : FeedParts) (rows : List (List Datum)) (fs : List (Rose Entry)) → ((t : FeedState) → Shows f t → Some fs ≡ (kept_in t).known.schema)
-    → Told s f rows → AreTaken (layouts_of fs) rows
-told-taken s f rows fs shown told =
-    subst (λ (o : Option (List (Rose Entry))). AreTakenSo o rows) (told-schema s f rows (Some fs) shown told) told.taken
+pub complete-taken :
+    (s : Story) (f : FeedParts) (rows : List (List Datum)) (fs : List (Rose Entry))
+    → ((t : FeedState) → Shows f t → Some fs ≡ (retained_in t).known.schema)
+    → IsComplete s f rows → AreTaken (layouts_of fs) rows
+complete-taken s f rows fs shown complete =
+    subst (λ (o : Option (List (Rose Entry))). AreTakenSo o rows) (complete-schema s f rows (Some fs) shown complete)
+    complete.taken
 
 -- without a schema there is no table
-pub told-lacks :
-    (s : Story) (f : FeedParts) (rows : List (List Datum)) → ((t : FeedState) → Shows f t → None ≡ (kept_in t).known.schema) → Told s f rows
+pub complete-lacks :
+    (s : Story) (f : FeedParts) (rows : List (List Datum))
+    → ((t : FeedState) → Shows f t → None ≡ (retained_in t).known.schema) → IsComplete s f rows
     → Refuses s cause.NoSchema
-told-lacks s f rows shown told =
-    let end : s.end ≡ Err (one fault.NoSchema) = ap (λ x. x.end) told.tells ∙ ap at_input_end (sym (shown told.state told.shows)) in
+complete-lacks s f rows shown complete =
+    let end : s.end ≡ Err (one fault.NoSchema) =
+    ap (λ x. x.end) complete.tells ∙ ap at_input_end (sym (shown complete.state complete.shows)) in
     (fault.NoSchema, refl, subst (λ (m : Reading (Unit {0})). Stands m fault.NoSchema) (sym end) refl)
 
 -- all rows of the stream were taken
-pub told-all : (s : Story) (f : FeedParts) (rows : List (List Datum)) → Told s f rows → AreTakenSo s.schema s.rows
-told-all s f rows told =
-    let all : s.rows ≡ rows = ap (λ x. x.rows) told.tells ∙ append-nil rows in
-    subst (AreTakenSo s.schema) (sym all) told.taken
+pub complete-all : (s : Story) (f : FeedParts) (rows : List (List Datum)) → IsComplete s f rows
+    → AreTakenSo s.schema s.rows
+complete-all s f rows complete =
+    let all : s.rows ≡ rows = ap (λ x. x.rows) complete.tells ∙ append-nil rows in
+    subst (AreTakenSo s.schema) (sym all) complete.taken
 
 -- where reading begins
 pub fresh-between : IsBetween (fresh None)
-unfolding kept_of kept
+unfolding retained_of retained
 fresh-between = record { goes_on = refl; none_held = refl }
 
 taken-none : (o : Option (List (Rose Entry))) → AreTakenSo o []
@@ -101,7 +153,8 @@ pub fresh-open : (f : FeedParts) → Shows f (fresh None) → IsOpen f
 fresh-open f shows = (fresh None, shows, fresh-between)
 
 pub reached-all :
-    (law : AllIsTold) (f : FeedParts) (rows : List (List Datum)) (bytes : List ℕ) → Shows f (fresh None) → rows ≡ [] → Reached (story_of bytes) f rows bytes
+    (law : AllIsTold) (f : FeedParts) (rows : List (List Datum)) (bytes : List ℕ) → Shows f (fresh None) → rows ≡ []
+    → Reached (story_of bytes) f rows bytes
 reached-all law f rows bytes shows none =
     let P : List (List Datum) → Type 0 = λ xs. Reached (story_of bytes) f xs bytes in
     subst P (sym none) (record {
@@ -113,34 +166,39 @@ reached-all law f rows bytes shows none =
     })
 
 -- the end of the input, where nothing is left
-pub nothing-tells : (k : Kept) (bytes : List ℕ) → length bytes ≤ 0 → tale k bytes ≡ ends k.known (at_input_end k.known.schema)
+pub nothing-tells : (k : Retained) (bytes : List ℕ) → length bytes ≤ 0
+    → rest_story k bytes ≡ ends k.known (at_input_end k.known.schema)
 unfolding story
 nothing-tells k [] none = refl
 nothing-tells k (b ∷ bs) none = absurd (omega (arith, none))
 
-pub at-end : (s : Story) (f : FeedParts) (rows : List (List Datum)) (bytes : List ℕ) → length bytes ≤ 0 → Reached s f rows bytes → Told s f rows
+pub at-end : (s : Story) (f : FeedParts) (rows : List (List Datum)) (bytes : List ℕ) → length bytes ≤ 0
+    → Reached s f rows bytes → IsComplete s f rows
 at-end s f rows bytes none r = record {
   state = r.state;
   shows = r.shows;
   taken = r.taken;
-  tells = r.tells ∙ ap (after_rows rows) (nothing-tells (kept_in r.state) bytes none);
+  tells = r.tells ∙ ap (after_rows rows) (nothing-tells (retained_in r.state) bytes none);
 }
 
 -- the end mark, with nothing after it or something
 pub at-mark-by : (rest : List ℕ) → length rest ≡ 0 → at_end_mark rest ≡ Ok tt
-at-mark-by rest none = let P : ℕ → Type 0 = λ n. (if n == 0 then Ok tt else Err (one fault.AfterEnd)) ≡ Ok tt in subst P (sym none) refl
+at-mark-by rest none = let P : ℕ
+    → Type 0 = λ n. (if n == 0 then Ok tt else Err (one fault.AfterEnd)) ≡ Ok tt in subst P (sym none) refl
 
 -- the end mark ends a stream like the end of its input
-pub mark-told :
-    (s : Story) (f : FeedParts) (rows : List (List Datum)) (bytes : List ℕ) (n : ℕ) → length bytes ≤ n → Ended s f rows (drop n bytes) → Told s f rows
-mark-told s f rows bytes n all r =
+pub mark-complete :
+    (s : Story) (f : FeedParts) (rows : List (List Datum)) (bytes : List ℕ) (n : ℕ) → length bytes ≤ n
+    → Ended s f rows (drop n bytes) → IsComplete s f rows
+mark-complete s f rows bytes n all r =
     let none : length (drop n bytes) ≡ 0 = length-drop n bytes ∙ omega (arith, all) in
-    let input : at_input_end (kept_in r.state).known.schema ≡ Ok tt = ap at_input_end r.known in
+    let input : at_input_end (retained_in r.state).known.schema ≡ Ok tt = ap at_input_end r.known in
     record {
       state = r.state;
       shows = r.shows;
       taken = r.taken;
-      tells = r.tells ∙ ap (λ m. after_rows rows (ends (kept_in r.state).known m)) (at-mark-by (drop n bytes) none ∙ sym input);
+      tells = r.tells
+          ∙ ap (λ m. after_rows rows (ends (retained_in r.state).known m)) (at-mark-by (drop n bytes) none ∙ sym input);
     }
 
 abbrev mark_by : Bool → Reading (Unit {0})
@@ -154,10 +212,12 @@ pub after-by : (rest : List ℕ) → 0 < length rest → at_end_mark rest ≡ Er
 after-by rest some = after-test (length rest) (length rest == 0) some refl
 
 pub mark-before :
-    (s : Story) (f : FeedParts) (rows : List (List Datum)) (bytes : List ℕ) (n : ℕ) → n < length bytes → Ended s f rows (drop n bytes)
+    (s : Story) (f : FeedParts) (rows : List (List Datum)) (bytes : List ℕ) (n : ℕ) → n < length bytes
+    → Ended s f rows (drop n bytes)
     → Refuses s cause.AfterEnd
 mark-before s f rows bytes n more r =
-    let some : 0 < length (drop n bytes) = let size : length (drop n bytes) ≡ length bytes - n = length-drop n bytes in omega (arith, size, more) in
+    let some : 0 < length (drop n bytes) = let size : length (drop n bytes) ≡ length bytes - n = length-drop n bytes in
+    omega (arith, size, more) in
     let end : s.end ≡ Err (one fault.AfterEnd) = ap (λ x. x.end) r.tells ∙ after-by (drop n bytes) some in
     (fault.AfterEnd, refl, subst (λ (m : Reading (Unit {0})). Stands m fault.AfterEnd) (sym end) refl)
 
@@ -167,7 +227,8 @@ pub reached-rest :
     → Reached s f rows (take (length bytes - n) (drop n bytes))
 reached-rest s f rows bytes n r =
     let size : length (drop n bytes) ≡ length bytes - n = length-drop n bytes in
-    let whole : take (length bytes - n) (drop n bytes) ≡ drop n bytes = take_all (length bytes - n) (drop n bytes) (omega (arith, size)) in
+    let whole : take (length bytes - n) (drop n bytes) ≡ drop n bytes =
+    take_all (length bytes - n) (drop n bytes) (omega (arith, size)) in
     subst (Reached s f rows) (sym whole) r
 
 pub on_ok_always : {T E P : Type 0} (r : Result T E) → P → OnOk r P

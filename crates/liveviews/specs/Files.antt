@@ -20,7 +20,8 @@ pub record RecastsFile (held : Option (List ℕ)) (old new : Sunk) (answer : Res
   pub recasts : Recasts old new answer (story_of input)
 
 -- Putting failed, and the files tell that the one to be written could not be made.
-pub record MakesNone (held : Option (List ℕ)) (old new : Sunk) (unmade : Option FileFault) (why : FileFault) : Type 0 where
+pub record MakesNone (held : Option (List ℕ)) (old new : Sunk) (unmade : Option FileFault) (why : FileFault) :
+    Type 0 where
   pub fault : unmade ≡ Some why
   pub written : ℕ
   pub recasts : RecastsFile held old new (Err (record { cause = cause.Device; written = written }))
@@ -30,4 +31,4 @@ pub record InspectsFile (held : Option (List ℕ)) (text : List ℕ) (status : �
   pub input : List ℕ
   pub read : IsContent held input
   pub tells : Tells (account_of input) text status
-  pub good : status ≡ status_where (story_of input).end
+  pub valid : status ≡ status_where (story_of input).end

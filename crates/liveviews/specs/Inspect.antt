@@ -8,8 +8,8 @@ use Rattle.values.specs.declared.faults.StreamFault.{StreamFault}
 use Rattle.schema_meta.specs.Story.{story_of}
 use Rattle.feed.specs.declared.condition.Condition.{Condition}
 use Rattle.feed.specs.declared.condition.Condition.TheVariants as condition
-use Rattle.feed.specs.Kept.{stream_in}
-use Rattle.feed.specs.States.{FeedState, finishing_when, fresh, kept_in}
+use Rattle.feed.specs.Retained.{stream_in}
+use Rattle.feed.specs.States.{FeedState, finishing_when, fresh, retained_in}
 use Rattle.feed.specs.Transcript.{Transcript, transcript}
 use Rattle.liveviews.specs.Lines.{event_lines, newline}
 
@@ -29,7 +29,7 @@ last_line _ = []
 
 -- the last line where all bytes are consumed, if the input may end there
 abbrev pub last_in : FeedState → Reading (List ℕ)
-last_in s = mapped (λ u. last_line s.condition) (finishing_when s.condition (stream_in (kept_in s)))
+last_in s = mapped (λ u. last_line s.condition) (finishing_when s.condition (stream_in (retained_in s)))
 
 -- what is told of a transcript: the lines of its events, in their order
 abbrev pub account_in : Transcript → Account
@@ -39,7 +39,8 @@ abbrev pub account_of : List ℕ → Account
 account_of bytes = account_in (transcript (fresh None) bytes)
 
 abbrev pub refusal_line : StreamFault → List ℕ
-refusal_line f = codes "refused " ++ (decimal (number_of (cause_of f)) ++ (codes " " ++ (name_of (cause_of f) ++ newline)))
+refusal_line f = codes "refused "
+    ++ (decimal (number_of (cause_of f)) ++ (codes " " ++ (name_of (cause_of f) ++ newline)))
 
 -- the last line and the status
 abbrev pub Closes : Reading (List ℕ) → List ℕ → ℕ → Type 0

@@ -1,12 +1,29 @@
 -- What is printed of each message of a stream.
-use Rattle.std.specs.Prelude.{ℕ, ℤ, Bool, true, false, List, [], ◌∷◌, ◌++◌, Option, None, Some, codes, flat_map, if◌then◌else◌, length}
+use Rattle.std.specs.Prelude.{
+  ℕ,
+  ℤ,
+  Bool,
+  true,
+  false,
+  List,
+  [],
+  ◌∷◌,
+  ◌++◌,
+  Option,
+  None,
+  Some,
+  codes,
+  flat_map,
+  if◌then◌else◌,
+  length,
+}
 use Rattle.std.specs.Fmt.{decimal, signed_decimal}
 use Rattle.values.specs.Rose.{Rose, node, Roses, none, more}
 use Rattle.values.specs.TypeText.{type_text}
 use Rattle.values.specs.declared.col_type.ColType.{ColType}
 use Rattle.values.specs.declared.col_type.ColType.TheVariants as stored
 use Rattle.schema_meta.specs.Entry.{Entry}
-use Rattle.schema_meta.specs.declared.coding.Coding.{Coding}
+use Rattle.schema_meta.specs.declared.encoding.DictionaryEncoding.{DictionaryEncoding}
 use Rattle.feed.specs.Events.{Event, batch, dictionary, ended, schema}
 
 -- a type's text says what stands below it
@@ -27,7 +44,8 @@ below_text s parts = if is_nested s then codes "[" ++ (parts ++ codes "]") else 
 abbrev pub parts_text : List ℕ → ColType → Roses Entry → List ℕ
 parts_text comma s none = []
 parts_text comma s (more (node e kids) ts) =
-    comma ++ (label_text s e.name ++ ((type_text e.stored ++ below_text e.stored (parts_text [] e.stored kids)) ++ parts_text (codes ", ") s ts))
+    comma ++ (label_text s e.name
+    ++ ((type_text e.stored ++ below_text e.stored (parts_text [] e.stored kids)) ++ parts_text (codes ", ") s ts))
 
 -- a field's type, with those of the fields below it
 abbrev pub tree_text : Rose Entry → List ℕ
@@ -36,12 +54,13 @@ tree_text (node e kids) = type_text e.stored ++ below_text e.stored (parts_text 
 abbrev pub newline : List ℕ
 newline = 10 ∷ []
 
-abbrev pub coding_text : Option Coding → List ℕ
-coding_text None = []
-coding_text (Some c) = codes " dict=" ++ signed_decimal c.id
+abbrev pub encoding_text : Option DictionaryEncoding → List ℕ
+encoding_text None = []
+encoding_text (Some c) = codes " dict=" ++ signed_decimal c.id
 
 abbrev pub field_line : Rose Entry → List ℕ
-field_line (node e kids) = codes "field " ++ (e.name ++ (codes " " ++ (tree_text (node e kids) ++ (coding_text e.coding ++ newline))))
+field_line (node e kids) = codes "field "
+    ++ (e.name ++ (codes " " ++ (tree_text (node e kids) ++ (encoding_text e.encoding ++ newline))))
 
 abbrev pub fields_lines : List (Rose Entry) → List ℕ
 fields_lines fields = flat_map field_line fields
@@ -57,7 +76,9 @@ schema_lines fields = count_line (length fields) ++ fields_lines fields
 
 abbrev pub dictionary_line : ℤ → Bool → ℕ → List ℕ
 dictionary_line id delta values =
-    codes "dictionary id=" ++ (signed_decimal id ++ (codes " delta=" ++ (bool_text delta ++ (codes " values=" ++ (decimal values ++ newline)))))
+    codes "dictionary id="
+    ++ (signed_decimal id
+    ++ (codes " delta=" ++ (bool_text delta ++ (codes " values=" ++ (decimal values ++ newline)))))
 
 abbrev pub batch_line : ℕ → ℕ → List ℕ
 batch_line rows body = codes "batch rows=" ++ (decimal rows ++ (codes " body=" ++ (decimal body ++ newline)))

@@ -26,7 +26,8 @@ AsksInspect words (asked.Inspect file) = first_value words (codes "FILE") ≡ So
 AsksInspect words (asked.Recast from to) = ⊥
 
 abbrev pub AsksRecast : Found → Asked → Type 0
-AsksRecast words (asked.Recast from to) = (first_value words (codes "IN") ≡ Some from.now) × (first_value words (codes "OUT") ≡ Some to.now)
+AsksRecast words (asked.Recast from to) =
+    (first_value words (codes "IN") ≡ Some from.now) × (first_value words (codes "OUT") ≡ Some to.now)
 AsksRecast words (asked.Inspect file) = ⊥
 
 -- words that ask for nothing, or memory was refused before a file was read
@@ -46,7 +47,8 @@ IsUnreadable (refusal.CannotWrite path) = ⊥
 -- Words that can't be read: for want of memory, or else they ask for nothing.
 abbrev pub IsRefusedAs : ErrorKind → Refusal → Type 0
 IsRefusedAs kind r =
-    ((kind ≡ kinds.OutOfMemory) × (r ≡ refusal.Refused cause.Memory)) ⊎ ((kind ≢ kinds.OutOfMemory) × (r ≡ refusal.WrongUse))
+    ((kind ≡ kinds.OutOfMemory) × (r ≡ refusal.Refused cause.Memory))
+    ⊎ ((kind ≢ kinds.OutOfMemory) × (r ≡ refusal.WrongUse))
 
 -- A cause that the command names: memory was refused outside of recasting, or recasting stopped for it.
 abbrev pub StopsFor : Option (List ℕ) → Sunk → Sunk → Option FileFault → Cause → Type 0
@@ -86,7 +88,8 @@ unmade_for named file.Memory = refusal.Refused cause.Memory
 -- A cause is named as it is, or it is the device's where the file could not be made.
 abbrev pub IsStopped : Refusal → Option FileFault → Cause → Refusal → Type 0
 IsStopped named unmade c answer =
-    (answer ≡ refusal.Refused c) ⊎ ((why : FileFault) × (c ≡ cause.Device) × (unmade ≡ Some why) × (answer ≡ unmade_for named why))
+    (answer ≡ refusal.Refused c)
+    ⊎ ((why : FileFault) × (c ≡ cause.Device) × (unmade ≡ Some why) × (answer ≡ unmade_for named why))
 
 abbrev pub status_of : Refusal → ℕ
 status_of refusal.WrongUse = 2
@@ -106,15 +109,16 @@ abbrev pub status_after : Outcome → ℕ
 status_after (outcome.Inspected i) = i.status
 status_after (outcome.Recast n) = 0
 
--- A file was read, and either no fault stands in it and nothing was put, or all of the canonical stream of its table was put. What says so
--- was printed.
+-- A file was read, and either no fault stands in it and nothing was put, or all of the canonical stream of its table
+-- was put. What says so was printed.
 pub record IsDone (content : List ℕ → Option (List ℕ)) (old new : Sunk) (before after : Option (List ℕ)) : Type 0 where
   pub path : List ℕ
   pub outcome : Outcome
   pub comes : Comes (content path) old new outcome
-  pub good : status_after outcome ≡ 0
+  pub valid : status_after outcome ≡ 0
   pub printed : Appends before after (text_of outcome)
 
 -- Nothing was put, or a file was read and recast, however far.
 abbrev pub IsBegun : (List ℕ → Option (List ℕ)) → Sunk → Sunk → Type 0
-IsBegun content old new = (new ≡ old) ⊎ ((path : List ℕ) × (answer : Result ℕ RecastFault) × RecastsFile (content path) old new answer)
+IsBegun content old new = (new ≡ old)
+    ⊎ ((path : List ℕ) × (answer : Result ℕ RecastFault) × RecastsFile (content path) old new answer)

@@ -2,7 +2,7 @@
 use Rattle.std.specs.Prelude.{◌≡◌, ◌⊎◌, ℕ, List, Result, Ok, Err}
 use Rattle.values.specs.Datum.{Datum}
 use Rattle.values.specs.Rose.{Rose}
-use Rattle.values.specs.Logical.{LogicalField}
+use Rattle.values.specs.Logical.{NamedType}
 use Rattle.values.specs.declared.causes.Cause.{Cause}
 use Rattle.values.specs.declared.causes.Cause.TheVariants as cause
 use Rattle.schema_meta.specs.Story.{Story, story_of}
@@ -16,7 +16,7 @@ use Rattle.liveviews.specs.declared.recasting.RecastFault.{RecastFault}
 
 -- The stream means a table, this came of writing the table's canonical stream, and that stream means the table too.
 pub record WritesTable (old new : Sunk) (answer : Result ℕ WriteFault) (s : Story) : Type 0 where
-  pub fields : List (Rose LogicalField)
+  pub fields : List (Rose NamedType)
   pub rows : List (List Datum)
   pub means : Means s fields rows
   pub writes : Writes old new answer (canon fields rows)

@@ -8,10 +8,10 @@ use Rattle.values.specs.declared.causes.Cause.TheVariants as cause
 use Rattle.schema_meta.specs.Entry.{Entry}
 use Rattle.schema_meta.specs.FieldLayouts.{layouts_of}
 use Rattle.schema_meta.specs.Story.{Story, after_rows, ends, at_end_mark, at_input_end}
-use Rattle.feed.specs.Kept.{Kept}
+use Rattle.feed.specs.Retained.{Retained}
 use Rattle.feed.specs.Shown.{FeedParts, Shows}
-use Rattle.feed.specs.States.{FeedState, kept_in}
-use Rattle.feed.specs.StoryLaw.{IsBetween, tale}
+use Rattle.feed.specs.States.{FeedState, retained_in}
+use Rattle.feed.specs.StoryLaw.{IsBetween, rest_story}
 use Rattle.liveviews.specs.Heavy.{IsHeavy}
 use Rattle.liveviews.specs.Taken.{AreTaken}
 use Rattle.liveviews.specs.Refused.{StandsAs}
@@ -19,8 +19,8 @@ use Rattle.liveviews.specs.declared.table.Step.{Step}
 use Rattle.liveviews.specs.declared.table.Step.TheVariants as step
 
 -- the stream tells these rows, and then what these bytes tell where so much is kept
-abbrev pub Tells : Story → List (List Datum) → Kept → List ℕ → Type 0
-Tells s rows k bytes = s ≡ after_rows rows (tale k bytes)
+abbrev pub Tells : Story → List (List Datum) → Retained → List ℕ → Type 0
+Tells s rows k bytes = s ≡ after_rows rows (rest_story k bytes)
 
 -- One of the rows that the stream tells is too heavy for its schema.
 abbrev pub HasHeavyRow : Option (List (Rose Entry)) → List (List Datum) → Type 0
@@ -49,23 +49,23 @@ pub record Reached (s : Story) (f : FeedParts) (rows : List (List Datum)) (bytes
   pub shows : Shows f state
   pub between : IsBetween state
   pub taken : AreTakenSo s.schema rows
-  pub tells : Tells s rows (kept_in state) bytes
+  pub tells : Tells s rows (retained_in state) bytes
 
 -- These rows were taken, and then the end mark came, before these bytes.
 pub record Ended (s : Story) (f : FeedParts) (rows : List (List Datum)) (rest : List ℕ) : Type 0 where
   pub state : FeedState
   pub shows : Shows f state
   pub taken : AreTakenSo s.schema rows
-  pub tells : s ≡ after_rows rows (ends (kept_in state).known (at_end_mark rest))
+  pub tells : s ≡ after_rows rows (ends (retained_in state).known (at_end_mark rest))
   pub fields : List (Rose Entry)
-  pub known : (kept_in state).known.schema ≡ Some fields
+  pub known : (retained_in state).known.schema ≡ Some fields
 
 -- The stream told these rows and no more, and ends like an input.
-pub record Told (s : Story) (f : FeedParts) (rows : List (List Datum)) : Type 0 where
+pub record IsComplete (s : Story) (f : FeedParts) (rows : List (List Datum)) : Type 0 where
   pub state : FeedState
   pub shows : Shows f state
   pub taken : AreTakenSo s.schema rows
-  pub tells : s ≡ after_rows rows (ends (kept_in state).known (at_input_end (kept_in state).known.schema))
+  pub tells : s ≡ after_rows rows (ends (retained_in state).known (at_input_end (retained_in state).known.schema))
 
 abbrev pub length_of : Step → ℕ
 length_of (step.Next n) = n

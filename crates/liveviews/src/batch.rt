@@ -1,4 +1,4 @@
-//! The rows of a record batch.
+//! Appends the rows of a record batch to a table, within the limits of rows and weights.
 
 ghost use Rattle.std.specs.Prelude.{◌≡◌, ◌<◌, ◌++◌, All, IfOk, IfErr, OnOk, length, true, false};
 ghost use Rattle.values.specs.Datum.{items_of};
@@ -28,7 +28,7 @@ pub(crate) fn read_row(alloc: Global, columns: &[Column], index: usize) -> Resul
 }
 
 /// Whether row `index` has a cell or is as a whole above the limit on weights. Nothing is copied for it.
-#[tactic(auto, using(crate::proofs::Weighing::weighing))]
+#[tactic(auto, using(crate::proofs::WeightLemmas::weighing))]
 fn is_heavy(columns: &[Column], index: usize) -> bool
     requires { All (λ c. index < length c.cells) columns.now }
     ensures heavy { result ≡ true → IsHeavy (layouts_in columns.now) (row_at (cells_in columns.now) index) }
@@ -48,8 +48,9 @@ fn is_heavy(columns: &[Column], index: usize) -> bool
     false
 }
 
-/// Adds the first `count` rows of the columns: 45 where one of them is too heavy, and then some of them may stand in `rows`.
-#[tactic(auto, using(crate::proofs::Taking::taking))]
+/// Adds the first `count` rows of the columns: 45 where one of them is too heavy, and then some of them may stand in
+/// `rows`.
+#[tactic(auto, using(crate::proofs::TakenLemmas::taking))]
 pub(crate) fn add_rows(
     alloc: Global,
     columns: &[Column],
@@ -57,7 +58,8 @@ pub(crate) fn add_rows(
     rows: &mut Vec<Row>,
 ) -> Result<(), Cause>
     requires { All (λ c. length c.cells ≡ count) columns.now }
-    ensures rows { OnOk result (cells_of_rows rows.new.items ≡ cells_of_rows rows.old.items ++ rows_in count (cells_in columns.now)) }
+    ensures rows { OnOk result (cells_of_rows rows.new.items ≡ cells_of_rows rows.old.items
+        ++ rows_in count (cells_in columns.now)) }
     ensures fit { OnOk result (AreFit (layouts_in columns.now) (cells_in columns.now) count) }
     ensures refused { IfErr result (λ c. RefusesRows (layouts_in columns.now) (cells_in columns.now) count c) }
 {

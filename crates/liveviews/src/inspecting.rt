@@ -1,4 +1,4 @@
-//! `inspect`: a stream in, a line for each of its messages out.
+//! `inspect`: describes a stream, one line a message.
 
 ghost use Rattle.std.specs.Prelude.{◌≡◌, ◌<◌, ◌≤◌, ◌++◌, IfErr, IfOk, OnOk, [], drop, length, string_bytes};
 ghost use Rattle.std.specs.Option.{option_map};
@@ -14,7 +14,7 @@ use feed::{Fed, Feed, cut_law, pieces_law};
 use std::alloc::{AllocError, Global};
 use values::{Cause, StreamFault};
 
-/// What a stream holds, message by message.
+/// The description of a stream, message by message.
 #[derive(Debug, Drop, PartialEq, Eq)]
 pub struct Inspected {
     /// A line for each message and each column, and a last one for the end of the input or the refusal.
@@ -23,7 +23,7 @@ pub struct Inspected {
     pub status: u8,
 }
 
-/// An inspection that goes on.
+/// An inspection under way.
 #[derive(Drop)]
 struct Inspection {
     feed: Feed,
@@ -34,7 +34,7 @@ struct Inspection {
 }
 
 impl Inspection {
-    /// One of which nothing has come.
+    /// Begins an inspection.
     fn new(alloc: Global) -> Inspection
         ensures fresh { IsFresh result }
     {
@@ -45,11 +45,12 @@ impl Inspection {
         }
     }
 
-    /// Writes the lines of what a push came to. Answers how many bytes that used.
+    /// Writes the lines of an event, and returns the number of bytes that the push used.
     fn note(&mut self, fed: Fed) -> Result<usize, AllocError>
         ensures feed { self.new.feed ≡ self.old.feed }
         ensures used { IfOk result (λ n. n ≡ fed.used) }
-        ensures text { OnOk result (string_bytes self.new.text ≡ string_bytes self.old.text ++ given_lines (option_map event_seen fed.event)) }
+        ensures text { OnOk result (string_bytes self.new.text ≡ string_bytes self.old.text
+            ++ given_lines (option_map event_seen fed.event)) }
         ensures ended { OnOk result (self.new.ended ≡ ended_after self.old.ended (option_map event_seen fed.event)) }
     {
         write_fed(&mut self.text, &fed)?;
@@ -57,13 +58,15 @@ impl Inspection {
         Ok(fed.used)
     }
 
-    /// Takes the first message of these bytes, which are all that is left, or all of them. Answers how many.
+    /// Takes the first message of these bytes, which are all that is left, or all of them, and returns their number.
     fn take(&mut self, bytes: &[u8]) -> Result<usize, StreamFault>
         requires open { IsOpen self.old }
         requires some { 0 < length bytes.now }
         ensures used { IfOk result (λ n. (0 < n) × (n ≤ length bytes.now)) }
-        ensures left { IfOk result (λ n. (a : Account) → IsLeft a self.old bytes.now → IsLeft a self.new (drop n bytes.now)) }
-        ensures fault { IfErr result (λ f. (a : Account) → IsLeft a self.old bytes.now → Breaks a (string_bytes self.new.text) f) }
+        ensures left { IfOk result (λ n. (a : Account) → IsLeft a self.old bytes.now
+            → IsLeft a self.new (drop n bytes.now)) }
+        ensures fault { IfErr result (λ f. (a : Account) → IsLeft a self.old bytes.now
+            → Breaks a (string_bytes self.new.text) f) }
     {
         // They do nothing: the proof takes from them that a push uses some bytes, and what it leaves.
         cut_law();
@@ -89,7 +92,7 @@ impl Inspection {
     /// Takes a whole stream, and writes the line of its end.
     fn run(&mut self, input: &[u8]) -> Result<(), StreamFault>
         requires fresh { IsFresh self.old }
-        ensures told { OnOk result (Tells (account_of input.now) (string_bytes self.new.text) 0) }
+        ensures complete { OnOk result (Tells (account_of input.now) (string_bytes self.new.text) 0) }
         ensures fault { IfErr result (Breaks (account_of input.now) (string_bytes self.new.text)) }
     {
         // It does nothing: the proof takes from it that nothing is told where no byte is left.
@@ -112,10 +115,10 @@ fn write_refusal(text: &mut String, fault: StreamFault) -> Result<(), AllocError
     writeln!(text, "refused {number} {cause}")
 }
 
-/// Reads a whole stream, and says of each message what it is.
+/// Describes each message of a whole stream.
 ///
-/// Where a fault stands, the lines of the messages before it come first. Nothing is said of rows that are too many or too heavy for
-/// `recast`. The error is want of memory.
+/// Where a fault stands, the lines of the messages before it come first. Nothing is said of rows that are too many or
+/// too heavy for `recast`. The error is want of memory.
 pub fn inspect(alloc: Global, input: &[u8]) -> Result<Inspected, AllocError>
     ensures tells { IfOk result (λ i. Tells (account_of input.now) (string_bytes i.text) i.status) }
     ensures status { IfOk result (λ i. i.status ≡ status_where (story_of input.now).end) }

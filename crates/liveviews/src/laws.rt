@@ -15,8 +15,8 @@ pub fn account_law()
     story_law();
 }
 
-/// Where a whole input means a table within the limits, the canonical stream of that table means it too: no fault stands in it, and its
-/// columns and rows are the same; also where these columns were declared for the stream.
+/// Where a whole input means a table within the limits, the canonical stream of that table means it too: no fault
+/// stands in it, and its columns and rows are the same; also where these columns were declared for the stream.
 pub fn recast_law()
     ensures back { ReadBack }
     ensures declared_back { DeclaredReadBack }

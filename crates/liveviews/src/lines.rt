@@ -1,22 +1,33 @@
-//! What is printed of each message.
+//! The lines that `inspect` prints for events.
 
 ghost use Rattle.std.specs.Prelude.{◌≡◌, ◌++◌, OnOk, string_bytes};
 ghost use Rattle.std.specs.Option.{option_map};
 ghost use Rattle.feed.specs.Shown.{event_seen};
-ghost use Rattle.liveviews.specs.Lines.{batch_line, coding_text, count_line, dictionary_line, ended_after, event_lines, field_line, fields_lines, given_lines, schema_lines};
+ghost use Rattle.liveviews.specs.Lines.{
+  batch_line,
+  encoding_text,
+  count_line,
+  dictionary_line,
+  ended_after,
+  event_lines,
+  field_line,
+  fields_lines,
+  given_lines,
+  schema_lines,
+};
 
 use crate::types::write_type;
 use feed::{Fed, FeedEvent};
-use schema_meta::{Coding, Field, StreamSchema};
+use schema_meta::{DictionaryEncoding, Field, StreamSchema};
 use std::alloc::AllocError;
 
 /// Writes the dictionary of a column, if it has one.
-fn write_coding(text: &mut String, coding: Option<Coding>) -> Result<(), AllocError>
-    ensures { OnOk result (string_bytes text.new ≡ string_bytes text.old ++ coding_text coding) }
+fn write_encoding(text: &mut String, encoding: Option<DictionaryEncoding>) -> Result<(), AllocError>
+    ensures { OnOk result (string_bytes text.new ≡ string_bytes text.old ++ encoding_text encoding) }
 {
-    match coding {
+    match encoding {
         None => Ok(()),
-        Some(Coding { id, .. }) => write!(text, " dict={id}"),
+        Some(DictionaryEncoding { id, .. }) => write!(text, " dict={id}"),
     }
 }
 
@@ -26,7 +37,7 @@ fn write_field(text: &mut String, field: &Field) -> Result<(), AllocError>
     let name = field.name.as_str();
     write!(text, "field {name} ")?;
     write_type(text, field)?;
-    write_coding(text, field.coding)?;
+    write_encoding(text, field.encoding)?;
     text.push_str("\n")
 }
 
@@ -86,7 +97,8 @@ fn write_event(text: &mut String, event: &FeedEvent) -> Result<(), AllocError>
 
 /// Writes the lines of a message, if one came.
 pub(crate) fn write_fed(text: &mut String, fed: &Fed) -> Result<(), AllocError>
-    ensures { OnOk result (string_bytes text.new ≡ string_bytes text.old ++ given_lines (option_map event_seen fed.now.event)) }
+    ensures { OnOk result (string_bytes text.new ≡ string_bytes text.old
+        ++ given_lines (option_map event_seen fed.now.event)) }
 {
     match &fed.event {
         None => Ok(()),

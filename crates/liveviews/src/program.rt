@@ -3,7 +3,20 @@
 ghost use Rattle.std.specs.Prelude.{◌≡◌, ◌≤◌, IfErr, IfOk, IfSome, string_bytes};
 ghost use Rattle.clap.specs.Words.{found_of};
 ghost use Rattle.liveviews.specs.Files.{InspectsFile, IsContent};
-ghost use Rattle.liveviews.specs.Program.{AsksInspect, AsksRecast, DoesSomewhere, Ends, IsBegun, IsDone, IsStopped, IsUnread, IsUnreadable, status_after, status_of, unmade_for};
+ghost use Rattle.liveviews.specs.Program.{
+  AsksInspect,
+  AsksRecast,
+  DoesSomewhere,
+  Ends,
+  IsBegun,
+  IsDone,
+  IsStopped,
+  IsUnread,
+  IsUnreadable,
+  status_after,
+  status_of,
+  unmade_for,
+};
 ghost use Rattle.liveviews.specs.declared.program.Refusal.TheVariants.{CannotWrite};
 
 use crate::files::{FileFault, Files};
@@ -17,14 +30,14 @@ use std::io::Write;
 use thiserror::Error;
 use values::Cause;
 
-/// What the words ask for.
+/// The command given by the arguments.
 #[derive(Debug, Drop)]
 enum Asked<'a> {
     Inspect { file: &'a str },
     Recast { from: &'a str, to: &'a str },
 }
 
-/// What came of a command that was done.
+/// The outcome of a command.
 #[derive(Debug, Drop)]
 enum Outcome {
     Inspected(Inspected),
@@ -185,14 +198,15 @@ fn inspect_file<'a, F: Files>(
     files: &mut F,
 ) -> Result<Inspected, Refusal<'a>>
     ensures sunk { F.sunk files.new ≡ F.sunk files.old }
-    ensures told { IfOk result (λ i. InspectsFile (F.content files.old path.now) (string_bytes i.text) i.status) }
+    ensures complete { IfOk result (λ i. InspectsFile (F.content files.old path.now) (string_bytes i.text) i.status) }
     ensures unread { IfErr result IsUnreadable }
 {
     let input = read_file(path, files)?;
     Ok(inspect(alloc, &input)?)
 }
 
-/// Recasts the file at `from`, and puts what comes of it to the file at `to`, which is made once there is something to put.
+/// Recasts the file at `from`, and puts what comes of it to the file at `to`, which is made once there is something to
+/// put.
 fn recast_file<'a, F: Files>(
     alloc: Global,
     from: &'a str,
@@ -221,7 +235,7 @@ fn stopped<'a, F: Files>(files: &F, fault: RecastFault, to: &'a str) -> Refusal<
     }
 }
 
-/// Does what the words ask for.
+/// Runs the command given by the arguments.
 fn done<'a, F: Files>(
     alloc: Global,
     words: &'a [String],
@@ -238,11 +252,14 @@ fn done<'a, F: Files>(
     }
 }
 
-/// Does what `words` ask for (the program's arguments without its own name), and prints to `out`: the lines of `inspect`, or one line.
+/// Does what `words` ask for (the program's arguments without its own name), and prints to `out`: the lines of
+/// `inspect`, or one line.
 ///
-/// Answers the program's exit status: 0 done, 1 refused or a print that failed, 2 words that ask for nothing that `lv` does.
+/// Answers the program's exit status: 0 done, 1 refused or a print that failed, 2 words that ask for nothing that `lv`
+/// does.
 pub fn lv<F: Files, W: Write>(alloc: Global, words: &[String], files: &mut F, out: &mut W) -> u8
-    ensures done { result ≡ 0 → IsDone (F.content files.old) (F.sunk files.old) (F.sunk files.new) (W.contents out.old) (W.contents out.new) }
+    ensures done { result ≡ 0
+        → IsDone (F.content files.old) (F.sunk files.old) (F.sunk files.new) (W.contents out.old) (W.contents out.new) }
     ensures wrong_use { result ≡ 2 → F.sunk files.new ≡ F.sunk files.old }
     ensures begun { IsBegun (F.content files.old) (F.sunk files.old) (F.sunk files.new) }
     ensures bound { result ≤ 2 }

@@ -1,4 +1,4 @@
-//! `recast`: a stream in, the canonical stream of the same rows out.
+//! `recast`: reads a stream and writes the canonical stream of the same rows.
 
 ghost use Rattle.schema_meta.specs.Story.{story_of};
 ghost use Rattle.std.specs.Prelude.{OnOk};

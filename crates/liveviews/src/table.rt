@@ -1,4 +1,4 @@
-//! The table that a whole stream means.
+//! Reads a whole stream into a table.
 
 ghost use Rattle.std.specs.Prelude.{◌≡◌, ◌≤◌, ◌<◌, ◌++◌, All, IfErr, IfOk, OnOk, length};
 ghost use Rattle.schema_meta.specs.Rows.{rows_in};
@@ -7,7 +7,16 @@ ghost use Rattle.liveviews.specs.Taken.{AreTaken, cells_of_rows};
 ghost use Rattle.schema_meta.specs.Story.{Story, story_of};
 ghost use Rattle.schema_meta.specs.Means.{Means};
 ghost use Rattle.stream_writer.specs.Table.{IsTable};
-ghost use Rattle.liveviews.specs.Steps.{AreTakenSo, GoesOn, IsOpen, Reached, ReachedAfter, Refuses, Told, length_of};
+ghost use Rattle.liveviews.specs.Steps.{
+  AreTakenSo,
+  GoesOn,
+  IsOpen,
+  Reached,
+  ReachedAfter,
+  Refuses,
+  IsComplete,
+  length_of,
+};
 ghost use Rattle.liveviews.specs.Refused.{RefusesBatch};
 
 use crate::batch::add_rows;
@@ -26,7 +35,7 @@ pub(crate) struct Table {
 }
 
 /// Adds the `count` rows of the columns to `rows`: 44 where there would be too many rows, 45 where one is too heavy.
-#[tactic(auto, using(crate::proofs::Batching::batching))]
+#[tactic(auto, using(crate::proofs::BatchLemmas::batching))]
 fn take_rows(
     alloc: Global,
     columns: &[Column],
@@ -34,9 +43,12 @@ fn take_rows(
     rows: &mut Vec<Row>,
 ) -> Result<(), Cause>
     requires { All (λ c. length c.cells ≡ count) columns.now }
-    ensures rows { OnOk result (cells_of_rows rows.new.items ≡ cells_of_rows rows.old.items ++ rows_in count (cells_in columns.now)) }
-    ensures taken { OnOk result (AreTaken (layouts_in columns.now) (cells_of_rows rows.old.items) → AreTaken (layouts_in columns.now) (cells_of_rows rows.new.items)) }
-    ensures refused { IfErr result (RefusesBatch (layouts_in columns.now) (rows_in count (cells_in columns.now)) (length rows.old.items)) }
+    ensures rows { OnOk result (cells_of_rows rows.new.items ≡ cells_of_rows rows.old.items
+        ++ rows_in count (cells_in columns.now)) }
+    ensures taken { OnOk result (AreTaken (layouts_in columns.now) (cells_of_rows rows.old.items)
+        → AreTaken (layouts_in columns.now) (cells_of_rows rows.new.items)) }
+    ensures refused { IfErr result
+        (RefusesBatch (layouts_in columns.now) (rows_in count (cells_in columns.now)) (length rows.old.items)) }
 {
     if count > MAX_MAIN_ROWS.saturating_sub(rows.len()) {
         return Err(Cause::TooManyRows);
@@ -44,7 +56,7 @@ fn take_rows(
     add_rows(alloc, columns, count, rows)
 }
 
-/// What a message made of the bytes before which it stands: so many of them are taken, and a stream goes on or has ended.
+/// The number of bytes that the first message used, and whether the stream goes on.
 enum Step {
     Next(usize),
     End(usize),
@@ -65,7 +77,8 @@ fn take_message(
     ensures goes_on { IfOk result (GoesOn feed.new) }
     ensures reached { IfOk result (λ step. (s : Story) → Reached s feed.old (cells_of_rows rows.old.items) bytes.now
         → ReachedAfter s feed.new (cells_of_rows rows.new.items) bytes.now step) }
-    ensures refused { IfErr result (λ c. (s : Story) → Reached s feed.old (cells_of_rows rows.old.items) bytes.now → Refuses s c) }
+    ensures refused { IfErr result (λ c. (s : Story) → Reached s feed.old (cells_of_rows rows.old.items) bytes.now
+        → Refuses s c) }
 {
     // They do nothing: the proof takes from them what an event tells of the stream, and that it uses some bytes.
     story_law();
@@ -92,9 +105,11 @@ fn take_message(
 
 /// The table at the end of its stream, of which these rows were taken.
 fn finish(alloc: Global, feed: &Feed, rows: Vec<Row>) -> Result<Table, Cause>
-    ensures means { IfOk result (λ t. (s : Story) → Told s feed.now (cells_of_rows rows.items) → Means s t.schema.fields.items (cells_of_rows t.rows.items)) }
-    ensures within { IfOk result (λ t. (s : Story) → Told s feed.now (cells_of_rows rows.items) → IsTable t.schema.fields.items (cells_of_rows t.rows.items)) }
-    ensures lacks { IfErr result (λ c. (s : Story) → Told s feed.now (cells_of_rows rows.items) → Refuses s c) }
+    ensures means { IfOk result (λ t. (s : Story) → IsComplete s feed.now (cells_of_rows rows.items)
+        → Means s t.schema.fields.items (cells_of_rows t.rows.items)) }
+    ensures within { IfOk result (λ t. (s : Story) → IsComplete s feed.now (cells_of_rows rows.items)
+        → IsTable t.schema.fields.items (cells_of_rows t.rows.items)) }
+    ensures lacks { IfErr result (λ c. (s : Story) → IsComplete s feed.now (cells_of_rows rows.items) → Refuses s c) }
 {
     // They do nothing: the proof takes from them that the schema can be written, with these rows.
     fields_law();
@@ -114,8 +129,10 @@ fn take_messages(
     rows: &mut Vec<Row>,
 ) -> Result<(), Cause>
     requires { IsOpen feed.old }
-    ensures told { OnOk result ((s : Story) → Reached s feed.old (cells_of_rows rows.old.items) input.now → Told s feed.new (cells_of_rows rows.new.items)) }
-    ensures refused { IfErr result (λ c. (s : Story) → Reached s feed.old (cells_of_rows rows.old.items) input.now → Refuses s c) }
+    ensures complete { OnOk result ((s : Story) → Reached s feed.old (cells_of_rows rows.old.items) input.now
+        → IsComplete s feed.new (cells_of_rows rows.new.items)) }
+    ensures refused { IfErr result (λ c. (s : Story) → Reached s feed.old (cells_of_rows rows.old.items) input.now
+        → Refuses s c) }
 {
     let mut rest = input;
     while !rest.is_empty() {
@@ -135,8 +152,8 @@ fn take_messages(
 impl Table {
     /// The table that a whole stream means: its columns, and the rows of all its batches.
     ///
-    /// The error is a fault of the stream, 44 above 2^24 rows, 45 for a cell or a row that is too heavy, or `Memory`. Where several stand,
-    /// any of them may come.
+    /// The error is a fault of the stream, 44 above 2^24 rows, 45 for a cell or a row that is too heavy, or `Memory`.
+    /// Where several stand, any of them may come.
     pub fn read(alloc: Global, input: &[u8]) -> Result<Table, Cause>
         ensures means { IfOk result (λ t. Means (story_of input.now) t.schema.fields.items (cells_of_rows t.rows.items)) }
         ensures within { IfOk result (λ t. IsTable t.schema.fields.items (cells_of_rows t.rows.items)) }

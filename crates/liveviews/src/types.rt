@@ -1,4 +1,4 @@
-//! The types of fields as text.
+//! Stored types as text.
 
 ghost use Rattle.std.specs.Prelude.{◌≡◌, ◌++◌, [], OnOk, string_bytes};
 ghost use Rattle.values.specs.Rose.{kids_of};
@@ -44,7 +44,8 @@ pub(crate) fn write_type(text: &mut String, field: &Field) -> Result<(), AllocEr
 #[cycle(types)]
 #[tactic(auto, using(crate::proofs::TypeTexts::type_texts))]
 fn write_parts(text: &mut String, parent: &ColType, fields: &[Field]) -> Result<(), AllocError>
-    ensures { OnOk result (string_bytes text.new ≡ string_bytes text.old ++ parts_text [] parent.now (kids_of fields.now)) }
+    ensures { OnOk result (string_bytes text.new ≡ string_bytes text.old
+        ++ parts_text [] parent.now (kids_of fields.now)) }
 {
     let mut comma = "";
     for field in fields {

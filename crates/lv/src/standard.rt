@@ -4,8 +4,8 @@ use std::{fs, io};
 
 /// Descriptors that hold the places of standard streams that were closed.
 ///
-/// A file takes the least number that is free, so without them a file that is opened would stand in the place of a closed
-/// standard output, and what is printed would be written to it. Printing to one of these fails.
+/// A file takes the least number that is free, so without them a file that is opened would stand in the place of a
+/// closed standard output, and what is printed would be written to it. Printing to one of these fails.
 #[derive(Drop)]
 pub struct Held<F> {
     _files: [F; 3],

@@ -1,5 +1,26 @@
 -- What a message brings: a schema comes once, out of a Schema table, and no other message has one.
-use Rattle.std.proofs.Common.{◌≡◌, inl, inr, ℕ, ◌+◌, Bool, true, false, Option, None, Some, Ok, Err, List, length, drop, refl, ap, subst, ◌∙◌}
+use Rattle.std.proofs.Common.{
+  ◌≡◌,
+  inl,
+  inr,
+  ℕ,
+  ◌+◌,
+  Bool,
+  true,
+  false,
+  Option,
+  None,
+  Some,
+  Ok,
+  Err,
+  List,
+  length,
+  drop,
+  refl,
+  ap,
+  subst,
+  ◌∙◌,
+}
 use Rattle.std.specs.Prelude.{map, slice_range, is_some, if◌then◌else◌}
 use Rattle.byteorder.specs.Endian.{little_number}
 use Rattle.flatbuf.specs.Layout.{Table}
@@ -13,7 +34,18 @@ use Rattle.schema_meta.specs.declared.header.MessageKind.{MessageKind}
 use Rattle.schema_meta.specs.declared.header.MessageKind.TheVariants as kind
 use Rattle.schema_meta.specs.declared.header.Header.TheVariants as header
 use Rattle.schema_meta.specs.Stage.{Known, Meta, Whole, end_meta}
-use Rattle.schema_meta.specs.Message.{expected, new_schema, header_table, header_of, record_batch, dictionary_batch, brings_schema, brings_batch, brings_dictionary, meta_of}
+use Rattle.schema_meta.specs.Message.{
+  expected,
+  new_schema,
+  header_table,
+  header_of,
+  record_batch,
+  dictionary_batch,
+  brings_schema,
+  brings_batch,
+  brings_dictionary,
+  meta_of,
+}
 use Rattle.schema_meta.specs.Framing.{framed, end_mark, first}
 use Rattle.messages.proofs.Stages.{staged_from}
 use Rattle.schema_meta.specs.Logical.{logical_field}
@@ -29,7 +61,8 @@ use Rattle.messages.proofs.Lawful.{whole_law, within_law, fault_law, faults_law,
 columns-sound : (t : Table) (fs : List (Rose Entry)) → schema_of t ≡ Ok fs → AreColumns (map logical_field fs)
 columns-sound t fs e = columns_fit fs (fields_known t fs e)
 
-unknown_by : (o : Option (List (Rose Entry))) (b : Bool) (u : Unit {0}) → is_some o ≡ b → refused_if fault.SecondSchema b ≡ Ok u → b ≡ false
+unknown_by : (o : Option (List (Rose Entry))) (b : Bool) (u : Unit {0}) → is_some o ≡ b
+    → refused_if fault.SecondSchema b ≡ Ok u → b ≡ false
 unknown_by o true u s e = absurd (cc)
 unknown_by o false u s e = refl
 
@@ -37,16 +70,19 @@ none_of : (o : Option (List (Rose Entry))) → is_some o ≡ false → o ≡ Non
 none_of None e = refl
 none_of (Some fs) e = absurd (cc)
 
-new_from : (known : Known) (t : Table) (fs : List (Rose Entry)) → new_schema known t ≡ Ok fs → (known.schema ≡ None) × (schema_of t ≡ Ok fs)
+new_from : (known : Known) (t : Table) (fs : List (Rose Entry)) → new_schema known t ≡ Ok fs
+    → (known.schema ≡ None) × (schema_of t ≡ Ok fs)
 unfolding new_schema
 new_from known t fs e =
-    let p = both_Ok second (refused_if fault.SecondSchema (is_some known.schema)) (schema_of t >>= expected known.declared) fs e in
+    let p = both_Ok second (refused_if fault.SecondSchema (is_some known.schema)) (schema_of t
+    >>= expected known.declared) fs e in
     let q = bind_Ok (schema_of t) (expected known.declared) p.1 p.3 in
     let k : q.0 ≡ fs = expected_same known.declared q.0 p.1 q.2 ∙ p.4 in
     (none_of known.schema (unknown_by known.schema (is_some known.schema) p.0 refl p.2), q.1 ∙ ap (λ x. Ok x) k)
 
 header_brings :
-    (known : Known) (t : Table) (k : MessageKind) (body : ℕ) (m : Meta) → header_of known t k body ≡ Ok m → Brings known.schema m.schema m.header
+    (known : Known) (t : Table) (k : MessageKind) (body : ℕ) (m : Meta) → header_of known t k body ≡ Ok m
+    → Brings known.schema m.schema m.header
 unfolding header_of
 header_brings known t kind.Schema body m e =
     let p = mapped_Ok (brings_schema body) (header_table t >>= new_schema known) m e in
@@ -62,25 +98,29 @@ header_brings known t kind.Dictionary body m e =
     let p = mapped_Ok (brings_dictionary body) (dictionary_batch known body t) m e in
     subst (λ (x : Meta). Brings known.schema x.schema x.header) p.2 refl
 
-meta_brings : (known : Known) (bytes : List ℕ) (m : Meta) → meta_of known bytes ≡ Ok m → Brings known.schema m.schema m.header
+meta_brings : (known : Known) (bytes : List ℕ) (m : Meta) → meta_of known bytes ≡ Ok m
+    → Brings known.schema m.schema m.header
 meta_brings known bytes m e =
     let p = meta_header known bytes m e in
     header_brings known p.0 p.1 p.2 m p.3
 
 end_brings_by :
-    (known : Known) (w : Whole) (b : Bool) → (if b then Ok (Some (record { front = 8; meta = end_meta })) else Err (one fault.NoSchema)) ≡ Ok (Some w)
+    (known : Known) (w : Whole) (b : Bool)
+    → (if b then Ok (Some (record { front = 8; meta = end_meta })) else Err (one fault.NoSchema)) ≡ Ok (Some w)
     → Brings known.schema w.meta.schema w.meta.header
 end_brings_by known w true e =
     let k : record { front = 8; meta = end_meta } ≡ w = cc in
     subst (λ (v : Whole). Brings known.schema v.meta.schema v.meta.header) k refl
 end_brings_by known w false e = absurd (cc)
 
-first_brings : (known : Known) (bytes : List ℕ) (w : Whole) → first known bytes ≡ Ok (Some w) → Brings known.schema w.meta.schema w.meta.header
+first_brings : (known : Known) (bytes : List ℕ) (w : Whole) → first known bytes ≡ Ok (Some w)
+    → Brings known.schema w.meta.schema w.meta.header
 unfolding first
 first_brings known bytes w e =
     let f : ℕ → Reading Meta = λ n. meta_of known (slice_range bytes 8 (8 + n)) in
     elim
-    (staged_from (length bytes) (framed (little_number 4 bytes) (little_number 4 (drop 4 bytes))) (end_mark known) f w e) [
+    (staged_from (length bytes) (framed (little_number 4 bytes) (little_number 4 (drop 4 bytes))) (end_mark known) f w
+    e) [
       | inl m ↦ end_brings_by known w (is_some known.schema) m
       | inr r ↦ meta_brings known (slice_range bytes 8 (8 + r.0)) w.meta r.1
     ]
@@ -88,7 +128,7 @@ first_brings known bytes w e =
 pub message-law : MessageLaw
 message-law known bytes w e =
     let there = first_within known bytes w e in
-    record { behind = there.0; within = there.1; brings = first_brings known bytes w e }
+    record { framed = there.0; within = there.1; brings = first_brings known bytes w e }
 
 pub first-message-law : FirstMessageLaw
 first-message-law = record {

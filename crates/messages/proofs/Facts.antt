@@ -1,5 +1,30 @@
 -- What holds of the header that is read: the reading's own tests, opened.
-use Rattle.std.proofs.Common.{◌≡◌, ℕ, ◌+◌, ◌*◌, ◌≤◌, Bool, true, false, Option, None, Some, Ok, Err, List, length, ℤ, pos, negsuc, refl, ap, sym, subst, ◌∙◌, arith}
+use Rattle.std.proofs.Common.{
+  ◌≡◌,
+  ℕ,
+  ◌+◌,
+  ◌*◌,
+  ◌≤◌,
+  Bool,
+  true,
+  false,
+  Option,
+  None,
+  Some,
+  Ok,
+  Err,
+  List,
+  length,
+  ℤ,
+  pos,
+  negsuc,
+  refl,
+  ap,
+  sym,
+  subst,
+  ◌∙◌,
+  arith,
+}
 use Rattle.std.specs.Prelude.{All, IsSomeAnd, nat_le, if◌then◌else◌, is_some}
 use Rattle.std.proofs.lemmas.Bool.{leb-true}
 use Rattle.flatbuf.specs.Layout.{Table, root_of}
@@ -11,19 +36,58 @@ use Rattle.values.proofs.Readings.{both_Ok, bind_Ok, mapped_Ok, must_Ok, each_le
 use Rattle.values.specs.Rose.{Rose, Roses, roses_size}
 use Rattle.schema_meta.specs.Entry.{Entry}
 use Rattle.schema_meta.specs.Schema.{schema_of}
-use Rattle.array_layout.specs.declared.array.Node.{Node}
-use Rattle.array_layout.specs.declared.array.Span.{Span}
+use Rattle.array_layout.specs.declared.array.FieldNode.{FieldNode}
+use Rattle.array_layout.specs.declared.array.BufferRange.{BufferRange}
 use Rattle.schema_meta.specs.BatchHead.{BatchHead}
 use Rattle.schema_meta.specs.Counts.{within, count_in}
-use Rattle.schema_meta.specs.Batch.{fitting, lengths_fit, word_at, node_made, node_of, span_of, structs_in, rows_of, nodes_in, nodes_of, spans_in, spans_of, plain, batch, batch_of}
-use Rattle.values.specs.Logical.{LogicalField}
+use Rattle.schema_meta.specs.Batch.{
+  fitting,
+  lengths_fit,
+  long_at,
+  node_made,
+  node_of,
+  range_of,
+  structs_in,
+  rows_of,
+  nodes_in,
+  nodes_of,
+  ranges_in,
+  ranges_of,
+  plain,
+  batch,
+  batch_of,
+}
+use Rattle.values.specs.Logical.{NamedType}
 use Rattle.schema_meta.specs.SameColumns.{is_declared}
 use Rattle.schema_meta.specs.declared.header.MessageKind.{MessageKind}
 use Rattle.schema_meta.specs.declared.header.MessageKind.TheVariants as kind
 use Rattle.schema_meta.specs.Stage.{Known, Meta}
-use Rattle.schema_meta.specs.Message.{expected, new_schema, header_table, header_of, record_batch, dictionary_batch, brings_schema, brings_batch, brings_dictionary, version_of, body_of, kind_of, meta_of}
+use Rattle.schema_meta.specs.Message.{
+  expected,
+  new_schema,
+  header_table,
+  header_of,
+  record_batch,
+  dictionary_batch,
+  brings_schema,
+  brings_batch,
+  brings_dictionary,
+  version_of,
+  body_of,
+  kind_of,
+  meta_of,
+}
 use Rattle.schema_meta.specs.Dictionaries.{value_type}
-use Rattle.schema_meta.specs.DictionaryBatch.{count_after, data_of, dictionary, dictionary_of, id_of, limited, value_layouts, values_batch}
+use Rattle.schema_meta.specs.DictionaryBatch.{
+  count_after,
+  data_of,
+  dictionary,
+  dictionary_of,
+  id_of,
+  limited,
+  value_layouts,
+  values_batch,
+}
 use Rattle.schema_meta.specs.declared.header.DictionaryHeader.{DictionaryHeader}
 use Rattle.schema_meta.specs.Sound.{Fits, FitsValues, IsFitting, schema_after}
 use Rattle.messages.specs.Counts.{IsCounted}
@@ -36,11 +100,12 @@ use Rattle.values.specs.Layouts.{AreLayouts}
 use Rattle.field_types.specs.Reads.{long_of, bool_of, checked}
 use Rattle.values.specs.declared.col_type.ColType.{ColType}
 use Rattle.values.specs.declared.layout.Layout.{Layout}
-use Rattle.array_layout.specs.Placing.{spans_below}
+use Rattle.array_layout.specs.Placing.{ranges_below}
 
 -- numbers
 pos_bound :
-    (c : StreamFault) (most m n : ℕ) (t : Bool) → nat_le m most ≡ t → (if t then Ok m else Err (one c)) ≡ Ok n → n ≤ most
+    (c : StreamFault) (most m n : ℕ) (t : Bool) → nat_le m most ≡ t → (if t then Ok m else Err (one c)) ≡ Ok n
+    → n ≤ most
 pos_bound c most m n true h e = let k : m ≡ n = cc in let l : m ≤ most = leb-true m most h in omega arith
 pos_bound c most m n false h e = absurd (cc)
 
@@ -52,40 +117,42 @@ count_bound : (c : StreamFault) (most : ℕ) (t : Table) (s n : ℕ) → count_i
 count_bound c most t s n e =
     let p = bind_Ok (long_of t s) (within c most) n e in within_bound c most p.0 n p.2
 
--- nodes and spans
-node_small : (bytes : List ℕ) (i : ℕ) (n : Node) → node_of bytes i ≡ Ok n → n.length ≤ max_node_length
+-- nodes and buffer ranges
+node_small : (bytes : List ℕ) (i : ℕ) (n : FieldNode) → node_of bytes i ≡ Ok n → n.length ≤ max_node_length
 unfolding node_of
-node_small bytes i n e = by_test (nat_le (word_at bytes (16 * i)) max_node_length) refl e where
+node_small bytes i n e = by_test (nat_le (long_at bytes (16 * i)) max_node_length) refl e where
   by_test :
-      (b : Bool) → nat_le (word_at bytes (16 * i)) max_node_length ≡ b
+      (b : Bool) → nat_le (long_at bytes (16 * i)) max_node_length ≡ b
       → (if b then Ok (node_made bytes (16 * i)) else Err (one fault.BadLength)) ≡ Ok n → n.length ≤ max_node_length
   by_test true small e =
       let is : node_made bytes (16 * i) ≡ n = cc in
-      let same : word_at bytes (16 * i) ≡ n.length = ap (λ m. m.length) is in
-      let below : word_at bytes (16 * i) ≤ max_node_length = leb-true (word_at bytes (16 * i)) max_node_length small in
+      let same : long_at bytes (16 * i) ≡ n.length = ap (λ m. m.length) is in
+      let below : long_at bytes (16 * i) ≤ max_node_length = leb-true (long_at bytes (16 * i)) max_node_length small in
       omega (arith, same, below)
   by_test false large e = absurd (cc)
 
-span_bound :
-    (body from len : ℕ) (s : Span) (t : Bool) → nat_le (from + len) body ≡ t
+range_bound :
+    (body from len : ℕ) (s : BufferRange) (t : Bool) → nat_le (from + len) body ≡ t
     → (if t then Ok (record { from = from; len = len }) else Err (one fault.BufferRange)) ≡ Ok s → s.from + s.len ≤ body
-span_bound body from len s true h e =
+range_bound body from len s true h e =
     let k : record { from = from; len = len } ≡ s = cc in
-    subst (λ (r : Span). r.from + r.len ≤ body) k (leb-true (from + len) body h)
-span_bound body from len s false h e = absurd (cc)
+    subst (λ (r : BufferRange). r.from + r.len ≤ body) k (leb-true (from + len) body h)
+range_bound body from len s false h e = absurd (cc)
 
-span_in_body : (body : ℕ) (bytes : List ℕ) (i : ℕ) (s : Span) → span_of body bytes i ≡ Ok s → s.from + s.len ≤ body
-unfolding span_of
-span_in_body body bytes i s e =
-    span_bound body (word_at bytes (16 * i)) (word_at bytes (16 * i + 8)) s
-    (nat_le (word_at bytes (16 * i) + word_at bytes (16 * i + 8)) body) refl e
+range_in_body : (body : ℕ) (bytes : List ℕ) (i : ℕ) (s : BufferRange) → range_of body bytes i ≡ Ok s
+    → s.from + s.len ≤ body
+unfolding range_of
+range_in_body body bytes i s e =
+    range_bound body (long_at bytes (16 * i)) (long_at bytes (16 * i + 8)) s
+    (nat_le (long_at bytes (16 * i) + long_at bytes (16 * i + 8)) body) refl e
 
 -- Ok where the counts are right
 rows_bound : (t : Table) (n : ℕ) → rows_of t ≡ Ok n → n ≤ max_batch_length
 unfolding rows_of
 rows_bound t n e = count_bound fault.BadLength max_batch_length t 0 n e
 
-fitting_same : (rows : ℕ) (ls : Roses Layout) (ns ms : List Node) → fitting rows ls ns ≡ Ok ms → (ns ≡ ms) × (lengths_fit rows ls ns ≡ true)
+fitting_same : (rows : ℕ) (ls : Roses Layout) (ns ms : List FieldNode) → fitting rows ls ns ≡ Ok ms
+    → (ns ≡ ms) × (lengths_fit rows ls ns ≡ true)
 fitting_same rows ls ns ms e = by_test (lengths_fit rows ls ns) refl e where
   by_test :
       (b : Bool) → lengths_fit rows ls ns ≡ b → (if b then Ok ns else Err (one fault.BadLength)) ≡ Ok ms
@@ -93,52 +160,57 @@ fitting_same rows ls ns ms e = by_test (lengths_fit rows ls ns) refl e where
   by_test true fit e = (cc, fit)
   by_test false fit e = absurd (cc)
 
-record NodesFit (ls : Roses Layout) (rows : ℕ) (ns : List Node) : Type 0 where
+record NodesFit (ls : Roses Layout) (rows : ℕ) (ns : List FieldNode) : Type 0 where
   count : length ns ≡ roses_size ls
   small : All (λ n. n.length ≤ max_node_length) ns
   long : lengths_fit rows ls ns ≡ true
 
-nodes_facts : (ls : Roses Layout) (rows : ℕ) (t : Table) (ns : List Node) → nodes_of ls rows t ≡ Ok ns → NodesFit ls rows ns
+nodes_facts : (ls : Roses Layout) (rows : ℕ) (t : Table) (ns : List FieldNode) → nodes_of ls rows t ≡ Ok ns
+    → NodesFit ls rows ns
 unfolding nodes_of nodes_in
 nodes_facts ls rows t ns e =
     let n : ℕ = roses_size ls in
-    let judged = bind_Ok (structs_in fault.NodeCount n t 1 >>= λ bytes. each (node_of bytes) 0 n) (fitting rows ls) ns e in
+    let judged =
+    bind_Ok (structs_in fault.NodeCount n t 1 >>= λ bytes. each (node_of bytes) 0 n) (fitting rows ls) ns e in
     let read = bind_Ok (structs_in fault.NodeCount n t 1) (λ bytes. each (node_of bytes) 0 n) judged.0 judged.1 in
     let fit = fitting_same rows ls judged.0 ns judged.2 in
     subst (NodesFit ls rows) fit.0 (record {
       count = each_length (node_of read.0) 0 n judged.0 read.2;
-      small = each_all (λ m. m.length ≤ max_node_length) (node_of read.0) n judged.0 read.2 (λ k m. node_small read.0 k m);
+      small = each_all (λ m. m.length ≤ max_node_length) (node_of read.0) n judged.0 read.2
+          (λ k m. node_small read.0 k m);
       long = fit.1;
     })
 
-spans_facts :
-    (n body : ℕ) (t : Table) (ss : List Span) → spans_of n body t ≡ Ok ss
+ranges_facts :
+    (n body : ℕ) (t : Table) (ss : List BufferRange) → ranges_of n body t ≡ Ok ss
     → (length ss ≡ n) × All (λ s. s.from + s.len ≤ body) ss
-unfolding spans_of spans_in
-spans_facts n body t ss e =
-    let p = bind_Ok (structs_in fault.BufferCount n t 2) (λ bytes. each (span_of body bytes) 0 n) ss e in (
-      each_length (span_of body p.0) 0 n ss p.2,
-      each_all (λ s. s.from + s.len ≤ body) (span_of body p.0) n ss p.2 (λ k s. span_in_body body p.0 k s),
+unfolding ranges_of ranges_in
+ranges_facts n body t ss e =
+    let p = bind_Ok (structs_in fault.BufferCount n t 2) (λ bytes. each (range_of body bytes) 0 n) ss e in (
+      each_length (range_of body p.0) 0 n ss p.2,
+      each_all (λ s. s.from + s.len ≤ body) (range_of body p.0) n ss p.2 (λ k s. range_in_body body p.0 k s),
     )
 
 pub batch_fits :
-    (ls : Roses Layout) (body : ℕ) (t : Table) (b : BatchHead) → AreLayouts ls → batch_of ls body t ≡ Ok b → Fits ls body b
+    (ls : Roses Layout) (body : ℕ) (t : Table) (b : BatchHead) → AreLayouts ls → batch_of ls body t ≡ Ok b
+    → Fits ls body b
 unfolding batch_of
 batch_fits ls body t b known e =
-    let f : ℕ → Reading BatchHead = λ rows. both (batch rows) (nodes_of ls rows t) (spans_of (spans_below ls) body t) in
+    let f : ℕ → Reading BatchHead =
+    λ rows. both (batch rows) (nodes_of ls rows t) (ranges_of (ranges_below ls) body t) in
     let whole = both_Ok second (plain t) (rows_of t >>= f) b e in
     let some = bind_Ok (rows_of t) f whole.1 whole.3 in
-    let parts = both_Ok (batch some.0) (nodes_of ls some.0 t) (spans_of (spans_below ls) body t) whole.1 some.2 in
+    let parts = both_Ok (batch some.0) (nodes_of ls some.0 t) (ranges_of (ranges_below ls) body t) whole.1 some.2 in
     let nodes = nodes_facts ls some.0 t parts.0 parts.2 in
-    let spans = spans_facts (spans_below ls) body t parts.1 parts.3 in
+    let ranges = ranges_facts (ranges_below ls) body t parts.1 parts.3 in
     let made : Fits ls body (batch some.0 parts.0 parts.1) =
     record {
       rows = rows_bound t some.0 some.1;
       nodes = nodes.count;
       small = nodes.small;
       lengths = nodes.long;
-      spans = spans.0;
-      within = spans.1;
+      ranges = ranges.0;
+      within = ranges.1;
       layouts = known;
     } in
     subst (λ (x : BatchHead). Fits ls body x) (parts.4 ∙ whole.4) made
@@ -150,7 +222,7 @@ declared_same fs gs true e = cc
 declared_same fs gs false e = absurd (cc)
 
 pub expected_same :
-    (o : Option (List (Rose LogicalField))) (fs gs : List (Rose Entry)) → expected o fs ≡ Ok gs → fs ≡ gs
+    (o : Option (List (Rose NamedType))) (fs gs : List (Rose Entry)) → expected o fs ≡ Ok gs → fs ≡ gs
 expected_same None fs gs e = cc
 expected_same (Some cs) fs gs e = declared_same fs gs (is_declared cs fs) e
 
@@ -158,7 +230,8 @@ new_known :
     (known : Known) (t : Table) (fs : List (Rose Entry)) → new_schema known t ≡ Ok fs → AreFields fs
 unfolding new_schema
 new_known known t fs e =
-    let p = both_Ok second (refused_if fault.SecondSchema (is_some known.schema)) (schema_of t >>= expected known.declared) fs e in
+    let p = both_Ok second (refused_if fault.SecondSchema (is_some known.schema)) (schema_of t
+    >>= expected known.declared) fs e in
     let q = bind_Ok (schema_of t) (expected known.declared) p.1 p.3 in
     let k : q.0 ≡ fs = expected_same known.declared q.0 p.1 q.2 ∙ p.4 in
     subst AreFields k (fields_known t q.0 q.1)
@@ -172,11 +245,16 @@ values_fit fields body t id s d known type e =
     let p = both_Ok (dictionary id) (bool_of t 2) (data_of t >>= batch_of (value_layouts s) body) d e in
     let q = bind_Ok (data_of t) (batch_of (value_layouts s) body) p.1 p.3 in
     let made : FitsValues fields body (dictionary id p.0 p.1) =
-    record { stored = s; type = type; fits = batch_fits (value_layouts s) body q.0 p.1 (values-fit fields id s known type) q.2 } in
+    record {
+      stored = s;
+      type = type;
+      fits = batch_fits (value_layouts s) body q.0 p.1 (values-fit fields id s known type) q.2;
+    } in
     subst (λ (x : DictionaryHeader). FitsValues fields body x) p.4 made
 
 limited_by :
-    (n : ℕ) (d e : DictionaryHeader) (b : Bool) → nat_le n max_dictionary_values ≡ b → checked fault.DictionaryTooLarge b d ≡ Ok e
+    (n : ℕ) (d e : DictionaryHeader) (b : Bool) → nat_le n max_dictionary_values ≡ b
+    → checked fault.DictionaryTooLarge b d ≡ Ok e
     → (d ≡ e) × (n ≤ max_dictionary_values)
 limited_by n d e true few k = (cc, leb-true n max_dictionary_values few)
 limited_by n d e false few k = absurd (cc)
@@ -186,10 +264,14 @@ limited_few :
     → (d ≡ e) × (count_after counts e.id e.is_delta e.batch.rows ≤ max_dictionary_values)
 limited_few counts d e k =
     let n : ℕ = count_after counts d.id d.is_delta d.batch.rows in
-    let p = limited_by n d e (nat_le n max_dictionary_values) refl k in
-    (p.0, subst (λ (x : DictionaryHeader). count_after counts x.id x.is_delta x.batch.rows ≤ max_dictionary_values) p.0 p.1)
+    let p = limited_by n d e (nat_le n max_dictionary_values) refl k in (
+      p.0,
+      subst (λ (x : DictionaryHeader). count_after counts x.id x.is_delta x.batch.rows ≤ max_dictionary_values) p.0
+          p.1,
+    )
 
-record DictionaryFacts (fields : List (Rose Entry)) (counts : List (ℤ × ℕ)) (body : ℕ) (t : Table) (d : DictionaryHeader) : Type 0 where
+record DictionaryFacts (fields : List (Rose Entry)) (counts : List (ℤ × ℕ)) (body : ℕ) (t : Table)
+    (d : DictionaryHeader) : Type 0 where
   id : ℤ
   stored : ColType
   type : value_type fields id ≡ Some stored
@@ -222,10 +304,12 @@ record BatchFacts (known : Known) (body : ℕ) (d : DictionaryHeader) : Type 0 w
   facts : DictionaryFacts fields known.counts body table d
 
 batch_facts :
-    (known : Known) (body : ℕ) (t : Table) (d : DictionaryHeader) → dictionary_batch known body t ≡ Ok d → BatchFacts known body d
+    (known : Known) (body : ℕ) (t : Table) (d : DictionaryHeader) → dictionary_batch known body t ≡ Ok d
+    → BatchFacts known body d
 unfolding dictionary_batch
 batch_facts known body t d e =
-    let f : List (Rose Entry) → Reading DictionaryHeader = λ fields. header_table t >>= dictionary_of fields known.counts body in
+    let f : List (Rose Entry) → Reading DictionaryHeader =
+    λ fields. header_table t >>= dictionary_of fields known.counts body in
     let q = bind_Ok (must fault.NoSchema known.schema) f d e in
     let r = bind_Ok (header_table t) (dictionary_of q.0 known.counts body) d q.2 in
     record {
@@ -237,7 +321,8 @@ batch_facts known body t d e =
 
 -- The header that is read fits what is known, and only a schema brings one.
 pub header_sound :
-    (known : Known) (t : Table) (k : MessageKind) (body : ℕ) (m : Meta) → IsRead known.schema → header_of known t k body ≡ Ok m
+    (known : Known) (t : Table) (k : MessageKind) (body : ℕ) (m : Meta) → IsRead known.schema
+    → header_of known t k body ≡ Ok m
     → IsFitting (schema_after known.schema m.schema) m.header m.body
 unfolding header_of record_batch
 header_sound known t kind.Schema body m read e =
@@ -246,27 +331,31 @@ header_sound known t kind.Schema body m read e =
     subst (λ (x : Meta). IsFitting (schema_after known.schema x.schema) x.header x.body) p.2 refl
 header_sound known t kind.Batch body m read e =
     let p = mapped_Ok (brings_batch body) (record_batch known body t) m e in
-    let f : List (Rose Entry) → Reading BatchHead = λ fields. header_table t >>= batch_of (slot_layouts_of fields) body in
+    let f : List (Rose Entry) → Reading BatchHead =
+    λ fields. header_table t >>= batch_of (slot_layouts_of fields) body in
     let q = bind_Ok (must fault.NoSchema known.schema) f p.0 p.1 in
     let r = bind_Ok (header_table t) (batch_of (slot_layouts_of q.0) body) p.0 q.2 in
     let here : known.schema ≡ Some q.0 = must_Ok fault.NoSchema known.schema q.0 q.1 in
     let read_so : AreFields q.0 = subst IsRead here read in
     let fits : Fits (slot_layouts_of q.0) body p.0 = batch_fits (slot_layouts_of q.0) body r.0 p.0 read_so.slots r.2 in
     let some : IsSomeAnd known.schema (λ fields. Fits (slot_layouts_of fields) body p.0) =
-    subst (λ (o : Option (List (Rose Entry))). IsSomeAnd o (λ fields. Fits (slot_layouts_of fields) body p.0)) (sym here) fits in
+    subst (λ (o : Option (List (Rose Entry))). IsSomeAnd o (λ fields. Fits (slot_layouts_of fields) body p.0))
+    (sym here) fits in
     subst (λ (x : Meta). IsFitting (schema_after known.schema x.schema) x.header x.body) p.2 some
 header_sound known t kind.Dictionary body m read e =
     let p = mapped_Ok (brings_dictionary body) (dictionary_batch known body t) m e in
     let q = batch_facts known body t p.0 p.1 in
     let fits : FitsValues q.fields body p.0 =
-    values_fit q.fields body q.table q.facts.id q.facts.stored p.0 (subst IsRead q.here read) q.facts.type q.facts.read in
+    values_fit q.fields body q.table q.facts.id q.facts.stored p.0 (subst IsRead q.here read) q.facts.type
+    q.facts.read in
     let some : IsSomeAnd known.schema (λ fields. FitsValues fields body p.0) =
     subst (λ (o : Option (List (Rose Entry))). IsSomeAnd o (λ fields. FitsValues fields body p.0)) (sym q.here) fits in
     subst (λ (x : Meta). IsFitting (schema_after known.schema x.schema) x.header x.body) p.2 some
 
 -- A dictionary has no more values than it may have.
 header_counted :
-    (known : Known) (t : Table) (k : MessageKind) (body : ℕ) (m : Meta) → header_of known t k body ≡ Ok m → IsCounted known.counts m.header
+    (known : Known) (t : Table) (k : MessageKind) (body : ℕ) (m : Meta) → header_of known t k body ≡ Ok m
+    → IsCounted known.counts m.header
 unfolding header_of
 header_counted known t kind.Schema body m e =
     let p = mapped_Ok (brings_schema body) (header_table t >>= new_schema known) m e in
@@ -281,7 +370,8 @@ header_counted known t kind.Dictionary body m e =
 
 -- and the fields of a schema that it brings are as they are read
 header_read :
-    (known : Known) (t : Table) (k : MessageKind) (body : ℕ) (m : Meta) → header_of known t k body ≡ Ok m → IsRead m.schema
+    (known : Known) (t : Table) (k : MessageKind) (body : ℕ) (m : Meta) → header_of known t k body ≡ Ok m
+    → IsRead m.schema
 unfolding header_of
 header_read known t kind.Schema body m e =
     let p = mapped_Ok (brings_schema body) (header_table t >>= new_schema known) m e in
@@ -300,7 +390,8 @@ pub meta_header :
     → (t : Table) × (k : MessageKind) × (body : ℕ) × (header_of known t k body ≡ Ok m)
 unfolding meta_of
 meta_header known bytes m e =
-    let g : Table → MessageKind → Reading Meta = λ t k. both second (version_of t) (body_of t >>= header_of known t k) in
+    let g : Table → MessageKind → Reading Meta =
+    λ t k. both second (version_of t) (body_of t >>= header_of known t k) in
     let f : Table → Reading Meta = λ t. kind_of t >>= g t in
     let a = bind_Ok (must fault.BadTable (root_of bytes)) f m e in
     let b = bind_Ok (kind_of a.0) (g a.0) m a.2 in
@@ -320,7 +411,8 @@ meta_read known bytes m e =
     let p = meta_header known bytes m e in
     header_read known p.0 p.1 p.2 m p.3
 
-pub meta_counted : (known : Known) (bytes : List ℕ) (m : Meta) → meta_of known bytes ≡ Ok m → IsCounted known.counts m.header
+pub meta_counted : (known : Known) (bytes : List ℕ) (m : Meta) → meta_of known bytes ≡ Ok m
+    → IsCounted known.counts m.header
 meta_counted known bytes m e =
     let p = meta_header known bytes m e in
     header_counted known p.0 p.1 p.2 m p.3

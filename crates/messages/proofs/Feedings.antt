@@ -1,5 +1,37 @@
 -- Feeding pieces, by the messages of all their bytes.
-use Rattle.std.proofs.Common.{◌≡◌, inl, ℕ, zero, suc, ◌+◌, ◌-◌, ◌<◌, ◌≤◌, Option, None, Some, Result, Ok, Err, List, [], ◌∷◌, ◌++◌, length, drop, refl, ap, sym, subst, ◌∙◌, arith, append_assoc, append-nil, length-append, length-drop}
+use Rattle.std.proofs.Common.{
+  ◌≡◌,
+  inl,
+  ℕ,
+  zero,
+  suc,
+  ◌+◌,
+  ◌-◌,
+  ◌<◌,
+  ◌≤◌,
+  Option,
+  None,
+  Some,
+  Result,
+  Ok,
+  Err,
+  List,
+  [],
+  ◌∷◌,
+  ◌++◌,
+  length,
+  drop,
+  refl,
+  ap,
+  sym,
+  subst,
+  ◌∙◌,
+  arith,
+  append_assoc,
+  append-nil,
+  length-append,
+  length-drop,
+}
 use Rattle.std.specs.List.{concat}
 use Rattle.std.proofs.Math.Seq.{drop-length}
 use Rattle.values.specs.declared.faults.StreamFault.{StreamFault}
@@ -10,7 +42,7 @@ use Rattle.schema_meta.specs.Stage.{Known, Whole, end_of}
 use Rattle.schema_meta.specs.Sound.{after}
 use Rattle.schema_meta.specs.Framing.{first}
 use Rattle.messages.specs.Stream.{Stream, Frames, message_of}
-use Rattle.messages.specs.Run.{Run, led_by, run_of, run_behind, whole_run}
+use Rattle.messages.specs.Run.{Run, led_by, run_of, run_past, whole_run}
 use Rattle.messages.specs.Feeding.{End, Feeds, ended, used_up, pushed, refused, handed_on}
 use Rattle.messages.specs.Laws.{AgreeIn, CutsAgree, FeedFollowsRun, FeedsEnd, Follows}
 use Rattle.messages.proofs.Messages.{first_beyond, first_within, fault_stays}
@@ -20,22 +52,27 @@ use Rattle.messages.proofs.Runs.{push_law, push_partial, push_whole, refusal_law
 -- There are no more messages than bytes.
 enough_by :
     (n : ℕ) (known : Known) (bytes : List ℕ) (r : Reading (Option Whole)) → length bytes ≤ suc n
-    → ((next : Known) (rest : List ℕ) → length rest ≤ n → run_of (suc n) next rest ≡ run_of n next rest) → first known bytes ≡ r
+    → ((next : Known) (rest : List ℕ) → length rest ≤ n → run_of (suc n) next rest ≡ run_of n next rest)
+    → first known bytes ≡ r
     → run_of (suc (suc n)) known bytes ≡ run_of (suc n) known bytes
-enough_by n known bytes (Ok None) l ih e = run_step (suc n) known bytes (Ok None) e ∙ sym (run_step n known bytes (Ok None) e)
+enough_by n known bytes (Ok None) l ih e =
+    run_step (suc n) known bytes (Ok None) e ∙ sym (run_step n known bytes (Ok None) e)
 enough_by n known bytes (Ok (Some w)) l ih e =
     let within = first_within known bytes w e in
     let rest : List ℕ = drop (end_of w) bytes in
     let k : length rest ≤ n = omega (arith, length-drop (end_of w) bytes, within.0, within.1) in
     run_step (suc n) known bytes (Ok (Some w)) e
-    ∙ (ap (λ r. led_by (message_of known w bytes) r) (ih (after known w.meta) rest k) ∙ sym (run_step n known bytes (Ok (Some w)) e))
-enough_by n known bytes (Err fs) l ih e = run_step (suc n) known bytes (Err fs) e ∙ sym (run_step n known bytes (Err fs) e)
+    ∙ (ap (λ r. led_by (message_of known w bytes) r) (ih (after known w.meta) rest k)
+    ∙ sym (run_step n known bytes (Ok (Some w)) e))
+enough_by n known bytes (Err fs) l ih e =
+    run_step (suc n) known bytes (Err fs) e ∙ sym (run_step n known bytes (Err fs) e)
 
 no_bytes : (known : Known) → run_of 1 known [] ≡ run_of 0 known []
 unfolding run_of
 no_bytes known = run_step 0 known [] (Ok None) (nothing_held known)
 
-run_enough : (n : ℕ) (known : Known) (bytes : List ℕ) → length bytes ≤ n → run_of (suc n) known bytes ≡ run_of n known bytes
+run_enough : (n : ℕ) (known : Known) (bytes : List ℕ) → length bytes ≤ n
+    → run_of (suc n) known bytes ≡ run_of n known bytes
 run_enough zero known [] l = no_bytes known
 run_enough zero known (b ∷ bytes) l = absurd (omega arith)
 run_enough (suc n) known bytes l =
@@ -62,12 +99,23 @@ waits_follow n old new piece later f messages end e u m s l ih =
     let bytes : List ℕ = old.held ++ (piece ++ later) in
     let rest : List ℕ = new.held ++ (drop f.used piece ++ later) in
     let E : Stream → Type 0 = λ t. first t.known t.held ≡ Ok None in
-    let d : length (drop f.used piece) ≡ 0 = ap (λ k. length (drop k piece)) u ∙ ap (λ xs. length xs) (drop-length piece) in
+    let d : length (drop f.used piece) ≡ 0 =
+    ap (λ k. length (drop k piece)) u ∙ ap (λ xs. length xs) (drop-length piece) in
     let h : length new.held ≡ length (old.held ++ piece) = ap (λ t. length t.held) s in
     let size : length rest ≤ n =
-    omega (arith, l, d, h, length-append old.held piece, length-append old.held (piece ++ later), length-append piece later, length-append new.held (drop f.used piece ++ later), length-append (drop f.used piece) later) in
+    omega (
+      arith,
+      l,
+      d,
+      h,
+      length-append old.held piece,
+      length-append old.held (piece ++ later),
+      length-append piece later,
+      length-append new.held (drop f.used piece ++ later),
+      length-append (drop f.used piece) later,
+    ) in
     let B : Option MessageView → Type 0 =
-    λ o. run_of (suc n) old.known bytes ≡ run_behind o (λ k. run_of k new.known rest) n in
+    λ o. run_of (suc n) old.known bytes ≡ run_past o (λ k. run_of k new.known rest) n in
     let k : run_of (suc n) old.known bytes ≡ run_of (suc n) new.known rest =
     subst B m (push_partial n old new piece later f u m s) in
     let P : Option MessageView → Type 0 = λ o. Follows (handed_on o messages) end (run_of (suc n) old.known bytes) in
@@ -96,12 +144,26 @@ hands_follow n old new piece later f w messages end e u m s l ih =
     let E : Stream → Type 0 = λ t. first t.known t.held ≡ Ok None in
     let h : length new.held ≡ 0 = ap (λ t. length t.held) s in
     let size : length rest ≤ n =
-    omega (arith, l, u, h, within.0, within.1, length-append old.held piece, length-append old.held (piece ++ later), length-append piece later, length-append new.held (drop f.used piece ++ later), length-append (drop f.used piece) later, length-drop f.used piece) in
+    omega (
+      arith,
+      l,
+      u,
+      h,
+      within.0,
+      within.1,
+      length-append old.held piece,
+      length-append old.held (piece ++ later),
+      length-append piece later,
+      length-append new.held (drop f.used piece ++ later),
+      length-append (drop f.used piece) later,
+      length-drop f.used piece,
+    ) in
     let B : Option MessageView → Type 0 =
-    λ o. run_of (suc (suc n)) old.known bytes ≡ run_behind o (λ k. run_of k new.known rest) (suc n) in
+    λ o. run_of (suc (suc n)) old.known bytes ≡ run_past o (λ k. run_of k new.known rest) (suc n) in
     let k : run_of (suc (suc n)) old.known bytes ≡ led_by message (run_of (suc n) new.known rest) =
     subst B m (push_whole (suc n) old new piece later f w e u m s) in
-    let P : Option MessageView → Type 0 = λ o. Follows (handed_on o messages) end (run_of (suc (suc n)) old.known bytes) in
+    let P : Option MessageView → Type 0 =
+    λ o. Follows (handed_on o messages) end (run_of (suc (suc n)) old.known bytes) in
     let Q : Run → Type 0 = λ r. Follows (message ∷ messages) end r in
     let t : Follows messages end (run_of (suc n) new.known rest) =
     ih n (subst E (sym s) (nothing_held (after old.known w.meta))) size in
@@ -113,7 +175,14 @@ some_bytes :
     → 0 < length (held ++ (piece ++ later))
 some_bytes known held piece later w e =
     let within = first_within known (held ++ piece) w e in
-    omega (arith, within.0, within.1, length-append held piece, length-append held (piece ++ later), length-append piece later)
+    omega (
+      arith,
+      within.0,
+      within.1,
+      length-append held piece,
+      length-append held (piece ++ later),
+      length-append piece later,
+    )
 
 pushed_follows :
     (n : ℕ) (old new : Stream) (piece later : List ℕ) (f : Framed) (messages : List MessageView) (end : End)
@@ -132,7 +201,8 @@ pushed_follows n old new piece later f messages end (Err fs) e h l ih = absurd h
 
 -- a push that is refused
 refused_by :
-    (n : ℕ) (known : Known) (bytes : List ℕ) (c : StreamFault) (r : Reading (Option Whole)) → first known bytes ≡ r → Stands r c
+    (n : ℕ) (known : Known) (bytes : List ℕ) (c : StreamFault) (r : Reading (Option Whole)) → first known bytes ≡ r
+    → Stands r c
     → Follows [] (Err c) (run_of (suc n) known bytes)
 refused_by n known bytes c (Ok o) e h = absurd h
 refused_by n known bytes c (Err fs) e h =
@@ -146,11 +216,13 @@ refused_follows n old piece later c h =
     let bytes : List ℕ = old.held ++ piece in
     let P : List ℕ → Type 0 = λ bs. Follows [] (Err c) (run_of (suc n) old.known bs) in
     subst P (append_assoc old.held piece later)
-    (refused_by n old.known (bytes ++ later) c (first old.known (bytes ++ later)) refl (fault_stays old.known bytes later c h))
+    (refused_by n old.known (bytes ++ later) c (first old.known (bytes ++ later)) refl
+    (fault_stays old.known bytes later c h))
 
 feed_follows :
     (old : Stream) (pieces : List (List ℕ)) (messages : List MessageView) (end : End)
-    → Feeds old pieces messages end → (n : ℕ) → first old.known old.held ≡ Ok None → length (old.held ++ concat pieces) ≤ n
+    → Feeds old pieces messages end → (n : ℕ) → first old.known old.held ≡ Ok None
+    → length (old.held ++ concat pieces) ≤ n
     → Follows messages end (run_of (suc n) old.known (old.held ++ concat pieces))
 feed_follows old pieces messages end (ended s) n p l = ended_follows n s p
 feed_follows old pieces messages end (used_up s rest ms e h) n p l = feed_follows s rest ms e h n p l
@@ -167,7 +239,8 @@ feed_law old pieces messages end p h =
     (feed_follows old pieces messages end h (length bytes) p (omega arith))
 
 pub agree :
-    {S : Type 0} (rest : Reading S) (end other : Result S StreamFault) → Judges (λ s. s) end rest → Judges (λ s. s) other rest
+    {S : Type 0} (rest : Reading S) (end other : Result S StreamFault) → Judges (λ s. s) end rest
+    → Judges (λ s. s) other rest
     → AgreeIn rest end other
 agree {S} rest (Ok s) (Ok t) h k = let e : Ok s ≡ Ok t = sym h ∙ k in cc
 agree {S} rest (Err c) (Err d) h k = (h, k)

@@ -23,8 +23,10 @@ take_twice bytes len l =
     ap (λ m. take m (take len bytes)) (sym n) ∙ take-length (take len bytes)
 
 pub message_ready :
-    (known next : Known) (bytes cut new piece : List ℕ) (before room len wanted : ℕ) (p : Pending) (found : Found) (count : Option Count)
-    → IsFramer known before bytes len wanted p → next ≡ known → HasRoom count room → cut ≡ take len bytes → new ≡ cut → first known (cut ++ piece) ≡ Ok (Some (whole_seen found))
+    (known next : Known) (bytes cut new piece : List ℕ) (before room len wanted : ℕ) (p : Pending) (found : Found)
+    (count : Option Count)
+    → IsFramer known before bytes len wanted p → next ≡ known → HasRoom count room → cut ≡ take len bytes → new ≡ cut
+    → first known (cut ++ piece) ≡ Ok (Some (whole_seen found))
     → IsFramer next room new len wanted (pending.Message found.metadata.schema count)
 message_ready known next bytes cut new piece before room len wanted p found count i j r k e f =
     let n : length (take len bytes) ≡ len = length-take-le len bytes i.within in
@@ -37,7 +39,8 @@ message_ready known next bytes cut new piece before room len wanted p found coun
     subst Q (sym j) (record { within = omega (arith, n, m); stream = subst P (sym t) i.stream; ready = (sound.1, r) })
 
 pub message_done :
-    (known next : Known) (brought : Option (List (Rose Entry))) (count : Option Count) (room : ℕ) (bytes : List ℕ) (p : Pending) → IsRead known.schema → IsRead brought
+    (known next : Known) (brought : Option (List (Rose Entry))) (count : Option Count) (room : ℕ) (bytes : List ℕ)
+    (p : Pending) → IsRead known.schema → IsRead brought
     → next ≡ learnt known brought count → p ≡ pending.Nothing → IsFramer next room bytes 0 8 p
 message_done known next brought count room bytes p s b n q =
     let P : Known → Type 0 = λ k. IsRead k.schema in

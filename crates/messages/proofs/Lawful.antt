@@ -4,7 +4,7 @@ use Rattle.std.proofs.lemmas.List.{length-take-le, take-append-drop}
 use Rattle.schema_meta.specs.Stage.{end_of}
 use Rattle.schema_meta.specs.Framing.{first}
 use Rattle.messages.specs.Laws.{WholeStays, WholeWithin, WholeAlone, NothingYet, FaultStays, FaultsStay}
-use Rattle.messages.proofs.Messages.{whole_stays, fault_stays, faults_stay, first_within, first_beyond, first_settled}
+use Rattle.messages.proofs.Messages.{whole_stays, fault_stays, faults_stay, first_within, first_beyond, first_stable}
 use Rattle.messages.proofs.Streams.{nothing_held}
 
 pub whole_law : WholeStays
@@ -27,7 +27,7 @@ alone_law known bytes w e =
     let P : List ℕ → Type 0 = λ bs. first known bs ≡ Ok (Some w) in
     let whole : first known (own ++ rest) ≡ Ok (Some w) = subst P (sym all) e in
     let size : length own ≡ end_of w = length-take-le (end_of w) bytes (first_within known bytes w e).1 in
-    elim (first_settled known own rest) [
+    elim (first_stable known own rest) [
       | inl n ↦ let beyond = first_beyond known own rest w n whole in absurd (omega arith)
       | inr same ↦ sym same ∙ whole
     ]

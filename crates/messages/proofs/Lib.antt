@@ -2,8 +2,8 @@ pub mod SameFields
 pub mod LongEnough
 pub mod Stages
 pub mod Messages
-pub mod Wanting
-pub mod Gathering
+pub mod WantedLemmas
+pub mod GatherLemmas
 pub mod Facts
 pub mod Sounds
 pub mod Streams

@@ -1,5 +1,31 @@
 -- The messages of a stream, and what a push takes of them.
-use Rattle.std.proofs.Common.{◌≡◌, ℕ, suc, ◌+◌, ◌-◌, ◌≤◌, Option, None, Some, Ok, Err, List, [], ◌++◌, length, take, drop, refl, ap, sym, subst, ◌∙◌, arith, append_assoc, length-drop}
+use Rattle.std.proofs.Common.{
+  ◌≡◌,
+  ℕ,
+  suc,
+  ◌+◌,
+  ◌-◌,
+  ◌≤◌,
+  Option,
+  None,
+  Some,
+  Ok,
+  Err,
+  List,
+  [],
+  ◌++◌,
+  length,
+  take,
+  drop,
+  refl,
+  ap,
+  sym,
+  subst,
+  ◌∙◌,
+  arith,
+  append_assoc,
+  length-drop,
+}
 use Rattle.std.specs.Prelude.{slice_range}
 use Rattle.std.proofs.lemmas.List.{take-append-le, drop-append-le}
 use Rattle.std.proofs.Math.Seq.{drop-append-add, drop-length}
@@ -12,20 +38,23 @@ use Rattle.schema_meta.specs.Sound.{after}
 use Rattle.schema_meta.specs.Framing.{first}
 use Rattle.schema_meta.specs.Story.{fields_of}
 use Rattle.messages.specs.Stream.{Stream, Frames, message_of}
-use Rattle.messages.specs.Run.{Run, led_by, run_after, run_of, run_behind}
+use Rattle.messages.specs.Run.{Run, led_by, run_after, run_of, run_past}
 use Rattle.messages.specs.Laws.{PushKeepsRun, RefusalEndsRun}
 use Rattle.messages.proofs.Messages.{first_within, whole_stays, fault_stays}
 
 -- what lies within the first bytes is the same with more behind them
 slice-append :
-    (xs ys : List ℕ) (from end : ℕ) → from ≤ end → end ≤ length xs → slice_range (xs ++ ys) from end ≡ slice_range xs from end
+    (xs ys : List ℕ) (from end : ℕ) → from ≤ end → end ≤ length xs
+    → slice_range (xs ++ ys) from end ≡ slice_range xs from end
 slice-append xs ys from end l m =
     ap (λ bs. take (end - from) bs) (drop-append-le from xs ys (omega arith))
     ∙ take-append-le (end - from) (drop from xs) ys (omega (arith, length-drop from xs))
 
-same_message : (known : Known) (w : Whole) (xs ys : List ℕ) → end_of w ≤ length xs → message_of known w (xs ++ ys) ≡ message_of known w xs
+same_message : (known : Known) (w : Whole) (xs ys : List ℕ) → end_of w ≤ length xs
+    → message_of known w (xs ++ ys) ≡ message_of known w xs
 same_message known w xs ys l =
-    ap (λ bs. record { schema = fields_of (after known w.meta); header = w.meta.header; body = bs }) (slice-append xs ys w.front (end_of w) (omega arith) l)
+    ap (λ bs. record { schema = fields_of (after known w.meta); header = w.meta.header; body = bs })
+    (slice-append xs ys w.front (end_of w) (omega arith) l)
 
 pub run_step :
     (n : ℕ) (known : Known) (bytes : List ℕ) (r : Reading (Option Whole)) → first known bytes ≡ r
@@ -34,20 +63,21 @@ unfolding run_of
 run_step n known bytes r e = ap (λ m. run_after (run_of n) known bytes m) e
 
 -- the bytes behind the message
-rest_behind :
+rest_after :
     (held piece later : List ℕ) (used end : ℕ) → used + length held ≡ end → end ≤ length (held ++ piece)
     → drop end ((held ++ piece) ++ later) ≡ drop used piece ++ later
-rest_behind held piece later used end u l =
+rest_after held piece later used end u l =
     let k : end ≡ length held + used = omega arith in
     drop-append-le end (held ++ piece) later l
     ∙ ap (λ ds. ds ++ later) (ap (λ m. drop m (held ++ piece)) k ∙ drop-append-add held piece used)
 
 pub push_whole :
-    (n : ℕ) (old new : Stream) (piece later : List ℕ) (f : Framed) (w : Whole) → first old.known (old.held ++ piece) ≡ Ok (Some w)
+    (n : ℕ) (old new : Stream) (piece later : List ℕ) (f : Framed) (w : Whole)
+    → first old.known (old.held ++ piece) ≡ Ok (Some w)
     → f.used + length old.held ≡ end_of w → f.message ≡ Some (message_of old.known w (old.held ++ piece))
     → new ≡ record { known = after old.known w.meta; held = [] }
     → run_of (suc n) old.known (old.held ++ (piece ++ later))
-    ≡ run_behind f.message (λ k. run_of k new.known (new.held ++ (drop f.used piece ++ later))) n
+    ≡ run_past f.message (λ k. run_of k new.known (new.held ++ (drop f.used piece ++ later))) n
 push_whole n old new piece later f w e u m s =
     let bytes : List ℕ = old.held ++ piece in
     let l = (first_within old.known bytes w e).1 in
@@ -59,10 +89,11 @@ push_whole n old new piece later f w e u m s =
     let two : led_by (message_of old.known w (bytes ++ later)) (run_of n next (drop (end_of w) (bytes ++ later)))
     ≡ led_by (message_of old.known w bytes) (run_of n next (drop f.used piece ++ later)) =
     ap (λ v. led_by v (run_of n next (drop (end_of w) (bytes ++ later)))) (same_message old.known w bytes later l)
-    ∙ ap (λ bs. led_by (message_of old.known w bytes) (run_of n next bs)) (rest_behind old.held piece later f.used (end_of w) u l) in
+    ∙ ap (λ bs. led_by (message_of old.known w bytes) (run_of n next bs))
+    (rest_after old.held piece later f.used (end_of w) u l) in
     let P : Option MessageView → Type 0 =
     λ o. run_of (suc n) old.known (old.held ++ (piece ++ later))
-    ≡ run_behind o (λ k. run_of k new.known (new.held ++ (drop f.used piece ++ later))) n in
+    ≡ run_past o (λ k. run_of k new.known (new.held ++ (drop f.used piece ++ later))) n in
     let Q : Stream → Type 0 =
     λ t. run_of (suc n) old.known (old.held ++ (piece ++ later))
     ≡ led_by (message_of old.known w bytes) (run_of n t.known (t.held ++ (drop f.used piece ++ later))) in
@@ -72,23 +103,24 @@ pub push_partial :
     (n : ℕ) (old new : Stream) (piece later : List ℕ) (f : Framed) → f.used ≡ length piece → f.message ≡ None
     → new ≡ record { known = old.known; held = old.held ++ piece }
     → run_of (suc n) old.known (old.held ++ (piece ++ later))
-    ≡ run_behind f.message (λ k. run_of k new.known (new.held ++ (drop f.used piece ++ later))) n
+    ≡ run_past f.message (λ k. run_of k new.known (new.held ++ (drop f.used piece ++ later))) n
 push_partial n old new piece later f u m s =
     let d : drop f.used piece ≡ [] = ap (λ k. drop k piece) u ∙ drop-length piece in
     let a : old.held ++ (piece ++ later) ≡ (old.held ++ piece) ++ (drop f.used piece ++ later) =
     sym (append_assoc old.held piece later) ∙ ap (λ ds. (old.held ++ piece) ++ (ds ++ later)) (sym d) in
     let P : Option MessageView → Type 0 =
     λ o. run_of (suc n) old.known (old.held ++ (piece ++ later))
-    ≡ run_behind o (λ k. run_of k new.known (new.held ++ (drop f.used piece ++ later))) n in
+    ≡ run_past o (λ k. run_of k new.known (new.held ++ (drop f.used piece ++ later))) n in
     let Q : Stream → Type 0 =
-    λ t. run_of (suc n) old.known (old.held ++ (piece ++ later)) ≡ run_of (suc n) t.known (t.held ++ (drop f.used piece ++ later)) in
+    λ t. run_of (suc n) old.known (old.held ++ (piece ++ later)) ≡ run_of (suc n) t.known
+    (t.held ++ (drop f.used piece ++ later)) in
     subst P (sym m) (subst Q (sym s) (ap (λ bs. run_of (suc n) old.known bs) a))
 
 push_by :
     (n : ℕ) (old new : Stream) (piece later : List ℕ) (f : Framed) (r : Reading (Option Whole))
     → first old.known (old.held ++ piece) ≡ r → Frames r old piece f new
     → run_of (suc n) old.known (old.held ++ (piece ++ later))
-    ≡ run_behind f.message (λ k. run_of k new.known (new.held ++ (drop f.used piece ++ later))) n
+    ≡ run_past f.message (λ k. run_of k new.known (new.held ++ (drop f.used piece ++ later))) n
 push_by n old new piece later f (Ok None) e h = push_partial n old new piece later f h.0 h.1 h.2
 push_by n old new piece later f (Ok (Some w)) e h = push_whole n old new piece later f w e h.0 h.1 h.2
 push_by n old new piece later f (Err fs) e h = absurd h
@@ -97,7 +129,8 @@ pub push_law : PushKeepsRun
 push_law n old new piece later f h = push_by n old new piece later f (first old.known (old.held ++ piece)) refl h
 
 refusal_by :
-    (n : ℕ) (known : Known) (bytes : List ℕ) (c : StreamFault) (r : Reading (Option Whole)) → first known bytes ≡ r → Stands r c
+    (n : ℕ) (known : Known) (bytes : List ℕ) (c : StreamFault) (r : Reading (Option Whole)) → first known bytes ≡ r
+    → Stands r c
     → Stands (run_of (suc n) known bytes).rest c
 refusal_by n known bytes c (Ok o) e h = absurd h
 refusal_by n known bytes c (Err fs) e h =

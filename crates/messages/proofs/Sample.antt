@@ -1,7 +1,43 @@
 -- A batch of two int64 columns with the rows (1, 10), (2, null), (3, 30), as another program wrote it: the definitions
 -- answer what it says, and what each changed byte is the fault of.
-use Rattle.std.proofs.Common.{◌≡◌, ℕ, pos, true, List, [], ◌∷◌, ◌++◌, take, drop, Option, None, Some, Ok, Err, refl, slice_set}
-use Rattle.flatbuf.specs.Layout.{number_at, signed_at, target_at, bytes_at, block_at, place_of_vtable, vtable_at, table_at, root_of, slot_of, number_of, signed_of, structs_of, subtable_of, vector_at, vector_of, entry_of}
+use Rattle.std.proofs.Common.{
+  ◌≡◌,
+  ℕ,
+  pos,
+  true,
+  List,
+  [],
+  ◌∷◌,
+  ◌++◌,
+  take,
+  drop,
+  Option,
+  None,
+  Some,
+  Ok,
+  Err,
+  refl,
+  slice_set,
+}
+use Rattle.flatbuf.specs.Layout.{
+  number_at,
+  signed_at,
+  target_at,
+  bytes_at,
+  block_at,
+  place_of_vtable,
+  vtable_at,
+  table_at,
+  root_of,
+  slot_of,
+  number_of,
+  signed_of,
+  structs_of,
+  subtable_of,
+  vector_at,
+  vector_of,
+  entry_of,
+}
 use Rattle.values.specs.Reading.{Reading, each, one}
 use Rattle.values.specs.Rose.{Rose, node, none}
 use Rattle.values.specs.declared.faults.StreamFault.{StreamFault}
@@ -12,7 +48,19 @@ use Rattle.field_types.specs.Reads.{short_of}
 use Rattle.schema_meta.specs.Entry.{Entry}
 use Rattle.schema_meta.specs.declared.header.Header.TheVariants as header
 use Rattle.schema_meta.specs.BatchHead.{BatchHead}
-use Rattle.schema_meta.specs.Batch.{word_at, node_of, span_of, rows_of, nodes_in, nodes_of, spans_in, spans_of, plain, lengths_fit, batch_of}
+use Rattle.schema_meta.specs.Batch.{
+  long_at,
+  node_of,
+  range_of,
+  rows_of,
+  nodes_in,
+  nodes_of,
+  ranges_in,
+  ranges_of,
+  plain,
+  lengths_fit,
+  batch_of,
+}
 use Rattle.schema_meta.specs.Stage.{Known, Whole}
 use Rattle.schema_meta.specs.Story.{fields_of}
 use Rattle.schema_meta.specs.Message.{version_of, kind_of, header_table, body_of, record_batch, header_of, meta_of}
@@ -40,7 +88,8 @@ message =
     30 ∷ 0 ∷ 0 ∷ 0 ∷ 0 ∷ 0 ∷ 0 ∷ 0 ∷ []
 
 abbrev column : ℕ → Rose Entry
-column letter = node (record { name = letter ∷ []; nullable = true; stored = stored.Int int.Bits64 true; coding = None }) none
+column letter =
+    node (record { name = letter ∷ []; nullable = true; stored = stored.Int int.Bits64 true; encoding = None }) none
 
 -- a stream whose schema came, and one that nothing came of
 abbrev open_stream : Known
@@ -54,7 +103,7 @@ sample_header =
     record {
       rows = 3;
       nodes = record { length = 3; nulls = pos 0 } ∷ record { length = 3; nulls = pos 1 } ∷ [];
-      spans =
+      ranges =
           record { from = 0; len = 0 } ∷ record { from = 0; len = 24 } ∷ record { from = 24; len = 1 }
           ∷ record { from = 32; len = 24 } ∷ [];
     }
@@ -70,7 +119,10 @@ pub taken :
     (first open_stream message ≡ Ok (Some batch)) × (first open_stream (message ++ message) ≡ Ok (Some batch))
     × (first open_stream (take 263 message) ≡ Ok None) × (first open_stream (take 207 message) ≡ Ok None)
     × (first open_stream (take 7 message) ≡ Ok None)
-unfolding number_at signed_at target_at bytes_at block_at place_of_vtable vtable_at table_at root_of slot_of number_of signed_of structs_of subtable_of vector_at vector_of entry_of each word_at node_of span_of rows_of nodes_in nodes_of spans_in spans_of plain batch_of lengths_fit short_of version_of kind_of header_table body_of record_batch header_of meta_of framed message_at staged first
+unfolding number_at signed_at target_at bytes_at block_at place_of_vtable vtable_at table_at root_of slot_of number_of
+    signed_of structs_of subtable_of vector_at vector_of entry_of each long_at node_of range_of rows_of nodes_in
+    nodes_of ranges_in ranges_of plain batch_of lengths_fit short_of version_of kind_of header_table body_of
+    record_batch header_of meta_of framed message_at staged first
 taken = (refl, refl, refl, refl, refl)
 
 -- the mark, the size, the version, the batch's length (which neither node has then), the count of buffers, a buffer's
@@ -84,7 +136,10 @@ pub faults :
     × (first open_stream (slice_set message 192 33) ≡ refused fault.BufferRange)
     × (first new_stream (take 208 message) ≡ refused fault.NoSchema)
     × (first new_stream (255 ∷ 255 ∷ 255 ∷ 255 ∷ 0 ∷ 0 ∷ 0 ∷ 0 ∷ []) ≡ refused fault.NoSchema)
-unfolding number_at signed_at target_at bytes_at block_at place_of_vtable vtable_at table_at root_of slot_of number_of signed_of structs_of subtable_of vector_at vector_of entry_of each word_at node_of span_of rows_of nodes_in nodes_of spans_in spans_of plain batch_of lengths_fit short_of version_of kind_of header_table body_of record_batch header_of meta_of framed message_at staged first
+unfolding number_at signed_at target_at bytes_at block_at place_of_vtable vtable_at table_at root_of slot_of number_of
+    signed_of structs_of subtable_of vector_at vector_of entry_of each long_at node_of range_of rows_of nodes_in
+    nodes_of ranges_in ranges_of plain batch_of lengths_fit short_of version_of kind_of header_table body_of
+    record_batch header_of meta_of framed message_at staged first
 faults = (refl, refl, refl, refl, refl, refl, refl, refl)
 
 abbrev end_mark : List ℕ
@@ -99,5 +154,8 @@ pub messages :
           ∷ record { schema = fields_of open_stream; header = header.End; body = [] } ∷ [];
       rest = Ok (record { known = open_stream; held = 255 ∷ 255 ∷ [] });
     }
-unfolding number_at signed_at target_at bytes_at block_at place_of_vtable vtable_at table_at root_of slot_of number_of signed_of structs_of subtable_of vector_at vector_of entry_of each word_at node_of span_of rows_of nodes_in nodes_of spans_in spans_of plain batch_of lengths_fit short_of version_of kind_of header_table body_of record_batch header_of meta_of framed message_at staged first run_of
+unfolding number_at signed_at target_at bytes_at block_at place_of_vtable vtable_at table_at root_of slot_of number_of
+    signed_of structs_of subtable_of vector_at vector_of entry_of each long_at node_of range_of rows_of nodes_in
+    nodes_of ranges_in ranges_of plain batch_of lengths_fit short_of version_of kind_of header_table body_of
+    record_batch header_of meta_of framed message_at staged first run_of
 messages = refl

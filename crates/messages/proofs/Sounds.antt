@@ -15,11 +15,13 @@ use Rattle.messages.proofs.Facts.{meta_sound, meta_read, meta_counted}
 
 -- the message is sound where this is known before it
 abbrev pub IsSound : Known → Meta → Type 0
-IsSound known m = IsFitting (schema_after known.schema m.schema) m.header m.body × IsRead m.schema × IsCounted known.counts m.header
+IsSound known m = IsFitting (schema_after known.schema m.schema) m.header m.body × IsRead m.schema
+    × IsCounted known.counts m.header
 
 end_sound_by :
     (known : Known) (w : Whole) (b : Bool) → is_some known.schema ≡ b
-    → (if b then Ok (Some (record { front = 8; meta = end_meta })) else Err (one fault.NoSchema)) ≡ Ok (Some w) → IsSound known w.meta
+    → (if b then Ok (Some (record { front = 8; meta = end_meta })) else Err (one fault.NoSchema)) ≡ Ok (Some w)
+    → IsSound known w.meta
 end_sound_by known w true s e =
     let k : record { front = 8; meta = end_meta } ≡ w = cc in
     subst (λ (v : Whole). IsSound known v.meta) k (s, tt, tt)
@@ -28,12 +30,14 @@ end_sound_by known w false s e = absurd (cc)
 end_sound : (known : Known) (w : Whole) → end_mark known ≡ Ok (Some w) → IsSound known w.meta
 end_sound known w e = end_sound_by known w (is_some known.schema) refl e
 
-pub first_sound : (known : Known) (bytes : List ℕ) (w : Whole) → IsRead known.schema → first known bytes ≡ Ok (Some w) → IsSound known w.meta
+pub first_sound : (known : Known) (bytes : List ℕ) (w : Whole) → IsRead known.schema → first known bytes ≡ Ok (Some w)
+    → IsSound known w.meta
 unfolding first
 first_sound known bytes w read e =
     let f : ℕ → Reading Meta = λ n. meta_of known (slice_range bytes 8 (8 + n)) in
     elim
-    (staged_from (length bytes) (framed (little_number 4 bytes) (little_number 4 (drop 4 bytes))) (end_mark known) f w e) [
+    (staged_from (length bytes) (framed (little_number 4 bytes) (little_number 4 (drop 4 bytes))) (end_mark known) f w
+    e) [
       | inl m ↦ end_sound known w m
       | inr r ↦
           let bs : List ℕ = slice_range bytes 8 (8 + r.0) in

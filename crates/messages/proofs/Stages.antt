@@ -1,5 +1,29 @@
--- The stages of framing, on numbers and on readings already made: more bytes change neither a whole message nor a fault.
-use Rattle.std.proofs.Common.{◌≡◌, ◌⊎◌, inl, inr, ℕ, ◌+◌, ◌<◌, ◌≤◌, Bool, true, false, Option, None, Some, Ok, Err, refl, ap, sym, subst, ◌∙◌, arith}
+-- The stages of framing, on numbers and on readings already made: more bytes change neither a whole message nor a
+-- fault.
+use Rattle.std.proofs.Common.{
+  ◌≡◌,
+  ◌⊎◌,
+  inl,
+  inr,
+  ℕ,
+  ◌+◌,
+  ◌<◌,
+  ◌≤◌,
+  Bool,
+  true,
+  false,
+  Option,
+  None,
+  Some,
+  Ok,
+  Err,
+  refl,
+  ap,
+  sym,
+  subst,
+  ◌∙◌,
+  arith,
+}
 use Rattle.std.specs.Prelude.{nat_lt, ◌==◌}
 use Rattle.std.proofs.lemmas.Bool.{ltb-true, ltb-false}
 use Rattle.values.specs.Reading.{Reading, ◌>>=◌}
@@ -18,12 +42,14 @@ pub not_lt : (a b : ℕ) → b ≤ a → nat_lt a b ≡ false
 not_lt a b h = elim (lt_cases a b) [ inl t ↦ absurd (omega arith) | inr t ↦ t.0 ]
 
 -- the last stage
-body_settled :
-    (len more front : ℕ) (m : Meta) → len ≤ more → (body_at len front m ≡ Ok None) ⊎ (body_at more front m ≡ body_at len front m)
-body_settled len more front m h =
+body_stable :
+    (len more front : ℕ) (m : Meta) → len ≤ more
+    → (body_at len front m ≡ Ok None) ⊎ (body_at more front m ≡ body_at len front m)
+body_stable len more front m h =
     elim (lt_cases len (front + m.body)) [
       | inl t ↦ inl (rw t.0 refl)
-      | inr t ↦ let k : nat_lt more (front + m.body) ≡ false = not_lt more (front + m.body) (omega arith) in inr (rw (t.0, k) refl)
+      | inr t ↦ let k : nat_lt more (front + m.body) ≡ false = not_lt more (front + m.body) (omega arith) in
+          inr (rw (t.0, k) refl)
     ]
 
 body_there :
@@ -39,24 +65,24 @@ body_there len front m w h =
     ]
 
 -- the metadata stage
-rest_settled :
+rest_stable :
     (len more front : ℕ) (a : Reading Meta) → len ≤ more
     → ((a >>= body_at len front) ≡ Ok None) ⊎ ((a >>= body_at more front) ≡ (a >>= body_at len front))
-rest_settled len more front (Ok m) h = body_settled len more front m h
-rest_settled len more front (Err fs) h = inr refl
+rest_stable len more front (Ok m) h = body_stable len more front m h
+rest_stable len more front (Err fs) h = inr refl
 
-pub message_settled :
+pub message_stable :
     (len more front : ℕ) (a b : Reading Meta) → len ≤ more → (front ≤ len → b ≡ a)
     → (message_at len front a ≡ Ok None) ⊎ (message_at more front b ≡ message_at len front a)
 unfolding message_at
-message_settled len more front a b h e =
+message_stable len more front a b h e =
     elim (lt_cases len front) [
       | inl t ↦ inl (rw t.0 refl)
       | inr t ↦
           let k : nat_lt more front ≡ false = not_lt more front (omega arith) in
           let P : Reading Meta → Type 0 =
           λ c. (message_at len front a ≡ Ok None) ⊎ (message_at more front c ≡ message_at len front a) in
-          subst P (sym (e t.1)) (rw (t.0, k) (rest_settled len more front a h))
+          subst P (sym (e t.1)) (rw (t.0, k) (rest_stable len more front a h))
     ]
 
 rest_there :
@@ -93,36 +119,36 @@ eq_test a b false e = inr e
 eq_cases : (a b : ℕ) → ((a == b) ≡ true) ⊎ ((a == b) ≡ false)
 eq_cases a b = eq_test a b (a == b) refl
 
-sized_settled :
+sized_stable :
     (len more : ℕ) (end : Reading (Option Whole)) (f g : ℕ → Reading Meta) (n : ℕ) → len ≤ more
     → ((k : ℕ) → 8 + k ≤ len → g k ≡ f k)
     → (sized len end f n ≡ Ok None) ⊎ (sized more end g n ≡ sized len end f n)
-sized_settled len more end f g n h e =
+sized_stable len more end f g n h e =
     elim (eq_cases n 0) [
       | inl t ↦ inr (rw t refl)
-      | inr t ↦ rw t (message_settled len more (8 + n) (f n) (g n) h (e n))
+      | inr t ↦ rw t (message_stable len more (8 + n) (f n) (g n) h (e n))
     ]
 
-sizes_settled :
+sizes_stable :
     (len more : ℕ) (size : Reading ℕ) (end : Reading (Option Whole)) (f g : ℕ → Reading Meta) → len ≤ more
     → ((k : ℕ) → 8 + k ≤ len → g k ≡ f k)
     → ((size >>= sized len end f) ≡ Ok None) ⊎ ((size >>= sized more end g) ≡ (size >>= sized len end f))
-sizes_settled len more (Ok n) end f g h e = sized_settled len more end f g n h e
-sizes_settled len more (Err fs) end f g h e = inr refl
+sizes_stable len more (Ok n) end f g h e = sized_stable len more end f g n h e
+sizes_stable len more (Err fs) end f g h e = inr refl
 
-pub staged_settled :
+pub staged_stable :
     (len more : ℕ) (size other : Reading ℕ) (end : Reading (Option Whole)) (f g : ℕ → Reading Meta) → len ≤ more
     → (8 ≤ len → other ≡ size) → ((k : ℕ) → 8 + k ≤ len → g k ≡ f k)
     → (staged len size end f ≡ Ok None) ⊎ (staged more other end g ≡ staged len size end f)
 unfolding staged
-staged_settled len more size other end f g h s e =
+staged_stable len more size other end f g h s e =
     elim (lt_cases len 8) [
       | inl t ↦ inl (rw t.0 refl)
       | inr t ↦
           let k : nat_lt more 8 ≡ false = not_lt more 8 (omega arith) in
           let P : Reading ℕ → Type 0 =
           λ c. (staged len size end f ≡ Ok None) ⊎ (staged more c end g ≡ staged len size end f) in
-          subst P (sym (s t.1)) (rw (t.0, k) (sizes_settled len more size end f g h e))
+          subst P (sym (s t.1)) (rw (t.0, k) (sizes_stable len more size end f g h e))
     ]
 
 -- the end mark ends at 8, and any other message behind its metadata
@@ -176,14 +202,16 @@ staged_there len size end f w e h =
     ]
 
 sizes_beyond :
-    (len more : ℕ) (size : Reading ℕ) (end : Reading (Option Whole)) (f g : ℕ → Reading Meta) (w : Whole) → 8 ≤ len → len ≤ more
+    (len more : ℕ) (size : Reading ℕ) (end : Reading (Option Whole)) (f g : ℕ → Reading Meta) (w : Whole) → 8 ≤ len
+    → len ≤ more
     → ((v : Whole) → end ≡ Ok (Some v) → (v.front ≡ 8) × (v.meta.body ≡ 0)) → ((k : ℕ) → 8 + k ≤ len → g k ≡ f k)
     → (size >>= sized len end f) ≡ Ok None → (size >>= sized more end g) ≡ Ok (Some w) → len < end_of w
 sizes_beyond len more (Ok n) end f g w l h e s p q = sized_beyond len more n end f g w l h e s p q
 sizes_beyond len more (Err fs) end f g w l h e s p q = absurd (cc)
 
 pub staged_beyond :
-    (len more : ℕ) (size other : Reading ℕ) (end : Reading (Option Whole)) (f g : ℕ → Reading Meta) (w : Whole) → len ≤ more
+    (len more : ℕ) (size other : Reading ℕ) (end : Reading (Option Whole)) (f g : ℕ → Reading Meta) (w : Whole)
+    → len ≤ more
     → ((v : Whole) → end ≡ Ok (Some v) → (v.front ≡ 8) × (v.meta.body ≡ 0)) → (8 ≤ len → other ≡ size)
     → ((k : ℕ) → 8 + k ≤ len → g k ≡ f k) → staged len size end f ≡ Ok None → staged more other end g ≡ Ok (Some w)
     → len < end_of w

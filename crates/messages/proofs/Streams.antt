@@ -1,5 +1,30 @@
 -- A stream before and after a message.
-use Rattle.std.proofs.Common.{◌≡◌, ℕ, ◌+◌, ◌-◌, ◌<◌, ◌≤◌, Option, None, Some, Ok, List, [], ◌++◌, length, take, drop, refl, ap, sym, subst, ◌∙◌, arith, length-append, length-drop}
+use Rattle.std.proofs.Common.{
+  ◌≡◌,
+  ℕ,
+  ◌+◌,
+  ◌-◌,
+  ◌<◌,
+  ◌≤◌,
+  Option,
+  None,
+  Some,
+  Ok,
+  List,
+  [],
+  ◌++◌,
+  length,
+  take,
+  drop,
+  refl,
+  ap,
+  sym,
+  subst,
+  ◌∙◌,
+  arith,
+  length-append,
+  length-drop,
+}
 use Rattle.std.specs.Prelude.{IsSome, IsSomeAnd, slice_range}
 use Rattle.std.proofs.lemmas.List.{length-take-le}
 use Rattle.values.specs.Rose.{Rose}
@@ -13,7 +38,7 @@ use Rattle.schema_meta.specs.Sound.{Fits, FitsValues, IsFitting, schema_after, a
 use Rattle.schema_meta.specs.Framing.{staged, first}
 use Rattle.messages.specs.Stream.{IsStream}
 use Rattle.messages.proofs.Messages.{first_within, first_beyond}
-use Rattle.messages.proofs.Wanting.{nothing_wanted}
+use Rattle.messages.proofs.WantedLemmas.{nothing_wanted}
 use Rattle.messages.proofs.Sounds.{first_sound}
 
 pub nothing_held : (known : Known) → first known [] ≡ Ok None

@@ -14,5 +14,6 @@ pub record MessageView : Type 0 where
 
 abbrev pub view_code : Coded MessageView
 view_code =
-    code_by (List (Rose Entry) × (Header × List ℕ)) (coded× (coded_list (rose_code entry_code)) (coded× the_row.coded (coded_list coded_ℕ)))
+    code_by (List (Rose Entry) × (Header × List ℕ))
+    (coded× (coded_list (rose_code entry_code)) (coded× the_row.coded (coded_list coded_ℕ)))
     (λ m. (m.schema, (m.header, m.body))) (λ p. record { schema = p.0; header = p.1.0; body = p.1.1 }) (λ _. refl)

@@ -9,13 +9,14 @@ use Rattle.messages.specs.declared.headers.Framed.{Framed}
 use Rattle.messages.specs.Handed.{MessageView}
 use Rattle.messages.specs.MessageLaw.{MessageLaw}
 use Rattle.messages.specs.Stream.{Stream, Frames}
-use Rattle.messages.specs.Run.{Run, run_of, run_behind, whole_run}
+use Rattle.messages.specs.Run.{Run, run_of, run_past, whole_run}
 use Rattle.messages.specs.Feeding.{End, Feeds}
 
 -- Bytes behind a whole message change nothing of it.
 abbrev pub WholeStays : Type 0
 WholeStays =
-    (known : Known) (bytes more : List ℕ) (w : Whole) → first known bytes ≡ Ok (Some w) → first known (bytes ++ more) ≡ Ok (Some w)
+    (known : Known) (bytes more : List ℕ) (w : Whole) → first known bytes ≡ Ok (Some w)
+    → first known (bytes ++ more) ≡ Ok (Some w)
 
 -- A whole message lies within the bytes.
 abbrev pub WholeWithin : Type 0
@@ -24,17 +25,20 @@ WholeWithin = (known : Known) (bytes : List ℕ) (w : Whole) → first known byt
 -- A fault that stands does so whatever follows.
 abbrev pub FaultStays : Type 0
 FaultStays =
-    (known : Known) (bytes more : List ℕ) (c : StreamFault) → Stands (first known bytes) c → Stands (first known (bytes ++ more)) c
+    (known : Known) (bytes more : List ℕ) (c : StreamFault) → Stands (first known bytes) c
+    → Stands (first known (bytes ++ more)) c
 
 -- Nor does another fault come to stand beside it.
 abbrev pub FaultsStay : Type 0
 FaultsStay =
-    (known : Known) (bytes more : List ℕ) (fs : Faults) → first known bytes ≡ Err fs → first known (bytes ++ more) ≡ Err fs
+    (known : Known) (bytes more : List ℕ) (fs : Faults) → first known bytes ≡ Err fs
+    → first known (bytes ++ more) ≡ Err fs
 
 -- A message's own bytes are enough.
 abbrev pub WholeAlone : Type 0
 WholeAlone =
-    (known : Known) (bytes : List ℕ) (w : Whole) → first known bytes ≡ Ok (Some w) → first known (take (end_of w) bytes) ≡ Ok (Some w)
+    (known : Known) (bytes : List ℕ) (w : Whole) → first known bytes ≡ Ok (Some w)
+    → first known (take (end_of w) bytes) ≡ Ok (Some w)
 
 -- No byte is no message yet.
 abbrev pub NothingYet : Type 0
@@ -50,13 +54,15 @@ pub record FirstMessageLaw : Type 0 where
   pub none : NothingYet
   pub message : MessageLaw
 
--- A push changes nothing of the messages of a stream: those of what was held, the piece and all that comes later are the one
--- that the push hands on, if it does, and those of what is held then, the rest of the piece and all that comes later.
+-- A push changes nothing of the messages of a stream: those of what was held, the piece and all that comes later are
+-- the one that the push hands on, if it does, and those of what is held then, the rest of the piece and all that comes
+-- later.
 abbrev pub PushKeepsRun : Type 0
 PushKeepsRun =
-    (n : ℕ) (old new : Stream) (piece later : List ℕ) (f : Framed) → Frames (first old.known (old.held ++ piece)) old piece f new
+    (n : ℕ) (old new : Stream) (piece later : List ℕ) (f : Framed)
+    → Frames (first old.known (old.held ++ piece)) old piece f new
     → run_of (suc n) old.known (old.held ++ (piece ++ later))
-    ≡ run_behind f.message (λ k. run_of k new.known (new.held ++ (drop f.used piece ++ later))) n
+    ≡ run_past f.message (λ k. run_of k new.known (new.held ++ (drop f.used piece ++ later))) n
 
 -- A refusal names a fault at which the messages end, whatever comes later.
 abbrev pub RefusalEndsRun : Type 0
@@ -69,8 +75,8 @@ pub record Follows (messages : List MessageView) (end : End) (r : Run) : Type 0 
   pub same : r.messages ≡ messages
   pub left : Judges (λ s. s) end r.rest
 
--- Feeding pieces hands on the messages of all the bytes, and leaves what the bytes leave, or a refusal names a fault at which
--- they end.
+-- Feeding pieces hands on the messages of all the bytes, and leaves what the bytes leave, or a refusal names a fault at
+-- which they end.
 abbrev pub FeedFollowsRun : Type 0
 FeedFollowsRun =
     (old : Stream) (pieces : List (List ℕ)) (messages : List MessageView) (end : End)

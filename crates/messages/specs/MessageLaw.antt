@@ -27,7 +27,7 @@ Brings known brought header.End = brought ≡ None
 
 -- Its body begins behind its first eight bytes, it lies within the bytes, and it brings a schema or none.
 pub record IsMessage (known : Known) (bytes : List ℕ) (w : Whole) : Type 0 where
-  pub behind : 8 ≤ w.front
+  pub framed : 8 ≤ w.front
   pub within : end_of w ≤ length bytes
   pub brings : Brings known.schema w.meta.schema w.meta.header
 

@@ -25,7 +25,8 @@ promised known bytes len (pending.Message schema count) =
 abbrev pub IsReady : Known → ℕ → List ℕ → Pending → Type 0
 IsReady known room bytes pending.Nothing = Unit {0}
 IsReady known room bytes (pending.Piece wanted) = (first known bytes ≡ Ok None) × Wants (followed known bytes) wanted
-IsReady known room bytes (pending.Message schema count) = IsRead (option_map (λ s. s.value.fields.items) schema) × HasRoom count room
+IsReady known room bytes (pending.Message schema count) =
+    IsRead (option_map (λ s. s.value.fields.items) schema) × HasRoom count room
 
 -- what is true of a framer between two calls
 pub record IsFramer (known : Known) (room : ℕ) (bytes : List ℕ) (len wanted : ℕ) (p : Pending) : Type 0 where

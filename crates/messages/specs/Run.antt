@@ -35,6 +35,6 @@ abbrev pub whole_run : Known → List ℕ → Run
 whole_run known bytes = run_of (length bytes) known bytes
 
 -- the run that begins with a message, if there is one; `r` reads a number of messages
-abbrev pub run_behind : Option MessageView → (ℕ → Run) → ℕ → Run
-run_behind None r n = r (suc n)
-run_behind (Some m) r n = led_by m (r n)
+abbrev pub run_past : Option MessageView → (ℕ → Run) → ℕ → Run
+run_past None r n = r (suc n)
+run_past (Some m) r n = led_by m (r n)

@@ -25,7 +25,11 @@ known_of s =
 -- what is known after a message that brings this schema, if any, and sets this count, if any
 abbrev pub learnt : Known → Option (List (Rose Entry)) → Option Count → Known
 learnt known brought count =
-    record { declared = known.declared; schema = schema_after known.schema brought; counts = counted known.counts count }
+    record {
+      declared = known.declared;
+      schema = schema_after known.schema brought;
+      counts = counted known.counts count;
+    }
 
 abbrev pub meta_seen : Metadata → Meta
 meta_seen m = record { header = m.header; body = m.body; schema = option_map (λ d. d.value.fields.items) m.schema }

@@ -1,7 +1,24 @@
 -- A stream between two pieces, what a push makes of it, and the stream that a piece was made ready for.
-use Rattle.std.specs.Prelude.{◌≡◌, ℕ, ℤ, ◌+◌, List, [], ◌++◌, length, slice_range, Option, None, Some, Ok, Err, IfSome, refl}
+use Rattle.std.specs.Prelude.{
+  ◌≡◌,
+  ℕ,
+  ℤ,
+  ◌+◌,
+  List,
+  [],
+  ◌++◌,
+  length,
+  slice_range,
+  Option,
+  None,
+  Some,
+  Ok,
+  Err,
+  IfSome,
+  refl,
+}
 use Rattle.std.specs.Coded.{Coded, code_by, coded×, coded_ℕ, coded_ℤ, coded_list, coded_option}
-use Rattle.values.specs.Logical.{LogicalField, logical_code}
+use Rattle.values.specs.Logical.{NamedType, logical_code}
 use Rattle.values.specs.Reading.{Reading}
 use Rattle.values.specs.Rose.{Rose, rose_code}
 use Rattle.schema_meta.specs.Entry.{Entry, entry_code}
@@ -21,12 +38,13 @@ pub record Stream : Type 0 where
   pub held : List ℕ
 
 abbrev pub Stored : Type 0
-Stored = Option (List (Rose LogicalField)) × (Option (List (Rose Entry)) × (List (ℤ × ℕ) × List ℕ))
+Stored = Option (List (Rose NamedType)) × (Option (List (Rose Entry)) × (List (ℤ × ℕ) × List ℕ))
 
 abbrev pub stored_code : Coded Stored
 stored_code =
     coded× (coded_option (coded_list (rose_code logical_code)))
-    (coded× (coded_option (coded_list (rose_code entry_code))) (coded× (coded_list (coded× coded_ℤ coded_ℕ)) (coded_list coded_ℕ)))
+    (coded× (coded_option (coded_list (rose_code entry_code)))
+    (coded× (coded_list (coded× coded_ℤ coded_ℕ)) (coded_list coded_ℕ)))
 
 abbrev pub stream_code : Coded Stream
 stream_code =
@@ -50,16 +68,20 @@ pub record IsStream (known : Known) (held : List ℕ) (wanted : ℕ) : Type 0 wh
   pub wants : Wants (followed known held) wanted
 
 -- of which nothing has come; these columns are declared for it, if any are
-abbrev pub opened : Option (List (Rose LogicalField)) → Stream
+abbrev pub opened : Option (List (Rose NamedType)) → Stream
 opened declared = record { known = before declared; held = [] }
 
 -- a message that is handed on, out of all bytes
 abbrev pub message_of : Known → Whole → List ℕ → MessageView
 message_of known w bytes =
-    record { schema = fields_of (after known w.meta); header = w.meta.header; body = slice_range bytes w.front (end_of w) }
+    record {
+      schema = fields_of (after known w.meta);
+      header = w.meta.header;
+      body = slice_range bytes w.front (end_of w);
+    }
 
--- What a push answers, where the first message of what was held and the piece is this: without a message all of the piece is
--- held, and a message is handed on.
+-- What a push answers, where the first message of what was held and the piece is this: without a message all of the
+-- piece is held, and a message is handed on.
 abbrev pub Frames : Reading (Option Whole) → Stream → List ℕ → Framed → Stream → Type 0
 Frames (Ok None) old piece f new =
     (f.used ≡ length piece) × (f.message ≡ None) × (new ≡ record { known = old.known; held = old.held ++ piece })

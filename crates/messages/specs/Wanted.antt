@@ -7,8 +7,8 @@ use Rattle.schema_meta.specs.Stage.{Known, Whole}
 use Rattle.schema_meta.specs.Message.{meta_of}
 use Rattle.schema_meta.specs.Framing.{first, message_at}
 
--- Where fewer than `wanted` bytes come, whatever they are, there is no whole message yet, and no fault. `later` says what is read
--- of all bytes then.
+-- Where fewer than `wanted` bytes come, whatever they are, there is no whole message yet, and no fault. `later` says
+-- what is read of all bytes then.
 pub record Wants (later : List ℕ → Reading (Option Whole)) (wanted : ℕ) : Type 0 where
   pub some : 1 ≤ wanted
   pub short : (more : List ℕ) → length more < wanted → later more ≡ Ok None

@@ -4,11 +4,23 @@ ghost use Rattle.std.specs.Prelude.{◌≡◌, ◌+◌, ◌*◌, ◌<◌, ◌≤
 ghost use Rattle.values.specs.Limits.{max_body_size};
 ghost use Rattle.values.specs.Reading.{Answers, Judges};
 ghost use Rattle.messages.specs.Columns.{AreRead, layouts_wanted};
-ghost use Rattle.schema_meta.specs.Batch.{batch_of, node_of, nodes_in, span_of, spans_in, plain, rows_of, nodes_of, spans_of, structs_in, word_at};
+ghost use Rattle.schema_meta.specs.Batch.{
+  batch_of,
+  node_of,
+  nodes_in,
+  range_of,
+  ranges_in,
+  plain,
+  rows_of,
+  nodes_of,
+  ranges_of,
+  structs_in,
+  long_at,
+};
 
 use crate::columns::Columns;
 use crate::fields::checked;
-use array_layout::{Node, Span};
+use array_layout::{BufferRange, FieldNode};
 use byteorder::{ByteOrder, LittleEndian};
 use field_types::{read_long, readable};
 use flatbuf::{BadTable, TableRef};
@@ -19,44 +31,44 @@ use values::StreamFault;
 use values::limits::{MAX_BATCH_LENGTH, MAX_NODE_LENGTH};
 
 /// The number of 64 bits at `place`.
-#[tactic(auto, unfolding(schema_meta::specs::Batch::word_at))]
-fn word_at(bytes: &[u8], place: usize) -> u64
+#[tactic(auto, unfolding(schema_meta::specs::Batch::long_at))]
+fn long_at(bytes: &[u8], place: usize) -> u64
     requires { place + 8 ≤ length bytes.now }
-    ensures { result ≡ word_at bytes.now place }
+    ensures { result ≡ long_at bytes.now place }
 {
     LittleEndian::read_u64(&bytes[place..])
 }
 
 /// The node with number `index`.
-fn node_at(bytes: &[u8], index: usize) -> Result<Node, StreamFault>
+fn node_at(bytes: &[u8], index: usize) -> Result<FieldNode, StreamFault>
     requires { 16 * index + 16 ≤ length bytes.now }
     ensures { Judges (λ n. n) result (node_of bytes.now index) }
 {
     let place = 16 * index;
-    let length = word_at(bytes, place);
+    let length = long_at(bytes, place);
     if length > MAX_NODE_LENGTH as u64 {
         return Err(StreamFault::BadLength);
     }
-    let nulls = word_at(bytes, place + 8).cast_signed();
-    Ok(Node {
+    let nulls = long_at(bytes, place + 8).cast_signed();
+    Ok(FieldNode {
         length: length as usize,
         nulls,
     })
 }
 
 /// The buffer with number `index`: it must lie within the body.
-fn span_at(bytes: &[u8], index: usize, body: usize) -> Result<Span, StreamFault>
+fn range_at(bytes: &[u8], index: usize, body: usize) -> Result<BufferRange, StreamFault>
     requires in_bytes { 16 * index + 16 ≤ length bytes.now }
     requires in_range { body ≤ max_body_size }
-    ensures { Judges (λ s. s) result (span_of body bytes.now index) }
+    ensures { Judges (λ s. s) result (range_of body bytes.now index) }
 {
     let place = 16 * index;
-    let from = word_at(bytes, place);
-    let len = word_at(bytes, place + 8);
+    let from = long_at(bytes, place);
+    let len = long_at(bytes, place + 8);
     if from > body as u64 || len > body as u64 - from {
         return Err(StreamFault::BufferRange);
     }
-    Ok(Span {
+    Ok(BufferRange {
         from: from as usize,
         len: len as usize,
     })
@@ -64,7 +76,7 @@ fn span_at(bytes: &[u8], index: usize, body: usize) -> Result<Span, StreamFault>
 
 /// `count` nodes, one after the other.
 #[tactic(auto, using(values::proofs::Readings::gathering), unfolding(schema_meta::specs::Batch::nodes_in))]
-fn nodes_in(alloc: Global, bytes: &[u8], count: usize) -> Result<Vec<Node>, StreamFault>
+fn nodes_in(alloc: Global, bytes: &[u8], count: usize) -> Result<Vec<FieldNode>, StreamFault>
     requires { length bytes.now ≡ 16 * count }
     ensures { Answers (λ v. v.items) result (nodes_in count bytes.now) }
 {
@@ -76,22 +88,22 @@ fn nodes_in(alloc: Global, bytes: &[u8], count: usize) -> Result<Vec<Node>, Stre
 }
 
 /// `count` buffers, one after the other.
-#[tactic(auto, using(values::proofs::Readings::gathering), unfolding(schema_meta::specs::Batch::spans_in))]
-fn spans_in(
+#[tactic(auto, using(values::proofs::Readings::gathering), unfolding(schema_meta::specs::Batch::ranges_in))]
+fn ranges_in(
     alloc: Global,
     bytes: &[u8],
     count: usize,
     body: usize,
-) -> Result<Vec<Span>, StreamFault>
+) -> Result<Vec<BufferRange>, StreamFault>
     requires counted { length bytes.now ≡ 16 * count }
     requires in_range { body ≤ max_body_size }
-    ensures { Answers (λ v. v.items) result (spans_in count body bytes.now) }
+    ensures { Answers (λ v. v.items) result (ranges_in count body bytes.now) }
 {
-    let mut spans = Vec::with_capacity(alloc, count)?;
+    let mut ranges = Vec::with_capacity(alloc, count)?;
     for i in 0..count {
-        spans.push(span_at(bytes, i, body)?)?;
+        ranges.push(range_at(bytes, i, body)?)?;
     }
-    Ok(spans)
+    Ok(ranges)
 }
 
 /// The bytes of a vector of `count` structs of 16 bytes; an absent vector is an empty one.
@@ -121,7 +133,7 @@ fn nodes_of(
     table: &TableRef,
     columns: Columns,
     rows: usize,
-) -> Result<Vec<Node>, StreamFault>
+) -> Result<Vec<FieldNode>, StreamFault>
     requires { AreRead columns }
     ensures { Answers (λ v. v.items) result (nodes_of (layouts_wanted columns.entry) rows table.now) }
 {
@@ -135,17 +147,17 @@ fn nodes_of(
     }
 }
 
-fn spans_of(
+fn ranges_of(
     alloc: Global,
     table: &TableRef,
     count: usize,
     body: usize,
-) -> Result<Vec<Span>, StreamFault>
+) -> Result<Vec<BufferRange>, StreamFault>
     requires { body ≤ max_body_size }
-    ensures { Answers (λ v. v.items) result (spans_of count body table.now) }
+    ensures { Answers (λ v. v.items) result (ranges_of count body table.now) }
 {
     let bytes = structs(table, BATCH_BUFFERS, count, StreamFault::BufferCount)?;
-    spans_in(alloc, bytes, count, body)
+    ranges_in(alloc, bytes, count, body)
 }
 
 fn rows_of(table: &TableRef) -> Result<usize, StreamFault>
@@ -155,7 +167,7 @@ fn rows_of(table: &TableRef) -> Result<usize, StreamFault>
     checked(StreamFault::BadLength, MAX_BATCH_LENGTH, length)
 }
 
-fn uncompressed(table: &TableRef) -> Result<(), StreamFault>
+fn check_uncompressed(table: &TableRef) -> Result<(), StreamFault>
     ensures { Judges (λ u. u) result (plain table.now) }
 {
     if readable(table.has(BATCH_COMPRESSION))? {
@@ -176,9 +188,13 @@ pub(crate) fn read_batch_header(
     requires read { AreRead columns }
     ensures { Answers (λ b. b) result (batch_of (layouts_wanted columns.entry) body table.now) }
 {
-    uncompressed(table)?;
+    check_uncompressed(table)?;
     let rows = rows_of(table)?;
     let nodes = nodes_of(alloc, table, columns, rows)?;
-    let spans = spans_of(alloc, table, columns.spans(), body)?;
-    Ok(BatchHeader { rows, nodes, spans })
+    let ranges = ranges_of(alloc, table, columns.ranges(), body)?;
+    Ok(BatchHeader {
+        rows,
+        nodes,
+        ranges,
+    })
 }

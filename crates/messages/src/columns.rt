@@ -1,13 +1,13 @@
-//! What a batch has arrays of.
+//! The arrays that a batch must have: one a column, or one of dictionary values.
 
 ghost use Rattle.std.specs.Prelude.{◌≡◌, ◌≤◌, length};
 ghost use Rattle.values.specs.Rose.{roses_size};
-ghost use Rattle.array_layout.specs.Placing.{spans_below};
+ghost use Rattle.array_layout.specs.Placing.{ranges_below};
 ghost use Rattle.schema_meta.specs.Batch.{lengths_fit};
 ghost use Rattle.messages.specs.Columns.{AreRead, layouts_wanted};
 
 use crate::lengths::{fit, length_at};
-use array_layout::{Node, own_spans};
+use array_layout::{FieldNode, own_ranges};
 use schema_meta::StreamSchema;
 use values::Layout;
 
@@ -33,19 +33,19 @@ impl<'a> Columns<'a> {
     }
 
     /// How many buffers a batch of them has.
-    pub(crate) fn spans(self) -> usize
+    pub(crate) fn ranges(self) -> usize
         requires { AreRead self }
-        ensures { result ≡ spans_below (layouts_wanted self.entry) }
+        ensures { result ≡ ranges_below (layouts_wanted self.entry) }
     {
         match self {
-            Columns::Fields(schema) => schema.spans(),
-            Columns::Values(layout) => own_spans(layout),
+            Columns::Fields(schema) => schema.ranges(),
+            Columns::Values(layout) => own_ranges(layout),
         }
     }
 
     /// Whether each column is as long as the batch, and all below it are long enough.
     #[tactic(auto, using(crate::proofs::LongEnough::one_fits), unfolding(schema_meta::specs::Batch::lengths_fit))]
-    pub(crate) fn fit(self, nodes: &[Node], rows: usize) -> bool
+    pub(crate) fn fit(self, nodes: &[FieldNode], rows: usize) -> bool
         requires { roses_size (layouts_wanted self) ≤ length nodes.now }
         ensures { result ≡ lengths_fit rows (layouts_wanted self.entry) nodes.now }
     {

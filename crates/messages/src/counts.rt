@@ -1,4 +1,4 @@
-//! How many values dictionaries have.
+//! The number of values of each dictionary.
 
 ghost use Rattle.std.specs.Prelude.{◌≡◌, if◌then◌else◌};
 ghost use Rattle.messages.specs.Counts.{IsCounted, counted};
@@ -7,14 +7,14 @@ ghost use Rattle.schema_meta.specs.DictionaryBatch.{count_of, counts_after};
 use indexmap::IndexMap;
 use schema_meta::{DictionaryHeader, Header};
 
-/// How many values a dictionary is to have.
+/// The number of values that a dictionary gets.
 #[derive(Clone, Copy)]
 pub(crate) struct Count {
     pub id: i64,
     pub values: usize,
 }
 
-/// How many values the dictionary of a batch has that stay.
+/// The number of values that stay before a batch: none unless it is a delta.
 pub(crate) fn count_before(counts: &IndexMap<i64, usize>, header: &DictionaryHeader) -> usize
     ensures { result ≡ (if header.now.is_delta then count_of counts.now.entries header.now.id else 0) }
 {
@@ -27,7 +27,7 @@ pub(crate) fn count_before(counts: &IndexMap<i64, usize>, header: &DictionaryHea
     }
 }
 
-/// How many values a dictionary has after a message, if that is a batch of it.
+/// The number of values of a dictionary after a message, if it is a batch of that dictionary.
 pub(crate) fn count_after(counts: &IndexMap<i64, usize>, header: &Header) -> Option<Count>
     requires { IsCounted counts.now.entries header.now }
     ensures { counted counts.now.entries result ≡ counts_after counts.now.entries header.now }

@@ -1,14 +1,14 @@
-//! Whether a stream's schema is the declared one.
+//! Compares a stream's schema with the declared one.
 ghost use Rattle.std.specs.Prelude.{◌≡◌};
 ghost use Rattle.values.specs.Rose.{kids_of};
 ghost use Rattle.schema_meta.specs.SameColumns.{are_same, is_same};
 
-use values::Named;
+use values::LogicalField;
 
 /// Whether two fields have one name and type, and so on down.
 #[cycle(same)]
 #[tactic(auto, using(crate::proofs::SameFields::same))]
-fn is_same(a: &Named, b: &Named) -> bool
+fn is_same(a: &LogicalField, b: &LogicalField) -> bool
     ensures { result ≡ is_same a.now b.now }
 {
     a.name == b.name && a.col_type == b.col_type && are_same(&a.children, &b.children)
@@ -17,7 +17,7 @@ fn is_same(a: &Named, b: &Named) -> bool
 /// Whether these are the same fields, in order.
 #[cycle(same)]
 #[tactic(auto, using(crate::proofs::SameFields::same))]
-pub(crate) fn are_same(a: &[Named], b: &[Named]) -> bool
+pub(crate) fn are_same(a: &[LogicalField], b: &[LogicalField]) -> bool
     ensures { result ≡ are_same (kids_of a.now) (kids_of b.now) }
 {
     if a.len() != b.len() {

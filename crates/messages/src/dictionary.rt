@@ -69,8 +69,8 @@ fn check_count(counts: &IndexMap<i64, usize>, header: &DictionaryHeader) -> Resu
     Ok(())
 }
 
-/// The header that the table `DictionaryBatch` means under this schema, where the message has a body of `body` bytes and the
-/// dictionaries have so many values.
+/// The header that the table `DictionaryBatch` means under this schema, where the message has a body of `body` bytes
+/// and the dictionaries have so many values.
 #[tactic(auto, using(values::proofs::Readings::failing), unfolding(schema_meta::specs::DictionaryBatch::dictionary_of))]
 pub(crate) fn read_dictionary_header(
     alloc: Global,

@@ -1,5 +1,5 @@
-//! Tests on a stream of one column `d` of bools by the dictionary 5, with indices of 8 bits: three values, two rows, a delta of two
-//! values more, and two rows.
+//! Tests on a stream of one column `d` of bools by the dictionary 5, with indices of 8 bits: three values, two rows, a
+//! delta of two values more, and two rows.
 
 use crate::tests::{answers, kind};
 use crate::{Framer, Header, Message};
@@ -8,8 +8,8 @@ use std::process::Abort;
 use std::test::Fail;
 use values::StreamFault;
 
-/// The schema message ends at 184, the values at 376, the first rows at 536, the delta at 728, the other rows at 888, the end mark
-/// at 896.
+/// The schema message ends at 184, the values at 376, the first rows at 536, the delta at 728, the other rows at 888,
+/// the end mark at 896.
 const STREAM: [u8; 896] = [
     0xFF, 0xFF, 0xFF, 0xFF, 0xB0, 0x00, 0x00, 0x00, 0x10, 0x00, 0x00, 0x00, 0x0C, 0x00, 0x18, 0x00,
     0x04, 0x00, 0x06, 0x00, 0x08, 0x00, 0x10, 0x00, 0x0C, 0x00, 0x00, 0x00, 0x04, 0x00, 0x01, 0x00,
@@ -122,7 +122,7 @@ fn has_values(rt: &impl Abort, header: &Header, is_delta: bool, rows: usize) {
             assert_eq!(rt; header.is_delta, is_delta);
             assert_eq!(rt; header.batch.rows, rows);
             assert_eq!(rt; header.batch.nodes.len(), 1);
-            assert_eq!(rt; header.batch.spans.len(), 2);
+            assert_eq!(rt; header.batch.ranges.len(), 2);
         }
         _ => assert!(rt; false),
     }
@@ -188,8 +188,8 @@ fn unknown_dictionaries(rt: HostRuntime) -> Result<(), Fail> {
     Ok(())
 }
 
-/// A bool takes a bit, so few bytes could have very many values; and those that a batch claims are counted whatever its buffers
-/// have.
+/// A bool takes a bit, so few bytes could have very many values; and those that a batch claims are counted whatever its
+/// buffers have.
 #[test]
 fn counts_values(rt: HostRuntime) -> Result<(), Fail> {
     let fault = Some(StreamFault::DictionaryTooLarge);

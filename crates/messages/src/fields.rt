@@ -1,4 +1,4 @@
-//! Fields of metadata tables, as faults name what is wrong with them.
+//! Checks of numbers in metadata tables, with the fault for each.
 
 ghost use Rattle.std.specs.Prelude.{◌≤◌, ◌^◌, IfOk};
 ghost use Rattle.values.specs.Reading.{Judges};

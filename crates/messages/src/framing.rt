@@ -1,4 +1,4 @@
-//! Framing: Arrow Columnar Format, "Encapsulated message format".
+//! Parses the message at the front of some bytes: Arrow Columnar Format, "Encapsulated message format".
 
 ghost use Rattle.std.specs.Prelude.{◌≤◌, ◌+◌, Some, length, slice_range, IfOk};
 ghost use Rattle.values.specs.Limits.{max_metadata_size};
@@ -16,7 +16,7 @@ use std::alloc::Global;
 use values::StreamFault;
 use values::limits::MAX_METADATA_SIZE;
 
-/// A message that is there whole.
+/// A complete message at the front of some bytes.
 #[derive(Drop)]
 pub(crate) struct Found {
     /// Where its body begins.
@@ -24,15 +24,15 @@ pub(crate) struct Found {
     pub metadata: Metadata,
 }
 
-/// How far the first message of some bytes has come.
+/// Whether the first message of some bytes is complete.
 #[derive(Drop)]
 pub(crate) enum Progress {
-    /// It isn't whole. Fewer than `wanted` bytes more neither make it so nor show a fault.
+    /// Bytes are missing. Fewer than `wanted` more bytes neither complete it nor show a fault.
     Partial { wanted: usize },
     Whole(Found),
 }
 
-/// The metadata's size, by the first two numbers of a message.
+/// Reads the metadata size from the first 8 bytes of a message.
 #[tactic(auto, unfolding(schema_meta::specs::Framing::framed))]
 fn metadata_size(mark: u32, size: u32) -> Result<usize, StreamFault>
     ensures value { Judges (λ n. n) result (framed mark size) }
@@ -63,8 +63,8 @@ fn end_mark(state: &State) -> Result<Found, StreamFault>
     })
 }
 
-/// The message whose body begins at `front`, if it is there whole.
-#[tactic(auto, using(values::proofs::Readings::failing, crate::proofs::Wanting::message_wanting), unfolding(schema_meta::specs::Framing::message_at))]
+/// Parses the message whose body begins at `front`, or `Partial` if bytes are missing.
+#[tactic(auto, using(values::proofs::Readings::failing, crate::proofs::WantedLemmas::message_wanting), unfolding(schema_meta::specs::Framing::message_at))]
 fn message_at(
     alloc: Global,
     state: &State,
@@ -92,8 +92,9 @@ fn message_at(
     Ok(Progress::Whole(Found { front, metadata }))
 }
 
-/// The first message of the bytes, if it is there whole. A fault is found as soon as what has it is there.
-#[tactic(auto, using(values::proofs::Readings::failing, crate::proofs::Wanting::first_wanting), unfolding(schema_meta::specs::Framing::first, schema_meta::specs::Framing::staged))]
+/// Parses the first message, or `Partial` if bytes are missing. A fault is reported once the bytes that show it have
+/// arrived.
+#[tactic(auto, using(values::proofs::Readings::failing, crate::proofs::WantedLemmas::first_wanting), unfolding(schema_meta::specs::Framing::first, schema_meta::specs::Framing::staged))]
 pub(crate) fn first(alloc: Global, state: &State, bytes: &[u8]) -> Result<Progress, StreamFault>
     requires { IsRead (known_of state.now).schema }
     ensures value { Answers progress_seen result (first (known_of state.now) bytes.now) }

@@ -1,6 +1,21 @@
-//! Gathering a message from pieces.
+//! Collects the bytes of a message from pieces.
 
-ghost use Rattle.std.specs.Prelude.{◌≡◌, ◌+◌, ◌++◌, Ok, None, [], length, take, IfOk, IfErr, IsOk, IsOkAnd, OnOk, OnErr};
+ghost use Rattle.std.specs.Prelude.{
+  ◌≡◌,
+  ◌+◌,
+  ◌++◌,
+  Ok,
+  None,
+  [],
+  length,
+  take,
+  IfOk,
+  IfErr,
+  IsOk,
+  IsOkAnd,
+  OnOk,
+  OnErr,
+};
 ghost use Rattle.values.specs.Reading.{Answers, Fails};
 ghost use Rattle.schema_meta.specs.Framing.{first};
 ghost use Rattle.messages.specs.Gather.{Gathers, IsWaiting, Steps, first_with};
@@ -12,8 +27,9 @@ use crate::state::State;
 use std::alloc::Global;
 use values::StreamFault;
 
-/// Extends what is held, and looks for the first message in it. Where fewer bytes come than are wanted nothing is read again.
-#[tactic(auto, using(crate::proofs::Wanting::growing))]
+/// Extends what is held, and looks for the first message in it. Where fewer bytes come than are wanted nothing is read
+/// again.
+#[tactic(auto, using(crate::proofs::WantedLemmas::growing))]
 fn grow(
     alloc: Global,
     state: &State,
@@ -39,7 +55,7 @@ fn grow(
 
 /// Extends what is held by the piece until it holds a whole message, or by all of the piece. No more is copied than
 /// the message can be seen to want; `wanted` is what it was seen to want before.
-#[tactic(auto, using(crate::proofs::Gathering::gathers))]
+#[tactic(auto, using(crate::proofs::GatherLemmas::gathers))]
 fn gather(
     alloc: Global,
     state: &State,
@@ -76,7 +92,7 @@ fn gather(
     Ok(Progress::Partial { wanted })
 }
 
-/// What a piece came to.
+/// The result of taking a piece.
 #[derive(Drop)]
 pub(crate) enum Step {
     /// All of it is held, and no message is whole yet.
@@ -91,7 +107,8 @@ pub(crate) enum Step {
     },
 }
 
-/// Judges what is held and the piece. All of the piece is held then, or none where it completes a message.
+/// Looks for a message in the held bytes and the piece. Afterwards all of the piece is held, or nothing if it completed
+/// a message.
 pub(crate) fn advance(
     alloc: Global,
     state: &State,

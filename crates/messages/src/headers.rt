@@ -1,10 +1,10 @@
-//! Messages as they are handed on.
+//! Complete messages, as a framer returns them.
 
 use schema_meta::{Header, StreamSchema};
 use std::marker::Model;
 use std::rc::Rc;
 
-/// A whole message.
+/// A complete message.
 #[derive(Drop)]
 pub struct Message {
     /// The schema of the stream: the one that this message brings, or that came before it.
@@ -24,10 +24,10 @@ impl Model for Message {
     ghost view = { λ m. record { schema = m.schema.value.fields.items; header = m.header; body = m.body.items } };
 }
 
-/// What a push came to.
+/// The result of a push.
 #[derive(Drop)]
 pub struct Framed {
-    /// How many bytes of the piece were taken: up to the end of the message, or all.
+    /// The number of bytes taken of the piece: up to the end of the message, or all.
     pub used: usize,
     /// The message that the piece completes, if it does.
     pub message: Option<Message>,

@@ -1,10 +1,23 @@
 //! Laws of the definitions: functions that do nothing, whose contracts are theorems.
 
 ghost use Rattle.messages.specs.MessageLaw.{MessageLaw};
-ghost use Rattle.messages.specs.Laws.{CutsAgree, FaultStays, FaultsStay, FeedFollowsRun, FeedsEnd, FirstMessageLaw, NothingYet, PushKeepsRun, RefusalEndsRun, WholeAlone, WholeStays, WholeWithin};
+ghost use Rattle.messages.specs.Laws.{
+  CutsAgree,
+  FaultStays,
+  FaultsStay,
+  FeedFollowsRun,
+  FeedsEnd,
+  FirstMessageLaw,
+  NothingYet,
+  PushKeepsRun,
+  RefusalEndsRun,
+  WholeAlone,
+  WholeStays,
+  WholeWithin,
+};
 
-/// More bytes change neither a whole message nor the faults that stand, so neither depends on where the input is cut; and a
-/// message is whole as soon as its own bytes are there.
+/// More bytes change neither a whole message nor the faults that stand, so neither depends on where the input is cut;
+/// and a message is whole as soon as its own bytes are there.
 #[tactic(auto, using(crate::proofs::Lawful::laws))]
 pub fn more_bytes_law()
     ensures whole { WholeStays }
@@ -16,8 +29,8 @@ pub fn more_bytes_law()
 {}
 
 /// However a stream is cut into pieces, pushing them hands on the messages of its bytes, and a refusal names a fault at
-/// which they end: `push` and `refusal` say it of one push, `feed` of a list of pieces, and `cuts` that two lists with the
-/// same bytes come to the same.
+/// which they end: `push` and `refusal` say it of one push, `feed` of a list of pieces, and `cuts` that two lists with
+/// the same bytes come to the same.
 #[tactic(auto, using(crate::proofs::Feedings::run_laws))]
 pub fn pieces_law()
     ensures push { PushKeepsRun }
@@ -27,8 +40,8 @@ pub fn pieces_law()
     ensures end { FeedsEnd }
 {}
 
-/// A message that is found whole lies within the bytes. A schema comes once, with its columns within the limits, and no other
-/// message brings one.
+/// A message that is found whole lies within the bytes. A schema comes once, with its columns within the limits, and no
+/// other message brings one.
 #[tactic(auto, using(crate::proofs::Brings::message_laws))]
 pub fn message_law()
     ensures { MessageLaw }

@@ -1,4 +1,4 @@
-//! Whether the arrays of a batch are long enough: Arrow Columnar Format, "Struct Layout" and "RecordBatch message".
+//! Checks that the arrays of a batch are long enough: Arrow Columnar Format, "Struct Layout" and "RecordBatch message".
 
 ghost use Rattle.std.specs.Prelude.{◌≡◌, ◌+◌, ◌≤◌, length};
 ghost use Rattle.values.specs.Rose.{rose_size, roses_size};
@@ -7,12 +7,12 @@ ghost use Rattle.schema_meta.specs.FieldLayouts.{slot_layout_of, slot_layouts_of
 ghost use Rattle.schema_meta.specs.Batch.{least, lengths_fit};
 ghost use Rattle.messages.specs.Lengths.{SkipsAll, SkipsOne};
 
-use array_layout::Node;
+use array_layout::FieldNode;
 use schema_meta::{Field, StreamSchema};
 use values::Layout;
 
-/// The length of node `index`, 0 where there is none.
-pub(crate) fn length_at(nodes: &[Node], index: usize) -> usize
+/// The length of node `index`; 0 if there is none.
+pub(crate) fn length_at(nodes: &[FieldNode], index: usize) -> usize
     ensures { result ≡ (node_at nodes.now index).length }
 {
     match nodes.get(index) {
@@ -21,7 +21,7 @@ pub(crate) fn length_at(nodes: &[Node], index: usize) -> usize
     }
 }
 
-/// How long the children of an array of this layout and length must be.
+/// The least length of the children of an array of this layout and length.
 fn least_below(layout: Layout, len: usize) -> usize
     ensures { result ≡ least layout len }
 {
@@ -31,11 +31,11 @@ fn least_below(layout: Layout, len: usize) -> usize
     }
 }
 
-/// The number of the node behind a field's nodes, the first of which is node `index`; `None` where the field's array isn't as
-/// long as `floor`, or one below it isn't long enough.
+/// Skips a field's nodes, the first of which is node `index`, and returns the index of the next; `None` if the field's
+/// array is shorter than `floor`, or one below it is too short.
 #[cycle(lengths)]
 #[tactic(auto, using(crate::proofs::LongEnough::lengths))]
-fn behind(field: &Field, nodes: &[Node], index: usize, floor: usize) -> Option<usize>
+fn skip_field(field: &Field, nodes: &[FieldNode], index: usize, floor: usize) -> Option<usize>
     requires { index + rose_size (slot_layout_of field.now) ≤ length nodes.now }
     ensures { SkipsOne nodes.now index floor (slot_layout_of field.now) result }
 {
@@ -43,7 +43,7 @@ fn behind(field: &Field, nodes: &[Node], index: usize, floor: usize) -> Option<u
     if len < floor {
         return None;
     }
-    behind_all(
+    skip_fields(
         &field.children,
         nodes,
         index + 1,
@@ -51,23 +51,23 @@ fn behind(field: &Field, nodes: &[Node], index: usize, floor: usize) -> Option<u
     )
 }
 
-/// The same of fields one after the other.
+/// Skips the nodes of these fields.
 #[cycle(lengths)]
 #[tactic(auto, using(crate::proofs::LongEnough::lengths))]
-fn behind_all(fields: &[Field], nodes: &[Node], index: usize, floor: usize) -> Option<usize>
+fn skip_fields(fields: &[Field], nodes: &[FieldNode], index: usize, floor: usize) -> Option<usize>
     requires { index + roses_size (slot_layouts_of fields.now) ≤ length nodes.now }
     ensures { SkipsAll nodes.now index floor (slot_layouts_of fields.now) result }
 {
     let mut next = index;
     for field in fields {
-        next = behind(field, nodes, next, floor)?;
+        next = skip_field(field, nodes, next, floor)?;
     }
     Some(next)
 }
 
 /// Whether each column is as long as the batch, and all below it are long enough.
 #[tactic(auto, using(crate::proofs::LongEnough::lengths), unfolding(schema_meta::specs::Batch::lengths_fit))]
-pub(crate) fn fit(schema: &StreamSchema, nodes: &[Node], rows: usize) -> bool
+pub(crate) fn fit(schema: &StreamSchema, nodes: &[FieldNode], rows: usize) -> bool
     requires { roses_size (slot_layouts_of schema.now.fields.items) ≤ length nodes.now }
     ensures { result ≡ lengths_fit rows (slot_layouts_of schema.now.fields.items) nodes.now }
 {
@@ -76,9 +76,9 @@ pub(crate) fn fit(schema: &StreamSchema, nodes: &[Node], rows: usize) -> bool
         if length_at(nodes, next) != rows {
             return false;
         }
-        match behind(&schema.fields[index], nodes, next, rows) {
+        match skip_field(&schema.fields[index], nodes, next, rows) {
             None => return false,
-            Some(behind) => next = behind,
+            Some(after) => next = after,
         }
     }
     true

@@ -4,7 +4,18 @@ ghost use Rattle.std.specs.Prelude.{◌≤◌, length, IfOk};
 ghost use Rattle.std.specs.Option.{option_map};
 ghost use Rattle.values.specs.Limits.{max_body_size};
 ghost use Rattle.values.specs.Reading.{Answers, Judges};
-ghost use Rattle.schema_meta.specs.Message.{body_of, dictionary_batch, expected, header_of, header_table, kind_of, meta_of, new_schema, record_batch, version_of};
+ghost use Rattle.schema_meta.specs.Message.{
+  body_of,
+  dictionary_batch,
+  expected,
+  header_of,
+  header_table,
+  kind_of,
+  meta_of,
+  new_schema,
+  record_batch,
+  version_of,
+};
 ghost use Rattle.messages.specs.State.{IsRead, known_of, meta_seen};
 
 use crate::batch::read_batch_header;

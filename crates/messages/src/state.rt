@@ -1,4 +1,4 @@
-//! What is known of a stream between its messages.
+//! The state of a framer between messages: schema, dictionary sizes, end of stream.
 
 ghost use Rattle.std.specs.Prelude.{◌≡◌, IfOk, IsSome, Some};
 ghost use Rattle.std.specs.Option.{option_map};
@@ -15,8 +15,8 @@ use std::alloc::AllocError;
 use std::rc::Rc;
 use values::Schema;
 
-/// The schema that was declared for the stream, if any, the one that came, once it has, and how many values each dictionary has
-/// that a batch came for.
+/// The schema that was declared for the stream, if any, the one that came, once it has, and how many values each
+/// dictionary has that a batch came for.
 #[derive(Drop)]
 pub(crate) struct State {
     pub declared: Option<Schema>,
@@ -57,7 +57,7 @@ impl State {
         }
     }
 
-    /// Keeps what a message brings: a schema, or how many values a dictionary has. It takes no memory.
+    /// Records what a message brings: a schema, or the size of a dictionary. It takes no memory.
     pub(crate) fn learn(&mut self, schema: Option<Rc<StreamSchema>>, count: Option<Count>)
         requires { HasRoom count (spare self.old.counts) }
         ensures { known_of self.new

@@ -1,4 +1,4 @@
-//! A stream of messages, from pieces.
+//! A framer: splits a stream into messages, however it is cut into pieces.
 
 ghost use Rattle.std.specs.Prelude.{◌≡◌, [], ◌<◌, ◌≤◌, length, IfOk, IfErr, IsOkAnd, OnErr};
 ghost use Rattle.std.specs.Option.{option_map};
@@ -18,15 +18,16 @@ use std::mem::replace;
 use std::rc::Rc;
 use values::{Schema, StreamFault};
 
-/// Takes the messages of a stream out of its pieces, however it is cut.
+/// Splits a stream into messages, however it is cut into pieces.
 ///
-/// Contracts see what is known of the stream and the bytes of a message that isn't whole yet (`specs/Stream.antt`), as they
-/// stand and as they will stand once the piece that was made ready is done.
+/// Contracts see what is known of the stream and the bytes of a message that isn't whole yet (`specs/Stream.antt`), as
+/// they stand and as they will stand once the piece that was made ready is done.
 #[derive(Drop)]
 pub struct Framer {
     alloc: Global,
     state: State,
-    // The first `len` are those of a message that isn't whole yet. What lies behind them is of a piece that was made ready.
+    // The first `len` are those of a message that isn't whole yet. What lies behind them is of a piece that was made
+    // ready.
     bytes: Vec<u8>,
     len: usize,
     // How many bytes more the message was seen to want: fewer neither make it whole nor show a fault.
@@ -44,16 +45,19 @@ impl Model for Framer {
 
     ghost coded = { framing_code };
 
-    ghost view = { λ f. record { current = standing (known_of f.state) f.bytes.items f.len; prepared = promised (known_of f.state) f.bytes.items f.len f.pending } };
+    ghost view = { λ f. record {
+      current = standing (known_of f.state) f.bytes.items f.len;
+      prepared = promised (known_of f.state) f.bytes.items f.len f.pending;
+    } };
 
     ghost invariant = { λ f. IsFramer (known_of f.state) (spare f.state.counts) f.bytes.items f.len f.wanted f.pending };
 }
 
 impl Framer {
-    /// A stream of which nothing has come. Where a schema is declared, the stream's must have its columns.
+    /// Opens a framer that has taken nothing. Where a schema is declared, that of the stream must have its columns.
     pub fn open(alloc: Global, declared: Option<Schema>) -> Framer
         ensures current { result.current ≡ opened (option_map (λ s. s.fields.items) declared) }
-        ensures settled { result.prepared ≡ result.current }
+        ensures nothing_prepared { result.prepared ≡ result.current }
     {
         Framer {
             alloc,
@@ -76,23 +80,23 @@ impl Framer {
         self.state.schema.as_ref()
     }
 
-    /// How many bytes of a message are held that isn't whole yet.
+    /// The number of bytes held of an incomplete message.
     pub fn held(&self) -> usize
         ensures { result ≡ length self.now.current.held }
     {
         self.len
     }
 
-    /// Drops what was made ready, if it isn't done yet.
+    /// Discards a prepared change.
     pub fn discard(&mut self)
         ensures same { self.new.current ≡ self.old.current }
-        ensures settled { self.new.prepared ≡ self.old.current }
+        ensures nothing_prepared { self.new.prepared ≡ self.old.current }
     {
         drop(replace(&mut self.pending, Pending::Nothing));
     }
 
-    /// Judges the piece up to the end of the first message that it completes, or all of it, and makes the room that `commit`
-    /// then needs. The stream stays as it stands. What was made ready before and isn't done is dropped.
+    /// Checks the piece up to the end of the first message that it completes, or all of it, and makes the room that
+    /// `commit` then needs. The stream stays as it stands. What was made ready before and isn't done is dropped.
     ///
     /// The error is a fault of the framing or of the metadata that stands where all bytes before were taken, or
     /// `Memory`; nothing is ready then. A fault of the framing stands once 8 bytes of a message are there, one of the
@@ -143,10 +147,10 @@ impl Framer {
         }
     }
 
-    /// Does what was made ready, if it isn't done yet. It takes no memory.
+    /// Makes the prepared change, if there is one. It takes no memory.
     pub fn commit(&mut self)
         ensures done { self.new.current ≡ self.old.prepared }
-        ensures settled { self.new.prepared ≡ self.old.prepared }
+        ensures nothing_prepared { self.new.prepared ≡ self.old.prepared }
     {
         match replace(&mut self.pending, Pending::Nothing) {
             Pending::Nothing => {}
@@ -162,8 +166,8 @@ impl Framer {
         }
     }
 
-    /// Takes the piece up to the end of the first message that it completes, or all of it: `prepare`, and then `commit`.
-    /// Where it is refused the stream stays as it stands.
+    /// Takes the piece up to the end of the first message that it completes, or all of it: `prepare`, and then
+    /// `commit`. Where it is refused the stream stays as it stands.
     pub fn push(&mut self, piece: &[u8]) -> Result<Framed, StreamFault>
         ensures ok { IfOk result (λ f. Takes self.old.current piece.now f self.new.current) }
         ensures fault { IfErr result (λ e. Fails e (first_in self.old.current piece.now)) }
@@ -174,7 +178,7 @@ impl Framer {
         ensures progress { IfOk result (λ f. 0 < length piece.now → 0 < f.used) }
         ensures schema { IfOk result (HasSchema self.new.current.known.schema) }
         ensures fits { IfOk result (FitsSchema self.new.current.known.schema) }
-        ensures settled { self.new.prepared ≡ self.new.current }
+        ensures nothing_prepared { self.new.prepared ≡ self.new.current }
     {
         let framed = self.prepare(piece)?;
         self.commit();

@@ -4,7 +4,7 @@ use crate::{Framed, Framer, Header};
 use std::alloc::{AllocError, Global};
 use std::process::Abort;
 use std::test::Fail;
-use values::{ColType, IntWidth, Named, Schema, StreamFault};
+use values::{ColType, IntWidth, LogicalField, Schema, StreamFault};
 
 /// The schema message ends at 232, the batch at 496, the end mark at 504.
 const SAMPLE: [u8; 504] = [
@@ -101,7 +101,7 @@ fn batch(framed: Framed) -> Option<[usize; 4]> {
             message.body.len(),
             header.rows,
             header.nodes.len(),
-            header.spans.len(),
+            header.ranges.len(),
         ]),
         _ => None,
     }
@@ -269,8 +269,8 @@ fn too_many_columns(rt: HostRuntime) -> Result<(), Fail> {
     Ok(())
 }
 
-/// The Schema message of a column of structs without names, `depth` levels with an int64 at the bottom. Each struct has so many
-/// children, which are all one table.
+/// The Schema message of a column of structs without names, `depth` levels with an int64 at the bottom. Each struct has
+/// so many children, which are all one table.
 fn nested(alloc: Global, depth: u8, children: u8) -> Result<Vec<u8>, AllocError> {
     let mut bytes = Vec::new(alloc);
     bytes.extend_from_slice(&[255; 4])?;
@@ -325,7 +325,7 @@ fn shared_tables(rt: HostRuntime) -> Result<(), Fail> {
     Ok(())
 }
 
-/// A count of fields that can't be there is judged as one that is too great or unreadable, however it comes.
+/// A count of fields that can't be there is checked as one that is too great or unreadable, however it comes.
 #[test]
 fn impossible_count(rt: HostRuntime) {
     let mut bytes = SAMPLE;
@@ -380,9 +380,9 @@ fn takes_sizes_to_the_limit(rt: HostRuntime) {
 }
 
 /// A column of 64 bits with a sign.
-fn int64(alloc: Global, name: &str) -> Result<Named, AllocError> {
+fn int64(alloc: Global, name: &str) -> Result<LogicalField, AllocError> {
     let width = IntWidth::Bits64;
-    Ok(Named {
+    Ok(LogicalField {
         name: String::from_str(alloc, name)?,
         col_type: ColType::Int {
             width,

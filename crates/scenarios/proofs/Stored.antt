@@ -5,9 +5,11 @@ use Rattle.stream_writer.specs.Sample.{sample_fields, sample_rows, text_fields}
 use Rattle.stream_writer.specs.Table.{IsRow, IsTable}
 
 sound : All (IsRow sample_fields) sample_rows
-sound zero d below = record { held = ((omega arith, omega arith), ((omega arith, omega arith), tt)); light = omega arith }
+sound zero d below =
+    record { held = ((omega arith, omega arith), ((omega arith, omega arith), tt)); light = omega arith }
 sound (suc zero) d below = record { held = ((omega arith, omega arith), (tt, tt)); light = omega arith }
-sound (suc (suc zero)) d below = record { held = ((omega arith, omega arith), ((omega arith, omega arith), tt)); light = omega arith }
+sound (suc (suc zero)) d below =
+    record { held = ((omega arith, omega arith), ((omega arith, omega arith), tt)); light = omega arith }
 sound (suc (suc (suc k))) d below = absurd (omega (arith, below))
 
 pub is_table : IsTable sample_fields sample_rows
@@ -22,7 +24,11 @@ is_table =
 pub is_text_table : IsTable text_fields []
 is_text_table =
     record {
-      columns = record { few = omega arith; within = ((omega arith, tt, tt), ((omega arith, tt, ((omega arith, tt, tt), tt)), tt)) };
+      columns =
+          record {
+            few = omega arith;
+            within = ((omega arith, tt, tt), ((omega arith, tt, ((omega arith, tt, tt), tt)), tt));
+          };
       layouts = ((tt, tt), ((tt, ((tt, tt), tt)), tt));
       few = omega arith;
       sound = λ k d below. absurd (omega (arith, below));

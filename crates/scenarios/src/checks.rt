@@ -1,6 +1,5 @@
 //! What one call answers.
 
-use crate::sample::SAMPLE;
 use feed::{Fed, Feed};
 use liveviews::{RecastFault, recast};
 use std::process::Abort;
@@ -24,10 +23,6 @@ pub fn refuses(rt: &(impl Abort + AllocGlobal), input: &[u8], cause: Cause, what
     );
     assert_eq!(rt; sink.bytes().len(), 0);
 }
-
-/// The stored stream with other bytes at some places.
-pub fn changed(rt: &impl Abort, changes: &[(usize, u8)]) -> [u8; 504] {
-    let mut bytes = SAMPLE;
     for &(place, byte) in changes {
         assert!(rt; place < 504);
         bytes[place] = byte;

@@ -8,7 +8,7 @@ use std::alloc::{AllocError, Global};
 
 /// How a column is coded: the id of its dictionary, the bits and the sign of its indices, and the kind of dictionary.
 #[derive(Clone, Copy)]
-pub struct Coding {
+pub struct DictionaryEncoding {
     pub id: i64,
     pub bits: u8,
     pub signed: u8,
@@ -16,7 +16,7 @@ pub struct Coding {
 }
 
 /// Dictionary 7, by int8.
-pub const BY_INT8: Coding = Coding {
+pub const BY_INT8: DictionaryEncoding = DictionaryEncoding {
     id: 7,
     bits: 8,
     signed: 1,
@@ -27,13 +27,13 @@ pub const BY_INT8: Coding = Coding {
 const FIELD: [u8; 16] = [16, 0, 24, 0, 4, 0, 8, 0, 9, 0, 12, 0, 20, 0, 16, 0];
 
 /// Appends a DictionaryEncoding: id, indexType, no word on order, dictionaryKind.
-fn put_coding(out: &mut Vec<u8>, coding: &Coding) -> Result<(), AllocError> {
+fn put_encoding(out: &mut Vec<u8>, encoding: &DictionaryEncoding) -> Result<(), AllocError> {
     out.extend_from_slice(&[12, 0, 20, 0, 4, 0, 12, 0, 0, 0, 16, 0])?;
     out.extend_from_slice(&[12, 0, 0, 0])?;
-    out.extend_from_slice(&coding.id.to_le_bytes())?;
-    out.extend_from_slice(&[16, 0, 0, 0, coding.kind, 0, 0, 0])?;
+    out.extend_from_slice(&encoding.id.to_le_bytes())?;
+    out.extend_from_slice(&[16, 0, 0, 0, encoding.kind, 0, 0, 0])?;
     out.extend_from_slice(PAIR)?;
-    out.extend_from_slice(&pair(coding.bits, coding.signed))
+    out.extend_from_slice(&pair(encoding.bits, encoding.signed))
 }
 
 /// A field with the name of one letter and a dictionary, whose values are of this type.
@@ -42,7 +42,7 @@ pub fn coded(
     name: u8,
     kind: u8,
     table: &Table,
-    coding: &Coding,
+    encoding: &DictionaryEncoding,
     children: &[&[u8]],
 ) -> Result<Vec<u8>, AllocError> {
     let mut out = Vec::new(alloc);
@@ -52,7 +52,7 @@ pub fn coded(
     let size = table.slots.len().wrapping_add(table.bytes.len());
     put_number(&mut out, size.wrapping_add(68))?;
     out.extend_from_slice(&[24, 0, 0, 0, 1, 0, 0, 0, name, 0, 0, 0])?;
-    put_coding(&mut out, coding)?;
+    put_encoding(&mut out, encoding)?;
     out.extend_from_slice(table.slots)?;
     out.extend_from_slice(table.bytes)?;
     put_fields(&mut out, children)?;
@@ -60,8 +60,8 @@ pub fn coded(
 }
 
 /// The Schema message of one utf8 column `t`, coded so.
-pub fn texts(alloc: Global, coding: &Coding) -> Result<Vec<u8>, AllocError> {
-    let column = coded(alloc, b't', 5, &PLAIN, coding, &[])?;
+pub fn texts(alloc: Global, encoding: &DictionaryEncoding) -> Result<Vec<u8>, AllocError> {
+    let column = coded(alloc, b't', 5, &PLAIN, encoding, &[])?;
     schema(alloc, &[&column])
 }
 
@@ -71,11 +71,11 @@ pub fn put_values(
     id: i64,
     is_delta: bool,
     node: Two,
-    spans: &[Two],
+    ranges: &[Two],
     body: &[u8],
 ) -> Result<(), AllocError> {
     out.extend_from_slice(&[255; 4])?;
-    put_number(out, spans.len().wrapping_mul(16).wrapping_add(152))?;
+    put_number(out, ranges.len().wrapping_mul(16).wrapping_add(152))?;
     out.extend_from_slice(&SAMPLE[240..264])?;
     out.extend_from_slice(&[16, 0, 0, 0, 4, 0, 2, 0, 28, 0, 0, 0, 0, 0, 0, 0])?;
     out.extend_from_slice(&(body.len() as u64).to_le_bytes())?;
@@ -83,27 +83,8 @@ pub fn put_values(
     out.extend_from_slice(&[12, 0, 0, 0, 36, 0, 0, 0])?;
     out.extend_from_slice(&id.to_le_bytes())?;
     out.extend_from_slice(&[is_delta as u8, 0, 0, 0, 0, 0, 0, 0])?;
-    put_record(out, node.0, &[node], spans)?;
+    put_record(out, node.0, &[node], ranges)?;
     out.extend_from_slice(body)
-}
-
-/// Appends texts of one letter each for dictionary 7.
-pub fn put_letters(
-    alloc: Global,
-    out: &mut Vec<u8>,
-    is_delta: bool,
-    letters: &[u8],
-) -> Result<(), AllocError> {
-    let mut body = Vec::new(alloc);
-    put_number(&mut body, 0)?;
-    for i in 0..letters.len() {
-        put_number(&mut body, i.wrapping_add(1))?;
-    }
-    let offsets = body.len() as u64;
-    body.extend_from_slice(letters)?;
-    let count = letters.len() as u64;
-    let spans = [(0, 0), (0, offsets), (offsets, count)];
-    put_values(out, 7, is_delta, (count, 0), &spans, &body)
 }
 
 /// Appends a batch of one column with these indices of eight bits, none of them null.

@@ -10,13 +10,13 @@ use std::alloc::{AllocError, Global};
 use std::process::Abort;
 use std::test::Fail;
 use stream_writer::{MemorySink, WriteFault, write_table};
-use values::{ColType, Named, OffsetWidth, Schema, StreamFault};
+use values::{ColType, LogicalField, OffsetWidth, Schema, StreamFault};
 
 /// A column of texts.
-fn texts(alloc: Global, name: &str, offsets: OffsetWidth) -> Result<Named, AllocError>
+fn texts(alloc: Global, name: &str, offsets: OffsetWidth) -> Result<LogicalField, AllocError>
     ensures { IfOk result (λ n. n ≡ node (record { name = name.now; col_type = ColType.Utf8 offsets }) none) }
 {
-    Ok(Named {
+    Ok(LogicalField {
         name: String::from_str(alloc, name)?,
         col_type: ColType::Utf8 { offsets },
         children: Vec::new(alloc),
@@ -31,7 +31,7 @@ fn schema(alloc: Global, offsets: OffsetWidth, items: &str) -> Result<Schema, Al
     children.push(texts(alloc, items, offsets)?)?;
     let mut fields = Vec::new(alloc);
     fields.push(texts(alloc, "t", offsets)?)?;
-    fields.push(Named {
+    fields.push(LogicalField {
         name: String::from_str(alloc, "l")?,
         col_type: ColType::List { offsets },
         children,

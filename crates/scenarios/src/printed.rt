@@ -9,7 +9,8 @@ use std::process::Abort;
 use std::test::Fail;
 use stream_writer::{DeviceFault, Sink};
 
-/// The file `in` with these bytes, and the file `out` once it is made, with what was put to it. Nothing else can be read or made.
+/// The file `in` with these bytes, and the file `out` once it is made, with what was put to it. Nothing else can be
+/// read or made.
 #[derive(Drop)]
 struct Shelf<'a> {
     alloc: Global,

@@ -11,7 +11,7 @@ use values::StreamFault;
 
 /// What a push told, beside how much it used.
 #[derive(Clone, Copy, Debug, PartialEq, Eq)]
-enum Told {
+enum EventKind {
     Nothing,
     Schema,
     Dictionary,
@@ -23,43 +23,53 @@ enum Told {
     End,
 }
 
-fn told_by(event: FeedEvent) -> Told {
+fn kind_of_event(event: FeedEvent) -> EventKind {
     match event {
-        FeedEvent::Schema(_schema) => Told::Schema,
-        FeedEvent::Dictionary { .. } => Told::Dictionary,
+        FeedEvent::Schema(_schema) => EventKind::Schema,
+        FeedEvent::Dictionary { .. } => EventKind::Dictionary,
         FeedEvent::Batch {
             columns,
             rows,
             body,
-        } => Told::Batch {
+        } => EventKind::Batch {
             columns: columns.len(),
             rows,
             body,
         },
-        FeedEvent::End => Told::End,
+        FeedEvent::End => EventKind::End,
     }
 }
 
-fn tells(rt: &impl Abort, feed: &mut Feed, piece: &[u8]) -> Result<(usize, Told), StreamFault> {
+fn tells(
+    rt: &impl Abort,
+    feed: &mut Feed,
+    piece: &[u8],
+) -> Result<(usize, EventKind), StreamFault> {
     let Fed { used, event } = push(rt, feed, piece)?;
     let Some(event) = event else {
-        return Ok((used, Told::Nothing));
+        return Ok((used, EventKind::Nothing));
     };
-    Ok((used, told_by(event)))
+    Ok((used, kind_of_event(event)))
 }
 
 /// The stored stream whole: its schema, its batch and its end mark.
 #[test]
 fn r3_whole(rt: HostRuntime) {
     let mut feed = Feed::open(rt.alloc(), None);
-    assert_eq!(rt; tells(&rt, &mut feed, &SAMPLE), Ok((232, Told::Schema)));
-    let batch = Told::Batch {
+    assert_eq!(rt;
+        tells(&rt, &mut feed, &SAMPLE),
+        Ok((232, EventKind::Schema))
+    );
+    let batch = EventKind::Batch {
         columns: 2,
         rows: 3,
         body: 56,
     };
     assert_eq!(rt; tells(&rt, &mut feed, &SAMPLE[232..]), Ok((264, batch)));
-    assert_eq!(rt; tells(&rt, &mut feed, &SAMPLE[496..]), Ok((8, Told::End)));
+    assert_eq!(rt;
+        tells(&rt, &mut feed, &SAMPLE[496..]),
+        Ok((8, EventKind::End))
+    );
 }
 
 /// Nothing may come after the end, but that the input ends.
@@ -70,7 +80,7 @@ fn r3_after_end(rt: HostRuntime) {
         let came = tells(&rt, &mut feed, &SAMPLE[place..]);
         assert!(rt; came.is_ok());
     }
-    assert_eq!(rt; tells(&rt, &mut feed, &[]), Ok((0, Told::Nothing)));
+    assert_eq!(rt; tells(&rt, &mut feed, &[]), Ok((0, EventKind::Nothing)));
     assert_eq!(rt; finish(&rt, &mut feed), Ok(()));
     assert_eq!(rt; finish(&rt, &mut feed), Ok(()));
     assert_eq!(rt; tells(&rt, &mut feed, &[0]), Err(StreamFault::AfterEnd));
@@ -83,12 +93,12 @@ fn r3_bytes(rt: HostRuntime) {
     let mut feed = Feed::open(rt.alloc(), None);
     for i in 0..504 {
         let empty = tells(&rt, &mut feed, &[]);
-        assert_eq!(rt; empty, Ok((0, Told::Nothing)), "before {i}");
+        assert_eq!(rt; empty, Ok((0, EventKind::Nothing)), "before {i}");
         let came = tells(&rt, &mut feed, &SAMPLE[i..i + 1]);
         if i == 231 || i == 495 || i == 503 {
-            assert!(rt; came != Ok((1, Told::Nothing)), "at {i}");
+            assert!(rt; came != Ok((1, EventKind::Nothing)), "at {i}");
         } else {
-            assert_eq!(rt; came, Ok((1, Told::Nothing)), "at {i}");
+            assert_eq!(rt; came, Ok((1, EventKind::Nothing)), "at {i}");
         }
     }
 }
@@ -98,10 +108,10 @@ fn r3_bytes(rt: HostRuntime) {
 fn r3_truncated(rt: HostRuntime) {
     let mut feed = Feed::open(rt.alloc(), None);
     let start = &SAMPLE[..300];
-    assert_eq!(rt; tells(&rt, &mut feed, start), Ok((232, Told::Schema)));
+    assert_eq!(rt; tells(&rt, &mut feed, start), Ok((232, EventKind::Schema)));
     assert_eq!(rt;
         tells(&rt, &mut feed, &start[232..]),
-        Ok((68, Told::Nothing))
+        Ok((68, EventKind::Nothing))
     );
     assert_eq!(rt; finish(&rt, &mut feed), Err(StreamFault::Truncated));
     assert!(rt; feed.is_broken());
@@ -113,7 +123,10 @@ fn r3_finish(rt: HostRuntime) {
     let mut none = Feed::open(rt.alloc(), None);
     assert_eq!(rt; finish(&rt, &mut none), Err(StreamFault::NoSchema));
     let mut feed = Feed::open(rt.alloc(), None);
-    assert_eq!(rt; tells(&rt, &mut feed, &SAMPLE), Ok((232, Told::Schema)));
+    assert_eq!(rt;
+        tells(&rt, &mut feed, &SAMPLE),
+        Ok((232, EventKind::Schema))
+    );
     assert_eq!(rt; finish(&rt, &mut feed), Ok(()));
     assert_eq!(rt;
         tells(&rt, &mut feed, &SAMPLE[232..]),
@@ -139,7 +152,8 @@ fn r3_ready(rt: HostRuntime) {
     assert_eq!(rt; readied(&rt, &mut feed, &SAMPLE[232..]), Ok(264));
 }
 
-/// A piece that is refused breaks a feed for good: what was made ready before it is dropped, and a commit mends nothing.
+/// A piece that is refused breaks a feed for good: what was made ready before it is dropped, and a commit mends
+/// nothing.
 #[test]
 fn r3_refused_stays_broken(rt: HostRuntime) {
     let mut feed = Feed::open(rt.alloc(), None);
@@ -161,7 +175,7 @@ fn r3_truncated_stays_broken(rt: HostRuntime) {
     let mut feed = Feed::open(rt.alloc(), None);
     assert_eq!(rt;
         tells(&rt, &mut feed, &SAMPLE[..68]),
-        Ok((68, Told::Nothing))
+        Ok((68, EventKind::Nothing))
     );
     assert_eq!(rt; readied(&rt, &mut feed, &SAMPLE[68..]), Ok(164));
     assert_eq!(rt; finish(&rt, &mut feed), Err(StreamFault::Truncated));
@@ -176,13 +190,16 @@ fn r3_truncated_stays_broken(rt: HostRuntime) {
 #[test]
 fn r3_stays_finished(rt: HostRuntime) {
     let mut feed = Feed::open(rt.alloc(), None);
-    assert_eq!(rt; tells(&rt, &mut feed, &SAMPLE), Ok((232, Told::Schema)));
+    assert_eq!(rt;
+        tells(&rt, &mut feed, &SAMPLE),
+        Ok((232, EventKind::Schema))
+    );
     assert_eq!(rt; readied(&rt, &mut feed, &SAMPLE[232..]), Ok(264));
     assert_eq!(rt; finish(&rt, &mut feed), Ok(()));
     feed.commit();
     assert_eq!(rt; finish(&rt, &mut feed), Ok(()));
     feed.commit();
-    assert_eq!(rt; tells(&rt, &mut feed, &[]), Ok((0, Told::Nothing)));
+    assert_eq!(rt; tells(&rt, &mut feed, &[]), Ok((0, EventKind::Nothing)));
     assert_eq!(rt;
         tells(&rt, &mut feed, &SAMPLE[232..]),
         Err(StreamFault::AfterEnd)
@@ -196,7 +213,10 @@ fn r3_stays_finished(rt: HostRuntime) {
 fn r3_declared(rt: HostRuntime) -> Result<(), Fail> {
     let columns = table::schema(rt.alloc())?;
     let mut same = Feed::open(rt.alloc(), Some(columns));
-    assert_eq!(rt; tells(&rt, &mut same, &SAMPLE), Ok((232, Told::Schema)));
+    assert_eq!(rt;
+        tells(&rt, &mut same, &SAMPLE),
+        Ok((232, EventKind::Schema))
+    );
     Ok(())
 }
 
@@ -211,5 +231,28 @@ fn r3_mismatch(rt: HostRuntime) -> Result<(), Fail> {
         Err(StreamFault::SchemaMismatch)
     );
     assert!(rt; other.is_broken());
+    Ok(())
+}
+
+/// A message without the continuation bytes: its first 8 bytes show it, fewer do not.
+#[test]
+fn r1_framing(rt: HostRuntime) -> Result<(), Fail> {
+    let start = [0xFE, 0xFF, 0xFF, 0xFF, 0xE0, 0, 0];
+    let mut feed = Feed::open(rt.alloc(), None);
+    let fed = push(&rt, &mut feed, &start)?;
+    assert_eq!(rt; fed.used, 7);
+    assert!(rt; fed.event.is_none());
+    assert!(rt; matches!(push(&rt, &mut feed, &[0]), Err(StreamFault::NoContinuation)));
+    assert!(rt; feed.is_broken());
+    Ok(())
+}
+
+/// The greatest metadata size.
+#[test]
+fn r3_sizes(rt: HostRuntime) -> Result<(), Fail> {
+    let mut feed = Feed::open(rt.alloc(), None);
+    let greatest = push(&rt, &mut feed, &[255, 255, 255, 255, 0, 0, 0, 1])?;
+    assert_eq!(rt; greatest.used, 8);
+    assert!(rt; greatest.event.is_none());
     Ok(())
 }

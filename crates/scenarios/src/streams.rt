@@ -70,8 +70,8 @@ pub fn put_numbers(out: &mut Vec<u8>, numbers: &[u64]) -> Result<(), AllocError>
     Ok(())
 }
 
-/// Appends the metadata of a batch of one column: its rows, its nulls, and the offset and the length of each buffer in a body
-/// of so many bytes.
+/// Appends the metadata of a batch of one column: its rows, its nulls, and the offset and the length of each buffer in
+/// a body of so many bytes.
 ///
 /// `first` is its first group, with the size of the metadata, and `buffers` the group with the number of buffers.
 fn put_head(
@@ -80,7 +80,7 @@ fn put_head(
     body: u64,
     counts: [u64; 2],
     buffers: u64,
-    spans: &[u64],
+    ranges: &[u64],
 ) -> Result<(), AllocError> {
     put(out, &[first])?;
     put(
@@ -105,32 +105,16 @@ fn put_head(
     put(out, &[0x0C000000_20000000, 0x00000000_01000000])?;
     put_numbers(out, &counts)?;
     put(out, &[buffers])?;
-    put_numbers(out, spans)
+    put_numbers(out, ranges)
 }
 
-/// Appends a batch of an int64 column with the numbers from `first` on, none of them null.
-pub fn put_int64s(out: &mut Vec<u8>, first: u32, count: u32) -> Result<(), AllocError> {
-    let size = 8 * count as u64;
-    put_head(
-        out,
-        0xFFFFFFFF_98000000,
-        size,
-        [count as u64, 0],
-        0x00000000_02000000,
-        &[0, 0, 0, size],
-    )?;
-    for i in 0..count {
-        put_numbers(out, &[first as u64 + i as u64])?;
-    }
-    Ok(())
-}
-
-/// Appends the metadata of a batch of a utf8 column. `spans` are the offsets and lengths of validity, offsets and data.
+/// Appends the metadata of a batch of a utf8 column. `ranges` are the offsets and lengths of validity, offsets and
+/// data.
 pub fn put_utf8_head(
     out: &mut Vec<u8>,
     body: u64,
     counts: [u64; 2],
-    spans: [u64; 6],
+    ranges: [u64; 6],
 ) -> Result<(), AllocError> {
     put_head(
         out,
@@ -138,7 +122,7 @@ pub fn put_utf8_head(
         body,
         counts,
         0x00000000_03000000,
-        &spans,
+        &ranges,
     )
 }
 

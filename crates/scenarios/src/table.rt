@@ -6,11 +6,12 @@ ghost use Rattle.values.specs.Rose.{none, node};
 ghost use Rattle.stream_writer.specs.Sample.{sample_fields, sample_rows};
 
 use std::alloc::{AllocError, Global};
-use values::{ColType, IntWidth, Kind, Named, Row, Schema, Value};
+use values::{ColType, IntWidth, Kind, LogicalField, Row, Schema, Value};
 
 /// A column of 64 bits with a sign.
-fn int64(alloc: Global, name: &str) -> Result<Named, AllocError>
-    ensures { IfOk result (λ n. n ≡ node (record { name = name.now; col_type = ColType.Int IntWidth.Bits64 true }) none) }
+fn int64(alloc: Global, name: &str) -> Result<LogicalField, AllocError>
+    ensures { IfOk result
+        (λ n. n ≡ node (record { name = name.now; col_type = ColType.Int IntWidth.Bits64 true }) none) }
 {
     let name = String::from_str(alloc, name)?;
     let width = IntWidth::Bits64;
@@ -18,7 +19,7 @@ fn int64(alloc: Global, name: &str) -> Result<Named, AllocError>
         width,
         signed: true,
     };
-    Ok(Named {
+    Ok(LogicalField {
         name,
         col_type,
         children: Vec::new(alloc),
@@ -49,8 +50,8 @@ pub fn rows(alloc: Global) -> Result<Vec<Row>, AllocError>
     ensures { IfOk result (λ found. map (λ row. row.items) found.items ≡ sample_rows) }
 {
     let mut rows = Vec::new(alloc);
-    rows.push(row(alloc, Kind::Whole(1), Kind::Whole(10))?)?;
-    rows.push(row(alloc, Kind::Whole(2), Kind::Null)?)?;
-    rows.push(row(alloc, Kind::Whole(3), Kind::Whole(30))?)?;
+    rows.push(row(alloc, Kind::Int(1), Kind::Int(10))?)?;
+    rows.push(row(alloc, Kind::Int(2), Kind::Null)?)?;
+    rows.push(row(alloc, Kind::Int(3), Kind::Int(30))?)?;
     Ok(rows)
 }

@@ -16,21 +16,14 @@ pub const PLAIN: Table<'static> = Table {
     bytes: &[4, 0, 0, 0],
 };
 
-/// Two numbers, one after the other: bitWidth and is_signed of an Int, precision and scale of a Decimal, unit and bitWidth of a Time.
+/// Two numbers, one after the other: bitWidth and is_signed of an Int, precision and scale of a Decimal, unit and
+/// bitWidth of a Time.
 pub fn pair(first: u8, second: u8) -> [u8; 12] {
     [8, 0, 0, 0, first, 0, 0, 0, second, 0, 0, 0]
 }
 
 /// The vtable of such a pair.
 pub const PAIR: &[u8] = &[8, 0, 12, 0, 4, 0, 8, 0];
-
-/// One number: the unit of a Date, a Timestamp or a Duration, the byteWidth of a FixedSizeBinary.
-pub fn single(number: u8) -> [u8; 8] {
-    [6, 0, 0, 0, number, 0, 0, 0]
-}
-
-/// The vtable of such a number.
-pub const SINGLE: &[u8] = &[6, 0, 8, 0, 4, 0];
 
 /// The vtable of a field: name, nullable, the type's kind and table, no dictionary, children.
 const FIELD: [u8; 16] = [16, 0, 20, 0, 4, 0, 8, 0, 9, 0, 12, 0, 0, 0, 16, 0];
@@ -93,7 +86,7 @@ pub fn put_record(
     out: &mut Vec<u8>,
     rows: u64,
     nodes: &[Two],
-    spans: &[Two],
+    ranges: &[Two],
 ) -> Result<(), AllocError> {
     out.extend_from_slice(&SAMPLE[288..312])?;
     out.extend_from_slice(&rows.to_le_bytes())?;
@@ -101,7 +94,7 @@ pub fn put_record(
     put_number(out, nodes.len().wrapping_mul(16).wrapping_add(12))?;
     out.extend_from_slice(&[0; 4])?;
     put_pairs(out, nodes)?;
-    put_pairs(out, spans)
+    put_pairs(out, ranges)
 }
 
 /// Appends a batch of so many rows.
@@ -109,15 +102,15 @@ pub fn put_batch(
     out: &mut Vec<u8>,
     rows: u64,
     nodes: &[Two],
-    spans: &[Two],
+    ranges: &[Two],
     body: &[u8],
 ) -> Result<(), AllocError> {
-    let structs = nodes.len().wrapping_add(spans.len()).wrapping_mul(16);
+    let structs = nodes.len().wrapping_add(ranges.len()).wrapping_mul(16);
     out.extend_from_slice(&[255; 4])?;
     put_number(out, structs.wrapping_add(100))?;
     out.extend_from_slice(&SAMPLE[240..280])?;
     out.extend_from_slice(&(body.len() as u64).to_le_bytes())?;
-    put_record(out, rows, nodes, spans)?;
+    put_record(out, rows, nodes, ranges)?;
     out.extend_from_slice(body)
 }
 
@@ -139,11 +132,11 @@ pub fn stream(
     column: &[u8],
     rows: u64,
     nodes: &[Two],
-    spans: &[Two],
+    ranges: &[Two],
     body: &[u8],
 ) -> Result<Vec<u8>, AllocError> {
     let mut out = schema(alloc, &[column])?;
-    put_batch(&mut out, rows, nodes, spans, body)?;
+    put_batch(&mut out, rows, nodes, ranges, body)?;
     out.extend_from_slice(&SAMPLE[496..])?;
     Ok(out)
 }

@@ -12,7 +12,7 @@ use Rattle.values.proofs.Readings.{both_left, both_right, fails_right, fails_fir
 use Rattle.schema_meta.specs.Entry.{Entry}
 use Rattle.field_types.specs.Reads.{needs, checked}
 use Rattle.schema_meta.specs.Fields.{forest}
-use Rattle.schema_meta.specs.FieldLayouts.{are_slim, layouts_of}
+use Rattle.schema_meta.specs.FieldLayouts.{are_within_slot, layouts_of}
 use Rattle.schema_meta.specs.Dictionaries.{is_clear}
 use Rattle.schema_meta.specs.Totals.{total}
 use Rattle.schema_meta.specs.Schema.{columns_of, judged}
@@ -22,44 +22,55 @@ use Rattle.schema_meta.proofs.FieldFacts.{few_read}
 pub too_many : (v : Vector) → max_fields < total max_depth v → Stands (columns_of v) fault.TooManyFields
 unfolding columns_of
 too_many v many =
-    both_left second (needs fault.TooManyFields (nat_le (total max_depth v) max_fields)) (forest max_depth v >>= judged) fault.TooManyFields
-    (needs_stands fault.TooManyFields (nat_le (total max_depth v) max_fields) fault.TooManyFields (lt-leb (total max_depth v) max_fields many) refl)
+    both_left second (needs fault.TooManyFields (nat_le (total max_depth v) max_fields)) (forest max_depth v
+    >>= judged) fault.TooManyFields
+    (needs_stands fault.TooManyFields (nat_le (total max_depth v) max_fields) fault.TooManyFields
+    (lt-leb (total max_depth v) max_fields many) refl)
 
 pub not_read : (v : Vector) (c : StreamFault) → Fails c (forest max_depth v) → Fails c (columns_of v)
 unfolding columns_of
 not_read v c fails =
-    fails_right second (needs fault.TooManyFields (nat_le (total max_depth v) max_fields)) (forest max_depth v >>= judged) c
+    fails_right second (needs fault.TooManyFields (nat_le (total max_depth v) max_fields)) (forest max_depth v
+    >>= judged) c
     (fails_first (forest max_depth v) judged c fails)
 
-abbrev slim_test : List (Rose Entry) → Reading (Unit {0})
-slim_test fs = needs fault.BadType (are_slim (layouts_of fs))
+abbrev slot_test : List (Rose Entry) → Reading (Unit {0})
+slot_test fs = needs fault.BadType (are_within_slot (layouts_of fs))
 
 abbrev clear_test : List (Rose Entry) → Reading (List (Rose Entry))
 clear_test fs = checked fault.DictionaryClash (is_clear fs) fs
 
-misjudged : (v : Vector) (c : StreamFault) (fs : List (Rose Entry)) → forest max_depth v ≡ Ok fs → Stands (judged fs) c → Stands (columns_of v) c
+misjudged : (v : Vector) (c : StreamFault) (fs : List (Rose Entry)) → forest max_depth v ≡ Ok fs → Stands (judged fs) c
+    → Stands (columns_of v) c
 unfolding columns_of
 misjudged v c fs read h =
-    both_right second (needs fault.TooManyFields (nat_le (total max_depth v) max_fields)) (forest max_depth v >>= judged) c (bind_right (forest max_depth v) judged c fs read h)
+    both_right second (needs fault.TooManyFields (nat_le (total max_depth v) max_fields)) (forest max_depth v
+    >>= judged) c (bind_right (forest max_depth v) judged c fs read h)
 
-pub too_wide : (v : Vector) (fs : List (Rose Entry)) → forest max_depth v ≡ Ok fs → are_slim (layouts_of fs) ≡ false → Stands (columns_of v) fault.BadType
+pub too_wide : (v : Vector) (fs : List (Rose Entry)) → forest max_depth v ≡ Ok fs
+    → are_within_slot (layouts_of fs) ≡ false → Stands (columns_of v) fault.BadType
 unfolding judged
 too_wide v fs read wide =
     misjudged v fault.BadType fs read
-    (both_left second (slim_test fs) (clear_test fs) fault.BadType (needs_stands fault.BadType (are_slim (layouts_of fs)) fault.BadType wide refl))
+    (both_left second (slot_test fs) (clear_test fs) fault.BadType
+    (needs_stands fault.BadType (are_within_slot (layouts_of fs)) fault.BadType wide refl))
 
-pub clashing : (v : Vector) (fs : List (Rose Entry)) → forest max_depth v ≡ Ok fs → is_clear fs ≡ false → Stands (columns_of v) fault.DictionaryClash
+pub clashing : (v : Vector) (fs : List (Rose Entry)) → forest max_depth v ≡ Ok fs → is_clear fs ≡ false
+    → Stands (columns_of v) fault.DictionaryClash
 unfolding judged
 clashing v fs read unclear =
     misjudged v fault.DictionaryClash fs read
-    (both_right second (slim_test fs) (clear_test fs) fault.DictionaryClash (checked_stands fault.DictionaryClash (is_clear fs) fs fault.DictionaryClash unclear refl))
+    (both_right second (slot_test fs) (clear_test fs) fault.DictionaryClash
+    (checked_stands fault.DictionaryClash (is_clear fs) fs fault.DictionaryClash unclear refl))
 
 pub all_read :
-    (v : Vector) (fs : List (Rose Entry)) (left : ℕ) → left + total max_depth v ≡ max_fields → forest max_depth v ≡ Ok fs → are_slim (layouts_of fs) ≡ true
+    (v : Vector) (fs : List (Rose Entry)) (left : ℕ) → left + total max_depth v ≡ max_fields
+    → forest max_depth v ≡ Ok fs → are_within_slot (layouts_of fs) ≡ true
     → is_clear fs ≡ true → columns_of v ≡ Ok fs
 unfolding columns_of judged
-all_read v fs left few read slim-is clear-is =
-    let test : nat_le (total max_depth v) max_fields ≡ true = le-leb (total max_depth v) max_fields (omega (arith, few)) in
-    rw (test, read, slim-is, clear-is) refl
+all_read v fs left few read within_slot-is clear-is =
+    let test : nat_le (total max_depth v) max_fields ≡ true =
+    le-leb (total max_depth v) max_fields (omega (arith, few)) in
+    rw (test, read, within_slot-is, clear-is) refl
 
 pub ruleset columns_read = (too_many, not_read, too_wide, clashing, all_read, few_read)

@@ -10,7 +10,8 @@ bind_left (Ok x) f c h = absurd h
 bind_left (Err fs) f c h = h
 
 pub bind_right :
-    {X Y : Type 0} (m : Reading X) (f : X → Reading Y) (c : StreamFault) (x : X) → m ≡ Ok x → Stands (f x) c → Stands (m >>= f) c
+    {X Y : Type 0} (m : Reading X) (f : X → Reading Y) (c : StreamFault) (x : X) → m ≡ Ok x → Stands (f x) c
+    → Stands (m >>= f) c
 bind_right m f c x e h = let P : Reading _ → Type 0 = λ r. Stands (r >>= f) c in subst P (sym e) h
 
 pub bind_found :
@@ -35,11 +36,13 @@ pub passed : {X : Type 0} (c : StreamFault) (b : Bool) (x y : X) → checked c b
 passed c true x y e = (refl, cc)
 passed c false x y e = absurd (cc)
 
-pub checked_found : {X : Type 0} (d : StreamFault) (b : Bool) (x : X) (c : StreamFault) → Stands (checked d b x) c → (b ≡ false) × (d ≡ c)
+pub checked_found : {X : Type 0} (d : StreamFault) (b : Bool) (x : X) (c : StreamFault) → Stands (checked d b x) c
+    → (b ≡ false) × (d ≡ c)
 checked_found d true x c h = absurd h
 checked_found d false x c h = (refl, h)
 
-pub checked_stands : {X : Type 0} (d : StreamFault) (b : Bool) (x : X) (c : StreamFault) → b ≡ false → d ≡ c → Stands (checked d b x) c
+pub checked_stands : {X : Type 0} (d : StreamFault) (b : Bool) (x : X) (c : StreamFault) → b ≡ false → d ≡ c
+    → Stands (checked d b x) c
 checked_stands d true x c e h = absurd (cc)
 checked_stands d false x c e h = h
 

@@ -1,5 +1,30 @@
 -- What is known of fields that were read: how many they are, and that each has the children that its layout wants.
-use Rattle.std.proofs.Common.{◌≡◌, ℕ, zero, suc, ◌+◌, ◌≤◌, Bool, true, false, List, [], ◌∷◌, length, Option, None, Some, Ok, Err, refl, ap, sym, subst, ◌∙◌, arith}
+use Rattle.std.proofs.Common.{
+  ◌≡◌,
+  ℕ,
+  zero,
+  suc,
+  ◌+◌,
+  ◌≤◌,
+  Bool,
+  true,
+  false,
+  List,
+  [],
+  ◌∷◌,
+  length,
+  Option,
+  None,
+  Some,
+  Ok,
+  Err,
+  refl,
+  ap,
+  sym,
+  subst,
+  ◌∙◌,
+  arith,
+}
 use Rattle.std.specs.Prelude.{nat_le, ◌==◌, ◌&&◌, if◌then◌else◌}
 use Rattle.std.proofs.lemmas.Bool.{and_parts, leb-true}
 use Rattle.std.proofs.lemmas.Bool.Decides.{nat_tests}
@@ -11,7 +36,7 @@ use Rattle.values.specs.Rose.{Rose, node, Roses, none, more, kids_of, rose_size,
 use Rattle.values.specs.Layouts.{IsNode, IsLayout, AreLayouts}
 use Rattle.values.specs.declared.layout.IntWidth.{IntWidth}
 use Rattle.values.specs.declared.layout.Layout.{Layout}
-use Rattle.values.specs.declared.layout.Layout.TheVariants.{Number}
+use Rattle.values.specs.declared.layout.Layout.TheVariants.{Int}
 use Rattle.values.proofs.Readings.{both_Ok, bind_Ok, mapped_Ok, must_Ok}
 use Rattle.schema_meta.specs.Entry.{Entry}
 use Rattle.values.specs.ColTypes.{IsSingle, layout_of as layout_by}
@@ -20,10 +45,17 @@ use Rattle.values.specs.declared.col_type.ColType.TheVariants as stored
 use Rattle.field_types.specs.StoredLaws.{kids_count}
 use Rattle.field_types.proofs.TypeFacts.{read-is-type}
 use Rattle.field_types.proofs.Children.{children-fit}
-use Rattle.schema_meta.specs.FieldLayouts.{layout_of, layouts_of, slot_layout, slot_layout_of, slot_layouts_of, are_slim}
-use Rattle.schema_meta.specs.declared.coding.Coding.{Coding}
+use Rattle.schema_meta.specs.FieldLayouts.{
+  layout_of,
+  layouts_of,
+  slot_layout,
+  slot_layout_of,
+  slot_layouts_of,
+  are_within_slot,
+}
+use Rattle.schema_meta.specs.declared.encoding.DictionaryEncoding.{DictionaryEncoding}
 use Rattle.schema_meta.specs.Dictionaries.{is_clear}
-use Rattle.schema_meta.specs.Encoding.{coding_of, coded_by, encoding_of, may_be_coded}
+use Rattle.schema_meta.specs.Encoding.{field_encoding_of, coded_by, encoding_of, may_be_coded}
 use Rattle.schema_meta.specs.FieldsLaw.{AreFields, FieldsLaw, IsCoded, IsGoodField, AreGoodFields}
 use Rattle.std.specs.Str.{is_utf8}
 use Rattle.std.proofs.lemmas.Str.{is_utf8-from_IsUtf8, IsUtf8-from_ascii}
@@ -32,7 +64,26 @@ use Rattle.field_types.specs.declared.kinds.TypeKind.{TypeKind}
 use Rattle.values.specs.declared.col_type.ColType.{ColType}
 use Rattle.field_types.specs.Reads.{readable, needs, checked, bool_of}
 use Rattle.field_types.specs.Types.{type_of}
-use Rattle.schema_meta.specs.Fields.{Label, label, label_of, name_in, name_of, Storage, storage, Content, content, content_of, field, field_of, children_of, count_in, fields_in, entry_by, child_at, forest}
+use Rattle.schema_meta.specs.Fields.{
+  Label,
+  label,
+  label_of,
+  name_in,
+  name_of,
+  Storage,
+  storage,
+  Content,
+  content,
+  content_of,
+  field,
+  field_of,
+  children_of,
+  count_in,
+  fields_in,
+  entry_by,
+  child_at,
+  forest,
+}
 use Rattle.schema_meta.specs.Totals.{sum_from, total, total_at, total_in}
 use Rattle.schema_meta.specs.Schema.{columns_of, endianness_of, schema_of, judged}
 use Rattle.schema_meta.proofs.Faults.{needed, passed}
@@ -48,7 +99,8 @@ slots_of_all [] = refl
 slots_of_all (node e below ∷ kids) = ap suc (slots_of_all kids)
 
 fit_node :
-    (k : TypeKind) (t : Table) (s : ColType) (kids : Roses Layout) → type_of k t ≡ Ok s → may_have k (kids_count kids) ≡ true
+    (k : TypeKind) (t : Table) (s : ColType) (kids : Roses Layout) → type_of k t ≡ Ok s
+    → may_have k (kids_count kids) ≡ true
     → IsNode (layout_by s) kids
 fit_node k t s kids read may =
     let is = read-is-type k t s read in
@@ -66,27 +118,31 @@ single (stored.Timestamp u z) e = tt
 single (stored.Duration u) e = tt
 single (stored.Utf8 o) e = tt
 single (stored.Binary o) e = tt
-single (stored.Fixed w) e = tt
+single (stored.FixedSizeBinary w) e = tt
 single (stored.List o) e = absurd (cc)
 single stored.Struct e = absurd (cc)
 
-coded_good : (k : TypeKind) (o : Option Table) (s : ColType) (c : Option Coding) → coded_by k o ≡ Ok c → kind_of_type s ≡ k → IsCoded c s
-coded_good k None s c e is = let none : None ≡ c = cc in let P : Option Coding → Type 0 = λ d. IsCoded d s in subst P none tt
-coded_good k (Some t) s c e is =
+coded_valid : (k : TypeKind) (o : Option Table) (s : ColType) (c : Option DictionaryEncoding) → coded_by k o ≡ Ok c
+    → kind_of_type s ≡ k → IsCoded c s
+coded_valid k None s c e is = let none : None ≡ c = cc in let P : Option DictionaryEncoding
+    → Type 0 = λ d. IsCoded d s in subst P none tt
+coded_valid k (Some t) s c e is =
     let parts = both_Ok second (needs fault.UnsupportedType (may_be_coded k)) (mapped Some (encoding_of t)) c e in
     let may = needed fault.UnsupportedType (may_be_coded k) parts.0 parts.2 in
     let made = mapped_Ok Some (encoding_of t) parts.1 parts.3 in
-    let P : Option Coding → Type 0 = λ d. IsCoded d s in
+    let P : Option DictionaryEncoding → Type 0 = λ d. IsCoded d s in
     let Q : TypeKind → Type 0 = λ j. may_be_coded j ≡ true in
     subst P (made.2 ∙ parts.4) (single s (subst Q (sym is) may))
 
-coding_good : (k : TypeKind) (t : Table) (s : ColType) (c : Option Coding) → coding_of k t ≡ Ok c → kind_of_type s ≡ k → IsCoded c s
-unfolding coding_of
-coding_good k t s c e is =
-    let read = bind_Ok (readable (subtable_of t fbs.dictionary)) (coded_by k) c e in coded_good k read.0 s c read.2 is
+encoding_valid : (k : TypeKind) (t : Table) (s : ColType) (c : Option DictionaryEncoding) → field_encoding_of k t ≡ Ok c
+    → kind_of_type s ≡ k → IsCoded c s
+unfolding field_encoding_of
+encoding_valid k t s c e is =
+    let read = bind_Ok (readable (subtable_of t fbs.dictionary)) (coded_by k) c e in coded_valid k read.0 s c read.2 is
 
 -- indices have no children, and nor have the values that they stand for
-single_node : (s : ColType) (w : IntWidth) (b : Bool) (kids : Roses Layout) → IsSingle s → IsNode (layout_by s) kids → IsNode (Number w b) kids
+single_node : (s : ColType) (w : IntWidth) (b : Bool) (kids : Roses Layout) → IsSingle s → IsNode (layout_by s) kids
+    → IsNode (Int w b) kids
 single_node s w b none is h = tt
 single_node stored.Bool w b (more t ts) is h = h
 single_node (stored.Int v s) w b (more t ts) is h = h
@@ -97,22 +153,24 @@ single_node (stored.Timestamp u z) w b (more t ts) is h = h
 single_node (stored.Duration u) w b (more t ts) is h = h
 single_node (stored.Utf8 o) w b (more t ts) is h = h
 single_node (stored.Binary o) w b (more t ts) is h = h
-single_node (stored.Fixed v) w b (more t ts) is h = h
+single_node (stored.FixedSizeBinary v) w b (more t ts) is h = h
 single_node (stored.List o) w b (more t ts) is h = absurd is
 single_node stored.Struct w b (more t ts) is h = absurd is
 
-slot_node : (c : Option Coding) (s : ColType) (kids : Roses Layout) → IsCoded c s → IsNode (layout_by s) kids → IsNode (slot_layout c s) kids
+slot_node : (c : Option DictionaryEncoding) (s : ColType) (kids : Roses Layout) → IsCoded c s
+    → IsNode (layout_by s) kids → IsNode (slot_layout c s) kids
 slot_node None s kids is h = h
 slot_node (Some c) s kids is h = single_node s c.index.width c.index.signed kids is h
 
--- what is known of the fields of a vector that was read: how many they are, and with those below them, and how deep they go
+-- what is known of the fields of a vector that was read: how many they are, and with those below them, and how deep
+-- they go
 pub record AreKnown (n total depth : ℕ) (fs : List (Rose Entry)) : Type 0 where
   pub long : length fs ≡ n
   pub size : roses_size (kids_of fs) ≡ total
   pub shallow : roses_depth (kids_of fs) ≤ depth
   pub layouts : AreLayouts (layouts_of fs)
   pub slots : AreLayouts (slot_layouts_of fs)
-  pub good : AreGoodFields (kids_of fs)
+  pub valid : AreGoodFields (kids_of fs)
 
 abbrev pub Known : ℕ → (Vector → ℕ) → Vector → List (Rose Entry) → Type 0
 Known depth count v fs = AreKnown v.count (count v) depth fs
@@ -121,22 +179,25 @@ is_zero : (n : ℕ) → (n == 0) ≡ true → n ≡ 0
 is_zero n e = grind (arith, nat_tests, e)
 
 -- the children of a field
-pub record Below (depth : ℕ) (count : Vector → ℕ) (k : TypeKind) (o : Option Vector) (fs : List (Rose Entry)) : Type 0 where
+pub record Below (depth : ℕ) (count : Vector → ℕ) (k : TypeKind) (o : Option Vector) (fs : List (Rose Entry)) :
+    Type 0 where
   pub may : may_have k (length fs) ≡ true
   pub size : roses_size (kids_of fs) ≡ total_in count o
   pub shallow : roses_depth (kids_of fs) ≤ depth
   pub layouts : AreLayouts (layouts_of fs)
   pub slots : AreLayouts (slot_layouts_of fs)
-  pub good : AreGoodFields (kids_of fs)
+  pub valid : AreGoodFields (kids_of fs)
 
 below_in :
-    (below : Vector → Reading (List (Rose Entry))) (depth : ℕ) (count : Vector → ℕ) (k : TypeKind) (o : Option Vector) (fs : List (Rose Entry))
-    → ((v : Vector) (gs : List (Rose Entry)) → below v ≡ Ok gs → Known depth count v gs) → may_have k (count_in o) ≡ true
+    (below : Vector → Reading (List (Rose Entry))) (depth : ℕ) (count : Vector
+    → ℕ) (k : TypeKind) (o : Option Vector) (fs : List (Rose Entry))
+    → ((v : Vector) (gs : List (Rose Entry)) → below v ≡ Ok gs → Known depth count v gs)
+    → may_have k (count_in o) ≡ true
     → fields_in below o ≡ Ok fs → Below depth count k o fs
 below_in below depth count k None fs known may e =
     let P : List (Rose Entry) → Type 0 = λ gs. Below depth count k None gs in
     let is : [] ≡ fs = cc in
-    subst P is (record { may = may; size = refl; shallow = omega arith; layouts = tt; slots = tt; good = tt })
+    subst P is (record { may = may; size = refl; shallow = omega arith; layouts = tt; slots = tt; valid = tt })
 below_in below depth count k (Some v) fs known may e =
     let here = known v fs e in
     let P : ℕ → Type 0 = λ n. may_have k n ≡ true in
@@ -146,17 +207,21 @@ below_in below depth count k (Some v) fs known may e =
       shallow = here.shallow;
       layouts = here.layouts;
       slots = here.slots;
-      good = here.good;
+      valid = here.valid;
     }
 
 children_known :
-    (below : Vector → Reading (List (Rose Entry))) (depth : ℕ) (count : Vector → ℕ) (k : TypeKind) (t : Table) (fs : List (Rose Entry))
+    (below : Vector → Reading (List (Rose Entry))) (depth : ℕ) (count : Vector
+    → ℕ) (k : TypeKind) (t : Table) (fs : List (Rose Entry))
     → ((v : Vector) (gs : List (Rose Entry)) → below v ≡ Ok gs → Known depth count v gs) → children_of below k t ≡ Ok fs
     → (o : Option Vector) × (vector_of t fbs.children ≡ Some o) × Below depth count k o fs
 unfolding children_of
 children_known below depth count k t fs known e =
-    let read = bind_Ok (readable (vector_of t fbs.children)) (λ v. both second (needs fault.BadType (may_have k (count_in v))) (fields_in below v)) fs e in
-    let parts = both_Ok second (needs fault.BadType (may_have k (count_in read.0))) (fields_in below read.0) fs read.2 in
+    let read =
+    bind_Ok (readable (vector_of t fbs.children))
+    (λ v. both second (needs fault.BadType (may_have k (count_in v))) (fields_in below v)) fs e in
+    let parts =
+    both_Ok second (needs fault.BadType (may_have k (count_in read.0))) (fields_in below read.0) fs read.2 in
     let P : List (Rose Entry) → Type 0 = λ gs. Below depth count k read.0 gs in (
       read.0,
       must_Ok fault.BadTable (vector_of t fbs.children) read.0 read.1,
@@ -169,28 +234,29 @@ pub record IsKnown (depth : ℕ) (count : Vector → ℕ) (v : Vector) (i : ℕ)
   pub shallow : rose_depth f ≤ suc depth
   pub layout : IsLayout (layout_of f)
   pub slots : IsLayout (slot_layout_of f)
-  pub good : IsGoodField f
+  pub valid : IsGoodField f
 
 -- names are short texts
 IsName : List ℕ → Type 0
 IsName n = (length n ≤ max_name_len) × (is_utf8 n ≡ true)
 
-name_in_good : (o : Option (List ℕ)) (n : List ℕ) → name_in o ≡ Ok n → IsName n
+name_in_valid : (o : Option (List ℕ)) (n : List ℕ) → name_in o ≡ Ok n → IsName n
 unfolding IsName
-name_in_good None n e =
-    let none : [] ≡ n = cc in subst IsName none (omega arith, is_utf8-from_IsUtf8 [] (IsUtf8-from_ascii [] (λ k. omega arith)))
-name_in_good (Some bytes) n e =
+name_in_valid None n e =
+    let none : [] ≡ n = cc in
+    subst IsName none (omega arith, is_utf8-from_IsUtf8 [] (IsUtf8-from_ascii [] (λ k. omega arith)))
+name_in_valid (Some bytes) n e =
     let p = passed fault.BadName (nat_le (length bytes) max_name_len && is_utf8 bytes) bytes n e in
     let tests = and_parts (nat_le (length bytes) max_name_len) (is_utf8 bytes) p.0 in
     subst IsName p.1 (leb-true (length bytes) max_name_len tests.0, tests.1)
 
-label_good : (t : Table) (l : Label) → label_of t ≡ Ok l → (length l.name ≤ max_name_len) × (is_utf8 l.name ≡ true)
+label_valid : (t : Table) (l : Label) → label_of t ≡ Ok l → (length l.name ≤ max_name_len) × (is_utf8 l.name ≡ true)
 unfolding label_of name_of IsName
-label_good t l e =
+label_valid t l e =
     let p = both_Ok label (name_of t) (bool_of t fbs.nullable) l e in
     let q = bind_Ok (readable (text_of t fbs.name)) name_in p.0 p.2 in
     let P : Label → Type 0 = λ x. IsName x.name in
-    subst P p.4 (name_in_good q.0 p.0 q.2)
+    subst P p.4 (name_in_valid q.0 p.0 q.2)
 
 child_is :
     (v : Vector) (i : ℕ) (t : Table) (k : TypeKind) (o : Option Vector) → entry_of v i ≡ Some t → kind_of t ≡ Ok k
@@ -198,21 +264,24 @@ child_is :
 unfolding child_at
 child_is v i t k o here known kids = rw (here, known, kids) refl
 
-sum_is : (count : Vector → ℕ) (v : Vector) (i : ℕ) (o : Option Vector) → child_at v i ≡ o → total_at count v i ≡ total_in count o
+sum_is : (count : Vector → ℕ) (v : Vector) (i : ℕ) (o : Option Vector) → child_at v i ≡ o
+    → total_at count v i ≡ total_in count o
 unfolding total_at
 sum_is count v i o is = ap (total_in count) is
 
 -- a field of parts that were read
 made_known :
-    (depth : ℕ) (count : Vector → ℕ) (v : Vector) (i : ℕ) (f : Rose Entry) (l : Label) (c : Content) (u : Storage) (s : ColType)
-    (d : Option Coding) (kids : List (Rose Entry)) → storage s d ≡ u → content u kids ≡ c → field l c ≡ f
+    (depth : ℕ) (count : Vector → ℕ) (v : Vector) (i : ℕ) (f : Rose Entry) (l : Label) (c : Content) (u : Storage)
+    (s : ColType)
+    (d : Option DictionaryEncoding) (kids : List (Rose Entry)) → storage s d ≡ u → content u kids ≡ c → field l c ≡ f
     → IsKnown depth count v i (field l (content (storage s d) kids)) → IsKnown depth count v i f
 made_known depth count v i f l c u s d kids stores made is known =
     let P : Rose Entry → Type 0 = λ g. IsKnown depth count v i g in
     subst P (ap (λ x. field l (content x kids)) stores ∙ ap (field l) made ∙ is) known
 
 entry_known :
-    (below : Vector → Reading (List (Rose Entry))) (depth : ℕ) (count : Vector → ℕ) (v : Vector) (i : ℕ) (f : Rose Entry)
+    (below : Vector → Reading (List (Rose Entry))) (depth : ℕ) (count : Vector
+    → ℕ) (v : Vector) (i : ℕ) (f : Rose Entry)
     → ((w : Vector) (gs : List (Rose Entry)) → below w ≡ Ok gs → Known depth count w gs) → entry_by below v i ≡ Ok f
     → IsKnown depth count v i f
 unfolding entry_by field_of content_of
@@ -221,36 +290,41 @@ entry_known below depth count v i f known e =
     let t : Table = entry.0 in
     let here : entry_of v i ≡ Some t = must_Ok fault.BadTable (entry_of v i) t entry.1 in
     let parts = both_Ok field (label_of t) (content_of below t) f entry.2 in
-    let of : TypeKind → Reading Content = λ k. both content (both storage (type_of k t) (coding_of k t)) (children_of below k t) in
+    let of : TypeKind → Reading Content =
+    λ k. both content (both storage (type_of k t) (field_encoding_of k t)) (children_of below k t) in
     let kinds = bind_Ok (kind_of t) of parts.1 parts.3 in
     let k : TypeKind = kinds.0 in
-    let made = both_Ok content (both storage (type_of k t) (coding_of k t)) (children_of below k t) parts.1 kinds.2 in
-    let stores = both_Ok storage (type_of k t) (coding_of k t) made.0 made.2 in
-    let name = label_good t parts.0 parts.2 in
+    let made =
+    both_Ok content (both storage (type_of k t) (field_encoding_of k t)) (children_of below k t) parts.1 kinds.2 in
+    let stores = both_Ok storage (type_of k t) (field_encoding_of k t) made.0 made.2 in
+    let name = label_valid t parts.0 parts.2 in
     let typed = read-is-type k t stores.0 stores.2 in
-    let coded = coding_good k t stores.0 stores.1 stores.3 typed.1 in
+    let coded = encoding_valid k t stores.0 stores.1 stores.3 typed.1 in
     let kids = children_known below depth count k t made.1 known made.3 in
     let sum = sum_is count v i kids.0 (child_is v i t k kids.0 here kinds.1 kids.1) in
     let May : ℕ → Type 0 = λ n. may_have k n ≡ true in
     let values = fit_node k t stores.0 (layouts_of made.1) stores.2 (subst May (sym (kids_of_all made.1)) kids.2.may) in
-    let indices = fit_node k t stores.0 (slot_layouts_of made.1) stores.2 (subst May (sym (slots_of_all made.1)) kids.2.may) in
+    let indices =
+    fit_node k t stores.0 (slot_layouts_of made.1) stores.2 (subst May (sym (slots_of_all made.1)) kids.2.may) in
     made_known depth count v i f parts.0 parts.1 made.0 stores.0 stores.1 made.1 stores.4 made.4 parts.4 (record {
       size = omega (arith, kids.2.size, sum);
       shallow = omega (arith, kids.2.shallow);
       layout = (values, kids.2.layouts);
       slots = (slot_node stores.1 stores.0 (slot_layouts_of made.1) coded indices, kids.2.slots);
-      good = (name.0, name.1, typed.0, coded, kids.2.good);
+      valid = (name.0, name.1, typed.0, coded, kids.2.valid);
     })
 
 each_known :
-    (below : Vector → Reading (List (Rose Entry))) (depth : ℕ) (count : Vector → ℕ) (v : Vector) (i n : ℕ) (fs : List (Rose Entry))
-    → ((w : Vector) (gs : List (Rose Entry)) → below w ≡ Ok gs → Known depth count w gs) → each (entry_by below v) i n ≡ Ok fs
+    (below : Vector → Reading (List (Rose Entry))) (depth : ℕ) (count : Vector
+    → ℕ) (v : Vector) (i n : ℕ) (fs : List (Rose Entry))
+    → ((w : Vector) (gs : List (Rose Entry)) → below w ≡ Ok gs → Known depth count w gs)
+    → each (entry_by below v) i n ≡ Ok fs
     → AreKnown n (n + sum_from (total_at count v) i n) (suc depth) fs
 unfolding each sum_from
 each_known below depth count v i zero fs known e =
     let none : [] ≡ fs = cc in
     let P : List (Rose Entry) → Type 0 = λ gs. AreKnown 0 0 (suc depth) gs in
-    subst P none (record { long = refl; size = refl; shallow = omega arith; layouts = tt; slots = tt; good = tt })
+    subst P none (record { long = refl; size = refl; shallow = omega arith; layouts = tt; slots = tt; valid = tt })
 each_known below depth count v i (suc n) fs known e =
     let parts = both_Ok cons (entry_by below v i) (each (entry_by below v) (i + 1) n) fs e in
     let here = entry_known below depth count v i parts.0 known parts.2 in
@@ -263,36 +337,54 @@ each_known below depth count v i (suc n) fs known e =
       shallow = omega (arith, here.shallow, rest.shallow);
       layouts = (here.layout, rest.layouts);
       slots = (here.slots, rest.slots);
-      good = (here.good, rest.good);
+      valid = (here.valid, rest.valid);
     })
 
-forest_known : (depth : ℕ) (v : Vector) (fs : List (Rose Entry)) → forest depth v ≡ Ok fs → Known depth (total depth) v fs
+forest_known : (depth : ℕ) (v : Vector) (fs : List (Rose Entry)) → forest depth v ≡ Ok fs
+    → Known depth (total depth) v fs
 unfolding forest total
 forest_known zero v fs e = by_count (v.count == 0) refl e where
-  by_count : (b : Bool) → (v.count == 0) ≡ b → (if b then Ok [] else Err (one fault.TooManyFields)) ≡ Ok fs → Known zero (total zero) v fs
+  by_count : (b : Bool) → (v.count == 0) ≡ b → (if b then Ok [] else Err (one fault.TooManyFields)) ≡ Ok fs
+      → Known zero (total zero) v fs
   by_count true empty e =
       let is : [] ≡ fs = cc in
       let P : List (Rose Entry) → Type 0 = λ gs. Known zero (total zero) v gs in
-      subst P is (record { long = sym (is_zero v.count empty); size = refl; shallow = omega arith; layouts = tt; slots = tt; good = tt })
+      subst P is
+      (record {
+        long = sym (is_zero v.count empty);
+        size = refl;
+        shallow = omega arith;
+        layouts = tt;
+        slots = tt;
+        valid = tt;
+      })
   by_count false some e = absurd (cc)
 forest_known (suc depth) v fs e =
     each_known (forest depth) depth (total depth) v 0 v.count fs (forest_known depth) e
 
-pub few_read : (v : Vector) (fs : List (Rose Entry)) (left room : ℕ) → forest max_depth v ≡ Ok fs → left + total max_depth v ≡ room → roses_size (kids_of fs) ≤ room
+pub few_read : (v : Vector) (fs : List (Rose Entry)) (left room : ℕ) → forest max_depth v ≡ Ok fs
+    → left + total max_depth v ≡ room → roses_size (kids_of fs) ≤ room
 few_read v fs left room read count = omega (arith, (forest_known max_depth v fs read).size, count)
 
-judged_is : (fs gs : List (Rose Entry)) → judged fs ≡ Ok gs → (are_slim (layouts_of fs) ≡ true) × (is_clear fs ≡ true) × (fs ≡ gs)
+judged_is : (fs gs : List (Rose Entry)) → judged fs ≡ Ok gs
+    → (are_within_slot (layouts_of fs) ≡ true) × (is_clear fs ≡ true) × (fs ≡ gs)
 unfolding judged
 judged_is fs gs e =
-    let parts = both_Ok second (needs fault.BadType (are_slim (layouts_of fs))) (checked fault.DictionaryClash (is_clear fs) fs) gs e in
+    let parts =
+    both_Ok second (needs fault.BadType (are_within_slot (layouts_of fs)))
+    (checked fault.DictionaryClash (is_clear fs) fs) gs e in
     let clear = passed fault.DictionaryClash (is_clear fs) fs parts.1 parts.3 in
-    (needed fault.BadType (are_slim (layouts_of fs)) parts.0 parts.2, clear.0, clear.1 ∙ parts.4)
+    (needed fault.BadType (are_within_slot (layouts_of fs)) parts.0 parts.2, clear.0, clear.1 ∙ parts.4)
 
 columns_known : (v : Vector) (fs : List (Rose Entry)) → columns_of v ≡ Ok fs → AreFields fs
 unfolding columns_of
 columns_known v fs e =
-    let parts = both_Ok second (needs fault.TooManyFields (nat_le (total max_depth v) max_fields)) (forest max_depth v >>= judged) fs e in
-    let few : total max_depth v ≤ max_fields = leb-true (total max_depth v) max_fields (needed fault.TooManyFields (nat_le (total max_depth v) max_fields) parts.0 parts.2) in
+    let parts =
+    both_Ok second (needs fault.TooManyFields (nat_le (total max_depth v) max_fields)) (forest max_depth v
+    >>= judged) fs e in
+    let few : total max_depth v ≤ max_fields =
+    leb-true (total max_depth v) max_fields
+    (needed fault.TooManyFields (nat_le (total max_depth v) max_fields) parts.0 parts.2) in
     let read = bind_Ok (forest max_depth v) judged parts.1 parts.3 in
     let known = forest_known max_depth v read.0 read.1 in
     let are = judged_is read.0 parts.1 read.2 in
@@ -302,9 +394,9 @@ columns_known v fs e =
       shallow = known.shallow;
       layouts = known.layouts;
       slots = known.slots;
-      slim = are.0;
+      within_slot = are.0;
       clear = are.1;
-      good = known.good;
+      valid = known.valid;
     })
 
 in_known : (o : Option Vector) (fs : List (Rose Entry)) → fields_in columns_of o ≡ Ok fs → AreFields fs
@@ -312,7 +404,16 @@ unfolding is_clear
 in_known None fs e =
     let none : [] ≡ fs = cc in
     let P : List (Rose Entry) → Type 0 = λ gs. AreFields gs in
-    subst P none (record { few = omega arith; shallow = omega arith; layouts = tt; slots = tt; slim = refl; clear = refl; good = tt })
+    subst P none
+    (record {
+      few = omega arith;
+      shallow = omega arith;
+      layouts = tt;
+      slots = tt;
+      within_slot = refl;
+      clear = refl;
+      valid = tt;
+    })
 in_known (Some v) fs e = columns_known v fs e
 
 pub fields_known : FieldsLaw

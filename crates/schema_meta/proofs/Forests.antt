@@ -15,7 +15,8 @@ forest_step (suc depth) v h =
     let k : suc depth - 1 ≡ depth = omega arith in let j : v.count - 0 ≡ v.count = omega arith in rw (k, j) refl
 
 pub forest_end :
-    (depth : ℕ) (v : Vector) → depth ≡ 0 → forest depth v ≡ (if v.count == 0 then Ok [] else Err (one fault.TooManyFields))
+    (depth : ℕ) (v : Vector) → depth ≡ 0
+    → forest depth v ≡ (if v.count == 0 then Ok [] else Err (one fault.TooManyFields))
 unfolding forest
 forest_end depth v h = rw h refl
 

@@ -10,11 +10,11 @@ pub mod Plain
 pub mod OneType
 pub mod ValuesFit
 pub mod Places
-pub mod Slims
+pub mod SlotLimits
 pub mod FieldFacts
 pub mod Placed
 pub mod LogicalFits
-pub mod Narrowing
+pub mod NarrowLemmas
 pub mod ColumnsRead
 pub mod Signs
 pub mod SchemaFits

@@ -1,5 +1,23 @@
 -- The logical fields of what was read can be written, and are read back.
-use Rattle.std.proofs.Common.{◌≡◌, ℕ, zero, suc, ◌<◌, ◌≤◌, true, List, [], ◌∷◌, length, map, refl, ap, ◌∙◌, slice_index, arith}
+use Rattle.std.proofs.Common.{
+  ◌≡◌,
+  ℕ,
+  zero,
+  suc,
+  ◌<◌,
+  ◌≤◌,
+  true,
+  List,
+  [],
+  ◌∷◌,
+  length,
+  map,
+  refl,
+  ap,
+  ◌∙◌,
+  slice_index,
+  arith,
+}
 use Rattle.std.specs.Str.{is_utf8}
 use Rattle.std.proofs.lemmas.Str.{is_utf8-from_IsUtf8, IsUtf8-from_ascii}
 use Rattle.values.specs.Limits.{max_name_len}
@@ -13,11 +31,11 @@ use Rattle.values.specs.declared.col_type.ColType.{ColType}
 use Rattle.values.specs.declared.col_type.ColType.TheVariants as stored
 use Rattle.schema_meta.specs.Entry.{Entry}
 use Rattle.schema_meta.specs.Logical.{logical_field, named_below}
-use Rattle.schema_meta.specs.FieldLayouts.{layouts_of, is_slim, are_slim}
+use Rattle.schema_meta.specs.FieldLayouts.{layouts_of, is_within_slot, are_within_slot}
 use Rattle.schema_meta.specs.FieldsLaw.{AreGoodFields, ColumnsFit, ColumnsNamed}
 use Rattle.schema_meta.specs.LogicalLaw.{narrow_tree, narrow_trees}
 use Rattle.schema_meta.specs.SchemaTree.{AreWithin}
-use Rattle.schema_meta.proofs.Narrowing.{logical-trees, narrow-fits, slot-narrow}
+use Rattle.schema_meta.proofs.NarrowLemmas.{logical-trees, narrow-fits, slot-narrow}
 
 narrow-type : (s : ColType) → IsType s → IsType (narrow s)
 narrow-type stored.Bool h = tt
@@ -29,7 +47,7 @@ narrow-type (stored.Timestamp u z) h = h
 narrow-type (stored.Duration u) h = tt
 narrow-type (stored.Utf8 o) h = tt
 narrow-type (stored.Binary o) h = tt
-narrow-type (stored.Fixed w) h = h
+narrow-type (stored.FixedSizeBinary w) h = h
 narrow-type (stored.List o) h = tt
 narrow-type stored.Struct h = tt
 
@@ -43,7 +61,7 @@ child-name (stored.Timestamp u z) n h = h
 child-name (stored.Duration u) n h = h
 child-name (stored.Utf8 o) n h = h
 child-name (stored.Binary o) n h = h
-child-name (stored.Fixed w) n h = h
+child-name (stored.FixedSizeBinary w) n h = h
 child-name (stored.List o) n h = omega arith
 child-name stored.Struct n h = h
 
@@ -59,14 +77,17 @@ below-size s (more (node e kids) fs) =
 
 all-within : (fs : List (Rose Entry)) → AreGoodFields (kids_of fs) → AreWithin (kids_of (map logical_field fs))
 all-within [] h = tt
-all-within (node e kids ∷ fs) h = ((h.0.0, narrow-type e.stored h.0.2, below-within e.stored kids h.0.4), all-within fs h.1)
+all-within (node e kids ∷ fs) h =
+    ((h.0.0, narrow-type e.stored h.0.2, below-within e.stored kids h.0.4), all-within fs h.1)
 
 pub all-size : (fs : List (Rose Entry)) → roses_size (kids_of (map logical_field fs)) ≡ roses_size (kids_of fs)
 all-size [] = refl
-all-size (node e kids ∷ fs) = let kids-same = below-size e.stored kids in let rest = all-size fs in omega (arith, kids-same, rest)
+all-size (node e kids ∷ fs) = let kids-same = below-size e.stored kids in let rest = all-size fs in
+    omega (arith, kids-same, rest)
 
 pub columns_fit : ColumnsFit
-columns_fit fields known = record { few = omega (arith, all-size fields, known.few); within = all-within fields known.good }
+columns_fit fields known =
+    record { few = omega (arith, all-size fields, known.few); within = all-within fields known.valid }
 
 -- names, and the width of offsets
 
@@ -90,7 +111,7 @@ child-text (stored.Timestamp u z) n h = h
 child-text (stored.Duration u) n h = h
 child-text (stored.Utf8 o) n h = h
 child-text (stored.Binary o) n h = h
-child-text (stored.Fixed w) n h = h
+child-text (stored.FixedSizeBinary w) n h = h
 child-text (stored.List o) n h = item-text
 child-text stored.Struct n h = h
 
@@ -107,7 +128,8 @@ below-logical s (more (node e kids) fs) h = (
 )
 
 -- the columns below none, as those below a struct
-columns-below : (fs : List (Rose Entry)) → kids_of (map logical_field fs) ≡ logical_below stored.Struct (named_below (kids_of fs))
+columns-below : (fs : List (Rose Entry))
+    → kids_of (map logical_field fs) ≡ logical_below stored.Struct (named_below (kids_of fs))
 columns-below [] = refl
 columns-below (f ∷ fs) = ap (λ r. more (logical_field f) r) (columns-below fs)
 
@@ -120,20 +142,20 @@ below-depth s (more (node e kids) fs) = rw (below-depth e.stored kids, below-dep
 -- so do the slots
 
 mutual
-  slim-narrow : (t : Rose Layout) → is_slim (narrow_tree t) ≡ is_slim t
-  slim-narrow (node l kids) = rw (slot-narrow (node l kids), slims-narrow kids) refl
+  within_slot-narrow : (t : Rose Layout) → is_within_slot (narrow_tree t) ≡ is_within_slot t
+  within_slot-narrow (node l kids) = rw (slot-narrow (node l kids), within_slots-narrow kids) refl
 
-  slims-narrow : (ts : Roses Layout) → are_slim (narrow_trees ts) ≡ are_slim ts
-  slims-narrow none = refl
-  slims-narrow (more t ts) = rw (slim-narrow t, slims-narrow ts) refl
+  within_slots-narrow : (ts : Roses Layout) → are_within_slot (narrow_trees ts) ≡ are_within_slot ts
+  within_slots-narrow none = refl
+  within_slots-narrow (more t ts) = rw (within_slot-narrow t, within_slots-narrow ts) refl
 
 pub columns-named : ColumnsNamed
 columns-named fields known =
     let below = columns-below fields in
     let trees = logical-trees fields in
     record {
-      logical = rw below (below-logical stored.Struct (kids_of fields) known.good);
+      logical = rw below (below-logical stored.Struct (kids_of fields) known.valid);
       layouts = rw trees (narrow-fits (layouts_of fields) known.layouts);
       shallow = rw below (let same = below-depth stored.Struct (kids_of fields) in omega (arith, same, known.shallow));
-      slim = rw trees (slims-narrow (layouts_of fields) ∙ known.slim);
+      within_slot = rw trees (within_slots-narrow (layouts_of fields) ∙ known.within_slot);
     }

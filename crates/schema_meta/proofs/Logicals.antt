@@ -2,7 +2,7 @@
 use Rattle.std.proofs.Common.{◌≡◌, List, [], ◌∷◌, map, refl, ap}
 use Rattle.values.specs.Rose.{Rose, node, Roses, none, more, kids_of}
 use Rattle.values.proofs.Roses.{kid_smaller}
-use Rattle.values.specs.Logical.{LogicalField, logical_column}
+use Rattle.values.specs.Logical.{NamedType, logical_column}
 use Rattle.schema_meta.specs.Entry.{Entry}
 use Rattle.schema_meta.specs.Logical.{named_field, named_below, logical_field}
 use Rattle.schema_meta.specs.SchemaLaw.{stored_field, stored_below}
@@ -18,9 +18,9 @@ logical-all (f ∷ fs) = ap (λ r. logical_field f ∷ r) (logical-all fs)
 pub ruleset named = (named-all, logical-all, kid_smaller)
 
 mutual
-  pub named-stored : (f : Rose LogicalField) → named_field (stored_field f) ≡ f
+  pub named-stored : (f : Rose NamedType) → named_field (stored_field f) ≡ f
   named-stored (node f kids) = ap (λ ks. node f ks) (named-stored-all kids)
 
-  named-stored-all : (fs : Roses LogicalField) → named_below (stored_below fs) ≡ fs
+  named-stored-all : (fs : Roses NamedType) → named_below (stored_below fs) ≡ fs
   named-stored-all none = refl
   named-stored-all (more f fs) = rw (named-stored f, named-stored-all fs) refl

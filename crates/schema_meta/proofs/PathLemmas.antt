@@ -1,5 +1,32 @@
 -- A fault is in the schema's reading exactly where it stands by a path.
-use Rattle.std.proofs.Common.{◌≡◌, ◌⊎◌, inl, inr, ℕ, zero, suc, ◌+◌, ◌<◌, Bool, true, false, Option, None, Some, Ok, Err, List, [], ◌∷◌, length, refl, ap, subst, arith, nat_le}
+use Rattle.std.proofs.Common.{
+  ◌≡◌,
+  ◌⊎◌,
+  inl,
+  inr,
+  ℕ,
+  zero,
+  suc,
+  ◌+◌,
+  ◌<◌,
+  Bool,
+  true,
+  false,
+  Option,
+  None,
+  Some,
+  Ok,
+  Err,
+  List,
+  [],
+  ◌∷◌,
+  length,
+  refl,
+  ap,
+  subst,
+  arith,
+  nat_le,
+}
 use Rattle.std.proofs.lemmas.Bool.Decides.{nat_tests}
 use Rattle.std.specs.Prelude.{◌==◌, if◌then◌else◌}
 use Rattle.flatbuf.specs.Layout.{Table, Vector, vector_of, entry_of}
@@ -15,14 +42,64 @@ use Rattle.field_types.specs.SchemaFbs as fbs
 use Rattle.field_types.specs.Reads.{readable, needs, checked, bool_of}
 use Rattle.field_types.specs.Kinds.{kind_of, may_have}
 use Rattle.field_types.specs.Types.{type_of}
-use Rattle.schema_meta.specs.FieldLayouts.{are_slim, layouts_of}
+use Rattle.schema_meta.specs.FieldLayouts.{are_within_slot, layouts_of}
 use Rattle.schema_meta.specs.Dictionaries.{is_clear}
-use Rattle.schema_meta.specs.Encoding.{coding_of}
-use Rattle.schema_meta.specs.Fields.{name_of, count_in, fields_in, children_of, label, storage, content, field, label_of, content_of, field_of, entry_by, forest, children_by, children_at, child_at}
+use Rattle.schema_meta.specs.Encoding.{field_encoding_of}
+use Rattle.schema_meta.specs.Fields.{
+  name_of,
+  count_in,
+  fields_in,
+  children_of,
+  label,
+  storage,
+  content,
+  field,
+  label_of,
+  content_of,
+  field_of,
+  entry_by,
+  forest,
+  children_by,
+  children_at,
+  child_at,
+}
 use Rattle.schema_meta.specs.Totals.{total}
 use Rattle.schema_meta.specs.Schema.{endianness_of, columns_of, schema_of, judged}
-use Rattle.schema_meta.specs.Paths.{FaultOfField, FaultOfEntry, Leads, StandsBelow, IsDeeper, FaultOfColumns, FaultOfSchema, in_name, in_nullable, in_kind, in_type, in_dictionary, in_children, in_number, by_path, by_depth, by_count, by_slot, by_clash, in_endianness, in_fields, in_columns}
-use Rattle.schema_meta.proofs.Faults.{bind_left, bind_right, bind_found, needs_found, needs_stands, checked_found, checked_stands, readable_found, readable_some}
+use Rattle.schema_meta.specs.Paths.{
+  FaultOfField,
+  FaultOfEntry,
+  Leads,
+  StandsBelow,
+  IsDeeper,
+  FaultOfColumns,
+  FaultOfSchema,
+  in_name,
+  in_nullable,
+  in_kind,
+  in_type,
+  in_dictionary,
+  in_children,
+  in_number,
+  by_path,
+  by_depth,
+  by_count,
+  by_slot,
+  by_clash,
+  in_endianness,
+  in_fields,
+  in_columns,
+}
+use Rattle.schema_meta.proofs.Faults.{
+  bind_left,
+  bind_right,
+  bind_found,
+  needs_found,
+  needs_stands,
+  checked_found,
+  checked_stands,
+  readable_found,
+  readable_some,
+}
 
 -- The children of a field have the fault.
 abbrev Below : Type 0
@@ -44,34 +121,42 @@ children_found :
     → FaultOfField t c ⊎ IsInChildren below t c
 unfolding children_of
 children_found below t c k e h =
-    elim (bind_found (readable (vector_of t fbs.children)) (λ v. both second (needs fault.BadType (may_have k (count_in v))) (fields_in below v)) c h) [
+    elim (bind_found (readable (vector_of t fbs.children))
+    (λ v. both second (needs fault.BadType (may_have k (count_in v))) (fields_in below v)) c h) [
       | inl a ↦ inl (in_children k e a)
       | inr b ↦
           let f : vector_of t fbs.children ≡ Some b.0 = readable_found (vector_of t fbs.children) b.0 b.1 in
           elim (stands_both second (needs fault.BadType (may_have k (count_in b.0))) (fields_in below b.0) c b.2) [
-            | inl x ↦ let n = needs_found fault.BadType (may_have k (count_in b.0)) c x in inl (in_number k b.0 e f n.0 n.1)
+            | inl x ↦ let n = needs_found fault.BadType (may_have k (count_in b.0)) c x in
+                inl (in_number k b.0 e f n.0 n.1)
             | inr y ↦ inr (in_vector below t c k b.0 e f y)
           ]
     ]
 
 content_found :
     (below : Below) (t : Table) (c : StreamFault) (k : TypeKind) → kind_of t ≡ Ok k
-    → Stands (both content (both storage (type_of k t) (coding_of k t)) (children_of below k t)) c
+    → Stands (both content (both storage (type_of k t) (field_encoding_of k t)) (children_of below k t)) c
     → FaultOfField t c ⊎ IsInChildren below t c
 content_found below t c k e h =
-    elim (stands_both content (both storage (type_of k t) (coding_of k t)) (children_of below k t) c h) [
-      | inl a ↦ inl (elim (stands_both storage (type_of k t) (coding_of k t) c a) [ inl x ↦ in_type k e x | inr y ↦ in_dictionary k e y ])
+    elim (stands_both content (both storage (type_of k t) (field_encoding_of k t)) (children_of below k t) c h) [
+      | inl a ↦ inl
+          (elim (stands_both storage (type_of k t) (field_encoding_of k t) c a)
+          [ inl x ↦ in_type k e x | inr y ↦ in_dictionary k e y ])
       | inr b ↦ children_found below t c k e b
     ]
 
 field_found :
-    (below : Below) (t : Table) (c : StreamFault) → Stands (field_of below t) c → FaultOfField t c ⊎ IsInChildren below t c
+    (below : Below) (t : Table) (c : StreamFault) → Stands (field_of below t) c
+    → FaultOfField t c ⊎ IsInChildren below t c
 unfolding field_of label_of content_of
 field_found below t c h =
     elim (stands_both field (label_of t) (content_of below t) c h) [
-      | inl a ↦ inl (elim (stands_both label (name_of t) (bool_of t fbs.nullable) c a) [ inl x ↦ in_name x | inr y ↦ in_nullable y ])
+      | inl a ↦ inl
+          (elim (stands_both label (name_of t) (bool_of t fbs.nullable) c a)
+          [ inl x ↦ in_name x | inr y ↦ in_nullable y ])
       | inr b ↦
-          elim (bind_found (kind_of t) (λ k. both content (both storage (type_of k t) (coding_of k t)) (children_of below k t)) c b) [
+          elim (bind_found (kind_of t) (λ k.
+          both content (both storage (type_of k t) (field_encoding_of k t)) (children_of below k t)) c b) [
             | inl x ↦ inl (in_kind x)
             | inr y ↦ content_found below t c y.0 y.1 y.2
           ]
@@ -120,7 +205,8 @@ forest_found (suc depth) v c h =
     let j : 0 + k ≡ k = omega arith in
     let P : ℕ → Type 0 = λ i. Stands (entry_by (forest depth) v i) c in
     elim (at_found (forest depth) v k c (subst P j r.2)) [
-      | inl a ↦ inl (record { path = []; end = v; leads = refl; within = omega arith; index = k; inside = r.1; fault_of = a })
+      | inl a ↦ inl
+          (record { path = []; end = v; leads = refl; within = omega arith; index = k; inside = r.1; fault_of = a })
       | inr b ↦
           elim (forest_found depth b.0 c b.2) [
             | inl x ↦
@@ -135,37 +221,49 @@ forest_found (suc depth) v c h =
                   fault_of = x.fault_of;
                 })
             | inr y ↦
-                inr
-                (record { path = k ∷ y.0.path; end = y.0.end; leads = (r.1, (b.0, b.1, y.0.leads)); long = ap suc y.0.long; some = y.0.some }, y.1)
+                inr (
+                  record {
+                    path = k ∷ y.0.path;
+                    end = y.0.end;
+                    leads = (r.1, (b.0, b.1, y.0.leads));
+                    long = ap suc y.0.long;
+                    some = y.0.some;
+                  },
+                  y.1,
+                )
           ]
     ]
 
 -- the tests of fields that are all known
-abbrev slim_test : List (Rose Entry) → Reading (Unit {0})
-slim_test fs = needs fault.BadType (are_slim (layouts_of fs))
+abbrev slot_test : List (Rose Entry) → Reading (Unit {0})
+slot_test fs = needs fault.BadType (are_within_slot (layouts_of fs))
 
 abbrev clear_test : List (Rose Entry) → Reading (List (Rose Entry))
 clear_test fs = checked fault.DictionaryClash (is_clear fs) fs
 
 judged_found :
     (fs : List (Rose Entry)) (c : StreamFault) → Stands (judged fs) c
-    → ((are_slim (layouts_of fs) ≡ false) × (fault.BadType ≡ c)) ⊎ ((is_clear fs ≡ false) × (fault.DictionaryClash ≡ c))
+    → ((are_within_slot (layouts_of fs) ≡ false) × (fault.BadType ≡ c))
+    ⊎ ((is_clear fs ≡ false) × (fault.DictionaryClash ≡ c))
 unfolding judged
 judged_found fs c h =
-    elim (stands_both second (slim_test fs) (clear_test fs) c h) [
-      | inl a ↦ inl (needs_found fault.BadType (are_slim (layouts_of fs)) c a)
+    elim (stands_both second (slot_test fs) (clear_test fs) c h) [
+      | inl a ↦ inl (needs_found fault.BadType (are_within_slot (layouts_of fs)) c a)
       | inr b ↦ inr (checked_found fault.DictionaryClash (is_clear fs) fs c b)
     ]
 
-judged_columns : (v : Vector) (fs : List (Rose Entry)) (c : StreamFault) → forest max_depth v ≡ Ok fs → Stands (judged fs) c → FaultOfColumns v c
+judged_columns : (v : Vector) (fs : List (Rose Entry)) (c : StreamFault) → forest max_depth v ≡ Ok fs
+    → Stands (judged fs) c → FaultOfColumns v c
 judged_columns v fs c read h =
     elim (judged_found fs c h) [ inl a ↦ by_slot fs read a.0 a.1 | inr b ↦ by_clash fs read b.0 b.1 ]
 
 columns_found : (v : Vector) (c : StreamFault) → Stands (columns_of v) c → FaultOfColumns v c
 unfolding columns_of
 columns_found v c h =
-    elim (stands_both second (needs fault.TooManyFields (nat_le (total max_depth v) max_fields)) (forest max_depth v >>= judged) c h) [
-      | inl a ↦ let n = needs_found fault.TooManyFields (nat_le (total max_depth v) max_fields) c a in by_count (above (total max_depth v) max_fields n.0) n.1
+    elim (stands_both second (needs fault.TooManyFields (nat_le (total max_depth v) max_fields)) (forest max_depth v
+    >>= judged) c h) [
+      | inl a ↦ let n = needs_found fault.TooManyFields (nat_le (total max_depth v) max_fields) c a in
+          by_count (above (total max_depth v) max_fields n.0) n.1
       | inr b ↦
           elim (bind_found (forest max_depth v) judged c b) [
             | inl p ↦ elim (forest_found max_depth v c p) [ inl x ↦ by_path x | inr y ↦ by_depth y.0 y.1 ]
@@ -174,7 +272,8 @@ columns_found v c h =
     ]
 
 fields_found :
-    (t : Table) (v : Option Vector) (c : StreamFault) → vector_of t fbs.fields ≡ Some v → Stands (fields_in columns_of v) c
+    (t : Table) (v : Option Vector) (c : StreamFault) → vector_of t fbs.fields ≡ Some v
+    → Stands (fields_in columns_of v) c
     → FaultOfSchema t c
 fields_found t None c e h = absurd h
 fields_found t (Some v) c e h = in_columns v e (columns_found v c h)
@@ -194,10 +293,12 @@ found_by_paths t c h =
 -- from paths to the reading
 in_content :
     (below : Below) (t : Table) (c : StreamFault) (k : TypeKind) → kind_of t ≡ Ok k
-    → Stands (both content (both storage (type_of k t) (coding_of k t)) (children_of below k t)) c → Stands (field_of below t) c
+    → Stands (both content (both storage (type_of k t) (field_encoding_of k t)) (children_of below k t)) c
+    → Stands (field_of below t) c
 unfolding field_of content_of
 in_content below t c k e h =
-    let of : TypeKind → Reading _ = λ j. both content (both storage (type_of j t) (coding_of j t)) (children_of below j t) in
+    let of : TypeKind → Reading _ =
+    λ j. both content (both storage (type_of j t) (field_encoding_of j t)) (children_of below j t) in
     both_right field (label_of t) (content_of below t) c (bind_right (kind_of t) of c k e h)
 
 in_label : (below : Below) (t : Table) (c : StreamFault) → Stands (label_of t) c → Stands (field_of below t) c
@@ -207,45 +308,57 @@ in_label below t c h = both_left field (label_of t) (content_of below t) c h
 in_unkind : (below : Below) (t : Table) (c : StreamFault) → Stands (kind_of t) c → Stands (field_of below t) c
 unfolding field_of content_of
 in_unkind below t c h =
-    let of : TypeKind → Reading _ = λ j. both content (both storage (type_of j t) (coding_of j t)) (children_of below j t) in
+    let of : TypeKind → Reading _ =
+    λ j. both content (both storage (type_of j t) (field_encoding_of j t)) (children_of below j t) in
     both_right field (label_of t) (content_of below t) c (bind_left (kind_of t) of c h)
 
 in_typed :
-    (below : Below) (t : Table) (c : StreamFault) (k : TypeKind) → kind_of t ≡ Ok k → Stands (both storage (type_of k t) (coding_of k t)) c
+    (below : Below) (t : Table) (c : StreamFault) (k : TypeKind) → kind_of t ≡ Ok k
+    → Stands (both storage (type_of k t) (field_encoding_of k t)) c
     → Stands (field_of below t) c
 in_typed below t c k e h =
-    in_content below t c k e (both_left content (both storage (type_of k t) (coding_of k t)) (children_of below k t) c h)
+    in_content below t c k e
+    (both_left content (both storage (type_of k t) (field_encoding_of k t)) (children_of below k t) c h)
 
 in_vectors :
     (below : Below) (t : Table) (c : StreamFault) (k : TypeKind) → kind_of t ≡ Ok k → Stands (children_of below k t) c
     → Stands (field_of below t) c
 in_vectors below t c k e h =
-    in_content below t c k e (both_right content (both storage (type_of k t) (coding_of k t)) (children_of below k t) c h)
+    in_content below t c k e
+    (both_right content (both storage (type_of k t) (field_encoding_of k t)) (children_of below k t) c h)
 
 in_some :
     (below : Below) (t : Table) (c : StreamFault) (k : TypeKind) (v : Option Vector) → kind_of t ≡ Ok k
-    → vector_of t fbs.children ≡ Some v → Stands (both second (needs fault.BadType (may_have k (count_in v))) (fields_in below v)) c
+    → vector_of t fbs.children ≡ Some v
+    → Stands (both second (needs fault.BadType (may_have k (count_in v))) (fields_in below v)) c
     → Stands (field_of below t) c
 unfolding children_of
 in_some below t c k v e f h =
-    let of : Option Vector → Reading _ = λ u. both second (needs fault.BadType (may_have k (count_in u))) (fields_in below u) in
-    in_vectors below t c k e (bind_right (readable (vector_of t fbs.children)) of c v (readable_some (vector_of t fbs.children) v f) h)
+    let of : Option Vector → Reading _ =
+    λ u. both second (needs fault.BadType (may_have k (count_in u))) (fields_in below u) in
+    in_vectors below t c k e
+    (bind_right (readable (vector_of t fbs.children)) of c v (readable_some (vector_of t fbs.children) v f) h)
 
 field_stands : (below : Below) (t : Table) (c : StreamFault) → FaultOfField t c → Stands (field_of below t) c
 unfolding label_of children_of
 field_stands below t c (in_name h) = in_label below t c (both_left label (name_of t) (bool_of t fbs.nullable) c h)
 field_stands below t c (in_nullable h) = in_label below t c (both_right label (name_of t) (bool_of t fbs.nullable) c h)
 field_stands below t c (in_kind h) = in_unkind below t c h
-field_stands below t c (in_type k e h) = in_typed below t c k e (both_left storage (type_of k t) (coding_of k t) c h)
-field_stands below t c (in_dictionary k e h) = in_typed below t c k e (both_right storage (type_of k t) (coding_of k t) c h)
+field_stands below t c (in_type k e h) =
+    in_typed below t c k e (both_left storage (type_of k t) (field_encoding_of k t) c h)
+field_stands below t c (in_dictionary k e h) =
+    in_typed below t c k e (both_right storage (type_of k t) (field_encoding_of k t) c h)
 field_stands below t c (in_children k e h) =
-    let of : Option Vector → Reading _ = λ u. both second (needs fault.BadType (may_have k (count_in u))) (fields_in below u) in
+    let of : Option Vector → Reading _ =
+    λ u. both second (needs fault.BadType (may_have k (count_in u))) (fields_in below u) in
     in_vectors below t c k e (bind_left (readable (vector_of t fbs.children)) of c h)
 field_stands below t c (in_number k v e f m d) =
     in_some below t c k v e f
-    (both_left second (needs fault.BadType (may_have k (count_in v))) (fields_in below v) c (needs_stands fault.BadType (may_have k (count_in v)) c m d))
+    (both_left second (needs fault.BadType (may_have k (count_in v))) (fields_in below v) c
+    (needs_stands fault.BadType (may_have k (count_in v)) c m d))
 
-entry_stands : (below : Below) (o : Option Table) (c : StreamFault) → FaultOfEntry o c → Stands (readable o >>= field_of below) c
+entry_stands : (below : Below) (o : Option Table) (c : StreamFault) → FaultOfEntry o c
+    → Stands (readable o >>= field_of below) c
 entry_stands below None c h = h
 entry_stands below (Some t) c h = field_stands below t c h
 
@@ -265,7 +378,8 @@ child_stands below (Some t) c w e h =
     in_some below t c s.0 (Some w) s.1 s.2
     (both_right second (needs fault.BadType (may_have s.0 (count_in (Some w)))) (fields_in below (Some w)) c h)
 
-each_stands : {X : Type 0} (f : ℕ → Reading X) (i n k : ℕ) (c : StreamFault) → k < n → Stands (f (i + k)) c → Stands (each f i n) c
+each_stands : {X : Type 0} (f : ℕ → Reading X) (i n k : ℕ) (c : StreamFault) → k < n → Stands (f (i + k)) c
+    → Stands (each f i n) c
 unfolding each
 each_stands f i zero k c l h = absurd (omega arith)
 each_stands f i (suc n) zero c l h =
@@ -273,15 +387,18 @@ each_stands f i (suc n) zero c l h =
     both_left cons (f i) (each f (i + 1) n) c (subst (λ (m : ℕ). Stands (f m) c) j h)
 each_stands f i (suc n) (suc k) c l h =
     let j : i + suc k ≡ (i + 1) + k = omega arith in
-    both_right cons (f i) (each f (i + 1) n) c (each_stands f (i + 1) n k c (omega arith) (subst (λ (m : ℕ). Stands (f m) c) j h))
+    both_right cons (f i) (each f (i + 1) n) c
+    (each_stands f (i + 1) n k c (omega arith) (subst (λ (m : ℕ). Stands (f m) c) j h))
 
 at_stands :
-    (below : Below) (v : Vector) (n i : ℕ) (c : StreamFault) → i < n → Stands (readable (entry_of v i) >>= field_of below) c
+    (below : Below) (v : Vector) (n i : ℕ) (c : StreamFault) → i < n
+    → Stands (readable (entry_of v i) >>= field_of below) c
     → Stands (each (entry_by below v) 0 n) c
 unfolding entry_by
 at_stands below v n i c l h =
     let j : i ≡ 0 + i = omega arith in
-    each_stands (entry_by below v) 0 n i c l (subst (λ (m : ℕ). Stands (readable (entry_of v m) >>= field_of below) c) j h)
+    each_stands (entry_by below v) 0 n i c l
+    (subst (λ (m : ℕ). Stands (readable (entry_of v m) >>= field_of below) c) j h)
 
 path_stands :
     (p : List ℕ) (depth : ℕ) (v w : Vector) (i : ℕ) (c : StreamFault) → Leads p v w → length p < depth → i < w.count
@@ -293,7 +410,8 @@ path_stands [] (suc depth) v w i c l d n h =
     subst P l (λ m f. at_stands (forest depth) v v.count i c m (entry_stands (forest depth) (entry_of v i) c f)) n h
 path_stands (j ∷ p) (suc depth) v w i c l d n h =
     at_stands (forest depth) v v.count j c l.0
-    (child_stands (forest depth) (entry_of v j) c l.1.0 l.1.1 (path_stands p depth l.1.0 w i c l.1.2 (omega (arith, d)) n h))
+    (child_stands (forest depth) (entry_of v j) c l.1.0 l.1.1
+    (path_stands p depth l.1.0 w i c l.1.2 (omega (arith, d)) n h))
 
 if_stands : (n : ℕ) → 0 < n → Stands (no_fields (n == 0)) fault.TooManyFields
 if_stands n h = let e : (n == 0) ≡ false = grind (arith, nat_tests) in rw e refl
@@ -309,37 +427,48 @@ depth_stands [] (suc depth) v w l e n = absurd (omega arith)
 depth_stands (j ∷ p) zero v w l e n = absurd (omega arith)
 depth_stands (j ∷ p) (suc depth) v w l e n =
     at_stands (forest depth) v v.count j fault.TooManyFields l.0
-    (child_stands (forest depth) (entry_of v j) fault.TooManyFields l.1.0 l.1.1 (depth_stands p depth l.1.0 w l.1.2 (omega (arith, e)) n))
+    (child_stands (forest depth) (entry_of v j) fault.TooManyFields l.1.0 l.1.1
+    (depth_stands p depth l.1.0 w l.1.2 (omega (arith, e)) n))
 
-slim_stands : (fs : List (Rose Entry)) (c : StreamFault) → are_slim (layouts_of fs) ≡ false → fault.BadType ≡ c → Stands (judged fs) c
+within_slot_stands : (fs : List (Rose Entry)) (c : StreamFault) → are_within_slot (layouts_of fs) ≡ false
+    → fault.BadType ≡ c → Stands (judged fs) c
 unfolding judged
-slim_stands fs c wide e =
-    both_left second (slim_test fs) (clear_test fs) c (needs_stands fault.BadType (are_slim (layouts_of fs)) c wide e)
+within_slot_stands fs c wide e =
+    both_left second (slot_test fs) (clear_test fs) c
+    (needs_stands fault.BadType (are_within_slot (layouts_of fs)) c wide e)
 
-clash_stands : (fs : List (Rose Entry)) (c : StreamFault) → is_clear fs ≡ false → fault.DictionaryClash ≡ c → Stands (judged fs) c
+clash_stands : (fs : List (Rose Entry)) (c : StreamFault) → is_clear fs ≡ false → fault.DictionaryClash ≡ c
+    → Stands (judged fs) c
 unfolding judged
 clash_stands fs c unclear e =
-    both_right second (slim_test fs) (clear_test fs) c (checked_stands fault.DictionaryClash (is_clear fs) fs c unclear e)
+    both_right second (slot_test fs) (clear_test fs) c
+    (checked_stands fault.DictionaryClash (is_clear fs) fs c unclear e)
 
 in_forest : (v : Vector) (c : StreamFault) → Stands (forest max_depth v) c → Stands (columns_of v) c
 unfolding columns_of
 in_forest v c h =
-    both_right second (needs fault.TooManyFields (nat_le (total max_depth v) max_fields)) (forest max_depth v >>= judged) c (bind_left (forest max_depth v) judged c h)
+    both_right second (needs fault.TooManyFields (nat_le (total max_depth v) max_fields)) (forest max_depth v
+    >>= judged) c (bind_left (forest max_depth v) judged c h)
 
 columns_stands : (v : Vector) (c : StreamFault) → FaultOfColumns v c → Stands (columns_of v) c
 unfolding columns_of
-columns_stands v c (by_path s) = in_forest v c (path_stands s.path max_depth v s.end s.index c s.leads s.within s.inside s.fault_of)
+columns_stands v c (by_path s) =
+    in_forest v c (path_stands s.path max_depth v s.end s.index c s.leads s.within s.inside s.fault_of)
 columns_stands v c (by_depth s e) =
     let P : StreamFault → Type 0 = λ d. Stands (forest max_depth v) d in
     in_forest v c (subst P e (depth_stands s.path max_depth v s.end s.leads s.long s.some))
 columns_stands v c (by_count m e) =
-    both_left second (needs fault.TooManyFields (nat_le (total max_depth v) max_fields)) (forest max_depth v >>= judged) c
-    (needs_stands fault.TooManyFields (nat_le (total max_depth v) max_fields) c (not_above (total max_depth v) max_fields m) e)
+    both_left second (needs fault.TooManyFields (nat_le (total max_depth v) max_fields)) (forest max_depth v
+    >>= judged) c
+    (needs_stands fault.TooManyFields (nat_le (total max_depth v) max_fields) c
+    (not_above (total max_depth v) max_fields m) e)
 columns_stands v c (by_slot fs read wide e) =
-    both_right second (needs fault.TooManyFields (nat_le (total max_depth v) max_fields)) (forest max_depth v >>= judged) c
-    (bind_right (forest max_depth v) judged c fs read (slim_stands fs c wide e))
+    both_right second (needs fault.TooManyFields (nat_le (total max_depth v) max_fields)) (forest max_depth v
+    >>= judged) c
+    (bind_right (forest max_depth v) judged c fs read (within_slot_stands fs c wide e))
 columns_stands v c (by_clash fs read unclear e) =
-    both_right second (needs fault.TooManyFields (nat_le (total max_depth v) max_fields)) (forest max_depth v >>= judged) c
+    both_right second (needs fault.TooManyFields (nat_le (total max_depth v) max_fields)) (forest max_depth v
+    >>= judged) c
     (bind_right (forest max_depth v) judged c fs read (clash_stands fs c unclear e))
 
 pub stands_by_paths : (t : Table) (c : StreamFault) → FaultOfSchema t c → Stands (schema_of t) c
@@ -351,5 +480,6 @@ stands_by_paths t c (in_fields h) =
     (bind_left (readable (vector_of t fbs.fields)) (fields_in columns_of) c h)
 stands_by_paths t c (in_columns v e h) =
     both_right second (endianness_of t) (readable (vector_of t fbs.fields) >>= fields_in columns_of) c
-    (bind_right (readable (vector_of t fbs.fields)) (fields_in columns_of) c (Some v) (readable_some (vector_of t fbs.fields) (Some v) e)
+    (bind_right (readable (vector_of t fbs.fields)) (fields_in columns_of) c (Some v)
+    (readable_some (vector_of t fbs.fields) (Some v) e)
     (columns_stands v c h))

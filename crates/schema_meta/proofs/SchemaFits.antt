@@ -1,10 +1,23 @@
 -- Each schema within the limits has a tree that can be written.
 use Rattle.std.proofs.Common.{ℕ, ◌+◌, ◌-◌, ◌*◌, ◌^◌, ◌<◌, ◌≤◌, List, length, arith}
 use Rattle.flatbuf.specs.Tree.{number, table, Nodes, count}
-use Rattle.flatbuf.specs.Written.{up, items_place, items_end, object_end, objects_end, table_end, table_place, vtable_len, Fits, FitAll, AreReferences, IsWritable}
+use Rattle.flatbuf.specs.Written.{
+  up,
+  items_place,
+  items_end,
+  object_end,
+  objects_end,
+  table_end,
+  table_place,
+  vtable_len,
+  Fits,
+  FitAll,
+  AreReferences,
+  IsWritable,
+}
 use Rattle.values.specs.Limits.{max_metadata_size}
 use Rattle.values.specs.Rose.{Rose, node, Roses, none, more, kids_of, rose_size, roses_size}
-use Rattle.values.specs.Logical.{LogicalField}
+use Rattle.values.specs.Logical.{NamedType}
 use Rattle.field_types.specs.TypeTree.{type_slots}
 use Rattle.field_types.proofs.TypeSizes.{type-fits, type-is-short}
 use Rattle.schema_meta.specs.declared.header.MessageKind.TheVariants as kind
@@ -27,12 +40,12 @@ table_place-le at s =
 pub number-fits : (w n : ℕ) → 1 ≤ w → w ≤ 8 → n < 256 ^ w → Fits (number w n)
 number-fits w n low high fits = (low, high, fits)
 
-fields-refer : (fs : Roses LogicalField) → AreReferences (field_tables fs)
+fields-refer : (fs : Roses NamedType) → AreReferences (field_tables fs)
 fields-refer none = tt
 fields-refer (more f fs) = (tt, fields-refer fs)
 
 mutual
-  field-fits : (f : Rose LogicalField) → IsWithin f → Fits (table (field_slots f))
+  field-fits : (f : Rose NamedType) → IsWithin f → Fits (table (field_slots f))
   field-fits (node f kids) h =
       let typed = type-fits f.col_type h.1 in (
         omega arith,
@@ -46,13 +59,14 @@ mutual
         ),
       )
 
-  fields-fit : (fs : Roses LogicalField) → AreWithin fs → FitAll (field_tables fs)
+  fields-fit : (fs : Roses NamedType) → AreWithin fs → FitAll (field_tables fs)
   fields-fit none h = tt
   fields-fit (more f fs) h = (field-fits f h.0, fields-fit fs h.1)
 
 -- A field takes at most these bytes, with those below it and the reference to it.
 mutual
-  field-end : (at : ℕ) (f : Rose LogicalField) → IsWithin f → object_end at (table (field_slots f)) + 4 ≤ at + 8317 * rose_size f
+  field-end : (at : ℕ) (f : Rose NamedType) → IsWithin f
+      → object_end at (table (field_slots f)) + 4 ≤ at + 8317 * rose_size f
   field-end at (node f kids) h =
       let short = h.0 in
       let place = table_place-le at (field_slots (node f kids)) in
@@ -66,7 +80,7 @@ mutual
       omega (arith, short, place, name_at, type, items, below)
 
   fields-end :
-      (at : ℕ) (fs : Roses LogicalField) → AreWithin fs
+      (at : ℕ) (fs : Roses NamedType) → AreWithin fs
       → objects_end at (field_tables fs) + 4 * count (field_tables fs) ≤ at + 8317 * roses_size fs
   fields-end at none h = omega arith
   fields-end at (more f fs) h =
@@ -75,7 +89,7 @@ mutual
       omega (arith, here, there)
 
 pub schema-end :
-    (fs : List (Rose LogicalField)) → AreColumns fs
+    (fs : List (Rose NamedType)) → AreColumns fs
     → object_end 4 (table (message_slots kind.Schema (schema_slots (kids_of fs)) 0)) < max_metadata_size - 8
 schema-end fs h =
     let first : ℕ = table_end 4 (message_slots kind.Schema (schema_slots (kids_of fs)) 0) in
@@ -87,12 +101,29 @@ schema-end fs h =
     let below = fields-end (items_end header (field_tables (kids_of fs))) (kids_of fs) h.within in
     omega (arith, begin, place, items, few, below)
 
-pub schema-writable : (fs : List (Rose LogicalField)) → AreColumns fs → IsWritable (message_slots kind.Schema (schema_slots (kids_of fs)) 0)
+pub schema-writable : (fs : List (Rose NamedType)) → AreColumns fs
+    → IsWritable (message_slots kind.Schema (schema_slots (kids_of fs)) 0)
 schema-writable fs h =
-    let fits : Fits (table (schema_slots (kids_of fs))) =
-    (omega arith, omega arith, (number-fits 2 0 (omega arith) (omega arith) (omega arith), ((fields-fit (kids_of fs) h.within, fields-refer (kids_of fs)), tt))) in
+    let fits : Fits (table (schema_slots (kids_of fs))) = (
+      omega arith,
+      omega arith,
+      (
+        number-fits 2 0 (omega arith) (omega arith) (omega arith),
+        ((fields-fit (kids_of fs) h.within, fields-refer (kids_of fs)), tt),
+      ),
+    ) in
     let end = schema-end fs h in
     record {
-      fits = (omega arith, omega arith, (number-fits 2 4 (omega arith) (omega arith) (omega arith), (number-fits 1 1 (omega arith) (omega arith) (omega arith), (fits, (number-fits 8 0 (omega arith) (omega arith) (omega arith), tt)))));
+      fits = (
+        omega arith,
+        omega arith,
+        (
+          number-fits 2 4 (omega arith) (omega arith) (omega arith),
+          (
+            number-fits 1 1 (omega arith) (omega arith) (omega arith),
+            (fits, (number-fits 8 0 (omega arith) (omega arith) (omega arith), tt)),
+          ),
+        ),
+      );
       short = omega (arith, end);
     }

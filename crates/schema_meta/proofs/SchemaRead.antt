@@ -1,5 +1,27 @@
 -- The Schema message that is written is read as its schema.
-use Rattle.std.proofs.Common.{◌≡◌, ℕ, ◌+◌, ◌-◌, ◌^◌, ◌<◌, ◌≤◌, ◌∙◌, true, List, [], ◌∷◌, Option, Some, None, Ok, refl, ap, subst, sym, arith}
+use Rattle.std.proofs.Common.{
+  ◌≡◌,
+  ℕ,
+  ◌+◌,
+  ◌-◌,
+  ◌^◌,
+  ◌<◌,
+  ◌≤◌,
+  ◌∙◌,
+  true,
+  List,
+  [],
+  ◌∷◌,
+  Option,
+  Some,
+  None,
+  Ok,
+  refl,
+  ap,
+  subst,
+  sym,
+  arith,
+}
 use Rattle.std.specs.Prelude.{nat_eq, map}
 use Rattle.std.specs.Int.{w16, w64}
 use Rattle.std.proofs.lemmas.Bool.{le-leb, eq-eqb}
@@ -10,11 +32,11 @@ use Rattle.flatbuf.specs.Layout.{Table, Vector, table_in, slot_of, subtable_of}
 use Rattle.flatbuf.specs.Written.{whole, IsWritable}
 use Rattle.flatbuf.specs.Held.{element_place, NodeHeld, Held, RootHeld}
 use Rattle.flatbuf.proofs.ReadsBack.{layout-law}
-use Rattle.flatbuf.proofs.Words.{number-read, signed-read, subtable-read, vector-read}
+use Rattle.flatbuf.proofs.ReaderAnswers.{number-read, signed-read, subtable-read, vector-read}
 use Rattle.values.specs.Limits.{max_body_size, max_fields, max_depth}
 use Rattle.values.specs.Rose.{Rose, node, Roses, none, more, kids_of, roses_size}
 use Rattle.values.specs.declared.layout.Layout.{Layout}
-use Rattle.values.specs.Logical.{LogicalField, AreLogicalColumns, logical_column}
+use Rattle.values.specs.Logical.{NamedType, AreLogicalColumns, logical_column}
 use Rattle.values.specs.contracts.col_type.ColTypePartialEq.TheImpl as types
 use Rattle.values.specs.declared.col_type.ColType.{ColType}
 use Rattle.values.specs.declared.col_type.ColType.TheVariants as stored
@@ -25,13 +47,31 @@ use Rattle.schema_meta.specs.declared.header.MessageKind.TheVariants as kind
 use Rattle.field_types.specs.Reads.{short_of}
 use Rattle.field_types.specs.SchemaFbs as schema_fbs
 use Rattle.schema_meta.specs.MessageFbs as message_fbs
-use Rattle.schema_meta.specs.FieldLayouts.{are_slim}
+use Rattle.schema_meta.specs.FieldLayouts.{are_within_slot}
 use Rattle.schema_meta.specs.Schema.{endianness_of, columns_of, schema_of}
 use Rattle.schema_meta.specs.Stage.{Known, Meta}
-use Rattle.schema_meta.specs.Message.{version_of, kind_of, header_table, body_of, expected, new_schema, header_of, meta_of, brings_schema}
+use Rattle.schema_meta.specs.Message.{
+  version_of,
+  kind_of,
+  header_table,
+  body_of,
+  expected,
+  new_schema,
+  header_of,
+  meta_of,
+  brings_schema,
+}
 use Rattle.schema_meta.specs.MessageTree.{header_number, message_slots}
 use Rattle.schema_meta.specs.SchemaTree.{field_tables, schema_slots, schema_metadata, AreColumns}
-use Rattle.schema_meta.specs.SchemaLaw.{stored_field, stored_fields, AreNamed, before, AreExpected, SchemaLaw, ColumnsLaw}
+use Rattle.schema_meta.specs.SchemaLaw.{
+  stored_field,
+  stored_fields,
+  AreNamed,
+  before,
+  AreExpected,
+  SchemaLaw,
+  ColumnsLaw,
+}
 use Rattle.schema_meta.specs.Logical.{logical_field}
 use Rattle.schema_meta.specs.SameColumns.{are_same, is_declared}
 use Rattle.schema_meta.specs.Totals.{total}
@@ -42,29 +82,34 @@ use Rattle.schema_meta.proofs.Plain.{plain-clear}
 use Rattle.schema_meta.proofs.FieldRead.{forest-read, total-read}
 use Rattle.schema_meta.proofs.Logicals.{named-stored}
 
-sound-columns : (fs : List (Rose LogicalField)) → AreColumns fs → AreNamed fs → Sound max_depth stored.Struct (kids_of fs)
+sound-columns : (fs : List (Rose NamedType)) → AreColumns fs → AreNamed fs → Sound max_depth stored.Struct (kids_of fs)
 sound-columns fs columns named =
     record { within = columns.within; logical = named.logical; layouts = named.layouts; shallow = named.shallow }
 
 columns-read :
-    (v : Vector) (fs : List (Rose LogicalField)) → v.count ≡ count (field_tables (kids_of fs)) → AreColumns fs → AreNamed fs
+    (v : Vector) (fs : List (Rose NamedType)) → v.count ≡ count (field_tables (kids_of fs)) → AreColumns fs
+    → AreNamed fs
     → Held v.bytes (element_place v.start) 0 (field_tables (kids_of fs)) → columns_of v ≡ Ok (stored_fields fs)
 columns-read v fs e columns named h =
     let sound = sound-columns fs columns named in
     let counted = e ∙ tables-count (kids_of fs) in
     let counts = total-read max_depth stored.Struct (kids_of fs) sound v counted h in
-    let read = forest-read max_depth stored.Struct (kids_of fs) sound v counted h ∙ ap (λ es. Ok es) (entries-fields fs) in
+    let read = forest-read max_depth stored.Struct (kids_of fs) sound v counted h
+    ∙ ap (λ es. Ok es) (entries-fields fs) in
     let few = columns.few in
     let left : max_fields - roses_size (kids_of fs) + total max_depth v ≡ max_fields = omega (arith, few, counts) in
-    let P : Roses Layout → Type 0 = λ ls. are_slim ls ≡ true in
-    all_read v (stored_fields fs) (max_fields - roses_size (kids_of fs)) left read (subst P (sym (layouts-read fs)) named.slim) (plain-clear fs)
+    let P : Roses Layout → Type 0 = λ ls. are_within_slot ls ≡ true in
+    all_read v (stored_fields fs) (max_fields - roses_size (kids_of fs)) left read
+    (subst P (sym (layouts-read fs)) named.within_slot) (plain-clear fs)
 
-endianness-read : (t : Table) → NodeHeld t.bytes (slot_of t schema_fbs.endianness) (number 2 schema_fbs.little_endian) → endianness_of t ≡ Ok tt
+endianness-read : (t : Table) → NodeHeld t.bytes (slot_of t schema_fbs.endianness) (number 2 schema_fbs.little_endian)
+    → endianness_of t ≡ Ok tt
 unfolding endianness_of short_of
 endianness-read t h = rw (signed-read w16 schema_fbs.little_endian t schema_fbs.endianness h) refl
 
 pub schema-read :
-    (t : Table) (fs : List (Rose LogicalField)) → AreColumns fs → AreNamed fs → Held t.bytes (slot_of t) 0 (schema_slots (kids_of fs))
+    (t : Table) (fs : List (Rose NamedType)) → AreColumns fs → AreNamed fs
+    → Held t.bytes (slot_of t) 0 (schema_slots (kids_of fs))
     → schema_of t ≡ Ok (stored_fields fs)
 unfolding schema_of
 schema-read t fs columns named h =
@@ -73,17 +118,20 @@ schema-read t fs columns named h =
     let read : columns_of v ≡ Ok (stored_fields fs) = columns-read v fs refl columns named r.elements in
     rw (endianness-read t h.0, r.is, read) refl
 
-version-read : (t : Table) → NodeHeld t.bytes (slot_of t message_fbs.version) (number 2 schema_fbs.v5) → version_of t ≡ Ok tt
+version-read : (t : Table) → NodeHeld t.bytes (slot_of t message_fbs.version) (number 2 schema_fbs.v5)
+    → version_of t ≡ Ok tt
 unfolding version_of short_of
 version-read t h = rw (signed-read w16 schema_fbs.v5 t message_fbs.version h) refl
 
-kind-read : (t : Table) (k : MessageKind) → NodeHeld t.bytes (slot_of t message_fbs.header_kind) (number 1 (header_number k)) → kind_of t ≡ Ok k
+kind-read : (t : Table) (k : MessageKind)
+    → NodeHeld t.bytes (slot_of t message_fbs.header_kind) (number 1 (header_number k)) → kind_of t ≡ Ok k
 unfolding kind_of
 kind-read t kind.Schema h = rw (number-read 1 message_fbs.header_schema t message_fbs.header_kind h) refl
 kind-read t kind.Dictionary h = rw (number-read 1 message_fbs.header_dictionary_batch t message_fbs.header_kind h) refl
 kind-read t kind.Batch h = rw (number-read 1 message_fbs.header_record_batch t message_fbs.header_kind h) refl
 
-body-read : (t : Table) (n : ℕ) → n ≤ max_body_size → NodeHeld t.bytes (slot_of t message_fbs.body_length) (number 8 n) → body_of t ≡ Ok n
+body-read : (t : Table) (n : ℕ) → n ≤ max_body_size → NodeHeld t.bytes (slot_of t message_fbs.body_length) (number 8 n)
+    → body_of t ≡ Ok n
 unfolding body_of
 body-read t n le h =
     let small : n < 2 ^ 63 = omega arith in
@@ -94,22 +142,28 @@ unfolding header_table
 header-read t h e = rw e refl
 
 -- What the header means under its kind is what the metadata means.
-meta-held : (known : Known) (b : List ℕ) (k : MessageKind) (header : Nodes) (body : ℕ) (m : Meta) → body ≤ max_body_size → RootHeld b (message_slots k header body) →
-    ((t h : Table) → header_table t ≡ Ok h → Held h.bytes (slot_of h) 0 header → ((i : ℕ) → count header ≤ i → slot_of h i ≡ Some None) → header_of known t k body ≡ Ok m) →
-    meta_of known b ≡ Ok m
+meta-held : (known : Known) (b : List ℕ) (k : MessageKind) (header : Nodes) (body : ℕ) (m : Meta) → body ≤ max_body_size
+    → RootHeld b (message_slots k header body)
+    → ((t h : Table) → header_table t ≡ Ok h → Held h.bytes (slot_of h) 0 header
+    → ((i : ℕ) → count header ≤ i → slot_of h i ≡ Some None) → header_of known t k body ≡ Ok m)
+    → meta_of known b ≡ Ok m
 unfolding meta_of
 meta-held known b k header body m le r means =
     let t : Table = table_in b r.place in
     let held = r.held in
     let h = subtable-read header t message_fbs.header held.1.1.0 in
-    let meant : header_of known t k body ≡ Ok m = means t (table_in b h.place) (header-read t (table_in b h.place) h.is) h.slots h.beyond in
+    let meant : header_of known t k body ≡ Ok m =
+    means t (table_in b h.place) (header-read t (table_in b h.place) h.is) h.slots h.beyond in
     rw (r.found, kind-read t k held.1.0, version-read t held.0, body-read t body le held.1.1.1.0, meant) refl
 
-pub meta-read : (known : Known) (k : MessageKind) (header : Nodes) (body : ℕ) (m : Meta) → body ≤ max_body_size → IsWritable (message_slots k header body) →
-    ((t h : Table) → header_table t ≡ Ok h → Held h.bytes (slot_of h) 0 header → ((i : ℕ) → count header ≤ i → slot_of h i ≡ Some None) → header_of known t k body ≡ Ok m) →
-    meta_of known (whole (message_slots k header body)) ≡ Ok m
+pub meta-read : (known : Known) (k : MessageKind) (header : Nodes) (body : ℕ) (m : Meta) → body ≤ max_body_size
+    → IsWritable (message_slots k header body)
+    → ((t h : Table) → header_table t ≡ Ok h → Held h.bytes (slot_of h) 0 header
+    → ((i : ℕ) → count header ≤ i → slot_of h i ≡ Some None) → header_of known t k body ≡ Ok m)
+    → meta_of known (whole (message_slots k header body)) ≡ Ok m
 meta-read known k header body m le fits means =
-    meta-held known (whole (message_slots k header body)) k header body m le (layout-law (message_slots k header body) fits) means
+    meta-held known (whole (message_slots k header body)) k header body m le
+    (layout-law (message_slots k header body) fits) means
 
 same-bytes : (xs : List ℕ) → pointwise nat_eq xs xs ≡ true
 same-bytes [] = refl
@@ -118,11 +172,11 @@ same-bytes (x ∷ xs) = rw (eq-eqb x x refl, same-bytes xs) refl
 same-type : (s : ColType) → types.ghosts.eq s s ≡ true
 same-type s = (types-exact s s).1 refl
 
-same-all : (fs : Roses LogicalField) → are_same fs fs ≡ true
+same-all : (fs : Roses NamedType) → are_same fs fs ≡ true
 same-all none = refl
 same-all (more (node f kids) fs) = rw (same-bytes f.name, same-type f.col_type, same-all kids, same-all fs) refl
 
-logical-all : (fs : List (Rose LogicalField)) → AreLogicalColumns fs → map logical_field (stored_fields fs) ≡ fs
+logical-all : (fs : List (Rose NamedType)) → AreLogicalColumns fs → map logical_field (stored_fields fs) ≡ fs
 logical-all [] h = refl
 logical-all (f ∷ fs) h =
     let here : logical_field (stored_field f) ≡ f = ap logical_column (named-stored f) ∙ is-same stored.Struct f h.0 in
@@ -131,20 +185,21 @@ logical-all (f ∷ fs) h =
 pub columns-law : ColumnsLaw
 columns-law fs named = logical-all fs named.logical
 
-declared-same : (fs : List (Rose LogicalField)) → AreNamed fs → is_declared fs (stored_fields fs) ≡ true
+declared-same : (fs : List (Rose NamedType)) → AreNamed fs → is_declared fs (stored_fields fs) ≡ true
 unfolding is_declared
 declared-same fs named =
-    let P : Roses LogicalField → Type 0 = λ gs. are_same (kids_of fs) gs ≡ true in
+    let P : Roses NamedType → Type 0 = λ gs. are_same (kids_of fs) gs ≡ true in
     subst P (sym (ap kids_of (columns-law fs named))) (same-all (kids_of fs))
 
 expected-read :
-    (declared : Option (List (Rose LogicalField))) (fs : List (Rose LogicalField)) → AreNamed fs → AreExpected declared fs
+    (declared : Option (List (Rose NamedType))) (fs : List (Rose NamedType)) → AreNamed fs → AreExpected declared fs
     → expected declared (stored_fields fs) ≡ Ok (stored_fields fs)
 expected-read None fs named h = refl
 expected-read (Some columns) fs named h = rw (h, declared-same fs named) refl
 
 header-means :
-    (declared : Option (List (Rose LogicalField))) (t h : Table) (fs : List (Rose LogicalField)) → AreNamed fs → header_table t ≡ Ok h
+    (declared : Option (List (Rose NamedType))) (t h : Table) (fs : List (Rose NamedType)) → AreNamed fs
+    → header_table t ≡ Ok h
     → schema_of h ≡ Ok (stored_fields fs) → AreExpected declared fs
     → header_of (before declared) t kind.Schema 0 ≡ Ok (brings_schema 0 (stored_fields fs))
 unfolding header_of new_schema
@@ -153,7 +208,8 @@ header-means declared t h fs named found read same = rw (found, read, expected-r
 pub schema-law : SchemaLaw
 unfolding schema_metadata
 schema-law declared fs columns named same =
-    meta-read (before declared) kind.Schema (schema_slots (kids_of fs)) 0 (brings_schema 0 (stored_fields fs)) (omega arith) (schema-writable fs columns)
+    meta-read (before declared) kind.Schema (schema_slots (kids_of fs)) 0 (brings_schema 0 (stored_fields fs))
+    (omega arith) (schema-writable fs columns)
     (λ t h found held beyond. header-means declared t h fs named found (schema-read h fs columns named held) same)
 
 pub ruleset schema_laws = (schema-law, columns-law)

@@ -1,5 +1,33 @@
 -- Bits that are compared without a sign are compared as signed numbers, none of them negative.
-use Rattle.std.proofs.Common.{◌≡◌, ◌⊎◌, inl, inr, ℕ, zero, suc, ◌+◌, ◌*◌, ◌-◌, ◌^◌, ◌<◌, ◌≤◌, Bool, true, false, List, Ok, Err, length, drop, refl, ap, sym, subst, ◌∙◌, arith}
+use Rattle.std.proofs.Common.{
+  ◌≡◌,
+  ◌⊎◌,
+  inl,
+  inr,
+  ℕ,
+  zero,
+  suc,
+  ◌+◌,
+  ◌*◌,
+  ◌-◌,
+  ◌^◌,
+  ◌<◌,
+  ◌≤◌,
+  Bool,
+  true,
+  false,
+  List,
+  Ok,
+  Err,
+  length,
+  drop,
+  refl,
+  ap,
+  sym,
+  subst,
+  ◌∙◌,
+  arith,
+}
 use Rattle.std.specs.Prelude.{ℤ, pos, negsuc, ◌≤ℤ◌, ◌+ℤ◌, ◌-ℤ◌, ◌↔◌, ◌&&◌, if◌then◌else◌, nat_lt, nat_le, slice_index}
 use Rattle.std.specs.Int.{w32, w64, cast_signed}
 use Rattle.std.proofs.Math.Facts.{to_z-neg}
@@ -13,10 +41,21 @@ use Rattle.values.specs.Layouts.{offset_bytes}
 use Rattle.values.specs.declared.faults.StreamFault.TheVariants as fault
 use Rattle.values.specs.declared.layout.OffsetWidth.{OffsetWidth}
 use Rattle.values.specs.declared.layout.OffsetWidth.TheVariants as offset
-use Rattle.array_layout.specs.Buffers.{word_at, number_at, offset_at, is_rising}
+use Rattle.array_layout.specs.Buffers.{unsigned_at, number_at, offset_at, is_rising}
 use Rattle.array_layout.specs.Sound.{offsets_of}
-use Rattle.array_layout.proofs.Rising.{is_rising-step, is_rising-last}
-use Rattle.schema_meta.specs.SignLaw.{SignedArrays, SignedBound, SignedFloor, SignedLargeOffsets, SignedLength, SignedOffsets, SignedRange, SignedSize, AreOffsets, signed_offset}
+use Rattle.array_layout.proofs.OffsetLemmas.{is_rising-step, is_rising-last}
+use Rattle.schema_meta.specs.SignLaw.{
+  SignedArrays,
+  SignedBound,
+  SignedFloor,
+  SignedLargeOffsets,
+  SignedLength,
+  SignedOffsets,
+  SignedRange,
+  SignedSize,
+  AreOffsets,
+  signed_offset,
+}
 
 -- the number z that the bits n are: n itself in the lower half, negative in the upper one
 abbrev IsRead : ℕ → ℕ → ℤ → Type 0
@@ -47,7 +86,8 @@ read32 n small = by (cases_lt n (2 ^ 31))
 length-by : (n rows : ℕ) (z : ℤ) → rows < 2 ^ 63 → IsRead (2 ^ 63) n z → (n ≡ rows) ↔ (z ≡ pos rows)
 length-by n rows z few (inl s) = let is = s.1 in (λ e. is ∙ ap pos e, λ e. omega (arith, ints, is, e))
 length-by n rows z few (inr s) =
-    let high = s.0 in let is = s.2 in (λ e. absurd (omega (arith, high, few, e)), λ e. absurd (omega (arith, ints, is, e)))
+    let high = s.0 in let is = s.2 in
+    (λ e. absurd (omega (arith, high, few, e)), λ e. absurd (omega (arith, ints, is, e)))
 
 range-by : (from len body : ℕ) (a b : ℤ) → body < 2 ^ 63 → IsRead (2 ^ 63) from a → IsRead (2 ^ 63) len b →
     (from + len ≤ body) ↔ ((pos 0 ≤ℤ a) × (pos 0 ≤ℤ b) × ((a +ℤ b) ≤ℤ pos body))
@@ -72,7 +112,8 @@ offsets-by half m n limit a b (inl s) (inl t) =
     let p = s.1 in
     let low = t.0 in
     let q = t.1 in (
-      λ h. let rise = h.0 in let within = h.2 in (omega (arith, ints, p), omega (arith, ints, p, q, rise), omega (arith, ints, q, within)),
+      λ h. let rise = h.0 in let within = h.2 in
+          (omega (arith, ints, p), omega (arith, ints, p, q, rise), omega (arith, ints, q, within)),
       λ h. let rise = h.1 in let within = h.2 in (omega (arith, ints, p, q, rise), low, omega (arith, ints, q, within)),
     )
 offsets-by half m n limit a b (inl s) (inr t) =
@@ -91,7 +132,11 @@ offsets-by half m n limit a b (inr s) t =
 
 size-by : (half n most : ℕ) (z : ℤ) → most < half → IsRead half n z → (n ≤ most) ↔ ((pos 0 ≤ℤ z) × (z ≤ℤ pos most))
 size-by half n most z few (inl s) =
-    let is = s.1 in (λ h. (omega (arith, ints, is), omega (arith, ints, is, h)), λ h. let within = h.1 in omega (arith, ints, is, within))
+    let is = s.1 in (
+      λ h. (omega (arith, ints, is), omega (arith, ints, is, h)),
+      λ h. let within = h.1 in
+          omega (arith, ints, is, within),
+    )
 size-by half n most z few (inr s) =
     let high = s.0 in
     let is = s.2 in
@@ -150,22 +195,24 @@ read-number w x small = by (cases_lt x (2 ^ (8 * w - 1)))
         let sum : x + suc k ≡ 2 ^ (8 * w) = omega (arith, small) in
         inr (high, k, read-high w x k sum high)
 
-bytes-left : (offsets : List ℕ) (n : ℕ) → ((k : ℕ) → slice_index offsets k < 256) → (k : ℕ) → slice_index (drop n offsets) k < 256
+bytes-left : (offsets : List ℕ) (n : ℕ) → ((k : ℕ) → slice_index offsets k < 256) → (k : ℕ)
+    → slice_index (drop n offsets) k < 256
 bytes-left offsets n bytes k =
     let there : slice_index (drop n offsets) k ≡ slice_index offsets (n + k) = get_or-drop n offsets k 0 in
     let small : slice_index offsets (n + k) < 256 = bytes (n + k) in
     omega (arith, there, small)
 
-word-small : (w : ℕ) (offsets : List ℕ) (i : ℕ) → ((k : ℕ) → slice_index offsets k < 256) → word_at w offsets i < 256 ^ w
-unfolding word_at
-word-small w offsets i bytes = little_from-lt 0 w (drop (w * i) offsets) (bytes-left offsets (w * i) bytes)
+unsigned-small : (w : ℕ) (offsets : List ℕ) (i : ℕ) → ((k : ℕ) → slice_index offsets k < 256)
+    → unsigned_at w offsets i < 256 ^ w
+unfolding unsigned_at
+unsigned-small w offsets i bytes = little_from-lt 0 w (drop (w * i) offsets) (bytes-left offsets (w * i) bytes)
 
 offset-read :
     (o : OffsetWidth) (offsets : List ℕ) (i : ℕ) → ((k : ℕ) → slice_index offsets k < 256)
     → IsRead (half-of o) (offset_at o offsets i) (signed_offset o offsets i)
 unfolding offset_at number_at half-of
-offset-read offset.Bits32 offsets i bytes = read-number 4 (word_at 4 offsets i) (word-small 4 offsets i bytes)
-offset-read offset.Bits64 offsets i bytes = read-number 8 (word_at 8 offsets i) (word-small 8 offsets i bytes)
+offset-read offset.Bits32 offsets i bytes = read-number 4 (unsigned_at 4 offsets i) (unsigned-small 4 offsets i bytes)
+offset-read offset.Bits64 offsets i bytes = read-number 8 (unsigned_at 8 offsets i) (unsigned-small 8 offsets i bytes)
 
 low-is : (half n : ℕ) (z : ℤ) → IsRead half n z → n < half → z ≡ pos n
 low-is half n z (inl s) low = s.1
@@ -176,13 +223,15 @@ positive-is half n z (inl s) sign = s
 positive-is half n z (inr s) sign = let is = s.2 in absurd (omega (arith, ints, is, sign))
 
 all-rise :
-    (o : OffsetWidth) (offsets : List ℕ) (n : ℕ) → ((i : ℕ) → i < n → offset_at o offsets i ≤ offset_at o offsets (i + 1))
+    (o : OffsetWidth) (offsets : List ℕ) (n : ℕ)
+    → ((i : ℕ) → i < n → offset_at o offsets i ≤ offset_at o offsets (i + 1))
     → is_rising o offsets n ≡ true
 unfolding is_rising
 all-rise o offsets zero rise = refl
 all-rise o offsets (suc n) rise =
     let before : is_rising o offsets n ≡ true = all-rise o offsets n (λ i h. rise i (omega (arith, h))) in
-    let last : nat_le (offset_at o offsets n) (offset_at o offsets (n + 1)) ≡ true = le-leb _ _ (rise n (omega arith)) in
+    let last : nat_le (offset_at o offsets n) (offset_at o offsets (n + 1)) ≡ true =
+    le-leb _ _ (rise n (omega arith)) in
     rw (before, last) refl
 
 -- the tests of the definition, together
@@ -191,11 +240,14 @@ is-such o offsets n limit =
     is_rising o offsets n && (nat_lt (offset_at o offsets n) (half-of o) && nat_le (offset_at o offsets n) limit)
 
 such-are :
-    (o : OffsetWidth) (offsets : List ℕ) (n limit : ℕ) → ((k : ℕ) → slice_index offsets k < 256) → is-such o offsets n limit ≡ true
+    (o : OffsetWidth) (offsets : List ℕ) (n limit : ℕ) → ((k : ℕ) → slice_index offsets k < 256)
+    → is-such o offsets n limit ≡ true
     → AreOffsets o offsets n limit
 unfolding is-such
 such-are o offsets n limit bytes such =
-    let tests = and_parts (is_rising o offsets n) (nat_lt (offset_at o offsets n) (half-of o) && nat_le (offset_at o offsets n) limit) such in
+    let tests =
+    and_parts (is_rising o offsets n) (nat_lt (offset_at o offsets n) (half-of o)
+    && nat_le (offset_at o offsets n) limit) such in
     let ends = and_parts (nat_lt (offset_at o offsets n) (half-of o)) (nat_le (offset_at o offsets n) limit) tests.1 in
     let rises : is_rising o offsets n ≡ true = tests.0 in
     let low : offset_at o offsets n < half-of o = ltb-true _ _ ends.0 in
@@ -203,7 +255,8 @@ such-are o offsets n limit bytes such =
     let named : (i : ℕ) → i ≤ n → signed_offset o offsets i ≡ pos (offset_at o offsets i) =
     λ i h.
     let most : offset_at o offsets i ≤ offset_at o offsets n = is_rising-last o offsets n i rises h in
-    low-is (half-of o) (offset_at o offsets i) (signed_offset o offsets i) (offset-read o offsets i bytes) (omega (arith, most, low)) in
+    low-is (half-of o) (offset_at o offsets i) (signed_offset o offsets i) (offset-read o offsets i bytes)
+    (omega (arith, most, low)) in
     record {
       positive = λ i h. let is = named i h in omega (arith, ints, is);
       rising = λ i h.
@@ -218,12 +271,15 @@ such-are o offsets n limit bytes such =
     }
 
 are-such :
-    (o : OffsetWidth) (offsets : List ℕ) (n limit : ℕ) → ((k : ℕ) → slice_index offsets k < 256) → AreOffsets o offsets n limit
+    (o : OffsetWidth) (offsets : List ℕ) (n limit : ℕ) → ((k : ℕ) → slice_index offsets k < 256)
+    → AreOffsets o offsets n limit
     → is-such o offsets n limit ≡ true
 unfolding is-such
 are-such o offsets n limit bytes are =
-    let named : (i : ℕ) → i ≤ n → (offset_at o offsets i < half-of o) × (signed_offset o offsets i ≡ pos (offset_at o offsets i)) =
-    λ i h. positive-is (half-of o) (offset_at o offsets i) (signed_offset o offsets i) (offset-read o offsets i bytes) (are.positive i h) in
+    let named : (i : ℕ) → i ≤ n → (offset_at o offsets i < half-of o)
+    × (signed_offset o offsets i ≡ pos (offset_at o offsets i)) =
+    λ i h. positive-is (half-of o) (offset_at o offsets i) (signed_offset o offsets i) (offset-read o offsets i bytes)
+    (are.positive i h) in
     let rises : is_rising o offsets n ≡ true =
     all-rise o offsets n
     (λ i h.
@@ -253,12 +309,15 @@ Says m are = ((m ≡ Ok tt) ↔ are) × (Stands m fault.Offsets ↔ ¬ are)
 judged-says : (such : Bool) (are : Type 0) → (such ≡ true → are) → (are → such ≡ true) → Says (judged such) are
 unfolding judged Says
 judged-says true are to from = ((λ e. to refl, λ a. refl), (λ stands. absurd stands, λ never. absurd (never (to refl))))
-judged-says false are to from =
-    ((λ e. absurd (cc), λ a. let never : false ≡ true = from a in absurd (cc)), (λ stands a. let never : false ≡ true = from a in absurd (cc), λ never. refl))
+judged-says false are to from = (
+  (λ e. absurd (cc), λ a. let never : false ≡ true = from a in absurd (cc)),
+  (λ stands a. let never : false ≡ true = from a in absurd (cc), λ never. refl),
+)
 
 pub signed-arrays : SignedArrays
 unfolding Says
 signed-arrays o offsets n limit bytes some room =
     let P : Reading (Unit {0}) → Type 0 = λ m. Says m (AreOffsets o offsets n limit) in
     subst P (sym (offsets-judged o offsets n limit some room))
-    (judged-says (is-such o offsets n limit) (AreOffsets o offsets n limit) (such-are o offsets n limit bytes) (are-such o offsets n limit bytes))
+    (judged-says (is-such o offsets n limit) (AreOffsets o offsets n limit) (such-are o offsets n limit bytes)
+    (are-such o offsets n limit bytes))

@@ -5,7 +5,7 @@ use Rattle.flatbuf.specs.Tree.{count}
 use Rattle.values.specs.Rose.{Rose, node, Roses, none, more, kids_of, roses_depth}
 use Rattle.values.specs.Layouts.{AreLayouts}
 use Rattle.field_types.specs.Kinds.{may_have, kind_of_type}
-use Rattle.values.specs.Logical.{LogicalField, AreLogical, tree_of, trees_of}
+use Rattle.values.specs.Logical.{NamedType, AreLogical, tree_of, trees_of}
 use Rattle.field_types.specs.StoredLaws.{kids_count}
 use Rattle.values.specs.declared.col_type.ColType.{ColType}
 use Rattle.field_types.proofs.Children.{children-fit}
@@ -15,7 +15,7 @@ use Rattle.schema_meta.specs.SchemaTree.{field_tables, AreWithin}
 use Rattle.schema_meta.specs.SchemaLaw.{stored_field, stored_below, stored_fields}
 
 -- the fields below one of this type, at most so many levels of them
-pub record Sound (depth : ℕ) (parent : ColType) (fs : Roses LogicalField) : Type 0 where
+pub record Sound (depth : ℕ) (parent : ColType) (fs : Roses NamedType) : Type 0 where
   pub within : AreWithin fs
   pub logical : AreLogical parent fs
   pub layouts : AreLayouts (trees_of fs)
@@ -27,20 +27,21 @@ max-left a b d h = omega (arith, h)
 max-right : (a b d : ℕ) → max a b ≤ d → b ≤ d
 max-right a b d h = omega (arith, h)
 
-pub no-level : (p : ColType) (f : Rose LogicalField) (fs : Roses LogicalField) → ¬ (Sound 0 p (more f fs))
+pub no-level : (p : ColType) (f : Rose NamedType) (fs : Roses NamedType) → ¬ (Sound 0 p (more f fs))
 no-level p (node f kids) fs s =
     let first = max-left (suc (roses_depth kids)) (roses_depth fs) 0 s.shallow in
     absurd (omega (arith, first))
 
 pub sound-below :
-    (depth : ℕ) (p : ColType) (f : LogicalField) (kids fs : Roses LogicalField) → Sound (suc depth) p (more (node f kids) fs)
+    (depth : ℕ) (p : ColType) (f : NamedType) (kids fs : Roses NamedType) → Sound (suc depth) p (more (node f kids) fs)
     → Sound depth f.col_type kids
 sound-below depth p f kids fs s =
     let first = max-left (suc (roses_depth kids)) (roses_depth fs) (suc depth) s.shallow in
     record { within = s.within.0.2; logical = s.logical.0.3; layouts = s.layouts.0.1; shallow = omega (arith, first) }
 
 pub sound-rest :
-    (depth : ℕ) (p : ColType) (f : LogicalField) (kids fs : Roses LogicalField) → Sound depth p (more (node f kids) fs) → Sound depth p fs
+    (depth : ℕ) (p : ColType) (f : NamedType) (kids fs : Roses NamedType) → Sound depth p (more (node f kids) fs)
+    → Sound depth p fs
 sound-rest depth p f kids fs s =
     record {
       within = s.within.1;
@@ -51,16 +52,16 @@ sound-rest depth p f kids fs s =
 
 -- children
 
-trees-count : (fs : Roses LogicalField) → kids_count (trees_of fs) ≡ kids_count fs
+trees-count : (fs : Roses NamedType) → kids_count (trees_of fs) ≡ kids_count fs
 trees-count none = refl
 trees-count (more f fs) = ap suc (trees-count fs)
 
-pub tables-count : (fs : Roses LogicalField) → count (field_tables fs) ≡ kids_count fs
+pub tables-count : (fs : Roses NamedType) → count (field_tables fs) ≡ kids_count fs
 tables-count none = refl
 tables-count (more f fs) = let rest = tables-count fs in omega (arith, rest)
 
 pub may-have :
-    (depth : ℕ) (p : ColType) (f : LogicalField) (kids fs : Roses LogicalField) → Sound depth p (more (node f kids) fs)
+    (depth : ℕ) (p : ColType) (f : NamedType) (kids fs : Roses NamedType) → Sound depth p (more (node f kids) fs)
     → may_have (kind_of_type f.col_type) (kids_count kids) ≡ true
 may-have depth p f kids fs s =
     let P : ℕ → Type 0 = λ n. may_have (kind_of_type f.col_type) n ≡ true in
@@ -68,28 +69,28 @@ may-have depth p f kids fs s =
 
 -- what is read, as a list
 
-abbrev pub entries : Roses LogicalField → List (Rose Entry)
+abbrev pub entries : Roses NamedType → List (Rose Entry)
 entries none = []
 entries (more f fs) = stored_field f ∷ entries fs
 
-pub entries-below : (fs : Roses LogicalField) → kids_of (entries fs) ≡ stored_below fs
+pub entries-below : (fs : Roses NamedType) → kids_of (entries fs) ≡ stored_below fs
 entries-below none = refl
 entries-below (more f fs) = ap (λ r. more (stored_field f) r) (entries-below fs)
 
-pub entries-fields : (fs : List (Rose LogicalField)) → entries (kids_of fs) ≡ stored_fields fs
+pub entries-fields : (fs : List (Rose NamedType)) → entries (kids_of fs) ≡ stored_fields fs
 entries-fields [] = refl
 entries-fields (f ∷ fs) = ap (λ r. stored_field f ∷ r) (entries-fields fs)
 
 -- layouts
 
 mutual
-  layout-stored : (f : Rose LogicalField) → layout_of (stored_field f) ≡ tree_of f
+  layout-stored : (f : Rose NamedType) → layout_of (stored_field f) ≡ tree_of f
   layout-stored (node f kids) = rw (layouts-stored kids) refl
 
-  layouts-stored : (fs : Roses LogicalField) → layouts_below (stored_below fs) ≡ trees_of fs
+  layouts-stored : (fs : Roses NamedType) → layouts_below (stored_below fs) ≡ trees_of fs
   layouts-stored none = refl
   layouts-stored (more f fs) = rw (layout-stored f, layouts-stored fs) refl
 
-pub layouts-read : (fs : List (Rose LogicalField)) → layouts_of (stored_fields fs) ≡ trees_of (kids_of fs)
+pub layouts-read : (fs : List (Rose NamedType)) → layouts_of (stored_fields fs) ≡ trees_of (kids_of fs)
 layouts-read [] = refl
 layouts-read (f ∷ fs) = rw (layout-stored f, layouts-read fs) refl

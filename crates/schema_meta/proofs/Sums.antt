@@ -12,7 +12,8 @@ unfolding sum_from
 sum_end f i n h = let k : n - i ≡ 0 = omega arith in rw k refl
 
 pub total_step :
-    (depth : ℕ) (v : Vector) → 0 < depth → total depth v ≡ v.count + sum_from (total_at (total (depth - 1)) v) 0 (v.count - 0)
+    (depth : ℕ) (v : Vector) → 0 < depth
+    → total depth v ≡ v.count + sum_from (total_at (total (depth - 1)) v) 0 (v.count - 0)
 unfolding total
 total_step zero v h = absurd (omega arith)
 total_step (suc depth) v h =

@@ -2,19 +2,19 @@
 use Rattle.std.specs.Prelude.{◌≡◌, ◌⊎◌, ◌↔◌, ℤ, true, List, Some, None, Option}
 use Rattle.values.specs.Rose.{Rose, node, Roses, none, more, kids_of}
 use Rattle.values.specs.declared.col_type.ColType.{ColType}
-use Rattle.schema_meta.specs.declared.coding.Coding.{Coding}
+use Rattle.schema_meta.specs.declared.encoding.DictionaryEncoding.{DictionaryEncoding}
 use Rattle.schema_meta.specs.Dictionaries.{is_clear, value_type}
 use Rattle.schema_meta.specs.Entry.{Entry}
 
 -- the dictionary has this id, and its values this type
-abbrev pub IsOwn : ℤ → ColType → Option Coding → ColType → Type 0
+abbrev pub IsOwn : ℤ → ColType → Option DictionaryEncoding → ColType → Type 0
 IsOwn id s None t = ⊥
 IsOwn id s (Some c) t = (c.id ≡ id) × (s ≡ t)
 
 -- a field, or one below it, has a dictionary of this id, whose values have this type
 abbrev mutual
   pub Uses : ℤ → ColType → Rose Entry → Type 0
-  Uses id s (node e kids) = IsOwn id s e.coding e.stored ⊎ UsesBelow id s kids
+  Uses id s (node e kids) = IsOwn id s e.encoding e.stored ⊎ UsesBelow id s kids
 
   pub UsesBelow : ℤ → ColType → Roses Entry → Type 0
   UsesBelow id s none = ⊥

@@ -38,7 +38,8 @@ count_after counts id is_delta rows = (if is_delta then count_of counts id else 
 
 abbrev pub counts_after : List (ℤ × ℕ) → Header → List (ℤ × ℕ)
 counts_after counts header.Schema = counts
-counts_after counts (header.Dictionary d) = insert_entry int_eq counts d.id (count_after counts d.id d.is_delta d.batch.rows)
+counts_after counts (header.Dictionary d) =
+    insert_entry int_eq counts d.id (count_after counts d.id d.is_delta d.batch.rows)
 counts_after counts (header.Batch b) = counts
 counts_after counts header.End = counts
 
@@ -55,7 +56,8 @@ data_of t = readable (subtable_of t fbs.batch_data) >>= must fault.BadTable
 
 -- A dictionary has at most 2^20 values.
 abbrev pub limited : List (ℤ × ℕ) → DictionaryHeader → Reading DictionaryHeader
-limited counts d = checked fault.DictionaryTooLarge (nat_le (count_after counts d.id d.is_delta d.batch.rows) max_dictionary_values) d
+limited counts d =
+    checked fault.DictionaryTooLarge (nat_le (count_after counts d.id d.is_delta d.batch.rows) max_dictionary_values) d
 
 -- the header of a batch of values of this type
 unfoldable pub values_batch : ℕ → Table → ℤ → ColType → Reading DictionaryHeader

@@ -10,7 +10,7 @@ use Rattle.field_types.specs.declared.kinds.TypeKind.TheVariants as kind
 use Rattle.field_types.specs.declared.index.IndexType.{IndexType}
 use Rattle.field_types.specs.Reads.{readable, needs, long_of, short_of}
 use Rattle.field_types.specs.Types.{index_of}
-use Rattle.schema_meta.specs.declared.coding.Coding.{Coding}
+use Rattle.schema_meta.specs.declared.encoding.DictionaryEncoding.{DictionaryEncoding}
 use Rattle.field_types.specs.SchemaFbs as fbs
 
 -- An absent id is 0.
@@ -27,13 +27,14 @@ index_type_of t = readable (subtable_of t fbs.index_type) >>= index_in
 
 -- enum DictionaryKind has 0, DenseArray, alone
 unfoldable pub dense_of : Table → Reading (Unit {0})
-dense_of t = short_of t fbs.dictionary_kind (pos 0) >>= λ k. needs fault.UnsupportedType (int_eq k (pos fbs.dense_array))
+dense_of t = short_of t fbs.dictionary_kind (pos 0)
+    >>= λ k. needs fault.UnsupportedType (int_eq k (pos fbs.dense_array))
 
-abbrev pub coding : ℤ → IndexType → Coding
-coding id index = record { id = id; index = index }
+abbrev pub encoding : ℤ → IndexType → DictionaryEncoding
+encoding id index = record { id = id; index = index }
 
-unfoldable pub encoding_of : Table → Reading Coding
-encoding_of t = both first (both coding (id_of t) (index_type_of t)) (dense_of t)
+unfoldable pub encoding_of : Table → Reading DictionaryEncoding
+encoding_of t = both first (both encoding (id_of t) (index_type_of t)) (dense_of t)
 
 -- Lists and structs stand in no dictionary.
 abbrev pub may_be_coded : TypeKind → Bool
@@ -41,10 +42,10 @@ may_be_coded (kind.List o) = false
 may_be_coded kind.Struct = false
 may_be_coded k = true
 
-abbrev pub coded_by : TypeKind → Option Table → Reading (Option Coding)
+abbrev pub coded_by : TypeKind → Option Table → Reading (Option DictionaryEncoding)
 coded_by k None = Ok None
 coded_by k (Some t) = both second (needs fault.UnsupportedType (may_be_coded k)) (mapped Some (encoding_of t))
 
 -- the dictionary of a field of this kind, if it has one
-unfoldable pub coding_of : TypeKind → Table → Reading (Option Coding)
-coding_of k t = readable (subtable_of t fbs.dictionary) >>= coded_by k
+unfoldable pub field_encoding_of : TypeKind → Table → Reading (Option DictionaryEncoding)
+field_encoding_of k t = readable (subtable_of t fbs.dictionary) >>= coded_by k

@@ -4,10 +4,10 @@ use Rattle.values.specs.Limits.{max_slot}
 use Rattle.values.specs.Rose.{Rose, node, Roses, none, more, kids_of}
 use Rattle.values.specs.Layouts.{slot}
 use Rattle.values.specs.declared.layout.Layout.{Layout}
-use Rattle.values.specs.declared.layout.Layout.TheVariants.{Number}
+use Rattle.values.specs.declared.layout.Layout.TheVariants.{Int}
 use Rattle.values.specs.declared.col_type.ColType.{ColType}
 use Rattle.values.specs.ColTypes.{layout_of as layout_by}
-use Rattle.schema_meta.specs.declared.coding.Coding.{Coding}
+use Rattle.schema_meta.specs.declared.encoding.DictionaryEncoding.{DictionaryEncoding}
 use Rattle.schema_meta.specs.Entry.{Entry}
 
 -- the layouts of a field's values, and of those below it
@@ -25,16 +25,16 @@ abbrev pub layouts_of : List (Rose Entry) → Roses Layout
 layouts_of fields = layouts_below (kids_of fields)
 
 -- The layout of a field's own slots: those of a field with a dictionary are indices.
-abbrev pub slot_layout : Option Coding → ColType → Layout
+abbrev pub slot_layout : Option DictionaryEncoding → ColType → Layout
 slot_layout None s = layout_by s
-slot_layout (Some c) s = Number c.index.width c.index.signed
+slot_layout (Some c) s = Int c.index.width c.index.signed
 
 abbrev pub own_layout : Rose Entry → Layout
-own_layout (node e children) = slot_layout e.coding e.stored
+own_layout (node e children) = slot_layout e.encoding e.stored
 
 abbrev mutual
   pub slot_layout_of : Rose Entry → Rose Layout
-  slot_layout_of (node e children) = node (slot_layout e.coding e.stored) (slot_layouts_below children)
+  slot_layout_of (node e children) = node (slot_layout e.encoding e.stored) (slot_layouts_below children)
 
   pub slot_layouts_below : Roses Entry → Roses Layout
   slot_layouts_below none = none
@@ -46,9 +46,9 @@ slot_layouts_of fields = slot_layouts_below (kids_of fields)
 
 -- no slot, at any level, is above 2^20
 abbrev mutual
-  pub is_slim : Rose Layout → Bool
-  is_slim (node l kids) = nat_le (slot (node l kids)) max_slot && are_slim kids
+  pub is_within_slot : Rose Layout → Bool
+  is_within_slot (node l kids) = nat_le (slot (node l kids)) max_slot && are_within_slot kids
 
-  pub are_slim : Roses Layout → Bool
-  are_slim none = true
-  are_slim (more t ts) = is_slim t && are_slim ts
+  pub are_within_slot : Roses Layout → Bool
+  are_within_slot none = true
+  are_within_slot (more t ts) = is_within_slot t && are_within_slot ts

@@ -1,6 +1,23 @@
--- Apache Arrow Schema.fbs, table Field: a field with its children, and the faults that stand in it. The parts of a field are read
--- each by itself.
-use Rattle.std.specs.Prelude.{ℕ, zero, suc, Bool, ◌&&◌, Option, None, Some, Ok, Err, List, [], length, nat_le, ◌==◌, if◌then◌else◌}
+-- Apache Arrow Schema.fbs, table Field: a field with its children, and the faults that stand in it. The parts of a
+-- field are read each by itself.
+use Rattle.std.specs.Prelude.{
+  ℕ,
+  zero,
+  suc,
+  Bool,
+  ◌&&◌,
+  Option,
+  None,
+  Some,
+  Ok,
+  Err,
+  List,
+  [],
+  length,
+  nat_le,
+  ◌==◌,
+  if◌then◌else◌,
+}
 use Rattle.std.specs.Str.{is_utf8}
 use Rattle.flatbuf.specs.Layout.{Table, Vector, text_of, vector_of, entry_of}
 use Rattle.values.specs.Limits.{max_name_len}
@@ -9,9 +26,9 @@ use Rattle.values.specs.Rose.{Rose, node, kids_of}
 use Rattle.values.specs.declared.faults.StreamFault.TheVariants as fault
 use Rattle.field_types.specs.declared.kinds.TypeKind.{TypeKind}
 use Rattle.values.specs.declared.col_type.ColType.{ColType}
-use Rattle.schema_meta.specs.declared.coding.Coding.{Coding}
+use Rattle.schema_meta.specs.declared.encoding.DictionaryEncoding.{DictionaryEncoding}
 use Rattle.schema_meta.specs.Entry.{Entry}
-use Rattle.schema_meta.specs.Encoding.{coding_of}
+use Rattle.schema_meta.specs.Encoding.{field_encoding_of}
 use Rattle.field_types.specs.SchemaFbs as fbs
 use Rattle.field_types.specs.Reads.{readable, checked, needs, bool_of}
 use Rattle.field_types.specs.Kinds.{kind_of, may_have}
@@ -50,7 +67,7 @@ pub record Label : Type 0 where
 
 pub record Storage : Type 0 where
   pub stored : ColType
-  pub coding : Option Coding
+  pub encoding : Option DictionaryEncoding
 
 pub record Content : Type 0 where
   pub storage : Storage
@@ -59,15 +76,16 @@ pub record Content : Type 0 where
 abbrev pub label : List ℕ → Bool → Label
 label name nullable = record { name = name; nullable = nullable }
 
-abbrev pub storage : ColType → Option Coding → Storage
-storage stored coding = record { stored = stored; coding = coding }
+abbrev pub storage : ColType → Option DictionaryEncoding → Storage
+storage stored encoding = record { stored = stored; encoding = encoding }
 
 abbrev pub content : Storage → List (Rose Entry) → Content
 content storage children = record { storage = storage; children = children }
 
 abbrev pub field : Label → Content → Rose Entry
 field l c =
-    node (record { name = l.name; nullable = l.nullable; stored = c.storage.stored; coding = c.storage.coding }) (kids_of c.children)
+    node (record { name = l.name; nullable = l.nullable; stored = c.storage.stored; encoding = c.storage.encoding })
+    (kids_of c.children)
 
 unfoldable pub label_of : Table → Reading Label
 label_of t = both label (name_of t) (bool_of t fbs.nullable)
@@ -76,7 +94,7 @@ label_of t = both label (name_of t) (bool_of t fbs.nullable)
 unfoldable pub content_of : (Vector → Reading (List (Rose Entry))) → Table → Reading Content
 content_of below t = do
   k ← kind_of t
-  both content (both storage (type_of k t) (coding_of k t)) (children_of below k t)
+  both content (both storage (type_of k t) (field_encoding_of k t)) (children_of below k t)
 
 unfoldable pub field_of : (Vector → Reading (List (Rose Entry))) → Table → Reading (Rose Entry)
 field_of below t = both field (label_of t) (content_of below t)

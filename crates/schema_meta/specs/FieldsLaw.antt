@@ -7,38 +7,40 @@ use Rattle.values.specs.Rose.{Rose, node, Roses, none, more, kids_of, roses_size
 use Rattle.values.specs.Layouts.{AreLayouts}
 use Rattle.values.specs.ColTypes.{IsSingle, IsType}
 use Rattle.values.specs.declared.col_type.ColType.{ColType}
-use Rattle.schema_meta.specs.declared.coding.Coding.{Coding}
+use Rattle.schema_meta.specs.declared.encoding.DictionaryEncoding.{DictionaryEncoding}
 use Rattle.schema_meta.specs.Dictionaries.{is_clear}
 use Rattle.schema_meta.specs.Entry.{Entry}
-use Rattle.schema_meta.specs.FieldLayouts.{are_slim, layouts_of, slot_layouts_of}
+use Rattle.schema_meta.specs.FieldLayouts.{are_within_slot, layouts_of, slot_layouts_of}
 use Rattle.schema_meta.specs.Logical.{logical_field}
 use Rattle.schema_meta.specs.Schema.{schema_of}
 use Rattle.schema_meta.specs.SchemaTree.{AreColumns}
 use Rattle.schema_meta.specs.SchemaLaw.{AreNamed}
 
 -- what a dictionary has is no list or struct
-abbrev pub IsCoded : Option Coding → ColType → Type 0
+abbrev pub IsCoded : Option DictionaryEncoding → ColType → Type 0
 IsCoded None s = Unit {0}
 IsCoded (Some c) s = IsSingle s
 
 -- names that are short texts, and types within their bounds, at all levels
 abbrev mutual
   pub IsGoodField : Rose Entry → Type 0
-  IsGoodField (node e kids) = (length e.name ≤ max_name_len) × (is_utf8 e.name ≡ true) × IsType e.stored × IsCoded e.coding e.stored × AreGoodFields kids
+  IsGoodField (node e kids) = (length e.name ≤ max_name_len) × (is_utf8 e.name ≡ true) × IsType e.stored
+      × IsCoded e.encoding e.stored × AreGoodFields kids
 
   pub AreGoodFields : Roses Entry → Type 0
   AreGoodFields none = Unit {0}
   AreGoodFields (more f fs) = IsGoodField f × AreGoodFields fs
 
--- They are few at all levels, and not too deep, each has the children that its layout wants, no slot is too large, and no ids of dictionaries clash.
+-- They are few at all levels, and not too deep, each has the children that its layout wants, no slot is too large, and
+-- no ids of dictionaries clash.
 pub record AreFields (fields : List (Rose Entry)) : Type 0 where
   pub few : roses_size (kids_of fields) ≤ max_fields
   pub shallow : roses_depth (kids_of fields) ≤ max_depth
   pub layouts : AreLayouts (layouts_of fields)
   pub slots : AreLayouts (slot_layouts_of fields)
-  pub slim : are_slim (layouts_of fields) ≡ true
+  pub within_slot : are_within_slot (layouts_of fields) ≡ true
   pub clear : is_clear fields ≡ true
-  pub good : AreGoodFields (kids_of fields)
+  pub valid : AreGoodFields (kids_of fields)
 
 abbrev pub FieldsLaw : Type 0
 FieldsLaw = (t : Table) (fields : List (Rose Entry)) → schema_of t ≡ Ok fields → AreFields fields

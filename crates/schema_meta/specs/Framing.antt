@@ -1,6 +1,24 @@
--- Framing: Arrow Columnar Format, "Encapsulated message format" and "IPC Streaming Format". A message is four bytes FF, the size of
--- the metadata in 32 bits, the metadata, and the body, whose length the metadata says. The size 0 marks the end of the stream.
-use Rattle.std.specs.Prelude.{ℕ, ◌+◌, Ok, Err, List, length, drop, slice_range, Option, None, Some, is_some, nat_lt, nat_le, ◌==◌, if◌then◌else◌}
+-- Framing: Arrow Columnar Format, "Encapsulated message format" and "IPC Streaming Format". A message is four bytes FF,
+-- the size of the metadata in 32 bits, the metadata, and the body, whose length the metadata says. The size 0 marks the
+-- end of the stream.
+use Rattle.std.specs.Prelude.{
+  ℕ,
+  ◌+◌,
+  Ok,
+  Err,
+  List,
+  length,
+  drop,
+  slice_range,
+  Option,
+  None,
+  Some,
+  is_some,
+  nat_lt,
+  nat_le,
+  ◌==◌,
+  if◌then◌else◌,
+}
 use Rattle.byteorder.specs.Endian.{little_number}
 use Rattle.values.specs.Limits.{max_metadata_size}
 use Rattle.values.specs.declared.faults.StreamFault.TheVariants as fault
@@ -24,18 +42,19 @@ framed mark size = both second (mark_of mark) (size_of size)
 abbrev pub body_at : ℕ → ℕ → Meta → Reading (Option Whole)
 body_at len front m = if nat_lt len (front + m.body) then Ok None else Ok (Some (record { front = front; meta = m }))
 
--- The metadata is judged once it is all there.
+-- The metadata is checked once it is all there.
 unfoldable pub message_at : ℕ → ℕ → Reading Meta → Reading (Option Whole)
 message_at len front meta = if nat_lt len front then Ok None else (meta >>= body_at len front)
 
 -- an end mark, which is no message of a stream without a schema
 abbrev pub end_mark : Known → Reading (Option Whole)
-end_mark known = if is_some known.schema then Ok (Some (record { front = 8; meta = end_meta })) else Err (one fault.NoSchema)
+end_mark known = if is_some known.schema then Ok (Some (record { front = 8; meta = end_meta }))
+    else Err (one fault.NoSchema)
 
 abbrev pub sized : ℕ → Reading (Option Whole) → (ℕ → Reading Meta) → ℕ → Reading (Option Whole)
 sized len end meta size = if size == 0 then end else message_at len (8 + size) (meta size)
 
--- The sizes are judged once both are there.
+-- The sizes are checked once both are there.
 unfoldable pub staged : ℕ → Reading ℕ → Reading (Option Whole) → (ℕ → Reading Meta) → Reading (Option Whole)
 staged len size end meta = if nat_lt len 8 then Ok None else (size >>= sized len end meta)
 

@@ -1,17 +1,17 @@
--- The logical schema of a stored one: offsets of any width are the same, a list's items are named `item`, and nothing is said of nulls
--- and dictionaries.
+-- The logical schema of a stored one: offsets of any width are the same, a list's items are named `item`, and nothing
+-- is said of nulls and dictionaries.
 use Rattle.values.specs.Rose.{Rose, node, Roses, none, more}
-use Rattle.values.specs.Logical.{LogicalField, logical_column}
+use Rattle.values.specs.Logical.{NamedType, logical_column}
 use Rattle.schema_meta.specs.Entry.{Entry}
 
 -- the name of a field and the type of its values, and so on down
 abbrev mutual
-  pub named_field : Rose Entry → Rose LogicalField
+  pub named_field : Rose Entry → Rose NamedType
   named_field (node e kids) = node (record { name = e.name; col_type = e.stored }) (named_below kids)
 
-  pub named_below : Roses Entry → Roses LogicalField
+  pub named_below : Roses Entry → Roses NamedType
   named_below none = none
   named_below (more f fs) = more (named_field f) (named_below fs)
 
-abbrev pub logical_field : Rose Entry → Rose LogicalField
+abbrev pub logical_field : Rose Entry → Rose NamedType
 logical_field f = logical_column (named_field f)

@@ -1,23 +1,33 @@
--- Logical columns lie in memory as the stored ones do, but that all offsets have 32 bits: they hold the same cells, which weigh the same.
+-- Logical columns lie in memory as the stored ones do, but that all offsets have 32 bits: they hold the same cells,
+-- which weigh the same.
 use Rattle.std.specs.Prelude.{◌≡◌, List, map}
 use Rattle.values.specs.Rose.{Rose, node, Roses, none, more, kids_of}
 use Rattle.values.specs.Datum.{Datum, Items}
 use Rattle.values.specs.Layouts.{AreLayouts, Holds, HoldsEach, weight, row_weight}
 use Rattle.values.specs.declared.layout.OffsetWidth.TheVariants as offset
 use Rattle.values.specs.declared.layout.Layout.{Layout}
-use Rattle.values.specs.declared.layout.Layout.TheVariants.{Bits, Number, Decimal, Fixed, Text, Bytes, List as Listed, Struct}
+use Rattle.values.specs.declared.layout.Layout.TheVariants.{
+  Bool as Booleans,
+  Int,
+  Decimal,
+  FixedSizeBinary,
+  Utf8,
+  Binary,
+  List as Listed,
+  Struct,
+}
 use Rattle.values.specs.Logical.{trees_of}
 use Rattle.schema_meta.specs.Entry.{Entry}
 use Rattle.schema_meta.specs.FieldLayouts.{layouts_of}
 use Rattle.schema_meta.specs.Logical.{logical_field}
 
 abbrev pub narrow_layout : Layout → Layout
-narrow_layout Bits = Bits
-narrow_layout (Number w s) = Number w s
+narrow_layout Booleans = Booleans
+narrow_layout (Int w s) = Int w s
 narrow_layout (Decimal p) = Decimal p
-narrow_layout (Fixed w) = Fixed w
-narrow_layout (Text o) = Text offset.Bits32
-narrow_layout (Bytes o) = Bytes offset.Bits32
+narrow_layout (FixedSizeBinary w) = FixedSizeBinary w
+narrow_layout (Utf8 o) = Utf8 offset.Bits32
+narrow_layout (Binary o) = Binary offset.Bits32
 narrow_layout (Listed o) = Listed offset.Bits32
 narrow_layout Struct = Struct
 

@@ -8,7 +8,7 @@ use Rattle.values.specs.Limits.{max_body_size}
 use Rattle.values.specs.declared.faults.StreamFault.TheVariants as fault
 use Rattle.values.specs.Reading.{Reading, ◌>>=◌, both, second, must, one, refused_if, mapped}
 use Rattle.values.specs.Rose.{Rose}
-use Rattle.values.specs.Logical.{LogicalField}
+use Rattle.values.specs.Logical.{NamedType}
 use Rattle.schema_meta.specs.Entry.{Entry}
 use Rattle.schema_meta.specs.Schema.{schema_of}
 use Rattle.schema_meta.specs.declared.header.MessageKind.{MessageKind}
@@ -58,13 +58,14 @@ abbrev pub brings_dictionary : ℕ → DictionaryHeader → Meta
 brings_dictionary body d = record { header = header.Dictionary d; body = body; schema = None }
 
 -- the declared schema, where one was
-abbrev pub expected : Option (List (Rose LogicalField)) → List (Rose Entry) → Reading (List (Rose Entry))
+abbrev pub expected : Option (List (Rose NamedType)) → List (Rose Entry) → Reading (List (Rose Entry))
 expected None fields = Ok fields
 expected (Some columns) fields = if is_declared columns fields then Ok fields else Err (one fault.SchemaMismatch)
 
 -- There is one schema, before all batches.
 unfoldable pub new_schema : Known → Table → Reading (List (Rose Entry))
-new_schema known h = both second (refused_if fault.SecondSchema (is_some known.schema)) (schema_of h >>= expected known.declared)
+new_schema known h =
+    both second (refused_if fault.SecondSchema (is_some known.schema)) (schema_of h >>= expected known.declared)
 
 unfoldable pub dictionary_batch : Known → ℕ → Table → Reading DictionaryHeader
 dictionary_batch known body t =
@@ -80,7 +81,7 @@ header_of known t kind.Schema body = mapped (brings_schema body) (header_table t
 header_of known t kind.Dictionary body = mapped (brings_dictionary body) (dictionary_batch known body t)
 header_of known t kind.Batch body = mapped (brings_batch body) (record_batch known body t)
 
--- Under an unknown kind nothing else is judged. A batch before the schema is refused whatever it holds.
+-- Under an unknown kind nothing else is checked. A batch before the schema is refused whatever it holds.
 unfoldable pub meta_of : Known → List ℕ → Reading Meta
 meta_of known bytes =
     must fault.BadTable (root_of bytes) >>= λ t. kind_of t

@@ -1,4 +1,5 @@
--- Apache Arrow Message.fbs: the slots of its tables, numbered in the order of their fields, where a union takes two, and the numbers of its unions.
+-- Apache Arrow Message.fbs: the slots of its tables, numbered in the order of their fields, where a union takes two,
+-- and the numbers of its unions.
 use Rattle.std.specs.Prelude.{ℕ}
 
 -- table Message

@@ -12,9 +12,9 @@ use Rattle.field_types.specs.SchemaFbs as fbs
 use Rattle.field_types.specs.Reads.{readable, bool_of}
 use Rattle.field_types.specs.Kinds.{kind_of, may_have}
 use Rattle.field_types.specs.Types.{type_of}
-use Rattle.schema_meta.specs.FieldLayouts.{are_slim, layouts_of}
+use Rattle.schema_meta.specs.FieldLayouts.{are_within_slot, layouts_of}
 use Rattle.schema_meta.specs.Dictionaries.{is_clear}
-use Rattle.schema_meta.specs.Encoding.{coding_of}
+use Rattle.schema_meta.specs.Encoding.{field_encoding_of}
 use Rattle.schema_meta.specs.Fields.{name_of, count_in, child_at, forest}
 use Rattle.schema_meta.specs.Totals.{total}
 use Rattle.schema_meta.specs.Schema.{endianness_of, schema_of}
@@ -25,10 +25,11 @@ pub data FaultOfField (t : Table) (c : StreamFault) : Type 0 where
   in_nullable : Stands (bool_of t fbs.nullable) c → FaultOfField t c
   in_kind : Stands (kind_of t) c → FaultOfField t c
   in_type : (k : TypeKind) → kind_of t ≡ Ok k → Stands (type_of k t) c → FaultOfField t c
-  in_dictionary : (k : TypeKind) → kind_of t ≡ Ok k → Stands (coding_of k t) c → FaultOfField t c
+  in_dictionary : (k : TypeKind) → kind_of t ≡ Ok k → Stands (field_encoding_of k t) c → FaultOfField t c
   in_children : (k : TypeKind) → kind_of t ≡ Ok k → Stands (readable (vector_of t fbs.children)) c → FaultOfField t c
   in_number :
-      (k : TypeKind) (v : Option Vector) → kind_of t ≡ Ok k → vector_of t fbs.children ≡ Some v → may_have k (count_in v) ≡ false
+      (k : TypeKind) (v : Option Vector) → kind_of t ≡ Ok k → vector_of t fbs.children ≡ Some v
+      → may_have k (count_in v) ≡ false
       → fault.BadType ≡ c → FaultOfField t c
 
 abbrev pub FaultOfEntry : Option Table → StreamFault → Type 0
@@ -58,14 +59,16 @@ pub record IsDeeper (depth : ℕ) (v : Vector) : Type 0 where
   pub long : length path ≡ depth
   pub some : 0 < end.count
 
--- The faults of the columns: those by paths, too many fields by their counts or by their depth, and where all fields are known a slot that
--- is too large, and dictionaries of one id with different types.
+-- The faults of the columns: those by paths, too many fields by their counts or by their depth, and where all fields
+-- are known a slot that is too large, and dictionaries of one id with different types.
 pub data FaultOfColumns (v : Vector) (c : StreamFault) : Type 0 where
   by_path : StandsBelow max_depth v c → FaultOfColumns v c
   by_depth : IsDeeper max_depth v → fault.TooManyFields ≡ c → FaultOfColumns v c
   by_count : max_fields < total max_depth v → fault.TooManyFields ≡ c → FaultOfColumns v c
-  by_slot : (fs : List (Rose Entry)) → forest max_depth v ≡ Ok fs → are_slim (layouts_of fs) ≡ false → fault.BadType ≡ c → FaultOfColumns v c
-  by_clash : (fs : List (Rose Entry)) → forest max_depth v ≡ Ok fs → is_clear fs ≡ false → fault.DictionaryClash ≡ c → FaultOfColumns v c
+  by_slot : (fs : List (Rose Entry)) → forest max_depth v ≡ Ok fs → are_within_slot (layouts_of fs) ≡ false
+      → fault.BadType ≡ c → FaultOfColumns v c
+  by_clash : (fs : List (Rose Entry)) → forest max_depth v ≡ Ok fs → is_clear fs ≡ false → fault.DictionaryClash ≡ c
+      → FaultOfColumns v c
 
 pub data FaultOfSchema (t : Table) (c : StreamFault) : Type 0 where
   in_endianness : Stands (endianness_of t) c → FaultOfSchema t c

@@ -3,7 +3,7 @@ use Rattle.std.specs.Prelude.{◌≡◌, ℕ, ℤ, All, List, length, Some}
 use Rattle.values.specs.Datum.{Datum}
 use Rattle.values.specs.Layouts.{Holds}
 use Rattle.values.specs.Rose.{Rose, Roses, none, more}
-use Rattle.array_layout.specs.declared.array.Part.{Part}
+use Rattle.array_layout.specs.declared.array.ArrayData.{ArrayData}
 use Rattle.array_layout.specs.Placing.{layout_of as layout_of_array, layouts_of as layouts_of_arrays}
 use Rattle.array_layout.specs.Sound.{ArePlaced, IsPlaced}
 use Rattle.array_layout.specs.Typed.{AreTyped, IsTyped}
@@ -19,7 +19,7 @@ use Rattle.schema_meta.specs.Parts.{arrays_of, values_array}
 use Rattle.schema_meta.specs.Sound.{Fits}
 
 -- each of them has so many slots
-abbrev pub HaveLength : ℕ → Roses Part → Type 0
+abbrev pub HaveLength : ℕ → Roses ArrayData → Type 0
 HaveLength n none = Unit {0}
 HaveLength n (more t ts) = (len_of t ≡ n) × HaveLength n ts
 
@@ -33,18 +33,21 @@ PlaceLaw =
 
 -- The values of each dictionary of a schema are of its type.
 abbrev pub AreValues : List (Rose Entry) → (ℤ → List Datum) → Type 0
-AreValues fields values = (id : ℤ) (s : ColType) → value_type fields id ≡ Some s → All (Holds (value_layout s)) (values id)
+AreValues fields values = (id : ℤ) (s : ColType) → value_type fields id ≡ Some s
+    → All (Holds (value_layout s)) (values id)
 
 -- Then so are those of the arrays' dictionaries.
 abbrev pub WordsLaw : Type 0
 WordsLaw =
-    (values : ℤ → List Datum) (fields : List (Rose Entry)) (head : BatchHead) → AreFields fields → AreValues fields values
+    (values : ℤ → List Datum) (fields : List (Rose Entry)) (head : BatchHead) → AreFields fields
+    → AreValues fields values
     → AreTyped (arrays_of values fields head)
 
 -- Of the values of a dictionary no more is used than what they are.
 abbrev pub SameWords : Type 0
 SameWords =
-    (values others : ℤ → List Datum) (fields : List (Rose Entry)) (head : BatchHead) → ((id : ℤ) → values id ≡ others id)
+    (values others : ℤ → List Datum) (fields : List (Rose Entry)) (head : BatchHead)
+    → ((id : ℤ) → values id ≡ others id)
     → arrays_of values fields head ≡ arrays_of others fields head
 
 -- The array of a dictionary batch lies in the body and has a slot a value.

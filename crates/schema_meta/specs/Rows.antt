@@ -1,11 +1,11 @@
--- The rows of a record batch, and the values of a dictionary batch: Arrow Columnar Format, "RecordBatch message" and "Dictionary Messages".
--- Row i has the i-th cell of each column.
+-- The rows of a record batch, and the values of a dictionary batch: Arrow Columnar Format, "RecordBatch message" and
+-- "Dictionary Messages". Row i has the i-th cell of each column.
 use Rattle.std.specs.Prelude.{ℕ, ℤ, zero, suc, ◌+◌, List, [], ◌∷◌, map, get_or, Ok}
 use Rattle.values.specs.Datum.{Datum, null}
 use Rattle.values.specs.Reading.{Reading, ◌>>=◌, both, cons, mapped, must}
 use Rattle.values.specs.Rose.{Rose, Roses, none, more}
 use Rattle.values.specs.declared.faults.StreamFault.TheVariants as fault
-use Rattle.array_layout.specs.declared.array.Part.{Part}
+use Rattle.array_layout.specs.declared.array.ArrayData.{ArrayData}
 use Rattle.array_layout.specs.Cells.{column_of}
 use Rattle.schema_meta.specs.Entry.{Entry}
 use Rattle.schema_meta.specs.BatchHead.{BatchHead}
@@ -13,8 +13,8 @@ use Rattle.schema_meta.specs.declared.header.DictionaryHeader.{DictionaryHeader}
 use Rattle.schema_meta.specs.Dictionaries.{value_type}
 use Rattle.schema_meta.specs.Parts.{arrays_of, values_array}
 
--- the columns, each judged by itself
-unfoldable pub columns_in : List ℕ → Roses Part → Reading (List (List Datum))
+-- the columns, each checked by itself
+unfoldable pub columns_in : List ℕ → Roses ArrayData → Reading (List (List Datum))
 columns_in body none = Ok []
 columns_in body (more t ts) = both cons (column_of body t) (columns_in body ts)
 
@@ -29,7 +29,8 @@ rows_from columns i (suc n) = row_at columns i ∷ rows_from columns (i + 1) n
 abbrev pub rows_in : ℕ → List (List Datum) → List (List Datum)
 rows_in n columns = rows_from columns 0 n
 
--- the rows of a batch of these fields, whose dictionaries have these values, or the faults of the body stage that stand in its body
+-- the rows of a batch of these fields, whose dictionaries have these values, or the faults of the body stage that stand
+-- in its body
 unfoldable pub rows_of : (ℤ → List Datum) → List (Rose Entry) → BatchHead → List ℕ → Reading (List (List Datum))
 rows_of values fields head body = mapped (rows_in head.rows) (columns_in body (arrays_of values fields head))
 

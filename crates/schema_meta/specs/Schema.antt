@@ -9,7 +9,7 @@ use Rattle.values.specs.declared.faults.StreamFault.TheVariants as fault
 use Rattle.schema_meta.specs.Entry.{Entry}
 use Rattle.field_types.specs.SchemaFbs as fbs
 use Rattle.field_types.specs.Reads.{readable, needs, checked, short_of}
-use Rattle.schema_meta.specs.FieldLayouts.{layouts_of, are_slim}
+use Rattle.schema_meta.specs.FieldLayouts.{layouts_of, are_within_slot}
 use Rattle.schema_meta.specs.Dictionaries.{is_clear}
 use Rattle.schema_meta.specs.Fields.{forest, fields_in}
 use Rattle.schema_meta.specs.Totals.{total}
@@ -19,14 +19,16 @@ unfoldable pub endianness_of : Table → Reading (Unit {0})
 endianness_of t =
     short_of t fbs.endianness (pos 0) >>= λ e. needs fault.BigEndian (int_eq e (pos fbs.little_endian))
 
--- The slots of fields, and whether ids clash, are judged where all types are known.
+-- The slots of fields, and whether ids clash, are checked where all types are known.
 unfoldable pub judged : List (Rose Entry) → Reading (List (Rose Entry))
 judged fields =
-    both second (needs fault.BadType (are_slim (layouts_of fields))) (checked fault.DictionaryClash (is_clear fields) fields)
+    both second (needs fault.BadType (are_within_slot (layouts_of fields)))
+    (checked fault.DictionaryClash (is_clear fields) fields)
 
 -- At most 1,024 fields at all levels, of at most 16 levels.
 unfoldable pub columns_of : Vector → Reading (List (Rose Entry))
-columns_of v = both second (needs fault.TooManyFields (nat_le (total max_depth v) max_fields)) (forest max_depth v >>= judged)
+columns_of v =
+    both second (needs fault.TooManyFields (nat_le (total max_depth v) max_fields)) (forest max_depth v >>= judged)
 
 unfoldable pub schema_of : Table → Reading (List (Rose Entry))
 schema_of t = both second (endianness_of t) (readable (vector_of t fbs.fields) >>= fields_in columns_of)

@@ -2,9 +2,9 @@
 use Rattle.std.specs.Prelude.{◌≡◌, ◌≤◌, true, List, [], map, Option, None, Some, Ok, ⊤}
 use Rattle.values.specs.Rose.{Rose, node, Roses, none, more, kids_of, roses_depth}
 use Rattle.values.specs.Layouts.{AreLayouts}
-use Rattle.values.specs.Logical.{LogicalField, AreLogicalColumns, trees_of}
+use Rattle.values.specs.Logical.{NamedType, AreLogicalColumns, trees_of}
 use Rattle.schema_meta.specs.Entry.{Entry}
-use Rattle.schema_meta.specs.FieldLayouts.{are_slim}
+use Rattle.schema_meta.specs.FieldLayouts.{are_within_slot}
 use Rattle.schema_meta.specs.Logical.{logical_field}
 use Rattle.schema_meta.specs.SchemaTree.{AreColumns, schema_metadata}
 use Rattle.schema_meta.specs.Stage.{Known}
@@ -12,39 +12,41 @@ use Rattle.schema_meta.specs.Message.{meta_of, brings_schema}
 
 -- a column as it is read: it may hold nulls
 abbrev mutual
-  pub stored_field : Rose LogicalField → Rose Entry
-  stored_field (node f kids) = node (record { name = f.name; nullable = true; stored = f.col_type; coding = None }) (stored_below kids)
+  pub stored_field : Rose NamedType → Rose Entry
+  stored_field (node f kids) =
+      node (record { name = f.name; nullable = true; stored = f.col_type; encoding = None }) (stored_below kids)
 
-  pub stored_below : Roses LogicalField → Roses Entry
+  pub stored_below : Roses NamedType → Roses Entry
   stored_below none = none
   stored_below (more f fs) = more (stored_field f) (stored_below fs)
 
-abbrev pub stored_fields : List (Rose LogicalField) → List (Rose Entry)
+abbrev pub stored_fields : List (Rose NamedType) → List (Rose Entry)
 stored_fields fs = map stored_field fs
 
--- The columns of a logical schema, which a stream can have: each field has the children that its type wants, and they are
--- neither too deep nor too wide.
-pub record AreNamed (fields : List (Rose LogicalField)) : Type 0 where
+-- The columns of a logical schema, which a stream can have: each field has the children that its type wants, and they
+-- are neither too deep nor too wide.
+pub record AreNamed (fields : List (Rose NamedType)) : Type 0 where
   pub logical : AreLogicalColumns fields
   pub layouts : AreLayouts (trees_of (kids_of fields))
   pub shallow : roses_depth (kids_of fields) ≤ 16
-  pub slim : are_slim (trees_of (kids_of fields)) ≡ true
+  pub within_slot : are_within_slot (trees_of (kids_of fields)) ≡ true
 
 -- a stream before its schema, with the columns that are declared for it, if any are
-abbrev pub before : Option (List (Rose LogicalField)) → Known
+abbrev pub before : Option (List (Rose NamedType)) → Known
 before declared = record { declared = declared; schema = None; counts = [] }
 
 -- These columns, where any are declared, are the schema's.
-abbrev pub AreExpected : Option (List (Rose LogicalField)) → List (Rose LogicalField) → Type 0
+abbrev pub AreExpected : Option (List (Rose NamedType)) → List (Rose NamedType) → Type 0
 AreExpected None fs = ⊤
 AreExpected (Some columns) fs = columns ≡ fs
 
 -- The metadata of the Schema message says the schema, and no body.
 abbrev pub SchemaLaw : Type 0
 SchemaLaw =
-    (declared : Option (List (Rose LogicalField))) (fs : List (Rose LogicalField)) → AreColumns fs → AreNamed fs → AreExpected declared fs
+    (declared : Option (List (Rose NamedType))) (fs : List (Rose NamedType)) → AreColumns fs → AreNamed fs
+    → AreExpected declared fs
     → meta_of (before declared) (schema_metadata fs) ≡ Ok (brings_schema 0 (stored_fields fs))
 
 -- The columns as they are read are the logical ones.
 abbrev pub ColumnsLaw : Type 0
-ColumnsLaw = (fs : List (Rose LogicalField)) → AreNamed fs → map logical_field (stored_fields fs) ≡ fs
+ColumnsLaw = (fs : List (Rose NamedType)) → AreNamed fs → map logical_field (stored_fields fs) ≡ fs

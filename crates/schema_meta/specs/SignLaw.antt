@@ -1,6 +1,24 @@
--- Arrow's sizes, lengths and offsets have a sign. The definitions compare their bits without one: that is to compare the signed numbers
--- where none of them is negative, and to refuse a negative one.
-use Rattle.std.specs.Prelude.{◌≡◌, ℕ, ℤ, pos, true, List, Ok, length, slice_index, ◌+◌, ◌*◌, ◌^◌, ◌<◌, ◌≤◌, ◌≤ℤ◌, ◌+ℤ◌, ◌↔◌}
+-- Arrow's sizes, lengths and offsets have a sign. The definitions compare their bits without one: that is to compare
+-- the signed numbers where none of them is negative, and to refuse a negative one.
+use Rattle.std.specs.Prelude.{
+  ◌≡◌,
+  ℕ,
+  ℤ,
+  pos,
+  true,
+  List,
+  Ok,
+  length,
+  slice_index,
+  ◌+◌,
+  ◌*◌,
+  ◌^◌,
+  ◌<◌,
+  ◌≤◌,
+  ◌≤ℤ◌,
+  ◌+ℤ◌,
+  ◌↔◌,
+}
 use Rattle.std.specs.Int.{w32, w64, cast_signed}
 use Rattle.values.specs.Reading.{Stands}
 use Rattle.values.specs.Layouts.{offset_bytes}
@@ -16,7 +34,8 @@ SignedLength = (n rows : ℕ) → n < 2 ^ 64 → rows < 2 ^ 63 → (n ≡ rows) 
 -- a node's length is at most so many
 abbrev pub SignedBound : Type 0
 SignedBound =
-    (n most : ℕ) → n < 2 ^ 64 → most < 2 ^ 63 → (n ≤ most) ↔ ((pos 0 ≤ℤ cast_signed w64 n) × (cast_signed w64 n ≤ℤ pos most))
+    (n most : ℕ) → n < 2 ^ 64 → most < 2 ^ 63
+    → (n ≤ most) ↔ ((pos 0 ≤ℤ cast_signed w64 n) × (cast_signed w64 n ≤ℤ pos most))
 
 -- and at least so many, as in the children of a struct
 abbrev pub SignedFloor : Type 0
@@ -54,7 +73,8 @@ pub record AreOffsets (o : OffsetWidth) (offsets : List ℕ) (n limit : ℕ) : T
   pub rising : (i : ℕ) → i < n → signed_offset o offsets i ≤ℤ signed_offset o offsets (i + 1)
   pub within : (i : ℕ) → i ≤ n → signed_offset o offsets i ≤ℤ pos limit
 
--- Where the bytes have room for the offsets of some slots, no fault stands in them exactly where they are such, and else 24.
+-- Where the bytes have room for the offsets of some slots, no fault stands in them exactly where they are such, and
+-- else 24.
 abbrev pub SignedArrays : Type 0
 SignedArrays =
     (o : OffsetWidth) (offsets : List ℕ) (n limit : ℕ) → ((k : ℕ) → slice_index offsets k < 256) → 0 < n

@@ -1,4 +1,4 @@
--- What holds of each message that is handed on, so that a reader of its body need not judge it again.
+-- What holds of each message that is handed on, so that a reader of its body need not check it again.
 use Rattle.std.specs.Prelude.{◌≡◌, ℕ, ◌+◌, ◌≤◌, List, length, Option, None, Some, All, IsSome, IsSomeAnd, true}
 use Rattle.values.specs.Limits.{max_batch_length, max_node_length}
 use Rattle.values.specs.Rose.{Rose, Roses, roses_size}
@@ -8,7 +8,7 @@ use Rattle.schema_meta.specs.Entry.{Entry}
 use Rattle.schema_meta.specs.declared.header.Header.{Header}
 use Rattle.schema_meta.specs.declared.header.Header.TheVariants as header
 use Rattle.schema_meta.specs.BatchHead.{BatchHead}
-use Rattle.array_layout.specs.Placing.{spans_below}
+use Rattle.array_layout.specs.Placing.{ranges_below}
 use Rattle.values.specs.Layouts.{AreLayouts}
 use Rattle.schema_meta.specs.declared.header.DictionaryHeader.{DictionaryHeader}
 use Rattle.schema_meta.specs.Dictionaries.{value_type}
@@ -23,8 +23,8 @@ pub record Fits (ls : Roses Layout) (body : ℕ) (b : BatchHead) : Type 0 where
   pub nodes : length b.nodes ≡ roses_size ls
   pub small : All (λ n. n.length ≤ max_node_length) b.nodes
   pub lengths : lengths_fit b.rows ls b.nodes ≡ true
-  pub spans : length b.spans ≡ spans_below ls
-  pub within : All (λ s. s.from + s.len ≤ body) b.spans
+  pub ranges : length b.ranges ≡ ranges_below ls
+  pub within : All (λ s. s.from + s.len ≤ body) b.ranges
   pub layouts : AreLayouts ls
 
 -- the header of a dictionary batch fits the type of its values
@@ -48,4 +48,8 @@ schema_after before (Some fields) = Some fields
 -- what is known of a stream after a message
 abbrev pub after : Known → Meta → Known
 after known m =
-    record { declared = known.declared; schema = schema_after known.schema m.schema; counts = counts_after known.counts m.header }
+    record {
+      declared = known.declared;
+      schema = schema_after known.schema m.schema;
+      counts = counts_after known.counts m.header;
+    }

@@ -1,15 +1,15 @@
 -- What is known of a stream before a message, and what a message's metadata says.
 use Rattle.std.specs.Prelude.{ℕ, ℤ, ◌+◌, List, Option, None}
 use Rattle.values.specs.Rose.{Rose}
-use Rattle.values.specs.Logical.{LogicalField}
+use Rattle.values.specs.Logical.{NamedType}
 use Rattle.schema_meta.specs.Entry.{Entry}
 use Rattle.schema_meta.specs.declared.header.Header.{Header}
 use Rattle.schema_meta.specs.declared.header.Header.TheVariants as header
 
--- the schema that was declared for the stream, if any, the one that came, once it has, and how many values each dictionary has that a batch
--- came for
+-- the schema that was declared for the stream, if any, the one that came, once it has, and how many values each
+-- dictionary has that a batch came for
 pub record Known : Type 0 where
-  pub declared : Option (List (Rose LogicalField))
+  pub declared : Option (List (Rose NamedType))
   pub schema : Option (List (Rose Entry))
   pub counts : List (ℤ × ℕ)
 

@@ -1,6 +1,25 @@
--- The reading of a whole stream: Arrow Columnar Format, "IPC Streaming Format". Message by message, each in what is known after those
--- before it.
-use Rattle.std.specs.Prelude.{ℕ, zero, suc, ◌==◌, List, [], ◌∷◌, ◌++◌, Option, None, Some, Ok, Err, length, drop, slice_range, unwrap_or, if◌then◌else◌}
+-- The reading of a whole stream: Arrow Columnar Format, "IPC Streaming Format". Message by message, each in what is
+-- known after those before it.
+use Rattle.std.specs.Prelude.{
+  ℕ,
+  zero,
+  suc,
+  ◌==◌,
+  List,
+  [],
+  ◌∷◌,
+  ◌++◌,
+  Option,
+  None,
+  Some,
+  Ok,
+  Err,
+  length,
+  drop,
+  slice_range,
+  unwrap_or,
+  if◌then◌else◌,
+}
 use Rattle.values.specs.Datum.{Datum}
 use Rattle.values.specs.Reading.{Reading, one}
 use Rattle.values.specs.Rose.{Rose}
@@ -14,7 +33,8 @@ use Rattle.schema_meta.specs.Sound.{after}
 use Rattle.schema_meta.specs.Framing.{first}
 use Rattle.schema_meta.specs.Rows.{rows_of, values_of}
 
--- What a stream tells: the schema that came, the rows of its batches, and then its end, or the faults at which it breaks.
+-- What a stream tells: the schema that came, the rows of its batches, and then its end, or the faults at which it
+-- breaks.
 pub record Story : Type 0 where
   pub schema : Option (List (Rose Entry))
   pub rows : List (List Datum)
@@ -28,9 +48,9 @@ abbrev pub after_rows : List (List Datum) → Story → Story
 after_rows rows s = record { schema = s.schema; rows = rows ++ s.rows; end = s.end }
 
 -- There is one schema: once it is known, it is that of the stream.
-abbrev pub knowing : Option (List (Rose Entry)) → Story → Story
-knowing None s = s
-knowing (Some fields) s = record { schema = Some fields; rows = s.rows; end = s.end }
+abbrev pub with_schema : Option (List (Rose Entry)) → Story → Story
+with_schema None s = s
+with_schema (Some fields) s = record { schema = Some fields; rows = s.rows; end = s.end }
 
 -- The input may end between two messages where a schema came.
 abbrev pub at_input_end : Option (List (Rose Entry)) → Reading (Unit {0})
@@ -53,34 +73,37 @@ after_values known (Err fs) rest = ends known (Err fs)
 abbrev pub fields_of : Known → List (Rose Entry)
 fields_of known = unwrap_or known.schema []
 
--- The message's header says what it tells, with the body and the bytes after the message. `known` holds after it, `ds` are the dictionary
--- batches before it, and `rest` is the story of those bytes after some dictionary batches.
-abbrev pub told_by : Known → (List DictionaryBatch → Story) → List DictionaryBatch → List ℕ → List ℕ → Header → Story
-told_by known rest ds body bytes header.Schema = rest ds
-told_by known rest ds body bytes (header.Dictionary d) =
+-- The message's header says what it tells, with the body and the bytes after the message. `known` holds after it, `ds`
+-- are the dictionary batches before it, and `rest` is the story of those bytes after some dictionary batches.
+abbrev pub story_by : Known → (List DictionaryBatch → Story) → List DictionaryBatch → List ℕ → List ℕ → Header → Story
+story_by known rest ds body bytes header.Schema = rest ds
+story_by known rest ds body bytes (header.Dictionary d) =
     after_values known (values_of (fields_of known) d body) (λ values. rest (ds ++ batch d.id d.is_delta values ∷ []))
-told_by known rest ds body bytes (header.Batch head) =
+story_by known rest ds body bytes (header.Batch head) =
     after_batch known (rows_of (dictionary_after ds) (fields_of known) head body) (rest ds)
-told_by known rest ds body bytes header.End = ends known (at_end_mark bytes)
+story_by known rest ds body bytes header.End = ends known (at_end_mark bytes)
 
-abbrev pub after_message : (Known → List DictionaryBatch → List ℕ → Story) → Known → List DictionaryBatch → List ℕ → Whole → Story
+abbrev pub after_message : (Known → List DictionaryBatch → List ℕ → Story) → Known → List DictionaryBatch → List ℕ
+    → Whole → Story
 after_message next known ds bytes w =
-    told_by known (λ es. next known es (drop (end_of w) bytes)) ds (slice_range bytes w.front (end_of w)) (drop (end_of w) bytes)
+    story_by known (λ es. next known es (drop (end_of w) bytes)) ds (slice_range bytes w.front (end_of w))
+    (drop (end_of w) bytes)
     w.meta.header
 
 -- the first message, if it is there and no fault stands in it, and what follows
-unfoldable pub told :
-    (Known → List DictionaryBatch → List ℕ → Story) → Known → List DictionaryBatch → List ℕ → Reading (Option Whole) → Story
-told next known ds bytes (Err fs) = ends known (Err fs)
-told next known ds bytes (Ok None) = ends known (Err (one fault.Truncated))
-told next known ds bytes (Ok (Some w)) = after_message next (after known w.meta) ds bytes w
+unfoldable pub story_step :
+    (Known → List DictionaryBatch → List ℕ → Story) → Known → List DictionaryBatch → List ℕ → Reading (Option Whole)
+    → Story
+story_step next known ds bytes (Err fs) = ends known (Err fs)
+story_step next known ds bytes (Ok None) = ends known (Err (one fault.Truncated))
+story_step next known ds bytes (Ok (Some w)) = after_message next (after known w.meta) ds bytes w
 
 -- the story of bytes that have at most this many messages, after these dictionary batches
 unfoldable pub story : ℕ → Known → List DictionaryBatch → List ℕ → Story
 story zero known ds bytes = ends known (at_input_end known.schema)
 story (suc n) known ds bytes =
     if length bytes == 0 then ends known (at_input_end known.schema)
-    else knowing known.schema (told (story n) known ds bytes (first known bytes))
+    else with_schema known.schema (story_step (story n) known ds bytes (first known bytes))
 
 abbrev pub nothing_known : Known
 nothing_known = record { declared = None; schema = None; counts = [] }

@@ -29,7 +29,8 @@ pub(crate) fn count(vector: &VectorRef, depth: u8, room: usize) -> Option<usize>
 #[tactic(auto, unfolding(crate::specs::Totals::total_at, crate::specs::Fields::child_at))]
 fn count_below(vector: &VectorRef, index: usize, depth: u8, room: usize) -> Option<usize>
     requires { index < vector.now.count }
-    ensures { MatchOption result (room < total_at (total depth) vector.now index) (λ left. left + total_at (total depth) vector.now index ≡ room) }
+    ensures { MatchOption result (room < total_at (total depth) vector.now index)
+        (λ left. left + total_at (total depth) vector.now index ≡ room) }
 {
     let Ok(table) = vector.table(index) else {
         return Some(room);

@@ -3,10 +3,10 @@ ghost use Rattle.std.specs.Prelude.{◌≡◌, IfOk, map};
 ghost use Rattle.schema_meta.specs.FieldLayouts.{own_layout};
 ghost use Rattle.schema_meta.specs.Logical.{named_field};
 
-use crate::coding::Coding;
+use crate::encoding::DictionaryEncoding;
 use std::alloc::{AllocError, Global};
 use std::marker::Model;
-use values::{ColType, Layout, Named};
+use values::{ColType, Layout, LogicalField};
 
 /// A field as it is stored: a column, or a part of one.
 ///
@@ -19,7 +19,7 @@ pub struct Field {
     /// The type of its values.
     pub stored: ColType,
     /// The dictionary that has its values, if it is stored by one.
-    pub coding: Option<Coding>,
+    pub encoding: Option<DictionaryEncoding>,
     pub children: Vec<Field>,
 }
 
@@ -33,7 +33,9 @@ impl Model for Field {
 
     ghost coded = { rose_code entry_code };
 
-    ghost view = { λ f. node (record { name = string_bytes f.name; nullable = f.nullable; stored = f.stored; coding = f.coding }) (kids_of f.children.items) };
+    ghost view = { λ f. node
+        (record { name = string_bytes f.name; nullable = f.nullable; stored = f.stored; encoding = f.encoding })
+        (kids_of f.children.items) };
 
     ghost size = { rose_size };
 
@@ -45,9 +47,9 @@ impl Field {
     pub fn slot_layout(&self) -> Layout
         ensures { result ≡ own_layout self.now }
     {
-        match self.coding {
+        match self.encoding {
             None => self.stored.layout(),
-            Some(Coding { index, .. }) => Layout::Number {
+            Some(DictionaryEncoding { index, .. }) => Layout::Int {
                 width: index.width,
                 signed: index.signed,
             },
@@ -58,10 +60,10 @@ impl Field {
 /// A field's name and the type of its values, with those below it.
 #[cycle(named)]
 #[tactic(auto, using(crate::proofs::Logicals::named))]
-fn named_field(alloc: Global, field: &Field) -> Result<Named, AllocError>
+fn named_field(alloc: Global, field: &Field) -> Result<LogicalField, AllocError>
     ensures { IfOk result (λ n. n ≡ named_field field.now) }
 {
-    Ok(Named {
+    Ok(LogicalField {
         name: String::from_str(alloc, field.name.as_str())?,
         col_type: field.stored.copy(alloc)?,
         children: named_fields(alloc, &field.children)?,
@@ -71,7 +73,7 @@ fn named_field(alloc: Global, field: &Field) -> Result<Named, AllocError>
 /// The names of fields and the types of their values.
 #[cycle(named)]
 #[tactic(auto, using(crate::proofs::Logicals::named))]
-pub(crate) fn named_fields(alloc: Global, fields: &[Field]) -> Result<Vec<Named>, AllocError>
+pub(crate) fn named_fields(alloc: Global, fields: &[Field]) -> Result<Vec<LogicalField>, AllocError>
     ensures { IfOk result (λ ns. ns.items ≡ map named_field fields.now) }
 {
     let mut named = Vec::with_capacity(alloc, fields.len())?;

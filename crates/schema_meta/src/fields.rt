@@ -1,9 +1,9 @@
-//! Fields, as they are read.
+//! Reads fields: Schema.fbs, table `Field`.
 ghost use Rattle.std.specs.Prelude.{◌<◌};
 ghost use Rattle.values.specs.Reading.{Answers, Judges};
 ghost use Rattle.schema_meta.specs.Fields.{checked_name, children_of, entry_by, field_of, forest, name_of};
 
-use crate::coding::read_coding;
+use crate::encoding::read_field_encoding;
 use crate::field::Field;
 use field_types::schema_fbs::{FIELD_CHILDREN, FIELD_NAME, FIELD_NULLABLE};
 use field_types::{TypeKind, may_have, read_bool, read_kind, read_type, readable};
@@ -60,13 +60,13 @@ fn read_field(alloc: Global, table: &TableRef, depth: u8) -> Result<Field, Strea
     let nullable = read_bool(table, FIELD_NULLABLE)?;
     let kind = read_kind(table)?;
     let stored = read_type(alloc, kind, table)?;
-    let coding = read_coding(kind, table)?;
+    let encoding = read_field_encoding(kind, table)?;
     let children = read_children(alloc, kind, table, depth)?;
     Ok(Field {
         name: String::from_str(alloc, name)?,
         nullable,
         stored,
-        coding,
+        encoding,
         children,
     })
 }

@@ -1,6 +1,7 @@
-//! What the metadata of a message says beside a schema: Message.fbs, tables `Message`, `DictionaryBatch` and `RecordBatch`.
+//! What the metadata of a message says beside a schema: Message.fbs, tables `Message`, `DictionaryBatch` and
+//! `RecordBatch`.
 
-use array_layout::{Node, Span};
+use array_layout::{BufferRange, FieldNode};
 use std::marker::Model;
 
 /// The kinds of headers that a stream is made of: Message.fbs, union `MessageHeader`.
@@ -15,8 +16,8 @@ pub enum MessageKind {
 #[derive(Debug, Drop)]
 pub struct BatchHeader {
     pub rows: usize,
-    pub nodes: Vec<Node>,
-    pub spans: Vec<Span>,
+    pub nodes: Vec<FieldNode>,
+    pub ranges: Vec<BufferRange>,
 }
 
 impl Model for BatchHeader {
@@ -24,7 +25,7 @@ impl Model for BatchHeader {
 
     ghost Value = { BatchHead };
 
-    ghost view = { λ b. record { rows = b.rows; nodes = b.nodes.items; spans = b.spans.items } };
+    ghost view = { λ b. record { rows = b.rows; nodes = b.nodes.items; ranges = b.ranges.items } };
 }
 
 /// The header of a dictionary batch.

@@ -1,12 +1,28 @@
 //! Laws of the definitions, each the contract of a function that does nothing.
 ghost use Rattle.schema_meta.specs.ClashLaw.{ClashLaw, TypeLaw};
 ghost use Rattle.schema_meta.specs.FieldsLaw.{ColumnsFit, ColumnsNamed, FieldsLaw};
-ghost use Rattle.schema_meta.specs.LogicalLaw.{LogicalTrees, NarrowFits, NarrowHolds, NarrowHoldsEach, NarrowRowWeighs, NarrowWeighs};
+ghost use Rattle.schema_meta.specs.LogicalLaw.{
+  LogicalTrees,
+  NarrowFits,
+  NarrowHolds,
+  NarrowHoldsEach,
+  NarrowRowWeighs,
+  NarrowWeighs,
+};
 ghost use Rattle.schema_meta.specs.PlaceLaw.{PlaceLaw, SameWords, ValuesLaw, WordsLaw};
 ghost use Rattle.schema_meta.specs.PlainLaw.{PlainArrays, PlainSlots};
 ghost use Rattle.schema_meta.specs.Paths.{FoundByPaths, StandsByPaths};
 ghost use Rattle.schema_meta.specs.SchemaLaw.{ColumnsLaw, SchemaLaw};
-ghost use Rattle.schema_meta.specs.SignLaw.{SignedArrays, SignedBound, SignedFloor, SignedLargeOffsets, SignedLength, SignedOffsets, SignedRange, SignedSize};
+ghost use Rattle.schema_meta.specs.SignLaw.{
+  SignedArrays,
+  SignedBound,
+  SignedFloor,
+  SignedLargeOffsets,
+  SignedLength,
+  SignedOffsets,
+  SignedRange,
+  SignedSize,
+};
 
 /// A fault stands in a schema's reading exactly where it stands at the end of a path of slots from the
 /// schema's table down, each path read by itself; too many fields stand by their counts or their depth.
@@ -15,9 +31,9 @@ pub fn path_law()
     ensures stands { StandsByPaths }
 {}
 
-/// Fields that are read are at most 1,024 at all levels, nested to 16 levels, with short names, types within their bounds, the
-/// children that each layout wants, slots within the limit, and no two dictionaries of one id and of different types. Their logical
-/// fields can be written, and are read back.
+/// Fields that are read are at most 1,024 at all levels, nested to 16 levels, with short names, types within their
+/// bounds, the children that each layout wants, slots within the limit, and no two dictionaries of one id and of
+/// different types. Their logical fields can be written, and are read back.
 pub fn fields_law()
     ensures read { FieldsLaw }
     ensures fit { ColumnsFit }
@@ -47,9 +63,9 @@ pub fn sign_law()
     ensures size { SignedSize }
 {}
 
-/// The layouts of logical columns are those of the stored ones with offsets of 32 bits, and such layouts hold what the others
-/// hold, with the same weights.
-#[tactic(auto, using(crate::proofs::Narrowing::narrowing))]
+/// The layouts of logical columns are those of the stored ones with offsets of 32 bits, and such layouts hold what the
+/// others hold, with the same weights.
+#[tactic(auto, using(crate::proofs::NarrowLemmas::narrowing))]
 pub fn logical_law()
     ensures trees { LogicalTrees }
     ensures fits { NarrowFits }
@@ -59,18 +75,19 @@ pub fn logical_law()
     ensures row_weights { NarrowRowWeighs }
 {}
 
-/// The arrays of a batch whose header fits its schema lie in the body, are long enough, have a slot a row, and their values lie as
-/// their fields want. The values of their dictionaries are of the fields' types where those of the ids are, and nothing else is used
-/// of these. The array of a dictionary batch lies in the body, has a slot a value, and lies as the type wants.
+/// The arrays of a batch whose header fits its schema lie in the body, are long enough, have a slot a row, and their
+/// values lie as their fields want. The values of their dictionaries are of the fields' types where those of the ids
+/// are, and nothing else is used of these. The array of a dictionary batch lies in the body, has a slot a value, and
+/// lies as the type wants.
 pub fn place_law()
     ensures placed { PlaceLaw }
-    ensures words { WordsLaw }
+    ensures dictionary { WordsLaw }
     ensures same { SameWords }
     ensures values { ValuesLaw }
 {}
 
-/// No ids of dictionaries clash exactly where any two fields with one id, at all levels, have the same type; and then the type that
-/// is found for an id is that of the fields with the id, where there are any.
+/// No ids of dictionaries clash exactly where any two fields with one id, at all levels, have the same type; and then
+/// the type that is found for an id is that of the fields with the id, where there are any.
 pub fn clash_law()
     ensures clash { ClashLaw }
     ensures types { TypeLaw }

@@ -1,12 +1,13 @@
 //! The Schema message: what its table means, and which faults stand in it.
 //!
-//! `specs/Schema.antt` has the definition that `read_schema` is proved against; it stands on
-//! `Fields` (a field with its children), `Types` (the types that are taken) and `Totals` (the count of
-//! fields), `Encoding` (the dictionary of a field) and `Dictionaries` (those of all fields). `Entry` is what contracts see of a field, `Logical` what its values are.
-#![tactic(auto, unfolding(field_types::specs::Reads::bool_of, field_types::specs::Kinds::kind_of, field_types::specs::Types::type_of, field_types::specs::Reads::short_of, crate::specs::Encoding::id_of, crate::specs::Encoding::index_type_of, crate::specs::Encoding::dense_of, crate::specs::Encoding::encoding_of, crate::specs::Encoding::coding_of, crate::specs::Dictionaries::value_type, crate::specs::Dictionaries::is_clear, crate::specs::Fields::name_of, crate::specs::Fields::children_of, crate::specs::Fields::label_of, crate::specs::Fields::content_of, crate::specs::Fields::field_of, crate::specs::Fields::entry_by, crate::specs::Totals::total_at, crate::specs::Schema::endianness_of, crate::specs::Schema::columns_of, crate::specs::Schema::schema_of))]
+//! `specs/Schema.antt` has the definition that `read_schema` is proved against; it stands on `Fields` (a field with its
+//! children), `Types` (the types that are taken) and `Totals` (the count of fields), `Encoding` (the dictionary of a
+//! field) and `Dictionaries` (those of all fields). `Entry` is what contracts see of a field, `Logical` what its values
+//! are.
+#![tactic(auto, unfolding(field_types::specs::Reads::bool_of, field_types::specs::Kinds::kind_of, field_types::specs::Types::type_of, field_types::specs::Reads::short_of, crate::specs::Encoding::id_of, crate::specs::Encoding::index_type_of, crate::specs::Encoding::dense_of, crate::specs::Encoding::encoding_of, crate::specs::Encoding::field_encoding_of, crate::specs::Dictionaries::value_type, crate::specs::Dictionaries::is_clear, crate::specs::Fields::name_of, crate::specs::Fields::children_of, crate::specs::Fields::label_of, crate::specs::Fields::content_of, crate::specs::Fields::field_of, crate::specs::Fields::entry_by, crate::specs::Totals::total_at, crate::specs::Schema::endianness_of, crate::specs::Schema::columns_of, crate::specs::Schema::schema_of))]
 
-mod coding;
 mod count;
+mod encoding;
 mod field;
 mod fields;
 mod header;
@@ -19,7 +20,7 @@ mod slot;
 mod value_types;
 mod write;
 
-pub use coding::Coding;
+pub use encoding::DictionaryEncoding;
 pub use field::Field;
 pub use header::{BatchHeader, DictionaryHeader, Header, MessageKind};
 pub use laws::{

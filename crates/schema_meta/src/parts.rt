@@ -1,17 +1,34 @@
-//! Where the arrays of a batch lie: Arrow Columnar Format, "RecordBatch message".
+//! Places the arrays of a batch in its body: Arrow Columnar Format, "RecordBatch message".
 
 ghost use Rattle.std.specs.Prelude.{◌≡◌, ◌+◌, ◌<◌, ◌≤◌, ◌^◌, IfOk, length};
 ghost use Rattle.values.specs.Rose.{kids_of, rose_size, roses_size};
 ghost use Rattle.dictionaries.specs.Table.{values_in};
-ghost use Rattle.array_layout.specs.Placing.{node_at, offsets_at, part_at, placed, placed_all, span_at, spans_below, spans_in, values_at};
+ghost use Rattle.array_layout.specs.Placing.{
+  node_at,
+  offsets_at,
+  data_at,
+  placed,
+  placed_all,
+  range_at,
+  ranges_below,
+  ranges_in,
+  values_at,
+};
 ghost use Rattle.schema_meta.specs.FieldLayouts.{slot_layout_of, slot_layouts_of};
-ghost use Rattle.schema_meta.specs.Parts.{arrays_of, decoded, decoded_all, values_array, with_words, words_of};
+ghost use Rattle.schema_meta.specs.Parts.{
+  arrays_of,
+  decoded,
+  decoded_all,
+  values_array,
+  with_dictionary,
+  dictionary_values,
+};
 
-use crate::coding::Coding;
+use crate::encoding::DictionaryEncoding;
 use crate::field::Field;
 use crate::header::BatchHeader;
 use crate::schema::StreamSchema;
-use array_layout::{Array, Node, Part, Span, Words, own_spans};
+use array_layout::{Array, ArrayData, BufferRange, DictionaryValues, FieldNode, own_ranges};
 use dictionaries::Dicts;
 use std::alloc::{AllocError, Global};
 use values::{ColType, Layout};
@@ -20,28 +37,28 @@ use values::{ColType, Layout};
 #[derive(Drop)]
 struct Cursor {
     node: usize,
-    span: usize,
+    range: usize,
 }
 
-const NOWHERE: Span = Span { from: 0, len: 0 };
+const NOWHERE: BufferRange = BufferRange { from: 0, len: 0 };
 
 /// Buffer `index`, or one of length 0 where there is none.
-fn span_at(spans: &[Span], index: usize) -> Span
-    ensures { result ≡ span_at spans.now index }
+fn range_at(ranges: &[BufferRange], index: usize) -> BufferRange
+    ensures { result ≡ range_at ranges.now index }
 {
-    match spans.get(index) {
-        Some(span) => *span,
+    match ranges.get(index) {
+        Some(range) => *range,
         None => NOWHERE,
     }
 }
 
 /// Node `index`, or one of length 0 where there is none.
-fn node_at(nodes: &[Node], index: usize) -> Node
+fn node_at(nodes: &[FieldNode], index: usize) -> FieldNode
     ensures { result ≡ node_at nodes.now index }
 {
     match nodes.get(index) {
         Some(node) => *node,
-        None => Node {
+        None => FieldNode {
             length: 0,
             nulls: 0,
         },
@@ -49,66 +66,66 @@ fn node_at(nodes: &[Node], index: usize) -> Node
 }
 
 /// The buffer with the offsets, when validity is buffer `first`.
-fn offsets_at(layout: Layout, spans: &[Span], first: usize) -> Span
+fn offsets_at(layout: Layout, ranges: &[BufferRange], first: usize) -> BufferRange
     requires { first + 3 < 2 ^ 64 }
-    ensures { result ≡ offsets_at layout spans.now first }
+    ensures { result ≡ offsets_at layout ranges.now first }
 {
     match layout {
-        Layout::Text { .. } | Layout::Bytes { .. } | Layout::List { .. } => {
-            span_at(spans, first + 1)
+        Layout::Utf8 { .. } | Layout::Binary { .. } | Layout::List { .. } => {
+            range_at(ranges, first + 1)
         }
         _ => NOWHERE,
     }
 }
 
 /// The buffer with the values, when validity is buffer `first`.
-fn values_at(layout: Layout, spans: &[Span], first: usize) -> Span
+fn values_at(layout: Layout, ranges: &[BufferRange], first: usize) -> BufferRange
     requires { first + 3 < 2 ^ 64 }
-    ensures { result ≡ values_at layout spans.now first }
+    ensures { result ≡ values_at layout ranges.now first }
 {
     match layout {
-        Layout::Text { .. } | Layout::Bytes { .. } => span_at(spans, first + 2),
+        Layout::Utf8 { .. } | Layout::Binary { .. } => range_at(ranges, first + 2),
         Layout::List { .. } | Layout::Struct => NOWHERE,
-        _ => span_at(spans, first + 1),
+        _ => range_at(ranges, first + 1),
     }
 }
 
-fn part_at(
-    nodes: &[Node],
-    spans: &[Span],
+fn data_at(
+    nodes: &[FieldNode],
+    ranges: &[BufferRange],
     at: &Cursor,
     layout: Layout,
-    words: Option<Words>,
-) -> Part
-    requires { at.now.span + 3 < 2 ^ 64 }
-    ensures { result ≡ with_words words (part_at nodes.now spans.now at.now.node at.now.span layout) }
+    dictionary: Option<DictionaryValues>,
+) -> ArrayData
+    requires { at.now.range + 3 < 2 ^ 64 }
+    ensures { result ≡ with_dictionary dictionary (data_at nodes.now ranges.now at.now.node at.now.range layout) }
 {
     let node = node_at(nodes, at.node);
-    Part {
+    ArrayData {
         layout,
-        words,
+        dictionary,
         len: node.length,
         nulls: node.nulls,
-        validity: span_at(spans, at.span),
-        offsets: offsets_at(layout, spans, at.span),
-        values: values_at(layout, spans, at.span),
+        validity: range_at(ranges, at.range),
+        offsets: offsets_at(layout, ranges, at.range),
+        values: values_at(layout, ranges, at.range),
     }
 }
 
 /// The values that a field's dictionary has now, if it has one.
-fn words_of(
+fn dictionary_values(
     dicts: &Dicts,
-    coding: Option<Coding>,
+    encoding: Option<DictionaryEncoding>,
     stored: &ColType,
-) -> Result<Option<Words>, AllocError>
-    ensures { IfOk result (λ w. w ≡ words_of (values_in dicts.now) coding stored.now) }
+) -> Result<Option<DictionaryValues>, AllocError>
+    ensures { IfOk result (λ w. w ≡ dictionary_values (values_in dicts.now) encoding stored.now) }
 {
-    let Some(coding) = coding else {
+    let Some(encoding) = encoding else {
         return Ok(None);
     };
-    let values = dicts.share(coding.id)?;
+    let values = dicts.share(encoding.id)?;
     let layout = stored.layout();
-    Ok(Some(Words { layout, values }))
+    Ok(Some(DictionaryValues { layout, values }))
 }
 
 /// The array of a field; the cursor moves past it and all below it.
@@ -117,24 +134,26 @@ fn words_of(
 fn place(
     alloc: Global,
     field: &Field,
-    nodes: &[Node],
-    spans: &[Span],
+    nodes: &[FieldNode],
+    ranges: &[BufferRange],
     dicts: &Dicts,
     at: &mut Cursor,
 ) -> Result<Array, AllocError>
     requires nodes { at.old.node + rose_size (slot_layout_of field.now) ≤ length nodes.now }
-    requires spans { at.old.span + spans_in (slot_layout_of field.now) ≤ length spans.now }
-    ensures array { IfOk result (λ a. a ≡ decoded (values_in dicts.now) field.now (placed nodes.now spans.now at.old.node at.old.span (slot_layout_of field.now))) }
+    requires ranges { at.old.range + ranges_in (slot_layout_of field.now) ≤ length ranges.now }
+    ensures array { IfOk result
+        (λ a. a ≡ decoded (values_in dicts.now) field.now
+        (placed nodes.now ranges.now at.old.node at.old.range (slot_layout_of field.now))) }
     ensures node { IfOk result (λ _. at.new.node ≡ at.old.node + rose_size (slot_layout_of field.now)) }
-    ensures span { IfOk result (λ _. at.new.span ≡ at.old.span + spans_in (slot_layout_of field.now)) }
+    ensures range { IfOk result (λ _. at.new.range ≡ at.old.range + ranges_in (slot_layout_of field.now)) }
 {
     let layout = field.slot_layout();
-    let words = words_of(dicts, field.coding, &field.stored)?;
-    let part = part_at(nodes, spans, at, layout, words);
+    let dictionary = dictionary_values(dicts, field.encoding, &field.stored)?;
+    let own = data_at(nodes, ranges, at, layout, dictionary);
     at.node += 1;
-    at.span += own_spans(layout);
-    let children = place_all(alloc, &field.children, nodes, spans, dicts, at)?;
-    Ok(Array { part, children })
+    at.range += own_ranges(layout);
+    let children = place_all(alloc, &field.children, nodes, ranges, dicts, at)?;
+    Ok(Array { own, children })
 }
 
 /// The arrays of these fields, one after the other.
@@ -143,20 +162,22 @@ fn place(
 fn place_all(
     alloc: Global,
     fields: &[Field],
-    nodes: &[Node],
-    spans: &[Span],
+    nodes: &[FieldNode],
+    ranges: &[BufferRange],
     dicts: &Dicts,
     at: &mut Cursor,
 ) -> Result<Vec<Array>, AllocError>
     requires nodes { at.old.node + roses_size (slot_layouts_of fields.now) ≤ length nodes.now }
-    requires spans { at.old.span + spans_below (slot_layouts_of fields.now) ≤ length spans.now }
-    ensures arrays { IfOk result (λ a. kids_of a.items ≡ decoded_all (values_in dicts.now) (kids_of fields.now) (placed_all nodes.now spans.now at.old.node at.old.span (slot_layouts_of fields.now))) }
+    requires ranges { at.old.range + ranges_below (slot_layouts_of fields.now) ≤ length ranges.now }
+    ensures arrays { IfOk result
+        (λ a. kids_of a.items ≡ decoded_all (values_in dicts.now) (kids_of fields.now)
+        (placed_all nodes.now ranges.now at.old.node at.old.range (slot_layouts_of fields.now))) }
     ensures node { IfOk result (λ _. at.new.node ≡ at.old.node + roses_size (slot_layouts_of fields.now)) }
-    ensures span { IfOk result (λ _. at.new.span ≡ at.old.span + spans_below (slot_layouts_of fields.now)) }
+    ensures range { IfOk result (λ _. at.new.range ≡ at.old.range + ranges_below (slot_layouts_of fields.now)) }
 {
     let mut arrays = Vec::with_capacity(alloc, fields.len())?;
     for field in fields {
-        arrays.push(place(alloc, field, nodes, spans, dicts, at)?)?;
+        arrays.push(place(alloc, field, nodes, ranges, dicts, at)?)?;
     }
     Ok(arrays)
 }
@@ -170,15 +191,15 @@ pub fn place_arrays(
     dicts: &Dicts,
 ) -> Result<Vec<Array>, AllocError>
     requires nodes { roses_size (slot_layouts_of schema.now.fields.items) ≤ length header.now.nodes }
-    requires spans { spans_below (slot_layouts_of schema.now.fields.items) ≤ length header.now.spans }
+    requires ranges { ranges_below (slot_layouts_of schema.now.fields.items) ≤ length header.now.ranges }
     ensures { IfOk result (λ a. kids_of a.items ≡ arrays_of (values_in dicts.now) schema.now.fields.items header.now) }
 {
-    let mut at = Cursor { node: 0, span: 0 };
+    let mut at = Cursor { node: 0, range: 0 };
     place_all(
         alloc,
         &schema.fields,
         &header.nodes,
-        &header.spans,
+        &header.ranges,
         dicts,
         &mut at,
     )
@@ -189,10 +210,10 @@ pub fn place_arrays(
 pub fn place_values(alloc: Global, stored: &ColType, header: &BatchHeader) -> Array
     ensures { result ≡ values_array stored.now header.now }
 {
-    let at = Cursor { node: 0, span: 0 };
-    let part = part_at(&header.nodes, &header.spans, &at, stored.layout(), None);
+    let at = Cursor { node: 0, range: 0 };
+    let own = data_at(&header.nodes, &header.ranges, &at, stored.layout(), None);
     Array {
-        part,
+        own,
         children: Vec::new(alloc),
     }
 }

@@ -1,6 +1,6 @@
-//! The schema of a stream.
+//! Reads a schema: Schema.fbs, table `Schema`.
 ghost use Rattle.std.specs.Prelude.{◌≡◌, IfErr, IfOk, OnOk, map};
-ghost use Rattle.values.specs.Reading.{Answers, Fails, IsGood, Judges};
+ghost use Rattle.values.specs.Reading.{Answers, Fails, IsValid, Judges};
 ghost use Rattle.schema_meta.specs.Logical.{logical_field};
 ghost use Rattle.schema_meta.specs.Schema.{columns_of, endianness_of, schema_of};
 
@@ -34,14 +34,14 @@ impl StreamSchema {
 
 /// The schema that a Schema table of the metadata means (Apache Arrow Schema.fbs, table Schema).
 ///
-/// The error is a fault that stands in the table, any one where there are several: `BadTable`, `BadName`,
-/// `BigEndian`, `UnsupportedType`, `BadType`, `TooManyFields` or `DictionaryClash`. Where none stands only `Memory` is an
-/// error. What lies under a type of a kind that isn't taken is not read.
+/// The error is a fault that stands in the table, any one where there are several: `BadTable`, `BadName`, `BigEndian`,
+/// `UnsupportedType`, `BadType`, `TooManyFields` or `DictionaryClash`. Where none stands only `Memory` is an error.
+/// What lies under a type of a kind that isn't taken is not read.
 pub fn read_schema(alloc: Global, schema: &TableRef) -> Result<StreamSchema, StreamFault>
     ensures reading { Answers (λ s. s.fields.items) result (schema_of schema.now) }
 
     // what this says of the two outcomes
-    ensures ok { OnOk result (IsGood (schema_of schema.now)) }
+    ensures ok { OnOk result (IsValid (schema_of schema.now)) }
     ensures fault { IfErr result (λ c. Fails c (schema_of schema.now)) }
 {
     check_endianness(schema)?;

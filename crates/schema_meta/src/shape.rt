@@ -1,14 +1,14 @@
-//! What a schema wants of its batches: Arrow Columnar Format, "Buffer Listing for Each Layout".
+//! The numbers of field nodes and buffers that a schema demands of its batches.
 
 ghost use Rattle.std.specs.Prelude.{◌≡◌, ◌*◌, ◌≤◌};
 ghost use Rattle.values.specs.Limits.{max_fields};
 ghost use Rattle.values.specs.Rose.{kids_of, roses_size};
-ghost use Rattle.array_layout.specs.Placing.{spans_below};
+ghost use Rattle.array_layout.specs.Placing.{ranges_below};
 ghost use Rattle.schema_meta.specs.FieldLayouts.{slot_layouts_of};
 
 use crate::field::Field;
 use crate::schema::StreamSchema;
-use array_layout::own_spans;
+use array_layout::own_ranges;
 
 /// The nodes of these fields and of those below them: one each.
 #[tactic(auto, using(crate::proofs::Counts::counts))]
@@ -25,16 +25,16 @@ fn nodes_of(fields: &[Field]) -> usize
 
 /// The buffers of these fields and of those below them.
 #[tactic(auto, using(crate::proofs::Counts::counts))]
-fn spans_of(fields: &[Field]) -> usize
+fn ranges_of(fields: &[Field]) -> usize
     requires { roses_size (kids_of fields.now) ≤ max_fields }
-    ensures exact { result ≡ spans_below (slot_layouts_of fields.now) }
+    ensures exact { result ≡ ranges_below (slot_layouts_of fields.now) }
     ensures bound { result ≤ 3 * roses_size (kids_of fields.now) }
 {
-    let mut spans = 0;
+    let mut ranges = 0;
     for field in fields {
-        spans += own_spans(field.slot_layout()) + spans_of(&field.children);
+        ranges += own_ranges(field.slot_layout()) + ranges_of(&field.children);
     }
-    spans
+    ranges
 }
 
 impl StreamSchema {
@@ -47,10 +47,10 @@ impl StreamSchema {
     }
 
     /// How many buffers each of its batches has.
-    pub fn spans(&self) -> usize
+    pub fn ranges(&self) -> usize
         requires { roses_size (kids_of self.now.fields.items) ≤ max_fields }
-        ensures { result ≡ spans_below (slot_layouts_of self.now.fields.items) }
+        ensures { result ≡ ranges_below (slot_layouts_of self.now.fields.items) }
     {
-        spans_of(&self.fields)
+        ranges_of(&self.fields)
     }
 }

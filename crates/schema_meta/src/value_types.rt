@@ -1,10 +1,10 @@
-//! The types of dictionaries' values, by id.
+//! Value types of dictionaries, by id.
 ghost use Rattle.std.specs.Prelude.{◌≡◌};
 ghost use Rattle.std.specs.Option.{option_copied};
 ghost use Rattle.values.specs.Rose.{kids_of};
 ghost use Rattle.schema_meta.specs.Dictionaries.{agree, agrees, is_clear, own_agrees, type_below, type_in, value_type};
 
-use crate::coding::Coding;
+use crate::encoding::DictionaryEncoding;
 use crate::field::Field;
 use crate::schema::StreamSchema;
 use values::ColType;
@@ -15,8 +15,8 @@ use values::ColType;
 fn type_in(field: &Field, id: i64) -> Option<&ColType>
     ensures { option_copied result ≡ type_in id field.now }
 {
-    match field.coding {
-        Some(coding) if coding.id == id => Some(&field.stored),
+    match field.encoding {
+        Some(encoding) if encoding.id == id => Some(&field.stored),
         _ => type_below(&field.children, id),
     }
 }
@@ -51,12 +51,12 @@ impl StreamSchema {
 }
 
 /// Whether a field's dictionary, if it has one, has values of this type among `all`.
-fn own_agrees(all: &[Field], coding: Option<Coding>, stored: &ColType) -> bool
-    ensures { result ≡ own_agrees (value_type all.now) coding stored.now }
+fn own_agrees(all: &[Field], encoding: Option<DictionaryEncoding>, stored: &ColType) -> bool
+    ensures { result ≡ own_agrees (value_type all.now) encoding stored.now }
 {
-    match coding {
+    match encoding {
         None => true,
-        Some(coding) => match value_type(all, coding.id) {
+        Some(encoding) => match value_type(all, encoding.id) {
             None => false,
             Some(known) => stored == known,
         },
@@ -68,7 +68,7 @@ fn own_agrees(all: &[Field], coding: Option<Coding>, stored: &ColType) -> bool
 fn agrees(all: &[Field], field: &Field) -> bool
     ensures { result ≡ agrees (value_type all.now) field.now }
 {
-    own_agrees(all, field.coding, &field.stored) && agree(all, &field.children)
+    own_agrees(all, field.encoding, &field.stored) && agree(all, &field.children)
 }
 
 #[cycle(agreement)]

@@ -1,4 +1,4 @@
-//! Writing a message's metadata.
+//! Writes a message's metadata.
 
 ghost use Rattle.std.specs.Prelude.{◌≡◌, ◌<◌, length, IfOk};
 ghost use Rattle.flatbuf.specs.Tree.{table};
@@ -7,7 +7,13 @@ ghost use Rattle.values.specs.Rose.{kids_of};
 ghost use Rattle.flatbuf.specs.Written.{up, object_end, whole, IsWritable};
 ghost use Rattle.flatbuf.specs.Built.{listed, slots};
 ghost use Rattle.schema_meta.specs.MessageTree.{header_number, message_slots};
-ghost use Rattle.schema_meta.specs.SchemaTree.{field_slots, field_tables as tables_of, schema_slots, schema_metadata, AreColumns};
+ghost use Rattle.schema_meta.specs.SchemaTree.{
+  field_slots,
+  field_tables as tables_of,
+  schema_slots,
+  schema_metadata,
+  AreColumns,
+};
 
 use crate::header::MessageKind;
 use crate::message_fbs::{HEADER_DICTIONARY_BATCH, HEADER_RECORD_BATCH, HEADER_SCHEMA};
@@ -15,7 +21,7 @@ use field_types::schema_fbs::{LITTLE_ENDIAN, V5};
 use field_types::{type_number, type_table};
 use flatbuf::{Builder, Tables};
 use std::alloc::{AllocError, Global};
-use values::{Named, Schema};
+use values::{LogicalField, Schema};
 
 fn number_of_header(kind: MessageKind) -> u8
     ensures { result ≡ header_number kind }
@@ -36,7 +42,8 @@ pub fn write_message(
 ) -> Result<Vec<u8>, AllocError>
     requires { IsWritable (message_slots kind (slots header) body_len) }
     ensures bytes { IfOk result (λ bytes. bytes.items ≡ whole (message_slots kind (slots header) body_len)) }
-    ensures size { IfOk result (λ bytes. length bytes.items ≡ up 8 (object_end 4 (table (message_slots kind (slots header) body_len)))) }
+    ensures size { IfOk result
+        (λ bytes. length bytes.items ≡ up 8 (object_end 4 (table (message_slots kind (slots header) body_len)))) }
 {
     let mut message = Builder::new(alloc);
     message.u16(V5 as u16)?;
@@ -49,7 +56,7 @@ pub fn write_message(
 /// The table of a field: Schema.fbs, `Field`, nullable, without a dictionary.
 #[cycle(tables)]
 #[tactic(auto, using(crate::proofs::FieldTables::field_tables_made))]
-fn field_table(alloc: Global, field: &Named) -> Result<Builder, AllocError>
+fn field_table(alloc: Global, field: &LogicalField) -> Result<Builder, AllocError>
     ensures { IfOk result (λ table. slots table ≡ field_slots field.now) }
 {
     let mut table = Builder::new(alloc);
@@ -65,7 +72,7 @@ fn field_table(alloc: Global, field: &Named) -> Result<Builder, AllocError>
 /// The tables of fields, one after another.
 #[cycle(tables)]
 #[tactic(auto, using(crate::proofs::FieldTables::field_tables_made))]
-fn field_tables(alloc: Global, fields: &[Named]) -> Result<Tables, AllocError>
+fn field_tables(alloc: Global, fields: &[LogicalField]) -> Result<Tables, AllocError>
     ensures { IfOk result (λ tables. listed tables ≡ tables_of (kids_of fields.now)) }
 {
     let mut tables = Tables::new(alloc);

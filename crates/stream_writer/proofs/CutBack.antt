@@ -1,5 +1,31 @@
 -- The batches of a table's rows, joined, are the rows; none could be longer.
-use Rattle.std.proofs.Common.{◌≡◌, ℕ, zero, suc, ◌+◌, ◌-◌, ◌<◌, ◌≤◌, List, [], ◌∷◌, ◌++◌, length, take, drop, refl, ap, sym, ◌∙◌, arith, subst, length-drop, inl, inr, ◌⊎◌}
+use Rattle.std.proofs.Common.{
+  ◌≡◌,
+  ℕ,
+  zero,
+  suc,
+  ◌+◌,
+  ◌-◌,
+  ◌<◌,
+  ◌≤◌,
+  List,
+  [],
+  ◌∷◌,
+  ◌++◌,
+  length,
+  take,
+  drop,
+  refl,
+  ap,
+  sym,
+  ◌∙◌,
+  arith,
+  subst,
+  length-drop,
+  inl,
+  inr,
+  ◌⊎◌,
+}
 use Rattle.std.specs.Prelude.{All}
 use Rattle.std.specs.List.{flat_map}
 use Rattle.std.proofs.lemmas.Bool.{cases_lt}
@@ -11,7 +37,7 @@ use Rattle.values.specs.Datum.{Datum}
 use Rattle.values.specs.Rose.{Rose, Roses}
 use Rattle.values.specs.Layouts.{AreLayouts}
 use Rattle.values.specs.declared.layout.Layout.{Layout}
-use Rattle.values.specs.Logical.{LogicalField}
+use Rattle.values.specs.Logical.{NamedType}
 use Rattle.schema_meta.specs.SchemaTree.{AreColumns}
 use Rattle.body_writer.specs.Batch.{row_weight, rows_weight}
 use Rattle.stream_writer.specs.Stream.{batch_message, beginning, batch_len, batches, trees}
@@ -19,7 +45,8 @@ use Rattle.stream_writer.specs.Table.{IsRow}
 use Rattle.stream_writer.specs.CutLaw.{cut, IsFull, AreBatches, CutLaw}
 use Rattle.stream_writer.proofs.Cut.{taken, beginning-heavy, batch_len-within, batch-some, batch-sound}
 
-cut-bytes : (ls : Roses Layout) (most : ℕ) (rows : List (List Datum)) → batches ls most rows ≡ flat_map (batch_message ls) (cut ls most rows)
+cut-bytes : (ls : Roses Layout) (most : ℕ) (rows : List (List Datum))
+    → batches ls most rows ≡ flat_map (batch_message ls) (cut ls most rows)
 unfolding batches cut
 cut-bytes ls zero rows = refl
 cut-bytes ls (suc most) [] = refl
@@ -27,7 +54,8 @@ cut-bytes ls (suc most) (row ∷ rows) =
     let n : ℕ = batch_len ls (row ∷ rows) in
     ap (λ rest. batch_message ls (take n (row ∷ rows)) ++ rest) (cut-bytes ls most (drop n (row ∷ rows)))
 
-cut-joined : (fs : List (Rose LogicalField)) (most : ℕ) (rows : List (List Datum)) → length rows ≤ most → All (IsRow fs) rows → flat_map (λ piece. piece) (cut (trees fs) most rows) ≡ rows
+cut-joined : (fs : List (Rose NamedType)) (most : ℕ) (rows : List (List Datum)) → length rows ≤ most
+    → All (IsRow fs) rows → flat_map (λ piece. piece) (cut (trees fs) most rows) ≡ rows
 unfolding cut
 cut-joined fs zero [] few sound = refl
 cut-joined fs zero (row ∷ rows) few sound = absurd (omega (arith, few))
@@ -36,7 +64,9 @@ cut-joined fs (suc most) (row ∷ rows) few sound =
     let n : ℕ = batch_len (trees fs) (row ∷ rows) in
     let some = batch-some fs (row ∷ rows) (omega arith) sound in
     let left = length-drop n (row ∷ rows) in
-    ap (λ rest. take n (row ∷ rows) ++ rest) (cut-joined fs most (drop n (row ∷ rows)) (omega (arith, few, some, left)) (All-drop (IsRow fs) n (row ∷ rows) sound))
+    ap (λ rest. take n (row ∷ rows) ++ rest)
+    (cut-joined fs most (drop n (row ∷ rows)) (omega (arith, few, some, left))
+    (All-drop (IsRow fs) n (row ∷ rows) sound))
     ∙ take-append-drop n (row ∷ rows)
 
 -- the beginning stops at the number, at the end of the rows, or before a row that is too heavy
@@ -66,14 +96,17 @@ batch_len-full : (ls : Roses Layout) (rows : List (List Datum)) → batch_len ls
 unfolding batch_len
 batch_len-full ls rows h = beginning-full ls max_batch_rows max_batch_weight rows h
 
-full : (fs : List (Rose LogicalField)) (most : ℕ) (rows left : List (List Datum)) → All (IsRow fs) left → drop (batch_len (trees fs) rows) rows ≡ left → IsFull (trees fs) (take (batch_len (trees fs) rows) rows) (cut (trees fs) most left)
+full : (fs : List (Rose NamedType)) (most : ℕ) (rows left : List (List Datum)) → All (IsRow fs) left
+    → drop (batch_len (trees fs) rows) rows ≡ left
+    → IsFull (trees fs) (take (batch_len (trees fs) rows) rows) (cut (trees fs) most left)
 unfolding cut
 full fs zero rows left sound e = tt
 full fs (suc most) rows [] sound e = tt
 full fs (suc most) rows (x ∷ xs) sound e =
     let n : ℕ = batch_len (trees fs) rows in
     let some = batch-some fs (x ∷ xs) (omega arith) sound in
-    let first : take 1 (take (batch_len (trees fs) (x ∷ xs)) (x ∷ xs)) ≡ x ∷ [] = take-take 1 (batch_len (trees fs) (x ∷ xs)) (x ∷ xs) (omega (arith, some)) in
+    let first : take 1 (take (batch_len (trees fs) (x ∷ xs)) (x ∷ xs)) ≡ x ∷ [] =
+    take-take 1 (batch_len (trees fs) (x ∷ xs)) (x ∷ xs) (omega (arith, some)) in
     let left = ap length e in
     let behind = length-drop n rows in
     let size = length-take n rows in
@@ -85,7 +118,8 @@ full fs (suc most) rows (x ∷ xs) sound e =
       | inr heavy ↦ inr (subst Q joined heavy)
     ]
 
-cut-sound : (fs : List (Rose LogicalField)) (most : ℕ) (rows : List (List Datum)) → AreColumns fs → AreLayouts (trees fs) → All (IsRow fs) rows → AreBatches (trees fs) (cut (trees fs) most rows)
+cut-sound : (fs : List (Rose NamedType)) (most : ℕ) (rows : List (List Datum)) → AreColumns fs → AreLayouts (trees fs)
+    → All (IsRow fs) rows → AreBatches (trees fs) (cut (trees fs) most rows)
 unfolding cut
 cut-sound fs zero rows columns layouts sound = tt
 cut-sound fs (suc most) [] columns layouts sound = tt

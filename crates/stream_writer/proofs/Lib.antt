@@ -1,5 +1,5 @@
 pub mod Puts
-pub mod Going
+pub mod WrittenLemmas
 pub mod Counts
 pub mod BatchFits
 pub mod Cut

@@ -8,7 +8,7 @@ use Rattle.values.specs.Datum.{Datum, null, whole, items_of}
 use Rattle.values.specs.Layouts.{FitsIn, HoldsEach}
 use Rattle.schema_meta.specs.SchemaTree.{schema_metadata}
 use Rattle.body_writer.specs.Columns.{validity, numbers}
-use Rattle.body_writer.specs.Batch.{row_weight, body_bytes, body_buffers, body_spans, body_nodes}
+use Rattle.body_writer.specs.Batch.{row_weight, body_bytes, body_buffers, body_ranges, body_nodes}
 use Rattle.stream_writer.specs.Batch.{batch_metadata}
 use Rattle.stream_writer.specs.Sample.{sample_fields, sample_rows}
 use Rattle.stream_writer.specs.Stream.{schema_message, batch_message, batch_len, batches, canon, trees}
@@ -39,7 +39,8 @@ sample_bytes =
     0 ∷ 0 ∷ 0 ∷ 0 ∷ 0 ∷ 0 ∷ 0 ∷ 0 ∷ 30 ∷ 0 ∷ 0 ∷ 0 ∷ 0 ∷ 0 ∷ 0 ∷ 0 ∷ 255 ∷ 255 ∷ 255 ∷ 255 ∷ 0 ∷ 0 ∷ 0 ∷ 0 ∷ []
 
 pub sample-stream : canon sample_fields sample_rows ≡ sample_bytes
-unfolding canon batches batch_len batch_message batch_metadata schema_message schema_metadata body_bytes body_buffers body_spans body_nodes validity numbers bytes_of
+unfolding canon batches batch_len batch_message batch_metadata schema_message schema_metadata body_bytes body_buffers
+    body_ranges body_nodes validity numbers bytes_of
 sample-stream = refl
 
 number-held : (k : ℕ) → k < 100 → FitsIn true 8 (pos k)
@@ -62,9 +63,13 @@ sample-table =
       layouts = ((tt, tt), ((tt, tt), tt));
       few = omega arith;
       sound = All-cons P first (second ∷ third ∷ [])
-          (sample-row (whole (pos 1)) (whole (pos 10)) (held 1 (omega arith), (held 10 (omega arith), tt)) (omega arith))
-          (All-cons P second (third ∷ []) (sample-row (whole (pos 2)) null (held 2 (omega arith), (tt, tt)) (omega arith))
-          (All-cons P third [] (sample-row (whole (pos 3)) (whole (pos 30)) (held 3 (omega arith), (held 30 (omega arith), tt)) (omega arith)) (All-nil P)));
+          (sample-row (whole (pos 1)) (whole (pos 10)) (held 1 (omega arith), (held 10 (omega arith), tt))
+          (omega arith))
+          (All-cons P second (third ∷ [])
+          (sample-row (whole (pos 2)) null (held 2 (omega arith), (tt, tt)) (omega arith))
+          (All-cons P third []
+          (sample-row (whole (pos 3)) (whole (pos 30)) (held 3 (omega arith), (held 30 (omega arith), tt))
+          (omega arith)) (All-nil P)));
     }
 
 pub ruleset sample = (sample-table)

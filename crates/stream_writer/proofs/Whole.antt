@@ -1,5 +1,25 @@
 -- The parts of a table's stream, as its writer goes through them.
-use Rattle.std.proofs.Common.{◌≡◌, ℕ, ◌-◌, ◌<◌, ◌≤◌, List, [], ◌++◌, length, take, drop, ap, sym, ◌∙◌, arith, subst, Result, Ok, Err}
+use Rattle.std.proofs.Common.{
+  ◌≡◌,
+  ℕ,
+  ◌-◌,
+  ◌<◌,
+  ◌≤◌,
+  List,
+  [],
+  ◌++◌,
+  length,
+  take,
+  drop,
+  ap,
+  sym,
+  ◌∙◌,
+  arith,
+  subst,
+  Result,
+  Ok,
+  Err,
+}
 use Rattle.std.specs.Prelude.{All, Vec, MatchResult, Bool, true, false, ◌==◌}
 use Rattle.std.proofs.lemmas.Bool.Decides.{nat_tests}
 use Rattle.std.specs.Result.{IsErrAnd}
@@ -7,50 +27,63 @@ use Rattle.std.specs.declared.alloc.Global.{Global}
 use Rattle.values.specs.Datum.{Datum}
 use Rattle.values.specs.Rose.{Rose, Roses}
 use Rattle.values.specs.declared.layout.Layout.{Layout}
-use Rattle.values.specs.Logical.{LogicalField}
+use Rattle.values.specs.Logical.{NamedType}
 use Rattle.body_writer.proofs.Rows.{cells_in}
 use Rattle.stream_writer.specs.Sinks.{Sunk, Writes}
 use Rattle.stream_writer.specs.Stream.{schema_message, batch_message, batch_len, batches, end_mark, canon, trees}
 use Rattle.stream_writer.specs.Table.{IsRow}
-use Rattle.stream_writer.specs.Went.{Went}
+use Rattle.stream_writer.specs.WrittenSoFar.{WrittenSoFar}
 use Rattle.stream_writer.specs.declared.faults.WriteFault.{WriteFault}
 use Rattle.stream_writer.proofs.Cut.{batches-left, batches-none, cells-length}
-use Rattle.stream_writer.proofs.Going.{Went-start, Went-end}
+use Rattle.stream_writer.proofs.WrittenLemmas.{WrittenSoFar-start, WrittenSoFar-end}
 
-pub from-err : (old new : Sunk) (answer : Result ℕ WriteFault) (fault : WriteFault) (whole : List ℕ) → IsErrAnd answer (λ e. e ≡ fault) → Writes old new (Err fault) whole → Writes old new answer whole
+pub from-err : (old new : Sunk) (answer : Result ℕ WriteFault) (fault : WriteFault) (whole : List ℕ)
+    → IsErrAnd answer (λ e. e ≡ fault) → Writes old new (Err fault) whole → Writes old new answer whole
 from-err old new (Ok n) fault whole is writes = absurd is
-from-err old new (Err e) fault whole is writes = let P : WriteFault → Type 0 = λ f. Writes old new (Err f) whole in subst P (sym is) writes
+from-err old new (Err e) fault whole is writes = let P : WriteFault
+    → Type 0 = λ f. Writes old new (Err f) whole in subst P (sym is) writes
 
 -- the first message comes next
-pub first-comes : (start : Sunk) (fs : List (Rose LogicalField)) (rows : List (List Datum)) (bytes : List ℕ) → bytes ≡ schema_message fs →
-    Went start start 0 (canon fs rows) (bytes ++ (batches (trees fs) (length rows) rows ++ end_mark))
+pub first-comes : (start : Sunk) (fs : List (Rose NamedType)) (rows : List (List Datum)) (bytes : List ℕ)
+    → bytes ≡ schema_message fs
+    → WrittenSoFar start start 0 (canon fs rows) (bytes ++ (batches (trees fs) (length rows) rows ++ end_mark))
 unfolding canon
 first-comes start fs rows bytes e =
-    let P : List ℕ → Type 0 = λ bs. Went start start 0 (canon fs rows) (bs ++ (batches (trees fs) (length rows) rows ++ end_mark)) in
-    subst P (sym e) (Went-start start (canon fs rows))
+    let P : List ℕ
+    → Type 0 =
+    λ bs. WrittenSoFar start start 0 (canon fs rows) (bs ++ (batches (trees fs) (length rows) rows ++ end_mark)) in
+    subst P (sym e) (WrittenSoFar-start start (canon fs rows))
 
 -- a batch comes next
-pub batch-comes : (start now : Sunk) (written : ℕ) (whole : List ℕ) (fs : List (Rose LogicalField)) (rows : List (Vec Datum Global)) (n : ℕ) (bytes : List ℕ) →
-    Went start now written whole (batches (trees fs) (length (cells_in rows)) (cells_in rows) ++ end_mark) →
-    0 < length rows → n ≤ length rows → All (IsRow fs) (cells_in rows) → n ≡ batch_len (trees fs) (cells_in rows) → bytes ≡ batch_message (trees fs) (cells_in (take n rows)) →
-    Went start now written whole (bytes ++ (batches (trees fs) (length (cells_in (take (length rows - n) (drop n rows)))) (cells_in (take (length rows - n) (drop n rows))) ++ end_mark))
-batch-comes start now written whole fs rows n bytes went some h sound e is =
-    let P : List ℕ → Type 0 = λ rest. Went start now written whole rest in
+pub batch-comes :
+    (start now : Sunk) (written : ℕ) (whole : List ℕ) (fs : List (Rose NamedType)) (rows : List (Vec Datum Global))
+    (n : ℕ) (bytes : List ℕ)
+    → WrittenSoFar start now written whole (batches (trees fs) (length (cells_in rows)) (cells_in rows) ++ end_mark) →
+    0 < length rows → n ≤ length rows → All (IsRow fs) (cells_in rows) → n ≡ batch_len (trees fs) (cells_in rows)
+    → bytes ≡ batch_message (trees fs) (cells_in (take n rows))
+    → WrittenSoFar start now written whole
+    (bytes ++ (batches (trees fs) (length (cells_in (take (length rows - n) (drop n rows))))
+    (cells_in (take (length rows - n) (drop n rows))) ++ end_mark))
+batch-comes start now written whole fs rows n bytes so_far some h sound e is =
+    let P : List ℕ → Type 0 = λ rest. WrittenSoFar start now written whole rest in
     let left = cells_in (take (length rows - n) (drop n rows)) in
-    subst P (batches-left fs rows n end_mark some h sound e ∙ ap (λ bs. bs ++ (batches (trees fs) (length left) left ++ end_mark)) (sym is)) went
+    subst P (batches-left fs rows n end_mark some h sound e
+    ∙ ap (λ bs. bs ++ (batches (trees fs) (length left) left ++ end_mark)) (sym is)) so_far
 
 -- the end mark comes next
 pub end-comes : (start now : Sunk) (written : ℕ) (whole : List ℕ) (ls : Roses Layout) (rows : List (Vec Datum Global)) →
-    Went start now written whole (batches ls (length (cells_in rows)) (cells_in rows) ++ end_mark) → length rows ≡ 0 → Went start now written whole (end_mark ++ [])
-end-comes start now written whole ls rows went none =
-    let P : List ℕ → Type 0 = λ rest. Went start now written whole rest in
+    WrittenSoFar start now written whole (batches ls (length (cells_in rows)) (cells_in rows) ++ end_mark)
+    → length rows ≡ 0 → WrittenSoFar start now written whole (end_mark ++ [])
+end-comes start now written whole ls rows so_far none =
+    let P : List ℕ → Type 0 = λ rest. WrittenSoFar start now written whole rest in
     let same = cells-length rows in
-    subst P (ap (λ bs. bs ++ end_mark) (batches-none ls (cells_in rows) (omega (arith, none, same)))) went
+    subst P (ap (λ bs. bs ++ end_mark) (batches-none ls (cells_in rows) (omega (arith, none, same)))) so_far
 
 -- what the last put answers is the writer's answer
 pub last-put : (start now : Sunk) (answer : Result ℕ WriteFault) (whole : List ℕ) →
-    MatchResult answer (λ n. Went start now n whole []) (λ fault. Writes start now (Err fault) whole) → Writes start now answer whole
-last-put start now (Ok n) whole went = Went-end start now n whole went
+    MatchResult answer (λ n. WrittenSoFar start now n whole []) (λ fault. Writes start now (Err fault) whole)
+    → Writes start now answer whole
+last-put start now (Ok n) whole so_far = WrittenSoFar-end start now n whole so_far
 last-put start now (Err e) whole writes = writes
 
 pub some-left : (b : Bool) (n : ℕ) → b ≡ (n == 0) → b ≡ false → 0 < n

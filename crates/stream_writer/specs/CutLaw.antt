@@ -1,12 +1,12 @@
--- The cut into batches: the rows of the batches are the rows of the table, in order; each batch has a row and is within the
--- limits; and no batch could have taken the next row too.
+-- The cut into batches: the rows of the batches are the rows of the table, in order; each batch has a row and is within
+-- the limits; and no batch could have taken the next row too.
 use Rattle.std.specs.Prelude.{◌≡◌, ℕ, zero, suc, ◌<◌, ◌⊎◌, List, [], ◌∷◌, ◌++◌, length, take, drop, ⊤}
 use Rattle.std.specs.List.{flat_map}
 use Rattle.values.specs.Limits.{max_batch_rows, max_batch_weight}
 use Rattle.values.specs.Datum.{Datum}
 use Rattle.values.specs.Rose.{Rose, Roses}
 use Rattle.values.specs.declared.layout.Layout.{Layout}
-use Rattle.values.specs.Logical.{LogicalField}
+use Rattle.values.specs.Logical.{NamedType}
 use Rattle.body_writer.specs.Batch.{IsBatch, rows_weight}
 use Rattle.stream_writer.specs.Stream.{batch_message, batch_len, batches, trees}
 use Rattle.stream_writer.specs.Table.{IsTable}
@@ -21,7 +21,8 @@ cut ls (suc most) (row ∷ rows) =
 -- with one row more it would be too long or too heavy
 abbrev pub IsFull : Roses Layout → List (List Datum) → List (List (List Datum)) → Type 0
 IsFull ls batch [] = ⊤
-IsFull ls batch (next ∷ later) = (length batch ≡ max_batch_rows) ⊎ (max_batch_weight < rows_weight ls (batch ++ take 1 next))
+IsFull ls batch (next ∷ later) =
+    (length batch ≡ max_batch_rows) ⊎ (max_batch_weight < rows_weight ls (batch ++ take 1 next))
 
 abbrev pub AreBatches : Roses Layout → List (List (List Datum)) → Type 0
 AreBatches ls [] = ⊤
@@ -33,4 +34,5 @@ pub record IsCut (ls : Roses Layout) (rows : List (List Datum)) (pieces : List (
   pub sound : AreBatches ls pieces
 
 abbrev pub CutLaw : Type 0
-CutLaw = (fields : List (Rose LogicalField)) (rows : List (List Datum)) → IsTable fields rows → IsCut (trees fields) rows (cut (trees fields) (length rows) rows)
+CutLaw = (fields : List (Rose NamedType)) (rows : List (List Datum)) → IsTable fields rows
+    → IsCut (trees fields) rows (cut (trees fields) (length rows) rows)

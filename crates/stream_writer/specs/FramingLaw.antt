@@ -15,4 +15,5 @@ FirstLaw =
 
 -- The end mark is one, where a schema came.
 abbrev pub LastLaw : Type 0
-LastLaw = (known : Known) → IsSome known.schema → first known end_mark ≡ Ok (Some (record { front = 8; meta = end_meta }))
+LastLaw = (known : Known) → IsSome known.schema
+    → first known end_mark ≡ Ok (Some (record { front = 8; meta = end_meta }))

@@ -2,7 +2,7 @@ pub mod Sinks
 pub mod Batch
 pub mod Stream
 pub mod Table
-pub mod Went
+pub mod WrittenSoFar
 pub mod Sample
 pub mod CutLaw
 pub mod BatchLaw

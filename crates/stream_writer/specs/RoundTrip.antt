@@ -2,7 +2,7 @@
 use Rattle.std.specs.Prelude.{◌≡◌, List, [], length, Some, Ok}
 use Rattle.values.specs.Datum.{Datum}
 use Rattle.values.specs.Rose.{Rose}
-use Rattle.values.specs.Logical.{LogicalField}
+use Rattle.values.specs.Logical.{NamedType}
 use Rattle.schema_meta.specs.SchemaLaw.{stored_fields, AreNamed, before}
 use Rattle.schema_meta.specs.Story.{Story, story, story_of}
 use Rattle.schema_meta.specs.Means.{Means}
@@ -10,28 +10,28 @@ use Rattle.stream_writer.specs.Stream.{canon}
 use Rattle.stream_writer.specs.Table.{IsTable}
 
 -- the columns, the rows in order, and an end without fault
-abbrev pub whole_story : List (Rose LogicalField) → List (List Datum) → Story
+abbrev pub whole_story : List (Rose NamedType) → List (List Datum) → Story
 whole_story fs rows = record { schema = Some (stored_fields fs); rows = rows; end = Ok tt }
 
 abbrev pub RoundTrip : Type 0
 RoundTrip =
-    (fs : List (Rose LogicalField)) (rows : List (List Datum)) → IsTable fs rows → AreNamed fs
+    (fs : List (Rose NamedType)) (rows : List (List Datum)) → IsTable fs rows → AreNamed fs
     → story_of (canon fs rows) ≡ whole_story fs rows
 
 -- the same where these columns were declared for the stream
 abbrev pub DeclaredTrip : Type 0
 DeclaredTrip =
-    (fs : List (Rose LogicalField)) (rows : List (List Datum)) → IsTable fs rows → AreNamed fs
+    (fs : List (Rose NamedType)) (rows : List (List Datum)) → IsTable fs rows → AreNamed fs
     → story (length (canon fs rows)) (before (Some fs)) [] (canon fs rows) ≡ whole_story fs rows
 
 -- Reading the canonical stream of a table gives the table: no fault stands, and its columns and its rows come back.
 abbrev pub MeansItsTable : Type 0
 MeansItsTable =
-    (fs : List (Rose LogicalField)) (rows : List (List Datum)) → IsTable fs rows → AreNamed fs
+    (fs : List (Rose NamedType)) (rows : List (List Datum)) → IsTable fs rows → AreNamed fs
     → Means (story_of (canon fs rows)) fs rows
 
 -- the same where these columns were declared for the stream
 abbrev pub DeclaredMeansItsTable : Type 0
 DeclaredMeansItsTable =
-    (fs : List (Rose LogicalField)) (rows : List (List Datum)) → IsTable fs rows → AreNamed fs
+    (fs : List (Rose NamedType)) (rows : List (List Datum)) → IsTable fs rows → AreNamed fs
     → Means (story (length (canon fs rows)) (before (Some fs)) [] (canon fs rows)) fs rows

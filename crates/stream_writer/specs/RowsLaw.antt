@@ -2,7 +2,7 @@
 use Rattle.std.specs.Prelude.{◌≡◌, ℤ, List, Ok}
 use Rattle.values.specs.Rose.{Rose}
 use Rattle.values.specs.Datum.{Datum}
-use Rattle.values.specs.Logical.{LogicalField}
+use Rattle.values.specs.Logical.{NamedType}
 use Rattle.schema_meta.specs.SchemaLaw.{stored_fields}
 use Rattle.schema_meta.specs.Rows.{rows_of}
 use Rattle.body_writer.specs.Batch.{IsBatch, body_bytes}
@@ -12,5 +12,5 @@ use Rattle.stream_writer.specs.Stream.{trees}
 -- The body that is written, read by the header that is written, is the rows, whatever values dictionaries have.
 abbrev pub RowsLaw : Type 0
 RowsLaw =
-    (values : ℤ → List Datum) (fs : List (Rose LogicalField)) (rows : List (List Datum)) → IsBatch (trees fs) rows
+    (values : ℤ → List Datum) (fs : List (Rose NamedType)) (rows : List (List Datum)) → IsBatch (trees fs) rows
     → rows_of values (stored_fields fs) (head fs rows) (body_bytes (trees fs) rows) ≡ Ok rows

@@ -1,25 +1,27 @@
--- A table whose stream is known from outside: two columns of whole numbers, `k` and `v`. And two columns for tables without rows: texts, and
--- lists of texts.
+-- A table whose stream is known from outside: two columns of whole numbers, `k` and `v`. And two columns for tables
+-- without rows: texts, and lists of texts.
 use Rattle.std.specs.Prelude.{ℕ, List, [], ◌∷◌, pos, true}
 use Rattle.values.specs.Datum.{Datum, null, whole}
 use Rattle.values.specs.Rose.{Rose, node, none, more}
 use Rattle.values.specs.declared.layout.IntWidth.TheVariants as int
 use Rattle.values.specs.declared.layout.OffsetWidth.TheVariants as offset
-use Rattle.values.specs.Logical.{LogicalField, item_name}
+use Rattle.values.specs.Logical.{NamedType, item_name}
 use Rattle.values.specs.declared.col_type.ColType.TheVariants as stored
 
-abbrev pub sample_field : ℕ → Rose LogicalField
+abbrev pub sample_field : ℕ → Rose NamedType
 sample_field letter = node (record { name = letter ∷ []; col_type = stored.Int int.Bits64 true }) none
 
-abbrev pub sample_fields : List (Rose LogicalField)
+abbrev pub sample_fields : List (Rose NamedType)
 sample_fields = sample_field 107 ∷ sample_field 118 ∷ []
 
 abbrev pub sample_rows : List (List Datum)
-sample_rows = (whole (pos 1) ∷ whole (pos 10) ∷ []) ∷ (whole (pos 2) ∷ null ∷ []) ∷ (whole (pos 3) ∷ whole (pos 30) ∷ []) ∷ []
+sample_rows =
+    (whole (pos 1) ∷ whole (pos 10) ∷ []) ∷ (whole (pos 2) ∷ null ∷ []) ∷ (whole (pos 3) ∷ whole (pos 30) ∷ []) ∷ []
 
-abbrev pub text_field : List ℕ → Rose LogicalField
+abbrev pub text_field : List ℕ → Rose NamedType
 text_field name = node (record { name = name; col_type = stored.Utf8 offset.Bits32 }) none
 
-abbrev pub text_fields : List (Rose LogicalField)
+abbrev pub text_fields : List (Rose NamedType)
 text_fields =
-    text_field (116 ∷ []) ∷ node (record { name = 108 ∷ []; col_type = stored.List offset.Bits32 }) (more (text_field item_name) none) ∷ []
+    text_field (116 ∷ []) ∷ node (record { name = 108 ∷ []; col_type = stored.List offset.Bits32 })
+    (more (text_field item_name) none) ∷ []

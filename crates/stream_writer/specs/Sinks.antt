@@ -1,5 +1,30 @@
 -- What a sink took and how often it failed, and what a writer does to it.
-use Rattle.std.specs.Prelude.{◌≡◌, ◌≢◌, ℕ, ◌+◌, ◌%◌, ◌^◌, ◌≤◌, ◌==◌, ◌↔◌, Bool, true, not, ◌&&◌, if◌then◌else◌, List, length, take, Option, Some, Result, Ok, Err, IfOk, ⊤}
+use Rattle.std.specs.Prelude.{
+  ◌≡◌,
+  ◌≢◌,
+  ℕ,
+  ◌+◌,
+  ◌%◌,
+  ◌^◌,
+  ◌≤◌,
+  ◌==◌,
+  ◌↔◌,
+  Bool,
+  true,
+  not,
+  ◌&&◌,
+  if◌then◌else◌,
+  List,
+  length,
+  take,
+  Option,
+  Some,
+  Result,
+  Ok,
+  Err,
+  IfOk,
+  ⊤,
+}
 use Rattle.std.specs.Io.KnownBytes.{Appends, WriteAppends}
 use Rattle.stream_writer.specs.declared.sink.DeviceFault.{DeviceFault}
 use Rattle.stream_writer.specs.declared.faults.WriteFault.{WriteFault}

@@ -9,7 +9,7 @@ use Rattle.values.specs.Limits.{max_batch_rows, max_batch_weight}
 use Rattle.values.specs.Datum.{Datum}
 use Rattle.values.specs.Rose.{Rose, Roses, kids_of}
 use Rattle.values.specs.declared.layout.Layout.{Layout}
-use Rattle.values.specs.Logical.{LogicalField, trees_of}
+use Rattle.values.specs.Logical.{NamedType, trees_of}
 use Rattle.schema_meta.specs.SchemaTree.{schema_metadata}
 use Rattle.body_writer.specs.Batch.{body_bytes, row_weight}
 use Rattle.stream_writer.specs.Batch.{batch_metadata}
@@ -21,7 +21,7 @@ message metadata body = (255 ∷ 255 ∷ 255 ∷ 255 ∷ []) ++ (little_bytes 4 
 abbrev pub end_mark : List ℕ
 end_mark = 255 ∷ 255 ∷ 255 ∷ 255 ∷ 0 ∷ 0 ∷ 0 ∷ 0 ∷ []
 
-unfoldable pub schema_message : List (Rose LogicalField) → List ℕ
+unfoldable pub schema_message : List (Rose NamedType) → List ℕ
 schema_message fs = message (schema_metadata fs) []
 
 unfoldable pub batch_message : Roses Layout → List (List Datum) → List ℕ
@@ -43,11 +43,12 @@ unfoldable pub batches : Roses Layout → ℕ → List (List Datum) → List ℕ
 batches ls zero rows = []
 batches ls (suc most) [] = []
 batches ls (suc most) (row ∷ rows) =
-    batch_message ls (take (batch_len ls (row ∷ rows)) (row ∷ rows)) ++ batches ls most (drop (batch_len ls (row ∷ rows)) (row ∷ rows))
+    batch_message ls (take (batch_len ls (row ∷ rows)) (row ∷ rows))
+    ++ batches ls most (drop (batch_len ls (row ∷ rows)) (row ∷ rows))
 
 -- how the columns lie in memory
-abbrev pub trees : List (Rose LogicalField) → Roses Layout
+abbrev pub trees : List (Rose NamedType) → Roses Layout
 trees fs = trees_of (kids_of fs)
 
-unfoldable pub canon : List (Rose LogicalField) → List (List Datum) → List ℕ
+unfoldable pub canon : List (Rose NamedType) → List (List Datum) → List ℕ
 canon fs rows = schema_message fs ++ (batches (trees fs) (length rows) rows ++ end_mark)

@@ -1,4 +1,4 @@
-//! Why a table was not written whole.
+//! Faults of writing a table.
 
 ghost use Rattle.std.specs.Prelude.{◌≡◌, ◌+◌, ◌^◌, ◌<◌, Err};
 ghost use Rattle.stream_writer.specs.Sinks.{written_of, fault_after};

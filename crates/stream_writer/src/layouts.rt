@@ -1,14 +1,14 @@
-//! How the columns of a schema lie in memory.
+//! Layouts of a schema's columns.
 
 ghost use Rattle.std.specs.Prelude.{◌≡◌, IfOk};
 ghost use Rattle.values.specs.Rose.{kids_of};
 ghost use Rattle.values.specs.Logical.{tree_of, trees_of};
 
 use std::alloc::{AllocError, Global};
-use values::{LayoutTree, Named, Schema};
+use values::{LayoutTree, LogicalField, Schema};
 
 #[cycle(layouts)]
-fn layout_tree(alloc: Global, field: &Named) -> Result<LayoutTree, AllocError>
+fn layout_tree(alloc: Global, field: &LogicalField) -> Result<LayoutTree, AllocError>
     ensures { IfOk result (λ tree. tree ≡ tree_of field.now) }
 {
     let layout = field.col_type.layout();
@@ -18,7 +18,7 @@ fn layout_tree(alloc: Global, field: &Named) -> Result<LayoutTree, AllocError>
 
 #[cycle(layouts)]
 #[tactic(auto, using(crate::proofs::Trees::tree_steps))]
-fn layout_trees(alloc: Global, fields: &[Named]) -> Result<Vec<LayoutTree>, AllocError>
+fn layout_trees(alloc: Global, fields: &[LogicalField]) -> Result<Vec<LayoutTree>, AllocError>
     ensures { IfOk result (λ trees. kids_of trees.items ≡ trees_of (kids_of fields.now)) }
 {
     let mut trees = Vec::with_capacity(alloc, fields.len())?;

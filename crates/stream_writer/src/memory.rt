@@ -1,4 +1,4 @@
-//! A sink over memory.
+//! A sink that keeps its bytes in memory.
 
 ghost use Rattle.std.specs.Prelude.{◌≡◌, ◌+◌, [], IfErr, IfOk, length, min};
 ghost use Rattle.stream_writer.specs.Sinks.{Puts, sunk_of};
@@ -21,12 +21,12 @@ impl MemorySink {
         ensures bytes { result.bytes.items ≡ [] }
         ensures limits { (result.portion ≡ usize.MAX) × (result.puts ≡ u64.MAX) × (result.failed ≡ 0) }
     {
-        MemorySink::limited(alloc, usize::MAX, u64::MAX)
+        MemorySink::with_limit(alloc, usize::MAX, u64::MAX)
     }
 
     /// A sink that takes at most `portion` bytes a put, and fails after so many puts. With a portion of 0
     /// it answers 0, which is a failure too.
-    pub fn limited(alloc: Global, portion: usize, puts: u64) -> Self
+    pub fn with_limit(alloc: Global, portion: usize, puts: u64) -> Self
         ensures bytes { result.bytes.items ≡ [] }
         ensures limits { (result.portion ≡ portion) × (result.puts ≡ puts) × (result.failed ≡ 0) }
     {
@@ -38,7 +38,7 @@ impl MemorySink {
         }
     }
 
-    /// What it took.
+    /// The bytes that it took.
     pub fn bytes(&self) -> &[u8]
         ensures { result.now ≡ self.now.bytes.items }
     {
@@ -51,7 +51,8 @@ impl Sink for MemorySink {
 
     /// Takes what its portion leaves of the piece. It fails after its last put, and where memory is refused.
     fn put(&mut self, piece: &[u8]) -> Result<usize, DeviceFault>
-        ensures puts { Puts (sunk_of self.old.bytes.items self.old.failed) (sunk_of self.new.bytes.items self.new.failed) result piece.now }
+        ensures puts { Puts (sunk_of self.old.bytes.items self.old.failed) (sunk_of self.new.bytes.items self.new.failed) result
+            piece.now }
         ensures portion { IfOk result (λ n. (n ≡ min (length piece.now) self.old.portion) × (self.old.puts ≡ self.new.puts + 1)) }
         ensures limits { IfErr result (λ _. self.new.puts ≡ self.old.puts) × (self.new.portion ≡ self.old.portion) }
     {

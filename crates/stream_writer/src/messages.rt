@@ -1,4 +1,4 @@
-//! The messages of a stream, each as its bytes.
+//! Encodes the messages of a stream.
 
 ghost use Rattle.std.specs.Prelude.{◌≡◌, ◌+◌, ◌*◌, ◌^◌, ◌<◌, ◌≤◌, ◌++◌, IfOk, length, map};
 ghost use Rattle.std.specs.Int.{w64};
@@ -8,10 +8,10 @@ ghost use Rattle.schema_meta.specs.SchemaTree.{AreColumns};
 ghost use Rattle.values.specs.Limits.{max_metadata_size, max_fields};
 ghost use Rattle.values.specs.Rose.{kids_of};
 ghost use Rattle.body_writer.specs.Batch.{IsBatch};
-ghost use Rattle.stream_writer.specs.Batch.{node_bytes as nodes_as, span_bytes as spans_as, batch_slots, batch_whole};
+ghost use Rattle.stream_writer.specs.Batch.{node_bytes as nodes_as, range_bytes as ranges_as, batch_slots, batch_whole};
 ghost use Rattle.stream_writer.specs.Stream as stream;
 
-use array_layout::{Node, Span};
+use array_layout::{BufferRange, FieldNode};
 use body_writer::{Body, write_body};
 use byteorder::{ByteOrder, LittleEndian};
 use flatbuf::Builder;
@@ -46,7 +46,7 @@ pub fn schema_message(alloc: Global, schema: &Schema) -> Result<Vec<u8>, AllocEr
     Ok(bytes)
 }
 
-fn node_bytes(alloc: Global, nodes: &[Node]) -> Result<Vec<u8>, AllocError>
+fn node_bytes(alloc: Global, nodes: &[FieldNode]) -> Result<Vec<u8>, AllocError>
     requires { length nodes.now ≤ 2 ^ 16 }
     ensures { IfOk result (λ bytes. bytes.items ≡ nodes_as nodes.now) }
 {
@@ -57,19 +57,19 @@ fn node_bytes(alloc: Global, nodes: &[Node]) -> Result<Vec<u8>, AllocError>
     Ok(bytes)
 }
 
-fn span_bytes(alloc: Global, spans: &[Span]) -> Result<Vec<u8>, AllocError>
-    requires { length spans.now ≤ 2 ^ 16 }
-    ensures { IfOk result (λ bytes. bytes.items ≡ spans_as spans.now) }
+fn range_bytes(alloc: Global, ranges: &[BufferRange]) -> Result<Vec<u8>, AllocError>
+    requires { length ranges.now ≤ 2 ^ 16 }
+    ensures { IfOk result (λ bytes. bytes.items ≡ ranges_as ranges.now) }
 {
-    let mut bytes = Vec::with_capacity(alloc, 16 * spans.len())?;
-    for span in spans {
-        bytes.extend_from_slice(&span_pair(span))?;
+    let mut bytes = Vec::with_capacity(alloc, 16 * ranges.len())?;
+    for range in ranges {
+        bytes.extend_from_slice(&range_pair(range))?;
     }
     Ok(bytes)
 }
 
 /// `FieldNode`: two numbers of 64 bits.
-fn node_pair(node: &Node) -> [u8; 16]
+fn node_pair(node: &FieldNode) -> [u8; 16]
     ensures { result ≡ little_bytes 8 node.now.length ++ little_bytes 8 (low_bytes w64 8 node.now.nulls) }
 {
     let mut bytes = [0u8; 16];
@@ -79,12 +79,12 @@ fn node_pair(node: &Node) -> [u8; 16]
 }
 
 /// `Buffer`: two numbers of 64 bits.
-fn span_pair(span: &Span) -> [u8; 16]
-    ensures { result ≡ little_bytes 8 span.now.from ++ little_bytes 8 span.now.len }
+fn range_pair(range: &BufferRange) -> [u8; 16]
+    ensures { result ≡ little_bytes 8 range.now.from ++ little_bytes 8 range.now.len }
 {
     let mut bytes = [0u8; 16];
-    LittleEndian::write_u64(&mut bytes, span.from as u64);
-    LittleEndian::write_u64(&mut bytes[8..], span.len as u64);
+    LittleEndian::write_u64(&mut bytes, range.from as u64);
+    LittleEndian::write_u64(&mut bytes[8..], range.len as u64);
     bytes
 }
 
@@ -96,7 +96,8 @@ pub fn batch_message(
     rows: &[Row],
 ) -> Result<Vec<u8>, AllocError>
     requires { IsBatch (kids_of layouts.now) (map (λ row. row.items) rows.now) }
-    ensures bytes { IfOk result (λ bytes. bytes.items ≡ stream.batch_message (kids_of layouts.now) (map (λ row. row.items) rows.now)) }
+    ensures bytes { IfOk result
+        (λ bytes. bytes.items ≡ stream.batch_message (kids_of layouts.now) (map (λ row. row.items) rows.now)) }
     ensures size { IfOk result (λ bytes. length bytes.items ≤ 2 ^ 39) }
 {
     let body = write_body(alloc, layouts, rows)?;
@@ -107,20 +108,22 @@ pub fn batch_message(
 
 fn batch_header(alloc: Global, rows: u64, body: &Body) -> Result<Builder, AllocError>
     requires nodes { length body.now.nodes.items ≤ max_fields }
-    requires spans { length body.now.spans.items ≤ 3 * max_fields }
-    ensures { IfOk result (λ header. slots header ≡ batch_slots rows body.now.nodes.items body.now.spans.items) }
+    requires ranges { length body.now.ranges.items ≤ 3 * max_fields }
+    ensures { IfOk result (λ header. slots header ≡ batch_slots rows body.now.nodes.items body.now.ranges.items) }
 {
     let mut header = Builder::new(alloc);
     header.u64(rows)?;
     header.structs(16, node_bytes(alloc, &body.nodes)?)?;
-    header.structs(16, span_bytes(alloc, &body.spans)?)?;
+    header.structs(16, range_bytes(alloc, &body.ranges)?)?;
     Ok(header)
 }
 
 fn batch_metadata(alloc: Global, rows: u64, body: &Body) -> Result<Vec<u8>, AllocError>
     requires nodes { length body.now.nodes.items ≤ max_fields }
-    requires spans { length body.now.spans.items ≤ 3 * max_fields }
-    ensures bytes { IfOk result (λ bytes. bytes.items ≡ batch_whole rows body.now.nodes.items body.now.spans.items (length body.now.bytes.items)) }
+    requires ranges { length body.now.ranges.items ≤ 3 * max_fields }
+    ensures bytes { IfOk result
+        (λ bytes. bytes.items ≡ batch_whole rows body.now.nodes.items body.now.ranges.items
+        (length body.now.bytes.items)) }
     ensures size { IfOk result (λ bytes. length bytes.items < max_metadata_size) }
 {
     let header = batch_header(alloc, rows, body)?;

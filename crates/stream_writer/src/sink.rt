@@ -1,4 +1,4 @@
-//! Where bytes go.
+//! Sinks: where a stream is written to.
 
 ghost use Rattle.std.specs.Prelude.{◌+◌, ◌^◌, ◌<◌, IfErr};
 

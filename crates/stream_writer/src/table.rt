@@ -1,4 +1,4 @@
-//! Writing a table, message by message.
+//! Writes a table, message by message.
 
 ghost use Rattle.std.specs.Prelude.{ℕ, ◌≡◌, ◌+◌, ◌^◌, ◌<◌, ◌≤◌, ◌++◌, All, IfOk, MatchResult, Err, List, length, map};
 ghost use Rattle.values.specs.Limits.{max_row_weight};
@@ -7,7 +7,7 @@ ghost use Rattle.body_writer.specs.Batch.{row_weight};
 ghost use Rattle.stream_writer.specs.Sinks.{Sunk, Writes};
 ghost use Rattle.stream_writer.specs.Stream.{schema_message, batch_message, batch_len, trees, canon};
 ghost use Rattle.stream_writer.specs.Table.{IsTable};
-ghost use Rattle.stream_writer.specs.Went.{Went};
+ghost use Rattle.stream_writer.specs.WrittenSoFar.{WrittenSoFar};
 
 use crate::faults::WriteFault;
 use crate::layouts::layouts_of;
@@ -30,7 +30,8 @@ pub fn write_table<S: Sink>(
     rows: &[Row],
 ) -> Result<u64, WriteFault>
     requires { IsTable schema.now.fields.items (map (λ row. row.items) rows.now) }
-    ensures { Writes (S.sunk sink.old) (S.sunk sink.new) result (canon schema.now.fields.items (map (λ row. row.items) rows.now)) }
+    ensures { Writes (S.sunk sink.old) (S.sunk sink.new) result
+        (canon schema.now.fields.items (map (λ row. row.items) rows.now)) }
 {
     let layouts = layouts_of(alloc, schema)?;
     write_messages(alloc, sink, schema, &layouts, rows)
@@ -46,7 +47,8 @@ fn write_messages<S: Sink>(
 ) -> Result<u64, WriteFault>
     requires layouts { kids_of layouts.now ≡ trees schema.now.fields.items }
     requires table { IsTable schema.now.fields.items (map (λ row. row.items) rows.now) }
-    ensures { Writes (S.sunk sink.old) (S.sunk sink.new) result (canon schema.now.fields.items (map (λ row. row.items) rows.now)) }
+    ensures { Writes (S.sunk sink.old) (S.sunk sink.new) result
+        (canon schema.now.fields.items (map (λ row. row.items) rows.now)) }
 {
     let message = messages::schema_message(alloc, schema)?;
     let mut written = put_after(sink, &message, 0)?;
@@ -66,8 +68,10 @@ fn write_messages<S: Sink>(
 fn put_after<S: Sink>(sink: &mut S, bytes: &[u8], written: u64) -> Result<u64, WriteFault>
     requires { written + length bytes.now < 2 ^ 64 }
     ensures counted { IfOk result (λ n. n ≡ written + length bytes.now) }
-    ensures goes { (start : Sunk) (whole rest : List ℕ) → Went start (S.sunk sink.old) written whole (bytes.now ++ rest) →
-        MatchResult result (λ n. Went start (S.sunk sink.new) n whole rest) (λ fault. Writes start (S.sunk sink.new) (Err fault) whole) }
+    ensures goes { (start : Sunk) (whole rest : List ℕ)
+        → WrittenSoFar start (S.sunk sink.old) written whole (bytes.now ++ rest)
+        → MatchResult result (λ n. WrittenSoFar start (S.sunk sink.new) n whole rest)
+        (λ fault. Writes start (S.sunk sink.new) (Err fault) whole) }
 {
     match put_all(sink, bytes) {
         Ok(more) => Ok(written + more),

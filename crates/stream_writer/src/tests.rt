@@ -8,12 +8,13 @@ ghost use Rattle.stream_writer.specs.Sample as sample;
 use crate::{MemorySink, WriteFault, write_table};
 use std::alloc::{AllocError, Global};
 use std::test::Fail;
-use values::{ColType, IntWidth, Kind, Named, Row, Schema, Value};
+use values::{ColType, IntWidth, Kind, LogicalField, Row, Schema, Value};
 
-fn column(alloc: Global, name: &str) -> Result<Named, AllocError>
-    ensures { IfOk result (λ field. field ≡ node (record { name = name.now; col_type = ColType.Int IntWidth.Bits64 true }) none) }
+fn column(alloc: Global, name: &str) -> Result<LogicalField, AllocError>
+    ensures { IfOk result (λ field.
+        field ≡ node (record { name = name.now; col_type = ColType.Int IntWidth.Bits64 true }) none) }
 {
-    Ok(Named {
+    Ok(LogicalField {
         name: String::from_str(alloc, name)?,
         col_type: ColType::Int {
             width: IntWidth::Bits64,
@@ -45,9 +46,9 @@ fn sample_rows(alloc: Global) -> Result<Vec<Row>, AllocError>
     ensures { IfOk result (λ rows. map (λ row. row.items) rows.items ≡ sample.sample_rows) }
 {
     let mut rows = Vec::new(alloc);
-    rows.push(row(alloc, Kind::Whole(1), Kind::Whole(10))?)?;
-    rows.push(row(alloc, Kind::Whole(2), Kind::Null)?)?;
-    rows.push(row(alloc, Kind::Whole(3), Kind::Whole(30))?)?;
+    rows.push(row(alloc, Kind::Int(1), Kind::Int(10))?)?;
+    rows.push(row(alloc, Kind::Int(2), Kind::Null)?)?;
+    rows.push(row(alloc, Kind::Int(3), Kind::Int(30))?)?;
     Ok(rows)
 }
 
@@ -71,7 +72,7 @@ fn writes_the_known_bytes(rt: HostRuntime) -> Result<(), Fail> {
 
 #[test]
 fn takes_seven_bytes_a_put(rt: HostRuntime) -> Result<(), Fail> {
-    let mut sink = MemorySink::limited(rt.alloc(), 7, u64::MAX);
+    let mut sink = MemorySink::with_limit(rt.alloc(), 7, u64::MAX);
     assert_eq!(rt; write_sample(rt.alloc(), &mut sink)?, Ok(504));
     assert_eq!(rt; sink.bytes(), SAMPLE.as_slice());
     Ok(())
@@ -79,7 +80,7 @@ fn takes_seven_bytes_a_put(rt: HostRuntime) -> Result<(), Fail> {
 
 #[test]
 fn answers_zero(rt: HostRuntime) -> Result<(), Fail> {
-    let mut sink = MemorySink::limited(rt.alloc(), 0, u64::MAX);
+    let mut sink = MemorySink::with_limit(rt.alloc(), 0, u64::MAX);
     assert_eq!(rt;
         write_sample(rt.alloc(), &mut sink)?,
         Err(WriteFault::Device { written: 0 })
@@ -92,7 +93,7 @@ fn answers_zero(rt: HostRuntime) -> Result<(), Fail> {
 #[test]
 fn fails_at_each_put(rt: HostRuntime) -> Result<(), Fail> {
     for puts in 0..504 {
-        let mut sink = MemorySink::limited(rt.alloc(), 1, puts as u64);
+        let mut sink = MemorySink::with_limit(rt.alloc(), 1, puts as u64);
         let written = puts as u64;
         assert_eq!(rt;
             write_sample(rt.alloc(), &mut sink)?,

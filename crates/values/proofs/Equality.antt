@@ -83,7 +83,7 @@ same-type (col.Timestamp u z) = and_from _ _ (same-time u) (nat_list_eq_equiv.re
 same-type (col.Duration u) = same-time u
 same-type (col.Utf8 o) = same-offset o
 same-type (col.Binary o) = same-offset o
-same-type (col.Fixed w) = nat_eq_equiv.refl w
+same-type (col.FixedSizeBinary w) = nat_eq_equiv.refl w
 same-type (col.List o) = same-offset o
 same-type col.Struct = refl
 
@@ -115,7 +115,7 @@ equal-types (col.Timestamp u z) (col.Timestamp v y) h =
 equal-types (col.Duration u) (col.Duration v) h = ap col.Duration (equal-time u v h)
 equal-types (col.Utf8 o) (col.Utf8 q) h = ap col.Utf8 (equal-offset o q h)
 equal-types (col.Binary o) (col.Binary q) h = ap col.Binary (equal-offset o q h)
-equal-types (col.Fixed w) (col.Fixed x) h = ap col.Fixed (eqb-true w x h)
+equal-types (col.FixedSizeBinary w) (col.FixedSizeBinary x) h = ap col.FixedSizeBinary (eqb-true w x h)
 equal-types (col.List o) (col.List q) h = ap col.List (equal-offset o q h)
 equal-types col.Struct col.Struct h = refl
 equal-types a b h = absurd (cc)

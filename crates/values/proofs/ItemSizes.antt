@@ -1,6 +1,18 @@
 -- An item is smaller than all items together.
 use Rattle.std.proofs.Common.{◌≡◌, ℕ, zero, suc, ◌<◌, ◌≤◌, List, [], ◌∷◌, length, get_or, sym, arith, subst}
-use Rattle.values.specs.Datum.{Datum, null, truth, whole, text, bytes, list, structure, datum_size, items_size, items_of}
+use Rattle.values.specs.Datum.{
+  Datum,
+  null,
+  truth,
+  whole,
+  text,
+  bytes,
+  list,
+  structure,
+  datum_size,
+  items_size,
+  items_of,
+}
 
 some : (d : Datum) → 0 < datum_size d
 some null = omega arith
@@ -16,5 +28,6 @@ item-le [] i d h = absurd (omega (arith, h))
 item-le (e ∷ ds) zero d h = omega arith
 item-le (e ∷ ds) (suc i) d h = let rest = item-le ds i d (omega (arith, h)) in omega (arith, rest)
 
-pub item_below : (ds : List Datum) (i : ℕ) (d e : Datum) → e ≡ get_or ds i d → i < length ds → datum_size e ≤ items_size (items_of ds)
+pub item_below : (ds : List Datum) (i : ℕ) (d e : Datum) → e ≡ get_or ds i d → i < length ds
+    → datum_size e ≤ items_size (items_of ds)
 item_below ds i d e is h = subst (λ x. datum_size x ≤ items_size (items_of ds)) (sym is) (item-le ds i d h)

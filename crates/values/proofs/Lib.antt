@@ -3,5 +3,5 @@ pub mod Roses
 pub mod ItemSizes
 pub mod KeyLaws
 pub mod Equality
-pub mod Weighing
+pub mod WeightLemmas
 pub mod Logicals

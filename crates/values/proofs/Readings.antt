@@ -1,10 +1,56 @@
 -- Lemmas on readings, for loops and combinations of what is read.
-use Rattle.std.proofs.Common.{◌≡◌, ◌⊎◌, inl, inr, ℕ, zero, suc, ◌+◌, ◌-◌, ◌<◌, ◌≤◌, Ok, Err, List, [], ◌∷◌, ◌++◌, refl, ap, sym, subst, ◌∙◌, arith, append_assoc, append-nil, length, slice_get, Some, Option, None, get_or}
+use Rattle.std.proofs.Common.{
+  ◌≡◌,
+  ◌⊎◌,
+  inl,
+  inr,
+  ℕ,
+  zero,
+  suc,
+  ◌+◌,
+  ◌-◌,
+  ◌<◌,
+  ◌≤◌,
+  Ok,
+  Err,
+  List,
+  [],
+  ◌∷◌,
+  ◌++◌,
+  refl,
+  ap,
+  sym,
+  subst,
+  ◌∙◌,
+  arith,
+  append_assoc,
+  append-nil,
+  length,
+  slice_get,
+  Some,
+  Option,
+  None,
+  get_or,
+}
 use Rattle.std.specs.Prelude.{All}
 use Rattle.std.proofs.lemmas.Option.{get_or_from_slice_get}
 use Rattle.values.specs.declared.faults.StreamFault.{StreamFault}
 use Rattle.values.specs.declared.faults.StreamFault.TheVariants as fault
-use Rattle.values.specs.Reading.{Reading, ReadingOf, ◌>>=◌, both, cons, mapped, must, each, Stands, IsGood, Fails, Decides, with_front}
+use Rattle.values.specs.Reading.{
+  Reading,
+  ReadingOf,
+  ◌>>=◌,
+  both,
+  cons,
+  mapped,
+  must,
+  each,
+  Stands,
+  IsValid,
+  Fails,
+  Decides,
+  with_front,
+}
 
 -- A fault that stands may be answered, and where another fault is read into the same one, that too.
 pub fails-stands : {X : Type 0} (c : StreamFault) (m : Reading X) → Stands m c → Fails c m
@@ -12,29 +58,34 @@ fails-stands fault.Memory m h = tt
 fails-stands _ m h = h
 
 pub fails_along :
-    {X Y : Type 0} (c : StreamFault) (m : Reading X) (w : Reading Y) → ((d : StreamFault) → Stands m d → Stands w d) → Fails c m
+    {X Y : Type 0} (c : StreamFault) (m : Reading X) (w : Reading Y) → ((d : StreamFault) → Stands m d → Stands w d)
+    → Fails c m
     → Fails c w
 fails_along fault.Memory m w f h = tt
 fails_along c m w f h = f c h
 
 -- `both`: the faults of each side are the faults of the whole
-pub both_left : {F X Y Z : Type 0} (g : X → Y → Z) (a : ReadingOf F X) (b : ReadingOf F Y) (c : F) → Stands a c → Stands (both g a b) c
+pub both_left : {F X Y Z : Type 0} (g : X → Y → Z) (a : ReadingOf F X) (b : ReadingOf F Y) (c : F) → Stands a c
+    → Stands (both g a b) c
 both_left g (Ok x) b c h = absurd h
 both_left g (Err fs) (Ok y) c h = h
 both_left g (Err fs) (Err gs) c h = inl h
 
-pub both_right : {F X Y Z : Type 0} (g : X → Y → Z) (a : ReadingOf F X) (b : ReadingOf F Y) (c : F) → Stands b c → Stands (both g a b) c
+pub both_right : {F X Y Z : Type 0} (g : X → Y → Z) (a : ReadingOf F X) (b : ReadingOf F Y) (c : F) → Stands b c
+    → Stands (both g a b) c
 both_right g (Ok x) (Ok y) c h = absurd h
 both_right g (Err fs) (Ok y) c h = absurd h
 both_right g (Ok x) (Err gs) c h = h
 both_right g (Err fs) (Err gs) c h = inr h
 
 pub fails_left :
-    {X Y Z : Type 0} (g : X → Y → Z) (a : Reading X) (b : Reading Y) (c : StreamFault) → Fails c a → Fails c (both g a b)
+    {X Y Z : Type 0} (g : X → Y → Z) (a : Reading X) (b : Reading Y) (c : StreamFault) → Fails c a
+    → Fails c (both g a b)
 fails_left g a b c h = fails_along c a (both g a b) (λ d. both_left g a b d) h
 
 pub fails_right :
-    {X Y Z : Type 0} (g : X → Y → Z) (a : Reading X) (b : Reading Y) (c : StreamFault) → Fails c b → Fails c (both g a b)
+    {X Y Z : Type 0} (g : X → Y → Z) (a : Reading X) (b : Reading Y) (c : StreamFault) → Fails c b
+    → Fails c (both g a b)
 fails_right g a b c h = fails_along c b (both g a b) (λ d. both_right g a b d) h
 
 -- a fault of what is read first is one of the whole
@@ -58,24 +109,28 @@ fails_mapped f m c h = fails_along c m (mapped f m) (λ d. stands_mapped f m d) 
 pub ruleset failing =
     (fails-stands, both_left, both_right, fails_left, fails_right, bind_left, fails_first, stands_mapped, fails_mapped)
 
-pub both_good : {F X Y Z : Type 0} (g : X → Y → Z) (a : ReadingOf F X) (b : ReadingOf F Y) → IsGood a → IsGood b → IsGood (both g a b)
-both_good g (Ok x) (Ok y) p q = tt
-both_good g (Ok x) (Err gs) p q = absurd q
-both_good g (Err fs) b p q = absurd p
+pub both_valid : {F X Y Z : Type 0} (g : X → Y → Z) (a : ReadingOf F X) (b : ReadingOf F Y) → IsValid a → IsValid b
+    → IsValid (both g a b)
+both_valid g (Ok x) (Ok y) p q = tt
+both_valid g (Ok x) (Err gs) p q = absurd q
+both_valid g (Err fs) b p q = absurd p
 
-pub good_left : {F X Y Z : Type 0} (g : X → Y → Z) (a : ReadingOf F X) (b : ReadingOf F Y) → IsGood (both g a b) → IsGood a
-good_left g (Ok x) b h = tt
-good_left g (Err fs) (Ok y) h = absurd h
-good_left g (Err fs) (Err gs) h = absurd h
+pub valid_left : {F X Y Z : Type 0} (g : X → Y → Z) (a : ReadingOf F X) (b : ReadingOf F Y) → IsValid (both g a b)
+    → IsValid a
+valid_left g (Ok x) b h = tt
+valid_left g (Err fs) (Ok y) h = absurd h
+valid_left g (Err fs) (Err gs) h = absurd h
 
-pub good_right : {F X Y Z : Type 0} (g : X → Y → Z) (a : ReadingOf F X) (b : ReadingOf F Y) → IsGood (both g a b) → IsGood b
-good_right g a (Ok y) h = tt
-good_right g (Ok x) (Err gs) h = absurd h
-good_right g (Err fs) (Err gs) h = absurd h
+pub valid_right : {F X Y Z : Type 0} (g : X → Y → Z) (a : ReadingOf F X) (b : ReadingOf F Y) → IsValid (both g a b)
+    → IsValid b
+valid_right g a (Ok y) h = tt
+valid_right g (Ok x) (Err gs) h = absurd h
+valid_right g (Err fs) (Err gs) h = absurd h
 
 -- `each`, one step of it in the form that a loop shows
 pub each_step :
-    {F X : Type 0} (f : ℕ → ReadingOf F X) (i n : ℕ) → i < n → each f i (n - i) ≡ both cons (f i) (each f (i + 1) (n - (i + 1)))
+    {F X : Type 0} (f : ℕ → ReadingOf F X) (i n : ℕ) → i < n
+    → each f i (n - i) ≡ both cons (f i) (each f (i + 1) (n - (i + 1)))
 unfolding each
 each_step f i n h =
     let k : n - i ≡ suc (n - (i + 1)) = omega arith in
@@ -105,11 +160,13 @@ stands_both g (Err fs) (Err gs) c h = h
 
 -- the parts of what is read one after the other
 pub bind_Ok :
-    {F X Y : Type 0} (m : ReadingOf F X) (f : X → ReadingOf F Y) (z : Y) → (m >>= f) ≡ Ok z → (x : X) × (m ≡ Ok x) × (f x ≡ Ok z)
+    {F X Y : Type 0} (m : ReadingOf F X) (f : X → ReadingOf F Y) (z : Y) → (m >>= f) ≡ Ok z
+    → (x : X) × (m ≡ Ok x) × (f x ≡ Ok z)
 bind_Ok (Ok x) f z e = (x, refl, e)
 bind_Ok (Err fs) f z e = cc
 
-pub mapped_Ok : {F X Y : Type 0} (f : X → Y) (m : ReadingOf F X) (z : Y) → mapped f m ≡ Ok z → (x : X) × (m ≡ Ok x) × (f x ≡ z)
+pub mapped_Ok : {F X Y : Type 0} (f : X → Y) (m : ReadingOf F X) (z : Y) → mapped f m ≡ Ok z
+    → (x : X) × (m ≡ Ok x) × (f x ≡ z)
 mapped_Ok f (Ok x) z e = (x, refl, cc)
 mapped_Ok f (Err fs) z e = cc
 
@@ -117,9 +174,9 @@ pub must_Ok : {F X : Type 0} (c : F) (o : Option X) (x : X) → must c o ≡ Ok 
 must_Ok c None x e = cc
 must_Ok c (Some y) x e = cc
 
-pub good_Ok : {F X : Type 0} (m : ReadingOf F X) → IsGood m → (x : X) × (m ≡ Ok x)
-good_Ok (Ok x) h = (x, refl)
-good_Ok (Err fs) h = absurd h
+pub valid_Ok : {F X : Type 0} (m : ReadingOf F X) → IsValid m → (x : X) × (m ≡ Ok x)
+valid_Ok (Ok x) h = (x, refl)
+valid_Ok (Err fs) h = absurd h
 
 -- `each`: as many values as there are readings, and each is its own
 pub each_length : {F X : Type 0} (f : ℕ → ReadingOf F X) (i n : ℕ) (xs : List X) → each f i n ≡ Ok xs → length xs ≡ n
@@ -158,16 +215,17 @@ each_all P f n xs e h = λ k d l.
     let g : get_or xs k d ≡ r.0 = get_or_from_slice_get xs k r.0 d r.1 in
     subst P (sym g) (h k r.0 (ap f j ∙ r.2))
 
-pub good_each :
-    {F X : Type 0} (f : ℕ → ReadingOf F X) (i n : ℕ) → IsGood (each f i n) → (k : ℕ) → k < n → IsGood (f (i + k))
+pub valid_each :
+    {F X : Type 0} (f : ℕ → ReadingOf F X) (i n : ℕ) → IsValid (each f i n) → (k : ℕ) → k < n → IsValid (f (i + k))
 unfolding each
-good_each f i zero g k h = absurd (omega arith)
-good_each f i (suc n) g zero h =
+valid_each f i zero g k h = absurd (omega arith)
+valid_each f i (suc n) g zero h =
     let j : i ≡ i + 0 = omega arith in
-    subst (λ (m : ℕ). IsGood (f m)) j (good_left cons (f i) (each f (i + 1) n) g)
-good_each f i (suc n) g (suc k) h =
+    subst (λ (m : ℕ). IsValid (f m)) j (valid_left cons (f i) (each f (i + 1) n) g)
+valid_each f i (suc n) g (suc k) h =
     let j : (i + 1) + k ≡ i + suc k = omega arith in
-    subst (λ (m : ℕ). IsGood (f m)) j (good_each f (i + 1) n (good_right cons (f i) (each f (i + 1) n) g) k (omega arith))
+    subst (λ (m : ℕ). IsValid (f m)) j
+    (valid_each f (i + 1) n (valid_right cons (f i) (each f (i + 1) n) g) k (omega arith))
 
 pub stands_each :
     {F X : Type 0} (f : ℕ → ReadingOf F X) (i n : ℕ) (c : F) → Stands (each f i n) c
@@ -189,7 +247,8 @@ front_none (Ok ys) = refl
 front_none (Err fs) = refl
 
 front-cons :
-    {F X : Type 0} (xs : List X) (x : X) (m : ReadingOf F (List X)) → with_front (xs ++ x ∷ []) m ≡ with_front xs (both cons (Ok x) m)
+    {F X : Type 0} (xs : List X) (x : X) (m : ReadingOf F (List X))
+    → with_front (xs ++ x ∷ []) m ≡ with_front xs (both cons (Ok x) m)
 front-cons xs x (Ok ys) = ap (λ zs. Ok zs) (simp append_assoc)
 front-cons xs x (Err fs) = refl
 
@@ -198,7 +257,8 @@ front-stands xs (Ok ys) c h = h
 front-stands xs (Err fs) c h = h
 
 pub front_step :
-    {F X : Type 0} (f : ℕ → ReadingOf F X) (i n : ℕ) (xs : List X) (x : X) (w : ReadingOf F (List X)) → i < n → f i ≡ Ok x
+    {F X : Type 0} (f : ℕ → ReadingOf F X) (i n : ℕ) (xs : List X) (x : X) (w : ReadingOf F (List X)) → i < n
+    → f i ≡ Ok x
     → with_front xs (each f i (n - i)) ≡ w → with_front (xs ++ x ∷ []) (each f (i + 1) (n - (i + 1))) ≡ w
 front_step f i n xs x w h e k =
     let r : ReadingOf _ (List _) = each f (i + 1) (n - (i + 1)) in
@@ -207,7 +267,8 @@ front_step f i n xs x w h e k =
     front-cons xs x r ∙ subst P e (subst Q (each_step f i n h) k)
 
 pub front_fault :
-    {F X : Type 0} (f : ℕ → ReadingOf F X) (i n : ℕ) (xs : List X) (c : F) (w : ReadingOf F (List X)) → i < n → Stands (f i) c
+    {F X : Type 0} (f : ℕ → ReadingOf F X) (i n : ℕ) (xs : List X) (c : F) (w : ReadingOf F (List X)) → i < n
+    → Stands (f i) c
     → with_front xs (each f i (n - i)) ≡ w → Stands w c
 front_fault f i n xs c w h s k =
     let r : ReadingOf _ (List _) = each f (i + 1) (n - (i + 1)) in
@@ -216,7 +277,8 @@ front_fault f i n xs c w h s k =
     subst P k (subst Q (sym (each_step f i n h)) (front-stands xs (both cons (f i) r) c (both_left cons (f i) r c s)))
 
 pub front_fails :
-    {X : Type 0} (f : ℕ → Reading X) (i n : ℕ) (xs : List X) (c : StreamFault) (w : Reading (List X)) → i < n → Fails c (f i)
+    {X : Type 0} (f : ℕ → Reading X) (i n : ℕ) (xs : List X) (c : StreamFault) (w : Reading (List X)) → i < n
+    → Fails c (f i)
     → with_front xs (each f i (n - i)) ≡ w → Fails c w
 front_fails f i n xs c w h s k = fails_along c (f i) w (λ d t. front_fault f i n xs d w h t k) s
 
@@ -229,22 +291,25 @@ front_end f i n xs w h k =
 
 pub ruleset gathering = (front_none, front_step, front_fault, front_fails, front_end)
 
--- A loop that judges: what is left decides the whole.
+-- A loop that checks: what is left decides the whole.
 pub decides_self : {F X : Type 0} (m : ReadingOf F X) → Decides m m
-decides_self m = record { good = λ h. h; fault = λ c h. h }
+decides_self m = record { valid = λ h. h; fault = λ c h. h }
 
 pub decides_both :
-    {F X Y Z W : Type 0} (g : X → Y → Z) (a : ReadingOf F X) (b : ReadingOf F Y) (w : ReadingOf F W) → IsGood a → Decides (both g a b) w → Decides b w
+    {F X Y Z W : Type 0} (g : X → Y → Z) (a : ReadingOf F X) (b : ReadingOf F Y) (w : ReadingOf F W) → IsValid a
+    → Decides (both g a b) w → Decides b w
 decides_both g a b w p d =
-    record { good = λ h. d.good (both_good g a b p h); fault = λ c h. d.fault c (both_right g a b c h) }
+    record { valid = λ h. d.valid (both_valid g a b p h); fault = λ c h. d.fault c (both_right g a b c h) }
 
 pub decides_both_fault :
-    {F X Y Z W : Type 0} (g : X → Y → Z) (a : ReadingOf F X) (b : ReadingOf F Y) (w : ReadingOf F W) (c : F) → Stands a c
+    {F X Y Z W : Type 0} (g : X → Y → Z) (a : ReadingOf F X) (b : ReadingOf F Y) (w : ReadingOf F W) (c : F)
+    → Stands a c
     → Decides (both g a b) w → Stands w c
 decides_both_fault g a b w c s d = d.fault c (both_left g a b c s)
 
 pub decides_step :
-    {F X W : Type 0} (f : ℕ → ReadingOf F X) (i n : ℕ) (w : ReadingOf F W) → i < n → IsGood (f i) → Decides (each f i (n - i)) w
+    {F X W : Type 0} (f : ℕ → ReadingOf F X) (i n : ℕ) (w : ReadingOf F W) → i < n → IsValid (f i)
+    → Decides (each f i (n - i)) w
     → Decides (each f (i + 1) (n - (i + 1))) w
 decides_step f i n w h p d =
     let r : ReadingOf _ (List _) = each f (i + 1) (n - (i + 1)) in
@@ -260,10 +325,11 @@ decides_fault f i n w c h s d =
     decides_both_fault cons (f i) r w c s (subst Q (each_step f i n h) d)
 
 pub decides_end :
-    {F X W : Type 0} (f : ℕ → ReadingOf F X) (i n : ℕ) (w : ReadingOf F W) → n ≤ i → Decides (each f i (n - i)) w → IsGood w
+    {F X W : Type 0} (f : ℕ → ReadingOf F X) (i n : ℕ) (w : ReadingOf F W) → n ≤ i → Decides (each f i (n - i)) w
+    → IsValid w
 decides_end f i n w h d =
     let Q : ReadingOf _ (List _) → Type 0 = λ m. Decides m w in
     let e : Decides (Ok []) w = subst Q (each_none f i n h) d in
-    e.good tt
+    e.valid tt
 
 pub ruleset judging = (decides_self, decides_both, decides_both_fault, decides_step, decides_fault, decides_end)

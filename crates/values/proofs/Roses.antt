@@ -1,5 +1,25 @@
 -- Lemmas on trees and their children, for loops over the children of a node.
-use Rattle.std.proofs.Common.{◌≡◌, ℕ, zero, suc, ◌+◌, ◌<◌, ◌≤◌, List, [], ◌∷◌, ◌++◌, length, drop, get_or, refl, ap, sym, subst, arith}
+use Rattle.std.proofs.Common.{
+  ◌≡◌,
+  ℕ,
+  zero,
+  suc,
+  ◌+◌,
+  ◌<◌,
+  ◌≤◌,
+  List,
+  [],
+  ◌∷◌,
+  ◌++◌,
+  length,
+  drop,
+  get_or,
+  refl,
+  ap,
+  sym,
+  subst,
+  arith,
+}
 use Rattle.values.specs.Rose.{Rose, Roses, none, more, kids_of, join, rose_size, roses_size}
 
 -- the children from number k on, as a loop meets them
@@ -18,7 +38,8 @@ kids_end [] (suc k) h = refl
 kids_end (t ∷ ts) zero h = absurd (omega arith)
 kids_end (t ∷ ts) (suc k) h = kids_end ts k (omega arith)
 
-pub join_more : {A : Type 0} (ts : List (Rose A)) (t : Rose A) (rest : Roses A) → join (ts ++ t ∷ []) rest ≡ join ts (more t rest)
+pub join_more : {A : Type 0} (ts : List (Rose A)) (t : Rose A) (rest : Roses A)
+    → join (ts ++ t ∷ []) rest ≡ join ts (more t rest)
 join_more [] t rest = refl
 join_more (u ∷ ts) t rest = ap (λ r. more u r) (join_more ts t rest)
 
@@ -38,7 +59,8 @@ kid_smaller (t ∷ ts) (suc k) e d h l =
 -- what holds of all children holds of each
 pub kid_within :
     {A : Type 0} (P : Rose A → Type 0) (Ps : Roses A → Type 0) → ((t : Rose A) (ts : Roses A) → Ps (more t ts) → P t)
-    → ((t : Rose A) (ts : Roses A) → Ps (more t ts) → Ps ts) → (ts : List (Rose A)) (k : ℕ) (e d : Rose A) → e ≡ get_or ts k d
+    → ((t : Rose A) (ts : Roses A) → Ps (more t ts) → Ps ts) → (ts : List (Rose A)) (k : ℕ) (e d : Rose A)
+    → e ≡ get_or ts k d
     → k < length ts → Ps (kids_of ts) → P e
 kid_within P Ps hd tl [] k e d h l p = absurd (omega arith)
 kid_within P Ps hd tl (t ∷ ts) zero e d h l p = subst P (sym h) (hd t (kids_of ts) p)

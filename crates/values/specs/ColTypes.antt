@@ -25,7 +25,7 @@ IsType (col.Timestamp u z) = (length z ≤ max_name_len) × (is_utf8 z ≡ true)
 IsType (col.Duration u) = Unit {0}
 IsType (col.Utf8 o) = Unit {0}
 IsType (col.Binary o) = Unit {0}
-IsType (col.Fixed w) = w ≤ max_fixed_width
+IsType (col.FixedSizeBinary w) = w ≤ max_fixed_width
 IsType (col.List o) = Unit {0}
 IsType col.Struct = Unit {0}
 
@@ -50,17 +50,18 @@ width_of_time time.Nanosecond = int.Bits64
 abbrev pub bits_of_time : TimeUnit → ℕ
 bits_of_time u = 8 * bytes_in (width_of_time u)
 
--- Arrow Columnar Format, "Data Types": the physical layout of each type. Dates, times, timestamps and durations are signed numbers.
+-- Arrow Columnar Format, "Data Types": the physical layout of each type. Dates, times, timestamps and durations are
+-- signed numbers.
 abbrev pub layout_of : ColType → Layout
-layout_of col.Bool = layout.Bits
-layout_of (col.Int w s) = layout.Number w s
+layout_of col.Bool = layout.Bool
+layout_of (col.Int w s) = layout.Int w s
 layout_of (col.Decimal p s) = layout.Decimal p
-layout_of (col.Date u) = layout.Number (width_of_date u) true
-layout_of (col.Time u) = layout.Number (width_of_time u) true
-layout_of (col.Timestamp u z) = layout.Number int.Bits64 true
-layout_of (col.Duration u) = layout.Number int.Bits64 true
-layout_of (col.Utf8 o) = layout.Text o
-layout_of (col.Binary o) = layout.Bytes o
-layout_of (col.Fixed w) = layout.Fixed w
+layout_of (col.Date u) = layout.Int (width_of_date u) true
+layout_of (col.Time u) = layout.Int (width_of_time u) true
+layout_of (col.Timestamp u z) = layout.Int int.Bits64 true
+layout_of (col.Duration u) = layout.Int int.Bits64 true
+layout_of (col.Utf8 o) = layout.Utf8 o
+layout_of (col.Binary o) = layout.Binary o
+layout_of (col.FixedSizeBinary w) = layout.FixedSizeBinary w
 layout_of (col.List o) = layout.List o
 layout_of col.Struct = layout.Struct

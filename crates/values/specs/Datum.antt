@@ -5,7 +5,8 @@ use Rattle.std.specs.Coded.{Coded, code_by, coded×, coded_ℕ, coded_ℤ, coded
 use denote.Param.Weighed.{most}
 use Rattle.values.specs.Rose.{Rose, node, Roses, none, more, rose_code}
 
--- a cell: no value, a truth value, a whole number, the bytes of a text, bytes, the items of a list, or the children of a struct
+-- a cell: no value, a truth value, a whole number, the bytes of a text, bytes, the items of a list, or the children of
+-- a struct
 mutual
   pub data Datum : Type 0 where
     null : Datum
@@ -63,7 +64,8 @@ abbrev mutual
 
 abbrev pub datum_with : Head → Items → Datum
 datum_with h es =
-    if h.0 == 0 then null else if h.0 == 1 then truth h.1.0 else if h.0 == 2 then whole h.1.1.0 else if h.0 == 3 then text h.1.1.1
+    if h.0 == 0 then null else if h.0 == 1 then truth h.1.0 else if h.0 == 2 then whole h.1.1.0 else if h.0 == 3
+    then text h.1.1.1
     else if h.0 == 4 then bytes h.1.1.1 else if h.0 == 5 then list es else structure es
 
 abbrev mutual
@@ -86,7 +88,8 @@ mutual
 
   pub items_in-roses_of : (es : Items) → items_in (roses_of es) ≡ es
   items_in-roses_of no_items = refl
-  items_in-roses_of (item d es) = ap (λ e. item e (items_in (roses_of es))) (datum_in-rose_of d) ∙ ap (item d) (items_in-roses_of es)
+  items_in-roses_of (item d es) =
+      ap (λ e. item e (items_in (roses_of es))) (datum_in-rose_of d) ∙ ap (item d) (items_in-roses_of es)
 
 abbrev pub datum_code : Coded Datum
 datum_code = code_by (Rose Head) (rose_code head_code) rose_of datum_in datum_in-rose_of

@@ -1,5 +1,24 @@
 -- What the slots of a layout hold, and what they weigh.
-use Rattle.std.specs.Prelude.{◌≡◌, ℕ, ℤ, pos, ◌+◌, ◌*◌, ◌-◌, ◌^◌, ◌<◌, ◌≤◌, ◌≤ℤ◌, ◌<ℤ◌, neg_ℤ, nat_abs, Bool, true, false, length}
+use Rattle.std.specs.Prelude.{
+  ◌≡◌,
+  ℕ,
+  ℤ,
+  pos,
+  ◌+◌,
+  ◌*◌,
+  ◌-◌,
+  ◌^◌,
+  ◌<◌,
+  ◌≤◌,
+  ◌≤ℤ◌,
+  ◌<ℤ◌,
+  neg_ℤ,
+  nat_abs,
+  Bool,
+  true,
+  false,
+  length,
+}
 use Rattle.std.specs.Str.{is_utf8}
 use Rattle.values.specs.Limits.{max_precision}
 use Rattle.values.specs.Datum.{Datum, null, truth, whole, text, bytes, list, structure, Items, no_items, item}
@@ -9,7 +28,16 @@ use Rattle.values.specs.declared.layout.IntWidth.TheVariants as int
 use Rattle.values.specs.declared.layout.OffsetWidth.{OffsetWidth}
 use Rattle.values.specs.declared.layout.OffsetWidth.TheVariants as offset
 use Rattle.values.specs.declared.layout.Layout.{Layout}
-use Rattle.values.specs.declared.layout.Layout.TheVariants.{Bits, Number, Decimal, Fixed, Text, Bytes, List as Listed, Struct}
+use Rattle.values.specs.declared.layout.Layout.TheVariants.{
+  Bool as Booleans,
+  Int,
+  Decimal,
+  FixedSizeBinary,
+  Utf8,
+  Binary,
+  List as Listed,
+  Struct,
+}
 
 -- widths in bytes
 abbrev pub bytes_in : IntWidth → ℕ
@@ -24,12 +52,12 @@ offset_bytes offset.Bits64 = 8
 
 -- A list has one child, a struct any number, and nothing else has children. A decimal has at most 38 digits.
 abbrev pub IsNode : Layout → Roses Layout → Type 0
-IsNode Bits none = Unit {0}
-IsNode (Number w s) none = Unit {0}
+IsNode Booleans none = Unit {0}
+IsNode (Int w s) none = Unit {0}
 IsNode (Decimal p) none = p ≤ max_precision
-IsNode (Fixed w) none = Unit {0}
-IsNode (Text o) none = Unit {0}
-IsNode (Bytes o) none = Unit {0}
+IsNode (FixedSizeBinary w) none = Unit {0}
+IsNode (Utf8 o) none = Unit {0}
+IsNode (Binary o) none = Unit {0}
 IsNode (Listed o) (more t none) = Unit {0}
 IsNode Struct ts = Unit {0}
 IsNode _ _ = ⊥
@@ -80,15 +108,16 @@ IsBytes null = Unit {0}
 IsBytes (bytes b) = Unit {0}
 IsBytes _ = ⊥
 
--- Which values a slot of a layout holds. The items of a list are held by the child, the children of a struct each by its own.
+-- Which values a slot of a layout holds. The items of a list are held by the child, the children of a struct each by
+-- its own.
 abbrev mutual
   pub Holds : Rose Layout → Datum → Type 0
-  Holds (node Bits kids) d = IsTruth d
-  Holds (node (Number w s) kids) d = IsNumber s (bytes_in w) d
+  Holds (node Booleans kids) d = IsTruth d
+  Holds (node (Int w s) kids) d = IsNumber s (bytes_in w) d
   Holds (node (Decimal p) kids) d = IsDecimal p d
-  Holds (node (Fixed w) kids) d = IsFixed w d
-  Holds (node (Text o) kids) d = IsText d
-  Holds (node (Bytes o) kids) d = IsBytes d
+  Holds (node (FixedSizeBinary w) kids) d = IsFixed w d
+  Holds (node (Utf8 o) kids) d = IsText d
+  Holds (node (Binary o) kids) d = IsBytes d
   Holds (node (Listed o) kids) null = Unit {0}
   Holds (node (Listed o) kids) (list es) = HoldsAll kids es
   Holds (node (Listed o) kids) _ = ⊥
@@ -109,16 +138,16 @@ abbrev mutual
   HoldsEach (more t ts) no_items = ⊥
   HoldsEach (more t ts) (item d es) = Holds t d × HoldsEach ts es
 
--- The weight of a null, and of each value before what it holds beyond its slot: 1, and 1 for a bit, the width in bytes of a
--- slot of fixed width, 4 for an offset, or the children's slots.
+-- The weight of a null, and of each value before what it holds beyond its slot: 1, and 1 for a bit, the width in bytes
+-- of a slot of fixed width, 4 for an offset, or the children's slots.
 abbrev mutual
   pub slot : Rose Layout → ℕ
-  slot (node Bits kids) = 2
-  slot (node (Number w s) kids) = 1 + bytes_in w
+  slot (node Booleans kids) = 2
+  slot (node (Int w s) kids) = 1 + bytes_in w
   slot (node (Decimal p) kids) = 17
-  slot (node (Fixed w) kids) = 1 + w
-  slot (node (Text o) kids) = 5
-  slot (node (Bytes o) kids) = 5
+  slot (node (FixedSizeBinary w) kids) = 1 + w
+  slot (node (Utf8 o) kids) = 5
+  slot (node (Binary o) kids) = 5
   slot (node (Listed o) kids) = 5
   slot (node Struct kids) = 1 + slots kids
 
@@ -126,12 +155,12 @@ abbrev mutual
   slots none = 0
   slots (more t ts) = slot t + slots ts
 
--- The weight of a value: its slot, with the bytes of a text or of bytes, or the weights of a list's items; of a struct 1, and the
--- weights of its children.
+-- The weight of a value: its slot, with the bytes of a text or of bytes, or the weights of a list's items; of a struct
+-- 1, and the weights of its children.
 abbrev mutual
   pub weight : Rose Layout → Datum → ℕ
-  weight (node (Text o) kids) (text b) = 5 + length b
-  weight (node (Bytes o) kids) (bytes b) = 5 + length b
+  weight (node (Utf8 o) kids) (text b) = 5 + length b
+  weight (node (Binary o) kids) (bytes b) = 5 + length b
   weight (node (Listed o) kids) (list es) = 5 + items_weight kids es
   weight (node Struct kids) (structure es) = 1 + row_weight kids es
   weight t d = slot t

@@ -1,6 +1,26 @@
 -- What bytes mean where some of them may be at fault: a value, or a set of faults that isn't empty.
 -- A definition of this form says at once which value is read, and which faults stand.
-use Rattle.std.specs.Prelude.{◌≡◌, ◌⊎◌, ℕ, zero, suc, ◌+◌, Bool, true, false, Option, None, Some, Result, Ok, Err, List, [], ◌∷◌, ◌++◌}
+use Rattle.std.specs.Prelude.{
+  ◌≡◌,
+  ◌⊎◌,
+  ℕ,
+  zero,
+  suc,
+  ◌+◌,
+  Bool,
+  true,
+  false,
+  Option,
+  None,
+  Some,
+  Result,
+  Ok,
+  Err,
+  List,
+  [],
+  ◌∷◌,
+  ◌++◌,
+}
 use Rattle.values.specs.declared.faults.StreamFault.{StreamFault}
 use Rattle.values.specs.declared.faults.StreamFault.TheVariants as fault
 
@@ -75,9 +95,9 @@ Stands (Ok x) c = ⊥
 Stands (Err fs) c = IsAmong fs c
 
 -- no fault stands
-abbrev pub IsGood : {F X : Type 0} → ReadingOf F X → Type 0
-IsGood (Ok x) = Unit {0}
-IsGood (Err fs) = ⊥
+abbrev pub IsValid : {F X : Type 0} → ReadingOf F X → Type 0
+IsValid (Ok x) = Unit {0}
+IsValid (Err fs) = ⊥
 
 -- A refusal is right: the fault stands, or memory ran out.
 abbrev pub Fails : {X : Type 0} → StreamFault → Reading X → Type 0
@@ -97,12 +117,12 @@ Answers view (Err c) m = Fails c m
 
 -- what a check answers that gives no value: `Ok` exactly where no fault stands
 abbrev pub Passes : {F X : Type 0} → Result (Unit {0}) F → ReadingOf F X → Type 0
-Passes (Ok u) m = IsGood m
+Passes (Ok u) m = IsValid m
 Passes (Err c) m = Stands m c
 
--- What is left to read decides the whole: the invariant of a loop that judges one thing after another.
+-- What is left to read decides the whole: the invariant of a loop that checks one thing after another.
 pub record Decides {F X Y : Type 0} (rest : ReadingOf F X) (whole : ReadingOf F Y) : Type 0 where
-  pub good : IsGood rest → IsGood whole
+  pub valid : IsValid rest → IsValid whole
   pub fault : (c : F) → Stands rest c → Stands whole c
 
 -- a list that is read after another: the invariant of a loop that gathers

@@ -90,6 +90,7 @@ rose_code {A} c =
     code_by (A × List (Option A)) (coded× c (coded_list (coded_option c))) to_code from_code from_code-to_code
 
 -- no child is larger than all of them together
-pub most_le-roses_size : {A : Type 0} (ts : List (Rose A)) → most (λ t. rose_size t + 1) ts ≤ suc (roses_size (kids_of ts))
+pub most_le-roses_size : {A : Type 0} (ts : List (Rose A))
+    → most (λ t. rose_size t + 1) ts ≤ suc (roses_size (kids_of ts))
 most_le-roses_size [] = omega arith
 most_le-roses_size (t ∷ ts) = omega (arith, most_le-roses_size ts)

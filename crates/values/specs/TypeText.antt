@@ -45,6 +45,6 @@ type_text (col.Timestamp u z) = codes "timestamp[" ++ (unit_text u ++ (comma_tex
 type_text (col.Duration u) = codes "duration[" ++ (unit_text u ++ codes "]")
 type_text (col.Utf8 o) = size_text o ++ codes "utf8"
 type_text (col.Binary o) = size_text o ++ codes "binary"
-type_text (col.Fixed w) = codes "fixed[" ++ (decimal w ++ codes "]")
+type_text (col.FixedSizeBinary w) = codes "fixed[" ++ (decimal w ++ codes "]")
 type_text (col.List o) = size_text o ++ codes "list"
 type_text col.Struct = codes "struct"

@@ -6,8 +6,8 @@ use Rattle.values.specs.declared.layout.Layout.{Layout}
 use Rattle.values.specs.Layouts.{weight}
 
 -- a weight in 64 bits: the greatest number where it is more
-unfoldable pub told : ℕ → ℕ
-told n = if nat_lt n (2 ^ 64) then n else 2 ^ 64 - 1
+unfoldable pub saturated : ℕ → ℕ
+saturated n = if nat_lt n (2 ^ 64) then n else 2 ^ 64 - 1
 
 -- of values of one layout
 abbrev pub weights : Rose Layout → List Datum → ℕ

@@ -20,13 +20,14 @@ pub enum Kind {
     /// No value.
     Null,
     /// A truth value.
-    Truth(bool),
-    /// A whole number, of any width that a column can have; also the unscaled value of a decimal, a date, a time or a duration.
-    Whole(i128),
+    Bool(bool),
+    /// A whole number, of any width that a column can have; also the unscaled value of a decimal, a date, a time or a
+    /// duration.
+    Int(i128),
     /// A text.
-    Text(String),
+    Utf8(String),
     /// Bytes.
-    Bytes(Vec<u8>),
+    Binary(Vec<u8>),
     /// The items of a list.
     List(Vec<Value>),
     /// The children of a struct.
@@ -63,10 +64,10 @@ impl Value {
     {
         let kind = match &self.kind {
             Kind::Null => Kind::Null,
-            Kind::Truth(truth) => Kind::Truth(*truth),
-            Kind::Whole(number) => Kind::Whole(*number),
-            Kind::Text(text) => Kind::Text(String::from_str(alloc, text.as_str())?),
-            Kind::Bytes(bytes) => Kind::Bytes(Vec::from_slice(alloc, bytes)?),
+            Kind::Bool(truth) => Kind::Bool(*truth),
+            Kind::Int(number) => Kind::Int(*number),
+            Kind::Utf8(text) => Kind::Utf8(String::from_str(alloc, text.as_str())?),
+            Kind::Binary(bytes) => Kind::Binary(Vec::from_slice(alloc, bytes)?),
             Kind::List(items) => Kind::List(copy_row(alloc, items)?),
             Kind::Struct(children) => Kind::Struct(copy_row(alloc, children)?),
         };

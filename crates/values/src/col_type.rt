@@ -8,9 +8,11 @@ use crate::units::{DateUnit, TimeUnit};
 use crate::zone::Zone;
 use std::alloc::{AllocError, Global};
 
-/// The type of a column, or of a part of one: Schema.fbs, union `Type`. Types that the union has and this enum hasn't are not taken.
+/// The type of a column, or of a part of one: Schema.fbs, union `Type`. Types that the union has and this enum hasn't
+/// are not taken.
 ///
-/// It says also how wide offsets are stored. A logical type has offsets of 32 bits, whatever its values are stored with.
+/// It says also how wide offsets are stored. A logical type has offsets of 32 bits, whatever its values are stored
+/// with.
 #[derive(Debug, Drop, PartialEq, Eq)]
 pub enum ColType {
     Bool,
@@ -28,7 +30,7 @@ pub enum ColType {
     Utf8 { offsets: OffsetWidth },
     Binary { offsets: OffsetWidth },
     /// So many bytes a value.
-    Fixed { width: u32 },
+    FixedSizeBinary { width: u32 },
     /// With one child.
     List { offsets: OffsetWidth },
     /// With any number of children.
@@ -36,9 +38,9 @@ pub enum ColType {
 }
 
 fn number(width: IntWidth, signed: bool) -> Layout
-    ensures { result ≡ Layout.Number width signed }
+    ensures { result ≡ Layout.Int width signed }
 {
-    Layout::Number { width, signed }
+    Layout::Int { width, signed }
 }
 
 impl ColType {
@@ -47,7 +49,7 @@ impl ColType {
         ensures { result ≡ layout_of self.now }
     {
         match self {
-            ColType::Bool => Layout::Bits,
+            ColType::Bool => Layout::Bool,
             ColType::Int { width, signed } => number(*width, *signed),
             ColType::Decimal { precision, .. } => Layout::Decimal {
                 precision: *precision,
@@ -56,9 +58,9 @@ impl ColType {
             ColType::Time { unit } => number(unit.width(), true),
             ColType::Timestamp { .. } => number(IntWidth::Bits64, true),
             ColType::Duration { .. } => number(IntWidth::Bits64, true),
-            ColType::Utf8 { offsets } => Layout::Text { offsets: *offsets },
-            ColType::Binary { offsets } => Layout::Bytes { offsets: *offsets },
-            ColType::Fixed { width } => Layout::Fixed { width: *width },
+            ColType::Utf8 { offsets } => Layout::Utf8 { offsets: *offsets },
+            ColType::Binary { offsets } => Layout::Binary { offsets: *offsets },
+            ColType::FixedSizeBinary { width } => Layout::FixedSizeBinary { width: *width },
             ColType::List { offsets } => Layout::List { offsets: *offsets },
             ColType::Struct => Layout::Struct,
         }
@@ -87,7 +89,7 @@ impl ColType {
             ColType::Duration { unit } => ColType::Duration { unit: *unit },
             ColType::Utf8 { offsets } => ColType::Utf8 { offsets: *offsets },
             ColType::Binary { offsets } => ColType::Binary { offsets: *offsets },
-            ColType::Fixed { width } => ColType::Fixed { width: *width },
+            ColType::FixedSizeBinary { width } => ColType::FixedSizeBinary { width: *width },
             ColType::List { offsets } => ColType::List { offsets: *offsets },
             ColType::Struct => ColType::Struct,
         })

@@ -1,4 +1,4 @@
-//! What can be wrong with a stream.
+//! The faults of a stream.
 
 use crate::causes::Cause;
 use std::alloc::{AllocError, AllocFailed};
@@ -10,7 +10,8 @@ pub enum StreamFault {
     NoContinuation,
     /// The metadata size is negative or above 2^24.
     BadSize,
-    /// A place that must be read lies outside the metadata, a vtable's own size is under 4, or a table that must be there is absent.
+    /// A place that must be read lies outside the metadata, a vtable's own size is under 4, or a table that must be
+    /// there is absent.
     BadTable,
     /// A field's name isn't UTF-8 or is longer than 4,096 bytes.
     BadName,

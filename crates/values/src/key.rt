@@ -13,13 +13,13 @@ use std::alloc::{AllocError, Global};
 #[derive(Debug, Drop, PartialEq, Eq, PartialOrd, Ord, Hash)]
 pub enum Key {
     /// A truth value.
-    Truth(bool),
+    Bool(bool),
     /// A whole number.
-    Whole(i128),
+    Int(i128),
     /// A text.
-    Text(KeyText),
+    Utf8(KeyText),
     /// Bytes.
-    Bytes(KeyBytes),
+    Binary(KeyBytes),
     /// No value.
     Null,
 }
@@ -31,10 +31,10 @@ impl Key {
     {
         Ok(Some(match &value.kind {
             Kind::Null => Key::Null,
-            Kind::Truth(truth) => Key::Truth(*truth),
-            Kind::Whole(number) => Key::Whole(*number),
-            Kind::Text(text) => Key::Text(KeyText::new(alloc, text.as_str())?),
-            Kind::Bytes(bytes) => Key::Bytes(KeyBytes::new(alloc, bytes)?),
+            Kind::Bool(truth) => Key::Bool(*truth),
+            Kind::Int(number) => Key::Int(*number),
+            Kind::Utf8(text) => Key::Utf8(KeyText::new(alloc, text.as_str())?),
+            Kind::Binary(bytes) => Key::Binary(KeyBytes::new(alloc, bytes)?),
             Kind::List(_) => return Ok(None),
             Kind::Struct(_) => return Ok(None),
         }))
@@ -46,10 +46,10 @@ impl Key {
     {
         Ok(match self {
             Key::Null => Key::Null,
-            Key::Truth(truth) => Key::Truth(*truth),
-            Key::Whole(number) => Key::Whole(*number),
-            Key::Text(text) => Key::Text(text.copy(alloc)?),
-            Key::Bytes(bytes) => Key::Bytes(bytes.copy(alloc)?),
+            Key::Bool(truth) => Key::Bool(*truth),
+            Key::Int(number) => Key::Int(*number),
+            Key::Utf8(text) => Key::Utf8(text.copy(alloc)?),
+            Key::Binary(bytes) => Key::Binary(bytes.copy(alloc)?),
         })
     }
 }

@@ -1,4 +1,4 @@
-//! What keys hold, where it lies in memory of its own.
+//! The owned texts and bytes of keys.
 
 ghost use Rattle.std.specs.Prelude.{◌≡◌, IfOk};
 

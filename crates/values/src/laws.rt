@@ -2,7 +2,24 @@
 
 ghost use Rattle.std.specs.Prelude.{◌≡◌};
 ghost use Rattle.values.specs.KeyOrder.{KeysAreExact, KeysStandInOrder};
-ghost use Rattle.values.specs.Limits.{max_metadata_size, max_body_size, max_fields, max_depth, max_name_len, max_slot, max_dictionary_values, max_batch_length, max_node_length, max_main_rows, max_cell_weight, max_row_weight, max_batch_rows, max_batch_weight, max_precision, max_fixed_width};
+ghost use Rattle.values.specs.Limits.{
+  max_metadata_size,
+  max_body_size,
+  max_fields,
+  max_depth,
+  max_name_len,
+  max_slot,
+  max_dictionary_values,
+  max_batch_length,
+  max_node_length,
+  max_main_rows,
+  max_cell_weight,
+  max_row_weight,
+  max_batch_rows,
+  max_batch_weight,
+  max_precision,
+  max_fixed_width,
+};
 ghost use Rattle.values.specs.TypeEquality.{TypesAreExact};
 
 use crate::limits::{

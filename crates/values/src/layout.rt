@@ -61,18 +61,18 @@ impl OffsetWidth {
 /// How an array's own buffers hold its slots.
 #[derive(Clone, Copy, Debug, PartialEq, Eq)]
 pub enum Layout {
-    /// A bit a slot: truth values.
-    Bits,
-    /// A whole number a slot, in two's complement where it has a sign. Dates, times, timestamps and durations are such numbers too.
-    Number { width: IntWidth, signed: bool },
+    /// One bit a slot.
+    Bool,
+    /// An integer a slot, in two's complement if signed. Dates, times, timestamps and durations are such integers too.
+    Int { width: IntWidth, signed: bool },
     /// A number of 128 bits a slot, with at most as many decimal digits as `precision`.
     Decimal { precision: u8 },
-    /// So many bytes a slot.
-    Fixed { width: u32 },
+    /// `width` bytes a slot (FixedSizeBinary).
+    FixedSizeBinary { width: u32 },
     /// Offsets into texts.
-    Text { offsets: OffsetWidth },
+    Utf8 { offsets: OffsetWidth },
     /// Offsets into bytes.
-    Bytes { offsets: OffsetWidth },
+    Binary { offsets: OffsetWidth },
     /// Offsets into the slots of the one child.
     List { offsets: OffsetWidth },
     /// Nothing of its own: slot i is made of the children's slots i.
@@ -86,11 +86,11 @@ impl Layout {
         ensures bound { result ≤ 2 ^ 32 }
     {
         match self {
-            Layout::Bits => 2,
-            Layout::Number { width, .. } => 1 + width.bytes() as u64,
+            Layout::Bool => 2,
+            Layout::Int { width, .. } => 1 + width.bytes() as u64,
             Layout::Decimal { .. } => 17,
-            Layout::Fixed { width } => 1 + u64::from(width),
-            Layout::Text { .. } | Layout::Bytes { .. } | Layout::List { .. } => 5,
+            Layout::FixedSizeBinary { width } => 1 + u64::from(width),
+            Layout::Utf8 { .. } | Layout::Binary { .. } | Layout::List { .. } => 5,
             Layout::Struct => 1,
         }
     }

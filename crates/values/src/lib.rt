@@ -1,10 +1,11 @@
-//! What all layers speak of: the types of columns, values with their order, how they lie in memory and what they weigh, the
-//! limits, and the causes of a refusal.
+//! What all layers speak of: the types of columns, values with their order, how they lie in memory and what they weigh,
+//! the limits, and the causes of a refusal.
 //!
-//! The contracts are equations on definitions of `specs/`: `ColTypes` (the types, and how each lies in memory), `TypeText` (how a
-//! type is printed), `Logical` (a schema as contracts see it), `Datum` (a value as contracts see it), `Order`, `Layouts` (what a
-//! layout holds, and what it weighs), `Causes`, `Limits`. `Reading` has the words for what bytes mean where some of them may be at fault, and
-//! `Rose` the tree that stored fields and arrays are seen as; the crates above cite both.
+//! The contracts are equations on definitions of `specs/`: `ColTypes` (the types, and how each lies in memory),
+//! `TypeText` (how a type is printed), `Logical` (a schema as contracts see it), `Datum` (a value as contracts see it),
+//! `Order`, `Layouts` (what a layout holds, and what it weighs), `Causes`, `Limits`. `Reading` has the words for what
+//! bytes mean where some of them may be at fault, and `Rose` the tree that stored fields and arrays are seen as; the
+//! crates above cite both.
 #![tactic(auto)]
 
 mod causes;
@@ -34,7 +35,7 @@ pub use key_parts::{KeyBytes, KeyText};
 pub use laws::{equality_law, key_law, limits_law};
 pub use layout::{IntWidth, Layout, LayoutTree, OffsetWidth};
 pub use order::cmp_values;
-pub use schema::{Named, Schema};
+pub use schema::{LogicalField, Schema};
 pub use units::{DateUnit, TimeUnit};
 pub use weigh::{row_weight, slot, weight};
 pub use zone::Zone;

@@ -1,8 +1,16 @@
-//! The logical schema: what columns hold, whatever they are stored as.
+//! The logical schema: names and types of columns, without regard to how they are stored.
 
 ghost use Rattle.std.specs.Prelude.{◌≡◌, IfOk, map};
 ghost use Rattle.values.specs.Rose.{kids_of};
-ghost use Rattle.values.specs.Logical.{AreLogical, AreLogicalColumns, AreLogicalColumns-prop, IsLogical, logical_column, logical_in, narrow};
+ghost use Rattle.values.specs.Logical.{
+  AreLogical,
+  AreLogicalColumns,
+  AreLogicalColumns-prop,
+  IsLogical,
+  logical_column,
+  logical_in,
+  narrow,
+};
 
 use crate::col_type::ColType;
 use crate::layout::OffsetWidth;
@@ -11,21 +19,21 @@ use std::marker::Model;
 
 /// A field's name and type, with the fields below it: of a list its items, of a struct its children.
 ///
-/// Contracts see it as a tree with a `LogicalField` of `specs/Logical.antt` at each node.
+/// Contracts see it as a tree with a `NamedType` of `specs/Logical.antt` at each node.
 #[derive(Debug, Drop)]
-pub struct Named {
+pub struct LogicalField {
     pub name: String,
     pub col_type: ColType,
-    pub children: Vec<Named>,
+    pub children: Vec<LogicalField>,
 }
 
-impl Model for Named {
+impl Model for LogicalField {
     ghost use Rattle.std.specs.Prelude.{string_bytes};
     ghost use Rattle.std.proofs.Common.{arith};
     ghost use Rattle.values.specs.Rose.{Rose, node, kids_of, rose_code, rose_size, most_le-roses_size};
-    ghost use Rattle.values.specs.Logical.{LogicalField, logical_code};
+    ghost use Rattle.values.specs.Logical.{NamedType, logical_code};
 
-    ghost Value = { Rose LogicalField };
+    ghost Value = { Rose NamedType };
 
     ghost coded = { rose_code logical_code };
 
@@ -36,17 +44,18 @@ impl Model for Named {
     ghost size_decreases = { λ n h. omega (arith, most_le-roses_size n.children.items) };
 }
 
-/// The columns of a table, in order: their names and logical types. Offsets have 32 bits, and the items of a list are named `item`;
-/// no value of this type says anything else of how columns are stored.
+/// The columns of a table, in order: their names and logical types. Offsets have 32 bits, and the items of a list are
+/// named `item`; no value of this type says anything else of how columns are stored.
 #[derive(Debug, Drop)]
 pub struct Schema {
-    pub fields: Vec<Named>,
+    pub fields: Vec<LogicalField>,
     pub ghost logical: { AreLogicalColumns fields.items } by { AreLogicalColumns-prop fields.items },
 }
 
 impl Schema {
-    /// The schema of these columns, whatever they say of how they are stored: offsets are narrowed, and the items of lists renamed.
-    pub fn new(alloc: Global, fields: Vec<Named>) -> Result<Schema, AllocError>
+    /// The schema of these columns, whatever they say of how they are stored: offsets are narrowed, and the items of
+    /// lists renamed.
+    pub fn new(alloc: Global, fields: Vec<LogicalField>) -> Result<Schema, AllocError>
         ensures { IfOk result (λ s. s.fields.items ≡ map logical_column fields.items) }
     {
         let fields = logical_below(alloc, &ColType::Struct, fields)?;
@@ -57,11 +66,15 @@ impl Schema {
 /// A field below one of type `parent` as a logical one, and those below it.
 #[cycle(logical)]
 #[tactic(auto, using(crate::proofs::Logicals::logicals))]
-fn logical_in(alloc: Global, parent: &ColType, field: Named) -> Result<Named, AllocError>
+fn logical_in(
+    alloc: Global,
+    parent: &ColType,
+    field: LogicalField,
+) -> Result<LogicalField, AllocError>
     ensures value { IfOk result (λ n. n ≡ logical_in parent.now field) }
     ensures logical { IfOk result (λ n. IsLogical parent.now n) }
 {
-    let Named {
+    let LogicalField {
         name,
         col_type,
         children,
@@ -71,7 +84,7 @@ fn logical_in(alloc: Global, parent: &ColType, field: Named) -> Result<Named, Al
         ColType::List { .. } => String::from_str(alloc, "item")?,
         _ => name,
     };
-    Ok(Named {
+    Ok(LogicalField {
         name,
         col_type: narrow(col_type),
         children,
@@ -84,8 +97,8 @@ fn logical_in(alloc: Global, parent: &ColType, field: Named) -> Result<Named, Al
 fn logical_below(
     alloc: Global,
     parent: &ColType,
-    fields: Vec<Named>,
-) -> Result<Vec<Named>, AllocError>
+    fields: Vec<LogicalField>,
+) -> Result<Vec<LogicalField>, AllocError>
     ensures value { IfOk result (λ ns. ns.items ≡ map (logical_in parent.now) fields.items) }
     ensures logical { IfOk result (λ ns. AreLogical parent.now (kids_of ns.items)) }
 {

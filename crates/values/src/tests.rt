@@ -1,7 +1,7 @@
 //! Copies, order, keys and weights of values of every kind, and types as text.
 
 use crate::{
-    ColType, DateUnit, IntWidth, Key, Kind, Layout, LayoutTree, Named, OffsetWidth, Schema,
+    ColType, DateUnit, IntWidth, Key, Kind, Layout, LayoutTree, LogicalField, OffsetWidth, Schema,
     TimeUnit, Value, Zone, cmp_values, copy_row, row_weight, slot, weight,
 };
 use std::alloc::{AllocError, Global};
@@ -9,12 +9,12 @@ use std::cmp::Ordering;
 use std::test::Fail;
 
 fn text(alloc: Global, text: &str) -> Result<Value, AllocError> {
-    let kind = Kind::Text(String::from_str(alloc, text)?);
+    let kind = Kind::Utf8(String::from_str(alloc, text)?);
     Ok(Value { kind })
 }
 
 fn bytes(alloc: Global, bytes: &[u8]) -> Result<Value, AllocError> {
-    let kind = Kind::Bytes(Vec::from_slice(alloc, bytes)?);
+    let kind = Kind::Binary(Vec::from_slice(alloc, bytes)?);
     Ok(Value { kind })
 }
 
@@ -22,7 +22,7 @@ fn bytes(alloc: Global, bytes: &[u8]) -> Result<Value, AllocError> {
 fn nested(alloc: Global) -> Result<Value, AllocError> {
     let mut items = Vec::new(alloc);
     items.push(Value {
-        kind: Kind::Truth(true),
+        kind: Kind::Bool(true),
     })?;
     items.push(Value { kind: Kind::Null })?;
     let mut children = Vec::new(alloc);
@@ -60,10 +60,10 @@ fn copies_what_is_nested(rt: HostRuntime) -> Result<(), Fail> {
 fn orders_by_kind_and_value(rt: HostRuntime) -> Result<(), Fail> {
     let alloc = rt.alloc();
     let no = Value {
-        kind: Kind::Truth(false),
+        kind: Kind::Bool(false),
     };
     let yes = Value {
-        kind: Kind::Truth(true),
+        kind: Kind::Bool(true),
     };
     let null = Value { kind: Kind::Null };
     assert_eq!(rt; cmp_values(&no, &yes), Ordering::Less);
@@ -90,7 +90,7 @@ fn keys_are_values(rt: HostRuntime) -> Result<(), Fail> {
     assert!(rt; first.copy(alloc)? == first);
     assert!(rt; second.copy(alloc)? == second);
     assert!(rt; second < Key::Null);
-    assert!(rt; Key::Whole(-1) < Key::Whole(0));
+    assert!(rt; Key::Int(-1) < Key::Int(0));
     Ok(())
 }
 
@@ -106,11 +106,11 @@ fn nested_layout(alloc: Global) -> Result<LayoutTree, AllocError> {
     let offsets = OffsetWidth::Bits32;
     let list = LayoutTree {
         layout: Layout::List { offsets },
-        children: vec![in alloc; leaf(alloc, Layout::Bits)]?,
+        children: vec![in alloc; leaf(alloc, Layout::Bool)]?,
     };
     Ok(LayoutTree {
         layout: Layout::Struct,
-        children: vec![in alloc; list, leaf(alloc, Layout::Text { offsets })]?,
+        children: vec![in alloc; list, leaf(alloc, Layout::Utf8 { offsets })]?,
     })
 }
 
@@ -133,24 +133,24 @@ fn weighs_by_width(rt: HostRuntime) -> Result<(), Fail> {
     let offsets = OffsetWidth::Bits64;
     let width = IntWidth::Bits64;
     for (layout, expected) in [
-        (Layout::Bits, 2),
+        (Layout::Bool, 2),
         (
-            Layout::Number {
+            Layout::Int {
                 width,
                 signed: true,
             },
             9,
         ),
-        (Layout::Fixed { width: 7 }, 8),
-        (Layout::Text { offsets }, 5),
+        (Layout::FixedSizeBinary { width: 7 }, 8),
+        (Layout::Utf8 { offsets }, 5),
         (Layout::Struct, 1),
     ] {
         assert_eq!(rt; layout.own_slot(), expected);
         assert_eq!(rt; slot(&leaf(rt.alloc(), layout)), expected);
     }
     let text = text(rt.alloc(), "abc")?;
-    assert_eq!(rt; Layout::Text { offsets }.own_weight(&text), 8);
-    assert_eq!(rt; Layout::Bits.own_weight(&text), 2);
+    assert_eq!(rt; Layout::Utf8 { offsets }.own_weight(&text), 8);
+    assert_eq!(rt; Layout::Bool.own_weight(&text), 2);
     assert_eq!(rt; offsets.bytes(), 8);
     assert_eq!(rt; width.bytes(), 8);
     Ok(())
@@ -201,7 +201,7 @@ fn prints_types(rt: HostRuntime) -> Result<(), Fail> {
         ),
         (ColType::Utf8 { offsets: small }, "utf8"),
         (ColType::Binary { offsets: large }, "large_binary"),
-        (ColType::Fixed { width: 259 }, "fixed[259]"),
+        (ColType::FixedSizeBinary { width: 259 }, "fixed[259]"),
         (ColType::List { offsets: large }, "large_list"),
         (ColType::Struct, "struct"),
     ]?;
@@ -216,7 +216,7 @@ fn prints_types(rt: HostRuntime) -> Result<(), Fail> {
 
 #[test]
 fn lies_in_memory_as_a_number(rt: HostRuntime) -> Result<(), Fail> {
-    let layout = Layout::Number {
+    let layout = Layout::Int {
         width: IntWidth::Bits32,
         signed: true,
     };
@@ -229,15 +229,15 @@ fn lies_in_memory_as_a_number(rt: HostRuntime) -> Result<(), Fail> {
 }
 
 /// Lists of texts with offsets of 64 bits, whose items are named `element`.
-fn large_lists(alloc: Global) -> Result<Named, AllocError> {
+fn large_lists(alloc: Global) -> Result<LogicalField, AllocError> {
     let offsets = OffsetWidth::Bits64;
     let mut children = Vec::new(alloc);
-    children.push(Named {
+    children.push(LogicalField {
         name: String::from_str(alloc, "element")?,
         col_type: ColType::Utf8 { offsets },
         children: Vec::new(alloc),
     })?;
-    Ok(Named {
+    Ok(LogicalField {
         name: String::from_str(alloc, "lists")?,
         col_type: ColType::List { offsets },
         children,

@@ -82,7 +82,7 @@ impl fmt::Display for ColType {
                 let size = size(*offsets);
                 write!(f, "{size}binary")
             }
-            ColType::Fixed { width } => write!(f, "fixed[{width}]"),
+            ColType::FixedSizeBinary { width } => write!(f, "fixed[{width}]"),
             ColType::List { offsets } => {
                 let size = size(*offsets);
                 write!(f, "{size}list")

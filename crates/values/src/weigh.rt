@@ -1,35 +1,41 @@
-//! What values weigh. A weight above `u64::MAX` is told as that.
+//! Weights of values. Sums saturate at `u64::MAX`.
 
 ghost use Rattle.std.specs.Prelude.{◌≡◌, ◌+◌, ◌<◌, ◌^◌, length};
 ghost use Rattle.values.specs.Rose.{node, none, kids_of};
 ghost use Rattle.values.specs.Datum.{items_of};
 ghost use Rattle.values.specs.declared.layout.Layout.TheVariants.{Struct};
-ghost use Rattle.values.specs.Layouts.{slot as slot_by, slots as slots_by, weight as weight_by, items_weight, row_weight as row_weight_by};
-ghost use Rattle.values.specs.Weights.{blob_in, items_in, text_in, told, weights};
+ghost use Rattle.values.specs.Layouts.{
+  slot as slot_by,
+  slots as slots_by,
+  weight as weight_by,
+  items_weight,
+  row_weight as row_weight_by,
+};
+ghost use Rattle.values.specs.Weights.{blob_in, items_in, text_in, saturated, weights};
 
 use crate::cells::{Kind, Value};
 use crate::layout::{Layout, LayoutTree};
 
-#[tactic(auto, unfolding(crate::specs::Weights::told))]
+#[tactic(auto, unfolding(crate::specs::Weights::saturated))]
 fn add(weight: u64, more: u64) -> u64
-    ensures { result ≡ told (weight + more) }
+    ensures { result ≡ saturated (weight + more) }
 {
     weight.saturating_add(more)
 }
 
-/// The weight of a null of this layout: 1, and what a slot takes in its buffers, a bit counted as 1 and an offset as 4; of a struct 1,
-/// and its children's slots.
+/// The weight of a null of this layout: 1, and what a slot takes in its buffers, a bit counted as 1 and an offset as 4;
+/// of a struct 1, and its children's slots.
 #[cycle(slot)]
 pub fn slot(layout: &LayoutTree) -> u64
-    ensures { result ≡ told (slot_by layout.now) }
+    ensures { result ≡ saturated (slot_by layout.now) }
 {
     slot_of(layout.layout, &layout.children)
 }
 
 #[cycle(slot)]
-#[tactic(auto, using(crate::proofs::Weighing::own_slots))]
+#[tactic(auto, using(crate::proofs::WeightLemmas::own_slots))]
 fn slot_of(layout: Layout, children: &[LayoutTree]) -> u64
-    ensures { result ≡ told (slot_by (node layout (kids_of children.now))) }
+    ensures { result ≡ saturated (slot_by (node layout (kids_of children.now))) }
 {
     match layout {
         Layout::Struct => add(1, slots(children)),
@@ -38,9 +44,9 @@ fn slot_of(layout: Layout, children: &[LayoutTree]) -> u64
 }
 
 #[cycle(slot)]
-#[tactic(auto, using(crate::proofs::Weighing::slot_sums))]
+#[tactic(auto, using(crate::proofs::WeightLemmas::slot_sums))]
 fn slots(children: &[LayoutTree]) -> u64
-    ensures { result ≡ told (slots_by (kids_of children.now)) }
+    ensures { result ≡ saturated (slots_by (kids_of children.now)) }
 {
     let mut sum = 0;
     for child in children {
@@ -54,7 +60,7 @@ fn text_len(value: &Value) -> usize
     ensures bound { result < 2 ^ 63 }
 {
     match &value.kind {
-        Kind::Text(text) => text.len(),
+        Kind::Utf8(text) => text.len(),
         _ => 0,
     }
 }
@@ -64,20 +70,20 @@ fn blob_len(value: &Value) -> usize
     ensures bound { result < 2 ^ 63 }
 {
     match &value.kind {
-        Kind::Bytes(bytes) => bytes.len(),
+        Kind::Binary(bytes) => bytes.len(),
         _ => 0,
     }
 }
 
 impl Layout {
     /// The weight of a value of this layout, without its children's.
-    #[tactic(auto, using(crate::proofs::Weighing::own_weights))]
+    #[tactic(auto, using(crate::proofs::WeightLemmas::own_weights))]
     pub fn own_weight(self, value: &Value) -> u64
         ensures { result ≡ weight_by (node self none) value.now }
     {
         match self {
-            Layout::Text { .. } => 5 + text_len(value) as u64,
-            Layout::Bytes { .. } => 5 + blob_len(value) as u64,
+            Layout::Utf8 { .. } => 5 + text_len(value) as u64,
+            Layout::Binary { .. } => 5 + blob_len(value) as u64,
             _ => self.own_slot(),
         }
     }
@@ -93,19 +99,19 @@ fn list_items<'a>(value: &'a Value) -> &'a [Value]
     }
 }
 
-/// The weight of a value of this layout: its slot, with the bytes of a text or of bytes, or with the weights of a list's items; of a
-/// struct 1, and the weights of its children.
+/// The weight of a value of this layout: its slot, with the bytes of a text or of bytes, or with the weights of a
+/// list's items; of a struct 1, and the weights of its children.
 #[cycle(weigh)]
 pub fn weight(layout: &LayoutTree, value: &Value) -> u64
-    ensures { result ≡ told (weight_by layout.now value.now) }
+    ensures { result ≡ saturated (weight_by layout.now value.now) }
 {
     weigh_by(layout.layout, &layout.children, value)
 }
 
 #[cycle(weigh)]
-#[tactic(auto, using(crate::proofs::Weighing::layout_weights))]
+#[tactic(auto, using(crate::proofs::WeightLemmas::layout_weights))]
 fn weigh_by(layout: Layout, children: &[LayoutTree], value: &Value) -> u64
-    ensures { result ≡ told (weight_by (node layout (kids_of children.now)) value.now) }
+    ensures { result ≡ saturated (weight_by (node layout (kids_of children.now)) value.now) }
 {
     match layout {
         Layout::List { .. } => add(5, weigh_items(children, list_items(value))),
@@ -115,9 +121,9 @@ fn weigh_by(layout: Layout, children: &[LayoutTree], value: &Value) -> u64
 }
 
 #[cycle(weigh)]
-#[tactic(auto, using(crate::proofs::Weighing::first_sums))]
+#[tactic(auto, using(crate::proofs::WeightLemmas::first_sums))]
 fn weigh_items(children: &[LayoutTree], items: &[Value]) -> u64
-    ensures { result ≡ told (items_weight (kids_of children.now) (items_of items.now)) }
+    ensures { result ≡ saturated (items_weight (kids_of children.now) (items_of items.now)) }
 {
     if children.is_empty() {
         return 0;
@@ -126,9 +132,9 @@ fn weigh_items(children: &[LayoutTree], items: &[Value]) -> u64
 }
 
 #[cycle(weigh)]
-#[tactic(auto, using(crate::proofs::Weighing::item_sums))]
+#[tactic(auto, using(crate::proofs::WeightLemmas::item_sums))]
 fn weigh_all(layout: &LayoutTree, items: &[Value]) -> u64
-    ensures { result ≡ told (weights layout.now items.now) }
+    ensures { result ≡ saturated (weights layout.now items.now) }
 {
     let mut sum = 0;
     for item in items {
@@ -138,9 +144,9 @@ fn weigh_all(layout: &LayoutTree, items: &[Value]) -> u64
 }
 
 #[cycle(weigh)]
-#[tactic(auto, using(crate::proofs::Weighing::struct_sums))]
+#[tactic(auto, using(crate::proofs::WeightLemmas::struct_sums))]
 fn weigh_struct(children: &[LayoutTree], value: &Value) -> u64
-    ensures { result ≡ told (weight_by (node Struct (kids_of children.now)) value.now) }
+    ensures { result ≡ saturated (weight_by (node Struct (kids_of children.now)) value.now) }
 {
     match &value.kind {
         Kind::Struct(cells) => add(1, row_weight(children, cells)),
@@ -150,9 +156,9 @@ fn weigh_struct(children: &[LayoutTree], value: &Value) -> u64
 
 /// What a row's cells weigh together, each of its column's layout.
 #[cycle(weigh)]
-#[tactic(auto, using(crate::proofs::Weighing::row_sums))]
+#[tactic(auto, using(crate::proofs::WeightLemmas::row_sums))]
 pub fn row_weight(layouts: &[LayoutTree], row: &[Value]) -> u64
-    ensures { result ≡ told (row_weight_by (kids_of layouts.now) (items_of row.now)) }
+    ensures { result ≡ saturated (row_weight_by (kids_of layouts.now) (items_of row.now)) }
 {
     let mut sum = 0;
     for j in 0..layouts.len().min(row.len()) {

@@ -1,6 +1,6 @@
 use Rattle.std.proofs.Common.{drop}
 use Rattle.values.specs.Rose.{kids_of, rose_size}
-use Rattle.array_layout.proofs.Sounding.{Left}
+use Rattle.array_layout.proofs.SoundLemmas.{Left}
 use Rattle.array_layout.proofs.check.+check_layout.Given as goal
 
 abbrev pub decreases-check_layout : goal.decreases-check_layout

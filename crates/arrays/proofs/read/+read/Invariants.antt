@@ -1,5 +1,5 @@
 use Rattle.std.proofs.Common.{◌≡◌, ◌+◌, ◌*◌, ◌-◌, drop, suc}
-use Rattle.values.specs.Reading.{IsGood, with_front, each}
+use Rattle.values.specs.Reading.{IsValid, with_front, each}
 use Rattle.values.specs.Rose.{kids_of, rose_size, roses_size}
 use Rattle.array_layout.specs.Cells.{cell, row}
 use Rattle.arrays.proofs.read.+read.Given as goal
@@ -24,10 +24,12 @@ decreases-read_row l = 5 * roses_size (kids_of l.children.now) + 3
 
 abbrev pub invariant-read_items-loop-i : goal.invariant-read_items-loop-i
 invariant-read_items-loop-i l =
-    IsGood (each (cell l.body l.array) l.i (l.to - l.i))
-    × (with_front l.items.items (each (cell l.body l.array) l.i (l.to - l.i)) ≡ each (cell l.body l.array) l.from (l.to - l.from))
+    IsValid (each (cell l.body l.array) l.i (l.to - l.i))
+    × (with_front l.items.items (each (cell l.body l.array) l.i (l.to - l.i)) ≡ each (cell l.body l.array) l.from
+    (l.to - l.from))
 
 abbrev pub invariant-read_row-loop-child : goal.invariant-read_row-loop-child
 invariant-read_row-loop-child l =
-    IsGood (row l.body (kids_of (drop l.child-index l.children)) l.i)
-    × (with_front l.cells.items (row l.body (kids_of (drop l.child-index l.children)) l.i) ≡ row l.body (kids_of l.children) l.i)
+    IsValid (row l.body (kids_of (drop l.child-index l.children)) l.i)
+    × (with_front l.cells.items (row l.body (kids_of (drop l.child-index l.children)) l.i) ≡ row l.body
+    (kids_of l.children) l.i)

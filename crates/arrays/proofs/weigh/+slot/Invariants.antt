@@ -17,5 +17,6 @@ decreases-slots l = 3 * roses_size (kids_of l.children.now) + 2
 
 abbrev pub invariant-slots-loop-child : goal.invariant-slots-loop-child
 invariant-slots-loop-child l =
-    (capped (l.sum + slots (layouts_of (kids_of (drop l.child-index l.children)))) ≡ capped (1 + slots (layouts_of (kids_of l.children))))
+    (capped (l.sum + slots (layouts_of (kids_of (drop l.child-index l.children)))) ≡ capped
+    (1 + slots (layouts_of (kids_of l.children))))
     × (l.sum ≤ max_cell_weight + 1)

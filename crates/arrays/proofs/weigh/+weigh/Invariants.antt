@@ -24,10 +24,12 @@ decreases-weigh_row l = 5 * roses_size (kids_of l.children.now) + 3
 
 abbrev pub invariant-weigh_items-loop-i : goal.invariant-weigh_items-loop-i
 invariant-weigh_items-loop-i l =
-    (capped (l.sum + sum_from (weight_at l.body l.array) l.i (l.to - l.i)) ≡ capped (5 + sum_from (weight_at l.body l.array) l.from (l.to - l.from)))
+    (capped (l.sum + sum_from (weight_at l.body l.array) l.i (l.to - l.i)) ≡ capped
+    (5 + sum_from (weight_at l.body l.array) l.from (l.to - l.from)))
     × (l.sum ≤ max_cell_weight + 1)
 
 abbrev pub invariant-weigh_row-loop-child : goal.invariant-weigh_row-loop-child
 invariant-weigh_row-loop-child l =
-    (capped (l.sum + weight_beside l.body (kids_of (drop l.child-index l.children)) l.i) ≡ capped (1 + weight_beside l.body (kids_of l.children) l.i))
+    (capped (l.sum + weight_beside l.body (kids_of (drop l.child-index l.children)) l.i) ≡ capped
+    (1 + weight_beside l.body (kids_of l.children) l.i))
     × (l.sum ≤ max_cell_weight + 1)

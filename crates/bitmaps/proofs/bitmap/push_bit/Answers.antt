@@ -1,6 +1,6 @@
 use Rattle.std.proofs.Common.{◌%◌, ◌/◌, ◌<◌, ◌∙◌, arith}
 use Rattle.std.proofs.lemmas.Grind.{get_or_default_zero}
-use Rattle.bitmaps.proofs.Pushing.{byte-fits, last-there}
+use Rattle.bitmaps.proofs.PushLemmas.{byte-fits, last-there}
 use Rattle.bitmaps.proofs.bitmap.push_bit.Goals as goal
 
 pub overflow_add-index_mut : goal.overflow_add-index_mut

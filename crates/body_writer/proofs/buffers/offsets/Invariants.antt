@@ -7,5 +7,6 @@ use Rattle.body_writer.proofs.buffers.offsets.Given as goal
 abbrev pub invariant-loop-cell : goal.invariant-loop-cell
 invariant-loop-cell l = record {
   end : l.end + total_length (cells_of (drop l.cell-index l.cells)) ≡ total_length (cells_of l.cells);
-  bytes : l.buffer.items ++ offsets_from l.width l.end (map length_in (cells_of (drop l.cell-index l.cells))) ≡ offsets l.width (cells_of l.cells);
+  bytes : l.buffer.items ++ offsets_from l.width l.end (map length_in (cells_of (drop l.cell-index l.cells))) ≡ offsets
+      l.width (cells_of l.cells);
 }

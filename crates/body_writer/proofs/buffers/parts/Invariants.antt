@@ -4,4 +4,5 @@ use Rattle.body_writer.specs.Slots.{cells_of, part}
 use Rattle.body_writer.proofs.buffers.parts.Given as goal
 
 abbrev pub invariant-loop-cell : goal.invariant-loop-cell
-invariant-loop-cell l = cells_of l.all.items ++ map (part l.j) (cells_of (drop l.cell-index l.cells)) ≡ map (part l.j) (cells_of l.cells)
+invariant-loop-cell l = cells_of l.all.items
+    ++ map (part l.j) (cells_of (drop l.cell-index l.cells)) ≡ map (part l.j) (cells_of l.cells)

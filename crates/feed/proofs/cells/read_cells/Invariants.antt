@@ -4,4 +4,5 @@ use Rattle.feed.proofs.cells.read_cells.Given as goal
 
 abbrev pub invariant-loop-i : goal.invariant-loop-i
 invariant-loop-i l =
-    (l.cells.items ≡ take l.i l.column.cells) × All (Holds l.column.layouts) l.cells.items × (l.i-end ≡ length l.column.cells)
+    (l.cells.items ≡ take l.i l.column.cells) × All (Holds l.column.layouts) l.cells.items
+    × (l.i-end ≡ length l.column.cells)

@@ -1,4 +1,4 @@
-use Rattle.feed.proofs.Cutting.{partial-joins, whole-stays, faults-stay, whole-uses, partial-uses}
+use Rattle.feed.proofs.CutLemmas.{partial-joins, whole-stays, faults-stay, whole-uses, partial-uses}
 use Rattle.feed.proofs.laws.cut_law.Goals as goal
 
 pub returns-clause-partial : goal.returns-clause-partial

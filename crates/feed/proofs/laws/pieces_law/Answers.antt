@@ -1,5 +1,5 @@
 use Rattle.feed.proofs.Pieces.{cuts-agree, feed-follows, feeds-end}
-use Rattle.feed.proofs.Transcribing.{nothing-left, push-keeps, refusal-ends}
+use Rattle.feed.proofs.TranscriptLemmas.{nothing-left, push-keeps, refusal-ends}
 use Rattle.feed.proofs.laws.pieces_law.Goals as goal
 
 pub returns-clause-none : goal.returns-clause-none

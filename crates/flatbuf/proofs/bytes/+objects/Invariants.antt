@@ -13,5 +13,6 @@ abbrev pub invariant-push_objects-loop-slot : goal.invariant-push_objects-loop-s
 invariant-push_objects-loop-slot l = record {
   fits : FitAll (views (drop l.slot-index l.slots));
   end : objects_end l.free (views (drop l.slot-index l.slots)) ≡ objects_end l.fn.at (views l.slots);
-  bytes : l.out.items ++ objects l.free (views (drop l.slot-index l.slots)) ≡ l.fn.out.items ++ objects l.fn.at (views l.slots);
+  bytes : l.out.items ++ objects l.free (views (drop l.slot-index l.slots)) ≡ l.fn.out.items
+      ++ objects l.fn.at (views l.slots);
 }

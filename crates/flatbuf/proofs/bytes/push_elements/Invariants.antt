@@ -9,5 +9,6 @@ invariant-loop-slot l = record {
   object : objects_end l.free (views (drop l.slot-index l.slots)) ≡ objects_end l.fn.at (views l.slots);
   behind : l.fn.at ≤ l.free;
   place : l.element ≡ l.fn.place + 4 * l.slot-index;
-  bytes : l.out.items ++ elements l.element l.free (views (drop l.slot-index l.slots)) ≡ l.fn.out.items ++ elements l.fn.place l.fn.at (views l.slots);
+  bytes : l.out.items ++ elements l.element l.free (views (drop l.slot-index l.slots)) ≡ l.fn.out.items
+      ++ elements l.fn.place l.fn.at (views l.slots);
 }

@@ -7,5 +7,6 @@ abbrev pub invariant-loop-slot : goal.invariant-loop-slot
 invariant-loop-slot l = record {
   fits : FitAll (views (drop l.slot-index l.slots));
   field : fields_end l.end (views (drop l.slot-index l.slots)) ≡ fields_end l.fn.cursor (views l.slots);
-  bytes : l.out.items ++ entries l.end (views (drop l.slot-index l.slots)) ≡ l.fn.out.items ++ entries l.fn.cursor (views l.slots);
+  bytes : l.out.items ++ entries l.end (views (drop l.slot-index l.slots)) ≡ l.fn.out.items
+      ++ entries l.fn.cursor (views l.slots);
 }

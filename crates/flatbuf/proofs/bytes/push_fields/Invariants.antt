@@ -9,5 +9,6 @@ invariant-loop-slot l = record {
   field : fields_end l.end (views (drop l.slot-index l.slots)) ≡ fields_end l.fn.cursor (views l.slots);
   object : objects_end l.free (views (drop l.slot-index l.slots)) ≡ objects_end l.fn.at (views l.slots);
   behind : l.fn.at ≤ l.free;
-  bytes : l.out.items ++ fields l.table l.end l.free (views (drop l.slot-index l.slots)) ≡ l.fn.out.items ++ fields l.table l.fn.cursor l.fn.at (views l.slots);
+  bytes : l.out.items ++ fields l.table l.end l.free (views (drop l.slot-index l.slots)) ≡ l.fn.out.items
+      ++ fields l.table l.fn.cursor l.fn.at (views l.slots);
 }

@@ -4,4 +4,10 @@ use Rattle.flatbuf.proofs.bytes.push_references.Goals as goal
 
 pub returns : goal.returns
 returns c =
-    rw (c.in_ok-push_elements.ensures, c.in_ok-push_count.ensures, c.place_of_items.ensures.value, c.end_of_items.ensures.value, count-views c.args.slots.now) (simp append_assoc refl)
+    rw (
+      c.in_ok-push_elements.ensures,
+      c.in_ok-push_count.ensures,
+      c.place_of_items.ensures.value,
+      c.end_of_items.ensures.value,
+      count-views c.args.slots.now,
+    ) (simp append_assoc refl)

@@ -1,5 +1,5 @@
 use Rattle.std.proofs.Common.{drop}
-use Rattle.liveviews.proofs.Weighing.{Weighs}
+use Rattle.liveviews.proofs.WeightLemmas.{Weighs}
 use Rattle.liveviews.proofs.batch.is_heavy.Given as goal
 
 abbrev pub invariant-loop-column : goal.invariant-loop-column

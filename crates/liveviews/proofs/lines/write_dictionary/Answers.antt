@@ -10,4 +10,5 @@ returns c =
     let numbered = rw (to_z-of_z w64 c.args.id c.ranges.id) at c.in_ok-write.ensures.bytes in
     on_ok_weaker c.writeln.result (
     dictionary-joins (string_bytes c.args.text.now) (string_bytes c.write.new.self) (string_bytes c.write-2.new.self)
-    (string_bytes c.writeln.new.self) c.args.id c.args.delta c.args.values numbered c.in_ok-write-2.ensures.bytes) c.writeln.ensures.bytes
+    (string_bytes c.writeln.new.self) c.args.id c.args.delta c.args.values numbered c.in_ok-write-2.ensures.bytes)
+    c.writeln.ensures.bytes

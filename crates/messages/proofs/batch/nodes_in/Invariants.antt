@@ -4,4 +4,5 @@ use Rattle.schema_meta.specs.Batch.{node_of}
 use Rattle.messages.proofs.batch.nodes_in.Given as goal
 
 abbrev pub invariant-loop-i : goal.invariant-loop-i
-invariant-loop-i l = with_front l.nodes.items (each (node_of l.bytes) l.i (l.count - l.i)) ≡ each (node_of l.bytes) 0 l.count
+invariant-loop-i l =
+    with_front l.nodes.items (each (node_of l.bytes) l.i (l.count - l.i)) ≡ each (node_of l.bytes) 0 l.count

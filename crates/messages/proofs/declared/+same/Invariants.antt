@@ -10,4 +10,5 @@ abbrev pub decreases-are_same : goal.decreases-are_same
 decreases-are_same l = 2 * roses_size (kids_of l.a.now) + 1
 
 abbrev pub invariant-are_same-loop-index : goal.invariant-are_same-loop-index
-invariant-are_same-loop-index l = are_same (kids_of (drop l.index l.a)) (kids_of (drop l.index l.b)) ≡ are_same (kids_of l.a) (kids_of l.b)
+invariant-are_same-loop-index l =
+    are_same (kids_of (drop l.index l.a)) (kids_of (drop l.index l.b)) ≡ are_same (kids_of l.a) (kids_of l.b)

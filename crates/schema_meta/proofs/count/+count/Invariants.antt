@@ -11,5 +11,6 @@ decreases-count_below l = 2 * l.depth + 1
 -- what is left, and all there is, are the room and what is still to be counted
 abbrev pub invariant-count-loop-index : goal.invariant-count-loop-index
 invariant-count-loop-index l =
-    (l.left + total l.depth l.vector ≡ l.fn.room + sum_from (total_at (total (l.depth - 1)) l.vector) l.index (l.vector.count - l.index))
+    (l.left + total l.depth l.vector ≡ l.fn.room + sum_from (total_at (total (l.depth - 1)) l.vector) l.index
+    (l.vector.count - l.index))
     × (0 < l.depth)

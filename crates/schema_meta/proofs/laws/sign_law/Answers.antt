@@ -1,4 +1,13 @@
-use Rattle.schema_meta.proofs.Signs.{signed-arrays, signed-bound, signed-floor, signed-large-offsets, signed-length, signed-range, signed-offsets, signed-size}
+use Rattle.schema_meta.proofs.Signs.{
+  signed-arrays,
+  signed-bound,
+  signed-floor,
+  signed-large-offsets,
+  signed-length,
+  signed-range,
+  signed-offsets,
+  signed-size,
+}
 use Rattle.schema_meta.proofs.laws.sign_law.Goals as goal
 
 pub returns-clause-length : goal.returns-clause-length

@@ -1,6 +1,6 @@
 use Rattle.std.proofs.Common.{◌≡◌, ◌+◌, ◌*◌, drop}
 use Rattle.values.specs.Rose.{join, kids_of, rose_size, roses_size}
-use Rattle.array_layout.specs.Placing.{spans_below}
+use Rattle.array_layout.specs.Placing.{ranges_below}
 use Rattle.dictionaries.specs.Table.{values_in}
 use Rattle.schema_meta.specs.FieldLayouts.{slot_layouts_below}
 use Rattle.schema_meta.proofs.Places.{arrays_from}
@@ -15,9 +15,10 @@ decreases-place_all l = 2 * roses_size (kids_of l.fields.now) + 1
 -- what was placed, and what is left to place, are the whole
 abbrev pub invariant-place_all-loop-field : goal.invariant-place_all-loop-field
 invariant-place_all-loop-field l =
-    (join l.arrays.items (arrays_from (values_in l.dicts) l.nodes l.spans l.at.node l.at.span (kids_of (drop l.field-index l.fields)))
-    ≡ arrays_from (values_in l.dicts) l.nodes l.spans l.initial.at.node l.initial.at.span (kids_of l.fields))
+    (join l.arrays.items
+    (arrays_from (values_in l.dicts) l.nodes l.ranges l.at.node l.at.range (kids_of (drop l.field-index l.fields)))
+    ≡ arrays_from (values_in l.dicts) l.nodes l.ranges l.initial.at.node l.initial.at.range (kids_of l.fields))
     × (l.at.node + roses_size (slot_layouts_below (kids_of (drop l.field-index l.fields)))
     ≡ l.initial.at.node + roses_size (slot_layouts_below (kids_of l.fields)))
-    × (l.at.span + spans_below (slot_layouts_below (kids_of (drop l.field-index l.fields)))
-    ≡ l.initial.at.span + spans_below (slot_layouts_below (kids_of l.fields)))
+    × (l.at.range + ranges_below (slot_layouts_below (kids_of (drop l.field-index l.fields)))
+    ≡ l.initial.at.range + ranges_below (slot_layouts_below (kids_of l.fields)))

@@ -5,10 +5,13 @@ use Rattle.values.specs.Limits.{max_fields}
 
 pub slots_of-requires : goal.slots_of-requires
 slots_of-requires c =
-    rw c.deref.ensures.value (few_read c.args.columns.now c.in_ok-fields.fields.items c.in-Some.field-0 max_fields c.in_ok-fields.ensures c.in-Some.ensures)
+    rw c.deref.ensures.value
+    (few_read c.args.columns.now c.in_ok-fields.fields.items c.in-Some.field-0 max_fields c.in_ok-fields.ensures
+    c.in-Some.ensures)
 
 pub returns : goal.returns
 returns c =
-    let slim = rw c.deref.ensures.value at c.in-Some-slots_of.ensures.value.0 in
+    let within_slot = rw c.deref.ensures.value at c.in-Some-slots_of.ensures.value.0 in
     let clear = rw (c.is_clear.ensures, c.deref-2.ensures.value) at c.if-not-is_clear.false in
-    all_read c.args.columns.now c.in_ok-fields.fields.items c.in-Some.field-0 c.in-Some.ensures c.in_ok-fields.ensures slim clear
+    all_read c.args.columns.now c.in_ok-fields.fields.items c.in-Some.field-0 c.in-Some.ensures c.in_ok-fields.ensures
+    within_slot clear

@@ -8,4 +8,5 @@ decreases-nodes_of l = roses_size (kids_of l.fields.now)
 
 abbrev pub invariant-loop-field : goal.invariant-loop-field
 invariant-loop-field l =
-    l.nodes + roses_size (slot_layouts_below (kids_of (drop l.field-index l.fields))) ≡ roses_size (slot_layouts_below (kids_of l.fields))
+    l.nodes + roses_size (slot_layouts_below (kids_of (drop l.field-index l.fields))) ≡ roses_size
+    (slot_layouts_below (kids_of l.fields))

@@ -2,7 +2,7 @@ use Rattle.std.proofs.Common.{◌≡◌, ◌+◌, ◌*◌, ◌≤◌, drop}
 use Rattle.values.specs.Limits.{max_slot}
 use Rattle.values.specs.Rose.{kids_of, rose_size, roses_size}
 use Rattle.values.specs.Layouts.{slots}
-use Rattle.schema_meta.specs.FieldLayouts.{are_slim, layouts_below}
+use Rattle.schema_meta.specs.FieldLayouts.{are_within_slot, layouts_below}
 use Rattle.schema_meta.proofs.slot.+slots.Given as goal
 
 abbrev pub decreases-slot_of : goal.decreases-slot_of
@@ -13,6 +13,9 @@ decreases-slots_of l = 2 * roses_size (kids_of l.fields.now) + 1
 
 abbrev pub invariant-slots_of-loop-field : goal.invariant-slots_of-loop-field
 invariant-slots_of-loop-field l =
-    (are_slim (layouts_below (kids_of (drop l.field-index l.fields))) ≡ are_slim (layouts_below (kids_of l.fields)))
-    × (l.slots + slots (layouts_below (kids_of (drop l.field-index l.fields))) ≡ slots (layouts_below (kids_of l.fields)))
-    × (l.slots + max_slot * roses_size (kids_of (drop l.field-index l.fields)) ≤ max_slot * roses_size (kids_of l.fields))
+    (are_within_slot (layouts_below (kids_of (drop l.field-index l.fields))) ≡ are_within_slot
+    (layouts_below (kids_of l.fields)))
+    × (l.slots + slots (layouts_below (kids_of (drop l.field-index l.fields))) ≡ slots
+    (layouts_below (kids_of l.fields)))
+    × (l.slots + max_slot * roses_size (kids_of (drop l.field-index l.fields)) ≤ max_slot * roses_size
+    (kids_of l.fields))

@@ -10,4 +10,5 @@ abbrev pub decreases-type_below : goal.decreases-type_below
 decreases-type_below l = 2 * roses_size (kids_of l.fields.now) + 1
 
 abbrev pub invariant-type_below-loop-field : goal.invariant-type_below-loop-field
-invariant-type_below-loop-field l = type_below l.id (kids_of (drop l.field-index l.fields)) ≡ type_below l.id (kids_of l.fields)
+invariant-type_below-loop-field l =
+    type_below l.id (kids_of (drop l.field-index l.fields)) ≡ type_below l.id (kids_of l.fields)

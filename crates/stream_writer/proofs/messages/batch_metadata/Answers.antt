@@ -14,19 +14,26 @@ write_message-requires c =
     let body = c.args.body.now in
     let P : Nodes → Type 0 = λ s. IsWritable (message_slots kind.Batch s c.len.result) in
     subst P (sym c.in_ok-header.ensures)
-    (batch-writable c.args.rows c.len.result body.nodes.items body.spans.items c.requires.nodes c.requires.spans c.ranges.rows.fits c.len.type_inv)
+    (batch-writable c.args.rows c.len.result body.nodes.items body.ranges.items c.requires.nodes c.requires.ranges
+    c.ranges.rows.fits c.len.type_inv)
 
 pub returns-clause-bytes : goal.returns-clause-bytes
 returns-clause-bytes c =
     let F : Nodes → List ℕ = λ s. whole (message_slots kind.Batch s c.len.result) in
-    let G : ℕ → List ℕ = λ n. whole (message_slots kind.Batch (batch_slots c.args.rows c.args.body.now.nodes.items c.args.body.now.spans.items) n) in
+    let G : ℕ
+    → List ℕ =
+    λ n. whole
+    (message_slots kind.Batch (batch_slots c.args.rows c.args.body.now.nodes.items c.args.body.now.ranges.items)
+    n) in
     c.in_ok-bytes.ensures.bytes ∙ ap F c.in_ok-header.ensures ∙ ap G (c.len.ensures ∙ c.args.body.now.bytes.ok.0)
 
 pub returns-clause-size : goal.returns-clause-size
 returns-clause-size c =
     let body = c.args.body.now in
     let E : Nodes → Type 0 = λ s. object_end 4 (table (message_slots kind.Batch s c.len.result)) < 2 ^ 17 in
-    let end = subst E (sym c.in_ok-header.ensures) (batch-end c.args.rows c.len.result body.nodes.items body.spans.items c.requires.nodes c.requires.spans) in
+    let end =
+    subst E (sym c.in_ok-header.ensures)
+    (batch-end c.args.rows c.len.result body.nodes.items body.ranges.items c.requires.nodes c.requires.ranges) in
     let at : ℕ = object_end 4 (table (message_slots kind.Batch (slots c.in_ok-header.header) c.len.result)) in
     let fill = up8-le at in
     let size = c.in_ok-bytes.ensures.size in

@@ -4,4 +4,5 @@ use Rattle.stream_writer.proofs.messages.schema_message.Goals as goal
 
 pub returns-clause-bytes : goal.returns-clause-bytes
 unfolding schema_message
-returns-clause-bytes c = c.in_ok-bytes.ensures ∙ ap (λ (metadata : List ℕ). message metadata []) (c.deref.ensures.value ∙ c.in_ok-metadata.ensures.bytes)
+returns-clause-bytes c = c.in_ok-bytes.ensures
+    ∙ ap (λ (metadata : List ℕ). message metadata []) (c.deref.ensures.value ∙ c.in_ok-metadata.ensures.bytes)

@@ -9,5 +9,7 @@ abbrev pub invariant-loop-row : goal.invariant-loop-row
 invariant-loop-row l = record {
   index : l.count ≡ l.row-index;
   few : l.count ≤ max_batch_rows;
-  value : l.count + beginning (kids_of l.layouts) (max_batch_rows - l.count) l.room (cells_in (drop l.row-index l.rows)) ≡ beginning (kids_of l.layouts) max_batch_rows max_batch_weight (cells_in l.rows);
+  value : l.count + beginning (kids_of l.layouts) (max_batch_rows - l.count) l.room
+      (cells_in (drop l.row-index l.rows)) ≡ beginning (kids_of l.layouts) max_batch_rows max_batch_weight
+      (cells_in l.rows);
 }

@@ -1,7 +1,7 @@
 use Rattle.std.proofs.Common.{◌≡◌, ◌+◌, ◌*◌, ◌<◌, ◌^◌, drop}
 use Rattle.values.specs.Rose.{kids_of, rose_size, roses_size}
 use Rattle.values.specs.Layouts.{slots}
-use Rattle.values.specs.Weights.{told}
+use Rattle.values.specs.Weights.{saturated}
 use Rattle.values.proofs.weigh.+slot.Given as goal
 
 abbrev pub decreases-slot : goal.decreases-slot
@@ -15,4 +15,5 @@ decreases-slots l = 4 * roses_size (kids_of l.children.now) + 2
 
 abbrev pub invariant-slots-loop-child : goal.invariant-slots-loop-child
 invariant-slots-loop-child l =
-    (told (l.sum + slots (kids_of (drop l.child-index l.children))) ≡ told (slots (kids_of l.children))) × (l.sum < 2 ^ 64)
+    (saturated (l.sum + slots (kids_of (drop l.child-index l.children))) ≡ saturated (slots (kids_of l.children)))
+    × (l.sum < 2 ^ 64)

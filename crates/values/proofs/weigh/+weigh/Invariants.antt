@@ -2,7 +2,7 @@ use Rattle.std.proofs.Common.{◌≡◌, ◌+◌, ◌*◌, ◌<◌, ◌^◌, dro
 use Rattle.values.specs.Rose.{kids_of, rose_size, roses_size}
 use Rattle.values.specs.Datum.{items_of}
 use Rattle.values.specs.Layouts.{row_weight}
-use Rattle.values.specs.Weights.{told, weights}
+use Rattle.values.specs.Weights.{saturated, weights}
 use Rattle.values.proofs.weigh.+weigh.Given as goal
 
 abbrev pub decreases-weight : goal.decreases-weight
@@ -25,8 +25,10 @@ decreases-weigh_all l = 8 * rose_size l.layout.now + 1
 
 abbrev pub invariant-weigh_all-loop-item : goal.invariant-weigh_all-loop-item
 invariant-weigh_all-loop-item l =
-    (told (l.sum + weights l.layout (drop l.item-index l.items)) ≡ told (weights l.layout l.items)) × (l.sum < 2 ^ 64)
+    (saturated (l.sum + weights l.layout (drop l.item-index l.items)) ≡ saturated (weights l.layout l.items))
+    × (l.sum < 2 ^ 64)
 
 abbrev pub invariant-row_weight-loop-j : goal.invariant-row_weight-loop-j
 invariant-row_weight-loop-j l =
-    (told (l.sum + row_weight (kids_of (drop l.j l.layouts)) (items_of (drop l.j l.row))) ≡ told (row_weight (kids_of l.layouts) (items_of l.row))) × (l.sum < 2 ^ 64)
+    (saturated (l.sum + row_weight (kids_of (drop l.j l.layouts)) (items_of (drop l.j l.row))) ≡ saturated
+    (row_weight (kids_of l.layouts) (items_of l.row))) × (l.sum < 2 ^ 64)

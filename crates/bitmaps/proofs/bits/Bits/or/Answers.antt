@@ -2,7 +2,7 @@ use Rattle.std.proofs.Common.{◌<◌, ◌∷◌, [], ◌∙◌, length, ap, ari
 use Rattle.std.specs.Prelude.{◌||◌}
 use Rattle.std.proofs.lemmas.List.{length-append}
 use Rattle.bitmaps.specs.Bits.{pairwise}
-use Rattle.bitmaps.proofs.Making.{or-next}
+use Rattle.bitmaps.proofs.KernelLemmas.{or-next}
 use Rattle.bitmaps.proofs.bits.Bits.or.Goals as goal
 
 pub loop-i-preserved : goal.loop-i-preserved
@@ -12,7 +12,9 @@ loop-i-preserved c =
     let more = length-append c.loop-i.made bit in
     record {
       made =
-          or-next c.loop-i.made c.push.new.self c.args.self.now c.args.other.now (pairwise (λ x y. x || y) c.args.self.now c.args.other.now) c.loop-i.i
-          c.at.result c.at-in-loop-i.result within c.requires c.at.ensures c.at-in-loop-i.ensures c.in_ok-push.ensures.pushed c.loop-i.invariant.made;
+          or-next c.loop-i.made c.push.new.self c.args.self.now c.args.other.now
+          (pairwise (λ x y. x || y) c.args.self.now c.args.other.now) c.loop-i.i
+          c.at.result c.at-in-loop-i.result within c.requires c.at.ensures c.at-in-loop-i.ensures
+          c.in_ok-push.ensures.pushed c.loop-i.invariant.made;
       count = ap length c.in_ok-push.ensures.pushed ∙ omega (arith, more, c.loop-i.invariant.count);
     }

@@ -1,7 +1,7 @@
 use Rattle.std.proofs.Common.{◌<◌, ◌∷◌, [], ◌∙◌, length, ap, arith}
 use Rattle.std.proofs.lemmas.List.{length-append}
 use Rattle.bitmaps.specs.Bits.{selected}
-use Rattle.bitmaps.proofs.Making.{selected-next}
+use Rattle.bitmaps.proofs.KernelLemmas.{selected-next}
 use Rattle.bitmaps.proofs.bits.Bits.select.Goals as goal
 
 pub loop-i-preserved : goal.loop-i-preserved
@@ -10,8 +10,10 @@ loop-i-preserved c =
     let more = length-append c.loop-i.made (c.pick.result ∷ []) in
     record {
       made =
-          selected-next c.loop-i.made c.push.new.self c.args.self.now c.args.yes.now c.args.no.now (selected c.args.self.now c.args.yes.now c.args.no.now) c.loop-i.i
-          c.at.result c.at-in-loop-i.result c.at-in-loop-i-2.result c.pick.result within c.requires.yes c.requires.no c.at.ensures c.at-in-loop-i.ensures
+          selected-next c.loop-i.made c.push.new.self c.args.self.now c.args.yes.now c.args.no.now
+          (selected c.args.self.now c.args.yes.now c.args.no.now) c.loop-i.i
+          c.at.result c.at-in-loop-i.result c.at-in-loop-i-2.result c.pick.result within c.requires.yes c.requires.no
+          c.at.ensures c.at-in-loop-i.ensures
           c.at-in-loop-i-2.ensures c.pick.ensures c.in_ok-push.ensures.pushed c.loop-i.invariant.made;
       count = ap length c.in_ok-push.ensures.pushed ∙ omega (arith, more, c.loop-i.invariant.count);
     }

@@ -7,6 +7,8 @@ pub invariant_of-result : goal.invariant_of-result
 invariant_of-result c =
     record {
       within = omega arith;
-      stream = fresh_stream (known_of (record { declared = c.args.declared; schema = None; counts = c.new.result })) (take 0 c.new-2.result.items) refl tt;
+      stream =
+          fresh_stream (known_of (record { declared = c.args.declared; schema = None; counts = c.new.result }))
+          (take 0 c.new-2.result.items) refl tt;
       ready = tt;
     }

@@ -12,12 +12,14 @@ pub schema_after-requires : goal.schema_after-requires
 schema_after-requires c =
     let e = rw c.in-Whole.is at c.in_ok-wanted.ensures.ok in
     schema_known _ c.in-Whole.found.metadata.header c.in-Whole.found.metadata.body
-    (first_sound (known_of c.self.inside.state) (c.truncate.new.self.items ++ c.args.piece.now) (whole_seen c.in-Whole.found) c.self.invariant.stream.small e.0).0
+    (first_sound (known_of c.self.inside.state) (c.truncate.new.self.items ++ c.args.piece.now)
+    (whole_seen c.in-Whole.found) c.self.invariant.stream.small e.0).0
 
 pub count-requires : goal.count-requires
 count-requires c =
     let e = rw c.in-Whole.is at c.in_ok-wanted.ensures.ok in
-    (first_sound (known_of c.self.inside.state) (c.truncate.new.self.items ++ c.args.piece.now) (whole_seen c.in-Whole.found) c.self.invariant.stream.small e.0).2
+    (first_sound (known_of c.self.inside.state) (c.truncate.new.self.items ++ c.args.piece.now)
+    (whole_seen c.in-Whole.found) c.self.invariant.stream.small e.0).2
 
 pub returns-in_ok-count-in-Whole-clause-used : goal.returns-in_ok-count-in-Whole-clause-used
 returns-in_ok-count-in-Whole-clause-used c =
@@ -34,8 +36,10 @@ returns-in_ok-count-in-Whole-clause-progress c = λ some.
 pub invariant_of-self-in-Whole : goal.invariant_of-self-in-Whole
 invariant_of-self-in-Whole c =
     let e = rw c.in-Whole.is at c.in_ok-wanted.ensures.ok in
-    message_ready (known_of c.self.inside.state) (known_of c.count.new.self) c.self.inside.bytes.items c.truncate.new.self.items
-    c.advance.new.held.items c.args.piece.now (spare c.self.inside.state.counts) (spare c.count.new.self.counts) c.self.inside.len
+    message_ready (known_of c.self.inside.state) (known_of c.count.new.self) c.self.inside.bytes.items
+    c.truncate.new.self.items
+    c.advance.new.held.items c.args.piece.now (spare c.self.inside.state.counts) (spare c.count.new.self.counts)
+    c.self.inside.len
     c.self.inside.wanted c.self.inside.pending c.in-Whole.found c.in_ok-count-in-Whole.count c.self.invariant
     c.in_ok-count-in-Whole.ensures.same c.in_ok-count-in-Whole.ensures.room c.truncate.ensures.items e.3 e.0
 

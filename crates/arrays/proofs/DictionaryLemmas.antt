@@ -1,0 +1,194 @@
+-- What slots that stand for values of a dictionary read as.
+use Rattle.std.proofs.Common.{
+  ◌≡◌,
+  ℕ,
+  ℤ,
+  pos,
+  negsuc,
+  List,
+  ◌+◌,
+  ◌*◌,
+  ◌<◌,
+  ◌≤◌,
+  ◌<ℤ◌,
+  ◌≤ℤ◌,
+  length,
+  All,
+  refl,
+  ap,
+  sym,
+  subst,
+  ◌∙◌,
+  arith,
+}
+use Rattle.std.specs.Prelude.{Option, None, Some, Ok, Err, Bool, slice_get}
+use Rattle.std.proofs.lemmas.Option.{slice_get_past, slice_get_within, get_or_from_slice_get}
+use Rattle.std.proofs.lemmas.List.Elements.{All-get_or}
+use Rattle.std.proofs.Math.Nat.{mul-le-mul_left}
+use Rattle.values.specs.declared.faults.StreamFault.TheVariants as fault
+use Rattle.values.specs.Reading.{Reading, one, must, Stands, IsValid}
+use Rattle.values.proofs.Readings.{must_Ok}
+use Rattle.values.specs.Rose.{node, Roses, none, more}
+use Rattle.values.specs.Datum.{Datum}
+use Rattle.values.specs.declared.layout.IntWidth.{IntWidth}
+use Rattle.values.specs.declared.layout.Layout.{Layout}
+use Rattle.values.specs.declared.layout.Layout.TheVariants.{
+  Bool as Booleans,
+  Int,
+  Decimal,
+  FixedSizeBinary,
+  Utf8,
+  Binary,
+  List as Listed,
+  Struct,
+}
+use Rattle.values.specs.Layouts.{bytes_in, IsNode, Holds, slot, weight}
+use Rattle.array_layout.specs.declared.array.DictionaryValues.{DictionaryValues}
+use Rattle.array_layout.specs.declared.array.ArrayData.{ArrayData}
+use Rattle.array_layout.specs.Buffers.{number_at}
+use Rattle.array_layout.specs.Sound.{first_len, HasRoom, IsSound}
+use Rattle.array_layout.specs.Cells.{coded_by, indexed}
+use Rattle.arrays.specs.Encoded.{HasIndex}
+use Rattle.arrays.specs.Weights.{capped, encoded_weight}
+
+-- an index and its value
+pub index_negative : (ds : List Datum) (z : ℤ) → z <ℤ pos 0 → Err (one fault.DictionaryIndex) ≡ indexed ds z
+index_negative ds (pos n) h = absurd (grind arith)
+index_negative ds (negsuc n) h = refl
+
+pub index_past : (ds : List Datum) (z : ℤ) → pos (length ds) ≤ℤ z → Err (one fault.DictionaryIndex) ≡ indexed ds z
+index_past ds (pos n) h = ap (must fault.DictionaryIndex) (sym (slice_get_past ds n (grind arith)))
+index_past ds (negsuc n) h = absurd (grind arith)
+
+pub index_here :
+    (ds : List Datum) (z : ℤ) (n : ℕ) (o : Option Datum) → pos n ≡ z → o ≡ slice_get ds n
+    → must fault.DictionaryIndex o ≡ indexed ds z
+index_here ds z n o is found =
+    let P : ℤ → Type 0 = λ x. must fault.DictionaryIndex o ≡ indexed ds x in
+    subst P is (ap (must fault.DictionaryIndex) found)
+
+pub ruleset index_laws = (index_negative, index_past, index_here)
+
+-- the index of a slot
+pub number_here : (p : ArrayData) (w : IntWidth) (s : Bool) (i : ℕ) → HasIndex p.layout p i → p.layout ≡ Int w s
+    → bytes_in w * (i + 1) ≤ p.values.len
+number_here p w s i room is = let P : Layout → Type 0 = λ l. HasIndex l p i in subst P is room
+
+pub coded_number :
+    (l : Layout) (ds : List Datum) (indices : List ℕ) (i : ℕ) (w : IntWidth) (s : Bool) (z : ℤ) (m : Reading Datum)
+    → l ≡ Int w s
+    → z ≡ number_at s (bytes_in w) indices i → m ≡ indexed ds z → m ≡ coded_by l ds indices i
+coded_number l ds indices i w s z m is same read =
+    let P : Layout → Type 0 = λ k. m ≡ coded_by k ds indices i in
+    let Q : ℤ → Type 0 = λ x. m ≡ indexed ds x in
+    subst P (sym is) (subst Q same read)
+
+pub ruleset encoded_laws = (number_here, coded_number)
+
+-- a slot has its value where the reading is good
+pub encoded_valid : (o : Option Datum) (m : Reading Datum) (d : Datum) → must fault.DictionaryIndex o ≡ m → o ≡ Some d
+    → IsValid m
+encoded_valid o m d is some =
+    let P : Option Datum → Type 0 = λ x. must fault.DictionaryIndex x ≡ m in
+    let read : Ok d ≡ m = subst P some is in
+    subst IsValid read tt
+
+pub encoded_missing : (o : Option Datum) (m : Reading Datum) → must fault.DictionaryIndex o ≡ m → o ≡ None
+    → Stands m fault.DictionaryIndex
+encoded_missing o m is missing =
+    let P : Option Datum → Type 0 = λ x. must fault.DictionaryIndex x ≡ m in
+    let read : Err (one fault.DictionaryIndex) ≡ m = subst P missing is in
+    let Q : Reading Datum → Type 0 = λ x. Stands x fault.DictionaryIndex in
+    subst Q read refl
+
+pub ruleset validate_laws = (encoded_valid, encoded_missing)
+
+-- where there is an index for each slot
+room_by_layout :
+    (l : Layout) (b : List ℕ) (p : ArrayData) (n i : ℕ) → HasRoom l b p n → i < p.len → HasIndex l p i
+room_by_layout Booleans b p n i room below = tt
+room_by_layout (Int w s) b p n i room below =
+    let less : i + 1 ≤ p.len = omega (arith, below) in
+    let most : bytes_in w * (i + 1) ≤ bytes_in w * p.len = mul-le-mul_left (bytes_in w) less in
+    omega (arith, room, most)
+room_by_layout (Decimal d) b p n i room below = tt
+room_by_layout (FixedSizeBinary w) b p n i room below = tt
+room_by_layout (Utf8 o) b p n i room below = tt
+room_by_layout (Binary o) b p n i room below = tt
+room_by_layout (Listed o) b p n i room below = tt
+room_by_layout Struct b p n i room below = tt
+
+pub index_room : (b : List ℕ) (p : ArrayData) (kids : Roses ArrayData) (i : ℕ) → IsSound b (node p kids) → i < p.len
+    → HasIndex p.layout p i
+index_room b p kids i sound below = room_by_layout p.layout b p (first_len kids) i sound.0.room below
+
+-- an array of indices has no children
+indexed_Ok : (ds : List Datum) (z : ℤ) (d : Datum) → indexed ds z ≡ Ok d → (n : ℕ) × (slice_get ds n ≡ Some d)
+indexed_Ok ds (pos n) d read = (n, must_Ok fault.DictionaryIndex (slice_get ds n) d read)
+indexed_Ok ds (negsuc n) d read = cc
+
+pub coded_leaf :
+    (l : Layout) (ds : List Datum) (indices : List ℕ) (i : ℕ) (d : Datum) (kids : Roses Layout)
+    → coded_by l ds indices i ≡ Ok d → IsNode l kids
+    → (kids ≡ none) × ((n : ℕ) × (slice_get ds n ≡ Some d))
+coded_leaf Booleans ds indices i d kids read is = cc
+coded_leaf (Int w s) ds indices i d none read is = (refl, indexed_Ok ds (number_at s (bytes_in w) indices i) d read)
+coded_leaf (Int w s) ds indices i d (more t ts) read is = absurd is
+coded_leaf (Decimal p) ds indices i d kids read is = cc
+coded_leaf (FixedSizeBinary w) ds indices i d kids read is = cc
+coded_leaf (Utf8 o) ds indices i d kids read is = cc
+coded_leaf (Binary o) ds indices i d kids read is = cc
+coded_leaf (Listed o) ds indices i d kids read is = cc
+coded_leaf Struct ds indices i d kids read is = cc
+
+all_get : (P : Datum → Type 0) (ds : List Datum) (n : ℕ) (d : Datum) → All P ds → slice_get ds n ≡ Some d → P d
+all_get P ds n d all found =
+    subst P (get_or_from_slice_get ds n d d found) (All-get_or P ds n d (slice_get_within ds n d found) all)
+
+pub coded_holds :
+    (l : Layout) (w : DictionaryValues) (indices : List ℕ) (i : ℕ) (d : Datum) (kids : Roses Layout)
+    → coded_by l w.values indices i ≡ Ok d → IsNode l kids
+    → All (Holds (node w.layout none)) w.values → Holds (node w.layout kids) d
+coded_holds l w indices i d kids read is held =
+    let facts = coded_leaf l w.values indices i d kids read is in
+    let P : Roses Layout → Type 0 = λ ks. Holds (node w.layout ks) d in
+    subst P (sym facts.0) (all_get (Holds (node w.layout none)) w.values facts.1.0 d held facts.1.1)
+
+pub coded_weighs :
+    (l : Layout) (w : DictionaryValues) (indices : List ℕ) (i : ℕ) (d : Datum) (kids : Roses Layout)
+    → coded_by l w.values indices i ≡ Ok d → IsNode l kids
+    → encoded_weight w.layout (coded_by l w.values indices i) ≡ weight (node w.layout kids) d
+coded_weighs l w indices i d kids read is =
+    let facts = coded_leaf l w.values indices i d kids read is in
+    let P : Roses Layout → Type 0 =
+    λ ks. encoded_weight w.layout (coded_by l w.values indices i) ≡ weight (node w.layout ks) d in
+    subst P (sym facts.0) (ap (encoded_weight w.layout) read)
+
+-- the weight of a slot is that of its value, or that of a null where it has none
+pub found_weighs :
+    (l : Layout) (o : Option Datum) (d : Datum) (m : Reading Datum) (n r : ℕ) → must fault.DictionaryIndex o ≡ m
+    → o ≡ Some d
+    → n ≡ weight (node l none) d → r ≡ capped n → r ≡ capped (encoded_weight l m)
+found_weighs l o d m n r is some own h =
+    let P : Option Datum → Type 0 = λ x. must fault.DictionaryIndex x ≡ m in
+    let read : Ok d ≡ m = subst P some is in
+    h ∙ ap capped own ∙ ap (λ x. capped (encoded_weight l x)) read
+
+pub missing_weighs :
+    (l : Layout) (o : Option Datum) (m : Reading Datum) (n r : ℕ) → must fault.DictionaryIndex o ≡ m → o ≡ None
+    → n ≡ slot (node l none)
+    → r ≡ capped n → r ≡ capped (encoded_weight l m)
+missing_weighs l o m n r is missing own h =
+    let P : Option Datum → Type 0 = λ x. must fault.DictionaryIndex x ≡ m in
+    let read : Err (one fault.DictionaryIndex) ≡ m = subst P missing is in
+    h ∙ ap capped own ∙ ap (λ x. capped (encoded_weight l x)) read
+
+pub ruleset weight_laws = (found_weighs, missing_weighs)
+
+-- a good slot has a value
+pub encoded_some : (o : Option Datum) (m : Reading Datum) → must fault.DictionaryIndex o ≡ m → IsValid m
+    → (d : Datum) × (o ≡ Some d) × (m ≡ Ok d)
+encoded_some None m is valid = absurd (subst IsValid (sym is) valid)
+encoded_some (Some d) m is valid = (d, refl, sym is)
+
+pub ruleset copy_laws = (encoded_some)

@@ -1,0 +1,38 @@
+-- However a command ends, nothing was put but by recasting.
+use Rattle.std.proofs.Common.{inl, inr, ℕ, List, Option, Result, Ok, Err}
+use Rattle.stream_writer.specs.Sinks.{Sunk}
+use Rattle.values.specs.declared.causes.Cause.TheVariants as cause
+use Rattle.liveviews.specs.Files.{MakesNone}
+use Rattle.liveviews.specs.Program.{DoesSomewhere, IsBegun, StopsSo}
+use Rattle.liveviews.specs.declared.files.FileFault.{FileFault}
+use Rattle.liveviews.specs.declared.program.Outcome.{Outcome}
+use Rattle.liveviews.specs.declared.program.Outcome.TheVariants as outcome
+use Rattle.liveviews.specs.declared.program.Refusal.{Refusal}
+use Rattle.liveviews.specs.declared.program.Refusal.TheVariants as refusal
+
+unmade-begun :
+    (content : List ℕ → Option (List ℕ)) (old new : Sunk) (unmade : Option FileFault) (why : FileFault) (path : List ℕ)
+    → MakesNone (content path) old new unmade why → IsBegun content old new
+unmade-begun content old new unmade why path none =
+    inr (path, Err (record { cause = cause.Device; written = none.written }), none.recasts)
+
+stopped-begun :
+    (content : List ℕ → Option (List ℕ)) (old new : Sunk) (unmade : Option FileFault) (r : Refusal) (path : List ℕ)
+    → StopsSo (content path) old new unmade r → IsBegun content old new
+stopped-begun content old new unmade refusal.WrongUse path same = inl same
+stopped-begun content old new unmade (refusal.CannotRead p) path same = inl same
+stopped-begun content old new unmade (refusal.CannotWrite p) path (inl same) = inl same
+stopped-begun content old new unmade (refusal.CannotWrite p) path (inr none) =
+    unmade-begun content old new unmade _ path none
+stopped-begun content old new unmade (refusal.Refused c) path (inl memory) = inl memory.1
+stopped-begun content old new unmade (refusal.Refused c) path (inr (inl none)) =
+    unmade-begun content old new unmade _ path none.1
+stopped-begun content old new unmade (refusal.Refused c) path (inr (inr stops)) =
+    inr (path, Err (record { cause = c; written = stops.0 }), stops.1)
+
+pub ends-begun :
+    (content : List ℕ → Option (List ℕ)) (old new : Sunk) (unmade : Option FileFault) (answer : Result Outcome Refusal)
+    → DoesSomewhere content old new unmade answer → IsBegun content old new
+ends-begun content old new unmade (Ok (outcome.Inspected i)) (path, inspected) = inl inspected.0
+ends-begun content old new unmade (Ok (outcome.Recast n)) (path, recast) = inr (path, Ok n, recast)
+ends-begun content old new unmade (Err r) (path, stops) = stopped-begun content old new unmade r path stops
