@@ -23,12 +23,6 @@ pub fn refuses(rt: &(impl Abort + AllocGlobal), input: &[u8], cause: Cause, what
     );
     assert_eq!(rt; sink.bytes().len(), 0);
 }
-    for &(place, byte) in changes {
-        assert!(rt; place < 504);
-        bytes[place] = byte;
-    }
-    bytes
-}
 
 /// `input` is recast to a stream of one batch with this body, which is canonical.
 pub fn writes(rt: &(impl Abort + AllocGlobal), input: &[u8], body: &[u8]) {
