@@ -37,11 +37,13 @@ TURNS = 5
 
 @dataclass(frozen=True)
 class Edit:
-    """The files that an edit changes with their new texts, and the function in whose body the change lies, if it lies in one."""
+    """The files that an edit changes with their new texts, and the function in whose body the change lies, if it lies in one, with what
+    that is proved with."""
 
     name: str
     texts: dict
     function: str
+    group: str
 
 
 def changed_span(old, new):
@@ -73,13 +75,14 @@ def texts_of(folder, file):
 
 
 def function_of(folder, texts):
+    """The function in which a change lies, and its group; none where it doesn't lie in one."""
     [(path, new), *others] = texts.items()
     if others or not path.startswith("src/"):
-        return ""
+        return "", ""
     old = read(f"{folder}/{path}")
     start, end = changed_span(old, new)
-    found = [it.path for it in functions_of(path, old) if it.start < start and end < it.end]
-    return found[0] if found else ""
+    found = [(it.path, it.group) for it in functions_of(path, old) if it.start < start and end < it.end]
+    return found[0] if found else ("", "")
 
 
 def edits_of(root, crate):
@@ -89,29 +92,29 @@ def edits_of(root, crate):
         if file.endswith(".edit"):
             try:
                 texts = texts_of(folder, file)
-                found.append(Edit(os.path.basename(file), texts, function_of(folder, texts)))
+                found.append(Edit(os.path.basename(file), texts, *function_of(folder, texts)))
             except (ValueError, OSError) as error:
                 bad.append(f"{crate}/{os.path.basename(file)}: BAD EDIT: {error}")
     return found, bad
 
 
 def control_of(folder, taken):
-    """An edit that changes nothing: a comment in a function in which no other edit is."""
+    """An edit that changes nothing: a comment in a function that is proved with none in which another edit is."""
     found = []
     for file in files_below(f"{folder}/src"):
         path, text = os.path.relpath(file, folder), read(file)
         if "#[test]" not in text:
-            found += [(path, text, it) for it in functions_of(path, text) if it.path not in taken]
+            found += [(path, text, it) for it in functions_of(path, text) if it.group not in taken]
     path, text, function = random.SystemRandom().choice(found)
     at = function.start + 1
-    return Edit(CONTROL, {path: f"{text[:at]} // nothing else changes\n{text[at:]}"}, function.path)
+    return Edit(CONTROL, {path: f"{text[:at]} // nothing else changes\n{text[at:]}"}, function.path, function.group)
 
 
 def batches_of(edits):
-    """Edits in lists: of a function one edit at most in each, and by itself what isn't inside one function."""
+    """Edits in lists: of functions that are proved together one edit at most in each, and by itself what isn't inside one function."""
     batches = []
     for edit in (it for it in edits if it.function):
-        free = (it for it in batches if len(it) < MOST_IN_A_BATCH and edit.function not in [other.function for other in it])
+        free = (it for it in batches if len(it) < MOST_IN_A_BATCH and edit.group not in [other.group for other in it])
         batch = next(free, None)
         if batch is None:
             batches.append([edit])
@@ -262,7 +265,7 @@ def plan(root, names, turn):
             edits = edits[turn::TURNS]
         batches = batches_of(edits)
         if batches:
-            batches[0].append(control_of(f"{root}/crates/{crate}", {it.function for it in edits}))
+            batches[0].append(control_of(f"{root}/crates/{crate}", {it.group for it in edits}))
         tasks += [(crate, batch) for batch in batches]
     return tasks, bad
 

@@ -5,9 +5,11 @@ from dataclasses import dataclass
 
 @dataclass(frozen=True)
 class Function:
-    """A function's body, from its opening brace to behind its closing one, and the end of the name that a check prints for it."""
+    """A function's body, from its opening brace to behind its closing one, the end of the name that a check prints for it, and what it
+    is proved with: the cycle of functions that it is in, or itself."""
 
     path: str
+    group: str
     start: int
     end: int
 
@@ -56,11 +58,13 @@ def functions_of(path, text):
             named = re.search(r"\bfn\s+(\w+)", head)
             if named and not is_inside:
                 owner = next((of for kind, of in reversed(opened) if kind == "owner"), None)
-                pending = f"{owner}::{named[1]}" if owner else f"{module_of(path)}{named[1]}"
+                name = f"{owner}::{named[1]}" if owner else f"{module_of(path)}{named[1]}"
+                cycle = re.search(r"#\[cycle\((\w+)\)\]", head)
+                pending = (name, f"cycle {cycle[1]}" if cycle else name)
             if pending and re.search(r"\b(requires|ensures|ghost)\b[\s*\w:]*$", head):
                 opened.append(("clause", None))
             elif pending and not is_inside:
-                opened.append(("body", (pending, at)))
+                opened.append(("body", (*pending, at)))
                 pending = None
             elif re.search(r"\bimpl\b", head) and not is_inside:
                 opened.append(("owner", owner_of(head)))
