@@ -1,0 +1,4 @@
+mod Outputs
+mod ViewRows
+mod Sample
+mod Fields

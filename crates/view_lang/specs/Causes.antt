@@ -1,0 +1,76 @@
+-- Why an edit doesn't fit a table: the causes that stand, and the least of them.
+use Rattle.std.specs.Prelude.{◌+◌, Bool, true, false, cond, not, ◌||◌, nat_lt, List, [], ◌∷◌, Option, find, length}
+use Rattle.values.specs.Datum.{Datum, null, items_of}
+use Rattle.values.specs.Rose.{Roses, none, more, kids_of}
+use Rattle.values.specs.declared.layout.Layout.{Layout}
+use Rattle.values.specs.Layouts.{row_weight, weight}
+use Rattle.values.specs.Limits.{max_cell_weight, max_main_rows, max_row_weight}
+use Rattle.values.specs.Logical.{trees_of}
+use Rattle.view_lang.specs.Limits.{max_appended_rows}
+use Rattle.view_lang.specs.Config.{Table}
+use Rattle.view_lang.specs.Edits.{Edit, append, retract}
+use Rattle.view_lang.specs.World.{World, is_among, keys_in}
+use Rattle.view_lang.specs.declared.unfit.Unfit.{Unfit}
+use Rattle.view_lang.specs.declared.unfit.Unfit.TheVariants as unfit
+
+abbrev pub is_null : Datum → Bool
+is_null null = true
+is_null _ = false
+
+unfoldable pub has_null : List Datum → Bool
+has_null [] = false
+has_null (k ∷ ks) = is_null k || has_null ks
+
+-- a key stands twice
+unfoldable pub has_repeated : List Datum → Bool
+has_repeated [] = false
+has_repeated (k ∷ ks) = is_among k ks || has_repeated ks
+
+unfoldable pub any_among : List Datum → List Datum → Bool
+any_among [] others = false
+any_among (k ∷ ks) others = is_among k others || any_among ks others
+
+unfoldable pub all_among : List Datum → List Datum → Bool
+all_among [] others = true
+all_among (k ∷ ks) others = cond (is_among k others) (all_among ks others) false
+
+-- a cell is above the limit of a cell's weight
+unfoldable pub has_heavy_cell : Roses Layout → List Datum → Bool
+has_heavy_cell none row = false
+has_heavy_cell (more t ts) [] = false
+has_heavy_cell (more t ts) (c ∷ cs) = nat_lt max_cell_weight (weight t c) || has_heavy_cell ts cs
+
+-- a row, or one of its cells, is above its limit
+unfoldable pub is_heavy : Roses Layout → List Datum → Bool
+is_heavy ls row = nat_lt max_row_weight (row_weight ls (items_of row)) || has_heavy_cell ls row
+
+unfoldable pub any_heavy : Roses Layout → List (List Datum) → Bool
+any_heavy ls [] = false
+any_heavy ls (row ∷ rows) = is_heavy ls row || any_heavy ls rows
+
+-- how the columns of a table lie in memory
+abbrev pub layouts_of : Table → Roses Layout
+layouts_of t = trees_of (kids_of t.columns)
+
+-- Whether a cause stands. Retracted keys that are all live can't be too heavy.
+abbrev pub stands : Table → World → Edit → Unfit → Bool
+stands t w (append rows) unfit.NullKey = has_null (keys_in t rows)
+stands t w (append rows) unfit.DuplicateKey =
+    has_repeated (keys_in t rows) || any_among (keys_in t rows) (keys_in t w.live)
+stands t w (append rows) unfit.UnknownKey = false
+stands t w (append rows) unfit.TooManyRows =
+    nat_lt max_main_rows (length w.live + length rows) || nat_lt max_appended_rows (w.appended + length rows)
+stands t w (append rows) unfit.CellTooHeavy = any_heavy (layouts_of t) rows
+stands t w (retract keys) unfit.NullKey = has_null keys
+stands t w (retract keys) unfit.DuplicateKey = has_repeated keys
+stands t w (retract keys) unfit.UnknownKey = not (all_among keys (keys_in t w.live))
+stands t w (retract keys) unfit.TooManyRows = false
+stands t w (retract keys) unfit.CellTooHeavy = false
+
+-- in the order of their numbers
+abbrev pub causes : List Unfit
+causes = unfit.NullKey ∷ unfit.DuplicateKey ∷ unfit.UnknownKey ∷ unfit.TooManyRows ∷ unfit.CellTooHeavy ∷ []
+
+-- the least cause that stands; none where the edit fits
+unfoldable pub cause_of : Table → World → Edit → Option Unfit
+cause_of t w e = find (stands t w e) causes

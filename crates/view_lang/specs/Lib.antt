@@ -1,0 +1,10 @@
+pub mod Limits
+pub mod Config
+pub mod ConfigRules
+pub mod Edits
+pub mod World
+pub mod Causes
+pub mod UnfitCauses
+pub mod Views
+pub mod Rows
+pub mod Sample

@@ -1,0 +1,19 @@
+-- The limits of a configuration and of its table, each by its name.
+use Rattle.std.specs.Prelude.{ℕ, ◌^◌}
+
+-- columns of a declared table or view, and bytes of a column's name
+abbrev pub max_columns : ℕ
+max_columns = 64
+
+abbrev pub max_column_name_len : ℕ
+max_column_name_len = 255
+
+abbrev pub max_feeds : ℕ
+max_feeds = 16
+
+abbrev pub max_views : ℕ
+max_views = 32
+
+-- rows of all accepted appends that aren't undone, retracted rows too
+abbrev pub max_appended_rows : ℕ
+max_appended_rows = 2 ^ 62
