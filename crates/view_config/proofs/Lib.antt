@@ -1,0 +1,15 @@
+pub mod Causes
+pub mod Arrays
+pub mod Fields
+pub mod Names
+pub mod Gathering
+pub mod Counting
+pub mod Slots
+pub mod Readings
+pub mod Outputs
+pub mod Texts
+pub mod Samples
+pub mod SoundTypes
+pub mod SoundFields
+pub mod SoundTables
+pub mod SoundConfig

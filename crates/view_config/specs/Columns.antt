@@ -1,0 +1,21 @@
+-- Columns, by their names.
+use Rattle.std.specs.Prelude.{ℕ, ◌+◌, Bool, true, false, Option, None, Some, List, [], ◌∷◌, if◌then◌else◌}
+use Rattle.std.specs.Str.{bytes_eq}
+use Rattle.values.specs.Rose.{Rose, node}
+use Rattle.values.specs.Logical.{NamedType}
+use Rattle.values.specs.declared.col_type.ColType.{ColType}
+use Rattle.values.specs.declared.col_type.ColType.TheVariants as col
+
+abbrev pub name_of : Rose NamedType → List ℕ
+name_of (node f kids) = f.name
+
+-- Lists and structs have no order.
+abbrev pub has_order : ColType → Bool
+has_order (col.List o) = false
+has_order col.Struct = false
+has_order t = true
+
+-- the first column of this name, with its number, where the first of these has number i
+abbrev pub find : ℕ → List ℕ → List (Rose NamedType) → Option (ℕ × Rose NamedType)
+find i name [] = None
+find i name (c ∷ cs) = if bytes_eq (name_of c) name then Some (i, c) else find (i + 1) name cs

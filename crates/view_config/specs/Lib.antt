@@ -1,0 +1,11 @@
+pub mod Reading
+pub mod ConfigCauses
+pub mod Tree
+pub mod Columns
+pub mod Limits
+pub mod ColumnTypes
+pub mod Tables
+pub mod Feeds
+pub mod Views
+pub mod Config
+pub mod Worked

@@ -1,0 +1,58 @@
+-- A table of the configuration: its columns, and which of them is the key.
+use Rattle.std.specs.Prelude.{codes, ℕ, nat_le, not, ◌&&◌, Ok, Err, List, [], ◌∷◌, if◌then◌else◌}
+use Rattle.toml.specs.Data.{as_str, Data, Items, Members}
+use Rattle.values.specs.Limits.{max_depth}
+use Rattle.values.specs.Reading.{◌>>=◌, both, first, mapped, must, one, refused_if}
+use Rattle.values.specs.Rose.{Rose}
+use Rattle.values.specs.Logical.{NamedType}
+use Rattle.view_lang.specs.Config.{Table}
+use Rattle.view_lang.specs.ConfigRules.{type_of}
+use Rattle.view_lang.specs.Limits.{max_columns}
+use Rattle.view_config.specs.Reading.{Reading}
+use Rattle.view_config.specs.Tree.{each_item, items_in, members_in, text_in, needed, only, count_items, pair_in}
+use Rattle.view_config.specs.Columns.{find, has_order}
+use Rattle.view_config.specs.ColumnTypes.{field_of}
+use Rattle.view_config.specs.Limits.{column_name, column_limits}
+use Rattle.view_config.specs.declared.faults.ConfigFault.TheVariants as fault
+
+-- [name, type]
+unfoldable pub column_of : Data → Reading (Rose NamedType)
+column_of d = do
+  parts ← must fault.Shape (pair_in d)
+  name ← must fault.Shape (as_str parts.0)
+  both first (field_of max_depth name parts.1) (column_name name)
+
+-- 1 to 64 columns or outputs
+abbrev pub few_columns : Items → Reading (Unit {0})
+few_columns ds = refused_if fault.OverLimit (not (nat_le 1 (count_items ds) && nat_le (count_items ds) max_columns))
+
+unfoldable pub columns_of : Data → Reading (List (Rose NamedType))
+columns_of d = do
+  ds ← items_in d
+  _ ← few_columns ds
+  cs ← each_item column_of ds
+  _ ← column_limits cs
+  Ok cs
+
+abbrev pub ordered_key : ℕ × Rose NamedType → Reading ℕ
+ordered_key f = if has_order (type_of f.1) then Ok f.0 else Err (one fault.OrderType)
+
+unfoldable pub key_of : List (Rose NamedType) → List ℕ → Reading ℕ
+key_of cs name = must fault.UnknownName (find 0 name cs) >>= ordered_key
+
+abbrev pub table_entries : List (List ℕ)
+table_entries = codes "key" ∷ codes "columns" ∷ []
+
+abbrev pub keyed : List (Rose NamedType) → ℕ → Table
+keyed cs key = record { key = key; columns = cs }
+
+unfoldable pub table_of : Members → Reading Table
+table_of ms = do
+  _ ← only table_entries ms
+  name ← needed (codes "key") ms >>= text_in
+  cs ← needed (codes "columns") ms >>= columns_of
+  mapped (keyed cs) (key_of cs name)
+
+-- [main]
+unfoldable pub main_of : Members → Reading Table
+main_of ms = needed (codes "main") ms >>= members_in >>= table_of

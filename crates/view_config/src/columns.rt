@@ -1,0 +1,54 @@
+//! Columns, by their names.
+
+ghost use Rattle.std.specs.Prelude.{◌≡◌, option_map, map};
+ghost use Rattle.view_config.specs.Columns.{find, has_order, name_of};
+ghost use Rattle.view_config.specs.Tree.{is_one_of, repeats};
+
+use values::{ColType, LogicalField};
+
+/// Whether the values of a type have an order.
+pub(crate) fn has_order(col_type: &ColType) -> bool
+    ensures { result ≡ has_order col_type.now }
+{
+    !matches!(col_type, ColType::List { .. } | ColType::Struct)
+}
+
+/// Whether two of these fields have one name.
+#[tactic(auto, using(crate::proofs::Names::naming))]
+pub(crate) fn repeats(fields: &[LogicalField]) -> bool
+    ensures { result ≡ repeats (map name_of fields.now) }
+{
+    for index in 0..fields.len() {
+        let field = &fields[index];
+        if is_among(field.name.as_str(), &fields[index + 1..]) {
+            return true;
+        }
+    }
+    false
+}
+
+#[tactic(auto, using(crate::proofs::Names::naming))]
+fn is_among(name: &str, fields: &[LogicalField]) -> bool
+    ensures { result ≡ is_one_of (map name_of fields.now) name.now }
+{
+    for field in fields {
+        if name == field.name.as_str() {
+            return true;
+        }
+    }
+    false
+}
+
+/// The first column of this name, with its number.
+#[tactic(auto, using(crate::proofs::Names::finding))]
+pub(crate) fn find<'a>(columns: &'a [LogicalField], name: &str) -> Option<(usize, &'a LogicalField)>
+    ensures { option_map (λ f. (f.0, f.1.now)) result ≡ find 0 name.now columns.now }
+{
+    for index in 0..columns.len() {
+        let column = &columns[index];
+        if column.name.as_str() == name {
+            return Some((index, column));
+        }
+    }
+    None
+}

@@ -1,0 +1,73 @@
+//! What can be wrong with a configuration.
+
+use std::alloc::{AllocError, AllocFailed};
+use values::Cause;
+
+/// Why a configuration is refused: a fault of its text, or want of memory.
+#[derive(Clone, Copy, Debug, PartialEq, Eq)]
+pub enum ConfigFault {
+    /// The text isn't TOML.
+    NotToml,
+    /// A name of a column isn't there.
+    UnknownName,
+    /// A name stands twice among a table's columns, a struct's children or a view's outputs.
+    DuplicateColumn,
+    /// What stands in a type's place is no type.
+    TypeText,
+    /// A constant, or a compared column, doesn't fit its column.
+    ConstantType,
+    /// A sum over a type that has none.
+    SumType,
+    /// A list or a struct where values must have an order, as those of a key.
+    OrderType,
+    /// A count, a depth, a slot or the length of a name is out of its limits.
+    OverLimit,
+    /// An entry is missing or unknown, or a value isn't of the form that its place wants.
+    Shape,
+    /// Memory ran out.
+    Memory,
+}
+
+impl From<ConfigFault> for Cause {
+    ghost use Rattle.std.specs.Prelude.{◌≡◌};
+    ghost use Rattle.view_config.specs.ConfigCauses.{cause_of};
+
+    ghost from_gives = { λ fault cause. cause ≡ cause_of fault };
+
+    fn from(fault: ConfigFault) -> Cause {
+        match fault {
+            ConfigFault::NotToml => Cause::NotToml,
+            ConfigFault::UnknownName => Cause::UnknownName,
+            ConfigFault::DuplicateColumn => Cause::DuplicateColumn,
+            ConfigFault::TypeText => Cause::TypeText,
+            ConfigFault::ConstantType => Cause::ConstantType,
+            ConfigFault::SumType => Cause::SumType,
+            ConfigFault::OrderType => Cause::OrderType,
+            ConfigFault::OverLimit => Cause::OverLimit,
+            ConfigFault::Shape => Cause::Shape,
+            ConfigFault::Memory => Cause::Memory,
+        }
+    }
+}
+
+impl From<AllocError> for ConfigFault {
+    ghost use Rattle.std.specs.Prelude.{◌≡◌};
+    ghost use Rattle.view_config.specs.declared.faults.ConfigFault.TheVariants.{Memory};
+
+    ghost from_gives = { λ _ e. e ≡ Memory };
+
+    fn from(_refused: AllocError) -> ConfigFault {
+        ConfigFault::Memory
+    }
+}
+
+impl<T: Drop> From<AllocFailed<T>> for ConfigFault {
+    ghost use Rattle.std.specs.Prelude.{◌≡◌};
+    ghost use Rattle.view_config.specs.declared.faults.ConfigFault.TheVariants.{Memory};
+
+    ghost from_gives = { λ _ e. e ≡ Memory };
+
+    fn from(_refused: AllocFailed<T>) -> ConfigFault {
+        ConfigFault::Memory
+    }
+}

@@ -1,0 +1,121 @@
+//! The limits of columns: of their names, of how many fields they have at all levels, and of what their slots weigh.
+
+ghost use Rattle.std.specs.Prelude.{◌≡◌, ◌≤◌, ◌*◌, IfSome, map};
+ghost use Rattle.values.specs.Limits.{max_fields, max_slot};
+ghost use Rattle.values.specs.Logical.{tree_of, trees_of};
+ghost use Rattle.values.specs.Reading.{Judges};
+ghost use Rattle.values.specs.Rose.{kids_of, rose_size, roses_size};
+ghost use Rattle.view_config.specs.Columns.{name_of};
+ghost use Rattle.view_config.specs.Limits.{AreSlotsOf, IsRoomAfter, IsSlotOf, column_limits, column_name, distinct};
+ghost use Rattle.view_config.specs.Limits.{few_fields};
+
+use crate::columns::repeats;
+use crate::faults::ConfigFault;
+use values::limits::{MAX_FIELDS, MAX_SLOT};
+use values::{Layout, LogicalField};
+use view_lang::MAX_COLUMN_NAME_LEN;
+
+/// The longest time zone of a declared column, in bytes.
+pub(crate) const MAX_ZONE_LEN: usize = 255;
+
+/// The longest name of a feed or a view, in bytes.
+pub(crate) const MAX_ENTRY_NAME_LEN: usize = 64;
+
+/// A name of a column, of an output or of a struct's child, which has 1 to 255 bytes.
+pub(crate) fn check_name(name: &str) -> Result<&str, ConfigFault>
+    ensures { Judges (λ n. n.now) result (column_name name.now) }
+{
+    if 1 <= name.len() && name.len() <= MAX_COLUMN_NAME_LEN {
+        Ok(name)
+    } else {
+        Err(ConfigFault::OverLimit)
+    }
+}
+
+/// Refuses two fields of one name.
+pub(crate) fn check_distinct(fields: &[LogicalField]) -> Result<(), ConfigFault>
+    ensures { Judges (λ u. u) result (distinct (map name_of fields.now)) }
+{
+    if repeats(fields) {
+        return Err(ConfigFault::DuplicateColumn);
+    }
+    Ok(())
+}
+
+/// What is left of `room` after a field and all below it; `None` where they are more.
+#[cycle(count)]
+pub(crate) fn room_after(field: &LogicalField, room: u32) -> Option<u32>
+    ensures { IsRoomAfter room (rose_size field.now) result }
+{
+    room_after_all(&field.children, room.checked_sub(1)?)
+}
+
+/// What is left of `room` after these fields and all below them; `None` where they are more.
+#[cycle(count)]
+#[tactic(auto, using(crate::proofs::Counting::counting))]
+fn room_after_all(fields: &[LogicalField], room: u32) -> Option<u32>
+    ensures { IsRoomAfter room (roses_size (kids_of fields.now)) result }
+{
+    let mut left = room;
+    for field in fields {
+        left = room_after(field, left)?;
+    }
+    Some(left)
+}
+
+/// Refuses more fields than a table may have, at all levels.
+pub(crate) fn check_count(fields: &[LogicalField]) -> Result<(), ConfigFault>
+    ensures { Judges (λ u. u) result (few_fields fields.now) }
+{
+    match room_after_all(fields, MAX_FIELDS) {
+        Some(_) => Ok(()),
+        None => Err(ConfigFault::OverLimit),
+    }
+}
+
+/// The slot of a field; `None` where it or that of a field below it is too large.
+#[cycle(slots)]
+#[tactic(auto, using(crate::proofs::Slots::slot_lemmas))]
+fn slot_of(field: &LogicalField) -> Option<u64>
+    requires { rose_size field.now ≤ max_fields }
+    ensures value { IsSlotOf result (tree_of field.now) }
+    ensures bound { IfSome result (λ n. n ≤ max_slot) }
+{
+    let below = slots_of(&field.children)?;
+    let layout = field.col_type.layout();
+    let slot = match layout {
+        Layout::Struct => 1 + below,
+        _ => layout.own_slot(),
+    };
+    if slot > MAX_SLOT {
+        return None;
+    }
+    Some(slot)
+}
+
+/// The slots of these fields together; `None` where one of them, or of those below them, is too large.
+#[cycle(slots)]
+#[tactic(auto, using(crate::proofs::Slots::slot_lemmas))]
+fn slots_of(fields: &[LogicalField]) -> Option<u64>
+    requires { roses_size (kids_of fields.now) ≤ max_fields }
+    ensures value { AreSlotsOf result (trees_of (kids_of fields.now)) }
+    ensures bound { IfSome result (λ n. n ≤ max_slot * roses_size (kids_of fields.now)) }
+{
+    let mut slots = 0;
+    for field in fields {
+        slots += slot_of(field)?;
+    }
+    Some(slots)
+}
+
+/// Refuses columns that pass the limits of a table, or two of one name.
+#[tactic(auto, using(crate::proofs::Causes::causes), unfolding(crate::specs::Limits::column_limits))]
+pub(crate) fn check_columns(columns: &[LogicalField]) -> Result<(), ConfigFault>
+    ensures { Judges (λ u. u) result (column_limits columns.now) }
+{
+    check_count(columns)?;
+    if slots_of(columns).is_none() {
+        return Err(ConfigFault::OverLimit);
+    }
+    check_distinct(columns)
+}

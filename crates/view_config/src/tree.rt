@@ -1,0 +1,132 @@
+//! The entries of a TOML document.
+
+ghost use Rattle.std.specs.Prelude.{◌≡◌, map, option_map};
+ghost use Rattle.values.specs.Reading.{Judges};
+ghost use Rattle.toml.specs.Data.{get_member};
+ghost use Rattle.toml.specs.View.{items_view, table_view, view};
+ghost use Rattle.view_config.specs.Tree.{has_only, headed, is_one_of, items_in, members_in, needed, only, pair};
+ghost use Rattle.view_config.specs.Tree.{pair_in, sole, text_in};
+
+use crate::faults::ConfigFault;
+use toml::{Table as Entries, Value};
+
+/// The value of an entry that must be there.
+pub(crate) fn entry<'a>(table: &'a Entries, key: &str) -> Result<&'a Value, ConfigFault>
+    ensures { Judges (λ v. view v.now) result (needed key.now (table_view table.now)) }
+{
+    entry_at(table, key).ok_or(ConfigFault::Shape)
+}
+
+/// The value of an entry that may be there.
+pub(crate) fn entry_at<'a>(table: &'a Entries, key: &str) -> Option<&'a Value>
+    ensures { option_map (λ v. view v.now) result ≡ get_member key.now (table_view table.now) }
+{
+    table.get(key)
+}
+
+/// The text that an array begins with, and what comes after it.
+#[tactic(auto, using(crate::proofs::Arrays::arrays))]
+pub(crate) fn headed(values: &[Value]) -> Option<(&str, &[Value])>
+    ensures { option_map (λ p. (p.0.now, items_view p.1.now)) result ≡ headed (items_view values.now) }
+{
+    if values.is_empty() {
+        return None;
+    }
+    match &values[0] {
+        Value::String(word) => Some((word.as_str(), &values[1..])),
+        _ => None,
+    }
+}
+
+pub(crate) fn text_in(value: &Value) -> Result<&str, ConfigFault>
+    ensures { Judges (λ s. s.now) result (text_in (view value.now)) }
+{
+    match value {
+        Value::String(text) => Ok(text.as_str()),
+        _ => Err(ConfigFault::Shape),
+    }
+}
+
+pub(crate) fn items_in(value: &Value) -> Result<&[Value], ConfigFault>
+    ensures { Judges (λ vs. items_view vs.now) result (items_in (view value.now)) }
+{
+    match value {
+        Value::Array(values) => Ok(values.as_slice()),
+        _ => Err(ConfigFault::Shape),
+    }
+}
+
+pub(crate) fn members_in(value: &Value) -> Result<&Entries, ConfigFault>
+    ensures { Judges (λ t. table_view t.now) result (members_in (view value.now)) }
+{
+    match value {
+        Value::Table(table) => Ok(table),
+        _ => Err(ConfigFault::Shape),
+    }
+}
+
+/// The one value of an array of one.
+#[tactic(auto, using(crate::proofs::Arrays::arrays))]
+pub(crate) fn sole(values: &[Value]) -> Option<&Value>
+    ensures { option_map (λ v. view v.now) result ≡ sole (items_view values.now) }
+{
+    if values.len() != 1 {
+        return None;
+    }
+    Some(&values[0])
+}
+
+/// The two values of an array of two.
+#[tactic(auto, using(crate::proofs::Arrays::arrays))]
+pub(crate) fn pair(values: &[Value]) -> Option<(&Value, &Value)>
+    ensures { option_map (λ p. (view p.0.now, view p.1.now)) result ≡ pair (items_view values.now) }
+{
+    if values.len() != 2 {
+        return None;
+    }
+    Some((&values[0], &values[1]))
+}
+
+pub(crate) fn pair_in(value: &Value) -> Option<(&Value, &Value)>
+    ensures { option_map (λ p. (view p.0.now, view p.1.now)) result ≡ pair_in (view value.now) }
+{
+    match value {
+        Value::Array(values) => pair(values.as_slice()),
+        _ => None,
+    }
+}
+
+/// Whether no entry has another name than these.
+pub(crate) fn has_only(entries: &Entries, names: &[&str]) -> bool
+    ensures { result ≡ has_only (map (λ n. n.now) names.now) (table_view entries.now) }
+{
+    for (name, _) in entries {
+        if !is_one_of(names, name.as_str()) {
+            return false;
+        }
+    }
+    true
+}
+
+#[tactic(auto, using(crate::proofs::Names::naming))]
+fn is_one_of(names: &[&str], name: &str) -> bool
+    ensures { result ≡ is_one_of (map (λ n. n.now) names.now) name.now }
+{
+    for known in names {
+        if name == *known {
+            return true;
+        }
+    }
+    false
+}
+
+/// Refuses entries of other names than these.
+pub(crate) fn check_names(entries: &Entries, names: &[&str]) -> Result<(), ConfigFault>
+    ensures { Judges (λ u. u) result (only (map (λ n. n.now) names.now) (table_view entries.now)) }
+{
+    if has_only(entries, names) {
+        Ok(())
+    } else {
+        Err(ConfigFault::Shape)
+    }
+}
