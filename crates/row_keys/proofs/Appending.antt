@@ -1,0 +1,374 @@
+-- A batch that is appended, and why one isn't.
+use Rattle.std.proofs.Common.{
+  ◌≡◌,
+  ℕ,
+  zero,
+  suc,
+  ◌+◌,
+  ◌<◌,
+  ◌≤◌,
+  ◌||◌,
+  Bool,
+  true,
+  false,
+  List,
+  [],
+  ◌∷◌,
+  ◌++◌,
+  None,
+  Some,
+  All,
+  length,
+  drop,
+  get_or,
+  map,
+  refl,
+  ap,
+  sym,
+  subst,
+  ◌∙◌,
+  arith,
+}
+use Rattle.std.specs.Prelude.{slice_get, IsSome, nat_lt, if◌then◌else◌}
+use Rattle.std.proofs.lemmas.List.{drop_more, drop_all, length-map}
+use Rattle.std.proofs.lemmas.List.Elements.{All-append, All-get_or}
+use Rattle.std.proofs.lemmas.Bool.{ltb-false}
+use Rattle.std.proofs.lemmas.Option.{none-some}
+use Rattle.values.specs.Datum.{Datum, null, truth, whole, text, bytes, list, structure, Items}
+use Rattle.values.specs.Keys.{datum_of_key, key_of}
+use Rattle.values.specs.Layouts.{Holds}
+use Rattle.values.specs.Limits.{max_main_rows}
+use Rattle.values.specs.Logical.{NamedType, tree_of, trees_of}
+use Rattle.values.specs.ColTypes.{IsSingle, layout_of}
+use Rattle.values.specs.Rose.{Rose, node, Roses, kids_of}
+use Rattle.values.specs.declared.col_type.ColType.{ColType}
+use Rattle.values.specs.declared.col_type.ColType.TheVariants as col
+use Rattle.values.specs.declared.key.Key.{Key}
+use Rattle.values.specs.declared.layout.Layout.{Layout}
+use Rattle.arrays.specs.Checked.{CheckedColumn}
+use Rattle.schema_meta.specs.Rows.{row_at, rows_from}
+use Rattle.view_lang.specs.Causes.{any_among, any_heavy, cause_of, has_null, has_repeated, layouts_of}
+use Rattle.view_lang.specs.Config.{Table}
+use Rattle.view_lang.specs.ConfigRules.{IsTable, type_of}
+use Rattle.view_lang.specs.Edits.{append, cell_at}
+use Rattle.view_lang.specs.World.{World, key_in, keys_in}
+use Rattle.view_lang.specs.declared.unfit.Unfit.TheVariants as unfit
+use Rattle.row_keys.specs.declared.batches.Place.{Place}
+use Rattle.row_keys.specs.declared.faults.EditFault.{EditFault}
+use Rattle.row_keys.specs.declared.faults.EditFault.TheVariants as fault
+use Rattle.row_keys.specs.Batches.{AreAlike, IsAlike, IsBatch, batch_rows, cells_in, layouts_in}
+use Rattle.row_keys.specs.Judged.{RefusesRows, are_many}
+use Rattle.row_keys.specs.KeyColumns.{HoldsKeys, PushesKeys, RefusesKeys, fresh}
+use Rattle.row_keys.specs.Numbers.{Numbered, live_count}
+use Rattle.row_keys.specs.Slots.{CanTakeBack, Slot, live, new_slot, taken_back, world_of}
+use Rattle.row_keys.specs.Store.{Refuses}
+use Rattle.row_keys.specs.Stored.{AreKeyed, IsLightRow, IsStored, joined, live_keys, places_from, rows_by}
+use Rattle.row_keys.proofs.Batching.{none_heavy, placed_joined, rows_joined}
+use Rattle.row_keys.proofs.HeavyRows.{alike_any}
+use Rattle.row_keys.proofs.Joining.{
+  can_take_added,
+  joined_added,
+  keyed_added,
+  keyed_length,
+  keys_live,
+  live_counted,
+  taken_added,
+}
+use Rattle.row_keys.proofs.KeyFacts.{neither}
+
+-- What a column of a single type holds is a key.
+
+no_list : (s : ColType) (kids : Roses Layout) (es : Items) → IsSingle s → Holds (node (layout_of s) kids) (list es) → ⊥
+no_list col.Bool kids es single h = h
+no_list (col.Int w s) kids es single h = h
+no_list (col.Decimal p s) kids es single h = h
+no_list (col.Date u) kids es single h = h
+no_list (col.Time u) kids es single h = h
+no_list (col.Timestamp u z) kids es single h = h
+no_list (col.Duration u) kids es single h = h
+no_list (col.Utf8 o) kids es single h = h
+no_list (col.Binary o) kids es single h = h
+no_list (col.FixedSizeBinary w) kids es single h = h
+no_list (col.List o) kids es single h = single
+no_list col.Struct kids es single h = single
+
+no_structure : (s : ColType) (kids : Roses Layout) (es : Items) → IsSingle s
+    → Holds (node (layout_of s) kids) (structure es) → ⊥
+no_structure col.Bool kids es single h = h
+no_structure (col.Int w s) kids es single h = h
+no_structure (col.Decimal p s) kids es single h = h
+no_structure (col.Date u) kids es single h = h
+no_structure (col.Time u) kids es single h = h
+no_structure (col.Timestamp u z) kids es single h = h
+no_structure (col.Duration u) kids es single h = h
+no_structure (col.Utf8 o) kids es single h = h
+no_structure (col.Binary o) kids es single h = h
+no_structure (col.FixedSizeBinary w) kids es single h = h
+no_structure (col.List o) kids es single h = single
+no_structure col.Struct kids es single h = single
+
+holds_key : (s : ColType) (kids : Roses Layout) (d : Datum) → IsSingle s → Holds (node (layout_of s) kids) d
+    → IsSome (key_of d)
+holds_key s kids null single h = refl
+holds_key s kids (truth b) single h = refl
+holds_key s kids (whole n) single h = refl
+holds_key s kids (text t) single h = refl
+holds_key s kids (bytes b) single h = refl
+holds_key s kids (list es) single h = absurd (no_list s kids es single h)
+holds_key s kids (structure es) single h = absurd (no_structure s kids es single h)
+
+alike_at :
+    (fs : List (Rose NamedType)) (columns : List CheckedColumn) (k : ℕ) (f : Rose NamedType) (c : CheckedColumn)
+    → AreAlike (trees_of (kids_of fs)) (layouts_in columns) → slice_get fs k ≡ Some f
+    → (k < length columns) × IsAlike (tree_of f) ((get_or columns k c).layouts)
+alike_at [] columns k f c alike there = absurd (none-some f there)
+alike_at (g ∷ fs) [] k f c alike there = absurd alike
+alike_at (g ∷ fs) (d ∷ columns) zero f c alike there =
+    let P : Rose NamedType → Type 0 = λ x. IsAlike (tree_of x) d.layouts in (omega arith, subst P (cc there) alike.0)
+alike_at (g ∷ fs) (d ∷ columns) (suc k) f c alike there = let r = alike_at fs columns k f c alike.1 there in
+    (omega (arith, r.0), r.1)
+
+pub key_within : (t : Table) (columns : List CheckedColumn) (rows : ℕ) → IsTable t → IsBatch t rows columns
+    → t.key < length columns
+key_within t columns rows is batch = (alike_within t.columns columns t.key is.key.0 batch.alike is.key.1)
+  where
+    alike_within : (fs : List (Rose NamedType)) (cs : List CheckedColumn) (k : ℕ) (f : Rose NamedType)
+        → AreAlike (trees_of (kids_of fs)) (layouts_in cs) → slice_get fs k ≡ Some f → k < length cs
+    alike_within [] cs k f alike there = absurd (none-some f there)
+    alike_within (g ∷ fs) [] k f alike there = absurd alike
+    alike_within (g ∷ fs) (d ∷ cs) zero f alike there = omega arith
+    alike_within (g ∷ fs) (d ∷ cs) (suc k) f alike there = let r = alike_within fs cs k f alike.1 there in
+        omega (arith, r)
+
+pub single_holds : (f : Rose NamedType) (u : Rose Layout) → IsSingle (type_of f) → IsAlike (tree_of f) u → HoldsKeys u
+single_holds (node f kids) u single alike = λ d held. holds_key f.col_type (trees_of kids) d single (alike.holds d held)
+
+pub key_column :
+    (t : Table) (columns : List CheckedColumn) (rows : ℕ) (c : CheckedColumn) → IsTable t → IsBatch t rows columns
+    → c ≡ get_or columns t.key c → HoldsKeys c.layouts
+key_column t columns rows c is batch read =
+    let P : CheckedColumn → Type 0 = λ x. HoldsKeys x.layouts in
+    subst P (sym read)
+    (single_holds is.key.0 (get_or columns t.key c).layouts is.key.2
+    (alike_at t.columns columns t.key is.key.0 c batch.alike is.key.1).1)
+
+-- The keys of the rows are the cells of the key column.
+
+cell_in_row : (columns : List CheckedColumn) (k i : ℕ) (c : CheckedColumn) → k < length columns
+    → cell_at (row_at (cells_in columns) i) k ≡ get_or ((get_or columns k c).cells) i null
+cell_in_row [] k i c below = absurd (omega (arith, below))
+cell_in_row (d ∷ columns) zero i c below = refl
+cell_in_row (d ∷ columns) (suc k) i c below = cell_in_row columns k i c (omega (arith, below))
+
+keys_from :
+    (t : Table) (columns : List CheckedColumn) (i n : ℕ) (c : CheckedColumn) → t.key < length columns
+    → c ≡ get_or columns t.key c → i + n ≡ length c.cells
+    → keys_in t (rows_from (cells_in columns) i n) ≡ drop i c.cells
+unfolding rows_from
+keys_from t columns i zero c below read all = sym (drop_all i c.cells (omega (arith, all)))
+keys_from t columns i (suc n) c below read all =
+    let here : key_in t (row_at (cells_in columns) i) ≡ get_or c.cells i null =
+    cell_in_row columns t.key i c below ∙ ap (λ x. get_or x.cells i null) (sym read) in
+    ap (λ d. d ∷ keys_in t (rows_from (cells_in columns) (i + 1) n)) here
+    ∙ ap (λ ds. get_or c.cells i null ∷ ds) (keys_from t columns (i + 1) n c below read (omega (arith, all)))
+    ∙ sym (drop_more c.cells i null (omega (arith, all)))
+
+pub keys_of_rows :
+    (t : Table) (columns : List CheckedColumn) (rows : ℕ) (c : CheckedColumn) → IsTable t → IsBatch t rows columns
+    → c ≡ get_or columns t.key c
+    → c.cells ≡ keys_in t (batch_rows rows columns)
+keys_of_rows t columns rows c is batch read =
+    let below : t.key < length columns = key_within t columns rows is batch in
+    let P : CheckedColumn → Type 0 = λ x. length x.cells ≡ rows in
+    let long : length c.cells ≡ rows = subst P (sym read) (All-get_or P columns t.key c below batch.long) in
+    sym (keys_from t columns 0 rows c below read (omega (arith, long)))
+
+rows_counted : (columns : List (List Datum)) (i n : ℕ) → length (rows_from columns i n) ≡ n
+unfolding rows_from
+rows_counted columns i zero = refl
+rows_counted columns i (suc n) = ap suc (rows_counted columns (i + 1) n)
+
+pub batch_counted : (columns : List CheckedColumn) (n : ℕ) → length (batch_rows n columns) ≡ n
+batch_counted columns n = rows_counted (cells_in columns) 0 n
+
+-- The rows have the keys that they are numbered by.
+keyed_new : (t : Table) (rows : List (List Datum)) (ks : List Key) → map datum_of_key ks ≡ keys_in t rows
+    → AreKeyed t rows (map fresh ks)
+keyed_new t [] [] h = tt
+keyed_new t [] (k ∷ ks) h = absurd (cc h)
+keyed_new t (r ∷ rs) [] h = absurd (cc h)
+keyed_new t (r ∷ rs) (k ∷ ks) h = (cc h, keyed_new t rs ks (cc h))
+
+pub slots_appended :
+    (t : Table) (bs : List (List CheckedColumn)) (ps : List Place) (xs new : List Numbered)
+    (columns : List CheckedColumn) (n : ℕ)
+    → IsStored t bs ps xs → PushesKeys (keys_in t (batch_rows n columns)) xs new
+    → joined (rows_by (bs ++ columns ∷ []) (ps ++ places_from (length bs) 0 n)) new
+    ≡ joined (rows_by bs ps) xs ++ map new_slot (batch_rows n columns)
+slots_appended t bs ps xs new columns n is p =
+    ap (λ rs. joined rs new) (rows_joined t bs columns ps n is.placed)
+    ∙ ap (λ ys. joined (rows_by bs ps ++ batch_rows n columns) ys) p.pushed
+    ∙ joined_added t (rows_by bs ps) (batch_rows n columns) xs p.keys is.keyed
+    (keyed_new t (batch_rows n columns) p.keys p.are)
+
+count_added : (xs : List Numbered) (ks : List Key) → live_count (xs ++ map fresh ks) ≡ live_count xs + length ks
+count_added [] [] = refl
+count_added [] (k ∷ ks) = let c = count_added [] ks in omega (arith, c)
+count_added (x ∷ xs) ks = by x.live (count_added xs ks)
+  where
+    by : (b : Bool) → live_count (xs ++ map fresh ks) ≡ live_count xs + length ks
+        → (if b then suc (live_count (xs ++ map fresh ks)) else live_count (xs ++ map fresh ks)) ≡ (if b
+        then suc (live_count xs) else live_count xs) + length ks
+    by true h = omega (arith, h)
+    by false h = h
+
+pub stored_appended :
+    (t : Table) (bs : List (List CheckedColumn)) (ps : List Place) (xs new : List Numbered)
+    (columns : List CheckedColumn) (n appended : ℕ)
+    → IsStored t bs ps xs → IsBatch t n columns → PushesKeys (keys_in t (batch_rows n columns)) xs new
+    → are_many (live_count xs) appended n ≡ false → any_heavy (layouts_in columns) (batch_rows n columns) ≡ false
+    → IsStored t (bs ++ columns ∷ []) (ps ++ places_from (length bs) 0 n) new
+stored_appended t bs ps xs new columns n appended is batch p few light =
+    let rows = rows_joined t bs columns ps n is.placed in
+    let P : List (List Datum) → Type 0 = λ rs. All (IsLightRow t) rs in
+    let Q : List (List Datum) → Type 0 = λ rs. AreKeyed t rs new in
+    let R : List Numbered → Type 0 = λ ys. AreKeyed t (rows_by bs ps ++ batch_rows n columns) ys in
+    let parts = neither (nat_lt max_main_rows (live_count xs + n)) _ few in
+    let within : live_count xs + n ≤ max_main_rows = ltb-false max_main_rows (live_count xs + n) parts.0 in
+    let many : length p.keys ≡ n =
+    sym (length-map p.keys datum_of_key) ∙ ap length p.are ∙ length-map (batch_rows n columns) (key_in t)
+    ∙ batch_counted columns n in
+    let counted : live_count new ≡ live_count xs + length p.keys = ap live_count p.pushed ∙ count_added xs p.keys in
+    record {
+      table = is.table;
+      placed = placed_joined t bs columns ps n is.placed batch.alike batch.long;
+      light = subst P (sym rows) (All-append (IsLightRow t) (rows_by bs ps) (batch_rows n columns) is.light
+          (none_heavy t (batch_rows n columns)
+          (alike_any (layouts_of t) (layouts_in columns) (batch_rows n columns) batch.alike ∙ light)));
+      keyed = subst Q (sym rows) (subst R (sym p.pushed)
+          (keyed_added t (rows_by bs ps) (batch_rows n columns) xs (map fresh p.keys) is.keyed
+          (keyed_new t (batch_rows n columns) p.keys p.are)));
+      few = omega (arith, counted, many, within);
+    }
+
+-- the causes
+
+cause_none :
+    (t : Table) (w : World) (rows : List (List Datum)) → has_null (keys_in t rows) ≡ false
+    → (has_repeated (keys_in t rows) || any_among (keys_in t rows) (keys_in t w.live)) ≡ false
+    → are_many (length w.live) w.appended (length rows) ≡ false
+    → any_heavy (layouts_of t) rows ≡ false → cause_of t w (append rows) ≡ None
+unfolding cause_of
+cause_none t w rows a b c d = rw (a, b, c, d) refl
+
+cause_null : (t : Table) (w : World) (rows : List (List Datum)) → has_null (keys_in t rows) ≡ true
+    → cause_of t w (append rows) ≡ Some unfit.NullKey
+unfolding cause_of
+cause_null t w rows a = rw a refl
+
+cause_repeated :
+    (t : Table) (w : World) (rows : List (List Datum)) → has_null (keys_in t rows) ≡ false
+    → (has_repeated (keys_in t rows) || any_among (keys_in t rows) (keys_in t w.live)) ≡ true
+    → cause_of t w (append rows) ≡ Some unfit.DuplicateKey
+unfolding cause_of
+cause_repeated t w rows a b = rw (a, b) refl
+
+cause_many :
+    (t : Table) (w : World) (rows : List (List Datum)) → has_null (keys_in t rows) ≡ false
+    → (has_repeated (keys_in t rows) || any_among (keys_in t rows) (keys_in t w.live)) ≡ false
+    → are_many (length w.live) w.appended (length rows) ≡ true
+    → cause_of t w (append rows) ≡ Some unfit.TooManyRows
+unfolding cause_of
+cause_many t w rows a b c = rw (a, b, c) refl
+
+cause_heavy :
+    (t : Table) (w : World) (rows : List (List Datum)) → has_null (keys_in t rows) ≡ false
+    → (has_repeated (keys_in t rows) || any_among (keys_in t rows) (keys_in t w.live)) ≡ false
+    → are_many (length w.live) w.appended (length rows) ≡ false
+    → any_heavy (layouts_of t) rows ≡ true → cause_of t w (append rows) ≡ Some unfit.CellTooHeavy
+unfolding cause_of
+cause_heavy t w rows a b c d = rw (a, b, c, d) refl
+
+pub live_keys_are :
+    (t : Table) (bs : List (List CheckedColumn)) (ps : List Place) (xs : List Numbered) → IsStored t bs ps xs
+    → live_keys xs ≡ keys_in t (live (joined (rows_by bs ps) xs))
+live_keys_are t bs ps xs is = sym (keys_live t (rows_by bs ps) xs is.keyed)
+
+pub keys_unfit :
+    (t : Table) (bs : List (List CheckedColumn)) (ps : List Place) (xs : List Numbered) (rows : List (List Datum))
+    (e : EditFault) → IsStored t bs ps xs
+    → RefusesKeys (keys_in t rows) xs e → Refuses (cause_of t (world_of (joined (rows_by bs ps) xs)) (append rows)) e
+keys_unfit t bs ps xs rows (fault.Unfit unfit.NullKey) is h = cause_null t (world_of (joined (rows_by bs ps) xs)) rows h
+keys_unfit t bs ps xs rows (fault.Unfit unfit.DuplicateKey) is h =
+    cause_repeated t (world_of (joined (rows_by bs ps) xs)) rows h.0
+    (ap (λ ks. has_repeated (keys_in t rows) || any_among (keys_in t rows) ks) (sym (live_keys_are t bs ps xs is))
+    ∙ h.1)
+keys_unfit t bs ps xs rows fault.Memory is h = tt
+keys_unfit t bs ps xs rows (fault.Unfit u) is h = absurd h
+
+single_keys :
+    (t : Table) (bs : List (List CheckedColumn)) (ps : List Place) (xs new : List Numbered) (rows : List (List Datum))
+    → IsStored t bs ps xs
+    → PushesKeys (keys_in t rows) xs new
+    → (has_repeated (keys_in t rows)
+    || any_among (keys_in t rows) (keys_in t (live (joined (rows_by bs ps) xs)))) ≡ false
+single_keys t bs ps xs new rows is p =
+    ap (λ b. b || any_among (keys_in t rows) (keys_in t (live (joined (rows_by bs ps) xs)))) p.single
+    ∙ ap (λ ks. any_among (keys_in t rows) ks) (sym (live_keys_are t bs ps xs is)) ∙ p.unused
+
+many_same :
+    (t : Table) (bs : List (List CheckedColumn)) (ps : List Place) (xs : List Numbered) (columns : List CheckedColumn)
+    (n : ℕ) (b : Bool) → IsStored t bs ps xs
+    → are_many (live_count xs) (length xs) n ≡ b
+    → are_many (length (live (joined (rows_by bs ps) xs))) (length (joined (rows_by bs ps) xs))
+    (length (batch_rows n columns)) ≡ b
+many_same t bs ps xs columns n b is h =
+    ap (λ m. are_many m (length (joined (rows_by bs ps) xs)) (length (batch_rows n columns)))
+    (live_counted t (rows_by bs ps) xs is.keyed)
+    ∙ ap (λ m. are_many (live_count xs) m (length (batch_rows n columns)))
+    (keyed_length t (rows_by bs ps) xs is.keyed).1
+    ∙ ap (λ m. are_many (live_count xs) (length xs) m) (batch_counted columns n) ∙ h
+
+pub batch_fits :
+    (t : Table) (bs : List (List CheckedColumn)) (ps : List Place) (xs new : List Numbered)
+    (columns : List CheckedColumn) (n : ℕ) → IsStored t bs ps xs
+    → IsBatch t n columns → PushesKeys (keys_in t (batch_rows n columns)) xs new
+    → are_many (live_count xs) (length xs) n ≡ false
+    → any_heavy (layouts_in columns) (batch_rows n columns) ≡ false
+    → cause_of t (world_of (joined (rows_by bs ps) xs)) (append (batch_rows n columns)) ≡ None
+batch_fits t bs ps xs new columns n is batch p few light =
+    cause_none t (world_of (joined (rows_by bs ps) xs)) (batch_rows n columns) p.given
+    (single_keys t bs ps xs new (batch_rows n columns) is p)
+    (many_same t bs ps xs columns n false is few)
+    (alike_any (layouts_of t) (layouts_in columns) (batch_rows n columns) batch.alike ∙ light)
+
+pub rows_unfit :
+    (t : Table) (bs : List (List CheckedColumn)) (ps : List Place) (xs new : List Numbered)
+    (columns : List CheckedColumn) (n : ℕ) (e : EditFault)
+    → IsStored t bs ps xs → IsBatch t n columns → PushesKeys (keys_in t (batch_rows n columns)) xs new
+    → RefusesRows (live_count xs) (length xs) n columns e
+    → Refuses (cause_of t (world_of (joined (rows_by bs ps) xs)) (append (batch_rows n columns))) e
+rows_unfit t bs ps xs new columns n (fault.Unfit unfit.TooManyRows) is batch p h =
+    cause_many t (world_of (joined (rows_by bs ps) xs)) (batch_rows n columns) p.given
+    (single_keys t bs ps xs new (batch_rows n columns) is p)
+    (many_same t bs ps xs columns n true is h)
+rows_unfit t bs ps xs new columns n (fault.Unfit unfit.CellTooHeavy) is batch p h =
+    cause_heavy t (world_of (joined (rows_by bs ps) xs)) (batch_rows n columns) p.given
+    (single_keys t bs ps xs new (batch_rows n columns) is p)
+    (many_same t bs ps xs columns n false is h.0)
+    (alike_any (layouts_of t) (layouts_in columns) (batch_rows n columns) batch.alike ∙ h.1)
+rows_unfit t bs ps xs new columns n fault.Memory is batch p h = tt
+rows_unfit t bs ps xs new columns n (fault.Unfit u) is batch p h = absurd h
+
+pub appended_back :
+    (slots new : List Slot) (columns : List CheckedColumn) (n : ℕ) → new ≡ slots ++ map new_slot (batch_rows n columns)
+    → CanTakeBack n new × (taken_back n new ≡ slots)
+appended_back slots new columns n is =
+    let P : ℕ → Type 0 = λ m. CanTakeBack m (slots ++ map new_slot (batch_rows n columns))
+    × (taken_back m (slots ++ map new_slot (batch_rows n columns)) ≡ slots) in
+    let Q : List Slot → Type 0 = λ ss. CanTakeBack n ss × (taken_back n ss ≡ slots) in
+    subst Q (sym is)
+    (subst P (batch_counted columns n) (
+      can_take_added slots (batch_rows n columns),
+      taken_added slots (batch_rows n columns),
+    ))

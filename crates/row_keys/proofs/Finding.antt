@@ -1,0 +1,220 @@
+-- The rows with these keys, and why they can't be retracted.
+use Rattle.std.proofs.Common.{
+  ◌≡◌,
+  inl,
+  inr,
+  ℕ,
+  zero,
+  suc,
+  ◌+◌,
+  ◌<◌,
+  ◌≤◌,
+  Bool,
+  true,
+  false,
+  cond,
+  List,
+  [],
+  ◌∷◌,
+  ◌++◌,
+  None,
+  Some,
+  length,
+  take,
+  get_or,
+  refl,
+  ap,
+  sym,
+  subst,
+  ◌∙◌,
+  arith,
+  true≢false,
+}
+use Rattle.std.specs.Prelude.{slice_get}
+use Rattle.std.proofs.Math.Seq.{take-suc}
+use Rattle.std.proofs.lemmas.Option.{get_or_from_slice_get}
+use Rattle.values.specs.Datum.{Datum, null}
+use Rattle.values.specs.Keys.{datum_of_key}
+use Rattle.values.specs.Logical.{NamedType, tree_of}
+use Rattle.values.specs.Rose.{Rose}
+use Rattle.values.specs.declared.key.Key.{Key}
+use Rattle.arrays.specs.Checked.{CheckedColumn}
+use Rattle.view_lang.specs.Causes.{all_among, any_among, cause_of, has_repeated}
+use Rattle.view_lang.specs.Config.{Table}
+use Rattle.view_lang.specs.ConfigRules.{IsTable, no_field}
+use Rattle.view_lang.specs.Edits.{retract}
+use Rattle.view_lang.specs.World.{World, is_among, keys_in, same_key}
+use Rattle.view_lang.specs.declared.unfit.Unfit.TheVariants as unfit
+use Rattle.row_keys.specs.declared.batches.Place.{Place}
+use Rattle.row_keys.specs.declared.faults.EditFault.{EditFault}
+use Rattle.row_keys.specs.declared.faults.EditFault.TheVariants as fault
+use Rattle.row_keys.specs.Batches.{AreKeys, IsAlike}
+use Rattle.row_keys.specs.Found.{FindsAll, MissesKey}
+use Rattle.row_keys.specs.KeyColumns.{HoldsKeys, PushesKeys, RefusesKeys}
+use Rattle.row_keys.specs.Numbers.{IsAt, IsUnused, Numbered, numbered, turned}
+use Rattle.row_keys.specs.Slots.{CanRetract, Slot, keys_at, live, world_of}
+use Rattle.row_keys.specs.Store.{Refuses}
+use Rattle.row_keys.specs.Stored.{AreKeyed, IsStored, joined, live_keys, rows_by}
+use Rattle.row_keys.proofs.Appending.{live_keys_are, single_holds}
+use Rattle.row_keys.proofs.Joining.{joined_at, joined_turned, keyed_turned, unused_among, used_among}
+use Rattle.row_keys.proofs.KeyFacts.{either, neither, same_refl}
+use Rattle.row_keys.proofs.Places.{some_same}
+
+pub keys_held : (t : Table) (c : CheckedColumn) → IsTable t → AreKeys t c → HoldsKeys c.layouts
+keys_held t c is alike =
+    let same : get_or t.columns t.key no_field ≡ is.key.0 =
+    get_or_from_slice_get t.columns t.key is.key.0 no_field is.key.1 in
+    let P : Rose NamedType → Type 0 = λ f. IsAlike (tree_of f) c.layouts in
+    single_holds is.key.0 c.layouts is.key.2 (subst P same alike)
+
+-- one key after another
+
+pub finds_more :
+    (cells : List Datum) (i n : ℕ) (xs : List Numbered) (found : List ℕ) (k : Key) → i < length cells
+    → FindsAll (take i cells) xs found
+    → datum_of_key k ≡ get_or cells i null → IsAt xs n k true → FindsAll (take (i + 1) cells) xs (found ++ n ∷ [])
+finds_more cells i n xs found k below all is at =
+    let e : i + 1 ≡ suc i = omega arith in
+    let P : List Datum → Type 0 = λ ds. FindsAll ds xs (found ++ n ∷ []) in
+    subst P (sym (ap (λ m. take m cells) e ∙ take-suc cells i null below))
+    (snoc (take i cells) found (get_or cells i null) all (k, is, at))
+  where
+    snoc : (ds : List Datum) (ns : List ℕ) (d : Datum) → FindsAll ds xs ns
+        → (k' : Key) × (datum_of_key k' ≡ d) × IsAt xs n k' true → FindsAll (ds ++ d ∷ []) xs (ns ++ n ∷ [])
+    snoc [] [] d all one = (one, tt)
+    snoc [] (m ∷ ms) d all one = absurd all
+    snoc (x ∷ ds) [] d all one = absurd all
+    snoc (x ∷ ds) (m ∷ ms) d all one = (all.0, snoc ds ms d all.1 one)
+
+all_taken : (cells : List Datum) (n : ℕ) → length cells ≤ n → take n cells ≡ cells
+all_taken [] zero h = refl
+all_taken [] (suc n) h = refl
+all_taken (s ∷ ss) zero h = absurd (omega (arith, h))
+all_taken (s ∷ ss) (suc n) h = ap (λ xs. s ∷ xs) (all_taken ss n (omega (arith, h)))
+
+pub finds_end : (cells : List Datum) (i : ℕ) (xs : List Numbered) (found : List ℕ) → length cells ≤ i
+    → FindsAll (take i cells) xs found → FindsAll cells xs found
+finds_end cells i xs found end all = let P : List Datum
+    → Type 0 = λ ds. FindsAll ds xs found in subst P (all_taken cells i end) all
+
+pub misses_key : (cells : List Datum) (i : ℕ) (xs : List Numbered) (k : Key) → i < length cells
+    → datum_of_key k ≡ get_or cells i null → IsUnused xs k → all_among cells (live_keys xs) ≡ false
+unfolding all_among
+misses_key [] i xs k below is unused = absurd (omega (arith, below))
+misses_key (d ∷ ds) zero xs k below is unused =
+    ap (λ b. cond b (all_among ds (live_keys xs)) false) (ap (λ x. is_among x (live_keys xs)) (sym is)
+    ∙ unused_among xs k unused)
+misses_key (d ∷ ds) (suc i) xs k below is unused =
+    by (is_among d (live_keys xs)) (misses_key ds i xs k (omega (arith, below)) is unused)
+  where
+    by : (b : Bool) → all_among ds (live_keys xs) ≡ false → cond b (all_among ds (live_keys xs)) false ≡ false
+    by true h = h
+    by false h = refl
+
+pub ruleset finding = (finds_more, finds_end, misses_key)
+
+found_among : (cells : List Datum) (xs : List Numbered) (ns : List ℕ) → FindsAll cells xs ns
+    → all_among cells (live_keys xs) ≡ true
+unfolding all_among
+found_among [] xs [] all = refl
+found_among [] xs (n ∷ ns) all = absurd all
+found_among (d ∷ ds) xs [] all = absurd all
+found_among (d ∷ ds) xs (n ∷ ns) all =
+    ap (λ b. cond b (all_among ds (live_keys xs)) false) (ap (λ x. is_among x (live_keys xs)) (sym all.0.1)
+    ∙ used_among xs n all.0.0 all.0.2) ∙ found_among ds xs ns all.1
+
+at_turned : (xs : List Numbered) (n m : ℕ) (x : Numbered) → (m ≡ n → ⊥) → slice_get xs m ≡ Some x
+    → slice_get (turned false xs n) m ≡ Some x
+at_turned [] n m x other h = h
+at_turned (y ∷ xs) zero zero x other h = absurd (other refl)
+at_turned (y ∷ xs) zero (suc m) x other h = h
+at_turned (y ∷ xs) (suc n) zero x other h = h
+at_turned (y ∷ xs) (suc n) (suc m) x other h = at_turned xs n m x (λ e. other (ap suc e)) h
+
+finds_turned : (ds : List Datum) (xs : List Numbered) (ns : List ℕ) (n : ℕ) (k : Key) → FindsAll ds xs ns
+    → is_among (datum_of_key k) ds ≡ false → IsAt xs n k true → FindsAll ds (turned false xs n) ns
+unfolding is_among
+finds_turned [] xs [] n k all other at = tt
+finds_turned [] xs (m ∷ ms) n k all other at = absurd all
+finds_turned (d ∷ ds) xs [] n k all other at = absurd all
+finds_turned (d ∷ ds) xs (m ∷ ms) n k all other at =
+    let parts = neither (same_key (datum_of_key k) d) (is_among (datum_of_key k) ds) other in
+    let differ : m ≡ n → ⊥ = λ e.
+    let P : ℕ → Type 0 = λ j. slice_get xs j ≡ Some (numbered all.0.0 true) in
+    let same : k ≡ all.0.0 =
+    ap (λ x. x.key) (some_same (numbered k true) (numbered all.0.0 true) (sym at ∙ subst P e all.0.2)) in
+    true≢false
+    (sym (ap (λ x. same_key (datum_of_key k) x) (sym all.0.1)
+    ∙ ap (λ y. same_key (datum_of_key k) (datum_of_key y)) (sym same) ∙ same_refl k) ∙ parts.0) in (
+      (all.0.0, all.0.1, at_turned xs n m (numbered all.0.0 true) differ all.0.2),
+      finds_turned ds xs ms n k all.1 parts.1 at,
+    )
+
+pub found_can : (t : Table) (rows : List (List Datum)) (cells : List Datum) (xs : List Numbered) (ns : List ℕ)
+    → AreKeyed t rows xs → FindsAll cells xs ns → has_repeated cells ≡ false → CanRetract ns (joined rows xs)
+unfolding CanRetract has_repeated
+found_can t rows [] xs [] keyed all single = tt
+found_can t rows [] xs (n ∷ ns) keyed all single = absurd all
+found_can t rows (d ∷ ds) xs [] keyed all single = absurd all
+found_can t rows (d ∷ ds) xs (n ∷ ns) keyed all single =
+    let parts = neither (is_among d ds) (has_repeated ds) single in
+    let other : is_among (datum_of_key all.0.0) ds ≡ false = ap (λ x. is_among x ds) all.0.1 ∙ parts.0 in
+    let P : List Slot → Type 0 = λ ss. CanRetract ns ss in (
+      (joined_at t rows xs n all.0.0 true keyed all.0.2).0,
+      subst P (joined_turned rows xs false n)
+          (found_can t rows ds (turned false xs n) ns (keyed_turned t rows xs false n keyed)
+          (finds_turned ds xs ns n all.0.0 all.1 other all.0.2) parts.1),
+    )
+
+pub found_keys : (t : Table) (rows : List (List Datum)) (cells : List Datum) (xs : List Numbered) (ns : List ℕ)
+    → AreKeyed t rows xs → FindsAll cells xs ns → keys_at t ns (joined rows xs) ≡ cells
+found_keys t rows [] xs [] keyed all = refl
+found_keys t rows [] xs (n ∷ ns) keyed all = absurd all
+found_keys t rows (d ∷ ds) xs [] keyed all = absurd all
+found_keys t rows (d ∷ ds) xs (n ∷ ns) keyed all =
+    ap (λ k. k ∷ keys_at t ns (joined rows xs)) ((joined_at t rows xs n all.0.0 true keyed all.0.2).1 ∙ all.0.1)
+    ∙ ap (λ ks. d ∷ ks) (found_keys t rows ds xs ns keyed all.1)
+
+-- the causes
+
+none_among : (cells : List Datum) → any_among cells [] ≡ false
+unfolding any_among is_among
+none_among [] = refl
+none_among (d ∷ ds) = none_among ds
+
+pub found_fits :
+    (t : Table) (bs : List (List CheckedColumn)) (ps : List Place) (xs seen : List Numbered) (cells : List Datum)
+    (ns : List ℕ) → IsStored t bs ps xs
+    → PushesKeys cells [] seen → FindsAll cells xs ns
+    → cause_of t (world_of (joined (rows_by bs ps) xs)) (retract cells) ≡ None
+unfolding cause_of
+found_fits t bs ps xs seen cells ns is p all =
+    let among : all_among cells (keys_in t (live (joined (rows_by bs ps) xs))) ≡ true =
+    ap (λ ks. all_among cells ks) (sym (live_keys_are t bs ps xs is)) ∙ found_among cells xs ns all in
+    rw (p.given, p.single, among) refl
+
+pub keys_unknown :
+    (t : Table) (bs : List (List CheckedColumn)) (ps : List Place) (xs seen : List Numbered) (cells : List Datum)
+    (e : EditFault) → IsStored t bs ps xs
+    → PushesKeys cells [] seen → MissesKey cells xs e
+    → Refuses (cause_of t (world_of (joined (rows_by bs ps) xs)) (retract cells)) e
+unfolding cause_of
+keys_unknown t bs ps xs seen cells (fault.Unfit unfit.UnknownKey) is p h =
+    let among : all_among cells (keys_in t (live (joined (rows_by bs ps) xs))) ≡ false =
+    ap (λ ks. all_among cells ks) (sym (live_keys_are t bs ps xs is)) ∙ h in
+    rw (p.given, p.single, among) refl
+keys_unknown t bs ps xs seen cells fault.Memory is p h = tt
+keys_unknown t bs ps xs seen cells (fault.Unfit u) is p h = absurd h
+
+pub keys_refused : (t : Table) (w : World) (cells : List Datum) (e : EditFault) → RefusesKeys cells [] e
+    → Refuses (cause_of t w (retract cells)) e
+unfolding cause_of
+keys_refused t w cells (fault.Unfit unfit.NullKey) h = rw h refl
+keys_refused t w cells (fault.Unfit unfit.DuplicateKey) h =
+    let twice : has_repeated cells ≡ true = elim (either (has_repeated cells) (any_among cells []) h.1) [
+      | inl e ↦ e
+      | inr e ↦ absurd (true≢false (sym e ∙ none_among cells))
+    ] in
+    rw (h.0, twice) refl
+keys_refused t w cells fault.Memory h = tt
+keys_refused t w cells (fault.Unfit u) h = absurd h

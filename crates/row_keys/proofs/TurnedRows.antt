@@ -1,0 +1,188 @@
+-- Rows that are retracted together, or live again.
+use Rattle.std.proofs.Common.{
+  ◌≡◌,
+  ℕ,
+  zero,
+  suc,
+  ◌+◌,
+  ◌<◌,
+  ◌≤◌,
+  true,
+  false,
+  List,
+  [],
+  ◌∷◌,
+  length,
+  drop,
+  get_or,
+  refl,
+  ap,
+  sym,
+  subst,
+  ◌∙◌,
+  arith,
+}
+use Rattle.std.proofs.lemmas.List.{drop_more, drop_all}
+use Rattle.values.specs.Datum.{Datum}
+use Rattle.values.specs.Keys.{datum_of_key}
+use Rattle.values.specs.declared.key.Key.{Key}
+use Rattle.view_lang.specs.Causes.{has_repeated}
+use Rattle.view_lang.specs.Config.{Table}
+use Rattle.view_lang.specs.World.{is_among, key_in, keys_in, same_key}
+use Rattle.row_keys.specs.Numbers.{
+  AreDistinct,
+  AreLive,
+  CanRevive,
+  IsAt,
+  IsUnused,
+  Numbered,
+  live_count,
+  revived,
+  turned,
+  turned_off,
+}
+use Rattle.row_keys.specs.Slots.{AreRetracted, CanRetract, IsThere, Slot, live, marked, put_back, retracted, row_of}
+use Rattle.row_keys.specs.Stored.{AreKeyed, joined, live_keys}
+use Rattle.row_keys.proofs.Indexes.{count_retracted}
+use Rattle.row_keys.proofs.Joining.{among_unused, at_joined, distinct_repeated, joined_turned, keys_live, keyed_turned}
+use Rattle.row_keys.proofs.KeyFacts.{same_refl}
+use Rattle.row_keys.proofs.Retracting.{IsProper, row_marked}
+
+pub off_more :
+    (ns : List ℕ) (i n : ℕ) (rows new all : List Numbered) → n ≡ get_or ns i n → i < length ns
+    → new ≡ turned false rows n
+    → turned_off (drop i ns) rows ≡ all → turned_off (drop (i + 1) ns) new ≡ all
+off_more ns i n rows new all is below step h =
+    let P : ℕ → Type 0 = λ m. drop i ns ≡ m ∷ drop (i + 1) ns in
+    let split : drop i ns ≡ n ∷ drop (i + 1) ns = subst P (sym is) (drop_more ns i n below) in
+    ap (λ xs. turned_off (drop (i + 1) ns) xs) step ∙ sym (ap (λ ms. turned_off ms rows) split) ∙ h
+
+pub live_more :
+    (ns : List ℕ) (i n : ℕ) (rows new : List Numbered) → n ≡ get_or ns i n → i < length ns → new ≡ turned false rows n
+    → AreLive (drop i ns) rows → ((k : Key) × IsAt rows n k true) × AreLive (drop (i + 1) ns) new
+live_more ns i n rows new is below step h =
+    let P : ℕ → Type 0 = λ m. drop i ns ≡ m ∷ drop (i + 1) ns in
+    let split : drop i ns ≡ n ∷ drop (i + 1) ns = subst P (sym is) (drop_more ns i n below) in
+    let Q : List ℕ → Type 0 = λ ms. AreLive ms rows in
+    let both : ((k : Key) × IsAt rows n k true) × AreLive (drop (i + 1) ns) (turned false rows n) = subst Q split h in
+    let R : List Numbered → Type 0 = λ xs. AreLive (drop (i + 1) ns) xs in
+    (both.0, subst R (sym step) both.1)
+
+pub off_end : (ns : List ℕ) (i : ℕ) (rows all : List Numbered) → length ns ≤ i → turned_off (drop i ns) rows ≡ all
+    → rows ≡ all
+off_end ns i rows all end h = sym (ap (λ ms. turned_off ms rows) (drop_all i ns end)) ∙ h
+
+can_drop : (ns : List ℕ) (i : ℕ) (rows : List Numbered) → CanRevive ns rows → CanRevive (drop i ns) rows
+can_drop [] zero rows h = h
+can_drop [] (suc i) rows h = h
+can_drop (n ∷ ns) zero rows h = h
+can_drop (n ∷ ns) (suc i) rows h = can_drop ns i rows h.0
+
+pub revive_next :
+    (ns : List ℕ) (i n : ℕ) (rows first : List Numbered) → n ≡ get_or ns i n → i < length ns
+    → rows ≡ revived (drop (i + 1) ns) first
+    → CanRevive ns first → (k : Key) × IsAt rows n k false × IsUnused rows k
+revive_next ns i n rows first is below h can =
+    let P : ℕ → Type 0 = λ m. drop i ns ≡ m ∷ drop (i + 1) ns in
+    let split : drop i ns ≡ n ∷ drop (i + 1) ns = subst P (sym is) (drop_more ns i n below) in
+    let Q : List ℕ → Type 0 = λ ms. CanRevive ms first in
+    let R : List Numbered → Type 0 = λ xs. (k : Key) × IsAt xs n k false × IsUnused xs k in
+    let both : CanRevive (drop (i + 1) ns) first
+    × ((k : Key) × IsAt (revived (drop (i + 1) ns) first) n k false
+    × IsUnused (revived (drop (i + 1) ns) first) k) =
+    subst Q split (can_drop ns i first can) in
+    subst R (sym h) both.1
+
+pub revive_more :
+    (ns : List ℕ) (i n : ℕ) (rows new first : List Numbered) → n ≡ get_or ns i n → i < length ns
+    → rows ≡ revived (drop (i + 1) ns) first
+    → new ≡ turned true rows n → new ≡ revived (drop i ns) first
+revive_more ns i n rows new first is below h step =
+    let P : ℕ → Type 0 = λ m. drop i ns ≡ m ∷ drop (i + 1) ns in
+    let split : drop i ns ≡ n ∷ drop (i + 1) ns = subst P (sym is) (drop_more ns i n below) in
+    step ∙ ap (λ xs. turned true xs n) h ∙ sym (ap (λ ms. revived ms first) split)
+
+pub revive_none : (ns : List ℕ) (i : ℕ) (rows : List Numbered) → length ns ≤ i → rows ≡ revived (drop i ns) rows
+revive_none ns i rows end = sym (ap (λ ms. revived ms rows) (drop_all i ns end))
+
+pub ruleset turning = (off_more, off_end, revive_none)
+
+-- the same of rows that are joined with their numbers
+
+pub joined_off : (rows : List (List Datum)) (ns : List ℕ) (xs : List Numbered)
+    → joined rows (turned_off ns xs) ≡ retracted ns (joined rows xs)
+unfolding retracted
+joined_off rows [] xs = refl
+joined_off rows (n ∷ ns) xs = joined_off rows ns (turned false xs n)
+    ∙ ap (λ ss. retracted ns ss) (joined_turned rows xs false n)
+
+pub keyed_off : (t : Table) (rows : List (List Datum)) (ns : List ℕ) (xs : List Numbered) → AreKeyed t rows xs
+    → AreKeyed t rows (turned_off ns xs)
+keyed_off t rows [] xs keyed = keyed
+keyed_off t rows (n ∷ ns) xs keyed = keyed_off t rows ns (turned false xs n) (keyed_turned t rows xs false n keyed)
+
+pub are_live : (t : Table) (rows : List (List Datum)) (ns : List ℕ) (xs : List Numbered) → AreKeyed t rows xs
+    → CanRetract ns (joined rows xs) → AreLive ns xs
+unfolding CanRetract
+are_live t rows [] xs keyed can = tt
+are_live t rows (n ∷ ns) xs keyed can =
+    let at = at_joined t rows xs n true keyed can.0 in
+    let P : List Slot → Type 0 = λ ss. CanRetract ns ss in (
+      (at.0, at.1),
+      are_live t rows ns (turned false xs n) (keyed_turned t rows xs false n keyed)
+          (subst P (sym (joined_turned rows xs false n)) can.1),
+    )
+
+pub fewer_off : (ns : List ℕ) (xs : List Numbered) → AreLive ns xs → live_count (turned_off ns xs) ≤ live_count xs
+fewer_off [] xs h = omega arith
+fewer_off (n ∷ ns) xs h =
+    let one = count_retracted xs n h.0.0 h.0.1 in
+    let rest = fewer_off ns (turned false xs n) h.1 in
+    omega (arith, one, rest)
+
+pub joined_revived : (rows : List (List Datum)) (ns : List ℕ) (xs : List Numbered)
+    → joined rows (revived ns xs) ≡ put_back ns (joined rows xs)
+unfolding put_back
+joined_revived rows [] xs = refl
+joined_revived rows (n ∷ ns) xs =
+    joined_turned rows (revived ns xs) true n ∙ ap (λ ss. marked true ss n) (joined_revived rows ns xs)
+
+pub keyed_revived : (t : Table) (rows : List (List Datum)) (ns : List ℕ) (xs : List Numbered) → AreKeyed t rows xs
+    → AreKeyed t rows (revived ns xs)
+keyed_revived t rows [] xs keyed = keyed
+keyed_revived t rows (n ∷ ns) xs keyed = keyed_turned t rows (revived ns xs) true n (keyed_revived t rows ns xs keyed)
+
+row_put_back : (ns : List ℕ) (slots : List Slot) (m : ℕ) → row_of (put_back ns slots) m ≡ row_of slots m
+unfolding put_back
+row_put_back [] slots m = refl
+row_put_back (n ∷ ns) slots m = row_marked true (put_back ns slots) n m ∙ row_put_back ns slots m
+
+pub can_revive : (t : Table) (rows : List (List Datum)) (ns : List ℕ) (xs : List Numbered) → AreKeyed t rows xs
+    → AreRetracted t ns (joined rows xs) → CanRevive ns xs
+unfolding AreRetracted
+can_revive t rows [] xs keyed are = tt
+can_revive t rows (n ∷ ns) xs keyed are =
+    let same : joined rows (revived ns xs) ≡ put_back ns (joined rows xs) = joined_revived rows ns xs in
+    let all : AreKeyed t rows (revived ns xs) = keyed_revived t rows ns xs keyed in
+    let P : List Slot → Type 0 = λ ss. IsThere ss n false in
+    let at = at_joined t rows (revived ns xs) n false all (subst P (sym same) are.1) in
+    let row : row_of (joined rows (revived ns xs)) n ≡ row_of (joined rows xs) n =
+    ap (λ ss. row_of ss n) same ∙ row_put_back ns (joined rows xs) n in
+    let known : key_in t (row_of (joined rows xs) n) ≡ datum_of_key at.0 = ap (λ r. key_in t r) (sym row) ∙ at.2 in
+    let keys : keys_in t (live (put_back ns (joined rows xs))) ≡ live_keys (revived ns xs) =
+    ap (λ ss. keys_in t (live ss)) (sym same) ∙ keys_live t rows (revived ns xs) all in
+    let free : is_among (datum_of_key at.0) (live_keys (revived ns xs)) ≡ false =
+    ap (λ ks. is_among (datum_of_key at.0) ks) (sym keys)
+    ∙ ap (λ d. is_among d (keys_in t (live (put_back ns (joined rows xs))))) (sym known) ∙ are.2 in
+    (can_revive t rows ns xs keyed are.0, (at.0, at.1, among_unused (revived ns xs) at.0 free))
+
+pub proper_joined : (t : Table) (rows : List (List Datum)) (xs : List Numbered) → AreKeyed t rows xs → AreDistinct xs
+    → IsProper t (joined rows xs)
+proper_joined t rows xs keyed distinct = record {
+  distinct = let P : List Datum → Type 0 = λ ks. has_repeated ks ≡ false in
+      subst P (sym (keys_live t rows xs keyed)) (distinct_repeated xs distinct);
+  reflects = λ n there.
+      let at = at_joined t rows xs n true keyed there in
+      let P : Datum → Type 0 = λ d. same_key d d ≡ true in
+      subst P (sym at.2) (same_refl at.0);
+}

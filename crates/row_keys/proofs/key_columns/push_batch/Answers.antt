@@ -1,0 +1,37 @@
+use Rattle.std.proofs.Common.{◌≡◌, ap, arith, get_or, subst}
+use Rattle.view_lang.specs.Config.{Table}
+use Rattle.row_keys.proofs.Appending.{key_column, key_within, keys_of_rows}
+use Rattle.row_keys.proofs.BatchKeys.{pushes_same, refuses_same}
+use Rattle.row_keys.proofs.key_columns.push_batch.Goals as goal
+
+pub bounds-columns-table-inside : goal.bounds-columns-table-inside
+bounds-columns-table-inside c =
+    let below = key_within c.args.table.now c.args.columns.now c.args.rows c.requires.table c.requires.batch in
+    let same : c.table.inside.key ≡ c.args.table.now.key = ap (λ (t : Table). t.key) c.table.view_is in
+    omega (arith, below, same)
+
+pub push_keys-requires : goal.push_keys-requires
+push_keys-requires c =
+    let P : Table
+    → Type 0 = λ t. c.index-columns-table.result ≡ get_or c.args.columns.now t.key c.index-columns-table.result in
+    key_column c.args.table.now c.args.columns.now c.args.rows c.index-columns-table.result c.requires.table
+    c.requires.batch
+    (subst P c.table.view_is c.index-columns-table.is)
+
+pub returns-clause-pushed : goal.returns-clause-pushed
+returns-clause-pushed c =
+    let P : Table
+    → Type 0 = λ t. c.index-columns-table.result ≡ get_or c.args.columns.now t.key c.index-columns-table.result in
+    pushes_same c.push_keys.result c.index-columns-table.result.cells _ c.args.numbers.now c.push_keys.new.numbers
+    (keys_of_rows c.args.table.now c.args.columns.now c.args.rows c.index-columns-table.result c.requires.table
+    c.requires.batch
+    (subst P c.table.view_is c.index-columns-table.is)) c.push_keys.ensures.pushed
+
+pub returns-clause-refused : goal.returns-clause-refused
+returns-clause-refused c =
+    let P : Table
+    → Type 0 = λ t. c.index-columns-table.result ≡ get_or c.args.columns.now t.key c.index-columns-table.result in
+    refuses_same c.push_keys.result c.index-columns-table.result.cells _ c.args.numbers.now
+    (keys_of_rows c.args.table.now c.args.columns.now c.args.rows c.index-columns-table.result c.requires.table
+    c.requires.batch
+    (subst P c.table.view_is c.index-columns-table.is)) c.push_keys.ensures.refused

@@ -1,0 +1,37 @@
+use Rattle.std.proofs.Common.{List, ap, subst, sym, ◌∙◌}
+use Rattle.row_keys.specs.Numbers.{Numbered}
+use Rattle.row_keys.specs.Slots.{CanPutBack, put_back}
+use Rattle.row_keys.specs.Store.{Store, with_slots}
+use Rattle.row_keys.specs.Stored.{IsStored, joined, rows_by}
+use Rattle.row_keys.proofs.Storing.{revive_can, stored_revived}
+use Rattle.row_keys.proofs.TurnedRows.{joined_revived}
+use Rattle.row_keys.proofs.store.RowStore.put_back.Goals as goal
+
+pub revive_all-requires : goal.revive_all-requires
+revive_all-requires c =
+    let P : Store → Type 0 = λ s. CanPutBack s.table c.args.numbers.now s.slots in
+    revive_can c.self.inside.table c.self.inside.batches.items c.self.inside.places.items c.self.inside.numbers
+    c.args.numbers.now c.self.invariant (subst P (sym c.self.view_is) c.requires)
+
+pub invariant_of-self : goal.invariant_of-self
+invariant_of-self c =
+    let P : Store → Type 0 = λ s. CanPutBack s.table c.args.numbers.now s.slots in
+    let Q : List Numbered → Type 0 =
+    λ xs. IsStored c.self.inside.table c.self.inside.batches.items c.self.inside.places.items xs in
+    subst Q (sym c.revive_all.ensures)
+    (stored_revived c.self.inside.table c.self.inside.batches.items c.self.inside.places.items c.self.inside.numbers
+    c.args.numbers.now c.self.invariant (subst P (sym c.self.view_is) c.requires))
+
+pub returns : goal.returns
+returns c =
+    ap (λ xs. record {
+      table = c.self.inside.table;
+      slots = joined (rows_by c.self.inside.batches.items c.self.inside.places.items) xs;
+      visits =
+          c.self.inside.visits;
+    })
+    c.revive_all.ensures
+    ∙ ap (λ ss. record { table = c.self.inside.table; slots = ss; visits = c.self.inside.visits })
+    (joined_revived (rows_by c.self.inside.batches.items c.self.inside.places.items) c.args.numbers.now
+    c.self.inside.numbers)
+    ∙ ap (λ (s : Store). with_slots s (put_back c.args.numbers.now s.slots)) c.self.view_is

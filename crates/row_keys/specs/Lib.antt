@@ -1,0 +1,11 @@
+pub mod FaultCauses
+pub mod Slots
+pub mod Store
+pub mod Batches
+pub mod KeyTable
+pub mod Numbers
+pub mod Index
+pub mod Stored
+pub mod KeyColumns
+pub mod Judged
+pub mod Found

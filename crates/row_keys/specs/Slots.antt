@@ -1,0 +1,97 @@
+-- The rows of a store by number: a row's number is its place. Retracted rows keep their numbers; those of an append
+-- that is taken back are given again.
+use Rattle.std.specs.Prelude.{
+  ◌≡◌,
+  ℕ,
+  zero,
+  suc,
+  ◌-◌,
+  ◌≤◌,
+  Bool,
+  true,
+  false,
+  if◌then◌else◌,
+  List,
+  [],
+  ◌∷◌,
+  Some,
+  get_or,
+  length,
+  map,
+  slice_get,
+  take,
+}
+use Rattle.values.specs.Datum.{Datum}
+use Rattle.values.specs.Limits.{max_main_rows}
+use Rattle.view_lang.specs.Config.{Table}
+use Rattle.view_lang.specs.World.{World, is_among, key_in, keys_in}
+
+pub record Slot : Type 0 where
+  pub row : List Datum
+  pub live : Bool
+
+abbrev pub slot : List Datum → Bool → Slot
+slot row live = record { row = row; live = live }
+
+abbrev pub new_slot : List Datum → Slot
+new_slot row = slot row true
+
+-- the live rows, in order
+unfoldable pub live : List Slot → List (List Datum)
+live [] = []
+live (s ∷ ss) = if s.live then s.row ∷ live ss else live ss
+
+-- the table that they are
+abbrev pub world_of : List Slot → World
+world_of slots = record { live = live slots; appended = length slots }
+
+-- one row has become live, or has been retracted
+abbrev pub marked : Bool → List Slot → ℕ → List Slot
+marked b [] n = []
+marked b (s ∷ ss) zero = slot s.row b ∷ ss
+marked b (s ∷ ss) (suc n) = s ∷ marked b ss n
+
+abbrev pub no_slot : Slot
+no_slot = slot [] false
+
+abbrev pub row_of : List Slot → ℕ → List Datum
+row_of slots n = (get_or slots n no_slot).row
+
+abbrev pub keys_at : Table → List ℕ → List Slot → List Datum
+keys_at t ns slots = map (λ n. key_in t (row_of slots n)) ns
+
+-- The row of that number is there: live, or retracted.
+abbrev pub IsThere : List Slot → ℕ → Bool → Type 0
+IsThere slots n b = (row : List Datum) × (slice_get slots n ≡ Some (slot row b))
+
+-- These rows are live, each in its turn: none is named twice.
+unfoldable pub CanRetract : List ℕ → List Slot → Type 0
+CanRetract [] slots = Unit {0}
+CanRetract (n ∷ ns) slots = IsThere slots n true × CanRetract ns (marked false slots n)
+
+unfoldable pub retracted : List ℕ → List Slot → List Slot
+retracted [] slots = slots
+retracted (n ∷ ns) slots = retracted ns (marked false slots n)
+
+-- Retracted rows are put back in the other order: the last one named is the first to be live again.
+unfoldable pub put_back : List ℕ → List Slot → List Slot
+put_back [] slots = slots
+put_back (n ∷ ns) slots = marked true (put_back ns slots) n
+
+-- These rows were retracted, and in their turn none of their keys is live.
+unfoldable pub AreRetracted : Table → List ℕ → List Slot → Type 0
+AreRetracted t [] slots = Unit {0}
+AreRetracted t (n ∷ ns) slots =
+    AreRetracted t ns slots × IsThere (put_back ns slots) n false
+    × (is_among (key_in t (row_of slots n)) (keys_in t (live (put_back ns slots))) ≡ false)
+
+-- and there is room for them
+unfoldable pub CanPutBack : Table → List ℕ → List Slot → Type 0
+CanPutBack t ns slots = AreRetracted t ns slots × (length (live (put_back ns slots)) ≤ max_main_rows)
+
+-- the last n rows can go
+unfoldable pub CanTakeBack : ℕ → List Slot → Type 0
+CanTakeBack n slots = n ≤ length slots
+
+unfoldable pub taken_back : ℕ → List Slot → List Slot
+taken_back n slots = take (length slots - n) slots

@@ -1,0 +1,81 @@
+-- How rows are stored: the columns of their batches are kept as they came, and of each row its place in them.
+use Rattle.std.specs.Prelude.{
+  ◌≡◌,
+  ℕ,
+  zero,
+  suc,
+  ◌+◌,
+  ◌<◌,
+  ◌≤◌,
+  false,
+  All,
+  List,
+  [],
+  ◌∷◌,
+  get_or,
+  if◌then◌else◌,
+  length,
+  map,
+}
+use Rattle.values.specs.Datum.{Datum}
+use Rattle.values.specs.Keys.{datum_of_key}
+use Rattle.values.specs.Limits.{max_main_rows}
+use Rattle.arrays.specs.Checked.{CheckedColumn}
+use Rattle.schema_meta.specs.Rows.{row_at}
+use Rattle.view_lang.specs.Causes.{is_heavy, layouts_of}
+use Rattle.view_lang.specs.Config.{Table}
+use Rattle.view_lang.specs.ConfigRules.{IsTable}
+use Rattle.view_lang.specs.World.{key_in}
+use Rattle.row_keys.specs.declared.batches.Place.{Place}
+use Rattle.row_keys.specs.Batches.{AreAlike, cells_in, layouts_in}
+use Rattle.row_keys.specs.Numbers.{Numbered, live_count}
+use Rattle.row_keys.specs.Slots.{Slot, slot}
+
+abbrev pub columns_of : List (List CheckedColumn) → Place → List CheckedColumn
+columns_of batches p = get_or batches p.batch []
+
+abbrev pub row_by : List (List CheckedColumn) → Place → List Datum
+row_by batches p = row_at (cells_in (columns_of batches p)) p.index
+
+abbrev pub rows_by : List (List CheckedColumn) → List Place → List (List Datum)
+rows_by batches places = map (row_by batches) places
+
+-- the places of n rows of a batch, the first of them row i
+unfoldable pub places_from : ℕ → ℕ → ℕ → List Place
+places_from batch i zero = []
+places_from batch i (suc n) = record { batch = batch; index = i } ∷ places_from batch (i + 1) n
+
+-- the rows, each live or retracted
+abbrev pub joined : List (List Datum) → List Numbered → List Slot
+joined [] numbers = []
+joined (r ∷ rs) [] = []
+joined (r ∷ rs) (n ∷ ns) = slot r n.live ∷ joined rs ns
+
+-- a place in a batch of the table
+pub record IsPlaced (t : Table) (batches : List (List CheckedColumn)) (p : Place) : Type 0 where
+  pub there : p.batch < length batches
+  pub long : All (λ c. p.index < length c.cells) (columns_of batches p)
+  pub alike : AreAlike (layouts_of t) (layouts_in (columns_of batches p))
+
+-- each row's key is the one that it is numbered by
+abbrev pub AreKeyed : Table → List (List Datum) → List Numbered → Type 0
+AreKeyed t [] [] = Unit {0}
+AreKeyed t [] (n ∷ ns) = ⊥
+AreKeyed t (r ∷ rs) [] = ⊥
+AreKeyed t (r ∷ rs) (n ∷ ns) = (key_in t r ≡ datum_of_key n.key) × AreKeyed t rs ns
+
+abbrev pub IsLightRow : Table → List Datum → Type 0
+IsLightRow t row = is_heavy (layouts_of t) row ≡ false
+
+pub record IsStored (t : Table) (batches : List (List CheckedColumn)) (places : List Place) (numbers : List Numbered) :
+    Type 0 where
+  pub table : IsTable t
+  pub placed : All (IsPlaced t batches) places
+  pub light : All (IsLightRow t) (rows_by batches places)
+  pub keyed : AreKeyed t (rows_by batches places) numbers
+  pub few : live_count numbers ≤ max_main_rows
+
+-- the keys of the live rows
+abbrev pub live_keys : List Numbered → List Datum
+live_keys [] = []
+live_keys (x ∷ xs) = if x.live then datum_of_key x.key ∷ live_keys xs else live_keys xs

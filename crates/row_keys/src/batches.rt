@@ -1,0 +1,130 @@
+//! The columns of batches, and the places of rows in them.
+
+ghost use Rattle.std.specs.Prelude.{◌≡◌, ◌<◌, ◌++◌, [], ◌∷◌, All, IfErr, IfOk, OnErr, OnOk, length, false};
+ghost use Rattle.values.specs.Datum.{items_of};
+ghost use Rattle.values.specs.Layouts.{HoldsEach};
+ghost use Rattle.schema_meta.specs.Rows.{row_at};
+ghost use Rattle.view_lang.specs.Causes.{any_heavy};
+ghost use Rattle.row_keys.specs.Batches.{batch_rows, cells_in, layouts_in};
+ghost use Rattle.row_keys.specs.Judged.{RefusesRows, are_many};
+ghost use Rattle.row_keys.specs.Stored.{places_from};
+
+use crate::faults::EditFault;
+use crate::weighing::has_heavy_row;
+use arrays::Column;
+use std::alloc::{AllocError, Global};
+use std::marker::Model;
+use values::Row;
+use values::limits::{MAX_APPENDED_ROWS, MAX_MAIN_ROWS};
+use view_lang::Unfit;
+
+/// The columns of a batch. Contracts see their list.
+#[derive(Drop)]
+pub(crate) struct Batch {
+    pub columns: Vec<Column>,
+}
+
+impl Model for Batch {
+    ghost use Rattle.std.specs.Prelude.{List};
+    ghost use Rattle.std.specs.Coded.{coded_list};
+    ghost use Rattle.arrays.specs.Checked.{CheckedColumn, column_code};
+
+    ghost Value = { List CheckedColumn };
+
+    ghost coded = { coded_list column_code };
+
+    ghost view = { λ b. b.columns.items };
+}
+
+/// Where a row is: the number of its batch, and its number in it.
+#[derive(Clone, Copy, Debug)]
+pub(crate) struct Place {
+    pub batch: usize,
+    pub index: usize,
+}
+
+/// Adds the places of the `rows` rows of a batch. Where memory runs out, the places are as they were.
+#[tactic(auto, using(crate::proofs::Batching::placing))]
+fn push_places(places: &mut Vec<Place>, batch: usize, rows: usize) -> Result<(), AllocError>
+    ensures ok { OnOk result (places.new.items ≡ places.old.items ++ places_from batch 0 rows) }
+    ensures err { OnErr result (places.new.items ≡ places.old.items) }
+{
+    let before = places.len();
+    for index in 0..rows {
+        if let Err(refused) = places.push(Place { batch, index }) {
+            places.truncate(before);
+            return Err(AllocError::from(refused));
+        }
+    }
+    Ok(())
+}
+
+/// Keeps the columns of a batch, with the places of its `rows` rows. Where memory runs out, nothing has changed.
+#[tactic(auto, using(crate::proofs::Batching::placing))]
+pub(crate) fn keep_batch(
+    batches: &mut Vec<Batch>,
+    places: &mut Vec<Place>,
+    columns: Vec<Column>,
+    rows: usize,
+) -> Result<(), AllocError>
+    ensures batches { OnOk result (batches.new.items ≡ batches.old.items ++ columns.items ∷ []) }
+    ensures places { OnOk result (places.new.items ≡ places.old.items ++ places_from (length batches.old.items) 0 rows) }
+    ensures same_batches { OnErr result (batches.new.items ≡ batches.old.items) }
+    ensures same_places { OnErr result (places.new.items ≡ places.old.items) }
+{
+    batches.reserve(1)?;
+    push_places(places, batches.len(), rows)?;
+    batches.push(Batch { columns }).unwrap();
+    Ok(())
+}
+
+/// Keeps a batch of `rows` rows beside `live` live rows among `appended`: 44 where there would be too many, 45 where
+/// one is too heavy. On an error nothing has changed.
+pub(crate) fn keep_rows(
+    batches: &mut Vec<Batch>,
+    places: &mut Vec<Place>,
+    columns: Vec<Column>,
+    rows: usize,
+    live: usize,
+    appended: usize,
+) -> Result<(), EditFault>
+    requires { All (λ c. length c.cells ≡ rows) columns.items }
+    ensures batches { OnOk result (batches.new.items ≡ batches.old.items ++ columns.items ∷ []) }
+    ensures places { OnOk result (places.new.items ≡ places.old.items ++ places_from (length batches.old.items) 0 rows) }
+    ensures few { OnOk result (are_many live appended rows ≡ false) }
+    ensures light { OnOk result (any_heavy (layouts_in columns.items) (batch_rows rows columns.items) ≡ false) }
+    ensures refused { IfErr result (RefusesRows live appended rows columns.items) }
+    ensures same_batches { OnErr result (batches.new.items ≡ batches.old.items) }
+    ensures same_places { OnErr result (places.new.items ≡ places.old.items) }
+{
+    if has_many(live, appended, rows) {
+        return Err(EditFault::Unfit(Unfit::TooManyRows));
+    }
+    if has_heavy_row(&columns, rows) {
+        return Err(EditFault::Unfit(Unfit::CellTooHeavy));
+    }
+    keep_batch(batches, places, columns, rows)?;
+    Ok(())
+}
+
+/// Whether there would be too many rows: live ones, or appended ones.
+fn has_many(live: usize, appended: usize, rows: usize) -> bool
+    ensures { result ≡ are_many live appended rows }
+{
+    live.saturating_add(rows) > MAX_MAIN_ROWS
+        || appended.saturating_add(rows) as u64 > MAX_APPENDED_ROWS
+}
+
+/// A copy of row `index`.
+#[tactic(auto, using(crate::proofs::RowCells::cells))]
+pub(crate) fn read_row(alloc: Global, columns: &[Column], index: usize) -> Result<Row, AllocError>
+    requires { All (λ c. index < length c.cells) columns.now }
+    ensures row { IfOk result (λ r. r.items ≡ row_at (cells_in columns.now) index) }
+    ensures held { IfOk result (λ r. HoldsEach (layouts_in columns.now) (items_of r.items)) }
+{
+    let mut row = Vec::with_capacity(alloc, columns.len())?;
+    for column in columns {
+        row.push(column.cell(alloc, index)?)?;
+    }
+    Ok(row)
+}

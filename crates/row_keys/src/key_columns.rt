@@ -1,0 +1,151 @@
+//! The keys of a batch.
+
+ghost use Rattle.std.specs.Prelude.{◌≡◌, ◌<◌, ◌≤◌, IfErr, IfOk, OnErr, OnOk, drop, get_or, length};
+ghost use Rattle.values.specs.Datum.{null};
+ghost use Rattle.values.specs.Keys.{datum_of_key};
+ghost use Rattle.view_lang.specs.Causes.{has_null, is_null as is_null_by};
+ghost use Rattle.view_lang.specs.ConfigRules.{IsTable};
+ghost use Rattle.view_lang.specs.World.{keys_in};
+ghost use Rattle.row_keys.specs.Batches.{IsBatch, batch_rows};
+ghost use Rattle.row_keys.specs.Found.{FindsAll, MissesKey};
+ghost use Rattle.row_keys.specs.KeyColumns.{HoldsKeys, PushesKey, PushesKeys, RefusesKey, RefusesKeys};
+
+use crate::faults::EditFault;
+use crate::numbers::Numbers;
+use arrays::Column;
+use std::alloc::{AllocError, Global};
+use values::{Key, Kind, Value};
+use view_lang::{Table, Unfit};
+
+fn is_null(value: &Value) -> bool
+    ensures { result ≡ is_null_by value.now }
+{
+    match &value.kind {
+        Kind::Null => true,
+        _ => false,
+    }
+}
+
+fn is_null_key(key: &Key) -> bool
+    ensures { result ≡ is_null_by (datum_of_key key.now) }
+{
+    match key {
+        Key::Null => true,
+        _ => false,
+    }
+}
+
+/// The key that a cell is.
+#[tactic(auto, using(crate::proofs::Keying::reading))]
+pub(crate) fn read_key(alloc: Global, column: &Column, index: usize) -> Result<Key, AllocError>
+    requires below { index < length column.now.cells }
+    requires keys { HoldsKeys column.now.layouts }
+    ensures { IfOk result (λ key. datum_of_key key ≡ get_or column.now.cells index null) }
+{
+    let value = column.cell(alloc, index)?;
+    Ok(Key::of(alloc, &value)?.unwrap())
+}
+
+/// Whether a cell is null, from this one on.
+#[tactic(auto, using(crate::proofs::Keying::nulls))]
+fn has_null_from(alloc: Global, column: &Column, from: usize) -> Result<bool, AllocError>
+    requires { from ≤ length column.now.cells }
+    ensures { IfOk result (λ found. found ≡ has_null (drop from column.now.cells)) }
+{
+    for index in from..column.len() {
+        if is_null(&column.cell(alloc, index)?) {
+            return Ok(true);
+        }
+    }
+    Ok(false)
+}
+
+/// Numbers a live row with the key of cell `index`.
+#[tactic(auto, using(crate::proofs::Keying::numbering))]
+fn push_key(
+    alloc: Global,
+    column: &Column,
+    index: usize,
+    numbers: &mut Numbers,
+) -> Result<(), EditFault>
+    requires below { index < length column.now.cells }
+    requires keys { HoldsKeys column.now.layouts }
+    ensures pushed { OnOk result (PushesKey column.now.cells index numbers.old numbers.new) }
+    ensures refused { IfErr result (RefusesKey column.now.cells index numbers.old) }
+    ensures err { OnErr result (numbers.new ≡ numbers.old) }
+{
+    let key = read_key(alloc, column, index)?;
+    if is_null_key(&key) {
+        return Err(EditFault::Unfit(Unfit::NullKey));
+    }
+    if numbers.push(key)? {
+        return Ok(());
+    }
+    if has_null_from(alloc, column, index)? {
+        Err(EditFault::Unfit(Unfit::NullKey))
+    } else {
+        Err(EditFault::Unfit(Unfit::DuplicateKey))
+    }
+}
+
+/// Numbers live rows with the keys of a column, in order: 41 where one is null, 42 where one stands twice or is a live
+/// row's. On an error the numbers are as they were.
+#[tactic(auto, using(crate::proofs::Keying::pushing))]
+pub(crate) fn push_keys(
+    alloc: Global,
+    column: &Column,
+    numbers: &mut Numbers,
+) -> Result<(), EditFault>
+    requires { HoldsKeys column.now.layouts }
+    ensures pushed { OnOk result (PushesKeys column.now.cells numbers.old numbers.new) }
+    ensures refused { IfErr result (RefusesKeys column.now.cells numbers.old) }
+    ensures err { OnErr result (numbers.new ≡ numbers.old) }
+{
+    let before = numbers.len();
+    for index in 0..column.len() {
+        if let Err(fault) = push_key(alloc, column, index, numbers) {
+            numbers.truncate(before);
+            return Err(fault);
+        }
+    }
+    Ok(())
+}
+
+/// Numbers live rows with the keys of a batch's rows, as `push_keys` does.
+pub(crate) fn push_batch(
+    alloc: Global,
+    table: &Table,
+    columns: &[Column],
+    rows: usize,
+    numbers: &mut Numbers,
+) -> Result<(), EditFault>
+    requires table { IsTable table.now }
+    requires batch { IsBatch table.now rows columns.now }
+    ensures pushed { OnOk result (PushesKeys (keys_in table.now (batch_rows rows columns.now)) numbers.old numbers.new) }
+    ensures refused { IfErr result (RefusesKeys (keys_in table.now (batch_rows rows columns.now)) numbers.old) }
+    ensures err { OnErr result (numbers.new ≡ numbers.old) }
+{
+    push_keys(alloc, &columns[table.key], numbers)
+}
+
+/// The numbers of the live rows with the keys of a column, in order: 43 where one is no live row's.
+#[tactic(auto, using(crate::proofs::Finding::finding))]
+pub(crate) fn find_keys(
+    alloc: Global,
+    column: &Column,
+    numbers: &Numbers,
+) -> Result<Vec<usize>, EditFault>
+    requires { HoldsKeys column.now.layouts }
+    ensures found { IfOk result (λ found. FindsAll column.now.cells numbers.now found.items) }
+    ensures missed { IfErr result (MissesKey column.now.cells numbers.now) }
+{
+    let mut found = Vec::new(alloc);
+    for index in 0..column.len() {
+        let key = read_key(alloc, column, index)?;
+        match numbers.find(&key) {
+            Some(number) => found.push(number)?,
+            None => return Err(EditFault::Unfit(Unfit::UnknownKey)),
+        }
+    }
+    Ok(found)
+}

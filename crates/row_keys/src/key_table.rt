@@ -1,0 +1,72 @@
+//! Keys by place.
+
+ghost use Rattle.std.specs.Prelude.{◌≡◌, [], IfOk, MatchOption, OnErr, Some, length, slice_get, take};
+ghost use Rattle.row_keys.specs.KeyTable.{AreApart, Inserts, IsNew};
+
+use indexmap::IndexSet;
+use std::alloc::{AllocError, Global};
+use std::marker::Model;
+use values::{Key, key_law};
+
+/// Keys in the order in which they first came, each once. Contracts see their list.
+#[derive(Drop)]
+pub(crate) struct KeyTable {
+    keys: IndexSet<Key>,
+}
+
+impl Model for KeyTable {
+    ghost use Rattle.std.specs.Prelude.{List};
+    ghost use Rattle.values.specs.declared.key.Key.{Key};
+    ghost use Rattle.row_keys.specs.KeyTable.{AreApart, keys_code};
+
+    ghost Value = { List Key };
+
+    ghost coded = { keys_code };
+
+    ghost view = { λ t. t.keys.keys };
+
+    ghost invariant = { λ t. AreApart t.keys.keys };
+}
+
+#[tactic(auto, using(crate::proofs::KeyTables::key_tables))]
+impl KeyTable {
+    pub(crate) fn new(alloc: Global) -> KeyTable
+        ensures { result ≡ [] }
+    {
+        KeyTable {
+            keys: IndexSet::new(alloc),
+        }
+    }
+
+    /// No key stands at two places.
+    pub(crate) fn apart(&self)
+        ensures { AreApart self.now }
+    {
+        let _keys = &self.keys;
+    }
+
+    /// The place of a key, if it is there.
+    pub(crate) fn find(&self, key: &Key) -> Option<usize>
+        ensures { MatchOption result (IsNew self.now key.now) (λ p. slice_get self.now p ≡ Some key.now) }
+    {
+        key_law();
+        self.keys.get_index_of(key)
+    }
+
+    /// Puts a key last, unless it is there, and answers its place.
+    pub(crate) fn insert(&mut self, key: Key) -> Result<usize, AllocError>
+        ensures place { IfOk result (λ p. Inserts self.old key p self.new) }
+        ensures err { OnErr result (self.new ≡ self.old) }
+    {
+        key_law();
+        let (place, _) = self.keys.insert_full(key)?;
+        Ok(place)
+    }
+
+    /// Keeps the first `len` keys. It takes no memory.
+    pub(crate) fn truncate(&mut self, len: usize)
+        ensures { self.new ≡ take len self.old }
+    {
+        self.keys.truncate(len);
+    }
+}

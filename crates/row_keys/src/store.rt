@@ -1,0 +1,261 @@
+//! The store of rows.
+
+ghost use Rattle.std.specs.Prelude.{◌≡◌, ◌<◌, ◌≤◌, [], None, IfErr, IfOk, MatchOption, OnErr, OnOk, get_or, length};
+ghost use Rattle.values.specs.Limits.{max_main_rows};
+ghost use Rattle.view_lang.specs.Causes.{cause_of};
+ghost use Rattle.view_lang.specs.ConfigRules.{IsTable};
+ghost use Rattle.view_lang.specs.Edits.{append, retract};
+ghost use Rattle.view_lang.specs.Rows.{IsRow};
+ghost use Rattle.view_lang.specs.World.{applied};
+ghost use Rattle.row_keys.specs.Batches.{AreKeys, IsBatch, batch_rows};
+ghost use Rattle.row_keys.specs.Slots.{
+  CanPutBack,
+  CanRetract,
+  CanTakeBack,
+  keys_at,
+  no_slot,
+  put_back,
+  retracted,
+  row_of,
+  taken_back,
+  world_of,
+};
+ghost use Rattle.row_keys.specs.Store.{
+  AreRows,
+  IsAbsent,
+  IsFound,
+  Refuses,
+  VisitsAtMost,
+  cells_of_rows,
+  live_in,
+  no_rows,
+  visited,
+  with_slots,
+};
+
+use crate::batches::{Batch, Place, keep_rows, read_row};
+use crate::faults::EditFault;
+use crate::key_columns::{find_keys, push_batch, push_keys};
+use crate::numbers::Numbers;
+use crate::turning::{retract_all, revive_all};
+use arrays::Column;
+use std::alloc::{AllocError, Global};
+use std::marker::Model;
+use values::{Key, Row};
+use view_lang::Table;
+
+/// The rows of a table, by number. A row's number is its place in the order in which rows came; retracted rows keep
+/// theirs.
+///
+/// Contracts see a `Store` of `specs/Store.antt`.
+#[derive(Drop)]
+pub struct RowStore {
+    alloc: Global,
+    table: Table,
+    batches: Vec<Batch>,
+    // Of each row by number.
+    places: Vec<Place>,
+    numbers: Numbers,
+    visits: u128,
+}
+
+impl Model for RowStore {
+    ghost use Rattle.row_keys.specs.Store.{Store, store_code};
+    ghost use Rattle.row_keys.specs.Stored.{IsStored, joined, rows_by};
+
+    ghost Value = { Store };
+
+    ghost coded = { store_code };
+
+    ghost view = { λ s. record {
+      table = s.table;
+      slots = joined (rows_by s.batches.items s.places.items) s.numbers;
+      visits = s.visits;
+    } };
+
+    ghost invariant = { λ s. IsStored s.table s.batches.items s.places.items s.numbers };
+}
+
+impl RowStore {
+    /// A store without rows.
+    pub fn new(alloc: Global, table: Table) -> RowStore
+        requires { IsTable table }
+        ensures { result ≡ no_rows table }
+    {
+        RowStore {
+            alloc,
+            table,
+            batches: Vec::new(alloc),
+            places: Vec::new(alloc),
+            numbers: Numbers::new(alloc),
+            visits: 0,
+        }
+    }
+
+    /// The table whose rows these are.
+    pub fn table(&self) -> &Table
+        ensures value { result.now ≡ self.now.table }
+        ensures right { IsTable self.now.table }
+    {
+        &self.table
+    }
+
+    /// The number of live rows, at most 2^24. It takes no memory.
+    pub fn len(&self) -> usize
+        ensures value { result ≡ length (live_in self.now) }
+        ensures bound { result ≤ max_main_rows }
+    {
+        let _table = &self.table;
+        self.numbers.live()
+    }
+
+    /// How often a stored row was opened; it rests at its greatest number.
+    pub fn visits(&self) -> u128
+        ensures { result ≡ self.now.visits }
+    {
+        self.visits
+    }
+
+    /// The number of the live row with this key. It takes no memory.
+    pub fn find(&self, key: &Key) -> Option<usize>
+        ensures { MatchOption result (IsAbsent self.now key.now) (IsFound self.now key.now) }
+    {
+        let _table = &self.table;
+        self.numbers.find(key)
+    }
+
+    /// Adds the `rows` rows of a batch after all rows, or answers the first cause for which they don't fit: a null key,
+    /// a key that stands twice or is live, too many rows, a cell or a row that is too heavy. On an error nothing has
+    /// changed.
+    pub fn append(&mut self, columns: Vec<Column>, rows: usize) -> Result<(), EditFault>
+        requires { IsBatch self.old.table rows columns.items }
+        ensures world { OnOk result
+            (world_of self.new.slots ≡ applied self.old.table (append (batch_rows rows columns.items))
+            (world_of self.old.slots)) }
+        ensures fits { OnOk result
+            (cause_of self.old.table (world_of self.old.slots) (append (batch_rows rows columns.items)) ≡ None) }
+        ensures refused { IfErr result
+            (Refuses (cause_of self.old.table (world_of self.old.slots) (append (batch_rows rows columns.items)))) }
+        ensures can_go_back { OnOk result (CanTakeBack rows self.new.slots) }
+        ensures back { OnOk result (taken_back rows self.new.slots ≡ self.old.slots) }
+        ensures rest { self.new ≡ with_slots self.old self.new.slots }
+        ensures unchanged { OnErr result (self.new.slots ≡ self.old.slots) }
+    {
+        let before = self.numbers.len();
+        let live = self.numbers.live();
+        match push_batch(self.alloc, &self.table, &columns, rows, &mut self.numbers) {
+            Ok(()) => {}
+            Err(fault) => return Err(fault),
+        }
+        match keep_rows(
+            &mut self.batches,
+            &mut self.places,
+            columns,
+            rows,
+            live,
+            before,
+        ) {
+            Ok(()) => Ok(()),
+            Err(fault) => {
+                self.numbers.truncate(before);
+                Err(fault)
+            }
+        }
+    }
+
+    /// Takes the last `count` rows away, and gives their numbers free. It takes no memory.
+    pub fn take_back(&mut self, count: usize)
+        requires { CanTakeBack count self.old.slots }
+        ensures { self.new ≡ with_slots self.old (taken_back count self.old.slots) }
+    {
+        let left = self.numbers.len() - count;
+        self.places.truncate(left);
+        self.numbers.truncate(left);
+    }
+
+    /// The numbers of the live rows with these keys, in order, or the first cause for which the keys can't be
+    /// retracted: a null key, a key that stands twice, a key that isn't live.
+    pub fn find_all(&self, keys: &Column) -> Result<Vec<usize>, EditFault>
+        requires { AreKeys self.now.table keys.now }
+        ensures numbers { IfOk result (λ ns. CanRetract ns.items self.now.slots) }
+        ensures keys { IfOk result (λ ns. keys_at self.now.table ns.items self.now.slots ≡ keys.now.cells) }
+        ensures fits { OnOk result (cause_of self.now.table (world_of self.now.slots) (retract keys.now.cells) ≡ None) }
+        ensures refused { IfErr result (Refuses (cause_of self.now.table (world_of self.now.slots) (retract keys.now.cells))) }
+    {
+        let _table = &self.table;
+        let mut seen = Numbers::new(self.alloc);
+        match push_keys(self.alloc, keys, &mut seen) {
+            Ok(()) => find_keys(self.alloc, keys, &self.numbers),
+            Err(fault) => Err(fault),
+        }
+    }
+
+    /// Retracts the rows of these numbers. It takes no memory.
+    pub fn retract(&mut self, numbers: &[usize])
+        requires { CanRetract numbers.now self.old.slots }
+        ensures slots { self.new ≡ with_slots self.old (retracted numbers.now self.old.slots) }
+        ensures world { world_of self.new.slots ≡ applied self.old.table
+            (retract (keys_at self.old.table numbers.now self.old.slots)) (world_of self.old.slots) }
+        ensures can_go_back { CanPutBack self.old.table numbers.now self.new.slots }
+        ensures back { put_back numbers.now self.new.slots ≡ self.old.slots }
+    {
+        self.numbers.distinct();
+        retract_all(&mut self.numbers, numbers);
+    }
+
+    /// Puts retracted rows back into their places. It takes no memory.
+    pub fn put_back(&mut self, numbers: &[usize])
+        requires { CanPutBack self.old.table numbers.now self.old.slots }
+        ensures { self.new ≡ with_slots self.old (put_back numbers.now self.old.slots) }
+    {
+        revive_all(&mut self.numbers, numbers);
+    }
+
+    /// A copy of the row of this number, live or retracted. It is a visit.
+    pub fn open_row(&mut self, number: usize) -> Result<Row, AllocError>
+        requires { number < length self.old.slots }
+        ensures row { IfOk result (λ row. row.items ≡ row_of self.old.slots number) }
+        ensures held { IfOk result (λ row. IsRow self.old.table.columns row.items) }
+        ensures visit { self.new ≡ visited 1 self.old }
+    {
+        self.visits = self.visits.saturating_add(1);
+        let place = self.places[number];
+        let batch = &self.batches[place.batch];
+        read_row(self.alloc, &batch.columns, place.index)
+    }
+
+    /// Copies of all live rows, in order. Each is a visit.
+    pub fn live_rows(&mut self) -> Result<Vec<Row>, AllocError>
+        ensures rows { IfOk result (λ rows. cells_of_rows rows.items ≡ live_in self.old) }
+        ensures held { OnOk result (AreRows self.old.table (live_in self.old)) }
+        ensures few { length (live_in self.old) ≤ max_main_rows }
+        ensures visits { OnOk result (self.new ≡ visited (length (live_in self.old)) self.old) }
+        ensures refused { OnErr result (VisitsAtMost (length (live_in self.old)) self.old self.new) }
+    {
+        let _visits = self.visits();
+        let mut rows = Vec::with_capacity(self.alloc, self.len())?;
+        for number in 0..self.appended() {
+            if self.is_live(number) {
+                rows.push(self.open_row(number)?)?;
+            }
+        }
+        Ok(rows)
+    }
+
+    /// The number of all rows that have numbers, retracted ones too.
+    pub fn appended(&self) -> usize
+        ensures { result ≡ length self.now.slots }
+    {
+        let _table = &self.table;
+        self.numbers.len()
+    }
+
+    /// Whether the row of this number is live.
+    pub fn is_live(&self, number: usize) -> bool
+        requires { number < length self.now.slots }
+        ensures { result ≡ (get_or self.now.slots number no_slot).live }
+    {
+        let _table = &self.table;
+        self.numbers.is_live(number)
+    }
+}
