@@ -1,0 +1,13 @@
+pub mod Declared
+pub mod Named
+pub mod Runs
+pub mod Typed
+pub mod Written
+pub mod Pasts
+pub mod Channels
+pub mod Keys
+pub mod Pushes
+pub mod Sessions
+pub mod Opening
+pub mod Refusing
+pub mod Sample

@@ -1,0 +1,7 @@
+pub mod Names
+pub mod Refusals
+pub mod Steps
+pub mod Shows
+pub mod Changes
+pub mod Laws
+pub mod Sample

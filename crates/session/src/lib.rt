@@ -1,0 +1,24 @@
+//! A session: feeds that change a table, edits that can be undone, and views that are written.
+//!
+//! A session is a machine. `specs/Steps.antt` says what each call may answer and where it leads, from the edits that
+//! are accepted and not undone and from the bytes that each feed consumed, none of which it stores. `specs/Shows.antt`
+//! says which states a session in memory shows; each call is a step from any of them, and `Session::run` a run.
+#![tactic(auto)]
+
+mod calls;
+mod edit;
+mod finish;
+mod laws;
+mod link;
+mod names;
+mod push;
+mod session;
+mod undo;
+mod view;
+
+pub use calls::{Event, Fault, Pushed, Reply, Step, ViewFault};
+pub use laws::{refusal_law, sample_law};
+pub use session::Session;
+
+#[cfg(test)]
+mod tests;

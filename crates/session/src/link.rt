@@ -1,0 +1,11 @@
+//! The feeds of a session.
+
+use feed::Feed;
+use view_lang::Role;
+
+/// A feed, and what its batches do to the table.
+#[derive(Drop)]
+pub(crate) struct Link {
+    pub role: Role,
+    pub feed: Feed,
+}

@@ -1,0 +1,67 @@
+//! What comes to a feed of a session.
+
+ghost use Rattle.std.specs.Prelude.{◌≡◌};
+ghost use Rattle.session.specs.Shows.{ShowsChannel, ShowsPast};
+ghost use Rattle.session.specs.Changes.{PushesTo};
+ghost use Rattle.session.specs.Steps.{Channel};
+
+use crate::calls::{Fault, Pushed};
+use crate::edit::respond;
+use crate::link::Link;
+use crate::undo::UndoRecord;
+use circular_buffer::HeapCircularBuffer;
+use feed::Fed;
+use row_keys::{EditFault, RowStore};
+use schema_meta::logical_law;
+use values::Cause;
+
+/// Consumes a piece up to the end of the first message that it completes, or all of it. The edit of a batch is made
+/// where it fits.
+pub(crate) fn push_to(
+    link: &mut Link,
+    store: &mut RowStore,
+    records: &mut HeapCircularBuffer<UndoRecord>,
+    piece: &[u8],
+) -> Result<Pushed, Fault>
+    requires link { (c : Channel) × ShowsChannel store.old.table link.old c }
+    requires capacity { records.old.capacity ≡ 64 }
+    ensures pushes { PushesTo store.old.table link.old store.old.slots records.old.items
+        piece.now result link.new store.new.slots records.new.items }
+    ensures table { store.new.table ≡ store.old.table }
+    ensures capacity { records.new.capacity ≡ 64 }
+{
+    // It does nothing: the proof takes from it that a batch holds what was declared for its feed.
+    logical_law();
+    if link.feed.is_broken() {
+        return Err(Fault::of(Cause::FeedBroken));
+    }
+    if piece.is_empty() {
+        return Ok(Pushed {
+            used: 0,
+            event: None,
+        });
+    }
+    let fed = link.feed.prepare(piece)?;
+    let Fed { used, event } = fed;
+    let Some(event) = event else {
+        link.feed.commit();
+        return Ok(Pushed { used, event: None });
+    };
+    match respond(link.role, store, records, event) {
+        Ok(kind) => {
+            link.feed.commit();
+            Ok(Pushed {
+                used,
+                event: Some(kind),
+            })
+        }
+        Err(EditFault::Unfit(unfit)) => {
+            link.feed.commit();
+            Err(Fault {
+                cause: Cause::from(unfit),
+                used,
+            })
+        }
+        Err(EditFault::Memory) => Err(Fault::of(Cause::Memory)),
+    }
+}
