@@ -6,11 +6,14 @@ OUT ?= out/orders.canon.arrows
 
 .PHONY: try run test edits ci limits bench install lv need-rt need-python
 
-# Recasts the sample stream to a file of its own, and inspects that file.
+# Recasts the sample stream to a file of its own, and inspects that file; then runs the script of the report, which writes three views.
 run: lv
 	@mkdir -p out
 	$(LV) recast examples/orders.arrows $(OUT)
 	$(LV) inspect $(OUT)
+	$(LV) check examples/report/report.toml
+	$(LV) run examples/report/report.toml examples/report/script
+	$(LV) inspect out/report-2.arrows
 
 # A first look, within two minutes of cloning: lv is compiled with checks that stop it, and nothing is proved.
 try: need-rt

@@ -1,6 +1,7 @@
 #!/usr/bin/env bash
 # Runs the built lv, or the program that is named, over each example. Recast must write the canonical stream whose sum is kept in
-# examples/canonical.sha256, the recast of that stream must be itself, and inspect must print examples/NAME.txt.
+# examples/canonical.sha256, the recast of that stream must be itself, and inspect must print examples/NAME.txt. The script of
+# examples/report must print report/printed, and write the views that inspect and their sums tell.
 set -euo pipefail
 cd "$(dirname "$0")/.."
 export LC_ALL=C
@@ -32,5 +33,11 @@ check() {
 for stream in examples/*.arrows; do
     check "$(basename "$stream" .arrows)"
 done
+lv=$(realpath "$lv")
+ln -s "$PWD/examples" "$work/examples"
+mkdir "$work/out"
+(cd "$work" && "$lv" check examples/report/report.toml && "$lv" run examples/report/report.toml examples/report/script) |
+    diff examples/report/printed - || fail "the script of the report"
+(cd "$work/out" && sha256sum -- *.arrows) | diff examples/report/views.sha256 - || fail "the views of the report are others"
 (cd "$work" && sha256sum -- *.canon) | diff examples/canonical.sha256 - || fail "the canonical streams are others"
-echo "examples: recast and inspected, $(wc -l < examples/canonical.sha256) streams"
+echo "examples: recast and inspected, $(wc -l < examples/canonical.sha256) streams, and a report of $(wc -l < examples/report/views.sha256) views"

@@ -7,8 +7,14 @@ A row is a paragraph:
     out STREAM | out same   recast writes exactly this, and prints its length
     refused N CAUSE         or it refuses the input for this cause, and makes no file; with `or` between, for one of several
     inspect STATUS          or inspect ends with this status, and prints the lines that follow, each after `| `
+or, without an input:
+    check CONFIG STATUS     check ends with this status, and prints the lines after `| `
+    run CONFIG STATUS       run does the same with the script whose lines follow, each after `> `
+    made NAME STREAM        the script makes this file, and no others but those that are named
+A paragraph `file NAME`, with an `in` or with lines after `> `, is a file that the rows behind it find.
 
-A STREAM is hexadecimal digits, where A..B stands for the numbers from A to B, of 64 bits with the lowest byte first; or it is `sample`
+A STREAM is hexadecimal digits, where A..B stands for the numbers from A to B, of 64 bits with the lowest byte first, and XX*N for N times
+the same byte; or it is `sample`
 (tests/sample.arrows) and how it differs: ..N its first N bytes, ..A-B each such beginning, P=XX another byte at place P, -A..B without
 these bytes, +XX with these after it.
 """
@@ -19,7 +25,7 @@ import sys
 import tempfile
 
 ROOT = os.path.dirname(os.path.dirname(os.path.abspath(__file__)))
-WORDS = ("in", "out", "refused", "inspect")
+WORDS = ("in", "out", "refused", "inspect", "check", "run", "made")
 
 
 def changed(sample, word):
@@ -40,7 +46,7 @@ def changed(sample, word):
 def streams(words, sample):
     """The streams that some words mean."""
     if words[:1] != ["sample"]:
-        return [b"".join(numbers(it) if ".." in it else bytes.fromhex(it) for it in words)]
+        return [b"".join(map(bytes_of, words))]
     if any(re.fullmatch(r"\.\.\d+(-\d+)?", it) for it in words):
         return [made for it in words[1:] for made in changed(sample, it)]
     for word in words[1:]:
@@ -48,46 +54,53 @@ def streams(words, sample):
     return [sample]
 
 
-def numbers(word):
-    first, last = map(int, word.split(".."))
-    return b"".join(it.to_bytes(8, "little") for it in range(first, last + 1))
+def bytes_of(word):
+    """The bytes that a word of a stream stands for."""
+    if numbers := re.fullmatch(r"(\d+)\.\.(\d+)", word):
+        return b"".join(it.to_bytes(8, "little") for it in range(int(numbers[1]), int(numbers[2]) + 1))
+    digits, _, times = word.partition("*")
+    return bytes.fromhex(digits) * int(times or 1)
 
 
 def rows_of(path):
-    """The rows of a file: name, and the words after each of in, out, refused, inspect; the printed lines under `|`."""
+    """The paragraphs of a file that say something: by each word what stands after it; all that is made, and the lines after > and |."""
     for paragraph in open(path, encoding="utf-8").read().split("\n\n"):
-        row, last = {}, None
+        row, last = {"made": [], ">": [], "|": []}, None
         for line in paragraph.split("\n"):
             word, _, rest = line.partition(" ")
-            if word == "row":
-                row["row"] = rest
+            if word in ("row", "file"):
+                row[word] = rest
+            elif word == "made":
+                row["made"].append(rest.split())
+                last = row["made"][-1]
             elif word in WORDS:
-                row[word], last = rest.split(), word
-            elif word == "|":
-                row.setdefault("|", []).append(rest + "\n")
+                row[word] = last = rest.split()
+            elif word in (">", "|"):
+                row[word].append(rest + "\n")
             elif line.startswith(" "):
-                row[last] += line.split()
+                last += line.split()
             elif line and word != "#":
                 sys.exit(f"rows: {path}: what is {line!r}?")
-        if row:
+        if "row" in row or "file" in row:
             yield row
 
 
-def run(lv, words):
-    ran = subprocess.run([lv, *words], stdout=subprocess.PIPE, timeout=60)
+def run(lv, words, room):
+    ran = subprocess.run([lv, *words], cwd=room, stdout=subprocess.PIPE, timeout=60)
     return ran.returncode, ran.stdout.decode()
 
 
-def fault_of(lv, row, stream, sample, room):
-    """What the program does otherwise than a row says; None where it does as it says."""
+def differs(got, status, lines):
+    return None if got == (int(status), "".join(lines)) else f"it ended with {got[0]} and printed:\n{got[1]}"
+
+
+def fault_of_stream(lv, row, stream, sample, room):
+    """What the program does otherwise than a row says of a stream; None where it does as it says."""
     source, made = f"{room}/in", f"{room}/out"
     open(source, "wb").write(stream)
-    if os.path.exists(made):
-        os.remove(made)
     if "inspect" in row:
-        got, want = run(lv, ["inspect", source]), (int(row["inspect"][0]), "".join(row.get("|", [])))
-        return None if got == want else f"inspect ended with {got[0]} and printed:\n{got[1]}"
-    got = run(lv, ["recast", source, made])
+        return differs(run(lv, ["inspect", "in"], room), row["inspect"][0], row["|"])
+    got = run(lv, ["recast", "in", "out"], room)
     if "refused" in row:
         lines = [f"refused {it}\n" for it in " ".join(row["refused"]).split(" or ")]
         is_so = got[0] == 1 and got[1] in lines and not os.path.exists(made)
@@ -98,17 +111,49 @@ def fault_of(lv, row, stream, sample, room):
     return None if open(made, "rb").read() == want else "recast wrote another stream"
 
 
+def fault_of_script(lv, row, sample, room):
+    """The same of a configuration, and of a script over it."""
+    if "check" in row:
+        config, status = row["check"]
+        return differs(run(lv, ["check", config], room), status, row["|"])
+    config, status = row["run"]
+    open(f"{room}/script", "w", encoding="utf-8").write("".join(row[">"]))
+    before = set(os.listdir(room))
+    got = run(lv, ["run", config, "script"], room)
+    made = {name: streams(words, sample)[0] for name, *words in row["made"]}
+    others = set(os.listdir(room)) - before ^ set(made)
+    if others:
+        return f"it made, or didn't make, {' '.join(sorted(others))}; it printed:\n{got[1]}"
+    wrong = [it for it in made if open(f"{room}/{it}", "rb").read() != made[it]]
+    return f"it wrote another stream to {' '.join(wrong)}" if wrong else differs(got, status, row["|"])
+
+
+def faults_of(lv, path, sample):
+    """How many rows a file has, and a line for each that doesn't hold."""
+    count, faults, files = 0, [], {}
+    for row in rows_of(path):
+        if "file" in row:
+            files[row["file"]] = streams(row["in"], sample)[0] if "in" in row else "".join(row[">"]).encode()
+            continue
+        for stream in streams(row["in"], sample) if "in" in row else [None]:
+            with tempfile.TemporaryDirectory(prefix="lv-row-") as room:
+                for name, held in files.items():
+                    open(f"{room}/{name}", "wb").write(held)
+                whole = stream is None
+                fault = fault_of_script(lv, row, sample, room) if whole else fault_of_stream(lv, row, stream, sample, room)
+            count += 1
+            if fault:
+                faults.append(f"rows: FAILED, {os.path.basename(path)}, {row['row']}: {fault}")
+    return count, faults
+
+
 def main():
     lv = os.path.abspath(sys.argv[1] if len(sys.argv) > 1 else f"{ROOT}/crates/lv/out/lv")
     sample = open(f"{ROOT}/tests/sample.arrows", "rb").read()
     count, faults = 0, []
-    with tempfile.TemporaryDirectory(prefix="lv-rows-") as room:
-        for name in sorted(it for it in os.listdir(f"{ROOT}/tests") if it.endswith(".txt")):
-            for row in rows_of(f"{ROOT}/tests/{name}"):
-                for stream in streams(row["in"], sample):
-                    count += 1
-                    fault = fault_of(lv, row, stream, sample, room)
-                    faults += [f"rows: FAILED, {name}, {row['row']} ({len(stream)} bytes): {fault}"] if fault else []
+    for name in sorted(it for it in os.listdir(f"{ROOT}/tests") if it.endswith(".txt")):
+        more, wrong = faults_of(lv, f"{ROOT}/tests/{name}", sample)
+        count, faults = count + more, faults + wrong
     print(*faults, sep="\n", end="\n" * bool(faults))
     print(f"rows: {count - len(faults)} of {count} hold")
     return 1 if faults or not count else 0

@@ -1,5 +1,6 @@
 #!/usr/bin/env python3
-"""Makes the example streams as a producer of Arrow streams would: shipments, with dictionaries, and sensors, with nested columns.
+"""Makes the example streams as a producer of Arrow streams would: shipments, with dictionaries, sensors, with nested columns, and
+the feeds of examples/report.
 
 Needs Python 3.10 or later and its package `flatbuffers`, 2.0 or later (Debian: python3-flatbuffers), whose builder lays the
 metadata out. The tables and their slots are those of Arrow's Schema.fbs and Message.fbs. Each run writes the same bytes, to the
@@ -491,14 +492,35 @@ class Sensors:
         return [schema(self.fields), *batches]
 
 
+HARBOURS = ["Halifax", "Gdańsk", "Durban"]
+
+
+def report_feeds():
+    """Calls at harbours, in two batches; a call that is withdrawn; and that call once more, with its right weight."""
+    port = Dictionary(3, Int(8), Utf8())
+    fields = [Field("id", Int(64), nullable=False), Field("port", Utf8(), dictionary=port), Field("tonnes", Decimal(9, 3))]
+    first = [(1, "Halifax", 21_500_000), (2, "Durban", 7_250_000), (3, "Halifax", None)]
+    second = [(4, "Gdańsk", 1_300_000), (5, "Durban", 18_000_250)]
+    keys = fields[:1]
+    plain = [fields[0], Field("port", Utf8()), fields[2]]
+    return {
+        "calls": [schema(fields), port.batch(HARBOURS), record_batch(fields, first), record_batch(fields, second), END_MARK],
+        "withdrawn": [schema(keys), record_batch(keys, [(4,)]), END_MARK],
+        "corrected": [schema(plain), record_batch(plain, [(4, "Gdańsk", 13_000_000)]), END_MARK],
+    }
+
+
 def main():
     folder = Path(sys.argv[1]) if len(sys.argv) > 1 else Path(__file__).resolve().parent.parent / "examples"
     streams = {
         "shipments": Shipments(Dice(11)).stream([96, 131, 84, 57]),
         "sensors": Sensors(Dice(12)).stream([80, 47, 113]),
     }
+    streams |= {f"report/{name}": pieces for name, pieces in report_feeds().items()}
     for name, pieces in streams.items():
-        (folder / f"{name}.arrows").write_bytes(b"".join(pieces))
+        path = folder / f"{name}.arrows"
+        path.parent.mkdir(exist_ok=True)
+        path.write_bytes(b"".join(pieces))
 
 
 if __name__ == "__main__":

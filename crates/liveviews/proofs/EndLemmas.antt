@@ -1,9 +1,9 @@
--- However a command ends, nothing was put but by recasting.
-use Rattle.std.proofs.Common.{inl, inr, ℕ, List, Option, Result, Ok, Err}
+-- However a command over a file ends, nothing was put but by recasting.
+use Rattle.std.proofs.Common.{◌≡◌, inl, inr, ℕ, List, Option, Result, Ok, Err}
 use Rattle.stream_writer.specs.Sinks.{Sunk}
 use Rattle.values.specs.declared.causes.Cause.TheVariants as cause
 use Rattle.liveviews.specs.Files.{MakesNone}
-use Rattle.liveviews.specs.Program.{DoesSomewhere, IsBegun, StopsSo}
+use Rattle.liveviews.specs.Program.{DoesSomewhere, IsBegun, IsNoConfig, StopsSo}
 use Rattle.liveviews.specs.declared.files.FileFault.{FileFault}
 use Rattle.liveviews.specs.declared.program.Outcome.{Outcome}
 use Rattle.liveviews.specs.declared.program.Outcome.TheVariants as outcome
@@ -25,9 +25,10 @@ stopped-begun content old new unmade (refusal.CannotWrite p) path (inl same) = i
 stopped-begun content old new unmade (refusal.CannotWrite p) path (inr none) =
     unmade-begun content old new unmade _ path none
 stopped-begun content old new unmade (refusal.Refused c) path (inl memory) = inl memory.1
-stopped-begun content old new unmade (refusal.Refused c) path (inr (inl none)) =
+stopped-begun content old new unmade (refusal.Refused c) path (inr (inl refuses)) = inl refuses.1
+stopped-begun content old new unmade (refusal.Refused c) path (inr (inr (inl none))) =
     unmade-begun content old new unmade _ path none.1
-stopped-begun content old new unmade (refusal.Refused c) path (inr (inr stops)) =
+stopped-begun content old new unmade (refusal.Refused c) path (inr (inr (inr stops))) =
     inr (path, Err (record { cause = c; written = stops.0 }), stops.1)
 
 pub ends-begun :
@@ -35,4 +36,15 @@ pub ends-begun :
     → DoesSomewhere content old new unmade answer → IsBegun content old new
 ends-begun content old new unmade (Ok (outcome.Inspected i)) (path, inspected) = inl inspected.0
 ends-begun content old new unmade (Ok (outcome.Recast n)) (path, recast) = inr (path, Ok n, recast)
+ends-begun content old new unmade (Ok (outcome.Checked feeds views)) (path, checked) = inl checked.0
 ends-begun content old new unmade (Err r) (path, stops) = stopped-begun content old new unmade r path stops
+
+-- what `check` is refused for is what a command stops for
+pub no-config-stops :
+    (held : Option (List ℕ)) (old new : Sunk) (unmade : Option FileFault) (r : Refusal) → new ≡ old
+    → IsNoConfig held r → StopsSo held old new unmade r
+no-config-stops held old new unmade refusal.WrongUse same never = absurd never
+no-config-stops held old new unmade (refusal.CannotRead path) same unread = same
+no-config-stops held old new unmade (refusal.CannotWrite path) same never = absurd never
+no-config-stops held old new unmade (refusal.Refused c) same (inl memory) = inl (memory, same)
+no-config-stops held old new unmade (refusal.Refused c) same (inr refuses) = inr (inl (refuses, same))

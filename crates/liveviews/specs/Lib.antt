@@ -8,4 +8,5 @@ pub mod Lines
 pub mod Inspect
 pub mod Inspecting
 pub mod Files
+pub mod Check
 pub mod Program

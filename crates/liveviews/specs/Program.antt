@@ -1,5 +1,5 @@
 -- How a command ends, and how the program does.
-use Rattle.std.specs.Prelude.{◌≡◌, ◌≢◌, ◌⊎◌, ℕ, List, [], ◌∷◌, ◌++◌, Option, Some, Result, Ok, Err, codes, string_bytes}
+use Rattle.std.specs.Prelude.{◌≡◌, ◌≢◌, ◌⊎◌, ℕ, List, [], ◌∷◌, ◌++◌, Option, Some, Result, Ok, Err, String, codes, string_bytes}
 use Rattle.std.specs.Fmt.{decimal}
 use Rattle.std.specs.Io.KnownBytes.{Appends}
 use Rattle.clap.specs.Matches.{first_value}
@@ -12,6 +12,9 @@ use Rattle.values.specs.declared.causes.Cause.TheVariants as cause
 use Rattle.liveviews.specs.Files.{InspectsFile, RecastsFile, MakesNone}
 use Rattle.liveviews.specs.declared.files.FileFault.{FileFault}
 use Rattle.liveviews.specs.declared.files.FileFault.TheVariants as file
+use Rattle.liveviews.specs.Check.{ChecksFile, RefusesFile}
+use Rattle.liveviews.specs.declared.program.FileCommand.{FileCommand}
+use Rattle.liveviews.specs.declared.program.FileCommand.TheVariants as command
 use Rattle.liveviews.specs.declared.program.Asked.{Asked}
 use Rattle.liveviews.specs.declared.program.Asked.TheVariants as asked
 use Rattle.liveviews.specs.declared.program.Outcome.{Outcome}
@@ -21,14 +24,28 @@ use Rattle.liveviews.specs.declared.program.Refusal.TheVariants as refusal
 use Rattle.liveviews.specs.declared.recasting.RecastFault.{RecastFault}
 
 -- what is asked is of the file, or the files, that the words give
-abbrev pub AsksInspect : Found → Asked → Type 0
-AsksInspect words (asked.Inspect file) = first_value words (codes "FILE") ≡ Some file.now
-AsksInspect words (asked.Recast from to) = ⊥
+abbrev pub AsksInspect : Found → FileCommand → Type 0
+AsksInspect words (command.Inspect file) = first_value words (codes "FILE") ≡ Some file.now
+AsksInspect words _ = ⊥
 
-abbrev pub AsksRecast : Found → Asked → Type 0
-AsksRecast words (asked.Recast from to) =
+abbrev pub AsksRecast : Found → FileCommand → Type 0
+AsksRecast words (command.Recast from to) =
     (first_value words (codes "IN") ≡ Some from.now) × (first_value words (codes "OUT") ≡ Some to.now)
-AsksRecast words (asked.Inspect file) = ⊥
+AsksRecast words _ = ⊥
+
+abbrev pub AsksCheck : Found → FileCommand → Type 0
+AsksCheck words (command.Check config) = first_value words (codes "CONFIG") ≡ Some config.now
+AsksCheck words _ = ⊥
+
+-- the first word is `run`
+abbrev pub AsksRun : {Z : Type 0} → List (String Z) → Type 0
+AsksRun [] = ⊥
+AsksRun (w ∷ ws) = string_bytes w ≡ codes "run"
+
+-- A script is run only where the words ask for it.
+abbrev pub IsAllowed : {Z : Type 0} → List (String Z) → Asked → Type 0
+IsAllowed words (asked.File c) = Unit {0}
+IsAllowed words (asked.Script config script) = AsksRun words
 
 -- words that ask for nothing, or memory was refused before a file was read
 abbrev pub IsUnread : Refusal → Type 0
@@ -36,6 +53,11 @@ IsUnread refusal.WrongUse = Unit {0}
 IsUnread (refusal.Refused c) = c ≡ cause.Memory
 IsUnread (refusal.CannotRead path) = ⊥
 IsUnread (refusal.CannotWrite path) = ⊥
+
+-- a command that is not wrong use was refused
+abbrev pub IsRefused : Refusal → Type 0
+IsRefused refusal.WrongUse = ⊥
+IsRefused _ = Unit {0}
 
 -- a file that can't be read, or memory was refused
 abbrev pub IsUnreadable : Refusal → Type 0
@@ -50,11 +72,19 @@ IsRefusedAs kind r =
     ((kind ≡ kinds.OutOfMemory) × (r ≡ refusal.Refused cause.Memory))
     ⊎ ((kind ≢ kinds.OutOfMemory) × (r ≡ refusal.WrongUse))
 
--- A cause that the command names: memory was refused outside of recasting, or recasting stopped for it.
+-- A cause that the command names: memory was refused outside of recasting, or it stands in a configuration, or recasting
+-- stopped for it.
 abbrev pub StopsFor : Option (List ℕ) → Sunk → Sunk → Option FileFault → Cause → Type 0
 StopsFor held old new unmade c =
-    ((c ≡ cause.Memory) × (new ≡ old)) ⊎ ((c ≡ cause.Memory) × MakesNone held old new unmade file.Memory)
+    ((c ≡ cause.Memory) × (new ≡ old)) ⊎ (RefusesFile held c × (new ≡ old)) ⊎ ((c ≡ cause.Memory) × MakesNone held old new unmade file.Memory)
     ⊎ ((written : ℕ) × RecastsFile held old new (Err (record { cause = c; written = written })))
+
+-- what `check` is refused for: a file that can't be read, or has no configuration
+abbrev pub IsNoConfig : Option (List ℕ) → Refusal → Type 0
+IsNoConfig held refusal.WrongUse = ⊥
+IsNoConfig held (refusal.CannotRead path) = Unit {0}
+IsNoConfig held (refusal.CannotWrite path) = ⊥
+IsNoConfig held (refusal.Refused c) = (c ≡ cause.Memory) ⊎ RefusesFile held c
 
 -- the refusal of a command over a file that holds `held`, and what was put
 abbrev pub StopsSo : Option (List ℕ) → Sunk → Sunk → Option FileFault → Refusal → Type 0
@@ -67,10 +97,11 @@ abbrev pub Ends : Option (List ℕ) → Sunk → Sunk → Option FileFault → R
 Ends held old new unmade (Ok n) = RecastsFile held old new (Ok n)
 Ends held old new unmade (Err r) = StopsSo held old new unmade r
 
--- A file was inspected, and nothing was put; or it was recast.
+-- A file was inspected or checked, and nothing was put; or it was recast.
 abbrev pub Comes : Option (List ℕ) → Sunk → Sunk → Outcome → Type 0
 Comes held old new (outcome.Inspected i) = (new ≡ old) × InspectsFile held (string_bytes i.text) i.status
 Comes held old new (outcome.Recast n) = RecastsFile held old new (Ok n)
+Comes held old new (outcome.Checked feeds views) = (new ≡ old) × ChecksFile held feeds views
 
 abbrev pub Does : Option (List ℕ) → Sunk → Sunk → Option FileFault → Result Outcome Refusal → Type 0
 Does held old new unmade (Ok o) = Comes held old new o
@@ -101,16 +132,32 @@ status_of (refusal.Refused c) = 1
 abbrev pub line_of : ℕ → List ℕ
 line_of n = codes "wrote " ++ decimal n ++ 10 ∷ []
 
+-- the line of a configuration with so many feeds and views
+abbrev pub counts_of : ℕ → ℕ → List ℕ
+counts_of feeds views = codes "ok: " ++ (decimal feeds ++ (codes " feeds, " ++ (decimal views ++ (codes " views" ++ 10 ∷ []))))
+
 abbrev pub text_of : Outcome → List ℕ
 text_of (outcome.Inspected i) = string_bytes i.text
 text_of (outcome.Recast n) = line_of n
+text_of (outcome.Checked feeds views) = counts_of feeds views
 
 abbrev pub status_after : Outcome → ℕ
 status_after (outcome.Inspected i) = i.status
 status_after (outcome.Recast n) = 0
+status_after (outcome.Checked feeds views) = 0
+
+-- the words asked for nothing
+abbrev pub IsWrongUse : Result Outcome Refusal → Type 0
+IsWrongUse (Err refusal.WrongUse) = Unit {0}
+IsWrongUse _ = ⊥
+
+-- What was done was printed, and no fault stood in it.
+abbrev pub IsPrinted : Result Outcome Refusal → Option (List ℕ) → Option (List ℕ) → Type 0
+IsPrinted (Ok o) before after = (status_after o ≡ 0) × Appends before after (text_of o)
+IsPrinted (Err r) before after = ⊥
 
 -- A file was read, and either no fault stands in it and nothing was put, or all of the canonical stream of its table
--- was put. What says so was printed.
+-- was put, or it has a configuration. What says so was printed.
 pub record IsDone (content : List ℕ → Option (List ℕ)) (old new : Sunk) (before after : Option (List ℕ)) : Type 0 where
   pub path : List ℕ
   pub outcome : Outcome

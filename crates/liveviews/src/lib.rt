@@ -1,13 +1,17 @@
-//! `recast`, `inspect`, and the program `lv` over words and files that its caller hands in.
+//! `recast`, `inspect`, and the program `lv` over words and files that its caller hands in: those two, `check` of a configuration, and
+//! `run` of a script over a session.
 #![tactic(auto)]
 
 mod batch;
+mod configuring;
 mod files;
 mod inspecting;
 mod laws;
 mod lines;
 mod program;
 mod recasting;
+mod running;
+mod script;
 mod table;
 mod types;
 

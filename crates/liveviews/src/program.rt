@@ -1,15 +1,23 @@
 //! The program `lv`, over words, files and an output that its caller hands in.
 
-ghost use Rattle.std.specs.Prelude.{◌≡◌, ◌≤◌, IfErr, IfOk, IfSome, string_bytes};
+ghost use Rattle.std.specs.Prelude.{◌≡◌, ◌≤◌, ◌⊎◌, IfErr, IfOk, IfSome, string_bytes, true};
 ghost use Rattle.clap.specs.Words.{found_of};
+ghost use Rattle.liveviews.specs.Check.{ChecksFile};
 ghost use Rattle.liveviews.specs.Files.{InspectsFile, IsContent};
 ghost use Rattle.liveviews.specs.Program.{
+  AsksCheck,
   AsksInspect,
   AsksRecast,
+  AsksRun,
   DoesSomewhere,
   Ends,
+  IsAllowed,
   IsBegun,
   IsDone,
+  IsNoConfig,
+  IsPrinted,
+  IsRefused,
+  IsWrongUse,
   IsStopped,
   IsUnread,
   IsUnreadable,
@@ -19,22 +27,33 @@ ghost use Rattle.liveviews.specs.Program.{
 };
 ghost use Rattle.liveviews.specs.declared.program.Refusal.TheVariants.{CannotWrite};
 
+use crate::configuring::parse_config;
 use crate::files::{FileFault, Files};
 use crate::inspecting::{Inspected, inspect};
 use crate::recasting::{RecastFault, recast};
+use crate::running::run_script;
 use clap::error::ErrorKind;
 use clap::{Arg, ArgAction, ArgMatches, Command};
+use session::Session;
 use std::alloc::{AllocError, Global};
 use std::fmt;
 use std::io::Write;
 use thiserror::Error;
 use values::Cause;
 
+/// A command over one stream or one configuration.
+#[derive(Debug, Drop)]
+enum FileCommand<'a> {
+    Inspect { file: &'a str },
+    Recast { from: &'a str, to: &'a str },
+    Check { config: &'a str },
+}
+
 /// The command given by the arguments.
 #[derive(Debug, Drop)]
 enum Asked<'a> {
-    Inspect { file: &'a str },
-    Recast { from: &'a str, to: &'a str },
+    File(FileCommand<'a>),
+    Script { config: &'a str, script: &'a str },
 }
 
 /// The outcome of a command.
@@ -42,6 +61,7 @@ enum Asked<'a> {
 enum Outcome {
     Inspected(Inspected),
     Recast { written: u64 },
+    Checked { feeds: usize, views: usize },
 }
 
 impl Outcome {
@@ -51,7 +71,7 @@ impl Outcome {
     {
         match self {
             Outcome::Inspected(inspected) => inspected.status,
-            Outcome::Recast { .. } => 0,
+            Outcome::Recast { .. } | Outcome::Checked { .. } => 0,
         }
     }
 }
@@ -67,6 +87,7 @@ impl fmt::Display for Outcome {
         match self {
             Outcome::Inspected(inspected) => f.write_str(inspected.text.as_str()),
             Outcome::Recast { written } => writeln!(f, "wrote {written}"),
+            Outcome::Checked { feeds, views } => writeln!(f, "ok: {feeds} feeds, {views} views"),
         }
     }
 }
@@ -138,43 +159,77 @@ fn command<'a>(alloc: Global) -> Result<Command<'a>, AllocError> {
     let recast = Command::new(alloc, "recast")
         .arg(required(alloc, "IN"))?
         .arg(required(alloc, "OUT"))?;
+    let check = Command::new(alloc, "check").arg(required(alloc, "CONFIG"))?;
+    let run = Command::new(alloc, "run")
+        .arg(required(alloc, "CONFIG"))?
+        .arg(required(alloc, "SCRIPT"))?;
     Command::new(alloc, "lv")
         .no_binary_name(true)
         .subcommand_required(true)
         .subcommand(inspect)?
-        .subcommand(recast)
+        .subcommand(recast)?
+        .subcommand(check)?
+        .subcommand(run)
 }
 
 fn required<'a>(alloc: Global, name: &'a str) -> Arg<'a> {
     Arg::new(alloc, name).required(true).action(ArgAction::Set)
 }
 
+/// Whether the first word is `run`.
+fn is_run(words: &[String]) -> bool
+    ensures { result ≡ true → AsksRun words.now }
+{
+    match words.first() {
+        Some(word) => word.as_str() == "run",
+        None => false,
+    }
+}
+
 fn parse<'a>(alloc: Global, words: &'a [String]) -> Result<Asked<'a>, Refusal<'a>>
-    ensures { IfErr result IsUnread }
+    ensures allowed { IfOk result (IsAllowed words.now) }
+    ensures unread { IfErr result IsUnread }
 {
     let found = command(alloc)?.try_get_matches_from(words)?;
     let asked = match found.subcommand() {
-        Some(("inspect", given)) => asked_inspect(given),
-        Some(("recast", given)) => asked_recast(given),
+        Some(("inspect", given)) => asked_inspect(given).map(Asked::File),
+        Some(("recast", given)) => asked_recast(given).map(Asked::File),
+        Some(("check", given)) => asked_check(given).map(Asked::File),
+        Some(("run", given)) if is_run(words) => asked_run(given),
         _ => None,
     };
     asked.ok_or(Refusal::WrongUse)
 }
 
-fn asked_inspect<'a>(given: &ArgMatches<'a>) -> Option<Asked<'a>>
+fn asked_inspect<'a>(given: &ArgMatches<'a>) -> Option<FileCommand<'a>>
     ensures { IfSome result (AsksInspect (found_of given.now)) }
 {
-    Some(Asked::Inspect {
+    Some(FileCommand::Inspect {
         file: given.get_str("FILE")?,
     })
 }
 
-fn asked_recast<'a>(given: &ArgMatches<'a>) -> Option<Asked<'a>>
+fn asked_recast<'a>(given: &ArgMatches<'a>) -> Option<FileCommand<'a>>
     ensures { IfSome result (AsksRecast (found_of given.now)) }
 {
-    Some(Asked::Recast {
+    Some(FileCommand::Recast {
         from: given.get_str("IN")?,
         to: given.get_str("OUT")?,
+    })
+}
+
+fn asked_check<'a>(given: &ArgMatches<'a>) -> Option<FileCommand<'a>>
+    ensures { IfSome result (AsksCheck (found_of given.now)) }
+{
+    Some(FileCommand::Check {
+        config: given.get_str("CONFIG")?,
+    })
+}
+
+fn asked_run<'a>(given: &ArgMatches<'a>) -> Option<Asked<'a>> {
+    Some(Asked::Script {
+        config: given.get_str("CONFIG")?,
+        script: given.get_str("SCRIPT")?,
     })
 }
 
@@ -235,41 +290,98 @@ fn stopped<'a, F: Files>(files: &F, fault: RecastFault, to: &'a str) -> Refusal<
     }
 }
 
-/// Runs the command given by the arguments.
-fn done<'a, F: Files>(
+/// Counts the feeds and the views of the configuration at `path`.
+fn check_file<'a, F: Files>(
     alloc: Global,
-    words: &'a [String],
+    path: &'a str,
+    files: &mut F,
+) -> Result<(usize, usize), Refusal<'a>>
+    ensures sunk { F.sunk files.new ≡ F.sunk files.old }
+    ensures counts { IfOk result (λ counts. ChecksFile (F.content files.old path.now) counts.0 counts.1) }
+    ensures refused { IfErr result (IsNoConfig (F.content files.old path.now)) }
+{
+    let bytes = read_file(path, files)?;
+    match parse_config(alloc, &bytes) {
+        Ok(config) => Ok((config.feeds.len(), config.views.len())),
+        Err(cause) => Err(Refusal::Refused(cause)),
+    }
+}
+
+/// Runs a command over one file.
+fn run_command<'a, F: Files>(
+    alloc: Global,
+    command: FileCommand<'a>,
     files: &mut F,
 ) -> Result<Outcome, Refusal<'a>>
     ensures { DoesSomewhere (F.content files.old) (F.sunk files.old) (F.sunk files.new) (F.unmade files.new) result }
 {
-    match parse(alloc, words)? {
-        Asked::Inspect { file } => Ok(Outcome::Inspected(inspect_file(alloc, file, files)?)),
-        Asked::Recast { from, to } => {
+    match command {
+        FileCommand::Inspect { file } => Ok(Outcome::Inspected(inspect_file(alloc, file, files)?)),
+        FileCommand::Recast { from, to } => {
             let written = recast_file(alloc, from, to, files)?;
             Ok(Outcome::Recast { written })
+        }
+        FileCommand::Check { config } => {
+            let (feeds, views) = check_file(alloc, config, files)?;
+            Ok(Outcome::Checked { feeds, views })
         }
     }
 }
 
-/// Does what `words` ask for (the program's arguments without its own name), and prints to `out`: the lines of
-/// `inspect`, or one line.
-///
-/// Answers the program's exit status: 0 done, 1 refused or a print that failed, 2 words that ask for nothing that `lv`
-/// does.
-pub fn lv<F: Files, W: Write>(alloc: Global, words: &[String], files: &mut F, out: &mut W) -> u8
-    ensures done { result ≡ 0
-        → IsDone (F.content files.old) (F.sunk files.old) (F.sunk files.new) (W.contents out.old) (W.contents out.new) }
-    ensures wrong_use { result ≡ 2 → F.sunk files.new ≡ F.sunk files.old }
-    ensures begun { IsBegun (F.content files.old) (F.sunk files.old) (F.sunk files.new) }
+/// Opens the session of the configuration at `config`, and reads the script at `script`.
+fn open_script<'a, F: Files>(
+    alloc: Global,
+    config: &'a str,
+    script: &'a str,
+    files: &mut F,
+) -> Result<(Session, Vec<u8>), Refusal<'a>>
+    ensures sunk { F.sunk files.new ≡ F.sunk files.old }
+    ensures refused { IfErr result IsRefused }
+{
+    let bytes = read_file(config, files)?;
+    let config = match parse_config(alloc, &bytes) {
+        Ok(config) => config,
+        Err(cause) => return Err(Refusal::Refused(cause)),
+    };
+    let session = Session::open(alloc, config)?;
+    Ok((session, read_file(script, files)?))
+}
+
+/// Prints what a command came to, and answers the program's exit status.
+fn end<W: Write>(came: Result<Outcome, Refusal>, out: &mut W) -> u8
+    requires { IfOk came (λ o. status_after o ≤ 1) }
+    ensures done { result ≡ 0 → IsPrinted came.entry (W.contents out.old) (W.contents out.new) }
+    ensures wrong_use { result ≡ 2 → IsWrongUse came.entry }
     ensures bound { result ≤ 2 }
 {
-    let (status, printed) = match done(alloc, words, files) {
+    let (status, printed) = match came {
         Ok(outcome) => (outcome.status(), write!(out, "{outcome}")),
         Err(refusal) => (refusal.status(), writeln!(out, "{refusal}")),
     };
     match printed {
         Ok(()) => status,
         Err(_) => 1,
+    }
+}
+
+/// Does what `words` ask for (the program's arguments without its own name), and prints to `out`: the lines of
+/// `inspect` or of a script, or one line.
+///
+/// Answers the program's exit status: 0 done, 1 refused or a print that failed, 2 words that ask for nothing that `lv`
+/// does, or a script with a wrong line.
+pub fn lv<F: Files, W: Write>(alloc: Global, words: &[String], files: &mut F, out: &mut W) -> u8
+    ensures done { result ≡ 0 → AsksRun words.now
+        ⊎ IsDone (F.content files.old) (F.sunk files.old) (F.sunk files.new) (W.contents out.old) (W.contents out.new) }
+    ensures wrong_use { result ≡ 2 → F.sunk files.new ≡ F.sunk files.old }
+    ensures begun { AsksRun words.now ⊎ IsBegun (F.content files.old) (F.sunk files.old) (F.sunk files.new) }
+    ensures bound { result ≤ 2 }
+{
+    match parse(alloc, words) {
+        Ok(Asked::File(command)) => end(run_command(alloc, command, files), out),
+        Ok(Asked::Script { config, script }) => match open_script(alloc, config, script, files) {
+            Ok((session, script)) => run_script(session, &script, files, out),
+            Err(refusal) => end(Err(refusal), out),
+        },
+        Err(refusal) => end(Err(refusal), out),
     }
 }

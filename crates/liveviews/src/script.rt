@@ -1,0 +1,117 @@
+//! Scripts: what each line asks for.
+
+use std::str::Split;
+
+/// What a line of a script asks for.
+#[derive(Clone, Copy, Debug, PartialEq, Eq)]
+pub(crate) enum Command<'a> {
+    /// Pushes a file to a feed until all of it is used.
+    Feed {
+        name: &'a str,
+        path: &'a str,
+    },
+    /// The same with `len` bytes of the file from place `from` on, cut at its end.
+    Piece {
+        name: &'a str,
+        path: &'a str,
+        from: u64,
+        len: u64,
+    },
+    /// Ends the input of a feed.
+    Finish {
+        name: &'a str,
+    },
+    /// Takes the latest edit back.
+    Undo,
+    /// Writes a view to a file.
+    Write {
+        view: &'a str,
+        path: &'a str,
+    },
+}
+
+/// A line of a script.
+#[derive(Clone, Copy, Debug, PartialEq, Eq)]
+pub(crate) enum Line<'a> {
+    /// An empty line, or one that begins with `#`: it asks for nothing, and isn't read.
+    Blank,
+    Command(Command<'a>),
+    /// A line of another form, or one that isn't UTF-8.
+    Wrong,
+}
+
+/// Reads a line, without the line feed that ends it.
+pub(crate) fn read_line(line: &[u8]) -> Line<'_> {
+    if line.is_empty() || line[0] == b'#' {
+        return Line::Blank;
+    }
+    let Ok(text) = str::from_utf8(line) else {
+        return Line::Wrong;
+    };
+    match read_command(text) {
+        Some(command) => Line::Command(command),
+        None => Line::Wrong,
+    }
+}
+
+/// The command that words parted by single spaces are; `None` where they are none.
+fn read_command(text: &str) -> Option<Command<'_>> {
+    let mut words = text.split(' ');
+    let verb = words.next()?;
+    let command = if verb == "feed" {
+        Command::Feed {
+            name: word(&mut words)?,
+            path: word(&mut words)?,
+        }
+    } else if verb == "piece" {
+        Command::Piece {
+            name: word(&mut words)?,
+            path: word(&mut words)?,
+            from: number(word(&mut words)?)?,
+            len: number(word(&mut words)?)?,
+        }
+    } else if verb == "finish" {
+        Command::Finish {
+            name: word(&mut words)?,
+        }
+    } else if verb == "undo" {
+        Command::Undo
+    } else if verb == "write" {
+        Command::Write {
+            view: word(&mut words)?,
+            path: word(&mut words)?,
+        }
+    } else {
+        return None;
+    };
+    match words.next() {
+        Some(_) => None,
+        None => Some(command),
+    }
+}
+
+/// The next word, which has a letter at least.
+fn word<'a>(words: &mut Split<'a, char>) -> Option<&'a str> {
+    match words.next() {
+        Some(word) if !word.is_empty() => Some(word),
+        _ => None,
+    }
+}
+
+/// A number of 1 to 18 decimal digits.
+fn number(word: &str) -> Option<u64> {
+    let digits = word.as_bytes();
+    if digits.is_empty() || digits.len() > 18 {
+        return None;
+    }
+    let mut number = 0u64;
+    for &digit in digits {
+        if !digit.is_ascii_digit() {
+            return None;
+        }
+        number = number
+            .checked_mul(10)?
+            .checked_add(u64::from(digit - b'0'))?;
+    }
+    Some(number)
+}
