@@ -1,4 +1,1 @@
-mod Outputs
-mod ViewRows
-mod Sample
-mod Fields
+pub mod Truths

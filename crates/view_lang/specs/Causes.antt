@@ -1,21 +1,19 @@
--- Why an edit doesn't fit a table: the causes that stand, and the least of them.
+-- Why an edit doesn't fit its table: the causes that stand, and the least of them.
 use Rattle.std.specs.Prelude.{◌+◌, Bool, true, false, cond, not, ◌||◌, nat_lt, List, [], ◌∷◌, Option, find, length}
 use Rattle.values.specs.Datum.{Datum, null, items_of}
 use Rattle.values.specs.Rose.{Roses, none, more, kids_of}
 use Rattle.values.specs.declared.layout.Layout.{Layout}
 use Rattle.values.specs.Layouts.{row_weight, weight}
-use Rattle.values.specs.Limits.{max_cell_weight, max_main_rows, max_row_weight}
+use Rattle.values.specs.Limits.{max_cell_weight, max_row_weight}
 use Rattle.values.specs.Logical.{trees_of}
 use Rattle.view_lang.specs.Limits.{max_appended_rows}
 use Rattle.view_lang.specs.Config.{Table}
-use Rattle.view_lang.specs.Edits.{Edit, append, retract}
-use Rattle.view_lang.specs.World.{World, is_among, keys_in}
+use Rattle.view_lang.specs.Cells.{is_null}
+use Rattle.view_lang.specs.Contents.{Contents, is_among, keys_in, without_keys}
+use Rattle.view_lang.specs.Edits.{Edit, TableEdit, append, put, retract}
+use Rattle.view_lang.specs.World.{World, contents_at, table_at}
 use Rattle.view_lang.specs.declared.unfit.Unfit.{Unfit}
 use Rattle.view_lang.specs.declared.unfit.Unfit.TheVariants as unfit
-
-abbrev pub is_null : Datum → Bool
-is_null null = true
-is_null _ = false
 
 unfoldable pub has_null : List Datum → Bool
 has_null [] = false
@@ -52,25 +50,36 @@ any_heavy ls (row ∷ rows) = is_heavy ls row || any_heavy ls rows
 abbrev pub layouts_of : Table → Roses Layout
 layouts_of t = trees_of (kids_of t.columns)
 
--- Whether a cause stands. Retracted keys that are all live can't be too heavy.
-abbrev pub stands : Table → World → Edit → Unfit → Bool
-stands t w (append rows) unfit.NullKey = has_null (keys_in t rows)
-stands t w (append rows) unfit.DuplicateKey =
-    has_repeated (keys_in t rows) || any_among (keys_in t rows) (keys_in t w.live)
-stands t w (append rows) unfit.UnknownKey = false
-stands t w (append rows) unfit.TooManyRows =
-    nat_lt max_main_rows (length w.live + length rows) || nat_lt max_appended_rows (w.appended + length rows)
-stands t w (append rows) unfit.CellTooHeavy = any_heavy (layouts_of t) rows
-stands t w (retract keys) unfit.NullKey = has_null keys
-stands t w (retract keys) unfit.DuplicateKey = has_repeated keys
-stands t w (retract keys) unfit.UnknownKey = not (all_among keys (keys_in t w.live))
-stands t w (retract keys) unfit.TooManyRows = false
-stands t w (retract keys) unfit.CellTooHeavy = false
+-- Whether a cause stands against rows that come after all others.
+abbrev pub rows_stand : Table → Contents → List (List Datum) → Unfit → Bool
+rows_stand t c rows unfit.NullKey = has_null (keys_in t rows)
+rows_stand t c rows unfit.DuplicateKey = has_repeated (keys_in t rows) || any_among (keys_in t rows) (keys_in t c.live)
+rows_stand t c rows unfit.UnknownKey = false
+rows_stand t c rows unfit.TooManyRows =
+    nat_lt t.max_rows (length c.live + length rows) || nat_lt max_appended_rows (c.appended + length rows)
+rows_stand t c rows unfit.CellTooHeavy = any_heavy (layouts_of t) rows
+
+-- Whether one stands against keys whose rows go away. Keys that are all live can't be too heavy.
+abbrev pub keys_stand : Table → Contents → List Datum → Unfit → Bool
+keys_stand t c keys unfit.NullKey = has_null keys
+keys_stand t c keys unfit.DuplicateKey = has_repeated keys
+keys_stand t c keys unfit.UnknownKey = not (all_among keys (keys_in t c.live))
+keys_stand t c keys unfit.TooManyRows = false
+keys_stand t c keys unfit.CellTooHeavy = false
+
+-- Rows that are put come after the others once those with their keys are gone.
+abbrev pub stands : Table → Contents → TableEdit → Unfit → Bool
+stands t c (append rows) u = rows_stand t c rows u
+stands t c (retract keys) u = keys_stand t c keys u
+stands t c (put rows) u = rows_stand t (without_keys t (keys_in t rows) c) rows u
 
 -- in the order of their numbers
 abbrev pub causes : List Unfit
 causes = unfit.NullKey ∷ unfit.DuplicateKey ∷ unfit.UnknownKey ∷ unfit.TooManyRows ∷ unfit.CellTooHeavy ∷ []
 
 -- the least cause that stands; none where the edit fits
-unfoldable pub cause_of : Table → World → Edit → Option Unfit
-cause_of t w e = find (stands t w e) causes
+unfoldable pub cause_of : Table → Contents → TableEdit → Option Unfit
+cause_of t c e = find (stands t c e) causes
+
+abbrev pub cause_in : List Table → World → Edit → Option Unfit
+cause_in tables w e = cause_of (table_at tables e.table) (contents_at w e.table) e.change

@@ -1,105 +1,114 @@
 -- Which configurations are right: what holds of each that was read without a fault.
-use Rattle.std.specs.Prelude.{◌≡◌, ℕ, ◌<◌, ◌≤◌, true, All, List, [], ◌∷◌, Some, get_or, length, map, slice_get}
+use Rattle.std.specs.Prelude.{◌≡◌, ℕ, suc, ◌<◌, ◌≤◌, true, All, List, length, map, Option, None, Some}
 use Rattle.std.specs.Str.{is_utf8}
-use Rattle.values.specs.ColTypes.{IsSingle, IsType}
 use Rattle.values.specs.declared.col_type.ColType.{ColType}
 use Rattle.values.specs.declared.col_type.ColType.TheVariants as col
-use Rattle.values.specs.declared.layout.Layout.{Layout}
-use Rattle.values.specs.Layouts.{AreLayouts, slot}
-use Rattle.values.specs.Limits.{max_depth, max_fields, max_slot}
-use Rattle.values.specs.Logical.{AreLogicalColumns, NamedType, trees_of}
-use Rattle.values.specs.Rose.{Rose, node, Roses, none, more, kids_of, roses_depth, roses_size}
-use Rattle.view_lang.specs.Limits.{max_column_name_len, max_columns, max_feeds, max_views}
-use Rattle.view_lang.specs.declared.config.Role.{Role}
-use Rattle.view_lang.specs.declared.config.Role.TheVariants as role
-use Rattle.view_lang.specs.Config.{Config, Output, Table, View}
+use Rattle.values.specs.ColTypes.{IsSingle}
+use Rattle.values.specs.Limits.{max_fields, max_main_rows}
+use Rattle.values.specs.Logical.{NamedType}
+use Rattle.values.specs.Rose.{Rose, kids_of, roses_size}
+use Rattle.view_lang.specs.Config.{Config, FeedConfig, SideTable, Table, View, tables_of}
+use Rattle.view_lang.specs.Edits.{table_of}
+use Rattle.view_lang.specs.Filter.{Filter, Filters, all_of, compare, negation, no_part, null_in, one_of, part}
+use Rattle.view_lang.specs.Limits.{max_columns, max_feeds, max_side_rows, max_sides, max_views}
+use Rattle.view_lang.specs.Outputs.{GroupOutput, Output, Outputs, columns, groups}
+use Rattle.view_lang.specs.TableRules.{IsName, IsTable, type_of}
+use Rattle.view_lang.specs.ViewColumns.{field_at, joined_columns, view_columns}
+use Rattle.view_lang.specs.World.{table_at}
+use Rattle.view_lang.specs.declared.filter.Operand.{Operand}
+use Rattle.view_lang.specs.declared.filter.Operand.TheVariants as operand
+use Rattle.view_lang.specs.declared.view.Aggregate.{Aggregate}
+use Rattle.view_lang.specs.declared.view.Aggregate.TheVariants as aggregate
+use Rattle.view_lang.specs.declared.view.Lookup.{Lookup}
+use Rattle.view_lang.specs.declared.view.OrderBy.{OrderBy}
 
-abbrev pub IsName : List ℕ → Type 0
-IsName name = (1 ≤ length name) × (length name ≤ max_column_name_len)
+-- a column that is there
+abbrev pub IsColumn : List (Rose NamedType) → ℕ → Type 0
+IsColumn fields k = k < length fields
 
--- names of 1 to 255 bytes, and types within their bounds, at all levels
+-- one whose values have an order
+abbrev pub IsOrdered : List (Rose NamedType) → ℕ → Type 0
+IsOrdered fields k = IsColumn fields k × IsSingle (type_of (field_at fields k))
+
+-- A sum is over whole numbers, or over decimals of at most 28 digits: then 2^24 of them stay below 10^38.
+abbrev pub IsAddable : ColType → Type 0
+IsAddable (col.Int w s) = Unit {0}
+IsAddable (col.Decimal p s) = p ≤ 28
+IsAddable _ = ⊥
+
+-- The columns of a side table come after those of the main table.
+abbrev pub IsLookup : List Table → Option Lookup → Type 0
+IsLookup tables None = Unit {0}
+IsLookup tables (Some l) =
+    (suc l.side < length tables) × IsOrdered (table_at tables 0).columns l.on
+    × (l.columns ≡ length (table_at tables (suc l.side)).columns)
+
+abbrev pub IsOperand : List (Rose NamedType) → Operand → Type 0
+IsOperand fields (operand.Constant d) = Unit {0}
+IsOperand fields (operand.Column k) = IsOrdered fields k
+
+-- What is compared is there, and has an order.
 abbrev mutual
-  pub IsWithin : Rose NamedType → Type 0
-  IsWithin (node f kids) = IsName f.name × IsType f.col_type × AreWithin kids
+  pub IsFilter : List (Rose NamedType) → Filter → Type 0
+  IsFilter fields (compare c k o) = IsOrdered fields k × IsOperand fields o
+  IsFilter fields (null_in k) = IsColumn fields k
+  IsFilter fields (negation f) = IsFilter fields f
+  IsFilter fields (all_of fs) = AreFilters fields fs
+  IsFilter fields (one_of fs) = AreFilters fields fs
 
-  pub AreWithin : Roses NamedType → Type 0
-  AreWithin none = Unit {0}
-  AreWithin (more f fs) = IsWithin f × AreWithin fs
+  pub AreFilters : List (Rose NamedType) → Filters → Type 0
+  AreFilters fields no_part = Unit {0}
+  AreFilters fields (part f fs) = IsFilter fields f × AreFilters fields fs
 
--- no slot, at any level, is above 2^20
-abbrev mutual
-  pub IsSlim : Rose Layout → Type 0
-  IsSlim (node l kids) = (slot (node l kids) ≤ max_slot) × AreSlim kids
+abbrev pub IsFilterOf : List (Rose NamedType) → Option Filter → Type 0
+IsFilterOf fields None = Unit {0}
+IsFilterOf fields (Some f) = IsFilter fields f
 
-  pub AreSlim : Roses Layout → Type 0
-  AreSlim none = Unit {0}
-  AreSlim (more t ts) = IsSlim t × AreSlim ts
+abbrev pub IsAggregate : List (Rose NamedType) → List ℕ → Aggregate → Type 0
+IsAggregate fields by (aggregate.Key k) = k < length by
+IsAggregate fields by aggregate.Count = Unit {0}
+IsAggregate fields by (aggregate.CountOf k) = IsColumn fields k
+IsAggregate fields by (aggregate.Sum k) = IsColumn fields k × IsAddable (type_of (field_at fields k))
+IsAggregate fields by (aggregate.Least k) = IsOrdered fields k
+IsAggregate fields by (aggregate.Greatest k) = IsOrdered fields k
 
--- The columns of a declared table or view. They are 1 to 64, with at most 1,024 fields at all levels and a depth of at
--- most 16; names are texts, types and slots are within their bounds, and each field has the children that its type
--- wants.
-pub record AreColumns (fields : List (Rose NamedType)) : Type 0 where
-  pub some : 1 ≤ length fields
-  pub few : length fields ≤ max_columns
-  pub small : roses_size (kids_of fields) ≤ max_fields
-  pub shallow : roses_depth (kids_of fields) ≤ max_depth
-  pub within : AreWithin (kids_of fields)
-  pub slim : AreSlim (trees_of (kids_of fields))
-  pub layouts : AreLayouts (trees_of (kids_of fields))
-  pub logical : AreLogicalColumns fields
+-- a name of an output
+abbrev pub IsText : List ℕ → Type 0
+IsText name = IsName name × (is_utf8 name ≡ true)
 
-abbrev pub type_of : Rose NamedType → ColType
-type_of (node f kids) = f.col_type
+abbrev pub IsOutput : List (Rose NamedType) → Output → Type 0
+IsOutput fields o = IsText o.name × IsColumn fields o.column
 
--- the column of that number, whose values have an order
-abbrev pub IsKeyColumn : ℕ → List (Rose NamedType) → Type 0
-IsKeyColumn key fields = (f : Rose NamedType) × (slice_get fields key ≡ Some f) × IsSingle (type_of f)
+abbrev pub IsGroupOutput : List (Rose NamedType) → List ℕ → GroupOutput → Type 0
+IsGroupOutput fields by o = IsText o.name × IsAggregate fields by o.aggregate
 
-pub record IsTable (t : Table) : Type 0 where
-  pub columns : AreColumns t.columns
-  pub key : IsKeyColumn t.key t.columns
+abbrev pub AreOutputs : List (Rose NamedType) → Outputs → Type 0
+AreOutputs fields (columns outputs) = All (IsOutput fields) outputs
+AreOutputs fields (groups by outputs) = All (IsOrdered fields) by × All (IsGroupOutput fields by) outputs
 
--- The schema of a view: the outputs' names with the types of the columns that they show.
+-- A view of these tables: 1 to 64 columns, with at most 1,024 fields at all levels, and each column that it names is
+-- there.
+pub record IsView (tables : List Table) (v : View) : Type 0 where
+  pub lookup : IsLookup tables v.lookup
+  pub filter : IsFilterOf (joined_columns tables v.lookup) v.filter
+  pub outputs : AreOutputs (joined_columns tables v.lookup) v.outputs
+  pub some : 1 ≤ length (view_columns tables v)
+  pub few : length (view_columns tables v) ≤ max_columns
+  pub small : roses_size (kids_of (view_columns tables v)) ≤ max_fields
+  pub order : All (λ o. IsOrdered (view_columns tables v) o.column) v.order
 
-abbrev pub renamed : List ℕ → Rose NamedType → Rose NamedType
-renamed name (node f kids) = node (record { name = name; col_type = f.col_type }) kids
+-- a feed of a table that is there
+abbrev pub IsFeed : List Table → FeedConfig → Type 0
+IsFeed tables f = table_of f.role < length tables
 
--- where there is no column of a number
-abbrev pub no_field : Rose NamedType
-no_field = node (record { name = []; col_type = col.Bool }) none
-
--- what the batches of a feed with this role carry: all columns of the table, or the key column alone
-abbrev pub feed_columns : Table → Role → List (Rose NamedType)
-feed_columns t role.Append = t.columns
-feed_columns t role.Retract = get_or t.columns t.key no_field ∷ []
-
-abbrev pub output_field : List (Rose NamedType) → Output → Rose NamedType
-output_field fields o = renamed o.name (get_or fields o.column no_field)
-
-abbrev pub output_fields : List (Rose NamedType) → List Output → List (Rose NamedType)
-output_fields fields outputs = map (output_field fields) outputs
-
--- an output of a table with these columns: a name, and a column that is there
-pub record IsOutput (fields : List (Rose NamedType)) (o : Output) : Type 0 where
-  pub name : IsName o.name
-  pub text : is_utf8 o.name ≡ true
-  pub column : o.column < length fields
-
--- a view of a table with these columns: 1 to 64 outputs, with at most 1,024 fields at all levels
-pub record IsView (fields : List (Rose NamedType)) (v : View) : Type 0 where
-  pub some : 1 ≤ length v.outputs
-  pub few : length v.outputs ≤ max_columns
-  pub small : roses_size (kids_of (output_fields fields v.outputs)) ≤ max_fields
-  pub outputs : All (IsOutput fields) v.outputs
-
+-- The main table has at most 2^24 rows, and a side table 2^20.
 pub record IsConfig (c : Config) : Type 0 where
   pub main : IsTable c.main
-  pub feeds : length c.feeds ≤ max_feeds
+  pub main_rows : c.main.max_rows ≡ max_main_rows
+  pub sides : All (λ s. IsTable s.table) c.sides
+  pub side_rows : All (λ s. s.table.max_rows ≡ max_side_rows) c.sides
+  pub few_sides : length c.sides ≤ max_sides
+  pub feeds : All (IsFeed (tables_of c)) c.feeds
+  pub few_feeds : length c.feeds ≤ max_feeds
+  pub views : All (IsView (tables_of c)) c.views
   pub few_views : length c.views ≤ max_views
-  pub views : All (IsView c.main.columns) c.views
-
--- What is declared of a table's columns holds of a view's.
-abbrev pub ViewsAreTables : Type 0
-ViewsAreTables =
-    (fields : List (Rose NamedType)) (v : View) → AreColumns fields → IsView fields v
-    → AreColumns (output_fields fields v.outputs)

@@ -17,3 +17,10 @@ max_views = 32
 -- rows of all accepted appends that aren't undone, retracted rows too
 abbrev pub max_appended_rows : ℕ
 max_appended_rows = 2 ^ 62
+
+abbrev pub max_sides : ℕ
+max_sides = 4
+
+-- rows of a side table
+abbrev pub max_side_rows : ℕ
+max_side_rows = 2 ^ 20

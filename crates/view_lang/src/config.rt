@@ -1,12 +1,14 @@
 //! The types of a configuration.
 
+use crate::view::View;
 use std::marker::Model;
 use values::LogicalField;
 
-/// The columns of a table, and the number of the one that is its key.
+/// The columns of a table, the number of the one that is its key, and how many rows may be live.
 #[derive(Debug, Drop)]
 pub struct Table {
     pub key: usize,
+    pub max_rows: usize,
     pub columns: Vec<LogicalField>,
 }
 
@@ -17,16 +19,38 @@ impl Model for Table {
 
     ghost coded = { seen.table_code };
 
-    ghost view = { λ t. record { key = t.key; columns = t.columns.items } };
+    ghost view = { λ t. record { key = t.key; max_rows = t.max_rows; columns = t.columns.items } };
 }
 
-/// What the batches of a feed do to the table.
+/// A side table, whose rows are looked up by their keys.
+#[derive(Debug, Drop)]
+pub struct SideTable {
+    pub name: String,
+    pub table: Table,
+}
+
+impl Model for SideTable {
+    ghost use Rattle.std.specs.Prelude.{string_bytes};
+    ghost use Rattle.view_lang.specs.Config as seen;
+
+    ghost Value = { seen.SideTable };
+
+    ghost coded = { seen.side_code };
+
+    ghost view = { λ s. record { name = string_bytes s.name; table = s.table } };
+}
+
+/// What the batches of a feed do to a table.
 #[derive(Clone, Copy, Debug, PartialEq, Eq)]
 pub enum Role {
-    /// Their rows come after all live rows.
+    /// Their rows come after all live rows of the main table.
     Append,
-    /// They name the keys of rows, which go away.
+    /// They name the keys of rows of the main table, which go away.
     Retract,
+    /// Their rows come to the side table of this number, and stand in the places of those with the same keys.
+    Put(usize),
+    /// They name the keys of rows of the side table of this number, which go away.
+    Drop(usize),
 }
 
 /// A feed.
@@ -47,46 +71,11 @@ impl Model for FeedConfig {
     ghost view = { λ f. record { name = string_bytes f.name; role = f.role } };
 }
 
-/// A column of a view: its name, and the number of the table's column that it shows.
-#[derive(Debug, Drop)]
-pub struct Output {
-    pub name: String,
-    pub column: usize,
-}
-
-impl Model for Output {
-    ghost use Rattle.std.specs.Prelude.{string_bytes};
-    ghost use Rattle.view_lang.specs.Config as seen;
-
-    ghost Value = { seen.Output };
-
-    ghost coded = { seen.output_code };
-
-    ghost view = { λ o. record { name = string_bytes o.name; column = o.column } };
-}
-
-/// A view: its name and its columns, in order.
-#[derive(Debug, Drop)]
-pub struct View {
-    pub name: String,
-    pub outputs: Vec<Output>,
-}
-
-impl Model for View {
-    ghost use Rattle.std.specs.Prelude.{string_bytes};
-    ghost use Rattle.view_lang.specs.Config as seen;
-
-    ghost Value = { seen.View };
-
-    ghost coded = { seen.view_code };
-
-    ghost view = { λ v. record { name = string_bytes v.name; outputs = v.outputs.items } };
-}
-
-/// A table, the feeds that change it, and the views that are written of it.
+/// A main table, side tables, the feeds that change them, and the views that are written of them.
 #[derive(Debug, Drop)]
 pub struct Config {
     pub main: Table,
+    pub sides: Vec<SideTable>,
     pub feeds: Vec<FeedConfig>,
     pub views: Vec<View>,
 }
@@ -98,5 +87,10 @@ impl Model for Config {
 
     ghost coded = { seen.config_code };
 
-    ghost view = { λ c. record { main = c.main; feeds = c.feeds.items; views = c.views.items } };
+    ghost view = { λ c. record {
+      main = c.main;
+      sides = c.sides.items;
+      feeds = c.feeds.items;
+      views = c.views.items;
+    } };
 }

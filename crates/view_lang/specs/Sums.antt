@@ -1,0 +1,31 @@
+-- Sums that 128 bits hold.
+use Rattle.std.specs.Prelude.{ℕ, ◌≤◌, ◌^◌, ℤ, pos, neg_ℤ, ◌≤ℤ◌, List, [], ◌∷◌, length, All}
+use Rattle.values.specs.Datum.{Datum}
+use Rattle.values.specs.Limits.{max_main_rows}
+use Rattle.view_lang.specs.Cells.{cell_at, cells_at}
+use Rattle.view_lang.specs.Groups.{number_in}
+use Rattle.view_lang.specs.Outputs.{GroupOutput, Outputs, columns, groups}
+use Rattle.view_lang.specs.declared.view.Aggregate.{Aggregate}
+use Rattle.view_lang.specs.declared.view.Aggregate.TheVariants as aggregate
+
+abbrev pub IsSmall : ℤ → Type 0
+IsSmall n = (neg_ℤ (pos (2 ^ 96)) ≤ℤ n) × (n ≤ℤ pos (2 ^ 96))
+
+-- a number of at most 28 decimal digits, or of 64 bits, is within
+abbrev pub IsSummable : Aggregate → List Datum → Type 0
+IsSummable (aggregate.Sum k) row = IsSmall (number_in (cell_at row k))
+IsSummable _ row = Unit {0}
+
+-- so many rows that their numbers can be added
+abbrev pub AreSummable : List GroupOutput → List (List Datum) → Type 0
+AreSummable outs rows = (length rows ≤ max_main_rows) × All (λ row. All (λ o. IsSummable o.aggregate row) outs) rows
+
+-- the tuple of a group
+abbrev pub first_tuple : List ℕ → List (List Datum) → List Datum
+first_tuple by [] = []
+first_tuple by (row ∷ rows) = cells_at by row
+
+-- so that the outputs can be made
+abbrev pub CanSum : Outputs → List (List Datum) → Type 0
+CanSum (columns outputs) rows = Unit {0}
+CanSum (groups by outputs) rows = AreSummable outputs rows

@@ -1,0 +1,177 @@
+//! Filters.
+
+ghost use Rattle.std.specs.Prelude.{◌≡◌};
+ghost use Rattle.view_lang.specs.Cells.{is_null as is_null_by};
+ghost use Rattle.view_lang.specs.Filter.{parts_of};
+ghost use Rattle.view_lang.specs.Truth.{both as both_by, either as either_by, negated as negated_by, compared as compared_by, operand_of, passes as passes_by, truth, truth_of_all, truth_of_any};
+
+use crate::cells::{cell_or, is_null, no_value};
+use std::marker::Model;
+use values::{Value, cmp_values};
+
+/// How two cells are compared.
+#[derive(Clone, Copy, Debug, PartialEq, Eq)]
+pub enum Comparison {
+    Equal,
+    Different,
+    Below,
+    AtMost,
+    Above,
+    AtLeast,
+}
+
+/// What a cell is compared with.
+#[derive(Debug, Drop)]
+pub enum Operand {
+    Constant(Value),
+    /// The cell of this column.
+    Column(usize),
+}
+
+/// A test of a row. Contracts see it as a `Filter` of `specs/Filter.antt`.
+#[cycle(filter)]
+#[derive(Debug, Drop)]
+pub struct Filter {
+    pub test: Test,
+}
+
+/// The kinds of tests.
+#[cycle(filter)]
+#[derive(Debug, Drop)]
+pub enum Test {
+    /// The cell of a column, against a constant or another column.
+    Compare {
+        comparison: Comparison,
+        column: usize,
+        with: Operand,
+    },
+    /// The cell of this column is null.
+    IsNull(usize),
+    Not(Box<Filter>),
+    And(Vec<Filter>),
+    Or(Vec<Filter>),
+}
+
+impl Model for Filter {
+    ghost use Rattle.view_lang.specs.Filter as seen;
+
+    ghost Value = { seen.Filter };
+
+    ghost coded = { seen.filter_code };
+
+    ghost use Rattle.view_lang.specs.FilterSeen.{filter_of};
+
+    ghost view = { λ f. filter_of f.test };
+
+    ghost size = { seen.filter_size };
+
+    ghost use Rattle.std.proofs.Common.{arith};
+    ghost use Rattle.view_lang.specs.FilterSizes.{deep_le-filter_size};
+
+    ghost size_decreases = { λ f h. Prim.omega (arith, deep_le-filter_size f.test) };
+}
+
+fn compared(comparison: Comparison, a: &Value, b: &Value) -> Option<bool>
+    ensures { result ≡ compared_by comparison a.now b.now }
+{
+    if is_null(a) || is_null(b) {
+        return None;
+    }
+    let order = cmp_values(a, b);
+    Some(match comparison {
+        Comparison::Equal => order.is_eq(),
+        Comparison::Different => order.is_ne(),
+        Comparison::Below => order.is_lt(),
+        Comparison::AtMost => order.is_le(),
+        Comparison::Above => order.is_gt(),
+        Comparison::AtLeast => order.is_ge(),
+    })
+}
+
+fn negated(known: Option<bool>) -> Option<bool>
+    ensures { result ≡ negated_by known }
+{
+    match known {
+        Some(truth) => Some(!truth),
+        None => None,
+    }
+}
+
+fn both(a: Option<bool>, b: Option<bool>) -> Option<bool>
+    ensures { result ≡ both_by a b }
+{
+    match (a, b) {
+        (Some(false), _) | (_, Some(false)) => Some(false),
+        (Some(true), Some(true)) => Some(true),
+        _ => None,
+    }
+}
+
+fn either(a: Option<bool>, b: Option<bool>) -> Option<bool>
+    ensures { result ≡ either_by a b }
+{
+    match (a, b) {
+        (Some(true), _) | (_, Some(true)) => Some(true),
+        (Some(false), Some(false)) => Some(false),
+        _ => None,
+    }
+}
+
+impl Filter {
+    /// Whether a row passes: `None` where that is unknown, since a null was compared.
+    #[cycle(truth)]
+    #[tactic(auto, unfolding(crate::specs::Truth::truth))]
+    pub fn truth(&self, row: &[Value]) -> Option<bool>
+        ensures { result ≡ truth row.now self.now }
+    {
+        match &self.test {
+            Test::Compare { comparison, column, with } => {
+                let absent = no_value();
+                let cell = cell_or(row, *column, &absent);
+                match with {
+                    Operand::Constant(value) => compared(*comparison, cell, value),
+                    Operand::Column(other) => { compared(*comparison, cell, cell_or(row, *other, &absent)) }
+                }
+            }
+            Test::IsNull(column) => Some(is_null(cell_or(row, *column, &no_value()))),
+            Test::Not(part) => negated(part.truth(row)),
+            Test::And(parts) => truth_of_parts(parts, row),
+            Test::Or(parts) => truth_of_one(parts, row),
+        }
+    }
+}
+
+#[cycle(truth)]
+#[tactic(auto, using(crate::proofs::Truths::part_smaller))]
+fn truth_of_parts(parts: &[Filter], row: &[Value]) -> Option<bool>
+    ensures { result ≡ truth_of_all row.now (parts_of parts.now) }
+{
+    let mut known = Some(true);
+    for part in parts {
+        known = both(known, part.truth(row));
+    }
+    known
+}
+
+#[cycle(truth)]
+#[tactic(auto, using(crate::proofs::Truths::part_smaller))]
+fn truth_of_one(parts: &[Filter], row: &[Value]) -> Option<bool>
+    ensures { result ≡ truth_of_any row.now (parts_of parts.now) }
+{
+    let mut known = Some(false);
+    for part in parts {
+        known = either(known, part.truth(row));
+    }
+    known
+}
+
+/// Whether a filter, where there is one, keeps a row.
+#[tactic(auto, unfolding(crate::specs::Truth::passes))]
+pub(crate) fn passes(filter: &Option<Filter>, row: &[Value]) -> bool
+    ensures { result ≡ passes_by filter.now row.now }
+{
+    match filter {
+        Some(filter) => filter.truth(row).unwrap_or(false),
+        None => true,
+    }
+}
