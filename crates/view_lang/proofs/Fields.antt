@@ -16,6 +16,7 @@ use Rattle.std.proofs.Common.{
   map,
   refl,
   ap,
+  arith,
   sym,
   subst,
   ◌∙◌,

@@ -1,2 +1,5 @@
 pub mod Truths
 mod Fields
+mod Columns
+mod CellFits
+mod InputRows
