@@ -108,7 +108,7 @@ one_more f fs c a = record {
   logical = (c.logical, a.logical);
 }
 
-column_at : (fs : List (Rose NamedType)) (k : ℕ) → AreSuch fs → k < length fs → IsColumn (field_at fs k)
+pub column_at : (fs : List (Rose NamedType)) (k : ℕ) → AreSuch fs → k < length fs → IsColumn (field_at fs k)
 column_at [] k a below = absurd (omega (arith, below))
 column_at (f ∷ fs) zero a below = first_such f fs a
 column_at (f ∷ fs) (suc k) a below = column_at fs k (others_such f fs a) (omega (arith, below))

@@ -92,7 +92,7 @@ few_left : {X : Type 0} (p : X → Bool) (x : X) (xs : List X) (b : Bool) (n : �
 few_left p x xs true n few = omega (arith, few)
 few_left p x xs false n few = omega (arith, few)
 
-few_filtered : {X : Type 0} (p : X → Bool) (xs : List X) → length (filter p xs) ≤ length xs
+pub few_filtered : {X : Type 0} (p : X → Bool) (xs : List X) → length (filter p xs) ≤ length xs
 few_filtered p [] = omega arith
 few_filtered p (x ∷ xs) = few_left p x xs (p x) (length xs) (few_filtered p xs)
 

@@ -3,3 +3,5 @@ mod Fields
 mod Columns
 mod CellFits
 mod InputRows
+mod GroupCells
+mod ViewRows
