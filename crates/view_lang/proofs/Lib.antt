@@ -5,3 +5,4 @@ mod CellFits
 mod InputRows
 mod GroupCells
 mod ViewRows
+mod Sample
