@@ -22,3 +22,4 @@ pub mod ViewColumns
 pub mod ConfigRules
 pub mod Rows
 pub mod Sums
+pub mod Runs

@@ -1,10 +1,14 @@
 //! base
 #![tactic(auto)]
 
+mod aggregates;
 mod cells;
 mod config;
+mod evaluation;
 mod filter;
+mod groups;
 mod limits;
+mod rows;
 mod unfit;
 mod view;
 
@@ -12,4 +16,6 @@ pub use config::{Config, FeedConfig, Role, SideTable, Table};
 pub use filter::{Comparison, Filter, Operand, Test};
 pub use limits::MAX_COLUMN_NAME_LEN;
 pub use unfit::Unfit;
-pub use view::{Aggregate, Direction, GroupOutput, Lookup, Missing, OrderBy, Output, Outputs, View};
+pub use view::{
+    Aggregate, Direction, GroupOutput, Lookup, Missing, OrderBy, Output, Outputs, View,
+};
