@@ -6,3 +6,8 @@ pub mod Projecting
 pub mod Folds
 pub mod Runs
 pub mod Showing
+pub mod TruthLaws
+pub mod OrderLaws
+pub mod Tuples
+pub mod Keeping
+pub mod Multisets

@@ -1,5 +1,35 @@
 -- Rows that are sorted by their grouping tuples stand in runs, one for each group.
-use Rattle.std.proofs.Common.{◌≡◌, ℕ, zero, suc, ◌+◌, ◌<◌, Bool, true, false, cond, List, [], ◌∷◌, ◌++◌, map, filter, length, take, drop, refl, sym, ap, ap₂, subst, ◌∙◌, arith, append_assoc, append-nil, true≢false}
+use Rattle.std.proofs.Common.{
+  ◌≡◌,
+  ℕ,
+  zero,
+  suc,
+  ◌+◌,
+  ◌<◌,
+  Bool,
+  true,
+  false,
+  cond,
+  List,
+  [],
+  ◌∷◌,
+  ◌++◌,
+  map,
+  filter,
+  length,
+  take,
+  drop,
+  refl,
+  sym,
+  ap,
+  ap₂,
+  subst,
+  ◌∙◌,
+  arith,
+  append_assoc,
+  append-nil,
+  true≢false,
+}
 use Rattle.std.specs.Prelude.{Vec, All}
 use Rattle.std.proofs.lemmas.List.Sorted.{length_permutation, All-permutation, IsPermutation-sym}
 use Rattle.std.specs.declared.alloc.Global.{Global}
@@ -18,7 +48,16 @@ use Rattle.view_lang.specs.Runs.{by_tuple, grouped, like_first}
 use Rattle.view_lang.specs.Sums.{first_tuple}
 use Rattle.view_lang.specs.Outputs.{GroupOutput}
 use Rattle.view_lang.proofs.Orders.{tuple_cmp_total}
-use Rattle.view_lang.proofs.Sorting.{weaker, filter-sorted, sorted-map, none_tied, below_all, rises-sorted, tied_alike, IsPermutation-sorted}
+use Rattle.view_lang.proofs.Sorting.{
+  weaker,
+  filter-sorted,
+  sorted-map,
+  none_tied,
+  below_all,
+  rises-sorted,
+  tied_alike,
+  IsPermutation-sorted,
+}
 
 pub group_rows-sorted :
     (k : ℕ) (ks : List ℕ) (outs : List GroupOutput) (rows : List (List Datum))

@@ -23,3 +23,4 @@ pub mod ConfigRules
 pub mod Rows
 pub mod Sums
 pub mod Runs
+pub mod ViewLaws

@@ -11,6 +11,7 @@ mod limits;
 mod rows;
 mod unfit;
 mod view;
+mod view_laws;
 
 pub use config::{Config, FeedConfig, Role, SideTable, Table};
 pub use filter::{Comparison, Filter, Operand, Test};
@@ -19,3 +20,4 @@ pub use unfit::Unfit;
 pub use view::{
     Aggregate, Direction, GroupOutput, Lookup, Missing, OrderBy, Output, Outputs, View,
 };
+pub use view_laws::{group_law, keeping_law, order_law, truth_law};
