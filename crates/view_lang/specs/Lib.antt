@@ -24,3 +24,4 @@ pub mod Rows
 pub mod Sums
 pub mod Runs
 pub mod ViewLaws
+pub mod ViewSamples

@@ -20,4 +20,4 @@ pub use unfit::Unfit;
 pub use view::{
     Aggregate, Direction, GroupOutput, Lookup, Missing, OrderBy, Output, Outputs, View,
 };
-pub use view_laws::{group_law, keeping_law, order_law, truth_law};
+pub use view_laws::{group_law, keeping_law, order_law, truth_law, worked_law};
