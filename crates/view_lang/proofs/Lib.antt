@@ -6,3 +6,15 @@ mod InputRows
 mod GroupCells
 mod ViewRows
 mod Sample
+pub mod Orders
+pub mod Sorting
+pub mod Ranking
+pub mod Projecting
+pub mod Folds
+pub mod Runs
+pub mod Showing
+pub mod TruthLaws
+pub mod OrderLaws
+pub mod Tuples
+pub mod Keeping
+pub mod Multisets

@@ -24,3 +24,6 @@ pub mod Rows
 pub mod Sums
 pub mod Laws
 pub mod Sample
+pub mod Runs
+pub mod ViewLaws
+pub mod ViewSamples
