@@ -41,6 +41,7 @@ limits: lv need-python
 # Time and memory of recasting about 100 MB, beside `cat` of the same file.
 bench: lv need-python
 	@tools/bench.py
+	@tools/bench-edits.py
 
 install: lv
 	install -D -m 755 $(LV) $(PREFIX)/bin/lv

@@ -63,8 +63,8 @@ def word(number):
     return struct.pack("<I", number)
 
 
-def field(kind, *parameters, dictionary=None):
-    """A field `c` of a type with parameters of four bytes each, and of the dictionary with this id, if there is one."""
+def field(kind, *parameters, dictionary=None, name=b"c"):
+    """A field of this name of one letter, of a type with parameters of four bytes each, and of the dictionary with this id, if there is one."""
     count = len(parameters)
     slots = struct.pack(f"<{count + 2}H", 4 + 2 * count, 4 + 4 * count, *range(4, 4 + 4 * count, 4))
     table = word(len(slots)) + b"".join(map(word, parameters))
@@ -72,7 +72,7 @@ def field(kind, *parameters, dictionary=None):
     end = len(slots) + len(table)
     places = word(len(slots) + 20) + word(end + 16) + word(end + 22)
     encoding = b"" if dictionary is None else struct.pack("<3HI", 6, 12, 4, 6) + numbers(dictionary)
-    return own + places + word(1) + b"c\0\0\0" + slots + table + word(0) + encoding
+    return own + places + word(1) + name + bytes(3) + slots + table + word(0) + encoding
 
 
 def schema(fields):

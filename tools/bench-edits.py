@@ -1,0 +1,103 @@
+#!/usr/bin/env python3
+"""Processor time and memory of edits by `lv run`: rows that come in batches, beside `lv recast` of the same stream, and then edits of one row
+each over 10,000 and over 1,000,000 live rows. Rows are of int64, utf8 of 10 bytes and int64."""
+
+import os
+import struct
+import subprocess
+import sys
+import tempfile
+
+sys.dont_write_bytecode = True
+from streams import END_MARK, batch, field, schema
+
+LV = "crates/lv/out/lv"
+GNU_TIME = "/usr/bin/time"
+TURNS = 3
+CONFIG = """
+[main]
+key = "i"
+columns = [["i", "int64"], ["n", "utf8"], ["a", "int64"]]
+[feed.rows]
+role = "append"
+[feed.more]
+role = "append"
+[feed.gone]
+role = "retract"
+[view.all]
+columns = [["i", "col", "i"], ["n", "col", "n"], ["a", "col", "a"]]
+"""
+NUMBER = field(2, 64, 1, name=b"i")
+SCHEMA = schema([NUMBER, field(5, name=b"n"), field(2, 64, 1, name=b"a")])
+
+
+def integers(first, rows):
+    return struct.pack(f"<{rows}q", *range(first, first + rows))
+
+
+def rows_from(first, rows):
+    texts = [struct.pack(f"<{rows + 1}i", *range(0, 10 * (rows + 1), 10)), b"".join(b"%010d" % it for it in range(rows))]
+    return batch(rows, [[integers(first, rows)], texts, [integers(first, rows)]])
+
+
+def keys_from(first, rows):
+    return batch(rows, [[integers(first, rows)]])
+
+
+class Bench:
+    def __init__(self, folder):
+        self.folder = folder
+        self.write("config", CONFIG.encode())
+
+    def path(self, name):
+        return os.path.join(self.folder, name)
+
+    def write(self, name, data):
+        with open(self.path(name), "wb") as file:
+            file.write(data)
+
+    def streams(self, live, edits):
+        """A stream of so many live rows in batches of 1,024, one of rows to come one by one, and one that takes them away again."""
+        each = [rows_from(first, min(1024, live - first)) for first in range(0, live, 1024)]
+        self.write("rows", SCHEMA + b"".join(each) + END_MARK)
+        self.write("more", SCHEMA + b"".join(rows_from(live + it, 1) for it in range(edits)) + END_MARK)
+        self.write("gone", schema([NUMBER]) + b"".join(keys_from(live + it, 1) for it in range(edits)) + END_MARK)
+
+    def run(self, feeds):
+        self.write("script", "".join(f"feed {it} {self.path(it)}\n" for it in feeds).encode())
+        return measured([LV, "run", self.path("config"), self.path("script")])
+
+
+def measured(words):
+    """The processor seconds and the peak memory in bytes of the fastest of some runs."""
+    runs = []
+    for _ in range(TURNS):
+        ran = subprocess.run([GNU_TIME, "-f", "%U %S %M", *words], stdout=subprocess.DEVNULL, stderr=subprocess.PIPE, text=True)
+        if ran.returncode != 0:
+            sys.exit(f"bench: {words} ended with {ran.returncode}")
+        user, system, kilobytes = ran.stderr.split()
+        runs.append((float(user) + float(system), 1000 * int(kilobytes)))
+    return min(runs)
+
+
+def main():
+    os.chdir(os.path.join(os.path.dirname(os.path.abspath(__file__)), ".."))
+    if not os.path.exists(LV):
+        sys.exit(f"bench: {LV} is not there; make lv builds it")
+    if not os.path.exists(GNU_TIME):
+        print("bench of edits: skipped, since there is no GNU time")
+        return
+    edits = 50_000
+    with tempfile.TemporaryDirectory(prefix="lv-bench-") as folder:
+        bench = Bench(folder)
+        for live in (10_000, 1_000_000):
+            bench.streams(live, edits)
+            recast = measured([LV, "recast", bench.path("rows"), bench.path("out")])
+            rows, more, gone = bench.run(["rows"]), bench.run(["rows", "more"]), bench.run(["rows", "more", "gone"])
+            print(f"{live:,} rows in batches of 1,024: {rows[0]:.2f} s, {rows[1] / live:.0f} bytes a row; recast {recast[0]:.2f} s")
+            print(f"  then {edits:,} appends of one row: {1e6 * (more[0] - rows[0]) / edits:.1f} microseconds each")
+            print(f"  then {edits:,} retracts of one row: {1e6 * (gone[0] - more[0]) / edits:.1f} microseconds each")
+
+
+if __name__ == "__main__":
+    main()
