@@ -13,16 +13,21 @@ or, without an input:
     made NAME STREAM        the script makes this file, and no others but those that are named
 A paragraph `file NAME`, with an `in` or with lines after `> `, is a file that the rows behind it find.
 
+In the lines after `| ` of a script, {NAME} stands for the length of the file that it makes.
+
 A STREAM is hexadecimal digits, where A..B stands for the numbers from A to B, of 64 bits with the lowest byte first, and XX*N for N times
 the same byte; or it is `sample`
 (tests/sample.arrows) and how it differs: ..N its first N bytes, ..A-B each such beginning, P=XX another byte at place P, -A..B without
-these bytes, +XX with these after it.
+these bytes, +XX with these after it; or it is `table` and the words of a table (tools/tables.py), as `id:int64 n:utf8 / 1 p / 2 null`.
 """
 import os
 import re
 import subprocess
 import sys
 import tempfile
+
+sys.dont_write_bytecode = True
+import tables
 
 ROOT = os.path.dirname(os.path.dirname(os.path.abspath(__file__)))
 WORDS = ("in", "out", "refused", "inspect", "check", "run", "made")
@@ -45,6 +50,8 @@ def changed(sample, word):
 
 def streams(words, sample):
     """The streams that some words mean."""
+    if words[:1] == ["table"]:
+        return [tables.read(words[1:])]
     if words[:1] != ["sample"]:
         return [b"".join(map(bytes_of, words))]
     if any(re.fullmatch(r"\.\.\d+(-\d+)?", it) for it in words):
@@ -125,7 +132,8 @@ def fault_of_script(lv, row, sample, room):
     if others:
         return f"it made, or didn't make, {' '.join(sorted(others))}; it printed:\n{got[1]}"
     wrong = [it for it in made if open(f"{room}/{it}", "rb").read() != made[it]]
-    return f"it wrote another stream to {' '.join(wrong)}" if wrong else differs(got, status, row["|"])
+    lines = [re.sub(r"{(\w+)}", lambda it: str(len(made[it[1]])), line) for line in row["|"]]
+    return f"it wrote another stream to {' '.join(wrong)}" if wrong else differs(got, status, lines)
 
 
 def faults_of(lv, path, sample):
