@@ -496,14 +496,17 @@ HARBOURS = ["Halifax", "Gdańsk", "Durban"]
 
 
 def report_feeds():
-    """Calls at harbours, in two batches; a call that is withdrawn; and that call once more, with its right weight."""
+    """The countries of harbours; calls at harbours, in two batches; a call that is withdrawn, and once more with its right weight."""
     port = Dictionary(3, Int(8), Utf8())
     fields = [Field("id", Int(64), nullable=False), Field("port", Utf8(), dictionary=port), Field("tonnes", Decimal(9, 3))]
     first = [(1, "Halifax", 21_500_000), (2, "Durban", 7_250_000), (3, "Halifax", None)]
     second = [(4, "Gdańsk", 1_300_000), (5, "Durban", 18_000_250)]
     keys = fields[:1]
     plain = [fields[0], Field("port", Utf8()), fields[2]]
+    countries = [Field("port", Utf8()), Field("country", Utf8())]
+    places = list(zip(HARBOURS, ["Canada", "Poland", "South Africa"]))
     return {
+        "ports": [schema(countries), record_batch(countries, places), END_MARK],
         "calls": [schema(fields), port.batch(HARBOURS), record_batch(fields, first), record_batch(fields, second), END_MARK],
         "withdrawn": [schema(keys), record_batch(keys, [(4,)]), END_MARK],
         "corrected": [schema(plain), record_batch(plain, [(4, "Gdańsk", 13_000_000)]), END_MARK],

@@ -76,12 +76,12 @@ def is_right(runs, lines, answer, at):
 def script_lines():
     """The report's streams a message a line, each batch a second time, with writes and undos between."""
     lines = []
-    for feed in ("calls", "withdrawn", "corrected"):
+    for feed in ("ports", "calls", "withdrawn", "corrected"):
         path = os.path.join(REPORT, f"{feed}.arrows")
         for first, last in messages(path):
             lines += [f"piece {feed} {path} {first} {last - first}"] * (2 if first else 1)
-        lines.append(f"write report out/{feed}")
-    return lines + ["undo", "undo", "write report out/undone"]
+        lines += [f"write {view} out/{feed}-{view}" for view in ("report", "countries", "heaviest")]
+    return lines + ["undo", "undo", "write countries out/undone"]
 
 
 def messages(path):
