@@ -9,6 +9,8 @@ mod filter;
 mod groups;
 mod limits;
 mod rows;
+#[cfg(test)]
+mod tests;
 mod unfit;
 mod view;
 mod view_laws;
