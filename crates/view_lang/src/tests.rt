@@ -124,6 +124,38 @@ fn a_comparison_with_null_is_unknown(rt: HostRuntime) -> Result<(), Fail> {
     Ok(())
 }
 
+/// Both filters, or one of them.
+fn pair(alloc: Global, both: bool, a: Filter, b: Filter) -> Result<Filter, AllocError> {
+    let mut parts = Vec::new(alloc);
+    parts.push(a)?;
+    parts.push(b)?;
+    let test = if both {
+        Test::And(parts)
+    } else {
+        Test::Or(parts)
+    };
+    Ok(Filter { test })
+}
+
+fn is_null(column: usize) -> Filter {
+    Filter {
+        test: Test::IsNull(column),
+    }
+}
+
+#[test]
+fn an_unknown_part_may_leave_all_known(rt: HostRuntime) -> Result<(), Fail> {
+    let null = row(rt.alloc(), &[NULL])?;
+    let both = pair(rt.alloc(), true, at_least_zero(), is_null(0))?;
+    assert_eq!(rt; both.truth(&null), None);
+    let one = pair(rt.alloc(), false, at_least_zero(), is_null(0))?;
+    assert_eq!(rt; one.truth(&null), Some(true));
+    let neither = negation(rt.alloc(), is_null(0))?;
+    let both = pair(rt.alloc(), true, at_least_zero(), neither)?;
+    assert_eq!(rt; both.truth(&null), Some(false));
+    Ok(())
+}
+
 #[test]
 fn keeps_what_is_true(rt: HostRuntime) -> Result<(), Fail> {
     let mut view = plain(rt.alloc(), &[0], Vec::new(rt.alloc()), None)?;
