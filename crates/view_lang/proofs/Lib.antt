@@ -1,4 +1,11 @@
 pub mod Truths
+mod Fields
+mod Columns
+mod CellFits
+mod InputRows
+mod GroupCells
+mod ViewRows
+mod Sample
 pub mod Orders
 pub mod Sorting
 pub mod Ranking

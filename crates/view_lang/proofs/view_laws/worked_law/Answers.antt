@@ -8,7 +8,7 @@ use Rattle.view_lang.specs.Views.{output_rows, shown_rows, view_input, view_rows
 use Rattle.view_lang.proofs.view_laws.worked_law.Goals as goal
 
 pub returns-clause-unknown : goal.returns-clause-unknown
-unfolding view_rows view_input shown_rows output_rows joined joined_row passes sorted truth
+unfolding view_rows view_input shown_rows output_rows joined joined_row passes sorted row_cmp truth
 returns-clause-unknown c = refl
 
 pub returns-clause-nulls_last : goal.returns-clause-nulls_last
@@ -24,13 +24,13 @@ unfolding view_rows view_input shown_rows output_rows joined joined_row passes s
 returns-clause-ties c = refl
 
 pub returns-clause-groups : goal.returns-clause-groups
-unfolding view_rows view_input shown_rows output_rows joined joined_row passes sorted
-    group_rows group_row tuples_of rows_with total first_in tuple_cmp
+unfolding view_rows view_input shown_rows output_rows joined joined_row passes sorted row_cmp group_rows group_row
+    tuples_of rows_with total first_in tuple_cmp
 returns-clause-groups c = refl
 
 pub returns-clause-no_rows : goal.returns-clause-no_rows
-unfolding view_rows view_input shown_rows output_rows joined joined_row passes sorted
-    group_rows group_row tuples_of rows_with total
+unfolding view_rows view_input shown_rows output_rows joined joined_row passes sorted row_cmp group_rows group_row
+    tuples_of rows_with total first_in tuple_cmp
 returns-clause-no_rows c = refl
 
 pub returns-clause-missing_null : goal.returns-clause-missing_null
@@ -38,5 +38,5 @@ unfolding view_rows view_input shown_rows output_rows joined joined_row passes s
 returns-clause-missing_null c = refl
 
 pub returns-clause-missing_drop : goal.returns-clause-missing_drop
-unfolding view_rows view_input shown_rows output_rows joined joined_row passes sorted side_of
+unfolding view_rows view_input shown_rows output_rows joined joined_row passes sorted row_cmp side_of
 returns-clause-missing_drop c = refl
