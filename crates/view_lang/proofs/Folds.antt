@@ -145,7 +145,7 @@ null_first direction.Ascending d = refl
 null_first direction.Descending null = refl
 null_first direction.Descending d = refl
 
-first_null : (o : Direction) (d : Datum) → earlier o d null ≡ d
+pub first_null : (o : Direction) (d : Datum) → earlier o d null ≡ d
 first_null direction.Ascending null = refl
 first_null direction.Ascending d = refl
 first_null direction.Descending null = refl

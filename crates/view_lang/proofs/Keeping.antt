@@ -26,7 +26,7 @@ use Rattle.std.specs.List.Sorted.{IsStrictlySortedBy}
 use Rattle.std.specs.Cmp.{IsTotalOrder}
 use Rattle.std.proofs.lemmas.Int.{ints}
 use Rattle.std.proofs.lemmas.Cmp.{upto, on_total, then_total, nat_cmp_total}
-use Rattle.values.specs.Datum.{Datum, null}
+use Rattle.values.specs.Datum.{Datum}
 use Rattle.view_lang.specs.Sorted.{placed, sorted}
 use Rattle.view_lang.specs.RowOrder.{cell_cmp, row_cmp, tuple_cmp}
 use Rattle.view_lang.specs.Groups.{number_in, total, earlier, first_in}
@@ -40,7 +40,7 @@ use Rattle.view_lang.specs.ViewLaws.{
   RowInserted,
 }
 use Rattle.view_lang.specs.declared.view.Direction.{Direction}
-use Rattle.view_lang.specs.declared.view.Direction.TheVariants as direction
+use Rattle.view_lang.proofs.Folds.{first_null}
 use Rattle.view_lang.proofs.Orders.{row_cmp_total}
 use Rattle.view_lang.proofs.Sorting.{all-placed}
 
@@ -132,12 +132,6 @@ module _ {A X : Type 0} (f : A → X) (cmp : X → X → Ordering) (place : A �
   sorted_by_place [] up = refl
   sorted_by_place (a ∷ es) up = placed_by_place a (sorted With es) (all-sorted (λ b. place a b ≡ Less) With es up.0)
       ∙ ap (placed cmp (f a)) (sorted_by_place es up.1)
-
-first_null : (o : Direction) (d : Datum) → earlier o d null ≡ d
-first_null direction.Ascending null = refl
-first_null direction.Ascending d = refl
-first_null direction.Descending null = refl
-first_null direction.Descending d = refl
 
 first-placed : (o : Direction) (d : Datum) (es : List Datum)
     → earlier o d (first_or_null es) ≡ first_or_null (placed (cell_cmp o) d es)

@@ -25,14 +25,15 @@ use Rattle.std.proofs.Common.{
   ◌∙◌,
   arith,
 }
-use Rattle.std.specs.Prelude.{ℤ, pos, ◌+ℤ◌, Option, IsSome}
+use Rattle.std.specs.Prelude.{◌||◌, pos, ◌+ℤ◌}
 use Rattle.std.specs.declared.cmp.Ordering.{Ordering}
 use Rattle.std.specs.declared.cmp.Ordering.TheVariants.{Less, Equal, Greater}
-use Rattle.std.specs.Ordering.{int_cmp, nat_cmp, ordering_then}
+use Rattle.std.specs.Ordering.{ordering_then}
 use Rattle.std.specs.Cmp.{IsTotalOrder}
 use Rattle.std.specs.Cmp.Lexicographic.{slice_cmp}
 use Rattle.std.specs.List.{AllByRecursion, dedup, swap}
 use Rattle.std.specs.List.Sorted.{IsPermutation}
+use Rattle.std.proofs.lemmas.Cmp.{tied_back}
 use Rattle.std.proofs.lemmas.Int.{ints}
 use Rattle.std.proofs.lemmas.List.Sorted.{
   length_permutation,
@@ -68,7 +69,7 @@ use Rattle.view_lang.specs.declared.view.Aggregate.{Aggregate}
 use Rattle.view_lang.specs.declared.view.Aggregate.TheVariants as aggregate
 use Rattle.view_lang.specs.declared.view.Direction.{Direction}
 use Rattle.view_lang.specs.declared.view.Direction.TheVariants as direction
-use Rattle.view_lang.proofs.Orders.{cell_cmp_total, tuple_cmp_total}
+use Rattle.view_lang.proofs.Orders.{cell_cmp_total, datum_cmp_total, tuple_cmp_total}
 use Rattle.view_lang.proofs.Sorting.{weaker}
 use Rattle.view_lang.proofs.Keeping.{placed-placed, first_in-sorted}
 use Rattle.view_lang.proofs.Runs.{all-map}
@@ -130,18 +131,16 @@ IsPermutation-filter {X} p =
 all-filter : {X : Type 0} (P : X → Type 0) (p : X → Bool) (xs : List X) → AllByRecursion P xs
     → AllByRecursion P (filter p xs)
 all-filter P p [] all = tt
-all-filter P p (x ∷ xs) all =
-    elim (p x) as
-    (λ b. AllByRecursion P (cond b (x ∷ filter p xs) (filter p xs))) [
-      | true ↦ (
-        all.0,
-        all-filter P p xs all.1,
-      )
-      | false ↦ all-filter P p xs all.1
-    ]
+all-filter {X} P p (x ∷ xs) all =
+    go (p x) (all-filter P p xs all.1)
+  where
+    go : (b : Bool) → AllByRecursion P (filter p xs) → AllByRecursion P (cond b (x ∷ filter p xs) (filter p xs))
+    go true more = (all.0, more)
+    go false more = more
 
-module _ {X : Type 0} (cmp : X → X → Ordering) (total_order : IsTotalOrder cmp) (P : X → Type 0) (exact : (x y : X)
-    → P x → cmp x y ≡ Equal → x ≡ y) where
+-- an order in which elements tie only where they are the same
+module _ {X : Type 0} (cmp : X → X → Ordering) (total_order : IsTotalOrder cmp) (P : X → Type 0)
+    (exact : (x y : X) → P x → cmp x y ≡ Equal → x ≡ y) where
   abbrev Alike : List X → List X → Type 0
   Alike xs ys = AllByRecursion P xs → (sorted cmp xs ≡ sorted cmp ys) × AllByRecursion P ys
 
@@ -153,10 +152,12 @@ module _ {X : Type 0} (cmp : X → X → Ordering) (total_order : IsTotalOrder c
   unfolding sorted
   turn_two x y xs a = (placed-placed cmp total_order x y (sorted cmp xs) (exact x y a.0), (a.1.0, (a.0, a.1.1)))
 
+  chain_two : (xs ys zs : List X) → Alike xs ys → Alike ys zs → Alike xs zs
+  chain_two xs ys zs h k a = let r = h a in let s = k r.1 in (r.0 ∙ s.0, s.1)
+
   pub sorted_same : (xs ys : List X) → IsPermutation xs ys → AllByRecursion P xs → sorted cmp xs ≡ sorted cmp ys
   sorted_same xs ys same all =
-      (along_permutation Alike (λ l a. (refl, a)) skip_one turn_two (λ us vs ws h k a. let r = h a in let s =
-      k r.1 in (r.0 ∙ s.0, s.1)) xs ys same all).0
+      (along_permutation Alike (λ l a. (refl, a)) skip_one turn_two chain_two xs ys same all).0
 
 then_Equal : (o s : Ordering) → ordering_then o s ≡ Equal → (o ≡ Equal) × (s ≡ Equal)
 then_Equal Less s h = absurd (cc)
@@ -184,13 +185,13 @@ exact_tuple (a ∷ s) (b ∷ t) k h =
     ap₂ (λ x xs. x ∷ xs) (exact_datum a b k.0 e.0) (exact_tuple s t k.1 e.1)
 
 turned_over : (a b : Datum) → datum_cmp b a ≡ Equal → datum_cmp a b ≡ Equal
-turned_over a b h = Rattle.std.proofs.lemmas.Cmp.tied_back Rattle.view_lang.proofs.Orders.datum_cmp_total b a h
+turned_over a b h = tied_back datum_cmp_total b a h
 
 exact_cell : (o : Direction) (a b : Datum) → IsKeyCell a → cell_cmp o a b ≡ Equal → a ≡ b
 exact_cell direction.Ascending a b k h = exact_datum a b k h
 exact_cell direction.Descending a b k h = exact_datum a b k (go (is_null a) (is_null b) h)
   where
-    go : (s t : Bool) → (cond (Rattle.std.specs.Prelude.◌||◌ s t) (datum_cmp a b) (datum_cmp b a)) ≡ Equal
+    go : (s t : Bool) → (cond (s || t) (datum_cmp a b) (datum_cmp b a)) ≡ Equal
         → datum_cmp a b ≡ Equal
     go true t e = e
     go false true e = e

@@ -65,14 +65,16 @@ pub group_rows-sorted :
 unfolding group_rows tuples_of rows_with grouped
 group_rows-sorted k ks outs rows =
     let by : List ℕ = k ∷ ks in
-    let same : (t : List Datum) → rows_with by t rows ≡ rows_with by t (sorted (by_tuple by) rows) =
-    λ t. sym (filter-sorted (by_tuple by) (λ row. same_tuple t (cells_at by row))
+    let ranked : List (List Datum) = sorted (by_tuple by) rows in
+    let tuples : List (List Datum) = dedup same_tuple (map (cells_at by) ranked) in
+    let same : (t : List Datum) → rows_with by t rows ≡ rows_with by t ranked =
+    λ t.
+    sym
+    (filter-sorted (by_tuple by) (λ row. same_tuple t (cells_at by row))
     (λ x y h e. tied_alike tuple_cmp tuple_cmp_total t (cells_at by x) (cells_at by y) h e) rows) in
     ap (λ ts. map (λ t. group_row outs t (rows_with by t rows)) (dedup same_tuple ts))
     (sorted-map tuple_cmp (cells_at by) rows)
-    ∙ ap (λ (f : List Datum
-    → List (List Datum)). map (λ t. group_row outs t (f t))
-    (dedup same_tuple (map (cells_at by) (sorted (by_tuple by) rows)))) (λ i t. same t i)
+    ∙ ap (λ (f : List Datum → List (List Datum)). map (λ t. group_row outs t (f t)) tuples) (λ i t. same t i)
 
 -- the elements up to the first that fails, and from there on
 abbrev front : {X : Type 0} → (X → Bool) → List X → List X
@@ -205,14 +207,13 @@ module _ (by : List ℕ) (y : List Datum) where
       let F : List Datum → List Datum = λ t. group_row outs t (rows_with by t (y ∷ rows)) in
       let G : List Datum → List Datum = λ t. group_row outs t (rows_with by t (back like rows)) in
       let tuples = dedup same_tuple (map (cells_at by) (back like rows)) in
-      let higher : AllByRecursion (λ t. tuple_cmp (cells_at by y) t ≡ Less) tuples =
-      all-dedup (λ t. tuple_cmp (cells_at by y) t ≡ Less) same_tuple _
-      (all-map (λ t. tuple_cmp (cells_at by y) t ≡ Less) (cells_at by) (back like rows) above) in
+      let Higher : List Datum → Type 0 = λ t. tuple_cmp (cells_at by y) t ≡ Less in
+      let higher : AllByRecursion Higher tuples =
+      all-dedup Higher same_tuple _ (all-map Higher (cells_at by) (back like rows) above) in
+      let same : (t : List Datum) → Higher t → F t ≡ G t =
+      λ t h. ap (group_row outs t) (filter-back t (y ∷ rows) h ∙ ap (rows_with by t) (back_itself rows)) in
       let rest : map F tuples ≡ map G tuples =
-      map_same F G tuples
-      (weaker (λ t. tuple_cmp (cells_at by y) t ≡ Less) (λ t. F t ≡ G t)
-      (λ t h. ap (group_row outs t) (filter-back t (y ∷ rows) h
-      ∙ ap (rows_with by t) (back_itself rows))) tuples higher) in
+      map_same F G tuples (weaker Higher (λ t. F t ≡ G t) same tuples higher) in
       ap (map F) (dedup-back rows)
       ∙ ap₂ (λ r rs. r ∷ rs) (ap (group_row outs (cells_at by y)) (front_itself rows above)) rest
 

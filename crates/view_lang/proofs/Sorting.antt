@@ -33,7 +33,7 @@ use Rattle.std.specs.Fn.{Called, ComparesAs}
 use denote.Param.Members.{Mut}
 use denote.Ref.{Bor}
 use Rattle.std.proofs.lemmas.Fn.{always_returns_same}
-use Rattle.std.proofs.lemmas.Cmp.{tied_itself, upto}
+use Rattle.std.proofs.lemmas.Cmp.{alike_right, on_total, tied_itself, upto}
 use Rattle.std.proofs.lemmas.List.Sorted.{
   IsPermutation-refl,
   IsPermutation-cons,
@@ -55,15 +55,12 @@ tied cmp x y = is_eq (cmp x y)
 pub all-placed : {X : Type 0} (cmp : X → X → Ordering) (P : X → Type 0) (x : X) (ys : List X) → P x
     → AllByRecursion P ys → AllByRecursion P (placed cmp x ys)
 all-placed cmp P x [] h all = (h, tt)
-all-placed cmp P x (y ∷ ys) h all =
-    elim (is_gt (cmp x y)) as
-    (λ b. AllByRecursion P (cond b (y ∷ placed cmp x ys) (x ∷ y ∷ ys))) [
-      | true ↦ (
-        all.0,
-        all-placed cmp P x ys h all.1,
-      )
-      | false ↦ (h, all)
-    ]
+all-placed {X} cmp P x (y ∷ ys) h all =
+    go (is_gt (cmp x y)) (all-placed cmp P x ys h all.1)
+  where
+    go : (b : Bool) → AllByRecursion P (placed cmp x ys) → AllByRecursion P (cond b (y ∷ placed cmp x ys) (x ∷ y ∷ ys))
+    go true more = (all.0, more)
+    go false more = (h, all)
 
 IsPermutation-placed : {X : Type 0} (cmp : X → X → Ordering) (x : X) (ys : List X)
     → IsPermutation (placed cmp x ys) (x ∷ ys)
@@ -84,10 +81,14 @@ IsPermutation-sorted cmp (x ∷ xs) =
 placed-map : {A B : Type 0} (cmp : B → B → Ordering) (f : A → B) (x : A) (ys : List A)
     → placed cmp (f x) (map f ys) ≡ map f (placed (on f cmp) x ys)
 placed-map cmp f x [] = refl
-placed-map cmp f x (y ∷ ys) =
-    elim (is_gt (cmp (f x) (f y))) as (λ b. cond b (f y ∷ placed cmp (f x) (map f ys)) (f x ∷ f y ∷ map f ys)
-    ≡ map f (cond b (y ∷ placed (on f cmp) x ys) (x ∷ y ∷ ys)))
-    [ true ↦ ap (λ l. f y ∷ l) (placed-map cmp f x ys) | false ↦ refl ]
+placed-map {A} {B} cmp f x (y ∷ ys) =
+    go (is_gt (cmp (f x) (f y))) (placed-map cmp f x ys)
+  where
+    go : (b : Bool) → placed cmp (f x) (map f ys) ≡ map f (placed (on f cmp) x ys)
+        → cond b (f y ∷ placed cmp (f x) (map f ys)) (f x ∷ f y ∷ map f ys)
+        ≡ map f (cond b (y ∷ placed (on f cmp) x ys) (x ∷ y ∷ ys))
+    go true more = ap (λ l. f y ∷ l) more
+    go false more = refl
 
 pub sorted-map : {A B : Type 0} (cmp : B → B → Ordering) (f : A → B) (xs : List A)
     → sorted cmp (map f xs) ≡ map f (sorted (on f cmp) xs)
@@ -181,7 +182,7 @@ module _ {X : Type 0} (cmp : X → X → Ordering) (total : IsTotalOrder cmp) wh
     where
       go : (y : X) (o : Ordering) → cmp z y ≡ o → is_gt o ≡ false → cmp x y ≡ Less
       go y Less e k = total.trans x z y h e
-      go y Equal e k = sym (Rattle.std.proofs.lemmas.Cmp.alike_right total z y x e) ∙ h
+      go y Equal e k = sym (alike_right total z y x e) ∙ h
       go y Greater e k = absurd (true≢false k)
 
   rest_same : (y : X) (ys zs : List X) → ((x : X) → filter (tied cmp x) (y ∷ ys) ≡ filter (tied cmp x) (y ∷ zs))
@@ -213,8 +214,8 @@ module _ {X : Type 0} (cmp : X → X → Ordering) (total : IsTotalOrder cmp) wh
           → y ∷ ys ≡ z ∷ zs
       go Less e more = absurd (nothing_here y ys (same y ∙ none_tied y (z ∷ zs) (below_all y z zs e vp.0)))
       go Greater e more =
-          absurd (nothing_here z zs (sym (same z)
-          ∙ none_tied z (y ∷ ys) (below_all z y ys (total.antisymm z y ∙ ap ordering_reverse e) up.0)))
+          let under : cmp z y ≡ Less = total.antisymm z y ∙ ap ordering_reverse e in
+          absurd (nothing_here z zs (sym (same z) ∙ none_tied z (y ∷ ys) (below_all z y ys under up.0)))
       go Equal e more =
           let head : y ≡ z = heads y z ys zs e (same y) in
           let P : X → Type 0 = λ w. (x : X) → filter (tied cmp x) (y ∷ ys) ≡ filter (tied cmp x) (w ∷ zs) in
@@ -275,3 +276,13 @@ module _ {X : Type 0} (cmp : X → X → Ordering) (total : IsTotalOrder cmp) wh
       always_returns_same g (λ a r. is_lt r ≡ is_lt (cmp a.0.now a.1.0.now)) f
       (λ a r f' k. (ap is_lt (h a r f' k).0, (h a r f' k).1)) in
       sorted_is xs ys (up (λ x y. is_lt (cmp x y)) weak calls) (stable (λ x y. is_lt (cmp x y)) weak calls)
+
+-- the same, where what is compared is a part of each element
+pub sorted_by_part :
+    {A X : Type 0} (part : A → X) (cmp : X → X → Ordering) → IsTotalOrder cmp
+    → {F : Type 0} {g : Mut F (Bor A × (Bor A × Unit {0})) Ordering} {f : F} (xs ys : List A) → IsSortedByClosure g f ys
+    → IsStableByClosure g f xs ys
+    → ((a : Bor A × (Bor A × Unit {0})) (r : Ordering) (f' : F) → Called g f a r f'
+    → (r ≡ cmp (part a.0.now) (part a.1.0.now)) × (f' ≡ f)) → map part ys ≡ sorted cmp (map part xs)
+sorted_by_part part cmp total xs ys up stable h =
+    ap (map part) (sorted_by (on part cmp) (on_total part total) xs ys up stable h) ∙ sym (sorted-map cmp part xs)

@@ -1,6 +1,6 @@
 -- Why an edit doesn't fit its table: the causes that stand, and the least of them.
 use Rattle.std.specs.Prelude.{◌+◌, Bool, true, false, cond, not, ◌||◌, nat_lt, List, [], ◌∷◌, Option, find, length}
-use Rattle.values.specs.Datum.{Datum, null, items_of}
+use Rattle.values.specs.Datum.{Datum, items_of}
 use Rattle.values.specs.Rose.{Roses, none, more, kids_of}
 use Rattle.values.specs.declared.layout.Layout.{Layout}
 use Rattle.values.specs.Layouts.{row_weight, weight}

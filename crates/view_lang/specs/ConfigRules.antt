@@ -1,5 +1,5 @@
 -- Which configurations are right: what holds of each that was read without a fault.
-use Rattle.std.specs.Prelude.{◌≡◌, ℕ, suc, ◌<◌, ◌≤◌, true, All, List, length, map, Option, None, Some}
+use Rattle.std.specs.Prelude.{◌≡◌, ℕ, suc, ◌<◌, ◌≤◌, true, All, List, length, Option, None, Some}
 use Rattle.std.specs.Str.{is_utf8}
 use Rattle.values.specs.declared.col_type.ColType.{ColType}
 use Rattle.values.specs.declared.col_type.ColType.TheVariants as col
@@ -7,7 +7,7 @@ use Rattle.values.specs.ColTypes.{IsSingle}
 use Rattle.values.specs.Limits.{max_fields, max_main_rows}
 use Rattle.values.specs.Logical.{NamedType}
 use Rattle.values.specs.Rose.{Rose, kids_of, roses_size}
-use Rattle.view_lang.specs.Config.{Config, FeedConfig, SideTable, Table, View, tables_of}
+use Rattle.view_lang.specs.Config.{Config, FeedConfig, Table, View, tables_of}
 use Rattle.view_lang.specs.Edits.{table_of}
 use Rattle.view_lang.specs.Filter.{Filter, Filters, all_of, compare, negation, no_part, null_in, one_of, part}
 use Rattle.view_lang.specs.Limits.{max_columns, max_feeds, max_side_rows, max_sides, max_views}
@@ -20,7 +20,6 @@ use Rattle.view_lang.specs.declared.filter.Operand.TheVariants as operand
 use Rattle.view_lang.specs.declared.view.Aggregate.{Aggregate}
 use Rattle.view_lang.specs.declared.view.Aggregate.TheVariants as aggregate
 use Rattle.view_lang.specs.declared.view.Lookup.{Lookup}
-use Rattle.view_lang.specs.declared.view.OrderBy.{OrderBy}
 
 -- a column that is there
 abbrev pub IsColumn : List (Rose NamedType) → ℕ → Type 0

@@ -1,5 +1,5 @@
 -- The columns of a view as contracts see them.
-use Rattle.std.specs.Prelude.{◌≡◌, ℕ, List, [], Option, None, Some, Result, Ok, Err, refl}
+use Rattle.std.specs.Prelude.{◌≡◌, ℕ, List, [], Option, None, Some, refl}
 use Rattle.std.specs.Coded.{Coded, code_by, coded×, coded_ℕ, coded_list, coded_option}
 use Rattle.view_lang.specs.contracts.view.Aggregate as aggregate_type
 use Rattle.view_lang.specs.declared.view.Aggregate.{Aggregate}

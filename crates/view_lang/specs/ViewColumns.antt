@@ -8,7 +8,7 @@ use Rattle.values.specs.Logical.{NamedType}
 use Rattle.values.specs.Rose.{Rose, node, none}
 use Rattle.view_lang.specs.Config.{Table, View}
 use Rattle.view_lang.specs.Edits.{table_of}
-use Rattle.view_lang.specs.Outputs.{GroupOutput, Output, Outputs, columns, groups}
+use Rattle.view_lang.specs.Outputs.{Output, Outputs, columns, groups}
 use Rattle.view_lang.specs.TableRules.{type_of}
 use Rattle.view_lang.specs.World.{table_at}
 use Rattle.view_lang.specs.declared.config.Role.{Role}

@@ -141,11 +141,13 @@ pub(crate) fn aggregate(
         Aggregate::Count => Ok(whole(rows.len() as i128)),
         Aggregate::CountOf(column) => Ok(whole(count_values(rows, column) as i128)),
         Aggregate::Sum(column) => Ok(sum_of(rows, column)),
-        Aggregate::Least(column) => first_in(Direction::Ascending, rows, column, &absent).copy(
-            alloc,
-        ),
-        Aggregate::Greatest(column) => first_in(Direction::Descending, rows, column, &absent).copy(
-            alloc,
-        ),
+        Aggregate::Least(column) => {
+            let least = first_in(Direction::Ascending, rows, column, &absent);
+            least.copy(alloc)
+        }
+        Aggregate::Greatest(column) => {
+            let greatest = first_in(Direction::Descending, rows, column, &absent);
+            greatest.copy(alloc)
+        }
     }
 }

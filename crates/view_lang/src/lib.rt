@@ -18,6 +18,8 @@ mod laws;
 mod limits;
 mod rows;
 mod schemas;
+#[cfg(test)]
+mod tests;
 mod unfit;
 mod view;
 mod view_laws;
