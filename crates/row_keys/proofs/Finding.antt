@@ -41,9 +41,10 @@ use Rattle.values.specs.declared.key.Key.{Key}
 use Rattle.arrays.specs.Checked.{CheckedColumn}
 use Rattle.view_lang.specs.Causes.{all_among, any_among, cause_of, has_repeated}
 use Rattle.view_lang.specs.Config.{Table}
-use Rattle.view_lang.specs.ConfigRules.{IsTable, no_field}
+use Rattle.view_lang.specs.Contents.{Contents, is_among, keys_in, same_key}
 use Rattle.view_lang.specs.Edits.{retract}
-use Rattle.view_lang.specs.World.{World, is_among, keys_in, same_key}
+use Rattle.view_lang.specs.TableRules.{IsTable}
+use Rattle.view_lang.specs.ViewColumns.{no_field}
 use Rattle.view_lang.specs.declared.unfit.Unfit.TheVariants as unfit
 use Rattle.row_keys.specs.declared.batches.Place.{Place}
 use Rattle.row_keys.specs.declared.faults.EditFault.{EditFault}
@@ -52,7 +53,7 @@ use Rattle.row_keys.specs.Batches.{AreKeys, IsAlike}
 use Rattle.row_keys.specs.Found.{FindsAll, MissesKey}
 use Rattle.row_keys.specs.KeyColumns.{HoldsKeys, PushesKeys, RefusesKeys}
 use Rattle.row_keys.specs.Numbers.{IsAt, IsUnused, Numbered, numbered, turned}
-use Rattle.row_keys.specs.Slots.{CanRetract, Slot, keys_at, live, world_of}
+use Rattle.row_keys.specs.Slots.{CanRetract, Slot, keys_at, live, contents_of}
 use Rattle.row_keys.specs.Store.{Refuses}
 use Rattle.row_keys.specs.Stored.{AreKeyed, IsStored, joined, live_keys, rows_by}
 use Rattle.row_keys.proofs.Appending.{live_keys_are, single_holds}
@@ -186,7 +187,7 @@ pub found_fits :
     (t : Table) (bs : List (List CheckedColumn)) (ps : List Place) (xs seen : List Numbered) (cells : List Datum)
     (ns : List ℕ) → IsStored t bs ps xs
     → PushesKeys cells [] seen → FindsAll cells xs ns
-    → cause_of t (world_of (joined (rows_by bs ps) xs)) (retract cells) ≡ None
+    → cause_of t (contents_of (joined (rows_by bs ps) xs)) (retract cells) ≡ None
 unfolding cause_of
 found_fits t bs ps xs seen cells ns is p all =
     let among : all_among cells (keys_in t (live (joined (rows_by bs ps) xs))) ≡ true =
@@ -197,7 +198,7 @@ pub keys_unknown :
     (t : Table) (bs : List (List CheckedColumn)) (ps : List Place) (xs seen : List Numbered) (cells : List Datum)
     (e : EditFault) → IsStored t bs ps xs
     → PushesKeys cells [] seen → MissesKey cells xs e
-    → Refuses (cause_of t (world_of (joined (rows_by bs ps) xs)) (retract cells)) e
+    → Refuses (cause_of t (contents_of (joined (rows_by bs ps) xs)) (retract cells)) e
 unfolding cause_of
 keys_unknown t bs ps xs seen cells (fault.Unfit unfit.UnknownKey) is p h =
     let among : all_among cells (keys_in t (live (joined (rows_by bs ps) xs))) ≡ false =
@@ -206,7 +207,7 @@ keys_unknown t bs ps xs seen cells (fault.Unfit unfit.UnknownKey) is p h =
 keys_unknown t bs ps xs seen cells fault.Memory is p h = tt
 keys_unknown t bs ps xs seen cells (fault.Unfit u) is p h = absurd h
 
-pub keys_refused : (t : Table) (w : World) (cells : List Datum) (e : EditFault) → RefusesKeys cells [] e
+pub keys_refused : (t : Table) (w : Contents) (cells : List Datum) (e : EditFault) → RefusesKeys cells [] e
     → Refuses (cause_of t w (retract cells)) e
 unfolding cause_of
 keys_refused t w cells (fault.Unfit unfit.NullKey) h = rw h refl

@@ -35,10 +35,11 @@ use Rattle.std.proofs.Math.Seq.{take-suc}
 use Rattle.std.proofs.lemmas.List.{length-map, map-append}
 use Rattle.std.proofs.lemmas.List.Elements.{All-nil, All-push}
 use Rattle.values.specs.Datum.{Datum}
+use Rattle.view_lang.specs.Cells.{rows_of}
 use Rattle.view_lang.specs.Config.{Table}
 use Rattle.view_lang.specs.Rows.{IsRow}
 use Rattle.row_keys.specs.Slots.{Slot, live, no_slot, row_of}
-use Rattle.row_keys.specs.Store.{Store, VisitsAtMost, cells_of_rows, visited}
+use Rattle.row_keys.specs.Store.{Store, VisitsAtMost, visited}
 
 live_joined : (xs ys : List Slot) → live (xs ++ ys) ≡ live xs ++ live ys
 unfolding live
@@ -99,8 +100,8 @@ visited_more s k =
 -- the rows below number n were opened
 pub record Opened (s now : Store) (n : ℕ) (rows : List (Vec Datum Global)) : Type 0 where
   pub here : now ≡ visited (length rows) s
-  pub are : cells_of_rows rows ≡ live (take n s.slots)
-  pub right : All (IsRow s.table.columns) (cells_of_rows rows)
+  pub are : rows_of rows ≡ live (take n s.slots)
+  pub right : All (IsRow s.table.columns) (rows_of rows)
 
 none_taken : (slots : List Slot) → live (take 0 slots) ≡ []
 unfolding live
@@ -126,7 +127,7 @@ opened_more s now next n rows row o below lives is right step =
     let slots : now.slots ≡ s.slots = ap (λ (x : Store). x.slots) o.here in
     let table : now.table ≡ s.table = ap (λ (x : Store). x.table) o.here in
     let many : length (rows ++ row ∷ []) ≡ length rows + 1 = length-append rows (row ∷ []) in
-    let cells : cells_of_rows (rows ++ row ∷ []) ≡ cells_of_rows rows ++ row.items ∷ [] =
+    let cells : rows_of (rows ++ row ∷ []) ≡ rows_of rows ++ row.items ∷ [] =
     map-append (λ r. r.items) rows (row ∷ []) in
     let Q : List Slot → Type 0 = λ ss. (get_or ss n no_slot).live ≡ true in
     let R : List (List Datum) → Type 0 = λ rs. All (IsRow s.table.columns) rs in
@@ -137,7 +138,7 @@ opened_more s now next n rows row o below lives is right step =
           ∙ ap (λ r. live (take n s.slots) ++ r ∷ []) (is ∙ ap (λ ss. row_of ss n) slots)
           ∙ sym (taken_live s.slots n (below) (subst Q slots lives));
       right = subst R (sym cells)
-          (All-push (IsRow s.table.columns) (cells_of_rows rows) row.items o.right (subst T table right));
+          (All-push (IsRow s.table.columns) (rows_of rows) row.items o.right (subst T table right));
     }
 
 pub opened_same :
@@ -157,10 +158,10 @@ all_taken (s ∷ ss) (suc n) h = ap (λ xs. s ∷ xs) (all_taken ss n (omega (ar
 
 pub opened_all :
     (s now : Store) (n : ℕ) (rows : List (Vec Datum Global)) → Opened s now n rows → length s.slots ≤ n
-    → (cells_of_rows rows ≡ live s.slots) × (All (IsRow s.table.columns) (live s.slots))
+    → (rows_of rows ≡ live s.slots) × (All (IsRow s.table.columns) (live s.slots))
     × (now ≡ visited (length (live s.slots)) s)
 opened_all s now n rows o end =
-    let all : cells_of_rows rows ≡ live s.slots = o.are ∙ ap live (all_taken s.slots n end) in
+    let all : rows_of rows ≡ live s.slots = o.are ∙ ap live (all_taken s.slots n end) in
     let many : length rows ≡ length (live s.slots) = sym (length-map rows (λ r. r.items)) ∙ ap length all in
     let R : List (List Datum) → Type 0 = λ rs. All (IsRow s.table.columns) rs in
     (all, subst R all o.right, o.here ∙ ap (λ k. visited k s) many)

@@ -25,8 +25,8 @@ use Rattle.values.specs.Datum.{Datum, datum_code}
 use Rattle.values.specs.declared.key.Key.{Key}
 use Rattle.values.specs.Keys.{datum_of_key}
 use Rattle.view_lang.specs.Config.{Table, table_code}
+use Rattle.view_lang.specs.Contents.{is_among, key_in, keys_in}
 use Rattle.view_lang.specs.Rows.{IsRow}
-use Rattle.view_lang.specs.World.{is_among, key_in, keys_in}
 use Rattle.view_lang.specs.declared.unfit.Unfit.{Unfit}
 use Rattle.row_keys.specs.declared.faults.EditFault.{EditFault}
 use Rattle.row_keys.specs.declared.faults.EditFault.TheVariants as fault
@@ -76,9 +76,6 @@ IsAbsent s key = is_among (datum_of_key key) (keys_in s.table (live_in s)) ≡ f
 
 abbrev pub AreRows : Table → List (List Datum) → Type 0
 AreRows t rows = All (IsRow t.columns) rows
-
-abbrev pub cells_of_rows : List (Vec Datum Global) → List (List Datum)
-cells_of_rows rows = map (λ row. row.items) rows
 
 -- A refusal is right: that cause is the least, or memory ran out.
 abbrev pub Refuses : Option Unfit → EditFault → Type 0

@@ -3,9 +3,10 @@
 ghost use Rattle.std.specs.Prelude.{◌≡◌, ◌<◌, ◌≤◌, IfErr, IfOk, OnErr, OnOk, drop, get_or, length};
 ghost use Rattle.values.specs.Datum.{null};
 ghost use Rattle.values.specs.Keys.{datum_of_key};
-ghost use Rattle.view_lang.specs.Causes.{has_null, is_null as is_null_by};
-ghost use Rattle.view_lang.specs.ConfigRules.{IsTable};
-ghost use Rattle.view_lang.specs.World.{keys_in};
+ghost use Rattle.view_lang.specs.Causes.{has_null};
+ghost use Rattle.view_lang.specs.Cells.{is_null as is_null_by};
+ghost use Rattle.view_lang.specs.Contents.{keys_in};
+ghost use Rattle.view_lang.specs.TableRules.{IsTable};
 ghost use Rattle.row_keys.specs.Batches.{IsBatch, batch_rows};
 ghost use Rattle.row_keys.specs.Found.{FindsAll, MissesKey};
 ghost use Rattle.row_keys.specs.KeyColumns.{HoldsKeys, PushesKey, PushesKeys, RefusesKey, RefusesKeys};

@@ -3,10 +3,11 @@
 ghost use Rattle.std.specs.Prelude.{◌≡◌, ◌<◌, ◌≤◌, [], None, IfErr, IfOk, MatchOption, OnErr, OnOk, get_or, length};
 ghost use Rattle.values.specs.Limits.{max_main_rows};
 ghost use Rattle.view_lang.specs.Causes.{cause_of};
-ghost use Rattle.view_lang.specs.ConfigRules.{IsTable};
+ghost use Rattle.view_lang.specs.Cells.{rows_of};
+ghost use Rattle.view_lang.specs.Contents.{applied};
 ghost use Rattle.view_lang.specs.Edits.{append, retract};
 ghost use Rattle.view_lang.specs.Rows.{IsRow};
-ghost use Rattle.view_lang.specs.World.{applied};
+ghost use Rattle.view_lang.specs.TableRules.{IsTable};
 ghost use Rattle.row_keys.specs.Batches.{AreKeys, IsBatch, batch_rows};
 ghost use Rattle.row_keys.specs.Slots.{
   CanPutBack,
@@ -18,7 +19,7 @@ ghost use Rattle.row_keys.specs.Slots.{
   retracted,
   row_of,
   taken_back,
-  world_of,
+  contents_of,
 };
 ghost use Rattle.row_keys.specs.Store.{
   AreRows,
@@ -26,7 +27,6 @@ ghost use Rattle.row_keys.specs.Store.{
   IsFound,
   Refuses,
   VisitsAtMost,
-  cells_of_rows,
   live_in,
   no_rows,
   visited,
@@ -130,12 +130,12 @@ impl RowStore {
     pub fn append(&mut self, columns: Vec<Column>, rows: usize) -> Result<(), EditFault>
         requires { IsBatch self.old.table rows columns.items }
         ensures world { OnOk result
-            (world_of self.new.slots ≡ applied self.old.table (append (batch_rows rows columns.items))
-            (world_of self.old.slots)) }
+            (contents_of self.new.slots ≡ applied self.old.table (append (batch_rows rows columns.items))
+            (contents_of self.old.slots)) }
         ensures fits { OnOk result
-            (cause_of self.old.table (world_of self.old.slots) (append (batch_rows rows columns.items)) ≡ None) }
+            (cause_of self.old.table (contents_of self.old.slots) (append (batch_rows rows columns.items)) ≡ None) }
         ensures refused { IfErr result
-            (Refuses (cause_of self.old.table (world_of self.old.slots) (append (batch_rows rows columns.items)))) }
+            (Refuses (cause_of self.old.table (contents_of self.old.slots) (append (batch_rows rows columns.items)))) }
         ensures can_go_back { OnOk result (CanTakeBack rows self.new.slots) }
         ensures back { OnOk result (taken_back rows self.new.slots ≡ self.old.slots) }
         ensures rest { self.new ≡ with_slots self.old self.new.slots }
@@ -148,6 +148,7 @@ impl RowStore {
             Err(fault) => return Err(fault),
         }
         match keep_rows(
+            &self.table,
             &mut self.batches,
             &mut self.places,
             columns,
@@ -179,8 +180,8 @@ impl RowStore {
         requires { AreKeys self.now.table keys.now }
         ensures numbers { IfOk result (λ ns. CanRetract ns.items self.now.slots) }
         ensures keys { IfOk result (λ ns. keys_at self.now.table ns.items self.now.slots ≡ keys.now.cells) }
-        ensures fits { OnOk result (cause_of self.now.table (world_of self.now.slots) (retract keys.now.cells) ≡ None) }
-        ensures refused { IfErr result (Refuses (cause_of self.now.table (world_of self.now.slots) (retract keys.now.cells))) }
+        ensures fits { OnOk result (cause_of self.now.table (contents_of self.now.slots) (retract keys.now.cells) ≡ None) }
+        ensures refused { IfErr result (Refuses (cause_of self.now.table (contents_of self.now.slots) (retract keys.now.cells))) }
     {
         let _table = &self.table;
         let mut seen = Numbers::new(self.alloc);
@@ -194,8 +195,8 @@ impl RowStore {
     pub fn retract(&mut self, numbers: &[usize])
         requires { CanRetract numbers.now self.old.slots }
         ensures slots { self.new ≡ with_slots self.old (retracted numbers.now self.old.slots) }
-        ensures world { world_of self.new.slots ≡ applied self.old.table
-            (retract (keys_at self.old.table numbers.now self.old.slots)) (world_of self.old.slots) }
+        ensures world { contents_of self.new.slots ≡ applied self.old.table
+            (retract (keys_at self.old.table numbers.now self.old.slots)) (contents_of self.old.slots) }
         ensures can_go_back { CanPutBack self.old.table numbers.now self.new.slots }
         ensures back { put_back numbers.now self.new.slots ≡ self.old.slots }
     {
@@ -226,7 +227,7 @@ impl RowStore {
 
     /// Copies of all live rows, in order. Each is a visit.
     pub fn live_rows(&mut self) -> Result<Vec<Row>, AllocError>
-        ensures rows { IfOk result (λ rows. cells_of_rows rows.items ≡ live_in self.old) }
+        ensures rows { IfOk result (λ rows. rows_of rows.items ≡ live_in self.old) }
         ensures held { OnOk result (AreRows self.old.table (live_in self.old)) }
         ensures few { length (live_in self.old) ≤ max_main_rows }
         ensures visits { OnOk result (self.new ≡ visited (length (live_in self.old)) self.old) }
