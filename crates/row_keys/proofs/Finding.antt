@@ -9,6 +9,7 @@ use Rattle.std.proofs.Common.{
   ◌+◌,
   ◌<◌,
   ◌≤◌,
+  ◌||◌,
   Bool,
   true,
   false,
@@ -70,6 +71,14 @@ keys_held t c is alike =
 
 -- one key after another
 
+pub finds_pushed :
+    (xs : List Numbered) (n : ℕ) (ds : List Datum) (ns : List ℕ) (d : Datum) → FindsAll ds xs ns
+    → (k : Key) × (datum_of_key k ≡ d) × IsAt xs n k true → FindsAll (ds ++ d ∷ []) xs (ns ++ n ∷ [])
+finds_pushed xs n [] [] d all one = (one, tt)
+finds_pushed xs n [] (m ∷ ms) d all one = absurd all
+finds_pushed xs n (x ∷ ds) [] d all one = absurd all
+finds_pushed xs n (x ∷ ds) (m ∷ ms) d all one = (all.0, finds_pushed xs n ds ms d all.1 one)
+
 pub finds_more :
     (cells : List Datum) (i n : ℕ) (xs : List Numbered) (found : List ℕ) (k : Key) → i < length cells
     → FindsAll (take i cells) xs found
@@ -78,16 +87,9 @@ finds_more cells i n xs found k below all is at =
     let e : i + 1 ≡ suc i = omega arith in
     let P : List Datum → Type 0 = λ ds. FindsAll ds xs (found ++ n ∷ []) in
     subst P (sym (ap (λ m. take m cells) e ∙ take-suc cells i null below))
-    (snoc (take i cells) found (get_or cells i null) all (k, is, at))
-  where
-    snoc : (ds : List Datum) (ns : List ℕ) (d : Datum) → FindsAll ds xs ns
-        → (k' : Key) × (datum_of_key k' ≡ d) × IsAt xs n k' true → FindsAll (ds ++ d ∷ []) xs (ns ++ n ∷ [])
-    snoc [] [] d all one = (one, tt)
-    snoc [] (m ∷ ms) d all one = absurd all
-    snoc (x ∷ ds) [] d all one = absurd all
-    snoc (x ∷ ds) (m ∷ ms) d all one = (all.0, snoc ds ms d all.1 one)
+    (finds_pushed xs n (take i cells) found (get_or cells i null) all (k, is, at))
 
-all_taken : (cells : List Datum) (n : ℕ) → length cells ≤ n → take n cells ≡ cells
+pub all_taken : (cells : List Datum) (n : ℕ) → length cells ≤ n → take n cells ≡ cells
 all_taken [] zero h = refl
 all_taken [] (suc n) h = refl
 all_taken (s ∷ ss) zero h = absurd (omega (arith, h))
@@ -183,6 +185,13 @@ unfolding any_among is_among
 none_among [] = refl
 none_among (d ∷ ds) = none_among ds
 
+-- where no rows are live, a key can only be one that stands twice
+pub twice_named : (cells : List Datum) → (has_repeated cells || any_among cells []) ≡ true → has_repeated cells ≡ true
+twice_named cells h = elim (either (has_repeated cells) (any_among cells []) h) [
+  | inl e ↦ e
+  | inr e ↦ absurd (true≢false (sym e ∙ none_among cells))
+]
+
 pub found_fits :
     (t : Table) (bs : List (List CheckedColumn)) (ps : List Place) (xs seen : List Numbered) (cells : List Datum)
     (ns : List ℕ) → IsStored t bs ps xs
@@ -212,10 +221,7 @@ pub keys_refused : (t : Table) (w : Contents) (cells : List Datum) (e : EditFaul
 unfolding cause_of
 keys_refused t w cells (fault.Unfit unfit.NullKey) h = rw h refl
 keys_refused t w cells (fault.Unfit unfit.DuplicateKey) h =
-    let twice : has_repeated cells ≡ true = elim (either (has_repeated cells) (any_among cells []) h.1) [
-      | inl e ↦ e
-      | inr e ↦ absurd (true≢false (sym e ∙ none_among cells))
-    ] in
+    let twice : has_repeated cells ≡ true = twice_named cells h.1 in
     rw (h.0, twice) refl
 keys_refused t w cells fault.Memory h = tt
 keys_refused t w cells (fault.Unfit u) h = absurd h

@@ -77,7 +77,7 @@ untouched t k (r ∷ rs) h =
     let a = neither (same_key k (key_in t r)) (is_among k (keys_in t rs)) h in
     kept_one t k r rs a.0 ∙ ap (λ xs. r ∷ xs) (untouched t k rs a.1)
 
-among_live : (t : Table) (slots : List Slot) (n : ℕ) (k : Datum) → IsThere slots n true
+pub among_live : (t : Table) (slots : List Slot) (n : ℕ) (k : Datum) → IsThere slots n true
     → is_among k (keys_in t (live slots)) ≡ false → same_key k (key_in t (row_of slots n)) ≡ false
 unfolding live is_among
 among_live t [] n k there h = absurd (none-some (slot there.0 true) there.1)

@@ -94,3 +94,10 @@ CanTakeBack n slots = n ≤ length slots
 
 unfoldable pub taken_back : ℕ → List Slot → List Slot
 taken_back n slots = take (length slots - n) slots
+
+-- Rows that were put go away again, and the rows come back that they replaced.
+abbrev pub put_undone : ℕ → List ℕ → List Slot → List Slot
+put_undone n replaced slots = put_back replaced (taken_back n slots)
+
+abbrev pub CanUndoPut : Table → ℕ → List ℕ → List Slot → Type 0
+CanUndoPut t n replaced slots = CanTakeBack n slots × CanPutBack t replaced (taken_back n slots)

@@ -56,8 +56,8 @@ invariant_of-self-in-Ok-keep_rows c =
     c.push_batch.new.numbers c.args.columns.items c.args.rows
     (length c.self.inside.numbers) c.self.invariant batch pushed few c.in-Ok-keep_rows.ensures.light)
 
-pub returns-in-Ok-keep_rows-clause-world : goal.returns-in-Ok-keep_rows-clause-world
-returns-in-Ok-keep_rows-clause-world c =
+pub returns-in-Ok-keep_rows-clause-contents : goal.returns-in-Ok-keep_rows-clause-contents
+returns-in-Ok-keep_rows-clause-contents c =
     let B : Store → Type 0 = λ s. IsBatch s.table c.args.rows c.args.columns.items in
     let batch : IsBatch c.self.inside.table c.args.rows c.args.columns.items =
     subst B (sym c.self.view_is) c.requires in

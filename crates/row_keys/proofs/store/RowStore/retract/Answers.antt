@@ -43,8 +43,8 @@ returns-clause-slots c =
     c.self.inside.numbers)
     ∙ ap (λ (s : Store). with_slots s (retracted c.args.numbers.now s.slots)) c.self.view_is
 
-pub returns-clause-world : goal.returns-clause-world
-returns-clause-world c =
+pub returns-clause-contents : goal.returns-clause-contents
+returns-clause-contents c =
     let P : Store → Type 0 = λ s. CanRetract c.args.numbers.now s.slots in
     let Q : Store → Type 0 = λ s.
     contents_of (joined (rows_by c.self.inside.batches.items c.self.inside.places.items) c.retract_all.new.rows)
