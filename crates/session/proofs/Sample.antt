@@ -7,8 +7,9 @@ use Rattle.values.specs.declared.causes.Cause.TheVariants as cause
 use Rattle.feed.specs.Events.{given}
 use Rattle.schema_meta.specs.Rows.{rows_from}
 use Rattle.view_lang.specs.Causes.{any_among, any_heavy, cause_of, has_heavy_cell, has_null, has_repeated, is_heavy}
-use Rattle.view_lang.specs.ConfigRules.{AreColumns, IsConfig, IsOutput, IsView}
-use Rattle.view_lang.specs.World.{is_among}
+use Rattle.view_lang.specs.ConfigRules.{IsConfig, IsOutput, IsView}
+use Rattle.view_lang.specs.Contents.{is_among}
+use Rattle.view_lang.specs.TableRules.{AreColumns}
 use Rattle.view_lang.specs.declared.config.Role.TheVariants as role
 use Rattle.stream_writer.specs.Sample.{sample_field, sample_fields}
 use Rattle.session.specs.Sample.{after_two, row_again, sample_config, sample_main, sample_view, two_rows}
@@ -55,7 +56,7 @@ view_right = record {
 
 pub config_right : IsConfig sample_config
 config_right = record {
-  main = record { columns = columns_right; key = (sample_field 107, refl, tt) };
+  tables = record { columns = columns_right; key = (sample_field 107, refl, tt) };
   feeds = lit≤ tt;
   few_views = lit≤ tt;
   views = All-cons (IsView sample_fields) sample_view [] view_right (All-nil (IsView sample_fields));

@@ -5,7 +5,7 @@ use Rattle.session.proofs.session.open_feeds.Goals as goal
 
 pub loop-plan-preserved : goal.loop-plan-preserved
 loop-plan-preserved c =
-    one_opened c.args.main.now c.args.feeds.now c.loop-plan.plan-index c.loop-plan.links.items c.push.new.self.items
+    one_opened c.args.tables.now c.args.feeds.now c.loop-plan.plan-index c.loop-plan.links.items c.push.new.self.items
     c.plan.inside.role
     c.plan-item.result c.in_ok-schema.schema.fields.items c.open.result c.loop-plan.invariant c.loop-plan-test.true
     c.plan-item.is
