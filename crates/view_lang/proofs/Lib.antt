@@ -1,1 +1,20 @@
 pub mod Truths
+mod Fields
+mod Columns
+mod CellFits
+mod InputRows
+mod GroupCells
+mod ViewRows
+mod Sample
+pub mod Orders
+pub mod Sorting
+pub mod Ranking
+pub mod Projecting
+pub mod Folds
+pub mod Runs
+pub mod Showing
+pub mod TruthLaws
+pub mod OrderLaws
+pub mod Tuples
+pub mod Keeping
+pub mod Multisets

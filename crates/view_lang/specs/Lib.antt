@@ -22,3 +22,8 @@ pub mod ViewColumns
 pub mod ConfigRules
 pub mod Rows
 pub mod Sums
+pub mod Laws
+pub mod Sample
+pub mod Runs
+pub mod ViewLaws
+pub mod ViewSamples

@@ -55,4 +55,3 @@ pub record IsTable (t : Table) : Type 0 where
   pub columns : AreColumns t.columns
   pub key : IsKeyColumn t.key t.columns
   pub few : t.max_rows ≤ max_main_rows
-

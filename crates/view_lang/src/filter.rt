@@ -1,9 +1,16 @@
-//! Filters.
+//! Filters, and which rows they are true of.
 
 ghost use Rattle.std.specs.Prelude.{◌≡◌};
-ghost use Rattle.view_lang.specs.Cells.{is_null as is_null_by};
 ghost use Rattle.view_lang.specs.Filter.{parts_of};
-ghost use Rattle.view_lang.specs.Truth.{both as both_by, either as either_by, negated as negated_by, compared as compared_by, operand_of, passes as passes_by, truth, truth_of_all, truth_of_any};
+ghost use Rattle.view_lang.specs.Truth.{
+  both as both_by,
+  compared as compared_by,
+  either as either_by,
+  negated as negated_by,
+  truth,
+  truth_of_all as all_by,
+  truth_of_any as any_by,
+};
 
 use crate::cells::{cell_or, is_null, no_value};
 use std::marker::Model;
@@ -12,17 +19,24 @@ use values::{Value, cmp_values};
 /// How two cells are compared.
 #[derive(Clone, Copy, Debug, PartialEq, Eq)]
 pub enum Comparison {
+    /// `eq`: they are the same.
     Equal,
+    /// `ne`: they aren't the same.
     Different,
+    /// `lt`: the first stands before the second.
     Below,
+    /// `le`: the first doesn't stand after the second.
     AtMost,
+    /// `gt`: the first stands after the second.
     Above,
+    /// `ge`: the first doesn't stand before the second.
     AtLeast,
 }
 
 /// What a cell is compared with.
 #[derive(Debug, Drop)]
 pub enum Operand {
+    /// This value.
     Constant(Value),
     /// The cell of this column.
     Column(usize),
@@ -39,7 +53,7 @@ pub struct Filter {
 #[cycle(filter)]
 #[derive(Debug, Drop)]
 pub enum Test {
-    /// The cell of a column, against a constant or another column.
+    /// The cell of a column, compared with a constant or the cell of another column. It is unknown where one is null.
     Compare {
         comparison: Comparison,
         column: usize,
@@ -47,8 +61,11 @@ pub enum Test {
     },
     /// The cell of this column is null.
     IsNull(usize),
+    /// The filter isn't true; unknown where that is.
     Not(Box<Filter>),
+    /// All are true: false where one is false, else unknown where one is.
     And(Vec<Filter>),
+    /// One is true: else unknown where one is, else false.
     Or(Vec<Filter>),
 }
 
@@ -71,6 +88,7 @@ impl Model for Filter {
     ghost size_decreases = { λ f h. Prim.omega (arith, deep_le-filter_size f.test) };
 }
 
+/// Whether two cells compare so: `None` where one is null.
 fn compared(comparison: Comparison, a: &Value, b: &Value) -> Option<bool>
     ensures { result ≡ compared_by comparison a.now b.now }
 {
@@ -88,6 +106,7 @@ fn compared(comparison: Comparison, a: &Value, b: &Value) -> Option<bool>
     })
 }
 
+/// The truth of a negation.
 fn negated(known: Option<bool>) -> Option<bool>
     ensures { result ≡ negated_by known }
 {
@@ -97,6 +116,7 @@ fn negated(known: Option<bool>) -> Option<bool>
     }
 }
 
+/// The truth of two filters together.
 fn both(a: Option<bool>, b: Option<bool>) -> Option<bool>
     ensures { result ≡ both_by a b }
 {
@@ -107,6 +127,7 @@ fn both(a: Option<bool>, b: Option<bool>) -> Option<bool>
     }
 }
 
+/// The truth of one filter or another.
 fn either(a: Option<bool>, b: Option<bool>) -> Option<bool>
     ensures { result ≡ either_by a b }
 {
@@ -118,33 +139,40 @@ fn either(a: Option<bool>, b: Option<bool>) -> Option<bool>
 }
 
 impl Filter {
-    /// Whether a row passes: `None` where that is unknown, since a null was compared.
+    /// Whether the filter is true of a row: `None` where that is unknown, since a null is compared.
     #[cycle(truth)]
     #[tactic(auto, unfolding(crate::specs::Truth::truth))]
     pub fn truth(&self, row: &[Value]) -> Option<bool>
         ensures { result ≡ truth row.now self.now }
     {
         match &self.test {
-            Test::Compare { comparison, column, with } => {
+            Test::Compare {
+                comparison,
+                column,
+                with,
+            } => {
                 let absent = no_value();
                 let cell = cell_or(row, *column, &absent);
                 match with {
                     Operand::Constant(value) => compared(*comparison, cell, value),
-                    Operand::Column(other) => { compared(*comparison, cell, cell_or(row, *other, &absent)) }
+                    Operand::Column(other) => {
+                        compared(*comparison, cell, cell_or(row, *other, &absent))
+                    }
                 }
             }
             Test::IsNull(column) => Some(is_null(cell_or(row, *column, &no_value()))),
             Test::Not(part) => negated(part.truth(row)),
-            Test::And(parts) => truth_of_parts(parts, row),
-            Test::Or(parts) => truth_of_one(parts, row),
+            Test::And(parts) => truth_of_all(parts, row),
+            Test::Or(parts) => truth_of_any(parts, row),
         }
     }
 }
 
+/// Whether all of the filters are true.
 #[cycle(truth)]
 #[tactic(auto, using(crate::proofs::Truths::part_smaller))]
-fn truth_of_parts(parts: &[Filter], row: &[Value]) -> Option<bool>
-    ensures { result ≡ truth_of_all row.now (parts_of parts.now) }
+fn truth_of_all(parts: &[Filter], row: &[Value]) -> Option<bool>
+    ensures { result ≡ all_by row.now (parts_of parts.now) }
 {
     let mut known = Some(true);
     for part in parts {
@@ -153,25 +181,15 @@ fn truth_of_parts(parts: &[Filter], row: &[Value]) -> Option<bool>
     known
 }
 
+/// Whether one of the filters is true.
 #[cycle(truth)]
 #[tactic(auto, using(crate::proofs::Truths::part_smaller))]
-fn truth_of_one(parts: &[Filter], row: &[Value]) -> Option<bool>
-    ensures { result ≡ truth_of_any row.now (parts_of parts.now) }
+fn truth_of_any(parts: &[Filter], row: &[Value]) -> Option<bool>
+    ensures { result ≡ any_by row.now (parts_of parts.now) }
 {
     let mut known = Some(false);
     for part in parts {
         known = either(known, part.truth(row));
     }
     known
-}
-
-/// Whether a filter, where there is one, keeps a row.
-#[tactic(auto, unfolding(crate::specs::Truth::passes))]
-pub(crate) fn passes(filter: &Option<Filter>, row: &[Value]) -> bool
-    ensures { result ≡ passes_by filter.now row.now }
-{
-    match filter {
-        Some(filter) => filter.truth(row).unwrap_or(false),
-        None => true,
-    }
 }

@@ -1,15 +1,33 @@
-//! base
+//! What is declared of tables and of views of them: a main table and side tables, the feeds that change their rows, and
+//! the views that are written of them.
+//!
+//! `specs/Config.antt` is a configuration as contracts see it, and `specs/ConfigRules.antt` says which configurations
+//! are right. `specs/Edits.antt` are the edits that feeds bring, `specs/World.antt` is what they leave of the tables, and
+//! `specs/Causes.antt` says why an edit isn't taken. `specs/Views.antt` says what a view shows: `Joined` of rows with
+//! what is looked up, `Truth` of filters, `Groups`, and the order of rows (`RowOrder`, `Sorted`). `specs/Laws.antt` and
+//! `specs/ViewLaws.antt` say what follows.
 #![tactic(auto)]
 
+mod aggregates;
 mod cells;
 mod config;
+mod evaluation;
 mod filter;
+mod groups;
+mod laws;
 mod limits;
+mod rows;
+mod schemas;
 mod unfit;
 mod view;
+mod view_laws;
 
 pub use config::{Config, FeedConfig, Role, SideTable, Table};
 pub use filter::{Comparison, Filter, Operand, Test};
+pub use laws::{config_law, limits_law, rows_law, sample_law};
 pub use limits::MAX_COLUMN_NAME_LEN;
 pub use unfit::Unfit;
-pub use view::{Aggregate, Direction, GroupOutput, Lookup, Missing, OrderBy, Output, Outputs, View};
+pub use view::{
+    Aggregate, Direction, GroupOutput, Lookup, Missing, OrderBy, Output, Outputs, View,
+};
+pub use view_laws::{group_law, keeping_law, order_law, truth_law, worked_law};

@@ -1,0 +1,296 @@
+-- Group rows depend on which rows there are, and not on where they stand.
+use Rattle.std.proofs.Common.{
+  ◌≡◌,
+  ℕ,
+  zero,
+  suc,
+  ◌<◌,
+  Bool,
+  true,
+  false,
+  not,
+  cond,
+  List,
+  [],
+  ◌∷◌,
+  map,
+  filter,
+  length,
+  get_or,
+  set,
+  refl,
+  sym,
+  ap,
+  ap₂,
+  ◌∙◌,
+  arith,
+}
+use Rattle.std.specs.Prelude.{ℤ, pos, ◌+ℤ◌, Option, IsSome}
+use Rattle.std.specs.declared.cmp.Ordering.{Ordering}
+use Rattle.std.specs.declared.cmp.Ordering.TheVariants.{Less, Equal, Greater}
+use Rattle.std.specs.Ordering.{int_cmp, nat_cmp, ordering_then}
+use Rattle.std.specs.Cmp.{IsTotalOrder}
+use Rattle.std.specs.Cmp.Lexicographic.{slice_cmp}
+use Rattle.std.specs.List.{AllByRecursion, dedup, swap}
+use Rattle.std.specs.List.Sorted.{IsPermutation}
+use Rattle.std.proofs.lemmas.Int.{ints}
+use Rattle.std.proofs.lemmas.List.Sorted.{
+  length_permutation,
+  IsPermutation-keeps,
+  IsPermutation-map,
+  IsPermutation-refl,
+  IsPermutation-cons,
+  IsPermutation-trans,
+  IsPermutation-middle,
+}
+use Rattle.std.proofs.lemmas.Map.Lookups.{exact_signed, exact_bytes}
+use Rattle.values.specs.Datum.{Datum, null, truth, whole, text, bytes, list, structure}
+use Rattle.values.specs.Order.{datum_cmp}
+use Rattle.view_lang.specs.Cells.{cell_at, cells_at, is_null}
+use Rattle.view_lang.specs.Sorted.{placed, sorted}
+use Rattle.view_lang.specs.RowOrder.{cell_cmp, tuple_cmp}
+use Rattle.view_lang.specs.Groups.{
+  same_tuple,
+  tuples_of,
+  rows_with,
+  values_at,
+  number_in,
+  total,
+  sum_of,
+  first_in,
+  aggregate_of,
+  group_row,
+  group_rows,
+}
+use Rattle.view_lang.specs.ViewLaws.{IsKeyCell, ComparesKeys, UsesKeys, GroupsOfMultiset, first_or_null}
+use Rattle.view_lang.specs.Outputs.{GroupOutput}
+use Rattle.view_lang.specs.declared.view.Aggregate.{Aggregate}
+use Rattle.view_lang.specs.declared.view.Aggregate.TheVariants as aggregate
+use Rattle.view_lang.specs.declared.view.Direction.{Direction}
+use Rattle.view_lang.specs.declared.view.Direction.TheVariants as direction
+use Rattle.view_lang.proofs.Orders.{cell_cmp_total, tuple_cmp_total}
+use Rattle.view_lang.proofs.Sorting.{weaker}
+use Rattle.view_lang.proofs.Keeping.{placed-placed, first_in-sorted}
+use Rattle.view_lang.proofs.Runs.{all-map}
+
+-- what holds of a list and itself, goes under a head, and stands an exchange of the two first, holds of each
+-- rearrangement
+module _ {X : Type 0} (R : List X → List X → Type 0)
+    (same : (xs : List X) → R xs xs)
+    (skip : (x : X) (xs ys : List X) → R xs ys → R (x ∷ xs) (x ∷ ys))
+    (turn : (x y : X) (xs : List X) → R (x ∷ y ∷ xs) (y ∷ x ∷ xs))
+    (chain : (xs ys zs : List X) → R xs ys → R ys zs → R xs zs) where
+  to_head : (l : List X) (j : ℕ) (x d : X) → j < length l → R (x ∷ l) (get_or l j d ∷ set l j x)
+  to_head [] j x d h = absurd (omega arith)
+  to_head (y ∷ l) zero x d h = turn x y l
+  to_head (y ∷ l) (suc j) x d h =
+      chain _ _ _ (turn x y l)
+      (chain _ _ _ (skip y _ _ (to_head l j x d (omega arith))) (turn y (get_or l j d) (set l j x)))
+
+  exchanged : (l : List X) (i j : ℕ) (d : X) → i < length l → j < length l
+      → R l (set (set l i (get_or l j d)) j (get_or l i d))
+  exchanged [] i j d p q = absurd (omega arith)
+  exchanged (x ∷ l) zero zero d p q = same (x ∷ l)
+  exchanged (x ∷ l) zero (suc j) d p q = to_head l j x d (omega arith)
+  exchanged (x ∷ l) (suc i) zero d p q = to_head l i x d (omega arith)
+  exchanged (x ∷ l) (suc i) (suc j) d p q = skip x _ _ (exchanged l i j d (omega arith) (omega arith))
+
+  swapped : (l : List X) (i j : ℕ) → i < length l → j < length l → R l (swap l i j)
+  swapped [] i j p q = same []
+  swapped (x ∷ l) i j p q = exchanged (x ∷ l) i j x p q
+
+  pub along_permutation : (xs ys : List X) → IsPermutation xs ys → R xs ys
+  along_permutation xs = IsPermutation-keeps xs (R xs) (same xs) (λ l i j p q h. chain xs l _ h (swapped l i j p q))
+
+IsPermutation-filter : {X : Type 0} (p : X → Bool) (xs ys : List X) → IsPermutation xs ys
+    → IsPermutation (filter p xs) (filter p ys)
+IsPermutation-filter {X} p =
+    along_permutation (λ xs ys. IsPermutation (filter p xs) (filter p ys)) (λ xs. IsPermutation-refl _) skip turn
+    (λ xs ys zs. IsPermutation-trans _ _ _)
+  where
+    skip : (x : X) (xs ys : List X) → IsPermutation (filter p xs) (filter p ys)
+        → IsPermutation (filter p (x ∷ xs)) (filter p (x ∷ ys))
+    skip x xs ys h =
+        elim (p x) as
+        (λ b. IsPermutation (cond b (x ∷ filter p xs) (filter p xs))
+        (cond b (x ∷ filter p ys) (filter p ys))) [ true ↦ IsPermutation-cons x _ _ h | false ↦ h ]
+
+    turn : (x y : X) (xs : List X) → IsPermutation (filter p (x ∷ y ∷ xs)) (filter p (y ∷ x ∷ xs))
+    turn x y xs = go (p x) (p y)
+      where
+        go : (a b : Bool)
+            → IsPermutation
+            (cond a (x ∷ cond b (y ∷ filter p xs) (filter p xs)) (cond b (y ∷ filter p xs) (filter p xs)))
+            (cond b (y ∷ cond a (x ∷ filter p xs) (filter p xs)) (cond a (x ∷ filter p xs) (filter p xs)))
+        go true true = IsPermutation-middle (x ∷ []) y (filter p xs)
+        go true false = IsPermutation-refl _
+        go false true = IsPermutation-refl _
+        go false false = IsPermutation-refl _
+
+all-filter : {X : Type 0} (P : X → Type 0) (p : X → Bool) (xs : List X) → AllByRecursion P xs
+    → AllByRecursion P (filter p xs)
+all-filter P p [] all = tt
+all-filter P p (x ∷ xs) all =
+    elim (p x) as
+    (λ b. AllByRecursion P (cond b (x ∷ filter p xs) (filter p xs))) [
+      | true ↦ (
+        all.0,
+        all-filter P p xs all.1,
+      )
+      | false ↦ all-filter P p xs all.1
+    ]
+
+module _ {X : Type 0} (cmp : X → X → Ordering) (total_order : IsTotalOrder cmp) (P : X → Type 0) (exact : (x y : X)
+    → P x → cmp x y ≡ Equal → x ≡ y) where
+  abbrev Alike : List X → List X → Type 0
+  Alike xs ys = AllByRecursion P xs → (sorted cmp xs ≡ sorted cmp ys) × AllByRecursion P ys
+
+  skip_one : (x : X) (xs ys : List X) → Alike xs ys → Alike (x ∷ xs) (x ∷ ys)
+  unfolding sorted
+  skip_one x xs ys h a = let r = h a.1 in (ap (placed cmp x) r.0, (a.0, r.1))
+
+  turn_two : (x y : X) (xs : List X) → Alike (x ∷ y ∷ xs) (y ∷ x ∷ xs)
+  unfolding sorted
+  turn_two x y xs a = (placed-placed cmp total_order x y (sorted cmp xs) (exact x y a.0), (a.1.0, (a.0, a.1.1)))
+
+  pub sorted_same : (xs ys : List X) → IsPermutation xs ys → AllByRecursion P xs → sorted cmp xs ≡ sorted cmp ys
+  sorted_same xs ys same all =
+      (along_permutation Alike (λ l a. (refl, a)) skip_one turn_two (λ us vs ws h k a. let r = h a in let s =
+      k r.1 in (r.0 ∙ s.0, s.1)) xs ys same all).0
+
+then_Equal : (o s : Ordering) → ordering_then o s ≡ Equal → (o ≡ Equal) × (s ≡ Equal)
+then_Equal Less s h = absurd (cc)
+then_Equal Equal s h = (refl, h)
+then_Equal Greater s h = absurd (cc)
+
+exact_datum : (a b : Datum) → IsKeyCell a → datum_cmp a b ≡ Equal → a ≡ b
+exact_datum (truth true) (truth true) k h = refl
+exact_datum (truth false) (truth false) k h = refl
+exact_datum (whole x) (whole y) k h = ap whole (exact_signed x y h)
+exact_datum (text x) (text y) k h = ap text (exact_bytes x y h)
+exact_datum (bytes x) (bytes y) k h = ap bytes (exact_bytes x y h)
+exact_datum null null k h = refl
+exact_datum (list es) b k h = absurd (cc)
+exact_datum (structure es) b k h = absurd (cc)
+exact_datum a b k h = absurd (cc)
+
+exact_tuple : (s t : List Datum) → AllByRecursion IsKeyCell s → tuple_cmp s t ≡ Equal → s ≡ t
+unfolding tuple_cmp
+exact_tuple [] [] k h = refl
+exact_tuple [] (b ∷ t) k h = absurd (cc)
+exact_tuple (a ∷ s) [] k h = absurd (cc)
+exact_tuple (a ∷ s) (b ∷ t) k h =
+    let e = then_Equal (datum_cmp a b) (slice_cmp datum_cmp s t) h in
+    ap₂ (λ x xs. x ∷ xs) (exact_datum a b k.0 e.0) (exact_tuple s t k.1 e.1)
+
+turned_over : (a b : Datum) → datum_cmp b a ≡ Equal → datum_cmp a b ≡ Equal
+turned_over a b h = Rattle.std.proofs.lemmas.Cmp.tied_back Rattle.view_lang.proofs.Orders.datum_cmp_total b a h
+
+exact_cell : (o : Direction) (a b : Datum) → IsKeyCell a → cell_cmp o a b ≡ Equal → a ≡ b
+exact_cell direction.Ascending a b k h = exact_datum a b k h
+exact_cell direction.Descending a b k h = exact_datum a b k (go (is_null a) (is_null b) h)
+  where
+    go : (s t : Bool) → (cond (Rattle.std.specs.Prelude.◌||◌ s t) (datum_cmp a b) (datum_cmp b a)) ≡ Equal
+        → datum_cmp a b ≡ Equal
+    go true t e = e
+    go false true e = e
+    go false false e = turned_over a b e
+
+total_skip : (x : Datum) (xs ys : List Datum) → total xs ≡ total ys → total (x ∷ xs) ≡ total (x ∷ ys)
+unfolding total
+total_skip x xs ys h = ap (λ n. number_in x +ℤ n) h
+
+total_turn : (x y : Datum) (xs : List Datum) → total (x ∷ y ∷ xs) ≡ total (y ∷ x ∷ xs)
+unfolding total
+total_turn x y xs = omega (arith, ints)
+
+total_same : (xs ys : List Datum) → IsPermutation xs ys → total xs ≡ total ys
+total_same = along_permutation (λ xs ys. total xs ≡ total ys) (λ xs. refl) total_skip total_turn (λ xs ys zs h k. h ∙ k)
+
+sum_same : (xs ys : List Datum) → length xs ≡ length ys → total xs ≡ total ys → sum_of xs ≡ sum_of ys
+sum_same [] [] n h = refl
+sum_same [] (y ∷ ys) n h = absurd (omega (arith, n))
+sum_same (x ∷ xs) [] n h = absurd (omega (arith, n))
+sum_same (x ∷ xs) (y ∷ ys) n h = ap whole h
+
+first_same : (o : Direction) (xs ys : List Datum) → IsPermutation xs ys → AllByRecursion IsKeyCell xs
+    → first_in o xs ≡ first_in o ys
+first_same o xs ys same all =
+    first_in-sorted o xs
+    ∙ ap first_or_null (sorted_same (cell_cmp o) (cell_cmp_total o) IsKeyCell (exact_cell o) xs ys same all)
+    ∙ sym (first_in-sorted o ys)
+
+values_same : (k : ℕ) (rows others : List (List Datum)) → IsPermutation rows others
+    → IsPermutation (values_at k rows) (values_at k others)
+values_same k rows others same =
+    IsPermutation-filter (λ d. not (is_null d)) _ _ (IsPermutation-map (λ row. cell_at row k) rows others same)
+
+value_keys : (k : ℕ) (rows : List (List Datum)) → AllByRecursion (λ row. IsKeyCell (cell_at row k)) rows
+    → AllByRecursion IsKeyCell (values_at k rows)
+value_keys k rows all =
+    all-filter IsKeyCell (λ d. not (is_null d)) _ (all-map IsKeyCell (λ row. cell_at row k) rows all)
+
+aggregate_same :
+    (out : Aggregate) (t : List Datum) (rows others : List (List Datum)) → IsPermutation rows others
+    → AllByRecursion (ComparesKeys out) rows
+    → aggregate_of out t rows ≡ aggregate_of out t others
+aggregate_same (aggregate.Key k) t rows others same all = refl
+aggregate_same aggregate.Count t rows others same all =
+    ap (λ n. whole (pos n)) (sym (length_permutation rows others same))
+aggregate_same (aggregate.CountOf k) t rows others same all =
+    ap (λ n. whole (pos n)) (sym (length_permutation _ _ (values_same k rows others same)))
+aggregate_same (aggregate.Sum k) t rows others same all =
+    sum_same _ _ (sym (length_permutation _ _ (values_same k rows others same)))
+    (total_same _ _ (values_same k rows others same))
+aggregate_same (aggregate.Least k) t rows others same all =
+    first_same direction.Ascending _ _ (values_same k rows others same) (value_keys k rows all)
+aggregate_same (aggregate.Greatest k) t rows others same all =
+    first_same direction.Descending _ _ (values_same k rows others same) (value_keys k rows all)
+
+row_same :
+    (outs : List GroupOutput) (t : List Datum) (rows others : List (List Datum)) → IsPermutation rows others
+    → AllByRecursion (λ row. AllByRecursion (λ o. ComparesKeys o.aggregate row) outs) rows
+    → group_row outs t rows ≡ group_row outs t others
+unfolding group_row
+row_same [] t rows others same all = refl
+row_same (out ∷ outs) t rows others same all =
+    ap₂ (λ c cs. c ∷ cs)
+    (aggregate_same out.aggregate t rows others same
+    (weaker (λ row. AllByRecursion (λ o. ComparesKeys o.aggregate row) (out ∷ outs)) (ComparesKeys out.aggregate)
+    (λ row a. a.0) rows all))
+    (row_same outs t rows others same
+    (weaker (λ row. AllByRecursion (λ o. ComparesKeys o.aggregate row) (out ∷ outs))
+    (λ row. AllByRecursion (λ o. ComparesKeys o.aggregate row) outs) (λ row a. a.1) rows all))
+
+tuples_same :
+    (by : List ℕ) (rows others : List (List Datum)) → IsPermutation rows others
+    → AllByRecursion (λ row. AllByRecursion (λ k. IsKeyCell (cell_at row k)) by) rows
+    → tuples_of by rows ≡ tuples_of by others
+unfolding tuples_of
+tuples_same [] rows others same all = refl
+tuples_same (k ∷ ks) rows others same all =
+    let by : List ℕ = k ∷ ks in
+    let keys = weaker (λ row. AllByRecursion (λ j. IsKeyCell (cell_at row j)) by)
+    (λ row. AllByRecursion IsKeyCell (cells_at by row)) (λ row a. all-map IsKeyCell (cell_at row) by a) rows all in
+    ap (dedup same_tuple)
+    (sorted_same tuple_cmp tuple_cmp_total (λ t. AllByRecursion IsKeyCell t) exact_tuple (map (cells_at by) rows)
+    (map (cells_at by) others)
+    (IsPermutation-map (cells_at by) rows others same)
+    (all-map (λ t. AllByRecursion IsKeyCell t) (cells_at by) rows keys))
+
+pub groups-of_multiset : GroupsOfMultiset
+unfolding group_rows rows_with
+groups-of_multiset by outs rows others same all =
+    let keys = weaker (UsesKeys by outs) (λ row. AllByRecursion (λ k. IsKeyCell (cell_at row k)) by)
+    (λ row a. a.0) rows all in
+    let compared =
+    weaker (UsesKeys by outs) (λ row. AllByRecursion (λ o. ComparesKeys o.aggregate row) outs)
+    (λ row a. a.1) rows all in
+    let each : (t : List Datum) → group_row outs t (rows_with by t rows) ≡ group_row outs t (rows_with by t others) =
+    λ t. row_same outs t _ _ (IsPermutation-filter (λ row. same_tuple t (cells_at by row)) rows others same)
+    (all-filter (λ row. AllByRecursion (λ o. ComparesKeys o.aggregate row) outs)
+    (λ row. same_tuple t (cells_at by row)) rows compared) in
+    ap (map (λ t. group_row outs t (rows_with by t rows))) (tuples_same by rows others same keys)
+    ∙ ap (λ (f : List Datum → List Datum). map f (tuples_of by others)) (λ i t. each t i)
+
+pub ruleset multiset_laws = (groups-of_multiset)

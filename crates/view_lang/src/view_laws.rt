@@ -1,0 +1,98 @@
+//! Laws of views: functions that do nothing, whose contracts are theorems.
+
+ghost use Rattle.std.specs.Prelude.{◌≡◌, [], ◌∷◌, codes, None, Some};
+ghost use Rattle.values.specs.Datum.{null, text};
+ghost use Rattle.view_lang.specs.ViewLaws.{
+  AllOfMeans,
+  FirstOfSorted,
+  GroupsOfMultiset,
+  NeverBoth,
+  NotOfAll,
+  NotOfComparison,
+  NotOfOne,
+  OneOfMeans,
+  OrderByNumber,
+  OrderByTuple,
+  RowInserted,
+  RowsAreRanked,
+  SortedIsTheArrangement,
+  TotalOfSorted,
+  TuplesAreOfRows,
+  TuplesAscend,
+  TuplesCover,
+  TwoValuedWithoutNulls,
+  UnknownStays,
+};
+ghost use Rattle.view_lang.specs.ViewSamples.{
+  amounts,
+  by_text,
+  falling,
+  first_two,
+  grouped_rows,
+  in_all,
+  no_side,
+  not_at_least_zero,
+  number,
+  placed_rows,
+  three_amounts,
+  tied_rows,
+  with_nulls,
+  without_missing,
+  zones,
+};
+ghost use Rattle.view_lang.specs.Views.{view_rows};
+
+/// What `not`, `and` and `or` mean where a part is unknown; and that a row without nulls leaves nothing unknown.
+#[tactic(auto, using(crate::proofs::TruthLaws::truth_laws))]
+pub fn truth_law()
+    ensures unknown { UnknownStays }
+    ensures not_all { NotOfAll }
+    ensures not_one { NotOfOne }
+    ensures all { AllOfMeans }
+    ensures one { OneOfMeans }
+    ensures not_comparison { NotOfComparison }
+    ensures never_both { NeverBoth }
+    ensures two_valued { TwoValuedWithoutNulls }
+{}
+
+/// The sorted rows are the only rearrangement that is sorted and leaves ties as they stood.
+#[tactic(auto, using(crate::proofs::OrderLaws::order_laws))]
+pub fn order_law()
+    ensures ranked { RowsAreRanked }
+    ensures only { SortedIsTheArrangement }
+{}
+
+/// There is a group for each tuple of the rows and no other, and the order of the rows has no part in it.
+#[tactic(auto, using(crate::proofs::Tuples::tuple_laws, crate::proofs::Multisets::multiset_laws))]
+pub fn group_law()
+    ensures ascending { TuplesAscend }
+    ensures of_rows { TuplesAreOfRows }
+    ensures cover { TuplesCover }
+    ensures multiset { GroupsOfMultiset }
+{}
+
+/// What is shown can be made of sorted values and sorted rows, into which a row more is put in its place.
+#[tactic(auto, using(crate::proofs::Keeping::keeping_laws))]
+pub fn keeping_law()
+    ensures first { FirstOfSorted }
+    ensures sum { TotalOfSorted }
+    ensures number { OrderByNumber }
+    ensures tuple { OrderByTuple }
+    ensures inserted { RowInserted }
+{}
+
+/// What some views show of a few rows.
+pub fn worked_law()
+    ensures unknown { view_rows not_at_least_zero no_side amounts ≡ (number 3 ∷ []) ∷ [] }
+    ensures nulls_last { view_rows (falling None) no_side three_amounts
+        ≡ (number 3 ∷ []) ∷ (number 1 ∷ []) ∷ (null ∷ []) ∷ [] }
+    ensures first { view_rows (falling (Some 1)) no_side three_amounts ≡ (number 3 ∷ []) ∷ [] }
+    ensures ties { view_rows first_two no_side tied_rows
+        ≡ (number 1 ∷ number 5 ∷ []) ∷ (number 2 ∷ number 5 ∷ []) ∷ [] }
+    ensures groups { view_rows by_text no_side grouped_rows
+        ≡ (text (codes "p") ∷ number 3 ∷ number 22 ∷ number 9 ∷ []) ∷ [] }
+    ensures no_rows { view_rows in_all no_side [] ≡ (number 0 ∷ null ∷ []) ∷ [] }
+    ensures missing_null { view_rows with_nulls zones placed_rows
+        ≡ (number 1 ∷ text (codes "x") ∷ []) ∷ (number 2 ∷ null ∷ []) ∷ (number 3 ∷ null ∷ []) ∷ [] }
+    ensures missing_drop { view_rows without_missing zones placed_rows ≡ (number 1 ∷ text (codes "x") ∷ []) ∷ [] }
+{}
