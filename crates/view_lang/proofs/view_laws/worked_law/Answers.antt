@@ -25,12 +25,12 @@ returns-clause-ties c = refl
 
 pub returns-clause-groups : goal.returns-clause-groups
 unfolding view_rows view_input shown_rows output_rows joined joined_row passes sorted row_cmp group_rows group_row
-tuples_of rows_with total first_in tuple_cmp
+    tuples_of rows_with total first_in tuple_cmp
 returns-clause-groups c = refl
 
 pub returns-clause-no_rows : goal.returns-clause-no_rows
 unfolding view_rows view_input shown_rows output_rows joined joined_row passes sorted row_cmp group_rows group_row
-tuples_of rows_with total first_in tuple_cmp
+    tuples_of rows_with total first_in tuple_cmp
 returns-clause-no_rows c = refl
 
 pub returns-clause-missing_null : goal.returns-clause-missing_null
