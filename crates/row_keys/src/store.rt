@@ -335,6 +335,7 @@ impl RowStore {
     pub fn live_numbers(&self) -> Result<Vec<usize>, AllocError>
         ensures rows { IfOk result (λ numbers. map (row_of self.now.slots) numbers.items ≡ live_in self.now) }
         ensures there { IfOk result (λ numbers. All (λ n. n < length self.now.slots) numbers.items) }
+        ensures few { length (live_in self.now) ≤ max_main_rows }
     {
         let mut numbers = Vec::with_capacity(self.alloc, self.len())?;
         for number in 0..self.appended() {

@@ -11,3 +11,5 @@ pub mod Sessions
 pub mod Opening
 pub mod Refusing
 pub mod Sample
+pub mod Inputs
+pub mod Written

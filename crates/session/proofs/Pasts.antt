@@ -151,7 +151,7 @@ undo_shown tables old new rs r past front is shown = by_depth past.depth refl wh
 
 -- an edit that is refused, and one that is made
 
-contents_there : (rows : Rows) (n : ℕ) → n < length rows → contents_at (world_of rows) n ≡ contents_of (rows_at rows n)
+pub contents_there : (rows : Rows) (n : ℕ) → n < length rows → contents_at (world_of rows) n ≡ contents_of (rows_at rows n)
 contents_there [] n below = absurd (omega (arith, below))
 contents_there (r ∷ rs) zero below = refl
 contents_there (r ∷ rs) (suc n) below = contents_there rs n (omega (arith, below))

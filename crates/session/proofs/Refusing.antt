@@ -28,7 +28,7 @@ use Rattle.values.specs.declared.faults.StreamFault.{StreamFault}
 use Rattle.values.specs.declared.faults.StreamFault.TheVariants as fault
 use Rattle.feed.specs.Events.{Event as Message, Given}
 use Rattle.feed.specs.States.{after_push, is_broken}
-use Rattle.view_lang.specs.Config.{Table}
+use Rattle.view_lang.specs.Config.{Table, tables_of}
 use Rattle.view_lang.specs.Edits.{Edit}
 use Rattle.view_lang.specs.UnfitCauses.{named}
 use Rattle.view_lang.specs.declared.config.Role.{Role}

@@ -8,6 +8,7 @@ use Rattle.values.specs.declared.schema.Schema.{Schema}
 use Rattle.view_lang.specs.Config.{Config, FeedConfig, SideTable, Table, View, feed_code, tables_of, view_code}
 use Rattle.view_lang.specs.ConfigRules.{IsView}
 use Rattle.view_lang.specs.Edits.{Edit, table_of}
+use Rattle.view_lang.specs.TableRules.{IsTable}
 use Rattle.view_lang.specs.ViewColumns.{feed_columns, view_columns}
 use Rattle.view_lang.specs.World.{World, no_table, table_at, world}
 use Rattle.row_keys.specs.Slots.{
@@ -155,9 +156,10 @@ pub record Shows (p : SessionParts) (s : State) : Type 0 where
 abbrev pub columns_of : List Schema → List (List (Rose NamedType))
 columns_of schemas = map (λ s. s.fields.items) schemas
 
--- the columns of views
+-- views of right tables, and their columns
 abbrev pub AreShown : List Table → List View → List (List (Rose NamedType)) → Type 0
-AreShown tables views columns = All (IsView tables) views × (columns ≡ map (view_columns tables) views)
+AreShown tables views columns =
+    All IsTable tables × All (IsView tables) views × (columns ≡ map (view_columns tables) views)
 
 -- What holds of each session: some state is shown, and the views are of its tables and have these columns.
 pub record IsSession (p : SessionParts) (capacity : ℕ) (columns : List (List (Rose NamedType))) : Type 0 where

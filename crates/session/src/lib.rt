@@ -13,7 +13,6 @@ mod link;
 mod names;
 mod push;
 mod session;
-mod stub;
 mod undo;
 mod view;
 

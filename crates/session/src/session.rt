@@ -15,7 +15,6 @@ use crate::finish::finish_of;
 use crate::link::Link;
 use crate::names::{feed_place, view_place};
 use crate::push::push_to;
-use crate::stub::{feed_schema, view_schema};
 use crate::undo::{UndoRecord, go_back};
 use crate::view::write_rows;
 use circular_buffer::HeapCircularBuffer;
@@ -36,7 +35,7 @@ fn open_feeds(alloc: Global, config: &Config) -> Result<Vec<Link>, AllocError>
 {
     let mut links = Vec::with_capacity(alloc, config.feeds.len())?;
     for plan in &config.feeds {
-        let schema = feed_schema(config, alloc, plan.role)?;
+        let schema = config.feed_schema(alloc, plan.role)?;
         links.push(Link {
             role: plan.role,
             feed: Feed::open(alloc, Some(schema)),
@@ -53,7 +52,7 @@ fn open_views(alloc: Global, config: &Config) -> Result<Vec<Schema>, AllocError>
 {
     let mut schemas = Vec::with_capacity(alloc, config.views.len())?;
     for view in &config.views {
-        schemas.push(view_schema(config, alloc, view)?)?;
+        schemas.push(config.view_schema(alloc, view)?)?;
     }
     Ok(schemas)
 }

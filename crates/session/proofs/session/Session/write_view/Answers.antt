@@ -16,14 +16,16 @@ returns-in_err-written-clause-step g c =
     let failed = err_from_is_err_and c.from_residual.result c.from_residual.ensures.1 in
     let p : SessionParts =
     record {
+      sides = map string_bytes c.self.inside.names.items;
       feeds = c.self.inside.feeds.items;
       views = c.self.inside.views.items;
       links = c.self.inside.links.items;
-      store = c.self.inside.store;
+      stores = c.self.inside.stores.items;
       records = c.self.inside.records.items;
     } in
     let q : SessionParts =
     record {
+      sides = map string_bytes c.self.inside.names.items;
       feeds = c.self.inside.feeds.items;
       views = c.self.inside.views.items;
       links = c.self.inside.links.items;
@@ -54,14 +56,16 @@ pub returns-clause-step : goal.returns-clause-step
 returns-clause-step g c =
     let p : SessionParts =
     record {
+      sides = map string_bytes c.self.inside.names.items;
       feeds = c.self.inside.feeds.items;
       views = c.self.inside.views.items;
       links = c.self.inside.links.items;
-      store = c.self.inside.store;
+      stores = c.self.inside.stores.items;
       records = c.self.inside.records.items;
     } in
     let q : SessionParts =
     record {
+      sides = map string_bytes c.self.inside.names.items;
       feeds = c.self.inside.feeds.items;
       views = c.self.inside.views.items;
       links = c.self.inside.links.items;
