@@ -37,7 +37,6 @@ use Rattle.std.proofs.lemmas.Option.{none-some}
 use Rattle.values.specs.Datum.{Datum, null, truth, whole, text, bytes, list, structure, Items}
 use Rattle.values.specs.Keys.{datum_of_key, key_of}
 use Rattle.values.specs.Layouts.{Holds}
-use Rattle.values.specs.Limits.{max_main_rows}
 use Rattle.values.specs.Logical.{NamedType, tree_of, trees_of}
 use Rattle.values.specs.ColTypes.{IsSingle, layout_of}
 use Rattle.values.specs.Rose.{Rose, node, Roses, kids_of}
@@ -48,10 +47,11 @@ use Rattle.values.specs.declared.layout.Layout.{Layout}
 use Rattle.arrays.specs.Checked.{CheckedColumn}
 use Rattle.schema_meta.specs.Rows.{row_at, rows_from}
 use Rattle.view_lang.specs.Causes.{any_among, any_heavy, cause_of, has_null, has_repeated, layouts_of}
+use Rattle.view_lang.specs.Cells.{cell_at}
 use Rattle.view_lang.specs.Config.{Table}
-use Rattle.view_lang.specs.ConfigRules.{IsTable, type_of}
-use Rattle.view_lang.specs.Edits.{append, cell_at}
-use Rattle.view_lang.specs.World.{World, key_in, keys_in}
+use Rattle.view_lang.specs.Contents.{Contents, key_in, keys_in}
+use Rattle.view_lang.specs.Edits.{append}
+use Rattle.view_lang.specs.TableRules.{IsTable, type_of}
 use Rattle.view_lang.specs.declared.unfit.Unfit.TheVariants as unfit
 use Rattle.row_keys.specs.declared.batches.Place.{Place}
 use Rattle.row_keys.specs.declared.faults.EditFault.{EditFault}
@@ -60,7 +60,7 @@ use Rattle.row_keys.specs.Batches.{AreAlike, IsAlike, IsBatch, batch_rows, cells
 use Rattle.row_keys.specs.Judged.{RefusesRows, are_many}
 use Rattle.row_keys.specs.KeyColumns.{HoldsKeys, PushesKeys, RefusesKeys, fresh}
 use Rattle.row_keys.specs.Numbers.{Numbered, live_count}
-use Rattle.row_keys.specs.Slots.{CanTakeBack, Slot, live, new_slot, taken_back, world_of}
+use Rattle.row_keys.specs.Slots.{CanTakeBack, Slot, live, new_slot, taken_back, contents_of}
 use Rattle.row_keys.specs.Store.{Refuses}
 use Rattle.row_keys.specs.Stored.{AreKeyed, IsLightRow, IsStored, joined, live_keys, places_from, rows_by}
 use Rattle.row_keys.proofs.Batching.{none_heavy, placed_joined, rows_joined}
@@ -226,15 +226,15 @@ pub stored_appended :
     (t : Table) (bs : List (List CheckedColumn)) (ps : List Place) (xs new : List Numbered)
     (columns : List CheckedColumn) (n appended : ℕ)
     → IsStored t bs ps xs → IsBatch t n columns → PushesKeys (keys_in t (batch_rows n columns)) xs new
-    → are_many (live_count xs) appended n ≡ false → any_heavy (layouts_in columns) (batch_rows n columns) ≡ false
+    → are_many t.max_rows (live_count xs) appended n ≡ false → any_heavy (layouts_in columns) (batch_rows n columns) ≡ false
     → IsStored t (bs ++ columns ∷ []) (ps ++ places_from (length bs) 0 n) new
 stored_appended t bs ps xs new columns n appended is batch p few light =
     let rows = rows_joined t bs columns ps n is.placed in
     let P : List (List Datum) → Type 0 = λ rs. All (IsLightRow t) rs in
     let Q : List (List Datum) → Type 0 = λ rs. AreKeyed t rs new in
     let R : List Numbered → Type 0 = λ ys. AreKeyed t (rows_by bs ps ++ batch_rows n columns) ys in
-    let parts = neither (nat_lt max_main_rows (live_count xs + n)) _ few in
-    let within : live_count xs + n ≤ max_main_rows = ltb-false max_main_rows (live_count xs + n) parts.0 in
+    let parts = neither (nat_lt t.max_rows (live_count xs + n)) _ few in
+    let within : live_count xs + n ≤ t.max_rows = ltb-false t.max_rows (live_count xs + n) parts.0 in
     let many : length p.keys ≡ n =
     sym (length-map p.keys datum_of_key) ∙ ap length p.are ∙ length-map (batch_rows n columns) (key_in t)
     ∙ batch_counted columns n in
@@ -254,37 +254,37 @@ stored_appended t bs ps xs new columns n appended is batch p few light =
 -- the causes
 
 cause_none :
-    (t : Table) (w : World) (rows : List (List Datum)) → has_null (keys_in t rows) ≡ false
+    (t : Table) (w : Contents) (rows : List (List Datum)) → has_null (keys_in t rows) ≡ false
     → (has_repeated (keys_in t rows) || any_among (keys_in t rows) (keys_in t w.live)) ≡ false
-    → are_many (length w.live) w.appended (length rows) ≡ false
+    → are_many t.max_rows (length w.live) w.appended (length rows) ≡ false
     → any_heavy (layouts_of t) rows ≡ false → cause_of t w (append rows) ≡ None
 unfolding cause_of
 cause_none t w rows a b c d = rw (a, b, c, d) refl
 
-cause_null : (t : Table) (w : World) (rows : List (List Datum)) → has_null (keys_in t rows) ≡ true
+cause_null : (t : Table) (w : Contents) (rows : List (List Datum)) → has_null (keys_in t rows) ≡ true
     → cause_of t w (append rows) ≡ Some unfit.NullKey
 unfolding cause_of
 cause_null t w rows a = rw a refl
 
 cause_repeated :
-    (t : Table) (w : World) (rows : List (List Datum)) → has_null (keys_in t rows) ≡ false
+    (t : Table) (w : Contents) (rows : List (List Datum)) → has_null (keys_in t rows) ≡ false
     → (has_repeated (keys_in t rows) || any_among (keys_in t rows) (keys_in t w.live)) ≡ true
     → cause_of t w (append rows) ≡ Some unfit.DuplicateKey
 unfolding cause_of
 cause_repeated t w rows a b = rw (a, b) refl
 
 cause_many :
-    (t : Table) (w : World) (rows : List (List Datum)) → has_null (keys_in t rows) ≡ false
+    (t : Table) (w : Contents) (rows : List (List Datum)) → has_null (keys_in t rows) ≡ false
     → (has_repeated (keys_in t rows) || any_among (keys_in t rows) (keys_in t w.live)) ≡ false
-    → are_many (length w.live) w.appended (length rows) ≡ true
+    → are_many t.max_rows (length w.live) w.appended (length rows) ≡ true
     → cause_of t w (append rows) ≡ Some unfit.TooManyRows
 unfolding cause_of
 cause_many t w rows a b c = rw (a, b, c) refl
 
 cause_heavy :
-    (t : Table) (w : World) (rows : List (List Datum)) → has_null (keys_in t rows) ≡ false
+    (t : Table) (w : Contents) (rows : List (List Datum)) → has_null (keys_in t rows) ≡ false
     → (has_repeated (keys_in t rows) || any_among (keys_in t rows) (keys_in t w.live)) ≡ false
-    → are_many (length w.live) w.appended (length rows) ≡ false
+    → are_many t.max_rows (length w.live) w.appended (length rows) ≡ false
     → any_heavy (layouts_of t) rows ≡ true → cause_of t w (append rows) ≡ Some unfit.CellTooHeavy
 unfolding cause_of
 cause_heavy t w rows a b c d = rw (a, b, c, d) refl
@@ -297,10 +297,10 @@ live_keys_are t bs ps xs is = sym (keys_live t (rows_by bs ps) xs is.keyed)
 pub keys_unfit :
     (t : Table) (bs : List (List CheckedColumn)) (ps : List Place) (xs : List Numbered) (rows : List (List Datum))
     (e : EditFault) → IsStored t bs ps xs
-    → RefusesKeys (keys_in t rows) xs e → Refuses (cause_of t (world_of (joined (rows_by bs ps) xs)) (append rows)) e
-keys_unfit t bs ps xs rows (fault.Unfit unfit.NullKey) is h = cause_null t (world_of (joined (rows_by bs ps) xs)) rows h
+    → RefusesKeys (keys_in t rows) xs e → Refuses (cause_of t (contents_of (joined (rows_by bs ps) xs)) (append rows)) e
+keys_unfit t bs ps xs rows (fault.Unfit unfit.NullKey) is h = cause_null t (contents_of (joined (rows_by bs ps) xs)) rows h
 keys_unfit t bs ps xs rows (fault.Unfit unfit.DuplicateKey) is h =
-    cause_repeated t (world_of (joined (rows_by bs ps) xs)) rows h.0
+    cause_repeated t (contents_of (joined (rows_by bs ps) xs)) rows h.0
     (ap (λ ks. has_repeated (keys_in t rows) || any_among (keys_in t rows) ks) (sym (live_keys_are t bs ps xs is))
     ∙ h.1)
 keys_unfit t bs ps xs rows fault.Memory is h = tt
@@ -319,25 +319,25 @@ single_keys t bs ps xs new rows is p =
 many_same :
     (t : Table) (bs : List (List CheckedColumn)) (ps : List Place) (xs : List Numbered) (columns : List CheckedColumn)
     (n : ℕ) (b : Bool) → IsStored t bs ps xs
-    → are_many (live_count xs) (length xs) n ≡ b
-    → are_many (length (live (joined (rows_by bs ps) xs))) (length (joined (rows_by bs ps) xs))
+    → are_many t.max_rows (live_count xs) (length xs) n ≡ b
+    → are_many t.max_rows (length (live (joined (rows_by bs ps) xs))) (length (joined (rows_by bs ps) xs))
     (length (batch_rows n columns)) ≡ b
 many_same t bs ps xs columns n b is h =
-    ap (λ m. are_many m (length (joined (rows_by bs ps) xs)) (length (batch_rows n columns)))
+    ap (λ m. are_many t.max_rows m (length (joined (rows_by bs ps) xs)) (length (batch_rows n columns)))
     (live_counted t (rows_by bs ps) xs is.keyed)
-    ∙ ap (λ m. are_many (live_count xs) m (length (batch_rows n columns)))
+    ∙ ap (λ m. are_many t.max_rows (live_count xs) m (length (batch_rows n columns)))
     (keyed_length t (rows_by bs ps) xs is.keyed).1
-    ∙ ap (λ m. are_many (live_count xs) (length xs) m) (batch_counted columns n) ∙ h
+    ∙ ap (λ m. are_many t.max_rows (live_count xs) (length xs) m) (batch_counted columns n) ∙ h
 
 pub batch_fits :
     (t : Table) (bs : List (List CheckedColumn)) (ps : List Place) (xs new : List Numbered)
     (columns : List CheckedColumn) (n : ℕ) → IsStored t bs ps xs
     → IsBatch t n columns → PushesKeys (keys_in t (batch_rows n columns)) xs new
-    → are_many (live_count xs) (length xs) n ≡ false
+    → are_many t.max_rows (live_count xs) (length xs) n ≡ false
     → any_heavy (layouts_in columns) (batch_rows n columns) ≡ false
-    → cause_of t (world_of (joined (rows_by bs ps) xs)) (append (batch_rows n columns)) ≡ None
+    → cause_of t (contents_of (joined (rows_by bs ps) xs)) (append (batch_rows n columns)) ≡ None
 batch_fits t bs ps xs new columns n is batch p few light =
-    cause_none t (world_of (joined (rows_by bs ps) xs)) (batch_rows n columns) p.given
+    cause_none t (contents_of (joined (rows_by bs ps) xs)) (batch_rows n columns) p.given
     (single_keys t bs ps xs new (batch_rows n columns) is p)
     (many_same t bs ps xs columns n false is few)
     (alike_any (layouts_of t) (layouts_in columns) (batch_rows n columns) batch.alike ∙ light)
@@ -346,14 +346,14 @@ pub rows_unfit :
     (t : Table) (bs : List (List CheckedColumn)) (ps : List Place) (xs new : List Numbered)
     (columns : List CheckedColumn) (n : ℕ) (e : EditFault)
     → IsStored t bs ps xs → IsBatch t n columns → PushesKeys (keys_in t (batch_rows n columns)) xs new
-    → RefusesRows (live_count xs) (length xs) n columns e
-    → Refuses (cause_of t (world_of (joined (rows_by bs ps) xs)) (append (batch_rows n columns))) e
+    → RefusesRows t.max_rows (live_count xs) (length xs) n columns e
+    → Refuses (cause_of t (contents_of (joined (rows_by bs ps) xs)) (append (batch_rows n columns))) e
 rows_unfit t bs ps xs new columns n (fault.Unfit unfit.TooManyRows) is batch p h =
-    cause_many t (world_of (joined (rows_by bs ps) xs)) (batch_rows n columns) p.given
+    cause_many t (contents_of (joined (rows_by bs ps) xs)) (batch_rows n columns) p.given
     (single_keys t bs ps xs new (batch_rows n columns) is p)
     (many_same t bs ps xs columns n true is h)
 rows_unfit t bs ps xs new columns n (fault.Unfit unfit.CellTooHeavy) is batch p h =
-    cause_heavy t (world_of (joined (rows_by bs ps) xs)) (batch_rows n columns) p.given
+    cause_heavy t (contents_of (joined (rows_by bs ps) xs)) (batch_rows n columns) p.given
     (single_keys t bs ps xs new (batch_rows n columns) is p)
     (many_same t bs ps xs columns n false is h.0)
     (alike_any (layouts_of t) (layouts_in columns) (batch_rows n columns) batch.alike ∙ h.1)

@@ -9,6 +9,7 @@ use Rattle.std.proofs.Common.{
   ◌+◌,
   ◌<◌,
   ◌≤◌,
+  ◌||◌,
   Bool,
   true,
   false,
@@ -41,9 +42,10 @@ use Rattle.values.specs.declared.key.Key.{Key}
 use Rattle.arrays.specs.Checked.{CheckedColumn}
 use Rattle.view_lang.specs.Causes.{all_among, any_among, cause_of, has_repeated}
 use Rattle.view_lang.specs.Config.{Table}
-use Rattle.view_lang.specs.ConfigRules.{IsTable, no_field}
+use Rattle.view_lang.specs.Contents.{Contents, is_among, keys_in, same_key}
 use Rattle.view_lang.specs.Edits.{retract}
-use Rattle.view_lang.specs.World.{World, is_among, keys_in, same_key}
+use Rattle.view_lang.specs.TableRules.{IsTable}
+use Rattle.view_lang.specs.ViewColumns.{no_field}
 use Rattle.view_lang.specs.declared.unfit.Unfit.TheVariants as unfit
 use Rattle.row_keys.specs.declared.batches.Place.{Place}
 use Rattle.row_keys.specs.declared.faults.EditFault.{EditFault}
@@ -52,7 +54,7 @@ use Rattle.row_keys.specs.Batches.{AreKeys, IsAlike}
 use Rattle.row_keys.specs.Found.{FindsAll, MissesKey}
 use Rattle.row_keys.specs.KeyColumns.{HoldsKeys, PushesKeys, RefusesKeys}
 use Rattle.row_keys.specs.Numbers.{IsAt, IsUnused, Numbered, numbered, turned}
-use Rattle.row_keys.specs.Slots.{CanRetract, Slot, keys_at, live, world_of}
+use Rattle.row_keys.specs.Slots.{CanRetract, Slot, keys_at, live, contents_of}
 use Rattle.row_keys.specs.Store.{Refuses}
 use Rattle.row_keys.specs.Stored.{AreKeyed, IsStored, joined, live_keys, rows_by}
 use Rattle.row_keys.proofs.Appending.{live_keys_are, single_holds}
@@ -69,6 +71,14 @@ keys_held t c is alike =
 
 -- one key after another
 
+pub finds_pushed :
+    (xs : List Numbered) (n : ℕ) (ds : List Datum) (ns : List ℕ) (d : Datum) → FindsAll ds xs ns
+    → (k : Key) × (datum_of_key k ≡ d) × IsAt xs n k true → FindsAll (ds ++ d ∷ []) xs (ns ++ n ∷ [])
+finds_pushed xs n [] [] d all one = (one, tt)
+finds_pushed xs n [] (m ∷ ms) d all one = absurd all
+finds_pushed xs n (x ∷ ds) [] d all one = absurd all
+finds_pushed xs n (x ∷ ds) (m ∷ ms) d all one = (all.0, finds_pushed xs n ds ms d all.1 one)
+
 pub finds_more :
     (cells : List Datum) (i n : ℕ) (xs : List Numbered) (found : List ℕ) (k : Key) → i < length cells
     → FindsAll (take i cells) xs found
@@ -77,16 +87,9 @@ finds_more cells i n xs found k below all is at =
     let e : i + 1 ≡ suc i = omega arith in
     let P : List Datum → Type 0 = λ ds. FindsAll ds xs (found ++ n ∷ []) in
     subst P (sym (ap (λ m. take m cells) e ∙ take-suc cells i null below))
-    (snoc (take i cells) found (get_or cells i null) all (k, is, at))
-  where
-    snoc : (ds : List Datum) (ns : List ℕ) (d : Datum) → FindsAll ds xs ns
-        → (k' : Key) × (datum_of_key k' ≡ d) × IsAt xs n k' true → FindsAll (ds ++ d ∷ []) xs (ns ++ n ∷ [])
-    snoc [] [] d all one = (one, tt)
-    snoc [] (m ∷ ms) d all one = absurd all
-    snoc (x ∷ ds) [] d all one = absurd all
-    snoc (x ∷ ds) (m ∷ ms) d all one = (all.0, snoc ds ms d all.1 one)
+    (finds_pushed xs n (take i cells) found (get_or cells i null) all (k, is, at))
 
-all_taken : (cells : List Datum) (n : ℕ) → length cells ≤ n → take n cells ≡ cells
+pub all_taken : (cells : List Datum) (n : ℕ) → length cells ≤ n → take n cells ≡ cells
 all_taken [] zero h = refl
 all_taken [] (suc n) h = refl
 all_taken (s ∷ ss) zero h = absurd (omega (arith, h))
@@ -182,11 +185,18 @@ unfolding any_among is_among
 none_among [] = refl
 none_among (d ∷ ds) = none_among ds
 
+-- where no rows are live, a key can only be one that stands twice
+pub twice_named : (cells : List Datum) → (has_repeated cells || any_among cells []) ≡ true → has_repeated cells ≡ true
+twice_named cells h = elim (either (has_repeated cells) (any_among cells []) h) [
+  | inl e ↦ e
+  | inr e ↦ absurd (true≢false (sym e ∙ none_among cells))
+]
+
 pub found_fits :
     (t : Table) (bs : List (List CheckedColumn)) (ps : List Place) (xs seen : List Numbered) (cells : List Datum)
     (ns : List ℕ) → IsStored t bs ps xs
     → PushesKeys cells [] seen → FindsAll cells xs ns
-    → cause_of t (world_of (joined (rows_by bs ps) xs)) (retract cells) ≡ None
+    → cause_of t (contents_of (joined (rows_by bs ps) xs)) (retract cells) ≡ None
 unfolding cause_of
 found_fits t bs ps xs seen cells ns is p all =
     let among : all_among cells (keys_in t (live (joined (rows_by bs ps) xs))) ≡ true =
@@ -197,7 +207,7 @@ pub keys_unknown :
     (t : Table) (bs : List (List CheckedColumn)) (ps : List Place) (xs seen : List Numbered) (cells : List Datum)
     (e : EditFault) → IsStored t bs ps xs
     → PushesKeys cells [] seen → MissesKey cells xs e
-    → Refuses (cause_of t (world_of (joined (rows_by bs ps) xs)) (retract cells)) e
+    → Refuses (cause_of t (contents_of (joined (rows_by bs ps) xs)) (retract cells)) e
 unfolding cause_of
 keys_unknown t bs ps xs seen cells (fault.Unfit unfit.UnknownKey) is p h =
     let among : all_among cells (keys_in t (live (joined (rows_by bs ps) xs))) ≡ false =
@@ -206,15 +216,12 @@ keys_unknown t bs ps xs seen cells (fault.Unfit unfit.UnknownKey) is p h =
 keys_unknown t bs ps xs seen cells fault.Memory is p h = tt
 keys_unknown t bs ps xs seen cells (fault.Unfit u) is p h = absurd h
 
-pub keys_refused : (t : Table) (w : World) (cells : List Datum) (e : EditFault) → RefusesKeys cells [] e
+pub keys_refused : (t : Table) (w : Contents) (cells : List Datum) (e : EditFault) → RefusesKeys cells [] e
     → Refuses (cause_of t w (retract cells)) e
 unfolding cause_of
 keys_refused t w cells (fault.Unfit unfit.NullKey) h = rw h refl
 keys_refused t w cells (fault.Unfit unfit.DuplicateKey) h =
-    let twice : has_repeated cells ≡ true = elim (either (has_repeated cells) (any_among cells []) h.1) [
-      | inl e ↦ e
-      | inr e ↦ absurd (true≢false (sym e ∙ none_among cells))
-    ] in
+    let twice : has_repeated cells ≡ true = twice_named cells h.1 in
     rw (h.0, twice) refl
 keys_refused t w cells fault.Memory h = tt
 keys_refused t w cells (fault.Unfit u) h = absurd h

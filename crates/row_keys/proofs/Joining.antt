@@ -35,10 +35,10 @@ use Rattle.values.specs.Keys.{datum_of_key}
 use Rattle.values.specs.declared.key.Key.{Key}
 use Rattle.view_lang.specs.Causes.{has_repeated}
 use Rattle.view_lang.specs.Config.{Table}
+use Rattle.view_lang.specs.Contents.{applied, is_among, key_in, keys_in, same_key}
 use Rattle.view_lang.specs.Edits.{append}
-use Rattle.view_lang.specs.World.{applied, is_among, key_in, keys_in, same_key}
 use Rattle.row_keys.specs.Numbers.{AreDistinct, IsAt, IsUnused, Numbered, live_count, numbered, turned}
-use Rattle.row_keys.specs.Slots.{CanTakeBack, IsThere, Slot, live, marked, new_slot, row_of, slot, taken_back, world_of}
+use Rattle.row_keys.specs.Slots.{CanTakeBack, IsThere, Slot, live, marked, new_slot, row_of, slot, taken_back, contents_of}
 use Rattle.row_keys.specs.Stored.{AreKeyed, joined, live_keys}
 use Rattle.row_keys.proofs.KeyFacts.{or_none, or_right, same_exact, same_refl}
 use Rattle.row_keys.proofs.Places.{some_same, take_front}
@@ -188,7 +188,7 @@ added_length slots rows = length-append slots (map new_slot rows)
     ∙ ap (λ n. length slots + n) (length-map rows new_slot)
 
 pub world_added : (t : Table) (slots : List Slot) (rows : List (List Datum))
-    → world_of (slots ++ map new_slot rows) ≡ applied t (append rows) (world_of slots)
+    → contents_of (slots ++ map new_slot rows) ≡ applied t (append rows) (contents_of slots)
 world_added t slots rows =
     ap (λ xs. record { live = xs; appended = length (slots ++ map new_slot rows) }) (live_added slots rows)
     ∙ ap (λ n. record { live = live slots ++ rows; appended = n }) (added_length slots rows)

@@ -39,8 +39,9 @@ use Rattle.values.specs.Order.{truth_cmp}
 use Rattle.values.specs.Keys.{datum_of_key, key_of}
 use Rattle.values.specs.declared.key.Key.{Key}
 use Rattle.values.specs.declared.key.Key.TheVariants as key
-use Rattle.view_lang.specs.Causes.{any_among, has_null, has_repeated, is_null}
-use Rattle.view_lang.specs.World.{is_among, same_key}
+use Rattle.view_lang.specs.Causes.{any_among, has_null, has_repeated}
+use Rattle.view_lang.specs.Cells.{is_null}
+use Rattle.view_lang.specs.Contents.{is_among, same_key}
 
 equal_is : (o : Ordering) → is_eq o ≡ true → o ≡ Equal
 equal_is Less h = absurd (true≢false (sym h))

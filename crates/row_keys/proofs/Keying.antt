@@ -39,8 +39,9 @@ use Rattle.std.proofs.lemmas.Option.{none-some, get_or_from_slice_get}
 use Rattle.values.specs.Datum.{Datum, null}
 use Rattle.values.specs.Keys.{datum_of_key, key_of}
 use Rattle.values.specs.declared.key.Key.{Key}
-use Rattle.view_lang.specs.Causes.{any_among, has_null, has_repeated, is_null}
-use Rattle.view_lang.specs.World.{is_among}
+use Rattle.view_lang.specs.Causes.{any_among, has_null, has_repeated}
+use Rattle.view_lang.specs.Cells.{is_null}
+use Rattle.view_lang.specs.Contents.{is_among}
 use Rattle.view_lang.specs.declared.unfit.Unfit.TheVariants as unfit
 use Rattle.row_keys.specs.declared.faults.EditFault.{EditFault}
 use Rattle.row_keys.specs.declared.faults.EditFault.TheVariants as fault

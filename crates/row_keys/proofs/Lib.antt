@@ -13,6 +13,9 @@ mod HeavyRows
 mod Batching
 mod Appending
 mod BatchKeys
-mod Opening
+mod Results
+mod Listing
+mod Looking
 mod Finding
+mod Replacing
 mod BatchLaw

@@ -25,11 +25,10 @@ use Rattle.std.proofs.Common.{
 use Rattle.std.specs.Prelude.{if◌then◌else◌}
 use Rattle.std.proofs.lemmas.Option.{none-some}
 use Rattle.values.specs.Datum.{Datum}
-use Rattle.values.specs.Limits.{max_main_rows}
 use Rattle.view_lang.specs.Causes.{has_repeated}
 use Rattle.view_lang.specs.Config.{Table}
+use Rattle.view_lang.specs.Contents.{applied, is_among, key_in, keys_in, same_key, without}
 use Rattle.view_lang.specs.Edits.{retract}
-use Rattle.view_lang.specs.World.{applied, is_among, key_in, keys_in, same_key, without}
 use Rattle.row_keys.specs.Slots.{
   AreRetracted,
   CanPutBack,
@@ -43,7 +42,7 @@ use Rattle.row_keys.specs.Slots.{
   retracted,
   row_of,
   slot,
-  world_of,
+  contents_of,
 }
 use Rattle.row_keys.proofs.KeyFacts.{neither, or_none, same_sym}
 use Rattle.row_keys.proofs.Places.{some_same}
@@ -78,7 +77,7 @@ untouched t k (r ∷ rs) h =
     let a = neither (same_key k (key_in t r)) (is_among k (keys_in t rs)) h in
     kept_one t k r rs a.0 ∙ ap (λ xs. r ∷ xs) (untouched t k rs a.1)
 
-among_live : (t : Table) (slots : List Slot) (n : ℕ) (k : Datum) → IsThere slots n true
+pub among_live : (t : Table) (slots : List Slot) (n : ℕ) (k : Datum) → IsThere slots n true
     → is_among k (keys_in t (live slots)) ≡ false → same_key k (key_in t (row_of slots n)) ≡ false
 unfolding live is_among
 among_live t [] n k there h = absurd (none-some (slot there.0 true) there.1)
@@ -261,7 +260,7 @@ length_retracted (n ∷ ns) slots = length_retracted ns (marked false slots n) �
 
 pub world_retracted :
     (t : Table) (ns : List ℕ) (slots : List Slot) → CanRetract ns slots → IsProper t slots
-    → world_of (retracted ns slots) ≡ applied t (retract (keys_at t ns slots)) (world_of slots)
+    → contents_of (retracted ns slots) ≡ applied t (retract (keys_at t ns slots)) (contents_of slots)
 world_retracted t ns slots can proper =
     ap (λ xs. record { live = xs; appended = length (retracted ns slots) }) (live_retracted t ns slots can proper)
     ∙ ap (λ n. record { live = without t (keys_at t ns slots) (live slots); appended = n }) (length_retracted ns slots)
@@ -296,9 +295,9 @@ are_retracted t (n ∷ ns) slots can proper =
 
 pub can_put_back :
     (t : Table) (ns : List ℕ) (slots : List Slot) → CanRetract ns slots → IsProper t slots
-    → length (live slots) ≤ max_main_rows
+    → length (live slots) ≤ t.max_rows
     → CanPutBack t ns (retracted ns slots)
 unfolding CanPutBack
 can_put_back t ns slots can proper few =
-    let P : List Slot → Type 0 = λ xs. length (live xs) ≤ max_main_rows in
+    let P : List Slot → Type 0 = λ xs. length (live xs) ≤ t.max_rows in
     (are_retracted t ns slots can proper, subst P (sym (put_back_undoes ns slots can)) few)

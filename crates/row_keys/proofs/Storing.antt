@@ -42,9 +42,9 @@ use Rattle.arrays.specs.Checked.{CheckedColumn}
 use Rattle.schema_meta.specs.Rows.{row_at}
 use Rattle.view_lang.specs.Causes.{layouts_of}
 use Rattle.view_lang.specs.Config.{Table}
+use Rattle.view_lang.specs.Contents.{applied, is_among}
 use Rattle.view_lang.specs.Edits.{retract}
 use Rattle.view_lang.specs.Rows.{IsRow}
-use Rattle.view_lang.specs.World.{applied, is_among}
 use Rattle.row_keys.specs.declared.batches.Place.{Place}
 use Rattle.row_keys.specs.Batches.{AreAlike, cells_in, layouts_in}
 use Rattle.row_keys.specs.Numbers.{
@@ -71,7 +71,7 @@ use Rattle.row_keys.specs.Slots.{
   retracted,
   row_of,
   taken_back,
-  world_of,
+  contents_of,
 }
 use Rattle.row_keys.specs.Store.{IsAbsent, IsFound, Store}
 use Rattle.row_keys.specs.Stored.{AreKeyed, IsLightRow, IsPlaced, IsStored, columns_of, joined, row_by, rows_by}
@@ -124,10 +124,10 @@ pub off_world :
     (t : Table) (bs : Batches) (ps : List Place) (xs ys : List Numbered) (ns : List ℕ) → IsStored t bs ps xs
     → AreDistinct xs
     → CanRetract ns (joined (rows_by bs ps) xs) → ys ≡ turned_off ns xs
-    → world_of (joined (rows_by bs ps) ys) ≡ applied t (retract (keys_at t ns (joined (rows_by bs ps) xs)))
-    (world_of (joined (rows_by bs ps) xs))
+    → contents_of (joined (rows_by bs ps) ys) ≡ applied t (retract (keys_at t ns (joined (rows_by bs ps) xs)))
+    (contents_of (joined (rows_by bs ps) xs))
 off_world t bs ps xs ys ns is distinct can same =
-    ap (λ zs. world_of (joined (rows_by bs ps) zs)) same ∙ ap world_of (joined_off (rows_by bs ps) ns xs)
+    ap (λ zs. contents_of (joined (rows_by bs ps) zs)) same ∙ ap contents_of (joined_off (rows_by bs ps) ns xs)
     ∙ world_retracted t ns (joined (rows_by bs ps) xs) can (proper_joined t (rows_by bs ps) xs is.keyed distinct)
 
 pub off_can :

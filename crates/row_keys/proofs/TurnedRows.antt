@@ -28,7 +28,7 @@ use Rattle.values.specs.Keys.{datum_of_key}
 use Rattle.values.specs.declared.key.Key.{Key}
 use Rattle.view_lang.specs.Causes.{has_repeated}
 use Rattle.view_lang.specs.Config.{Table}
-use Rattle.view_lang.specs.World.{is_among, key_in, keys_in, same_key}
+use Rattle.view_lang.specs.Contents.{is_among, key_in, keys_in, same_key}
 use Rattle.row_keys.specs.Numbers.{
   AreDistinct,
   AreLive,

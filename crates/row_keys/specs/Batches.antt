@@ -9,8 +9,8 @@ use Rattle.arrays.specs.Checked.{CheckedColumn}
 use Rattle.schema_meta.specs.Rows.{rows_in}
 use Rattle.view_lang.specs.Causes.{layouts_of}
 use Rattle.view_lang.specs.Config.{Table}
-use Rattle.view_lang.specs.ConfigRules.{no_field}
 use Rattle.view_lang.specs.Edits.{first_cell}
+use Rattle.view_lang.specs.ViewColumns.{no_field}
 
 -- Layouts that differ in no value: what the second holds the first holds, and it weighs the same. So it is where they
 -- differ in the width of offsets.

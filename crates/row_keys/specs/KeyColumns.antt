@@ -6,7 +6,8 @@ use Rattle.values.specs.Layouts.{Holds}
 use Rattle.values.specs.Rose.{Rose}
 use Rattle.values.specs.declared.key.Key.{Key}
 use Rattle.values.specs.declared.layout.Layout.{Layout}
-use Rattle.view_lang.specs.Causes.{any_among, has_null, has_repeated, is_null}
+use Rattle.view_lang.specs.Causes.{any_among, has_null, has_repeated}
+use Rattle.view_lang.specs.Cells.{is_null}
 use Rattle.view_lang.specs.declared.unfit.Unfit.TheVariants as unfit
 use Rattle.row_keys.specs.declared.faults.EditFault.{EditFault}
 use Rattle.row_keys.specs.declared.faults.EditFault.TheVariants as fault

@@ -22,9 +22,8 @@ use Rattle.std.specs.Prelude.{
   take,
 }
 use Rattle.values.specs.Datum.{Datum}
-use Rattle.values.specs.Limits.{max_main_rows}
 use Rattle.view_lang.specs.Config.{Table}
-use Rattle.view_lang.specs.World.{World, is_among, key_in, keys_in}
+use Rattle.view_lang.specs.Contents.{Contents, is_among, key_in, keys_in}
 
 pub record Slot : Type 0 where
   pub row : List Datum
@@ -42,8 +41,8 @@ live [] = []
 live (s ∷ ss) = if s.live then s.row ∷ live ss else live ss
 
 -- the table that they are
-abbrev pub world_of : List Slot → World
-world_of slots = record { live = live slots; appended = length slots }
+abbrev pub contents_of : List Slot → Contents
+contents_of slots = record { live = live slots; appended = length slots }
 
 -- one row has become live, or has been retracted
 abbrev pub marked : Bool → List Slot → ℕ → List Slot
@@ -87,7 +86,7 @@ AreRetracted t (n ∷ ns) slots =
 
 -- and there is room for them
 unfoldable pub CanPutBack : Table → List ℕ → List Slot → Type 0
-CanPutBack t ns slots = AreRetracted t ns slots × (length (live (put_back ns slots)) ≤ max_main_rows)
+CanPutBack t ns slots = AreRetracted t ns slots × (length (live (put_back ns slots)) ≤ t.max_rows)
 
 -- the last n rows can go
 unfoldable pub CanTakeBack : ℕ → List Slot → Type 0
@@ -95,3 +94,10 @@ CanTakeBack n slots = n ≤ length slots
 
 unfoldable pub taken_back : ℕ → List Slot → List Slot
 taken_back n slots = take (length slots - n) slots
+
+-- Rows that were put go away again, and the rows come back that they replaced.
+abbrev pub put_undone : ℕ → List ℕ → List Slot → List Slot
+put_undone n replaced slots = put_back replaced (taken_back n slots)
+
+abbrev pub CanUndoPut : Table → ℕ → List ℕ → List Slot → Type 0
+CanUndoPut t n replaced slots = CanTakeBack n slots × CanPutBack t replaced (taken_back n slots)

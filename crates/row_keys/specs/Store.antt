@@ -5,32 +5,30 @@ use Rattle.std.specs.Prelude.{
   ◌+◌,
   ◌-◌,
   ◌^◌,
-  ◌≤◌,
+  ◌<◌,
   Bool,
   true,
   false,
-  All,
   List,
   [],
   Option,
+  None,
   Some,
-  Vec,
-  map,
+  length,
   min,
   refl,
 }
 use Rattle.std.specs.Coded.{Coded, code_by, coded×, coded_ℕ, coded_bool, coded_list}
-use Rattle.std.specs.declared.alloc.Global.{Global}
 use Rattle.values.specs.Datum.{Datum, datum_code}
 use Rattle.values.specs.declared.key.Key.{Key}
 use Rattle.values.specs.Keys.{datum_of_key}
 use Rattle.view_lang.specs.Config.{Table, table_code}
-use Rattle.view_lang.specs.Rows.{IsRow}
-use Rattle.view_lang.specs.World.{is_among, key_in, keys_in}
+use Rattle.view_lang.specs.Contents.{is_among, key_in, keys_in}
+use Rattle.view_lang.specs.Joined.{side_of}
 use Rattle.view_lang.specs.declared.unfit.Unfit.{Unfit}
 use Rattle.row_keys.specs.declared.faults.EditFault.{EditFault}
 use Rattle.row_keys.specs.declared.faults.EditFault.TheVariants as fault
-use Rattle.row_keys.specs.Slots.{IsThere, Slot, live, row_of, slot}
+use Rattle.row_keys.specs.Slots.{IsThere, Slot, contents_of, live, row_of, slot}
 
 pub record Store : Type 0 where
   pub table : Table
@@ -59,10 +57,6 @@ with_slots s slots = record { table = s.table; slots = slots; visits = s.visits 
 abbrev pub visited : ℕ → Store → Store
 visited n s = record { table = s.table; slots = s.slots; visits = min (s.visits + n) (2 ^ 128 - 1) }
 
--- as many rows as n were opened, at most
-abbrev pub VisitsAtMost : ℕ → Store → Store → Type 0
-VisitsAtMost n old new = (k : ℕ) × (k ≤ n) × (new ≡ visited k old)
-
 abbrev pub live_in : Store → List (List Datum)
 live_in s = live s.slots
 
@@ -74,11 +68,12 @@ IsFound s key n = IsThere s.slots n true × (key_in s.table (row_of s.slots n) �
 abbrev pub IsAbsent : Store → Key → Type 0
 IsAbsent s key = is_among (datum_of_key key) (keys_in s.table (live_in s)) ≡ false
 
-abbrev pub AreRows : Table → List (List Datum) → Type 0
-AreRows t rows = All (IsRow t.columns) rows
+-- the row that is looked up by this cell is the live one of this number; or there is none
+abbrev pub IsKnown : Store → Datum → ℕ → Type 0
+IsKnown s cell n = (n < length s.slots) × (side_of s.table (contents_of s.slots) cell ≡ Some (row_of s.slots n))
 
-abbrev pub cells_of_rows : List (Vec Datum Global) → List (List Datum)
-cells_of_rows rows = map (λ row. row.items) rows
+abbrev pub IsUnknown : Store → Datum → Type 0
+IsUnknown s cell = side_of s.table (contents_of s.slots) cell ≡ None
 
 -- A refusal is right: that cause is the least, or memory ran out.
 abbrev pub Refuses : Option Unfit → EditFault → Type 0

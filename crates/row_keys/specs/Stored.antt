@@ -19,13 +19,12 @@ use Rattle.std.specs.Prelude.{
 }
 use Rattle.values.specs.Datum.{Datum}
 use Rattle.values.specs.Keys.{datum_of_key}
-use Rattle.values.specs.Limits.{max_main_rows}
 use Rattle.arrays.specs.Checked.{CheckedColumn}
 use Rattle.schema_meta.specs.Rows.{row_at}
 use Rattle.view_lang.specs.Causes.{is_heavy, layouts_of}
 use Rattle.view_lang.specs.Config.{Table}
-use Rattle.view_lang.specs.ConfigRules.{IsTable}
-use Rattle.view_lang.specs.World.{key_in}
+use Rattle.view_lang.specs.Contents.{key_in}
+use Rattle.view_lang.specs.TableRules.{IsTable}
 use Rattle.row_keys.specs.declared.batches.Place.{Place}
 use Rattle.row_keys.specs.Batches.{AreAlike, cells_in, layouts_in}
 use Rattle.row_keys.specs.Numbers.{Numbered, live_count}
@@ -73,7 +72,7 @@ pub record IsStored (t : Table) (batches : List (List CheckedColumn)) (places : 
   pub placed : All (IsPlaced t batches) places
   pub light : All (IsLightRow t) (rows_by batches places)
   pub keyed : AreKeyed t (rows_by batches places) numbers
-  pub few : live_count numbers ≤ max_main_rows
+  pub few : live_count numbers ≤ t.max_rows
 
 -- the keys of the live rows
 abbrev pub live_keys : List Numbered → List Datum

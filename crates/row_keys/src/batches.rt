@@ -15,8 +15,8 @@ use arrays::Column;
 use std::alloc::{AllocError, Global};
 use std::marker::Model;
 use values::Row;
-use values::limits::{MAX_APPENDED_ROWS, MAX_MAIN_ROWS};
-use view_lang::Unfit;
+use values::limits::MAX_APPENDED_ROWS;
+use view_lang::{Table, Unfit};
 
 /// The columns of a batch. Contracts see their list.
 #[derive(Drop)]
@@ -78,9 +78,10 @@ pub(crate) fn keep_batch(
     Ok(())
 }
 
-/// Keeps a batch of `rows` rows beside `live` live rows among `appended`: 44 where there would be too many, 45 where
-/// one is too heavy. On an error nothing has changed.
+/// Keeps a batch of `rows` rows of a table beside `live` live rows among `appended`: 44 where there would be too many, 45
+/// where one is too heavy. On an error nothing has changed.
 pub(crate) fn keep_rows(
+    table: &Table,
     batches: &mut Vec<Batch>,
     places: &mut Vec<Place>,
     columns: Vec<Column>,
@@ -91,13 +92,13 @@ pub(crate) fn keep_rows(
     requires { All (λ c. length c.cells ≡ rows) columns.items }
     ensures batches { OnOk result (batches.new.items ≡ batches.old.items ++ columns.items ∷ []) }
     ensures places { OnOk result (places.new.items ≡ places.old.items ++ places_from (length batches.old.items) 0 rows) }
-    ensures few { OnOk result (are_many live appended rows ≡ false) }
+    ensures few { OnOk result (are_many table.now.max_rows live appended rows ≡ false) }
     ensures light { OnOk result (any_heavy (layouts_in columns.items) (batch_rows rows columns.items) ≡ false) }
-    ensures refused { IfErr result (RefusesRows live appended rows columns.items) }
+    ensures refused { IfErr result (RefusesRows table.now.max_rows live appended rows columns.items) }
     ensures same_batches { OnErr result (batches.new.items ≡ batches.old.items) }
     ensures same_places { OnErr result (places.new.items ≡ places.old.items) }
 {
-    if has_many(live, appended, rows) {
+    if has_many(table.max_rows, live, appended, rows) {
         return Err(EditFault::Unfit(Unfit::TooManyRows));
     }
     if has_heavy_row(&columns, rows) {
@@ -107,11 +108,12 @@ pub(crate) fn keep_rows(
     Ok(())
 }
 
-/// Whether there would be too many rows: live ones, or appended ones.
-fn has_many(live: usize, appended: usize, rows: usize) -> bool
-    ensures { result ≡ are_many live appended rows }
+/// Whether there would be too many rows: more than `most` live ones, or too many appended ones.
+fn has_many(most: usize, live: usize, appended: usize, rows: usize) -> bool
+    ensures { result ≡ are_many most live appended rows }
 {
-    live.saturating_add(rows) > MAX_MAIN_ROWS
+    live > most
+        || rows > most - live
         || appended.saturating_add(rows) as u64 > MAX_APPENDED_ROWS
 }
 

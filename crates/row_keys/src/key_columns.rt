@@ -1,13 +1,14 @@
 //! The keys of a batch.
 
-ghost use Rattle.std.specs.Prelude.{◌≡◌, ◌<◌, ◌≤◌, IfErr, IfOk, OnErr, OnOk, drop, get_or, length};
+ghost use Rattle.std.specs.Prelude.{◌≡◌, ◌<◌, ◌≤◌, [], IfErr, IfOk, OnErr, OnOk, drop, false, get_or, length};
 ghost use Rattle.values.specs.Datum.{null};
 ghost use Rattle.values.specs.Keys.{datum_of_key};
-ghost use Rattle.view_lang.specs.Causes.{has_null, is_null as is_null_by};
-ghost use Rattle.view_lang.specs.ConfigRules.{IsTable};
-ghost use Rattle.view_lang.specs.World.{keys_in};
+ghost use Rattle.view_lang.specs.Causes.{has_null, has_repeated};
+ghost use Rattle.view_lang.specs.Cells.{is_null as is_null_by};
+ghost use Rattle.view_lang.specs.Contents.{keys_in};
+ghost use Rattle.view_lang.specs.TableRules.{IsTable};
 ghost use Rattle.row_keys.specs.Batches.{IsBatch, batch_rows};
-ghost use Rattle.row_keys.specs.Found.{FindsAll, MissesKey};
+ghost use Rattle.row_keys.specs.Found.{FindsAll, MissesKey, known_keys};
 ghost use Rattle.row_keys.specs.KeyColumns.{HoldsKeys, PushesKey, PushesKeys, RefusesKey, RefusesKeys};
 
 use crate::faults::EditFault;
@@ -17,7 +18,7 @@ use std::alloc::{AllocError, Global};
 use values::{Key, Kind, Value};
 use view_lang::{Table, Unfit};
 
-fn is_null(value: &Value) -> bool
+pub(crate) fn is_null(value: &Value) -> bool
     ensures { result ≡ is_null_by value.now }
 {
     match &value.kind {
@@ -148,4 +149,45 @@ pub(crate) fn find_keys(
         }
     }
     Ok(found)
+}
+
+/// The numbers of the live rows whose keys are in a column, in its order. Keys that no live row has are passed over.
+#[tactic(auto, using(crate::proofs::Replacing::knowing))]
+fn find_known(
+    alloc: Global,
+    column: &Column,
+    numbers: &Numbers,
+) -> Result<Vec<usize>, AllocError>
+    requires { HoldsKeys column.now.layouts }
+    ensures { IfOk result (λ found.
+        FindsAll (known_keys column.now.cells numbers.now) numbers.now found.items) }
+{
+    let mut found = Vec::new(alloc);
+    for index in 0..column.len() {
+        let key = read_key(alloc, column, index)?;
+        if let Some(number) = numbers.find(&key) {
+            found.push(number)?;
+        }
+    }
+    Ok(found)
+}
+
+/// The numbers of the live rows with the keys of a batch's rows: 41 where a key is null, 42 where one stands twice.
+pub(crate) fn find_batch(
+    alloc: Global,
+    table: &Table,
+    columns: &[Column],
+    rows: usize,
+    numbers: &Numbers,
+) -> Result<Vec<usize>, EditFault>
+    requires table { IsTable table.now }
+    requires batch { IsBatch table.now rows columns.now }
+    ensures found { IfOk result (λ found. FindsAll
+        (known_keys (keys_in table.now (batch_rows rows columns.now)) numbers.now) numbers.now found.items) }
+    ensures single { OnOk result (has_repeated (keys_in table.now (batch_rows rows columns.now)) ≡ false) }
+    ensures refused { IfErr result (RefusesKeys (keys_in table.now (batch_rows rows columns.now)) []) }
+{
+    let mut seen = Numbers::new(alloc);
+    push_batch(alloc, table, columns, rows, &mut seen)?;
+    Ok(find_known(alloc, &columns[table.key], numbers)?)
 }

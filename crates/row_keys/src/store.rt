@@ -1,32 +1,51 @@
 //! The store of rows.
 
-ghost use Rattle.std.specs.Prelude.{◌≡◌, ◌<◌, ◌≤◌, [], None, IfErr, IfOk, MatchOption, OnErr, OnOk, get_or, length};
+ghost use Rattle.std.specs.Prelude.{
+  ◌≡◌,
+  ◌<◌,
+  ◌≤◌,
+  [],
+  All,
+  None,
+  IfErr,
+  IfOk,
+  IfSome,
+  MatchOption,
+  OnErr,
+  OnOk,
+  get_or,
+  length,
+  map,
+};
+ghost use Rattle.std.specs.Option.{option_map};
 ghost use Rattle.values.specs.Limits.{max_main_rows};
 ghost use Rattle.view_lang.specs.Causes.{cause_of};
-ghost use Rattle.view_lang.specs.ConfigRules.{IsTable};
-ghost use Rattle.view_lang.specs.Edits.{append, retract};
+ghost use Rattle.view_lang.specs.Contents.{applied, keys_in, without};
+ghost use Rattle.view_lang.specs.Edits.{append, put, retract};
+ghost use Rattle.view_lang.specs.Joined.{side_of};
 ghost use Rattle.view_lang.specs.Rows.{IsRow};
-ghost use Rattle.view_lang.specs.World.{applied};
+ghost use Rattle.view_lang.specs.TableRules.{IsTable};
 ghost use Rattle.row_keys.specs.Batches.{AreKeys, IsBatch, batch_rows};
 ghost use Rattle.row_keys.specs.Slots.{
   CanPutBack,
   CanRetract,
   CanTakeBack,
+  CanUndoPut,
   keys_at,
   no_slot,
   put_back,
+  put_undone,
   retracted,
   row_of,
   taken_back,
-  world_of,
+  contents_of,
 };
 ghost use Rattle.row_keys.specs.Store.{
-  AreRows,
   IsAbsent,
   IsFound,
+  IsKnown,
+  IsUnknown,
   Refuses,
-  VisitsAtMost,
-  cells_of_rows,
   live_in,
   no_rows,
   visited,
@@ -35,13 +54,13 @@ ghost use Rattle.row_keys.specs.Store.{
 
 use crate::batches::{Batch, Place, keep_rows, read_row};
 use crate::faults::EditFault;
-use crate::key_columns::{find_keys, push_batch, push_keys};
+use crate::key_columns::{find_batch, find_keys, is_null, push_batch, push_keys};
 use crate::numbers::Numbers;
 use crate::turning::{retract_all, revive_all};
 use arrays::Column;
 use std::alloc::{AllocError, Global};
 use std::marker::Model;
-use values::{Key, Row};
+use values::{Key, Row, Value};
 use view_lang::Table;
 
 /// The rows of a table, by number. A row's number is its place in the order in which rows came; retracted rows keep
@@ -129,13 +148,13 @@ impl RowStore {
     /// changed.
     pub fn append(&mut self, columns: Vec<Column>, rows: usize) -> Result<(), EditFault>
         requires { IsBatch self.old.table rows columns.items }
-        ensures world { OnOk result
-            (world_of self.new.slots ≡ applied self.old.table (append (batch_rows rows columns.items))
-            (world_of self.old.slots)) }
+        ensures contents { OnOk result
+            (contents_of self.new.slots ≡ applied self.old.table (append (batch_rows rows columns.items))
+            (contents_of self.old.slots)) }
         ensures fits { OnOk result
-            (cause_of self.old.table (world_of self.old.slots) (append (batch_rows rows columns.items)) ≡ None) }
+            (cause_of self.old.table (contents_of self.old.slots) (append (batch_rows rows columns.items)) ≡ None) }
         ensures refused { IfErr result
-            (Refuses (cause_of self.old.table (world_of self.old.slots) (append (batch_rows rows columns.items)))) }
+            (Refuses (cause_of self.old.table (contents_of self.old.slots) (append (batch_rows rows columns.items)))) }
         ensures can_go_back { OnOk result (CanTakeBack rows self.new.slots) }
         ensures back { OnOk result (taken_back rows self.new.slots ≡ self.old.slots) }
         ensures rest { self.new ≡ with_slots self.old self.new.slots }
@@ -148,6 +167,7 @@ impl RowStore {
             Err(fault) => return Err(fault),
         }
         match keep_rows(
+            &self.table,
             &mut self.batches,
             &mut self.places,
             columns,
@@ -179,8 +199,8 @@ impl RowStore {
         requires { AreKeys self.now.table keys.now }
         ensures numbers { IfOk result (λ ns. CanRetract ns.items self.now.slots) }
         ensures keys { IfOk result (λ ns. keys_at self.now.table ns.items self.now.slots ≡ keys.now.cells) }
-        ensures fits { OnOk result (cause_of self.now.table (world_of self.now.slots) (retract keys.now.cells) ≡ None) }
-        ensures refused { IfErr result (Refuses (cause_of self.now.table (world_of self.now.slots) (retract keys.now.cells))) }
+        ensures fits { OnOk result (cause_of self.now.table (contents_of self.now.slots) (retract keys.now.cells) ≡ None) }
+        ensures refused { IfErr result (Refuses (cause_of self.now.table (contents_of self.now.slots) (retract keys.now.cells))) }
     {
         let _table = &self.table;
         let mut seen = Numbers::new(self.alloc);
@@ -190,12 +210,63 @@ impl RowStore {
         }
     }
 
+    /// The numbers of the live rows whose places the rows of a batch take, or why their keys don't fit.
+    fn find_replaced(&self, columns: &[Column], rows: usize) -> Result<Vec<usize>, EditFault>
+        requires { IsBatch self.now.table rows columns.now }
+        ensures numbers { IfOk result (λ ns. CanRetract ns.items self.now.slots) }
+        ensures rest { IfOk result (λ ns.
+            without self.now.table (keys_at self.now.table ns.items self.now.slots) (live_in self.now) ≡ without
+            self.now.table (keys_in self.now.table (batch_rows rows columns.now)) (live_in self.now)) }
+        ensures refused { IfErr result
+            (Refuses (cause_of self.now.table (contents_of self.now.slots) (put (batch_rows rows columns.now)))) }
+    {
+        find_batch(self.alloc, &self.table, columns, rows, &self.numbers)
+    }
+
+    /// Adds the `rows` rows of a batch after all rows once the live rows with their keys are retracted, and answers the
+    /// numbers of these; or it answers the first cause for which they don't fit: a null key, a key that stands twice,
+    /// too many rows, a cell or a row that is too heavy. On an error nothing has changed.
+    pub fn put(&mut self, columns: Vec<Column>, rows: usize) -> Result<Vec<usize>, EditFault>
+        requires { IsBatch self.old.table rows columns.items }
+        ensures contents { OnOk result
+            (contents_of self.new.slots ≡ applied self.old.table (put (batch_rows rows columns.items))
+            (contents_of self.old.slots)) }
+        ensures fits { OnOk result
+            (cause_of self.old.table (contents_of self.old.slots) (put (batch_rows rows columns.items)) ≡ None) }
+        ensures refused { IfErr result
+            (Refuses (cause_of self.old.table (contents_of self.old.slots) (put (batch_rows rows columns.items)))) }
+        ensures can_go_back { IfOk result (λ replaced.
+            CanUndoPut self.old.table rows replaced.items self.new.slots) }
+        ensures back { IfOk result (λ replaced. put_undone rows replaced.items self.new.slots ≡ self.old.slots) }
+        ensures rest { self.new ≡ with_slots self.old self.new.slots }
+        ensures unchanged { OnErr result (self.new.slots ≡ self.old.slots) }
+    {
+        let replaced = self.find_replaced(&columns, rows)?;
+        self.retract(&replaced);
+        match self.append(columns, rows) {
+            Ok(()) => Ok(replaced),
+            Err(fault) => {
+                self.put_back(&replaced);
+                Err(fault)
+            }
+        }
+    }
+
+    /// Takes the last `rows` rows away, and puts those back whose places they took. It takes no memory.
+    pub fn undo_put(&mut self, rows: usize, replaced: &[usize])
+        requires { CanUndoPut self.old.table rows replaced.now self.old.slots }
+        ensures { self.new ≡ with_slots self.old (put_undone rows replaced.now self.old.slots) }
+    {
+        self.take_back(rows);
+        self.put_back(replaced);
+    }
+
     /// Retracts the rows of these numbers. It takes no memory.
     pub fn retract(&mut self, numbers: &[usize])
         requires { CanRetract numbers.now self.old.slots }
         ensures slots { self.new ≡ with_slots self.old (retracted numbers.now self.old.slots) }
-        ensures world { world_of self.new.slots ≡ applied self.old.table
-            (retract (keys_at self.old.table numbers.now self.old.slots)) (world_of self.old.slots) }
+        ensures contents { contents_of self.new.slots ≡ applied self.old.table
+            (retract (keys_at self.old.table numbers.now self.old.slots)) (contents_of self.old.slots) }
         ensures can_go_back { CanPutBack self.old.table numbers.now self.new.slots }
         ensures back { put_back numbers.now self.new.slots ≡ self.old.slots }
     {
@@ -211,6 +282,17 @@ impl RowStore {
         revive_all(&mut self.numbers, numbers);
     }
 
+    /// A copy of the row of this number, live or retracted.
+    fn copy_row(&self, number: usize) -> Result<Row, AllocError>
+        requires { number < length self.now.slots }
+        ensures row { IfOk result (λ row. row.items ≡ row_of self.now.slots number) }
+        ensures held { IfOk result (λ row. IsRow self.now.table.columns row.items) }
+    {
+        let place = self.places[number];
+        let batch = &self.batches[place.batch];
+        read_row(self.alloc, &batch.columns, place.index)
+    }
+
     /// A copy of the row of this number, live or retracted. It is a visit.
     pub fn open_row(&mut self, number: usize) -> Result<Row, AllocError>
         requires { number < length self.old.slots }
@@ -219,27 +301,49 @@ impl RowStore {
         ensures visit { self.new ≡ visited 1 self.old }
     {
         self.visits = self.visits.saturating_add(1);
-        let place = self.places[number];
-        let batch = &self.batches[place.batch];
-        read_row(self.alloc, &batch.columns, place.index)
+        self.copy_row(number)
     }
 
-    /// Copies of all live rows, in order. Each is a visit.
-    pub fn live_rows(&mut self) -> Result<Vec<Row>, AllocError>
-        ensures rows { IfOk result (λ rows. cells_of_rows rows.items ≡ live_in self.old) }
-        ensures held { OnOk result (AreRows self.old.table (live_in self.old)) }
-        ensures few { length (live_in self.old) ≤ max_main_rows }
-        ensures visits { OnOk result (self.new ≡ visited (length (live_in self.old)) self.old) }
-        ensures refused { OnErr result (VisitsAtMost (length (live_in self.old)) self.old self.new) }
+    /// The number of the live row whose key a cell is.
+    fn number_of(&self, cell: &Value) -> Result<Option<usize>, AllocError>
+        ensures { IfOk result (λ number. MatchOption number (IsUnknown self.now cell.now) (IsKnown self.now cell.now)) }
     {
-        let _visits = self.visits();
-        let mut rows = Vec::with_capacity(self.alloc, self.len())?;
+        let _table = &self.table;
+        if is_null(cell) {
+            return Ok(None);
+        }
+        let Some(key) = Key::of(self.alloc, cell)? else {
+            return Ok(None);
+        };
+        self.numbers.distinct();
+        Ok(self.numbers.find(&key))
+    }
+
+    /// A copy of the live row whose key a cell is, if there is one. A null is no row's key. It isn't counted as a visit.
+    pub fn row_with_key(&self, cell: &Value) -> Result<Option<Row>, AllocError>
+        ensures row { IfOk result (λ row. option_map (λ r. r.items) row
+            ≡ side_of self.now.table (contents_of self.now.slots) cell.now) }
+        ensures held { IfOk result (λ row. IfSome row (λ r. IsRow self.now.table.columns r.items)) }
+    {
+        match self.number_of(cell)? {
+            Some(number) => Ok(Some(self.copy_row(number)?)),
+            None => Ok(None),
+        }
+    }
+
+    /// The numbers of all live rows, in order.
+    pub fn live_numbers(&self) -> Result<Vec<usize>, AllocError>
+        ensures rows { IfOk result (λ numbers. map (row_of self.now.slots) numbers.items ≡ live_in self.now) }
+        ensures there { IfOk result (λ numbers. All (λ n. n < length self.now.slots) numbers.items) }
+        ensures few { length (live_in self.now) ≤ max_main_rows }
+    {
+        let mut numbers = Vec::with_capacity(self.alloc, self.len())?;
         for number in 0..self.appended() {
             if self.is_live(number) {
-                rows.push(self.open_row(number)?)?;
+                numbers.push(number)?;
             }
         }
-        Ok(rows)
+        Ok(numbers)
     }
 
     /// The number of all rows that have numbers, retracted ones too.

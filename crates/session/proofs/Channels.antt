@@ -25,30 +25,30 @@ use Rattle.session.specs.Shows.{ShowsChannel, ShowsEach}
 use Rattle.session.specs.declared.link.Link.{Link}
 
 pub each_none :
-    (main : Table) (ls : List Link) (cs : List Channel) (k : ℕ) → ShowsEach main ls cs → length ls ≤ k
+    (tables : List Table) (ls : List Link) (cs : List Channel) (k : ℕ) → ShowsEach tables ls cs → length ls ≤ k
     → slice_get cs k ≡ None
-each_none main [] [] k h past = refl
-each_none main [] (c ∷ cs) k h past = absurd h
-each_none main (l ∷ ls) [] k h past = absurd h
-each_none main (l ∷ ls) (c ∷ cs) zero h past = absurd (omega (arith, past))
-each_none main (l ∷ ls) (c ∷ cs) (suc k) h past = each_none main ls cs k h.1 (omega (arith, past))
+each_none tables [] [] k h past = refl
+each_none tables [] (c ∷ cs) k h past = absurd h
+each_none tables (l ∷ ls) [] k h past = absurd h
+each_none tables (l ∷ ls) (c ∷ cs) zero h past = absurd (omega (arith, past))
+each_none tables (l ∷ ls) (c ∷ cs) (suc k) h past = each_none tables ls cs k h.1 (omega (arith, past))
 
 -- the channel that a feed shows
 pub each_get :
-    (main : Table) (ls : List Link) (cs : List Channel) (k : ℕ) (l : Link) → ShowsEach main ls cs → k < length ls
+    (tables : List Table) (ls : List Link) (cs : List Channel) (k : ℕ) (l : Link) → ShowsEach tables ls cs → k < length ls
     → l ≡ get_or ls k l
-    → (c : Channel) × (slice_get cs k ≡ Some c) × ShowsChannel main l c
-each_get main [] cs k l h below is = absurd (omega (arith, below))
-each_get main (m ∷ ls) [] k l h below is = absurd h
-each_get main (m ∷ ls) (c ∷ cs) zero l h below is = (c, refl, subst (λ (x : Link). ShowsChannel main x c) (sym is) h.0)
-each_get main (m ∷ ls) (c ∷ cs) (suc k) l h below is = each_get main ls cs k l h.1 (omega (arith, below)) is
+    → (c : Channel) × (slice_get cs k ≡ Some c) × ShowsChannel tables l c
+each_get tables [] cs k l h below is = absurd (omega (arith, below))
+each_get tables (m ∷ ls) [] k l h below is = absurd h
+each_get tables (m ∷ ls) (c ∷ cs) zero l h below is = (c, refl, subst (λ (x : Link). ShowsChannel tables x c) (sym is) h.0)
+each_get tables (m ∷ ls) (c ∷ cs) (suc k) l h below is = each_get tables ls cs k l h.1 (omega (arith, below)) is
 
 pub each_set :
-    (main : Table) (ls : List Link) (cs : List Channel) (k : ℕ) (l : Link) (c : Channel) → ShowsEach main ls cs
-    → ShowsChannel main l c
-    → ShowsEach main (slice_set ls k l) (slice_set cs k c)
-each_set main [] [] k l c h s = tt
-each_set main [] (d ∷ cs) k l c h s = absurd h
-each_set main (m ∷ ls) [] k l c h s = absurd h
-each_set main (m ∷ ls) (d ∷ cs) zero l c h s = (s, h.1)
-each_set main (m ∷ ls) (d ∷ cs) (suc k) l c h s = (h.0, each_set main ls cs k l c h.1 s)
+    (tables : List Table) (ls : List Link) (cs : List Channel) (k : ℕ) (l : Link) (c : Channel) → ShowsEach tables ls cs
+    → ShowsChannel tables l c
+    → ShowsEach tables (slice_set ls k l) (slice_set cs k c)
+each_set tables [] [] k l c h s = tt
+each_set tables [] (d ∷ cs) k l c h s = absurd h
+each_set tables (m ∷ ls) [] k l c h s = absurd h
+each_set tables (m ∷ ls) (d ∷ cs) zero l c h s = (s, h.1)
+each_set tables (m ∷ ls) (d ∷ cs) (suc k) l c h s = (h.0, each_set tables ls cs k l c h.1 s)

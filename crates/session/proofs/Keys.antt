@@ -29,11 +29,12 @@ use Rattle.values.specs.declared.layout.Layout.{Layout}
 use Rattle.arrays.specs.Checked.{CheckedColumn}
 use Rattle.feed.specs.Columns.{layouts_in}
 use Rattle.schema_meta.specs.Rows.{rows_from}
-use Rattle.view_lang.specs.Edits.{first_cell, retract}
 use Rattle.view_lang.specs.Config.{Table}
+use Rattle.view_lang.specs.Edits.{first_cell, retract}
+use Rattle.view_lang.specs.ViewColumns.{key_column}
 use Rattle.view_lang.specs.declared.config.Role.TheVariants as role
 use Rattle.row_keys.specs.Batches.{AreAlike, AreKeys, IsAlike, key_layout}
-use Rattle.session.specs.Changes.{IsBatch, edit_by}
+use Rattle.session.specs.Changes.{IsBatch, change_by}
 
 rows_keys : (cells : List Datum) (i n : ℕ) → i + n ≡ length cells
     → map first_cell (rows_from (cells ∷ []) i n) ≡ drop i cells
@@ -56,22 +57,22 @@ one_column t (x ∷ []) c alike is =
 one_column t (x ∷ y ∷ ys) c alike is = absurd alike.1
 
 pub are_keys :
-    (main : Table) (columns : List CheckedColumn) (c : CheckedColumn) (rows : ℕ)
-    → IsBatch main role.Retract columns rows → c ≡ get_or columns 0 c
-    → AreKeys main c
-are_keys main columns c rows batch is = (one_column (key_layout main) columns c batch.alike is).1
+    (t : Table) (columns : List CheckedColumn) (c : CheckedColumn) (rows : ℕ)
+    → IsBatch (key_column t) columns rows → c ≡ get_or columns 0 c
+    → AreKeys t c
+are_keys t columns c rows batch is = (one_column (key_layout t) columns c batch.alike is).1
 
 -- the edit that it is
 pub keys_edit :
-    (main : Table) (columns : List CheckedColumn) (c : CheckedColumn) (rows : ℕ)
-    → IsBatch main role.Retract columns rows → c ≡ get_or columns 0 c
-    → retract c.cells ≡ edit_by role.Retract columns rows
-keys_edit main columns c rows batch is =
-    let one : columns ≡ c ∷ [] = (one_column (key_layout main) columns c batch.alike is).0 in
+    (t : Table) (columns : List CheckedColumn) (c : CheckedColumn) (rows : ℕ)
+    → IsBatch (key_column t) columns rows → c ≡ get_or columns 0 c
+    → retract c.cells ≡ change_by role.Retract columns rows
+keys_edit t columns c rows batch is =
+    let one : columns ≡ c ∷ [] = (one_column (key_layout t) columns c batch.alike is).0 in
     let lengths : All (λ (x : CheckedColumn). length x.cells ≡ rows) (c ∷ []) =
     subst (λ (cs : List CheckedColumn). All (λ (x : CheckedColumn). length x.cells ≡ rows) cs) one batch.lengths in
     let long : length c.cells ≡ rows = All-head (λ (x : CheckedColumn). length x.cells ≡ rows) c [] lengths in
     let keys : map first_cell (rows_from (c.cells ∷ []) 0 rows) ≡ c.cells =
     rows_keys c.cells 0 rows (omega (arith, long)) in
-    let named : retract c.cells ≡ edit_by role.Retract (c ∷ []) rows = ap retract (sym keys) in
-    subst (λ (cs : List CheckedColumn). retract c.cells ≡ edit_by role.Retract cs rows) (sym one) named
+    let named : retract c.cells ≡ change_by role.Retract (c ∷ []) rows = ap retract (sym keys) in
+    subst (λ (cs : List CheckedColumn). retract c.cells ≡ change_by role.Retract cs rows) (sym one) named

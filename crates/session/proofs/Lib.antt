@@ -2,7 +2,7 @@ pub mod Declared
 pub mod Named
 pub mod Runs
 pub mod Typed
-pub mod Written
+pub mod Stores
 pub mod Pasts
 pub mod Channels
 pub mod Keys
@@ -11,3 +11,5 @@ pub mod Sessions
 pub mod Opening
 pub mod Refusing
 pub mod Sample
+pub mod Inputs
+pub mod Written

@@ -4,6 +4,7 @@ use Rattle.std.proofs.Common.{
   ℕ,
   ◌+◌,
   ◌<◌,
+  All,
   Some,
   List,
   [],
@@ -19,95 +20,178 @@ use Rattle.std.proofs.Common.{
   subst,
   ◌∙◌,
   add-one,
+  arith,
 }
 use Rattle.std.proofs.Math.Seq.{take-suc}
 use Rattle.std.proofs.lemmas.List.{map-append}
+use Rattle.std.proofs.lemmas.List.Elements.{All-cons, All-get_or, All-map}
 use Rattle.values.specs.Logical.{NamedType}
 use Rattle.values.specs.Rose.{Rose}
 use Rattle.feed.specs.Shown.{FeedParts, Shows as FeedShows}
 use Rattle.feed.specs.States.{fresh}
-use Rattle.view_lang.specs.Config.{Config, FeedConfig, Table}
-use Rattle.view_lang.specs.ConfigRules.{IsConfig, feed_columns}
+use Rattle.view_lang.specs.Config.{Config, FeedConfig, SideTable, Table, tables_of}
+use Rattle.view_lang.specs.ConfigRules.{IsConfig}
+use Rattle.view_lang.specs.Contents.{no_contents}
+use Rattle.view_lang.specs.Edits.{table_of}
+use Rattle.view_lang.specs.TableRules.{IsTable}
+use Rattle.view_lang.specs.ViewColumns.{feed_columns, view_columns}
+use Rattle.view_lang.specs.World.{world}
 use Rattle.view_lang.specs.declared.config.Role.{Role}
 use Rattle.row_keys.specs.Slots.{live}
 use Rattle.row_keys.specs.Store.{Store, no_rows}
-use Rattle.session.specs.Shows.{IsSession, SessionParts, Shows, ShowsChannel, ShowsEach}
+use Rattle.session.specs.Shows.{
+  AreShown,
+  IsSession,
+  SessionParts,
+  Shows,
+  ShowsChannel,
+  ShowsEach,
+  config_of,
+  named_sides,
+  rows_in,
+  tables_in,
+  world_of,
+}
 use Rattle.session.specs.Steps.{Channel, opened, start}
 use Rattle.session.specs.declared.link.Link.{Link}
 use Rattle.session.specs.declared.undo.UndoRecord.{UndoRecord}
 
 each_more :
-    (main : Table) (ls : List Link) (cs : List Channel) (l : Link) (c : Channel) → ShowsEach main ls cs
-    → ShowsChannel main l c
-    → ShowsEach main (ls ++ l ∷ []) (cs ++ c ∷ [])
-each_more main [] [] l c h s = (s, tt)
-each_more main [] (d ∷ cs) l c h s = absurd h
-each_more main (m ∷ ls) [] l c h s = absurd h
-each_more main (m ∷ ls) (d ∷ cs) l c h s = (h.0, each_more main ls cs l c h.1 s)
+    (tables : List Table) (ls : List Link) (cs : List Channel) (l : Link) (c : Channel) → ShowsEach tables ls cs
+    → ShowsChannel tables l c
+    → ShowsEach tables (ls ++ l ∷ []) (cs ++ c ∷ [])
+each_more tables [] [] l c h s = (s, tt)
+each_more tables [] (d ∷ cs) l c h s = absurd h
+each_more tables (m ∷ ls) [] l c h s = absurd h
+each_more tables (m ∷ ls) (d ∷ cs) l c h s = (h.0, each_more tables ls cs l c h.1 s)
 
 channel_opened :
-    (main : Table) (role : Role) (plan : FeedConfig) (fields : List (Rose NamedType)) (f : FeedParts)
+    (tables : List Table) (role : Role) (plan : FeedConfig) (fields : List (Rose NamedType)) (f : FeedParts)
     → role ≡ plan.role
-    → fields ≡ feed_columns main role → FeedShows f (fresh (Some fields))
-    → ShowsChannel main (record { role = role; feed = f }) (opened main plan)
-channel_opened main role plan fields f same columns shown =
-    let is : fields ≡ feed_columns main plan.role = columns ∙ ap (feed_columns main) same in
+    → fields ≡ feed_columns tables role → FeedShows f (fresh (Some fields)) → table_of plan.role < length tables
+    → ShowsChannel tables (record { role = role; feed = f }) (opened tables plan)
+channel_opened tables role plan fields f same columns shown there =
+    let is : fields ≡ feed_columns tables plan.role = columns ∙ ap (feed_columns tables) same in
     record {
       role = same;
+      there = there;
       feed = subst (λ (fs : List (Rose NamedType)). FeedShows f (fresh (Some fs))) is shown;
       declared = refl;
     }
 
 pub one_opened :
-    (main : Table) (feeds : List FeedConfig) (i : ℕ) (ls ms : List Link) (role : Role) (plan : FeedConfig)
+    (tables : List Table) (feeds : List FeedConfig) (i : ℕ) (ls ms : List Link) (role : Role) (plan : FeedConfig)
     (fields : List (Rose NamedType))
-    (f : FeedParts) → ShowsEach main ls (map (opened main) (take i feeds)) → i < length feeds
+    (f : FeedParts) → ShowsEach tables ls (map (opened tables) (take i feeds)) → i < length feeds
     → plan ≡ get_or feeds i plan → role ≡ plan.role
-    → fields ≡ feed_columns main role → FeedShows f (fresh (Some fields))
+    → fields ≡ feed_columns tables role → FeedShows f (fresh (Some fields)) → table_of plan.role < length tables
     → ms ≡ ls ++ record { role = role; feed = f } ∷ []
-    → ShowsEach main ms (map (opened main) (take (i + 1) feeds))
-one_opened main feeds i ls ms role plan fields f so_far below is same columns shown more =
+    → ShowsEach tables ms (map (opened tables) (take (i + 1) feeds))
+one_opened tables feeds i ls ms role plan fields f so_far below is same columns shown there more =
     let next : take (i + 1) feeds ≡ take i feeds ++ plan ∷ [] =
     ap (λ n. take n feeds) (add-one i) ∙ take-suc feeds i plan below ∙ ap (λ x. take i feeds ++ x ∷ []) (sym is) in
-    let channels : map (opened main) (take (i + 1) feeds) ≡ map (opened main) (take i feeds) ++ opened main plan ∷ [] =
-    ap (map (opened main)) next ∙ map-append (opened main) (take i feeds) (plan ∷ []) in
+    let channels : map (opened tables) (take (i + 1) feeds) ≡ map (opened tables) (take i feeds) ++ opened tables plan ∷ [] =
+    ap (map (opened tables)) next ∙ map-append (opened tables) (take i feeds) (plan ∷ []) in
     let l : Link = record { role = role; feed = f } in
-    let made : ShowsEach main (ls ++ l ∷ []) (map (opened main) (take i feeds) ++ opened main plan ∷ []) =
-    each_more main ls (map (opened main) (take i feeds)) l (opened main plan) so_far
-    (channel_opened main role plan fields f same columns shown) in
-    let placed : ShowsEach main ms (map (opened main) (take i feeds) ++ opened main plan ∷ []) =
-    subst (λ (xs : List Link). ShowsEach main xs (map (opened main) (take i feeds) ++ opened main plan ∷ [])) (sym more)
+    let made : ShowsEach tables (ls ++ l ∷ []) (map (opened tables) (take i feeds) ++ opened tables plan ∷ []) =
+    each_more tables ls (map (opened tables) (take i feeds)) l (opened tables plan) so_far
+    (channel_opened tables role plan fields f same columns shown there) in
+    let placed : ShowsEach tables ms (map (opened tables) (take i feeds) ++ opened tables plan ∷ []) =
+    subst (λ (xs : List Link). ShowsEach tables xs (map (opened tables) (take i feeds) ++ opened tables plan ∷ [])) (sym more)
     made in
-    subst (λ (cs : List Channel). ShowsEach main ms cs) (sym channels) placed
+    subst (λ (cs : List Channel). ShowsEach tables ms cs) (sym channels) placed
 
-abbrev pub opened_parts : Config → List Link → Store → List UndoRecord → SessionParts
-opened_parts conf links store records =
-    record { feeds = conf.feeds; views = conf.views; links = links; store = store; records = records }
+-- the tables of a configuration, without rows
+
+abbrev pub empty_stores : Config → List Store
+empty_stores conf = no_rows conf.main ∷ map (λ s. no_rows s.table) conf.sides
+
+sides_empty : (sides : List SideTable) → tables_in (map (λ s. no_rows s.table) sides) ≡ map (λ s. s.table) sides
+sides_empty [] = refl
+sides_empty (s ∷ ss) = ap (λ ts. s.table ∷ ts) (sides_empty ss)
+
+tables_empty : (conf : Config) → tables_in (empty_stores conf) ≡ tables_of conf
+tables_empty conf = ap (λ ts. conf.main ∷ ts) (sides_empty conf.sides)
+
+none_there : (sides : List SideTable)
+    → world_of (rows_in (map (λ s. no_rows s.table) sides)) ≡ map (λ _. no_contents) (map (λ s. s.table) sides)
+unfolding live
+none_there [] = refl
+none_there (s ∷ ss) = ap (λ w. no_contents ∷ w) (none_there ss)
+
+world_empty : (conf : Config) → world_of (rows_in (empty_stores conf)) ≡ world (tables_of conf) []
+unfolding live world
+world_empty conf = ap (λ w. no_contents ∷ w) (none_there conf.sides)
+
+names_given : (sides : List SideTable) → named_sides (map (λ s. s.name) sides) (map (λ s. s.table) sides) ≡ sides
+names_given [] = refl
+names_given (s ∷ ss) = ap (λ xs. s ∷ xs) (names_given ss)
+
+abbrev pub opened_parts : Config → List (List ℕ) → List Link → List Store → List UndoRecord → SessionParts
+opened_parts conf names links stores records =
+    record {
+      sides = names;
+      feeds = conf.feeds;
+      views = conf.views;
+      links = links;
+      stores = stores;
+      records = records;
+    }
+
+pub opened_config :
+    (conf : Config) (names : List (List ℕ)) (links : List Link) (stores : List Store) (records : List UndoRecord)
+    → names ≡ map (λ s. s.name) conf.sides → stores ≡ empty_stores conf
+    → config_of (opened_parts conf names links stores records) ≡ conf
+opened_config conf names links stores records named empty =
+    ap (λ ss. config_of (opened_parts conf names links ss records)) empty
+    ∙ ap (λ ns. config_of (opened_parts conf ns links (empty_stores conf) records)) named
+    ∙ ap (λ ts. record {
+      main = conf.main;
+      sides = named_sides (map (λ s. s.name) conf.sides) ts;
+      feeds = conf.feeds;
+      views = conf.views;
+    })
+    (sides_empty conf.sides)
+    ∙ ap (λ ss. record { main = conf.main; sides = ss; feeds = conf.feeds; views = conf.views })
+    (names_given conf.sides)
 
 pub opened_shown :
-    (conf : Config) (links : List Link) (store : Store) (records : List UndoRecord) → store ≡ no_rows conf.main
-    → records ≡ []
-    → ShowsEach conf.main links (map (opened conf.main) conf.feeds)
-    → Shows (opened_parts conf links store records) (start conf)
-unfolding live
-opened_shown conf links store records empty none each =
-    let begun : Shows (opened_parts conf links (no_rows conf.main) []) (start conf) =
-    record { past = record { holds = record { same = refl }; depth = refl }; channels = each } in
-    let filled : Shows (opened_parts conf links (no_rows conf.main) records) (start conf) =
-    subst (λ (rs : List UndoRecord). Shows (opened_parts conf links (no_rows conf.main) rs) (start conf)) (sym none)
-    begun in
-    subst (λ (st : Store). Shows (opened_parts conf links st records) (start conf)) (sym empty) filled
+    (conf : Config) (names : List (List ℕ)) (links : List Link) (stores : List Store) (records : List UndoRecord)
+    → stores ≡ empty_stores conf → records ≡ []
+    → ShowsEach (tables_of conf) links (map (opened (tables_of conf)) conf.feeds)
+    → Shows (opened_parts conf names links stores records) (start conf)
+opened_shown conf names links stores records empty none each =
+    let P : List Table → Type 0 = λ ts. ShowsEach ts links (map (opened (tables_of conf)) conf.feeds) in
+    let Q : List Table → Type 0 = λ ts. world_of (rows_in (empty_stores conf)) ≡ world ts [] in
+    let begun : Shows (opened_parts conf names links (empty_stores conf) []) (start conf) =
+    record {
+      main = omega arith;
+      past = record { holds = record { same = subst Q (sym (tables_empty conf)) (world_empty conf) }; depth = refl };
+      channels = subst P (sym (tables_empty conf)) each;
+    } in
+    let filled : Shows (opened_parts conf names links (empty_stores conf) records) (start conf) =
+    subst (λ (rs : List UndoRecord). Shows (opened_parts conf names links (empty_stores conf) rs) (start conf))
+    (sym none) begun in
+    subst (λ (ss : List Store). Shows (opened_parts conf names links ss records) (start conf)) (sym empty) filled
+
+sides_right : (sides : List SideTable) → All (λ s. IsTable s.table) sides → All IsTable (map (λ s. s.table) sides)
+sides_right sides right = All-map IsTable (λ (s : SideTable). s.table) sides (λ k d below. right k d below)
+
+tables_right : (conf : Config) → IsConfig conf → All IsTable (tables_of conf)
+tables_right conf right =
+    All-cons IsTable conf.main (map (λ s. s.table) conf.sides) right.main (sides_right conf.sides right.sides)
 
 pub opened_session :
-    (conf : Config) (links : List Link) (store : Store) (records : List UndoRecord) (capacity : ℕ) → IsConfig conf
-    → capacity ≡ 64
-    → store ≡ no_rows conf.main → records ≡ [] → ShowsEach conf.main links (map (opened conf.main) conf.feeds)
-    → IsSession (opened_parts conf links store records) capacity
-opened_session conf links store records capacity right is empty none each =
-    let begun : IsSession (opened_parts conf links (no_rows conf.main) records) capacity =
+    (conf : Config) (names : List (List ℕ)) (links : List Link) (stores : List Store) (records : List UndoRecord)
+    (capacity : ℕ) (columns : List (List (Rose NamedType))) → IsConfig conf → capacity ≡ 64
+    → stores ≡ empty_stores conf → records ≡ []
+    → ShowsEach (tables_of conf) links (map (opened (tables_of conf)) conf.feeds)
+    → columns ≡ map (view_columns (tables_of conf)) conf.views
+    → IsSession (opened_parts conf names links stores records) capacity columns
+opened_session conf names links stores records capacity columns right is empty none each shown =
+    let P : List Table → Type 0 = λ ts. AreShown ts conf.views columns in
     record {
       capacity_is = is;
-      views = right.views;
-      some = (start conf, opened_shown conf links (no_rows conf.main) records refl none each);
-    } in
-    subst (λ (st : Store). IsSession (opened_parts conf links st records) capacity) (sym empty) begun
+      views = subst P (sym (ap tables_in empty ∙ tables_empty conf)) (tables_right conf right, right.views, shown);
+      some = (start conf, opened_shown conf names links stores records empty none each);
+    }

@@ -1,21 +1,23 @@
--- Slots and undo records that hold what edits come to, before and after an edit.
+-- Rows and undo records that hold what edits come to, before and after an edit.
 use Rattle.std.proofs.Common.{
   ◌≡◌,
   ℕ,
   zero,
   suc,
+  ◌<◌,
   min,
   None,
-  Some,
   Ok,
   Err,
   List,
   [],
   ◌∷◌,
+  Some,
   length,
   length-take,
   take,
   drop,
+  get_or,
   refl,
   ap,
   sym,
@@ -23,59 +25,86 @@ use Rattle.std.proofs.Common.{
   ◌∙◌,
   arith,
 }
-use Rattle.view_lang.specs.Causes.{cause_of}
+use Rattle.std.specs.Prelude.{slice_get, slice_set}
+use Rattle.view_lang.specs.Causes.{cause_in, cause_of}
 use Rattle.view_lang.specs.Config.{Table}
+use Rattle.view_lang.specs.Contents.{Contents, applied}
 use Rattle.view_lang.specs.Edits.{Edit}
-use Rattle.view_lang.specs.World.{World, applied}
-use Rattle.row_keys.specs.Slots.{Slot}
-use Rattle.row_keys.specs.Store.{Refuses}
+use Rattle.view_lang.specs.World.{World, contents_at, edited, table_at, world}
+use Rattle.row_keys.specs.Slots.{Slot, contents_of, live}
+use Rattle.row_keys.specs.Store.{Refuses, Store, with_slots}
 use Rattle.row_keys.specs.declared.faults.EditFault.{EditFault}
 use Rattle.session.specs.Changes.{Makes}
-use Rattle.std.specs.Prelude.{slice_get}
 use Rattle.session.specs.Steps.{Past, UndoBy, Undoes, accepted, undone, undone_by, unfit_in}
-use Rattle.session.specs.Shows.{AreWorld, CanGoBack, HoldsBack, ShowsPast, back}
+use Rattle.session.specs.Shows.{
+  AreWorld,
+  CanGoBack,
+  CanUndo,
+  HoldsBack,
+  Rows,
+  ShowsPast,
+  back,
+  before,
+  rows_at,
+  rows_in,
+  tables_in,
+  world_of,
+}
+use Rattle.session.specs.declared.undo.Change.{Change}
 use Rattle.session.specs.declared.undo.UndoRecord.{UndoRecord}
+use Rattle.session.proofs.Stores.{
+  at_mapped,
+  length_placed,
+  rows_kept,
+  rows_length,
+  rows_placed,
+  rows_restored,
+  rows_set,
+  rows_there,
+  set_mapped,
+  table_there,
+}
 
 pub holds_world :
-    (main : Table) (slots : List Slot) (rs : List UndoRecord) (es : List Edit) → HoldsBack main slots rs es
-    → AreWorld main slots es
-holds_world main slots [] es h = h
-holds_world main slots (r ∷ rs) [] h = absurd h
-holds_world main slots (r ∷ rs) (e ∷ es) h = h.0
+    (tables : List Table) (rows : Rows) (rs : List UndoRecord) (es : List Edit) → HoldsBack tables rows rs es
+    → AreWorld tables rows es
+holds_world tables rows [] es h = h
+holds_world tables rows (r ∷ rs) [] h = absurd h
+holds_world tables rows (r ∷ rs) (e ∷ es) h = h.0
 
 holds_take :
-    (main : Table) (n : ℕ) (slots : List Slot) (rs : List UndoRecord) (es : List Edit) → HoldsBack main slots rs es
-    → HoldsBack main slots (take n rs) es
-holds_take main zero slots rs es h = holds_world main slots rs es h
-holds_take main (suc n) slots [] es h = h
-holds_take main (suc n) slots (r ∷ rs) [] h = absurd h
-holds_take main (suc n) slots (r ∷ rs) (e ∷ es) h = (h.0, h.1, holds_take main n (back r slots) rs es h.2)
+    (tables : List Table) (n : ℕ) (rows : Rows) (rs : List UndoRecord) (es : List Edit) → HoldsBack tables rows rs es
+    → HoldsBack tables rows (take n rs) es
+holds_take tables zero rows rs es h = holds_world tables rows rs es h
+holds_take tables (suc n) rows [] es h = h
+holds_take tables (suc n) rows (r ∷ rs) [] h = absurd h
+holds_take tables (suc n) rows (r ∷ rs) (e ∷ es) h = (h.0, h.1, holds_take tables n (before r rows) rs es h.2)
 
 can_held :
-    (main : Table) (slots : List Slot) (r : UndoRecord) (rs : List UndoRecord) (es : List Edit)
-    → HoldsBack main slots (r ∷ rs) es → CanGoBack main r slots
-can_held main slots r rs [] h = absurd h
-can_held main slots r rs (e ∷ es) h = h.1
+    (tables : List Table) (rows : Rows) (r : UndoRecord) (rs : List UndoRecord) (es : List Edit)
+    → HoldsBack tables rows (r ∷ rs) es → CanUndo tables r rows
+can_held tables rows r rs [] h = absurd h
+can_held tables rows r rs (e ∷ es) h = h.1
 
 rest_held :
-    (main : Table) (slots : List Slot) (r : UndoRecord) (rs : List UndoRecord) (es : List Edit)
-    → HoldsBack main slots (r ∷ rs) es
-    → HoldsBack main (back r slots) rs (drop 1 es)
-rest_held main slots r rs [] h = absurd h
-rest_held main slots r rs (e ∷ es) h = h.2
+    (tables : List Table) (rows : Rows) (r : UndoRecord) (rs : List UndoRecord) (es : List Edit)
+    → HoldsBack tables rows (r ∷ rs) es
+    → HoldsBack tables (before r rows) rs (drop 1 es)
+rest_held tables rows r rs [] h = absurd h
+rest_held tables rows r rs (e ∷ es) h = h.2
 
 -- an edit on top of others
 pub edit_shown :
-    (main : Table) (old new : List Slot) (rs : List UndoRecord) (past : Past) (r : UndoRecord) (e : Edit)
-    → ShowsPast main old rs past
-    → AreWorld main new (e ∷ past.edits) → CanGoBack main r new → back r new ≡ old
-    → ShowsPast main new (take 64 (r ∷ rs)) (accepted past e)
-edit_shown main old new rs past r e shown world can is =
-    let below : HoldsBack main (back r new) rs past.edits =
-    subst (λ (slots : List Slot). HoldsBack main slots rs past.edits) (sym is) shown.holds in
-    let whole : HoldsBack main new (r ∷ rs) (e ∷ past.edits) = (world, can, below) in
+    (tables : List Table) (old new : Rows) (rs : List UndoRecord) (past : Past) (r : UndoRecord) (e : Edit)
+    → ShowsPast tables old rs past
+    → AreWorld tables new (e ∷ past.edits) → CanUndo tables r new → before r new ≡ old
+    → ShowsPast tables new (take 64 (r ∷ rs)) (accepted past e)
+edit_shown tables old new rs past r e shown world can is =
+    let below : HoldsBack tables (before r new) rs past.edits =
+    subst (λ (rows : Rows). HoldsBack tables rows rs past.edits) (sym is) shown.holds in
+    let whole : HoldsBack tables new (r ∷ rs) (e ∷ past.edits) = (world, can, below) in
     record {
-      holds = holds_take main 64 new (r ∷ rs) (e ∷ past.edits) whole;
+      holds = holds_take tables 64 new (r ∷ rs) (e ∷ past.edits) whole;
       depth = ap (λ n. min 64 (suc n)) shown.depth ∙ sym (length-take 64 (r ∷ rs));
     }
 
@@ -86,59 +115,159 @@ front_is (y ∷ ys) x e = cc
 
 -- the way back is open
 pub can_undo :
-    (main : Table) (slots : List Slot) (rs : List UndoRecord) (r : UndoRecord) (past : Past) → slice_get rs 0 ≡ Some r
-    → ShowsPast main slots rs past → CanGoBack main r slots
-can_undo main slots rs r past front shown =
-    let whole : HoldsBack main slots (r ∷ drop 1 rs) past.edits =
-    subst (λ (xs : List UndoRecord). HoldsBack main slots xs past.edits) (front_is rs r front) shown.holds in
-    can_held main slots r (drop 1 rs) past.edits whole
+    (tables : List Table) (rows : Rows) (rs : List UndoRecord) (r : UndoRecord) (past : Past) → slice_get rs 0 ≡ Some r
+    → ShowsPast tables rows rs past → CanUndo tables r rows
+can_undo tables rows rs r past front shown =
+    let whole : HoldsBack tables rows (r ∷ drop 1 rs) past.edits =
+    subst (λ (xs : List UndoRecord). HoldsBack tables rows xs past.edits) (front_is rs r front) shown.holds in
+    can_held tables rows r (drop 1 rs) past.edits whole
 
 -- and leads to the edits before the last
 pub undo_shown :
-    (main : Table) (old new : List Slot) (rs : List UndoRecord) (r : UndoRecord) (past : Past) → slice_get rs 0 ≡ Some r
-    → new ≡ back r old
-    → ShowsPast main old rs past → (next : Past) × Undoes past (Ok tt) next × ShowsPast main new (drop 1 rs) next
+    (tables : List Table) (old new : Rows) (rs : List UndoRecord) (r : UndoRecord) (past : Past) → slice_get rs 0 ≡ Some r
+    → new ≡ before r old
+    → ShowsPast tables old rs past → (next : Past) × Undoes past (Ok tt) next × ShowsPast tables new (drop 1 rs) next
 unfolding undone
-undo_shown main old new rs r past front is shown = by_depth past.depth refl where
-  whole : HoldsBack main old (r ∷ drop 1 rs) past.edits
-  whole = subst (λ (xs : List UndoRecord). HoldsBack main old xs past.edits) (front_is rs r front) shown.holds
+undo_shown tables old new rs r past front is shown = by_depth past.depth refl where
+  whole : HoldsBack tables old (r ∷ drop 1 rs) past.edits
+  whole = subst (λ (xs : List UndoRecord). HoldsBack tables old xs past.edits) (front_is rs r front) shown.holds
 
   many : length rs ≡ suc (length (drop 1 rs))
   many = ap length (front_is rs r front)
 
-  rest : HoldsBack main new (drop 1 rs) (drop 1 past.edits)
-  rest = subst (λ (slots : List Slot). HoldsBack main slots (drop 1 rs) (drop 1 past.edits)) (sym is)
-      (rest_held main old r (drop 1 rs) past.edits whole)
+  rest : HoldsBack tables new (drop 1 rs) (drop 1 past.edits)
+  rest = subst (λ (rows : Rows). HoldsBack tables rows (drop 1 rs) (drop 1 past.edits)) (sym is)
+      (rest_held tables old r (drop 1 rs) past.edits whole)
 
   by_depth :
-      (d : ℕ) → past.depth ≡ d → (next : Past) × UndoBy d past (Ok tt) next × ShowsPast main new (drop 1 rs) next
+      (d : ℕ) → past.depth ≡ d → (next : Past) × UndoBy d past (Ok tt) next × ShowsPast tables new (drop 1 rs) next
   by_depth zero e = absurd (omega (arith, e, shown.depth, many))
   by_depth (suc d) e = (
     undone past,
     refl,
-    subst (λ (n : ℕ). ShowsPast main new (drop 1 rs) (undone_by n past)) (sym e)
+    subst (λ (n : ℕ). ShowsPast tables new (drop 1 rs) (undone_by n past)) (sym e)
         (record { holds = rest; depth = omega (arith, e, shown.depth, many) }),
   )
 
 -- an edit that is refused, and one that is made
+
+pub contents_there : (rows : Rows) (n : ℕ) → n < length rows → contents_at (world_of rows) n ≡ contents_of (rows_at rows n)
+contents_there [] n below = absurd (omega (arith, below))
+contents_there (r ∷ rs) zero below = refl
+contents_there (r ∷ rs) (suc n) below = contents_there rs n (omega (arith, below))
+
+unfit_there :
+    (tables : List Table) (e : Edit) (old : Rows) (past : Past) → AreWorld tables old past.edits
+    → e.table < length old
+    → cause_of (table_at tables e.table) (contents_of (rows_at old e.table)) e.change ≡ unfit_in tables past e
+unfit_there tables e old past held below =
+    ap (λ c. cause_of (table_at tables e.table) c e.change) (sym (contents_there old e.table below))
+    ∙ ap (λ w. cause_in tables w e) held.same
+
 pub edit_refused :
-    (main : Table) (e : Edit) (old new : List Slot) (rs : List UndoRecord) (past : Past) (f : EditFault)
-    → Makes main e old new (Err f)
-    → ShowsPast main old rs past → Refuses (unfit_in main past e) f × ShowsPast main new rs past
-edit_refused main e old new rs past f made shown =
-    let world : AreWorld main old past.edits = holds_world main old rs past.edits shown.holds in (
-      subst (λ (w : World). Refuses (cause_of main w e) f) world.same made.0,
-      subst (λ (slots : List Slot). ShowsPast main slots rs past) (sym made.1) shown,
+    (tables : List Table) (e : Edit) (old : Rows) (new : List Slot) (rs : List UndoRecord) (past : Past) (f : EditFault)
+    → e.table < length old
+    → Makes (table_at tables e.table) e.change (rows_at old e.table) new (Err f)
+    → ShowsPast tables old rs past
+    → Refuses (unfit_in tables past e) f × ShowsPast tables (slice_set old e.table new) rs past
+edit_refused tables e old new rs past f below made shown =
+    let held : AreWorld tables old past.edits = holds_world tables old rs past.edits shown.holds in (
+      subst (λ o. Refuses o f) (unfit_there tables e old past held below) made.0,
+      subst (λ (rows : Rows). ShowsPast tables rows rs past) (sym (rows_kept old e.table new made.1)) shown,
     )
 
+world_edited :
+    (tables : List Table) (e : Edit) (old : Rows) (new : List Slot) (es : List Edit) → AreWorld tables old es
+    → e.table < length old
+    → contents_of new ≡ applied (table_at tables e.table) e.change (contents_of (rows_at old e.table))
+    → AreWorld tables (slice_set old e.table new) (e ∷ es)
+unfolding world
+world_edited tables e old new es held below made =
+    let t : Table = table_at tables e.table in
+    record {
+      same = set_mapped contents_of old e.table new
+          ∙ ap (slice_set (world_of old) e.table)
+          (made ∙ ap (applied t e.change) (sym (contents_there old e.table below)))
+          ∙ ap (edited tables e) held.same;
+    }
+
 pub edit_made :
-    (main : Table) (e : Edit) (old new : List Slot) (rs : List UndoRecord) (past : Past) (r : UndoRecord)
-    → Makes main e old new (Ok r)
-    → ShowsPast main old rs past → (unfit_in main past e ≡ None)
-    × ShowsPast main new (take 64 (r ∷ rs)) (accepted past e)
-edit_made main e old new rs past r made shown =
-    let world : AreWorld main old past.edits = holds_world main old rs past.edits shown.holds in (
-      subst (λ (w : World). cause_of main w e ≡ None) world.same made.0,
-      edit_shown main old new rs past r e shown (record { same = made.1 ∙ ap (applied main e) world.same }) made.2
-          made.3,
+    (tables : List Table) (e : Edit) (old : Rows) (new : List Slot) (rs : List UndoRecord) (past : Past) (c : Change)
+    → e.table < length old
+    → Makes (table_at tables e.table) e.change (rows_at old e.table) new (Ok c)
+    → ShowsPast tables old rs past
+    → (unfit_in tables past e ≡ None)
+    × ShowsPast tables (slice_set old e.table new) (take 64 (record { table = e.table; change = c } ∷ rs))
+    (accepted past e)
+edit_made tables e old new rs past c below made shown =
+    let held : AreWorld tables old past.edits = holds_world tables old rs past.edits shown.holds in
+    let there : rows_at (slice_set old e.table new) e.table ≡ new = rows_placed old e.table new below in
+    let many : length (slice_set old e.table new) ≡ length old = length_placed old e.table new in
+    let can : CanGoBack (table_at tables e.table) c (rows_at (slice_set old e.table new) e.table) =
+    subst (λ (slots : List Slot). CanGoBack (table_at tables e.table) c slots) (sym there) made.2 in (
+      sym (unfit_there tables e old past held below) ∙ made.0,
+      edit_shown tables old (slice_set old e.table new) rs past (record { table = e.table; change = c }) e shown
+          (world_edited tables e old new past.edits held below made.1)
+          (omega (arith, many, below), can)
+          (rows_restored old e.table new (back c) made.3),
     )
+
+-- the same, of stores
+
+pub store_edited :
+    (tables : List Table) (e : Edit) (stores : List Store) (s t : Store) (rs : List UndoRecord) (past : Past)
+    (c : Change) → tables ≡ tables_in stores → s ≡ get_or stores e.table s → e.table < length stores
+    → Makes s.table e.change s.slots t.slots (Ok c) → ShowsPast tables (rows_in stores) rs past
+    → (unfit_in tables past e ≡ None)
+    × ShowsPast tables (rows_in (slice_set stores e.table t)) (take 64 (record { table = e.table; change = c } ∷ rs))
+    (accepted past e)
+store_edited tables e stores s t rs past c same is below made shown =
+    let table : table_at tables e.table ≡ s.table =
+    ap (λ ts. table_at ts e.table) same ∙ table_there stores e.table s is below in
+    let slots : rows_at (rows_in stores) e.table ≡ s.slots = rows_there stores e.table s is below in
+    let P : Table → Type 0 = λ u. Makes u e.change s.slots t.slots (Ok c) in
+    let Q : List Slot → Type 0 = λ ss. Makes (table_at tables e.table) e.change ss t.slots (Ok c) in
+    let R : Rows → Type 0 = λ rows.
+    ShowsPast tables rows (take 64 (record { table = e.table; change = c } ∷ rs)) (accepted past e) in
+    let many = rows_length stores in
+    let done = edit_made tables e (rows_in stores) t.slots rs past c (omega (arith, many, below))
+    (subst Q (sym slots) (subst P (sym table) made)) shown in
+    (done.0, subst R (sym (rows_set stores e.table t)) done.1)
+
+pub store_refused :
+    (tables : List Table) (e : Edit) (stores : List Store) (s t : Store) (rs : List UndoRecord) (past : Past)
+    (f : EditFault) → tables ≡ tables_in stores → s ≡ get_or stores e.table s → e.table < length stores
+    → Makes s.table e.change s.slots t.slots (Err f) → ShowsPast tables (rows_in stores) rs past
+    → Refuses (unfit_in tables past e) f × ShowsPast tables (rows_in (slice_set stores e.table t)) rs past
+store_refused tables e stores s t rs past f same is below made shown =
+    let table : table_at tables e.table ≡ s.table =
+    ap (λ ts. table_at ts e.table) same ∙ table_there stores e.table s is below in
+    let slots : rows_at (rows_in stores) e.table ≡ s.slots = rows_there stores e.table s is below in
+    let P : Table → Type 0 = λ u. Makes u e.change s.slots t.slots (Err f) in
+    let Q : List Slot → Type 0 = λ ss. Makes (table_at tables e.table) e.change ss t.slots (Err f) in
+    let R : Rows → Type 0 = λ rows. ShowsPast tables rows rs past in
+    let many = rows_length stores in
+    let done = edit_refused tables e (rows_in stores) t.slots rs past f (omega (arith, many, below))
+    (subst Q (sym slots) (subst P (sym table) made)) shown in
+    (done.0, subst R (sym (rows_set stores e.table t)) done.1)
+
+-- and of the store that a record names
+
+pub store_can_undo :
+    (stores : List Store) (s : Store) (r : UndoRecord) → s ≡ get_or stores r.table s
+    → CanUndo (tables_in stores) r (rows_in stores) → CanGoBack s.table r.change s.slots
+store_can_undo stores s r is can =
+    let many = rows_length stores in
+    let below : r.table < length stores = omega (arith, many, can.0) in
+    let P : Table → Type 0 = λ t. CanGoBack t r.change (rows_at (rows_in stores) r.table) in
+    let Q : List Slot → Type 0 = λ ss. CanGoBack s.table r.change ss in
+    subst Q (rows_there stores r.table s is below) (subst P (table_there stores r.table s is below) can.1)
+
+pub store_before :
+    (stores : List Store) (s t : Store) (r : UndoRecord) → s ≡ get_or stores r.table s → r.table < length stores
+    → t ≡ with_slots s (back r.change s.slots)
+    → rows_in (slice_set stores r.table t) ≡ before r (rows_in stores)
+store_before stores s t r is below done =
+    rows_set stores r.table t
+    ∙ ap (slice_set (rows_in stores) r.table)
+    (ap (λ (x : Store). x.slots) done ∙ ap (back r.change) (sym (rows_there stores r.table s is below)))

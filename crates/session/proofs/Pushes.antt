@@ -45,17 +45,16 @@ use Rattle.feed.specs.declared.event.FeedEvent.{FeedEvent}
 use Rattle.feed.specs.declared.event.FeedEvent.TheVariants as feed_event
 use Rattle.messages.specs.Stream.{Stream}
 use Rattle.view_lang.specs.Config.{Table}
-use Rattle.view_lang.specs.ConfigRules.{feed_columns}
 use Rattle.view_lang.specs.Edits.{Edit}
 use Rattle.view_lang.specs.UnfitCauses.{named}
+use Rattle.view_lang.specs.ViewColumns.{feed_columns}
 use Rattle.view_lang.specs.declared.config.Role.{Role}
 use Rattle.view_lang.specs.declared.unfit.Unfit.{Unfit}
-use Rattle.row_keys.specs.Slots.{Slot}
 use Rattle.row_keys.specs.declared.faults.EditFault.{EditFault}
 use Rattle.row_keys.specs.declared.faults.EditFault.TheVariants as edit_fault
 use Rattle.session.specs.Changes.{Ended, IsBatchEvent, Pushed, Takes, past_by, unfit_by}
 use Rattle.session.specs.Refusals.{refused}
-use Rattle.session.specs.Shows.{ShowsChannel, ShowsPast}
+use Rattle.session.specs.Shows.{Rows, ShowsChannel, ShowsPast}
 use Rattle.session.specs.Steps.{
   Channel,
   Ends,
@@ -83,12 +82,12 @@ use Rattle.session.proofs.Typed.{batch_alike}
 
 -- a piece that isn't empty comes to a feed that isn't broken
 gets_by :
-    (main : Table) (past after : Past) (c d : Channel) (b : Bool) (piece : List ℕ) (answer : Result Came Fault)
+    (tables : List Table) (past after : Past) (c d : Channel) (b : Bool) (piece : List ℕ) (answer : Result Came Fault)
     → b ≡ false → 0 < length piece
-    → Gets main past c piece answer after d → PushBy main past c b piece answer after d
-gets_by main past after c d true piece answer goes some gets = absurd (cc)
-gets_by main past after c d false [] answer goes some gets = absurd (omega (arith, some))
-gets_by main past after c d false (x ∷ xs) answer goes some gets = gets
+    → Gets tables past c piece answer after d → PushBy tables past c b piece answer after d
+gets_by tables past after c d true piece answer goes some gets = absurd (cc)
+gets_by tables past after c d false [] answer goes some gets = absurd (omega (arith, some))
+gets_by tables past after c d false (x ∷ xs) answer goes some gets = gets
 
 pub some_bytes : (n : ℕ) (b : Bool) → b ≡ (n == 0) → b ≡ false → 0 < n
 some_bytes zero b is not = absurd (cc)
@@ -102,76 +101,76 @@ declared_after s piece (Err f) = refl
 
 -- what it gives settles the rest
 pub push_shown :
-    (main : Table) (past after : Past) (c : Channel) (l : Link) (piece : List ℕ) (gave : Result Given StreamFault)
+    (tables : List Table) (past after : Past) (c : Channel) (l : Link) (piece : List ℕ) (gave : Result Given StreamFault)
     (f : FeedParts)
-    (answer : Result Came Fault) (slots : List Slot) (records : List UndoRecord) → is_broken c.fed.condition ≡ false
+    (answer : Result Came Fault) (slots : Rows) (records : List UndoRecord) → is_broken c.fed.condition ≡ false
     → 0 < length piece
-    → Gives c.fed piece gave → Shows f (after_push c.fed piece gave) → answer ≡ push_answer main c.role past gave
-    → after ≡ push_past main c.role past gave → ShowsPast main slots records after → ShowsChannel main l c
-    → Pushed main past c piece answer (record { role = l.role; feed = f }) slots records
-push_shown main past after c l piece gave f answer slots records goes some may feed answers leads shows shown = record {
+    → Gives c.fed piece gave → Shows f (after_push c.fed piece gave) → answer ≡ push_answer tables c.role past gave
+    → after ≡ push_past tables c.role past gave → ShowsPast tables slots records after → ShowsChannel tables l c
+    → Pushed tables past c piece answer (record { role = l.role; feed = f }) slots records
+push_shown tables past after c l piece gave f answer slots records goes some may feed answers leads shows shown = record {
   after = after;
   channel = push_channel c piece gave;
   pushes =
-      gets_by main past after c (push_channel c piece gave) (is_broken c.fed.condition) piece answer goes some
+      gets_by tables past after c (push_channel c piece gave) (is_broken c.fed.condition) piece answer goes some
       (record { gave = gave; may = may; answers = answers; edits = leads; stream = refl });
   shows = shows;
-  feed = record { role = shown.role; feed = feed; declared = declared_after c.fed piece gave ∙ shown.declared };
+  feed = record { role = shown.role; there = shown.there; feed = feed; declared = declared_after c.fed piece gave ∙ shown.declared };
 }
 
 -- a fault of the stream, or want of memory
 pub fault_shown :
-    (main : Table) (past : Past) (c : Channel) (l : Link) (piece : List ℕ) (e : StreamFault) (f : FeedParts)
+    (tables : List Table) (past : Past) (c : Channel) (l : Link) (piece : List ℕ) (e : StreamFault) (f : FeedParts)
     (answer : Result Came Fault)
-    (slots : List Slot) (records : List UndoRecord) → is_broken c.fed.condition ≡ false → 0 < length piece
+    (slots : Rows) (records : List UndoRecord) → is_broken c.fed.condition ≡ false → 0 < length piece
     → answer ≡ Err (refused (cause_named e)) → MayAnswer l.feed piece (Err e) → ShowsAfter l.feed piece (Err e) f
-    → ShowsPast main slots records past
-    → ShowsChannel main l c → Pushed main past c piece answer (record { role = l.role; feed = f }) slots records
-fault_shown main past c l piece e f answer slots records goes some answers may after shows shown =
-    push_shown main past past c l piece (Err e) f answer slots records goes some (may c.fed shown.feed)
+    → ShowsPast tables slots records past
+    → ShowsChannel tables l c → Pushed tables past c piece answer (record { role = l.role; feed = f }) slots records
+fault_shown tables past c l piece e f answer slots records goes some answers may after shows shown =
+    push_shown tables past past c l piece (Err e) f answer slots records goes some (may c.fed shown.feed)
     (after c.fed shown.feed) answers refl shows
     shown
 
 -- a piece without a message
 pub part_shown :
-    (main : Table) (past : Past) (c : Channel) (l : Link) (piece : List ℕ) (fed : Fed) (f g : FeedParts)
-    (slots : List Slot)
+    (tables : List Table) (past : Past) (c : Channel) (l : Link) (piece : List ℕ) (fed : Fed) (f g : FeedParts)
+    (slots : Rows)
     (records : List UndoRecord) → is_broken c.fed.condition ≡ false → 0 < length piece → fed.event ≡ None
     → MayAnswer l.feed piece (Ok (seen fed))
-    → WillTake l.feed piece (seen fed) f → ((s : FeedState) → Leads f s → Shows g s) → ShowsPast main slots records past
-    → ShowsChannel main l c
-    → Pushed main past c piece (Ok (pushed fed.used None)) (record { role = l.role; feed = g }) slots records
-part_shown main past c l piece fed f g slots records goes some none may will commit shows shown =
+    → WillTake l.feed piece (seen fed) f → ((s : FeedState) → Leads f s → Shows g s) → ShowsPast tables slots records past
+    → ShowsChannel tables l c
+    → Pushed tables past c piece (Ok (pushed fed.used None)) (record { role = l.role; feed = g }) slots records
+part_shown tables past c l piece fed f g slots records goes some none may will commit shows shown =
     let is : seen fed ≡ given fed.used None =
     ap (λ (o : Option FeedEvent). given fed.used (option_map event_seen o)) none in
-    push_shown main past past c l piece (Ok (seen fed)) g (Ok (pushed fed.used None)) slots records goes some
+    push_shown tables past past c l piece (Ok (seen fed)) g (Ok (pushed fed.used None)) slots records goes some
     (may c.fed shown.feed)
     (commit (after_push c.fed piece (Ok (seen fed))) (will c.fed shown.feed))
-    (ap (λ (x : Given). push_answer main c.role past (Ok x)) (sym is))
-    (ap (λ (x : Given). push_past main c.role past (Ok x)) (sym is)) shows shown
+    (ap (λ (x : Given). push_answer tables c.role past (Ok x)) (sym is))
+    (ap (λ (x : Given). push_past tables c.role past (Ok x)) (sym is)) shows shown
 
 message_ok :
-    (main : Table) (past : Past) (used : ℕ) (is kind : Event) (o : Option Edit) → unfit_by main past o ≡ None
+    (tables : List Table) (past : Past) (used : ℕ) (is kind : Event) (o : Option Edit) → unfit_by tables past o ≡ None
     → kind ≡ is
-    → (Ok (pushed used (Some kind)) ≡ message_answer main past used is o)
-    × (past_by past o (Ok kind) ≡ message_past main past o)
-message_ok main past used is kind None fits same = (ap (λ k. Ok (pushed used (Some k))) same, refl)
-message_ok main past used is kind (Some e) fits same = rw fits (ap (λ k. Ok (pushed used (Some k))) same, refl)
+    → (Ok (pushed used (Some kind)) ≡ message_answer tables past used is o)
+    × (past_by past o (Ok kind) ≡ message_past tables past o)
+message_ok tables past used is kind None fits same = (ap (λ k. Ok (pushed used (Some k))) same, refl)
+message_ok tables past used is kind (Some e) fits same = rw fits (ap (λ k. Ok (pushed used (Some k))) same, refl)
 
 message_unfit :
-    (main : Table) (past : Past) (used : ℕ) (is : Event) (o : Option Edit) (u : Unfit) → unfit_by main past o ≡ Some u
-    → (Err (record { cause = named u; used = used }) ≡ message_answer main past used is o)
-    × (past_by past o (Err (edit_fault.Unfit u)) ≡ message_past main past o)
-message_unfit main past used is None u stands = absurd (cc)
-message_unfit main past used is (Some e) u stands = rw stands (refl, refl)
+    (tables : List Table) (past : Past) (used : ℕ) (is : Event) (o : Option Edit) (u : Unfit) → unfit_by tables past o ≡ Some u
+    → (Err (record { cause = named u; used = used }) ≡ message_answer tables past used is o)
+    × (past_by past o (Err (edit_fault.Unfit u)) ≡ message_past tables past o)
+message_unfit tables past used is None u stands = absurd (cc)
+message_unfit tables past used is (Some e) u stands = rw stands (refl, refl)
 
 past_kept : (past : Past) (o : Option Edit) (f : EditFault) → past_by past o (Err f) ≡ past
 past_kept past None f = refl
 past_kept past (Some e) f = refl
 
 -- A message comes, and what it asks for is done or refused.
-module _ (main : Table) (past : Past) (c : Channel) (l : Link) (piece : List ℕ) (fed : Fed) (event : FeedEvent)
-    (old slots : List Slot) (before records : List UndoRecord) where
+module _ (tables : List Table) (past : Past) (c : Channel) (l : Link) (piece : List ℕ) (fed : Fed) (event : FeedEvent)
+    (old slots : Rows) (before records : List UndoRecord) where
   abbrev this : Option Edit
   this = edit_in l.role (event_seen event)
 
@@ -180,29 +179,29 @@ module _ (main : Table) (past : Past) (c : Channel) (l : Link) (piece : List ℕ
 
   answered :
       (answer : Result Came Fault) → fed.event ≡ Some event → l.role ≡ c.role
-      → answer ≡ message_answer main past fed.used (kind_of (event_seen event)) this
-      → answer ≡ push_answer main c.role past (Ok (seen fed))
+      → answer ≡ message_answer tables past fed.used (kind_of (event_seen event)) this
+      → answer ≡ push_answer tables c.role past (Ok (seen fed))
   answered answer e role h =
-      h ∙ ap (λ (x : Given). push_answer main l.role past (Ok x)) (sym (gave_this e))
-      ∙ ap (λ (r : Role). push_answer main r past (Ok (seen fed))) role
+      h ∙ ap (λ (x : Given). push_answer tables l.role past (Ok x)) (sym (gave_this e))
+      ∙ ap (λ (r : Role). push_answer tables r past (Ok (seen fed))) role
 
-  led : (after : Past) → fed.event ≡ Some event → l.role ≡ c.role → after ≡ message_past main past this
-      → after ≡ push_past main c.role past (Ok (seen fed))
+  led : (after : Past) → fed.event ≡ Some event → l.role ≡ c.role → after ≡ message_past tables past this
+      → after ≡ push_past tables c.role past (Ok (seen fed))
   led after e role h =
-      h ∙ ap (λ (x : Given). push_past main l.role past (Ok x)) (sym (gave_this e))
-      ∙ ap (λ (r : Role). push_past main r past (Ok (seen fed))) role
+      h ∙ ap (λ (x : Given). push_past tables l.role past (Ok x)) (sym (gave_this e))
+      ∙ ap (λ (r : Role). push_past tables r past (Ok (seen fed))) role
 
   pub message_shown :
       (kind : Event) (f g : FeedParts) → is_broken c.fed.condition ≡ false → 0 < length piece → fed.event ≡ Some event
       → MayAnswer l.feed piece (Ok (seen fed)) → WillTake l.feed piece (seen fed) f
       → ((s : FeedState) → Leads f s → Shows g s)
-      → Takes main l.role (event_seen event) old before slots records (Ok kind) → ShowsPast main old before past
-      → ShowsChannel main l c
-      → Pushed main past c piece (Ok (pushed fed.used (Some kind))) (record { role = l.role; feed = g }) slots records
+      → Takes tables l.role (event_seen event) old before slots records (Ok kind) → ShowsPast tables old before past
+      → ShowsChannel tables l c
+      → Pushed tables past c piece (Ok (pushed fed.used (Some kind))) (record { role = l.role; feed = g }) slots records
   message_shown kind f g goes some is may will commit takes shows shown =
       let t = takes past shows in
-      let made = message_ok main past fed.used (kind_of (event_seen event)) kind this t.0.0 t.0.1 in
-      push_shown main past (past_by past this (Ok kind)) c l piece (Ok (seen fed)) g (Ok (pushed fed.used (Some kind)))
+      let made = message_ok tables past fed.used (kind_of (event_seen event)) kind this t.0.0 t.0.1 in
+      push_shown tables past (past_by past this (Ok kind)) c l piece (Ok (seen fed)) g (Ok (pushed fed.used (Some kind)))
       slots records goes some
       (may c.fed shown.feed) (commit (after_push c.fed piece (Ok (seen fed))) (will c.fed shown.feed))
       (answered (Ok (pushed fed.used (Some kind))) is shown.role made.0)
@@ -213,14 +212,14 @@ module _ (main : Table) (past : Past) (c : Channel) (l : Link) (piece : List ℕ
       → fed.event ≡ Some event
       → MayAnswer l.feed piece (Ok (seen fed)) → WillTake l.feed piece (seen fed) f
       → ((s : FeedState) → Leads f s → Shows g s)
-      → Takes main l.role (event_seen event) old before slots records (Err (edit_fault.Unfit u))
-      → answer ≡ Err (record { cause = named u; used = fed.used }) → ShowsPast main old before past
-      → ShowsChannel main l c
-      → Pushed main past c piece answer (record { role = l.role; feed = g }) slots records
+      → Takes tables l.role (event_seen event) old before slots records (Err (edit_fault.Unfit u))
+      → answer ≡ Err (record { cause = named u; used = fed.used }) → ShowsPast tables old before past
+      → ShowsChannel tables l c
+      → Pushed tables past c piece answer (record { role = l.role; feed = g }) slots records
   unfit_shown u answer f g goes some is may will commit takes saturated shows shown =
       let t = takes past shows in
-      let made = message_unfit main past fed.used (kind_of (event_seen event)) this u t.0 in
-      push_shown main past (past_by past this (Err (edit_fault.Unfit u))) c l piece (Ok (seen fed)) g answer slots
+      let made = message_unfit tables past fed.used (kind_of (event_seen event)) this u t.0 in
+      push_shown tables past (past_by past this (Err (edit_fault.Unfit u))) c l piece (Ok (seen fed)) g answer slots
       records goes some
       (may c.fed shown.feed) (commit (after_push c.fed piece (Ok (seen fed))) (will c.fed shown.feed))
       (answered answer is shown.role (saturated ∙ made.0))
@@ -230,50 +229,50 @@ module _ (main : Table) (past : Past) (c : Channel) (l : Link) (piece : List ℕ
       (answer : Result Came Fault) (f : FeedParts) → is_broken c.fed.condition ≡ false → 0 < length piece
       → fed.event ≡ Some event
       → MayLackFor l.feed piece fed → StillShows l.feed f
-      → Takes main l.role (event_seen event) old before slots records (Err edit_fault.Memory)
-      → answer ≡ Err (refused cause.Memory) → ShowsPast main old before past → ShowsChannel main l c
-      → Pushed main past c piece answer (record { role = l.role; feed = f }) slots records
+      → Takes tables l.role (event_seen event) old before slots records (Err edit_fault.Memory)
+      → answer ≡ Err (refused cause.Memory) → ShowsPast tables old before past → ShowsChannel tables l c
+      → Pushed tables past c piece answer (record { role = l.role; feed = f }) slots records
   unfolding after_push
   memory_shown answer f goes some is lack still takes saturated shows shown =
       let t = takes past shows in
-      let same : ShowsPast main slots records past =
-      subst (λ (p : Past). ShowsPast main slots records p) (past_kept past this edit_fault.Memory) t.1 in
+      let same : ShowsPast tables slots records past =
+      subst (λ (p : Past). ShowsPast tables slots records p) (past_kept past this edit_fault.Memory) t.1 in
       let may : Gives c.fed piece (Err fault.Memory) =
       lack (subst (λ (o : Option FeedEvent). IsSome o) (sym is) refl) c.fed shown.feed in
-      push_shown main past past c l piece (Err fault.Memory) f answer slots records goes some may
+      push_shown tables past past c l piece (Err fault.Memory) f answer slots records goes some may
       (still c.fed shown.feed) saturated refl same shown
 
 -- The columns of a batch are those that were declared.
 module _ (trees : LogicalTrees) (holds : NarrowHolds) (weighs : NarrowWeighs) where
   batch_typed :
-      (main : Table) (role : Role) (s : FeedState) (known : Option (List (Rose Entry))) (event : FeedEvent)
-      → s.declared ≡ Some (feed_columns main role) → known ≡ (retained_in s).known.schema → IsTypedEvent known event
-      → IsBatchEvent main role event
-  batch_typed main role s known (feed_event.Schema x) declared is typed = tt
-  batch_typed main role s known (feed_event.Dictionary id delta values) declared is typed = tt
-  batch_typed main role s known feed_event.End declared is typed = tt
-  batch_typed main role s None (feed_event.Batch columns rows body) declared is typed = absurd typed
-  batch_typed main role s (Some fields) (feed_event.Batch columns rows body) declared is typed = record {
-    alike = batch_alike trees holds weighs s (feed_columns main role) fields columns.items rows declared (sym is) typed;
+      (tables : List Table) (role : Role) (s : FeedState) (known : Option (List (Rose Entry))) (event : FeedEvent)
+      → s.declared ≡ Some (feed_columns tables role) → known ≡ (retained_in s).known.schema → IsTypedEvent known event
+      → IsBatchEvent tables role event
+  batch_typed tables role s known (feed_event.Schema x) declared is typed = tt
+  batch_typed tables role s known (feed_event.Dictionary id delta values) declared is typed = tt
+  batch_typed tables role s known feed_event.End declared is typed = tt
+  batch_typed tables role s None (feed_event.Batch columns rows body) declared is typed = absurd typed
+  batch_typed tables role s (Some fields) (feed_event.Batch columns rows body) declared is typed = record {
+    alike = batch_alike trees holds weighs s (feed_columns tables role) fields columns.items rows declared (sym is) typed;
     lengths = typed.1;
   }
 
   pub event_typed :
-      (main : Table) (c : Channel) (l : Link) (piece : List ℕ) (fed : Fed) (event : FeedEvent) (f : FeedParts)
+      (tables : List Table) (c : Channel) (l : Link) (piece : List ℕ) (fed : Fed) (event : FeedEvent) (f : FeedParts)
       → fed.event ≡ Some event
-      → WillTake l.feed piece (seen fed) f → IsTyped f.framing.prepared.known.schema fed → ShowsChannel main l c
-      → IsBatchEvent main l.role event
-  event_typed main c l piece fed event f is will typed shown =
+      → WillTake l.feed piece (seen fed) f → IsTyped f.framing.prepared.known.schema fed → ShowsChannel tables l c
+      → IsBatchEvent tables l.role event
+  event_typed tables c l piece fed event f is will typed shown =
       let s : FeedState = after_push c.fed piece (Ok (seen fed)) in
       let leads : Leads f s = will c.fed shown.feed in
       let known : f.framing.prepared.known.schema ≡ (retained_in s).known.schema =
       ap (λ (x : Stream). x.known.schema) leads.stream in
-      let declared : s.declared ≡ Some (feed_columns main c.role) =
+      let declared : s.declared ≡ Some (feed_columns tables c.role) =
       declared_after c.fed piece (Ok (seen fed)) ∙ shown.declared in
       let here : IsTypedEvent f.framing.prepared.known.schema event =
       subst (λ (o : Option FeedEvent). IfSome o (IsTypedEvent f.framing.prepared.known.schema)) is typed in
-      subst (λ (r : Role). IsBatchEvent main r event) (sym shown.role)
-      (batch_typed main c.role s f.framing.prepared.known.schema event declared known here)
+      subst (λ (r : Role). IsBatchEvent tables r event) (sym shown.role)
+      (batch_typed tables c.role s f.framing.prepared.known.schema event declared known here)
 
 -- the end of an input
 ends_by :
@@ -287,17 +286,17 @@ declared_at_end s (Ok u) = refl
 declared_at_end s (Err f) = refl
 
 pub end_shown :
-    (main : Table) (c : Channel) (l : Link) (gave : Result (Unit {0}) StreamFault) (f : FeedParts)
+    (tables : List Table) (c : Channel) (l : Link) (gave : Result (Unit {0}) StreamFault) (f : FeedParts)
     (answer : Result (Unit {0}) Fault)
     → is_broken c.fed.condition ≡ false → answer ≡ end_answer gave → Finishes c.fed gave
     → Shows f (after_finish c.fed gave)
-    → ShowsChannel main l c → Ended main c answer (record { role = l.role; feed = f })
-end_shown main c l gave f answer goes answers may feed shown =
+    → ShowsChannel tables l c → Ended tables c answer (record { role = l.role; feed = f })
+end_shown tables c l gave f answer goes answers may feed shown =
     let d : Channel = with_feed c (after_finish c.fed gave) in
     record {
       channel = d;
       finishes =
           ends_by c d (is_broken c.fed.condition) answer goes
           (record { gave = gave; may = may; answers = answers; channel = refl });
-      feed = record { role = shown.role; feed = feed; declared = declared_at_end c.fed gave ∙ shown.declared };
+      feed = record { role = shown.role; there = shown.there; feed = feed; declared = declared_at_end c.fed gave ∙ shown.declared };
     }

@@ -4,13 +4,15 @@ use Rattle.std.proofs.Common.{
   ℕ,
   ◌<◌,
   ◌≤◌,
-  All,
   Option,
   None,
   Some,
   Result,
   Err,
   List,
+  [],
+  ◌∷◌,
+  drop,
   length,
   get_or,
   map,
@@ -19,28 +21,35 @@ use Rattle.std.proofs.Common.{
   sym,
   subst,
   ◌∙◌,
+  arith,
 }
 use Rattle.std.specs.Prelude.{slice_get, slice_set}
 use Rattle.std.proofs.lemmas.Option.{slice_get-get_or}
 use Rattle.values.specs.declared.causes.Cause.TheVariants as cause
 use Rattle.stream_writer.specs.Sinks.{Sunk}
-use Rattle.view_lang.specs.Config.{Table, View}
-use Rattle.view_lang.specs.ConfigRules.{IsView}
-use Rattle.view_lang.specs.World.{World, world}
-use Rattle.row_keys.specs.Slots.{Slot, world_of}
+use Rattle.values.specs.Logical.{NamedType}
+use Rattle.values.specs.Rose.{Rose}
+use Rattle.view_lang.specs.Config.{Table, View, tables_of}
+use Rattle.view_lang.specs.World.{World, table_at, world}
 use Rattle.session.specs.Names.{place_of}
 use Rattle.session.specs.Refusals.{refused}
 use Rattle.session.specs.Changes.{Ended, EndsTo, Pushed, PushesTo}
 use Rattle.session.specs.Shows.{
+  AreShown,
   AreWorld,
   IsSession,
   IsStep,
+  Rows,
   SessionParts,
   Shows,
   ShowsChannel,
   ShowsEach,
   ShowsPast,
   config_of,
+  named_sides,
+  rows_in,
+  tables_in,
+  world_of,
 }
 use Rattle.session.specs.Steps.{
   Channel,
@@ -66,6 +75,29 @@ use Rattle.session.specs.declared.link.Link.{Link}
 use Rattle.session.specs.declared.undo.UndoRecord.{UndoRecord}
 use Rattle.session.proofs.Channels.{each_get, each_none, each_set}
 use Rattle.session.proofs.Pasts.{holds_world}
+use Rattle.session.proofs.Stores.{tables_length}
+
+-- The tables of the configuration are those of the stores.
+
+sides_named : (names : List (List ℕ)) (ts : List Table) → map (λ s. s.table) (named_sides names ts) ≡ ts
+sides_named names [] = refl
+sides_named [] (t ∷ ts) = ap (λ us. t ∷ us) (sides_named [] ts)
+sides_named (n ∷ ns) (t ∷ ts) = ap (λ us. t ∷ us) (sides_named ns ts)
+
+told : (names : List (List ℕ)) (ts : List Table) → 0 < length ts
+    → table_at ts 0 ∷ map (λ s. s.table) (named_sides names (drop 1 ts)) ≡ ts
+told names [] some = absurd (omega (arith, some))
+told names (t ∷ ts) some = ap (λ us. t ∷ us) (sides_named names ts)
+
+pub tables_told : (p : SessionParts) → 0 < length p.stores → tables_of (config_of p) ≡ tables_in p.stores
+tables_told p some = let many = tables_length p.stores in told p.sides (tables_in p.stores) (omega (arith, many, some))
+
+main_moved : (p q : SessionParts) → tables_in q.stores ≡ tables_in p.stores → 0 < length p.stores → 0 < length q.stores
+main_moved p q same some =
+    let one = tables_length p.stores in
+    let two = tables_length q.stores in
+    let equal = ap length same in
+    omega (arith, one, two, equal, some)
 
 -- A step whose state is told at a feed's place.
 abbrev AtPlace : (ℕ → Option Channel → State → Type 0) → List (List ℕ) → List ℕ → State → State → Type 0
@@ -88,9 +120,9 @@ pub push_unknown :
     → length p.links ≤ k
     → e ≡ refused cause.UnknownFeed → IsStep p (λ s t. PushStep (config_of p) s name piece (Err e) t) p
 push_unknown p name piece k e at beyond saturated s shown =
-    let none : slice_get s.channels k ≡ None = each_none p.store.table p.links s.channels k shown.channels beyond in (
+    let none : slice_get s.channels k ≡ None = each_none (tables_in p.stores) p.links s.channels k shown.channels beyond in (
       s,
-      place_is (λ n o t. PushTo p.store.table s n o piece (Err e) t) (feed_names p) name s s k None at none
+      place_is (λ n o t. PushTo (tables_of (config_of p)) s n o piece (Err e) t) (feed_names p) name s s k None at none
           (ap (λ x. Err x) saturated, refl),
       shown,
     )
@@ -100,7 +132,7 @@ pub finish_unknown :
     → length p.links ≤ k
     → e ≡ refused cause.UnknownFeed → IsStep p (λ s t. FinishStep (config_of p) s name (Err e) t) p
 finish_unknown p name k e at beyond saturated s shown =
-    let none : slice_get s.channels k ≡ None = each_none p.store.table p.links s.channels k shown.channels beyond in (
+    let none : slice_get s.channels k ≡ None = each_none (tables_in p.stores) p.links s.channels k shown.channels beyond in (
       s,
       place_is (λ n o t. FinishTo s n o (Err e) t) (feed_names p) name s s k None at none (
         ap (λ x. Err x) saturated,
@@ -111,48 +143,51 @@ finish_unknown p name k e at beyond saturated s shown =
 
 -- what is shown with another channel at that place
 channels_moved :
-    (p q : SessionParts) (cs : List Channel) (k : ℕ) (m : Link) (d : Channel) → q.store.table ≡ p.store.table
+    (p q : SessionParts) (cs : List Channel) (k : ℕ) (m : Link) (d : Channel) → (tables_in q.stores) ≡ (tables_in p.stores)
     → q.links ≡ slice_set p.links k m
-    → ShowsEach p.store.table p.links cs → ShowsChannel p.store.table m d
-    → ShowsEach q.store.table q.links (slice_set cs k d)
+    → ShowsEach (tables_in p.stores) p.links cs → ShowsChannel (tables_in p.stores) m d
+    → ShowsEach (tables_in q.stores) q.links (slice_set cs k d)
 channels_moved p q cs k m d table links shown feed =
-    let made : ShowsEach p.store.table (slice_set p.links k m) (slice_set cs k d) =
-    each_set p.store.table p.links cs k m d shown feed in
-    let placed : ShowsEach p.store.table q.links (slice_set cs k d) =
-    subst (λ (ls : List Link). ShowsEach p.store.table ls (slice_set cs k d)) (sym links) made in
-    subst (λ (t : Table). ShowsEach t q.links (slice_set cs k d)) (sym table) placed
+    let made : ShowsEach (tables_in p.stores) (slice_set p.links k m) (slice_set cs k d) =
+    each_set (tables_in p.stores) p.links cs k m d shown feed in
+    let placed : ShowsEach (tables_in p.stores) q.links (slice_set cs k d) =
+    subst (λ (ls : List Link). ShowsEach (tables_in p.stores) ls (slice_set cs k d)) (sym links) made in
+    subst (λ (ts : List Table). ShowsEach ts q.links (slice_set cs k d)) (sym table) placed
 
 past_moved :
-    (t u : Table) (slots : List Slot) (records : List UndoRecord) (past : Past) → u ≡ t → ShowsPast t slots records past
+    (t u : List Table) (slots : Rows) (records : List UndoRecord) (past : Past) → u ≡ t → ShowsPast t slots records past
     → ShowsPast u slots records past
-past_moved t u slots records past same shown = subst (λ (x : Table). ShowsPast x slots records past) (sym same) shown
+past_moved t u slots records past same shown = subst (λ (x : List Table). ShowsPast x slots records past) (sym same) shown
 
 -- the feed of that name shows a channel
 pub link_shown :
     (p : SessionParts) (k : ℕ) (l : Link) → (s : State) × Shows p s → k < length p.links → l ≡ get_or p.links k l
-    → (c : Channel) × ShowsChannel p.store.table l c
+    → (c : Channel) × ShowsChannel (tables_in p.stores) l c
 link_shown p k l some below is =
-    let here = each_get p.store.table p.links some.0.channels k l some.1.channels below is in (here.0, here.2)
+    let here = each_get (tables_in p.stores) p.links some.0.channels k l some.1.channels below is in (here.0, here.2)
 
 pub push_known :
     (p q : SessionParts) (name piece : List ℕ) (k : ℕ) (l m : Link) (answer : Result Came Fault)
     → k ≡ place_of name (map (λ f. f.name) p.feeds)
     → k < length p.links → l ≡ get_or p.links k l
-    → PushesTo p.store.table l p.store.slots p.records piece answer m q.store.slots q.records
-    → q.store.table ≡ p.store.table → q.links ≡ slice_set p.links k m
+    → PushesTo (tables_in p.stores) l (rows_in p.stores) p.records piece answer m (rows_in q.stores) q.records
+    → (tables_in q.stores) ≡ (tables_in p.stores) → q.links ≡ slice_set p.links k m
     → IsStep p (λ s t. PushStep (config_of p) s name piece answer t) q
 push_known p q name piece k l m answer at below is pushes table links s shown =
-    let here = each_get p.store.table p.links s.channels k l shown.channels below is in
-    let made : Pushed p.store.table s.past here.0 piece answer m q.store.slots q.records =
+    let here = each_get (tables_in p.stores) p.links s.channels k l shown.channels below is in
+    let made : Pushed (tables_in p.stores) s.past here.0 piece answer m (rows_in q.stores) q.records =
     pushes s.past here.0 shown.past here.2 in
     let t : State = moved s k made.after made.channel in
-    let goes : PushTo p.store.table s k (Some here.0) piece answer t =
-    record { past = made.after; channel = made.channel; pushes = made.pushes; leads = refl } in (
+    let goes : PushTo (tables_in p.stores) s k (Some here.0) piece answer t =
+    record { past = made.after; channel = made.channel; pushes = made.pushes; leads = refl } in
+    let step : PushTo (tables_of (config_of p)) s k (Some here.0) piece answer t =
+    subst (λ ts. PushTo ts s k (Some here.0) piece answer t) (sym (tables_told p shown.main)) goes in (
       t,
-      place_is (λ n o u. PushTo p.store.table s n o piece answer u) (feed_names p) name s t k (Some here.0) at here.1
-          goes,
+      place_is (λ n o u. PushTo (tables_of (config_of p)) s n o piece answer u) (feed_names p) name s t k (Some here.0) at here.1
+          step,
       record {
-        past = past_moved p.store.table q.store.table q.store.slots q.records made.after table made.shows;
+        main = main_moved p q table shown.main;
+        past = past_moved (tables_in p.stores) (tables_in q.stores) (rows_in q.stores) q.records made.after table made.shows;
         channels = channels_moved p q s.channels k m made.channel table links shown.channels made.feed;
       },
     )
@@ -160,90 +195,99 @@ push_known p q name piece k l m answer at below is pushes table links s shown =
 pub finish_known :
     (p q : SessionParts) (name : List ℕ) (k : ℕ) (l m : Link) (answer : Result (Unit {0}) Fault)
     → k ≡ place_of name (map (λ f. f.name) p.feeds)
-    → k < length p.links → l ≡ get_or p.links k l → EndsTo l answer m → q.store ≡ p.store → q.records ≡ p.records
+    → k < length p.links → l ≡ get_or p.links k l → EndsTo l answer m → q.stores ≡ p.stores → q.records ≡ p.records
     → q.links ≡ slice_set p.links k m → IsStep p (λ s t. FinishStep (config_of p) s name answer t) q
-finish_known p q name k l m answer at below is ends store records links s shown =
-    let here = each_get p.store.table p.links s.channels k l shown.channels below is in
-    let made : Ended p.store.table here.0 answer m = ends p.store.table here.0 here.2 in
+finish_known p q name k l m answer at below is ends stores records links s shown =
+    let here = each_get (tables_in p.stores) p.links s.channels k l shown.channels below is in
+    let made : Ended (tables_in p.stores) here.0 answer m = ends (tables_in p.stores) here.0 here.2 in
     let t : State = moved s k s.past made.channel in
-    let table : q.store.table ≡ p.store.table = ap (λ x. x.table) store in
+    let table : tables_in q.stores ≡ tables_in p.stores = ap tables_in stores in
     let goes : FinishTo s k (Some here.0) answer t =
     record { channel = made.channel; finishes = made.finishes; leads = refl } in
-    let rows : ShowsPast p.store.table p.store.slots q.records s.past =
-    subst (λ (rs : List UndoRecord). ShowsPast p.store.table p.store.slots rs s.past) (sym records) shown.past in
-    let slots : ShowsPast p.store.table q.store.slots q.records s.past =
-    subst (λ (ss : List Slot). ShowsPast p.store.table ss q.records s.past) (sym (ap (λ x. x.slots) store)) rows in (
+    let rows : ShowsPast (tables_in p.stores) (rows_in p.stores) q.records s.past =
+    subst (λ (rs : List UndoRecord). ShowsPast (tables_in p.stores) (rows_in p.stores) rs s.past) (sym records) shown.past in
+    let slots : ShowsPast (tables_in p.stores) (rows_in q.stores) q.records s.past =
+    subst (λ (ss : Rows). ShowsPast (tables_in p.stores) ss q.records s.past) (sym (ap rows_in stores)) rows in (
       t,
       place_is (λ n o u. FinishTo s n o answer u) (feed_names p) name s t k (Some here.0) at here.1 goes,
       record {
-        past = past_moved p.store.table q.store.table q.store.slots q.records s.past table slots;
+        main = main_moved p q table shown.main;
+        past = past_moved (tables_in p.stores) (tables_in q.stores) (rows_in q.stores) q.records s.past table slots;
         channels = channels_moved p q s.channels k m made.channel table links shown.channels made.feed;
       },
     )
 
 pub undo_known :
     (p q : SessionParts) (answer : Result (Unit {0}) Fault)
-    → ((past : Past) → ShowsPast p.store.table p.store.slots p.records past
-    → (next : Past) × Undoes past answer next × ShowsPast p.store.table q.store.slots q.records next)
-    → q.store.table ≡ p.store.table → q.links ≡ p.links → IsStep p (λ s t. UndoTo s answer t) q
+    → ((past : Past) → ShowsPast (tables_in p.stores) (rows_in p.stores) p.records past
+    → (next : Past) × Undoes past answer next × ShowsPast (tables_in p.stores) (rows_in q.stores) q.records next)
+    → (tables_in q.stores) ≡ (tables_in p.stores) → q.links ≡ p.links → IsStep p (λ s t. UndoTo s answer t) q
 undo_known p q answer undoes table links s shown =
     let made = undoes s.past shown.past in
-    let placed : ShowsEach p.store.table q.links s.channels =
-    subst (λ (ls : List Link). ShowsEach p.store.table ls s.channels) (sym links) shown.channels in (
+    let placed : ShowsEach (tables_in p.stores) q.links s.channels =
+    subst (λ (ls : List Link). ShowsEach (tables_in p.stores) ls s.channels) (sym links) shown.channels in (
       record { past = made.0; channels = s.channels },
       (made.0, made.1, refl),
       record {
-        past = past_moved p.store.table q.store.table q.store.slots q.records made.0 table made.2;
-        channels = subst (λ (t : Table). ShowsEach t q.links s.channels) (sym table) placed;
+        main = main_moved p q table shown.main;
+        past = past_moved (tables_in p.stores) (tables_in q.stores) (rows_in q.stores) q.records made.0 table made.2;
+        channels = subst (λ (ts : List Table). ShowsEach ts q.links s.channels) (sym table) placed;
       },
     )
 
 -- the rows are those of the edits
-pub rows_shown : (p : SessionParts) (s : State) → Shows p s → world_of p.store.slots ≡ world p.store.table s.past.edits
+pub rows_shown :
+    (p : SessionParts) (s : State) → Shows p s
+    → world_of (rows_in p.stores) ≡ world (tables_in p.stores) s.past.edits
 rows_shown p s shown =
-    let held : AreWorld p.store.table p.store.slots s.past.edits =
-    holds_world p.store.table p.store.slots p.records s.past.edits shown.past.holds in
+    let held : AreWorld (tables_in p.stores) (rows_in p.stores) s.past.edits =
+    holds_world (tables_in p.stores) (rows_in p.stores) p.records s.past.edits shown.past.holds in
     held.same
 
 pub write_known :
     (p q : SessionParts) (name : List ℕ) (k : ℕ) (v : View) (old new : Sunk) (answer : Result ℕ ViewFault)
     → k ≡ place_of name (map (λ x. x.name) p.views) → k < length p.views → v ≡ get_or p.views k v
-    → WriteAnswers old new answer (stream_of p.store.table v (world_of p.store.slots)) → q.store.table ≡ p.store.table
-    → q.store.slots ≡ p.store.slots → q.links ≡ p.links → q.records ≡ p.records
+    → WriteAnswers old new answer (stream_of (tables_in p.stores) v (world_of (rows_in p.stores))) → (tables_in q.stores) ≡ (tables_in p.stores)
+    → (rows_in q.stores) ≡ (rows_in p.stores) → q.links ≡ p.links → q.records ≡ p.records
     → IsStep p (λ s t. WriteStep (config_of p) s name old answer new × (t ≡ s)) q
 write_known p q name k v old new answer at below is writes table slots links records s shown =
     let found : slice_get p.views k ≡ Some v = slice_get-get_or p.views k v below ∙ ap (λ x. Some x) (sym is) in
     let there : view_in (config_of p) name ≡ Some v =
     subst (λ (n : ℕ). slice_get p.views n ≡ Some v) at found in
-    let rows : WriteAnswers old new answer (stream_of p.store.table v (world p.store.table s.past.edits)) =
-    subst (λ (w : World). WriteAnswers old new answer (stream_of p.store.table v w)) (rows_shown p s shown) writes in
+    let rows : WriteAnswers old new answer (stream_of (tables_in p.stores) v (world (tables_in p.stores) s.past.edits)) =
+    subst (λ (w : World). WriteAnswers old new answer (stream_of (tables_in p.stores) v w)) (rows_shown p s shown) writes in
+    let goes : WritesView (tables_in p.stores) s.past (view_in (config_of p) name) old answer new =
+    subst (λ (o : Option View). WritesView (tables_in p.stores) s.past o old answer new) (sym there) rows in
     let step : WriteStep (config_of p) s name old answer new =
-    subst (λ (o : Option View). WritesView p.store.table s.past o old answer new) (sym there) rows in
-    let past : ShowsPast p.store.table p.store.slots q.records s.past =
-    subst (λ (rs : List UndoRecord). ShowsPast p.store.table p.store.slots rs s.past) (sym records) shown.past in
-    let held : ShowsPast p.store.table q.store.slots q.records s.past =
-    subst (λ (ss : List Slot). ShowsPast p.store.table ss q.records s.past) (sym slots) past in
-    let placed : ShowsEach p.store.table q.links s.channels =
-    subst (λ (ls : List Link). ShowsEach p.store.table ls s.channels) (sym links) shown.channels in (
+    subst (λ ts. WritesView ts s.past (view_in (config_of p) name) old answer new) (sym (tables_told p shown.main))
+    goes in
+    let past : ShowsPast (tables_in p.stores) (rows_in p.stores) q.records s.past =
+    subst (λ (rs : List UndoRecord). ShowsPast (tables_in p.stores) (rows_in p.stores) rs s.past) (sym records) shown.past in
+    let held : ShowsPast (tables_in p.stores) (rows_in q.stores) q.records s.past =
+    subst (λ (ss : Rows). ShowsPast (tables_in p.stores) ss q.records s.past) (sym slots) past in
+    let placed : ShowsEach (tables_in p.stores) q.links s.channels =
+    subst (λ (ls : List Link). ShowsEach (tables_in p.stores) ls s.channels) (sym links) shown.channels in (
       s,
       (step, refl),
       record {
-        past = past_moved p.store.table q.store.table q.store.slots q.records s.past table held;
-        channels = subst (λ (t : Table). ShowsEach t q.links s.channels) (sym table) placed;
+        main = main_moved p q table shown.main;
+        past = past_moved (tables_in p.stores) (tables_in q.stores) (rows_in q.stores) q.records s.past table held;
+        channels = subst (λ (ts : List Table). ShowsEach ts q.links s.channels) (sym table) placed;
       },
     )
 
 -- a step leaves a session
 pub session_kept :
-    (p q : SessionParts) (step : State → State → Type 0) (m n : ℕ) → IsSession p m → IsStep p step q
-    → q.store.table ≡ p.store.table
-    → q.views ≡ p.views → n ≡ 64 → IsSession q n
-session_kept p q step m n was goes table views capacity =
+    (p q : SessionParts) (step : State → State → Type 0) (m n : ℕ) (columns : List (List (Rose NamedType)))
+    → IsSession p m columns → IsStep p step q
+    → (tables_in q.stores) ≡ (tables_in p.stores)
+    → q.views ≡ p.views → n ≡ 64 → IsSession q n columns
+session_kept p q step m n columns was goes table views capacity =
     let made = goes was.some.0 was.some.1 in
-    let placed : All (IsView p.store.table.columns) q.views =
-    subst (λ (vs : List View). All (IsView p.store.table.columns) vs) (sym views) was.views in
+    let placed : AreShown (tables_in p.stores) q.views columns =
+    subst (λ (vs : List View). AreShown (tables_in p.stores) vs columns) (sym views) was.views in
     record {
       capacity_is = capacity;
-      views = subst (λ (t : Table). All (IsView t.columns) q.views) (sym table) placed;
+      views = subst (λ (ts : List Table). AreShown ts q.views columns) (sym table) placed;
       some = (made.0, made.2);
     }

@@ -1,17 +1,27 @@
 -- The rows of a view can be written.
-use Rattle.std.proofs.Common.{◌≡◌, ◌≤◌, All, List, length, subst, sym, arith}
-use Rattle.std.proofs.lemmas.List.{length-map}
-use Rattle.std.proofs.lemmas.List.Elements.{All-map}
+use Rattle.std.proofs.Common.{◌≡◌, ◌<◌, ◌≤◌, All, List, length, map, ap, subst, sym, ◌∙◌, arith}
+use Rattle.std.proofs.lemmas.List.Elements.{All-weaker}
 use Rattle.values.specs.Datum.{Datum}
 use Rattle.values.specs.Limits.{max_main_rows}
 use Rattle.values.specs.Logical.{NamedType}
 use Rattle.values.specs.Rose.{Rose, node, Roses, none, more, kids_of}
 use Rattle.schema_meta.specs.SchemaTree as written
+use Rattle.stream_writer.specs.Stream.{canon}
 use Rattle.stream_writer.specs.Table as writer
 use Rattle.view_lang.specs.Config.{Table, View}
-use Rattle.view_lang.specs.ConfigRules.{AreColumns, AreWithin, IsView, IsWithin, ViewsAreTables, output_fields}
-use Rattle.view_lang.specs.Rows.{IsRow, RowsAreLight, ViewsHaveRows}
-use Rattle.view_lang.specs.Views.{view_row, view_rows}
+use Rattle.view_lang.specs.ConfigRules.{IsView}
+use Rattle.view_lang.specs.Joined.{Side}
+use Rattle.view_lang.specs.Laws.{Viewed, ViewsAreTables, ViewsCanSum, ViewsHaveFewRows, ViewsHaveRows}
+use Rattle.view_lang.specs.Rows.{IsRow, RowsAreLight}
+use Rattle.view_lang.specs.Sums.{CanSum}
+use Rattle.view_lang.specs.TableRules.{AreColumns, AreWithin, IsTable, IsWithin}
+use Rattle.view_lang.specs.ViewColumns.{view_columns}
+use Rattle.view_lang.specs.Views.{shown_rows, view_input, view_rows}
+use Rattle.row_keys.specs.Slots.{live}
+use Rattle.session.specs.Inputs.{AreInput, side_by}
+use Rattle.session.specs.Shows.{Rows, rows_at, world_of}
+use Rattle.session.specs.Steps.{stream_of}
+use Rattle.session.proofs.Pasts.{contents_there}
 
 mutual
   within_all : (fs : Roses NamedType) → AreWithin fs → written.AreWithin fs
@@ -21,34 +31,71 @@ mutual
   within_one : (f : Rose NamedType) → IsWithin f → written.IsWithin f
   within_one (node f kids) h = (omega (arith, h.0.1), h.1, within_all kids h.2)
 
-module _ (light : RowsAreLight) (shown : ViewsHaveRows) (views : ViewsAreTables) where
-  row_fits : (t : Table) (v : View) (row : List Datum) → IsView t.columns v → IsRow t.columns row
-      → writer.IsRow (output_fields t.columns v.outputs) (view_row v.outputs row)
-  row_fits t v row is has =
-      let made : IsRow (output_fields t.columns v.outputs) (view_row v.outputs row) = shown t.columns v row is has in
-      record { held = made.held; light = light (output_fields t.columns v.outputs) (view_row v.outputs row) made }
+-- the rows of the main table
+abbrev main_rows : Rows → List (List Datum)
+main_rows rows = live (rows_at rows 0)
 
-  pub view_fits :
-      (t : Table) (v : View) (rows : List (List Datum)) → AreColumns t.columns → IsView t.columns v
-      → All (IsRow t.columns) rows
-      → length rows ≤ max_main_rows → writer.IsTable (output_fields t.columns v.outputs) (view_rows v.outputs rows)
-  view_fits t v rows columns is each few =
-      let own : AreColumns (output_fields t.columns v.outputs) = views t.columns v columns is in
+input_viewed :
+    (tables : List Table) (rows : Rows) (v : View) (input : List (List Datum)) → All IsTable tables → IsView tables v
+    → AreInput tables rows v (main_rows rows) input → length (main_rows rows) ≤ max_main_rows
+    → Viewed tables v (side_by tables rows v) (main_rows rows)
+input_viewed tables rows v input right is made few = record {
+  right = right;
+  view = is;
+  held = made.right;
+  few = few;
+  looked_up = made.looked_up;
+}
+
+pub input_sums :
+    (sums : ViewsCanSum) (tables : List Table) (rows : Rows) (v : View) (input : List (List Datum))
+    → All IsTable tables → IsView tables v
+    → AreInput tables rows v (main_rows rows) input → length (main_rows rows) ≤ max_main_rows → CanSum v.outputs input
+input_sums sums tables rows v input right is made few =
+    subst (CanSum v.outputs) (sym made.are)
+    (sums tables v (side_by tables rows v) (main_rows rows) (input_viewed tables rows v input right is made few))
+
+-- what is shown of them
+pub shown_is :
+    (tables : List Table) (rows : Rows) (v : View) (input shown : List (List Datum))
+    → AreInput tables rows v (main_rows rows) input → shown ≡ shown_rows v input
+    → shown ≡ view_rows v (side_by tables rows v) (main_rows rows)
+unfolding view_rows
+shown_is tables rows v input shown made is = is ∙ ap (shown_rows v) made.are
+
+module _ (light : RowsAreLight) (have : ViewsHaveRows) (few_rows : ViewsHaveFewRows) (views : ViewsAreTables) where
+  pub shown_fits :
+      (tables : List Table) (rows : Rows) (v : View) (fields : List (Rose NamedType))
+      (input shown : List (List Datum)) → All IsTable tables → IsView tables v
+      → AreInput tables rows v (main_rows rows) input → length (main_rows rows) ≤ max_main_rows
+      → fields ≡ view_columns tables v → shown ≡ shown_rows v input → writer.IsTable fields shown
+  shown_fits tables rows v fields input shown right is made few named same =
+      let columns : List (Rose NamedType) = view_columns tables v in
+      let side : Side = side_by tables rows v in
+      let viewed = input_viewed tables rows v input right is made few in
+      let own : AreColumns columns = views tables v right is in
+      let whole : List (List Datum) = view_rows v side (main_rows rows) in
+      let fit : writer.IsTable columns whole =
       record {
-        columns =
-            record { few = own.small; within = within_all (kids_of (output_fields t.columns v.outputs)) own.within };
+        columns = record { few = own.small; within = within_all (kids_of columns) own.within };
         layouts = own.layouts;
-        few = omega (arith, few, length-map rows (view_row v.outputs));
-        sound = All-map (writer.IsRow (output_fields t.columns v.outputs)) (view_row v.outputs) rows
-            (λ k d below. row_fits t v _ is (each k d below));
-      }
+        few = few_rows tables v side (main_rows rows) viewed;
+        sound = All-weaker (IsRow columns) (writer.IsRow columns)
+            (λ row has. record { held = has.held; light = light columns row has }) whole
+            (have tables v side (main_rows rows) viewed);
+      } in
+      let here : writer.IsTable columns shown =
+      subst (λ (xs : List (List Datum)). writer.IsTable columns xs)
+      (sym (shown_is tables rows v input shown made same)) fit in
+      subst (λ (fs : List (Rose NamedType)). writer.IsTable fs shown) (sym named) here
 
--- the outputs of a view that was opened, and what was shown of the rows
-pub written_fits :
-    (t : Table) (v : View) (fields : List (Rose NamedType)) (rows cells : List (List Datum))
-    → writer.IsTable (output_fields t.columns v.outputs) rows
-    → fields ≡ output_fields t.columns v.outputs → cells ≡ rows → writer.IsTable fields cells
-written_fits t v fields rows cells fit named same =
-    let here : writer.IsTable (output_fields t.columns v.outputs) cells =
-    subst (λ (xs : List (List Datum)). writer.IsTable (output_fields t.columns v.outputs) xs) (sym same) fit in
-    subst (λ (fs : List (Rose NamedType)). writer.IsTable fs cells) (sym named) here
+-- the stream that they are
+pub stream_is :
+    (tables : List Table) (rows : Rows) (v : View) (fields : List (Rose NamedType)) (input shown : List (List Datum))
+    → 0 < length rows → AreInput tables rows v (main_rows rows) input → fields ≡ view_columns tables v
+    → shown ≡ shown_rows v input → canon fields shown ≡ stream_of tables v (world_of rows)
+stream_is tables rows v fields input shown some made named same =
+    ap (λ fs. canon fs shown) named
+    ∙ ap (canon (view_columns tables v)) (shown_is tables rows v input shown made same)
+    ∙ ap (λ c. canon (view_columns tables v) (view_rows v (side_by tables rows v) c.live))
+    (sym (contents_there rows 0 some))

@@ -1,90 +1,170 @@
 -- Which states a session in memory shows.
-use Rattle.std.specs.Prelude.{◌≡◌, ℕ, ◌<◌, All, List, [], ◌∷◌, Some, length, refl}
-use Rattle.std.specs.Coded.{Coded, code_by, coded×, coded_list}
+use Rattle.std.specs.Prelude.{◌≡◌, ℕ, ◌<◌, All, List, [], ◌∷◌, Some, drop, get_or, length, map, refl, slice_set}
+use Rattle.std.specs.Coded.{Coded, code_by, coded×, coded_ℕ, coded_list}
 use Rattle.feed.specs.Shown.{Shows as FeedShows}
-use Rattle.view_lang.specs.Config.{Config, FeedConfig, Table, View, feed_code, view_code}
-use Rattle.view_lang.specs.ConfigRules.{IsView, feed_columns}
-use Rattle.view_lang.specs.Edits.{Edit}
-use Rattle.view_lang.specs.World.{world}
-use Rattle.row_keys.specs.Slots.{CanPutBack, CanTakeBack, Slot, put_back, taken_back, world_of}
-use Rattle.row_keys.specs.Store.{Store, store_code}
+use Rattle.values.specs.Logical.{NamedType}
+use Rattle.values.specs.Rose.{Rose}
+use Rattle.values.specs.declared.schema.Schema.{Schema}
+use Rattle.view_lang.specs.Config.{Config, FeedConfig, SideTable, Table, View, feed_code, tables_of, view_code}
+use Rattle.view_lang.specs.ConfigRules.{IsView}
+use Rattle.view_lang.specs.Edits.{Edit, table_of}
+use Rattle.view_lang.specs.TableRules.{IsTable}
+use Rattle.view_lang.specs.ViewColumns.{feed_columns, view_columns}
+use Rattle.view_lang.specs.World.{World, no_table, table_at, world}
+use Rattle.row_keys.specs.Slots.{
+  CanPutBack,
+  CanTakeBack,
+  CanUndoPut,
+  Slot,
+  contents_of,
+  put_back,
+  put_undone,
+  taken_back,
+}
+use Rattle.row_keys.specs.Store.{Store, no_rows, store_code}
 use Rattle.session.specs.Steps.{Channel, Past, State}
 use Rattle.session.specs.contracts.link.Link as link_type
 use Rattle.session.specs.contracts.undo.UndoRecord as record_type
 use Rattle.session.specs.declared.calls.Step.{Step}
 use Rattle.session.specs.declared.calls.Step.TheVariants as step
 use Rattle.session.specs.declared.link.Link.{Link}
+use Rattle.session.specs.declared.undo.Change.{Change}
+use Rattle.session.specs.declared.undo.Change.TheVariants.{Appended, Put, Retracted}
 use Rattle.session.specs.declared.undo.UndoRecord.{UndoRecord}
-use Rattle.session.specs.declared.undo.UndoRecord.TheVariants.{Appended, Retracted}
 
--- the slots once an accepted edit is taken back
-abbrev pub back : UndoRecord → List Slot → List Slot
+-- the rows of each table, by number
+abbrev pub Rows : Type 0
+Rows = List (List Slot)
+
+abbrev pub rows_at : Rows → ℕ → List Slot
+rows_at rows n = get_or rows n []
+
+-- the world that they are
+abbrev pub world_of : Rows → World
+world_of rows = map contents_of rows
+
+-- a table's rows once a change of it is taken back
+abbrev pub back : Change → List Slot → List Slot
 back (Appended n) slots = taken_back n slots
 back (Retracted ns) slots = put_back ns.items slots
+back (Put n replaced) slots = put_undone n replaced.items slots
 
-abbrev pub CanGoBack : Table → UndoRecord → List Slot → Type 0
-CanGoBack main (Appended n) slots = CanTakeBack n slots
-CanGoBack main (Retracted ns) slots = CanPutBack main ns.items slots
+abbrev pub CanGoBack : Table → Change → List Slot → Type 0
+CanGoBack t (Appended n) slots = CanTakeBack n slots
+CanGoBack t (Retracted ns) slots = CanPutBack t ns.items slots
+CanGoBack t (Put n replaced) slots = CanUndoPut t n replaced.items slots
 
--- They hold the table that the edits leave.
-pub record AreWorld (main : Table) (slots : List Slot) (edits : List Edit) : Type 0 where
-  pub same : world_of slots ≡ world main edits
+-- the rows once an accepted edit is taken back
+abbrev pub before : UndoRecord → Rows → Rows
+before r rows = slice_set rows r.table (back r.change (rows_at rows r.table))
+
+abbrev pub CanUndo : List Table → UndoRecord → Rows → Type 0
+CanUndo tables r rows = (r.table < length rows) × CanGoBack (table_at tables r.table) r.change (rows_at rows r.table)
+
+-- They hold the world that the edits leave.
+pub record AreWorld (tables : List Table) (rows : Rows) (edits : List Edit) : Type 0 where
+  pub same : world_of rows ≡ world tables edits
 
 -- The same, and going back along the records they hold what is left of the edits, one less at each.
-abbrev pub HoldsBack : Table → List Slot → List UndoRecord → List Edit → Type 0
-HoldsBack main slots [] edits = AreWorld main slots edits
-HoldsBack main slots (r ∷ rs) [] = ⊥
-HoldsBack main slots (r ∷ rs) (e ∷ es) =
-    AreWorld main slots (e ∷ es) × CanGoBack main r slots × HoldsBack main (back r slots) rs es
+abbrev pub HoldsBack : List Table → Rows → List UndoRecord → List Edit → Type 0
+HoldsBack tables rows [] edits = AreWorld tables rows edits
+HoldsBack tables rows (r ∷ rs) [] = ⊥
+HoldsBack tables rows (r ∷ rs) (e ∷ es) =
+    AreWorld tables rows (e ∷ es) × CanUndo tables r rows × HoldsBack tables (before r rows) rs es
 
 -- The newest record comes first.
-pub record ShowsPast (main : Table) (slots : List Slot) (records : List UndoRecord) (past : Past) : Type 0 where
-  pub holds : HoldsBack main slots records past.edits
+pub record ShowsPast (tables : List Table) (rows : Rows) (records : List UndoRecord) (past : Past) : Type 0 where
+  pub holds : HoldsBack tables rows records past.edits
   pub depth : past.depth ≡ length records
 
--- A feed shows its channel, of which these columns were declared.
-pub record ShowsChannel (main : Table) (l : Link) (c : Channel) : Type 0 where
+-- A feed of one of the tables shows its channel, of which these columns were declared.
+pub record ShowsChannel (tables : List Table) (l : Link) (c : Channel) : Type 0 where
   pub role : l.role ≡ c.role
+  pub there : table_of c.role < length tables
   pub feed : FeedShows l.feed c.fed
-  pub declared : c.fed.declared ≡ Some (feed_columns main c.role)
+  pub declared : c.fed.declared ≡ Some (feed_columns tables c.role)
 
-abbrev pub ShowsEach : Table → List Link → List Channel → Type 0
-ShowsEach main [] [] = Unit {0}
-ShowsEach main [] (c ∷ cs) = ⊥
-ShowsEach main (l ∷ ls) [] = ⊥
-ShowsEach main (l ∷ ls) (c ∷ cs) = ShowsChannel main l c × ShowsEach main ls cs
+abbrev pub ShowsEach : List Table → List Link → List Channel → Type 0
+ShowsEach tables [] [] = Unit {0}
+ShowsEach tables [] (c ∷ cs) = ⊥
+ShowsEach tables (l ∷ ls) [] = ⊥
+ShowsEach tables (l ∷ ls) (c ∷ cs) = ShowsChannel tables l c × ShowsEach tables ls cs
 
--- What a session is made of: what is declared of its feeds and views, its feeds, the rows, and how to take the latest
--- edits back.
+-- What a session is made of: the names of its side tables, what is declared of its feeds and views, its feeds, the rows
+-- of its tables, of which the first is the main table, and how to take the latest edits back.
 pub record SessionParts : Type 0 where
+  pub sides : List (List ℕ)
   pub feeds : List FeedConfig
   pub views : List View
   pub links : List Link
-  pub store : Store
+  pub stores : List Store
   pub records : List UndoRecord
+
+abbrev pub tables_in : List Store → List Table
+tables_in stores = map (λ s. s.table) stores
+
+abbrev pub rows_in : List Store → Rows
+rows_in stores = map (λ s. s.slots) stores
+
+abbrev pub named_sides : List (List ℕ) → List Table → List SideTable
+named_sides names [] = []
+named_sides [] (t ∷ ts) = record { name = []; table = t } ∷ named_sides [] ts
+named_sides (n ∷ ns) (t ∷ ts) = record { name = n; table = t } ∷ named_sides ns ts
+
+-- where there is no store of a number
+abbrev pub no_store : Store
+no_store = no_rows no_table
+
+abbrev pub store_at : List Store → ℕ → Store
+store_at stores n = get_or stores n no_store
 
 -- its configuration
 abbrev pub config_of : SessionParts → Config
-config_of p = record { main = p.store.table; feeds = p.feeds; views = p.views }
+config_of p =
+    record {
+      main = table_at (tables_in p.stores) 0;
+      sides = named_sides p.sides (drop 1 (tables_in p.stores));
+      feeds = p.feeds;
+      views = p.views;
+    }
 
 abbrev pub parts_code : Coded SessionParts
 parts_code =
-    code_by (List FeedConfig × (List View × (List Link × (Store × List UndoRecord))))
+    code_by (List (List ℕ) × (List FeedConfig × (List View × (List Link × (List Store × List UndoRecord)))))
+    (coded× (coded_list (coded_list coded_ℕ))
     (coded× (coded_list feed_code)
     (coded× (coded_list view_code)
-    (coded× (coded_list link_type.the_row.coded) (coded× store_code (coded_list record_type.the_row.coded)))))
-    (λ s. (s.feeds, (s.views, (s.links, (s.store, s.records)))))
-    (λ p. record { feeds = p.0; views = p.1.0; links = p.1.1.0; store = p.1.1.1.0; records = p.1.1.1.1 }) (λ _. refl)
+    (coded× (coded_list link_type.the_row.coded)
+    (coded× (coded_list store_code) (coded_list record_type.the_row.coded))))))
+    (λ s. (s.sides, (s.feeds, (s.views, (s.links, (s.stores, s.records))))))
+    (λ p. record {
+      sides = p.0;
+      feeds = p.1.0;
+      views = p.1.1.0;
+      links = p.1.1.1.0;
+      stores = p.1.1.1.1.0;
+      records = p.1.1.1.1.1;
+    })
+    (λ _. refl)
 
--- A session shows a state. It stores neither the edits nor the bytes that came.
+-- A session, which has a main table, shows a state. It stores neither the edits nor the bytes that came.
 pub record Shows (p : SessionParts) (s : State) : Type 0 where
-  pub past : ShowsPast p.store.table p.store.slots p.records s.past
-  pub channels : ShowsEach p.store.table p.links s.channels
+  pub main : 0 < length p.stores
+  pub past : ShowsPast (tables_in p.stores) (rows_in p.stores) p.records s.past
+  pub channels : ShowsEach (tables_in p.stores) p.links s.channels
 
--- What holds of each session: some state is shown, and the views are of its table.
-pub record IsSession (p : SessionParts) (capacity : ℕ) : Type 0 where
+abbrev pub columns_of : List Schema → List (List (Rose NamedType))
+columns_of schemas = map (λ s. s.fields.items) schemas
+
+-- views of right tables, and their columns
+abbrev pub AreShown : List Table → List View → List (List (Rose NamedType)) → Type 0
+AreShown tables views columns =
+    All IsTable tables × All (IsView tables) views × (columns ≡ map (view_columns tables) views)
+
+-- What holds of each session: some state is shown, and the views are of its tables and have these columns.
+pub record IsSession (p : SessionParts) (capacity : ℕ) (columns : List (List (Rose NamedType))) : Type 0 where
   pub capacity_is : capacity ≡ 64
-  pub views : All (IsView p.store.table.columns) p.views
+  pub views : AreShown (tables_in p.stores) p.views columns
   pub some : (s : State) × Shows p s
 
 -- A call takes such a step from any state that is shown, and shows where it leads.

@@ -30,11 +30,11 @@ use Rattle.stream_writer.specs.Sinks.{Sunk, Writes}
 use Rattle.stream_writer.specs.Stream.{canon}
 use Rattle.feed.specs.Events.{Event as Message, batch, dictionary, ended, schema, Given}
 use Rattle.feed.specs.States.{FeedState, Finishes, Gives, after_finish, after_push, fresh, is_broken}
-use Rattle.view_lang.specs.Causes.{cause_of}
-use Rattle.view_lang.specs.Config.{Config, FeedConfig, Table, View}
-use Rattle.view_lang.specs.ConfigRules.{feed_columns, output_fields}
+use Rattle.view_lang.specs.Causes.{cause_in}
+use Rattle.view_lang.specs.Config.{Config, FeedConfig, Table, View, tables_of}
 use Rattle.view_lang.specs.Edits.{Edit, edit_of}
 use Rattle.view_lang.specs.UnfitCauses.{named}
+use Rattle.view_lang.specs.ViewColumns.{feed_columns, view_columns}
 use Rattle.view_lang.specs.Views.{view_of}
 use Rattle.view_lang.specs.World.{World, world}
 use Rattle.view_lang.specs.declared.config.Role.{Role}
@@ -69,12 +69,12 @@ pub record State : Type 0 where
 abbrev pub no_edits : Past
 no_edits = record { edits = []; depth = 0 }
 
-abbrev pub opened : Table → FeedConfig → Channel
-opened main plan = record { role = plan.role; fed = fresh (Some (feed_columns main plan.role)) }
+abbrev pub opened : List Table → FeedConfig → Channel
+opened tables plan = record { role = plan.role; fed = fresh (Some (feed_columns tables plan.role)) }
 
 -- where a session begins
 abbrev pub start : Config → State
-start conf = record { past = no_edits; channels = map (opened conf.main) conf.feeds }
+start conf = record { past = no_edits; channels = map (opened (tables_of conf)) conf.feeds }
 
 abbrev pub pushed : ℕ → Option Event → Pushed
 pushed used e = record { used = used; event = e }
@@ -91,8 +91,8 @@ edited past e None = accepted past e
 edited past e (Some u) = past
 
 -- the least cause for which an edit of the table doesn't fit
-abbrev pub unfit_in : Table → Past → Edit → Option Unfit
-unfit_in main past e = cause_of main (world main past.edits) e
+abbrev pub unfit_in : List Table → Past → Edit → Option Unfit
+unfit_in tables past e = cause_in tables (world tables past.edits) e
 
 -- Pushes
 
@@ -113,30 +113,30 @@ abbrev pub judged : ℕ → Event → Option Unfit → Result Pushed Fault
 judged used e None = Ok (pushed used (Some e))
 judged used e (Some u) = Err (record { cause = named u; used = used })
 
-abbrev pub message_answer : Table → Past → ℕ → Event → Option Edit → Result Pushed Fault
-message_answer main past used kind None = Ok (pushed used (Some kind))
-message_answer main past used kind (Some e) = judged used kind (unfit_in main past e)
+abbrev pub message_answer : List Table → Past → ℕ → Event → Option Edit → Result Pushed Fault
+message_answer tables past used kind None = Ok (pushed used (Some kind))
+message_answer tables past used kind (Some e) = judged used kind (unfit_in tables past e)
 
-abbrev pub given_answer : Table → Role → Past → ℕ → Option Message → Result Pushed Fault
-given_answer main role past used None = Ok (pushed used None)
-given_answer main role past used (Some m) = message_answer main past used (kind_of m) (edit_in role m)
+abbrev pub given_answer : List Table → Role → Past → ℕ → Option Message → Result Pushed Fault
+given_answer tables role past used None = Ok (pushed used None)
+given_answer tables role past used (Some m) = message_answer tables past used (kind_of m) (edit_in role m)
 
 -- what a push answers where the feed gave so much
-abbrev pub push_answer : Table → Role → Past → Result Given StreamFault → Result Pushed Fault
-push_answer main role past (Ok g) = given_answer main role past g.used g.event
-push_answer main role past (Err f) = Err (refused (cause_named f))
+abbrev pub push_answer : List Table → Role → Past → Result Given StreamFault → Result Pushed Fault
+push_answer tables role past (Ok g) = given_answer tables role past g.used g.event
+push_answer tables role past (Err f) = Err (refused (cause_named f))
 
-abbrev pub message_past : Table → Past → Option Edit → Past
-message_past main past None = past
-message_past main past (Some e) = edited past e (unfit_in main past e)
+abbrev pub message_past : List Table → Past → Option Edit → Past
+message_past tables past None = past
+message_past tables past (Some e) = edited past e (unfit_in tables past e)
 
-abbrev pub given_past : Table → Role → Past → Option Message → Past
-given_past main role past None = past
-given_past main role past (Some m) = message_past main past (edit_in role m)
+abbrev pub given_past : List Table → Role → Past → Option Message → Past
+given_past tables role past None = past
+given_past tables role past (Some m) = message_past tables past (edit_in role m)
 
-abbrev pub push_past : Table → Role → Past → Result Given StreamFault → Past
-push_past main role past (Ok g) = given_past main role past g.event
-push_past main role past (Err f) = past
+abbrev pub push_past : List Table → Role → Past → Result Given StreamFault → Past
+push_past tables role past (Ok g) = given_past tables role past g.event
+push_past tables role past (Err f) = past
 
 abbrev pub with_feed : Channel → FeedState → Channel
 with_feed c fed = record { role = c.role; fed = fed }
@@ -147,39 +147,39 @@ push_channel c piece gave = with_feed c (after_push c.fed piece gave)
 
 -- A piece that isn't empty comes to a feed that isn't broken: it gives what the feed's definition says. After want of
 -- memory, nothing is changed; an unfit edit is consumed.
-pub record Gets (main : Table) (past : Past) (c : Channel) (piece : List ℕ) (answer : Result Pushed Fault)
+pub record Gets (tables : List Table) (past : Past) (c : Channel) (piece : List ℕ) (answer : Result Pushed Fault)
     (next_past : Past) (next : Channel) : Type 0 where
   pub gave : Result Given StreamFault
   pub may : Gives c.fed piece gave
-  pub answers : answer ≡ push_answer main c.role past gave
-  pub edits : next_past ≡ push_past main c.role past gave
+  pub answers : answer ≡ push_answer tables c.role past gave
+  pub edits : next_past ≡ push_past tables c.role past gave
   pub stream : next ≡ push_channel c piece gave
 
-abbrev pub PushBy : Table → Past → Channel → Bool → List ℕ → Result Pushed Fault → Past → Channel → Type 0
-PushBy main past c true piece answer next_past next =
+abbrev pub PushBy : List Table → Past → Channel → Bool → List ℕ → Result Pushed Fault → Past → Channel → Type 0
+PushBy tables past c true piece answer next_past next =
     (answer ≡ Err (refused cause.FeedBroken)) × (next_past ≡ past) × (next ≡ c)
-PushBy main past c false [] answer next_past next = (answer ≡ Ok (pushed 0 None)) × (next_past ≡ past) × (next ≡ c)
-PushBy main past c false (b ∷ bs) answer next_past next = Gets main past c (b ∷ bs) answer next_past next
+PushBy tables past c false [] answer next_past next = (answer ≡ Ok (pushed 0 None)) × (next_past ≡ past) × (next ≡ c)
+PushBy tables past c false (b ∷ bs) answer next_past next = Gets tables past c (b ∷ bs) answer next_past next
 
 -- A push to a channel answers so, and leads there.
-abbrev pub Pushes : Table → Past → Channel → List ℕ → Result Pushed Fault → Past → Channel → Type 0
-Pushes main past c piece answer next_past next =
-    PushBy main past c (is_broken c.fed.condition) piece answer next_past next
+abbrev pub Pushes : List Table → Past → Channel → List ℕ → Result Pushed Fault → Past → Channel → Type 0
+Pushes tables past c piece answer next_past next =
+    PushBy tables past c (is_broken c.fed.condition) piece answer next_past next
 
 -- with another past, and another channel at that place
 abbrev pub moved : State → ℕ → Past → Channel → State
 moved s k past c = record { past = past; channels = slice_set s.channels k c }
 
-pub record PushAt (main : Table) (s : State) (k : ℕ) (c : Channel) (piece : List ℕ) (answer : Result Pushed Fault)
+pub record PushAt (tables : List Table) (s : State) (k : ℕ) (c : Channel) (piece : List ℕ) (answer : Result Pushed Fault)
     (new : State) : Type 0 where
   pub past : Past
   pub channel : Channel
-  pub pushes : Pushes main s.past c piece answer past channel
+  pub pushes : Pushes tables s.past c piece answer past channel
   pub leads : new ≡ moved s k past channel
 
-abbrev pub PushTo : Table → State → ℕ → Option Channel → List ℕ → Result Pushed Fault → State → Type 0
-PushTo main s k None piece answer new = (answer ≡ Err (refused cause.UnknownFeed)) × (new ≡ s)
-PushTo main s k (Some c) piece answer new = PushAt main s k c piece answer new
+abbrev pub PushTo : List Table → State → ℕ → Option Channel → List ℕ → Result Pushed Fault → State → Type 0
+PushTo tables s k None piece answer new = (answer ≡ Err (refused cause.UnknownFeed)) × (new ≡ s)
+PushTo tables s k (Some c) piece answer new = PushAt tables s k c piece answer new
 
 -- The end of a feed's input
 
@@ -235,8 +235,8 @@ UndoTo s answer new = (p : Past) × Undoes s.past answer p × (new ≡ record { 
 -- Views
 
 -- the canonical stream of a view
-abbrev pub stream_of : Table → View → World → List ℕ
-stream_of main view w = canon (output_fields main.columns view.outputs) (view_of view w)
+abbrev pub stream_of : List Table → View → World → List ℕ
+stream_of tables view w = canon (view_columns tables view) (view_of tables view w)
 
 abbrev pub WriteAnswers : Sunk → Sunk → Result ℕ ViewFault → List ℕ → Type 0
 WriteAnswers old new (Ok n) whole = Writes old new (Ok n) whole
@@ -244,10 +244,10 @@ WriteAnswers old new (Err (view_fault.Write f)) whole = Writes old new (Err f) w
 WriteAnswers old new (Err view_fault.UnknownView) whole = ⊥
 
 -- A write of a view answers so, and does this to its sink.
-abbrev pub WritesView : Table → Past → Option View → Sunk → Result ℕ ViewFault → Sunk → Type 0
-WritesView main past None old answer new = (answer ≡ Err view_fault.UnknownView) × (new ≡ old)
-WritesView main past (Some view) old answer new =
-    WriteAnswers old new answer (stream_of main view (world main past.edits))
+abbrev pub WritesView : List Table → Past → Option View → Sunk → Result ℕ ViewFault → Sunk → Type 0
+WritesView tables past None old answer new = (answer ≡ Err view_fault.UnknownView) × (new ≡ old)
+WritesView tables past (Some view) old answer new =
+    WriteAnswers old new answer (stream_of tables view (world tables past.edits))
 
 -- Steps
 
@@ -261,14 +261,14 @@ view_in conf name = slice_get conf.views (place_of name (map (λ v. v.name) conf
 
 abbrev pub PushStep : Config → State → List ℕ → List ℕ → Result Pushed Fault → State → Type 0
 PushStep conf s name piece answer new =
-    PushTo conf.main s (place_in conf name) (slice_get s.channels (place_in conf name)) piece answer new
+    PushTo (tables_of conf) s (place_in conf name) (slice_get s.channels (place_in conf name)) piece answer new
 
 abbrev pub FinishStep : Config → State → List ℕ → Result (Unit {0}) Fault → State → Type 0
 FinishStep conf s name answer new =
     FinishTo s (place_in conf name) (slice_get s.channels (place_in conf name)) answer new
 
 abbrev pub WriteStep : Config → State → List ℕ → Sunk → Result ℕ ViewFault → Sunk → Type 0
-WriteStep conf s name old answer new = WritesView conf.main s.past (view_in conf name) old answer new
+WriteStep conf s name old answer new = WritesView (tables_of conf) s.past (view_in conf name) old answer new
 
 pub record WriteTo (conf : Config) (s : State) (sinks : List Sunk) (name : List ℕ) (n : ℕ) (answer : Result ℕ ViewFault)
     (after : List Sunk) : Type 0 where

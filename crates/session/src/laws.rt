@@ -6,7 +6,7 @@ ghost use Rattle.feed.specs.Events.{given};
 ghost use Rattle.view_lang.specs.ConfigRules.{IsConfig};
 ghost use Rattle.view_lang.specs.declared.config.Role.TheVariants as role;
 ghost use Rattle.session.specs.Laws.{MemoryChangesNothing, OthersStay, RefusalsKeepEdits};
-ghost use Rattle.session.specs.Sample.{after_two, row_again, sample_config, sample_main, two_rows};
+ghost use Rattle.session.specs.Sample.{after_two, row_again, sample_config, sample_tables, two_rows};
 ghost use Rattle.session.specs.Steps.{no_edits, push_answer, push_past, pushed, undone};
 ghost use Rattle.session.specs.declared.calls.Event.TheVariants as event;
 
@@ -19,16 +19,16 @@ pub fn refusal_law()
     ensures others { OthersStay }
 {}
 
-/// Some steps of a small table: a batch that is accepted, one that names a live key, and an undo.
+/// Some steps of a small configuration: a batch that is accepted, one that names a live key, and an undo.
 #[tactic(auto, using(crate::proofs::Sample::sample))]
 pub fn sample_law()
     ensures config { IsConfig sample_config }
-    ensures accepted { push_answer sample_main role.Append no_edits (Ok (given 208 (Some two_rows))) ≡ Ok
+    ensures accepted { push_answer sample_tables role.Append no_edits (Ok (given 208 (Some two_rows))) ≡ Ok
         (pushed 208 (Some event.Batch)) }
-    ensures edits { push_past sample_main role.Append no_edits (Ok (given 208 (Some two_rows))) ≡ after_two }
-    ensures unfit { push_answer sample_main role.Append after_two (Ok (given 208 (Some row_again))) ≡ Err
+    ensures edits { push_past sample_tables role.Append no_edits (Ok (given 208 (Some two_rows))) ≡ after_two }
+    ensures unfit { push_answer sample_tables role.Append after_two (Ok (given 208 (Some row_again))) ≡ Err
         (record { cause = cause.DuplicateKey; used = 208 }) }
-    ensures retained { push_past sample_main role.Append after_two (Ok (given 208 (Some row_again))) ≡ after_two }
+    ensures retained { push_past sample_tables role.Append after_two (Ok (given 208 (Some row_again))) ≡ after_two }
     ensures undone { undone after_two ≡ no_edits }
     ensures nothing { undone no_edits ≡ no_edits }
 {}

@@ -1,4 +1,4 @@
-//! A session: feeds that change a table, edits that can be undone, and views that are written.
+//! A session: feeds that change tables, edits that can be undone, and views that are written.
 //!
 //! A session is a machine. `specs/Steps.antt` says what each call may answer and where it leads, from the edits that
 //! are accepted and not undone and from the bytes that each feed consumed, none of which it stores. `specs/Shows.antt`

@@ -3,7 +3,7 @@
 use feed::Feed;
 use view_lang::Role;
 
-/// A feed, and what its batches do to the table.
+/// A feed, and what its batches do to a table.
 #[derive(Drop)]
 pub(crate) struct Link {
     pub role: Role,

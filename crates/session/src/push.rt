@@ -1,7 +1,7 @@
 //! What comes to a feed of a session.
 
 ghost use Rattle.std.specs.Prelude.{◌≡◌};
-ghost use Rattle.session.specs.Shows.{ShowsChannel, ShowsPast};
+ghost use Rattle.session.specs.Shows.{ShowsChannel, rows_in, tables_in};
 ghost use Rattle.session.specs.Changes.{PushesTo};
 ghost use Rattle.session.specs.Steps.{Channel};
 
@@ -19,15 +19,15 @@ use values::Cause;
 /// where it fits.
 pub(crate) fn push_to(
     link: &mut Link,
-    store: &mut RowStore,
+    stores: &mut [RowStore],
     records: &mut HeapCircularBuffer<UndoRecord>,
     piece: &[u8],
 ) -> Result<Pushed, Fault>
-    requires link { (c : Channel) × ShowsChannel store.old.table link.old c }
+    requires link { (c : Channel) × ShowsChannel (tables_in stores.old) link.old c }
     requires capacity { records.old.capacity ≡ 64 }
-    ensures pushes { PushesTo store.old.table link.old store.old.slots records.old.items
-        piece.now result link.new store.new.slots records.new.items }
-    ensures table { store.new.table ≡ store.old.table }
+    ensures pushes { PushesTo (tables_in stores.old) link.old (rows_in stores.old) records.old.items
+        piece.now result link.new (rows_in stores.new) records.new.items }
+    ensures tables { tables_in stores.new ≡ tables_in stores.old }
     ensures capacity { records.new.capacity ≡ 64 }
 {
     // It does nothing: the proof takes from it that a batch holds what was declared for its feed.
@@ -47,7 +47,7 @@ pub(crate) fn push_to(
         link.feed.commit();
         return Ok(Pushed { used, event: None });
     };
-    match respond(link.role, store, records, event) {
+    match respond(link.role, stores, records, event) {
         Ok(kind) => {
             link.feed.commit();
             Ok(Pushed {

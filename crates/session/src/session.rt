@@ -1,9 +1,13 @@
 //! The session.
 
-ghost use Rattle.std.specs.Prelude.{◌≡◌, ◌<◌, All, IfOk, OnErr, length, map};
-ghost use Rattle.view_lang.specs.ConfigRules.{IsConfig, IsTable};
-ghost use Rattle.view_lang.specs.World.{world};
-ghost use Rattle.session.specs.Shows.{IsStep, IsWithin, Shows, ShowsEach, config_of};
+ghost use Rattle.std.specs.Prelude.{◌≡◌, ◌<◌, ◌∷◌, All, IfOk, OnErr, length, map, string_bytes};
+ghost use Rattle.view_lang.specs.Config.{tables_of};
+ghost use Rattle.view_lang.specs.ConfigRules.{IsConfig};
+ghost use Rattle.view_lang.specs.TableRules.{IsTable};
+ghost use Rattle.view_lang.specs.ViewColumns.{view_columns};
+ghost use Rattle.view_lang.specs.World.{contents_at, world};
+ghost use Rattle.row_keys.specs.Store.{no_rows};
+ghost use Rattle.session.specs.Shows.{IsStep, IsWithin, Shows, ShowsEach, columns_of, config_of, store_at};
 ghost use Rattle.session.specs.Steps.{FinishStep, PushStep, Run, State, Steps, UndoTo, WriteStep, opened, start};
 
 use crate::calls::{Fault, Pushed, Reply, Step, ViewFault};
@@ -19,18 +23,19 @@ use row_keys::RowStore;
 use std::alloc::{AllocError, Global};
 use std::marker::Model;
 use stream_writer::Sink;
-use values::Cause;
 use values::limits::MAX_UNDO_DEPTH;
-use view_lang::{Config, FeedConfig, Table, View};
+use values::{Cause, Schema};
+use view_lang::{Config, FeedConfig, SideTable, Table, View};
 
 /// The feeds of a configuration, of which nothing has come.
-fn open_feeds(alloc: Global, main: &Table, feeds: &[FeedConfig]) -> Result<Vec<Link>, AllocError>
-    requires { IsTable main.now }
-    ensures { IfOk result (λ links. ShowsEach main.now links.items (map (opened main.now) feeds.now)) }
+fn open_feeds(alloc: Global, config: &Config) -> Result<Vec<Link>, AllocError>
+    requires { IsConfig config.now }
+    ensures { IfOk result (λ links.
+        ShowsEach (tables_of config.now) links.items (map (opened (tables_of config.now)) config.now.feeds)) }
 {
-    let mut links = Vec::with_capacity(alloc, feeds.len())?;
-    for plan in feeds {
-        let schema = main.feed_schema(alloc, plan.role)?;
+    let mut links = Vec::with_capacity(alloc, config.feeds.len())?;
+    for plan in &config.feeds {
+        let schema = config.feed_schema(alloc, plan.role)?;
         links.push(Link {
             role: plan.role,
             feed: Feed::open(alloc, Some(schema)),
@@ -39,42 +44,85 @@ fn open_feeds(alloc: Global, main: &Table, feeds: &[FeedConfig]) -> Result<Vec<L
     Ok(links)
 }
 
-/// A table that feeds change, edits of it that can be undone, and views of it that can be written.
+/// The columns of the views of a configuration.
+fn open_views(alloc: Global, config: &Config) -> Result<Vec<Schema>, AllocError>
+    requires { IsConfig config.now }
+    ensures { IfOk result (λ schemas.
+        columns_of schemas.items ≡ map (view_columns (tables_of config.now)) config.now.views) }
+{
+    let mut schemas = Vec::with_capacity(alloc, config.views.len())?;
+    for view in &config.views {
+        schemas.push(config.view_schema(alloc, view)?)?;
+    }
+    Ok(schemas)
+}
+
+/// The names of the side tables, and all tables without rows.
+fn open_tables(
+    alloc: Global,
+    main: Table,
+    sides: Vec<SideTable>,
+) -> Result<(Vec<String>, Vec<RowStore>), AllocError>
+    requires main { IsTable main }
+    requires sides { All (λ s. IsTable s.table) sides.items }
+    ensures names { IfOk result (λ p. map string_bytes p.0.items ≡ map (λ s. s.name) sides.items) }
+    ensures stores { IfOk result (λ p. p.1.items ≡ no_rows main ∷ map (λ s. no_rows s.table) sides.items) }
+{
+    let mut names = Vec::with_capacity(alloc, sides.len())?;
+    let mut stores = Vec::new(alloc);
+    stores.push(RowStore::new(alloc, main))?;
+    for side in sides {
+        let SideTable { name, table } = side;
+        names.push(name)?;
+        stores.push(RowStore::new(alloc, table))?;
+    }
+    Ok((names, stores))
+}
+
+/// Tables that feeds change, edits of them that can be undone, and views of them that can be written.
 ///
 /// Contracts see its parts, and which states of `specs/Steps.antt` they show.
 #[derive(Drop)]
 pub struct Session {
     alloc: Global,
+    // Of the side tables.
+    names: Vec<String>,
     feeds: Vec<FeedConfig>,
     views: Vec<View>,
+    // Of the views.
+    schemas: Vec<Schema>,
     links: Vec<Link>,
-    store: RowStore,
+    // The main table's rows come first.
+    stores: Vec<RowStore>,
     records: HeapCircularBuffer<UndoRecord>,
 }
 
 impl Model for Session {
-    ghost use Rattle.session.specs.Shows.{IsSession, SessionParts, parts_code};
+    ghost use Rattle.std.specs.Prelude.{map, string_bytes};
+    ghost use Rattle.session.specs.Shows.{IsSession, SessionParts, columns_of, parts_code};
 
     ghost Value = { SessionParts };
 
     ghost coded = { parts_code };
 
     ghost view = { λ s. record {
+      sides = map string_bytes s.names.items;
       feeds = s.feeds.items;
       views = s.views.items;
       links = s.links.items;
-      store = s.store;
+      stores = s.stores.items;
       records = s.records.items;
     } };
 
     ghost invariant = { λ s. IsSession
         (record {
+          sides = map string_bytes s.names.items;
           feeds = s.feeds.items;
           views = s.views.items;
           links = s.links.items;
-          store = s.store;
+          stores = s.stores.items;
           records = s.records.items;
-        }) s.records.capacity };
+        }) s.records.capacity (columns_of s.schemas.items) };
 }
 
 impl Session {
@@ -85,14 +133,23 @@ impl Session {
         ensures config { IfOk result (λ s. config_of s ≡ config) }
     {
         let records = HeapCircularBuffer::with_capacity(alloc, MAX_UNDO_DEPTH)?;
-        let Config { main, feeds, views } = config;
-        let links = open_feeds(alloc, &main, &feeds)?;
-        Ok(Session {
-            alloc,
+        let links = open_feeds(alloc, &config)?;
+        let schemas = open_views(alloc, &config)?;
+        let Config {
+            main,
+            sides,
             feeds,
             views,
+        } = config;
+        let (names, stores) = open_tables(alloc, main, sides)?;
+        Ok(Session {
+            alloc,
+            names,
+            feeds,
+            views,
+            schemas,
             links,
-            store: RowStore::new(alloc, main),
+            stores,
             records,
         })
     }
@@ -111,7 +168,7 @@ impl Session {
         }
         push_to(
             &mut self.links[place],
-            &mut self.store,
+            &mut self.stores,
             &mut self.records,
             piece,
         )
@@ -135,7 +192,7 @@ impl Session {
         ensures step { IsStep self.old (λ s t. UndoTo s result t) self.new }
         ensures config { config_of self.new ≡ config_of self.old }
     {
-        go_back(&mut self.store, &mut self.records)
+        go_back(&mut self.stores, &mut self.records)
     }
 
     /// Writes the canonical stream of a view, and answers its length. On a fault the sink took a beginning of that
@@ -150,15 +207,22 @@ impl Session {
         if place >= self.views.len() {
             return Err(ViewFault::UnknownView);
         }
-        let written = write_rows(self.alloc, &mut self.store, &self.views[place], sink)?;
+        let written = write_rows(
+            self.alloc,
+            &mut self.stores,
+            &self.views[place],
+            &self.schemas[place],
+            sink,
+        )?;
         Ok(written)
     }
 
-    /// The number of live rows. It takes no memory.
+    /// The number of live rows of the main table. It takes no memory.
     pub fn live_rows(&self) -> usize
-        ensures { (s : State) → Shows self.now s → result ≡ length (world self.now.store.table s.past.edits).live }
+        ensures { (s : State) → Shows self.now s
+            → result ≡ length (contents_at (world (tables_of (config_of self.now)) s.past.edits) 0).live }
     {
-        self.store.len()
+        self.stores[0].len()
     }
 
     /// The number of views that are stale: views are evaluated when they are written, so none is. It takes no memory.
@@ -168,11 +232,11 @@ impl Session {
         0
     }
 
-    /// How often a stored row was opened; it rests at its greatest number. It takes no memory.
+    /// How often a stored row of the main table was opened; it rests at its greatest number. It takes no memory.
     pub fn visits(&self) -> u128
-        ensures { result ≡ self.now.store.visits }
+        ensures { result ≡ (store_at self.now.stores 0).visits }
     {
-        self.store.visits()
+        self.stores[0].visits()
     }
 
     /// Does one step.

@@ -2,7 +2,7 @@
 
 ghost use Rattle.std.specs.Prelude.{◌≡◌};
 ghost use Rattle.row_keys.specs.Store.{with_slots};
-ghost use Rattle.session.specs.Shows.{CanGoBack, ShowsPast, back};
+ghost use Rattle.session.specs.Shows.{CanGoBack, ShowsPast, back, rows_in, tables_in};
 ghost use Rattle.session.specs.Steps.{Past, Undoes};
 
 use crate::calls::Fault;
@@ -10,41 +10,52 @@ use circular_buffer::HeapCircularBuffer;
 use row_keys::RowStore;
 use values::Cause;
 
-/// What takes an accepted edit back.
+/// How an accepted edit changed the rows of its table.
 #[derive(Drop)]
-pub(crate) enum UndoRecord {
+pub(crate) enum Change {
     /// So many rows were appended.
     Appended(usize),
     /// The rows of these numbers were retracted.
     Retracted(Vec<usize>),
+    /// So many rows were put, and took the places of those of these numbers.
+    Put { rows: usize, replaced: Vec<usize> },
 }
 
-/// Takes the edit of a record back.
-fn restore(store: &mut RowStore, latest: &UndoRecord)
-    requires { CanGoBack store.old.table latest.now store.old.slots }
-    ensures { store.new ≡ with_slots store.old (back latest.now store.old.slots) }
+/// What takes an accepted edit back: the number of the table, and how it was changed.
+#[derive(Drop)]
+pub(crate) struct UndoRecord {
+    pub table: usize,
+    pub change: Change,
+}
+
+/// Takes a change back.
+fn restore(store: &mut RowStore, change: &Change)
+    requires { CanGoBack store.old.table change.now store.old.slots }
+    ensures { store.new ≡ with_slots store.old (back change.now store.old.slots) }
 {
-    match latest {
-        UndoRecord::Appended(count) => store.take_back(*count),
-        UndoRecord::Retracted(numbers) => store.put_back(numbers),
+    match change {
+        Change::Appended(count) => store.take_back(*count),
+        Change::Retracted(numbers) => store.put_back(numbers),
+        Change::Put { rows, replaced } => store.undo_put(*rows, replaced),
     }
 }
 
 /// Takes the latest edit back, whose record comes first.
 pub(crate) fn go_back(
-    store: &mut RowStore,
+    stores: &mut [RowStore],
     records: &mut HeapCircularBuffer<UndoRecord>,
 ) -> Result<(), Fault>
-    requires { (past : Past) × ShowsPast store.old.table store.old.slots records.old.items past }
-    ensures undoes { (past : Past) → ShowsPast store.old.table store.old.slots records.old.items past
-        → (next : Past) × Undoes past result next × ShowsPast store.old.table store.new.slots records.new.items next }
-    ensures table { store.new.table ≡ store.old.table }
+    requires { (past : Past) × ShowsPast (tables_in stores.old) (rows_in stores.old) records.old.items past }
+    ensures undoes { (past : Past) → ShowsPast (tables_in stores.old) (rows_in stores.old) records.old.items past
+        → (next : Past) × Undoes past result next
+        × ShowsPast (tables_in stores.old) (rows_in stores.new) records.new.items next }
+    ensures tables { tables_in stores.new ≡ tables_in stores.old }
     ensures capacity { records.new.capacity ≡ records.old.capacity }
 {
     let Some(latest) = records.front() else {
         return Err(Fault::of(Cause::NothingToUndo));
     };
-    restore(store, latest);
+    restore(&mut stores[latest.table], &latest.change);
     records.pop_front();
     Ok(())
 }

@@ -251,34 +251,33 @@ module _ (fs : List (Rose NamedType)) (such : AreSuch fs) (rows : List (List Dat
 -- The laws
 
 pub views_can_sum : ViewsCanSum
-views_can_sum tables v w is =
+views_can_sum tables v side input is =
     outputs_summable (joined_columns tables v.lookup) (joined_such tables v.lookup is.right is.view.lookup)
-    (view_input v (side_in tables w v.lookup) (contents_at w 0).live) (input_fits tables v w is) (input_few tables v w is)
-    v.outputs is.view.outputs
+    (view_input v side input) (input_fits tables v side input is) (input_few tables v side input is) v.outputs is.view.outputs
 
 pub views_have_rows : ViewsHaveRows
 unfolding view_rows shown_rows
-views_have_rows tables v w is =
+views_have_rows tables v side input is =
     let fs : List (Rose NamedType) = joined_columns tables v.lookup in
-    let rows : List (List Datum) = view_input v (side_in tables w v.lookup) (contents_at w 0).live in
+    let rows : List (List Datum) = view_input v side input in
     let P : List Datum → Type 0 = IsRow (view_columns tables v) in
     All-first P v.first (sorted (row_cmp v.order) (output_rows v.outputs rows))
     (All-sorted (row_cmp v.order) P (output_rows v.outputs rows)
     (All-weaker (AreFit (view_columns tables v)) P (λ row fit. fit_row (view_columns tables v) row is.view.few fit)
     (output_rows v.outputs rows)
-    (outputs_fit fs (joined_such tables v.lookup is.right is.view.lookup) rows (input_fits tables v w is)
-    (input_few tables v w is) v.outputs is.view.outputs)))
+    (outputs_fit fs (joined_such tables v.lookup is.right is.view.lookup) rows (input_fits tables v side input is)
+    (input_few tables v side input is) v.outputs is.view.outputs)))
 
 pub views_have_few_rows : ViewsHaveFewRows
 unfolding view_rows shown_rows
-views_have_few_rows tables v w is =
+views_have_few_rows tables v side input is =
     let fs : List (Rose NamedType) = joined_columns tables v.lookup in
-    let rows : List (List Datum) = view_input v (side_in tables w v.lookup) (contents_at w 0).live in
+    let rows : List (List Datum) = view_input v side input in
     let made : List (List Datum) = output_rows v.outputs rows in
     omega (
       arith,
       length_first v.first (sorted (row_cmp v.order) made),
       length-sorted (row_cmp v.order) made,
-      outputs_few fs (joined_such tables v.lookup is.right is.view.lookup) rows (input_fits tables v w is)
-      (input_few tables v w is) v.outputs,
+      outputs_few fs (joined_such tables v.lookup is.right is.view.lookup) rows (input_fits tables v side input is)
+      (input_few tables v side input is) v.outputs,
     )

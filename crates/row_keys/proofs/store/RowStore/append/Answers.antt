@@ -1,13 +1,13 @@
 use Rattle.std.proofs.Common.{◌≡◌, ℕ, false, List, [], ◌∷◌, ◌++◌, None, ap, length, map, subst, sym, ◌∙◌}
 use Rattle.arrays.specs.Checked.{CheckedColumn}
 use Rattle.view_lang.specs.Causes.{cause_of}
+use Rattle.view_lang.specs.Contents.{applied, keys_in}
 use Rattle.view_lang.specs.Edits.{append}
-use Rattle.view_lang.specs.World.{applied, keys_in}
 use Rattle.row_keys.specs.Batches.{IsBatch, batch_rows}
 use Rattle.row_keys.specs.Judged.{RefusesRows, are_many}
 use Rattle.row_keys.specs.KeyColumns.{PushesKeys, RefusesKeys}
 use Rattle.row_keys.specs.Numbers.{live_count}
-use Rattle.row_keys.specs.Slots.{new_slot, world_of}
+use Rattle.row_keys.specs.Slots.{new_slot, contents_of}
 use Rattle.row_keys.specs.Store.{Refuses, Store}
 use Rattle.row_keys.specs.Stored.{joined, rows_by}
 use Rattle.row_keys.proofs.Appending.{
@@ -28,7 +28,7 @@ returns-in-Err-clause-refused c =
     c.in-Err.fault in
     let P : Store
     → Type 0 =
-    λ s. Refuses (cause_of s.table (world_of s.slots) (append (batch_rows c.args.rows c.args.columns.items)))
+    λ s. Refuses (cause_of s.table (contents_of s.slots) (append (batch_rows c.args.rows c.args.columns.items)))
     c.in-Err.fault in
     subst P c.self.view_is
     (keys_unfit c.self.inside.table c.self.inside.batches.items c.self.inside.places.items c.self.inside.numbers
@@ -47,17 +47,17 @@ invariant_of-self-in-Ok-keep_rows c =
     PushesKeys (keys_in c.self.inside.table (batch_rows c.args.rows c.args.columns.items)) c.self.inside.numbers
     c.push_batch.new.numbers =
     subst K c.deref.ensures.value c.in-Ok.ensures.pushed in
-    let F : ℕ → Type 0 = λ n. are_many n c.len-before.result c.args.rows ≡ false in
-    let G : ℕ → Type 0 = λ n. are_many (live_count c.self.inside.numbers) n c.args.rows ≡ false in
-    let few : are_many (live_count c.self.inside.numbers) (length c.self.inside.numbers) c.args.rows ≡ false =
+    let F : ℕ → Type 0 = λ n. are_many c.self.inside.table.max_rows n c.len-before.result c.args.rows ≡ false in
+    let G : ℕ → Type 0 = λ n. are_many c.self.inside.table.max_rows (live_count c.self.inside.numbers) n c.args.rows ≡ false in
+    let few : are_many c.self.inside.table.max_rows (live_count c.self.inside.numbers) (length c.self.inside.numbers) c.args.rows ≡ false =
     subst G c.len-before.ensures.value (subst F c.live-live.ensures c.in-Ok-keep_rows.ensures.few) in
     rw (c.in-Ok-keep_rows.ensures.batches, c.in-Ok-keep_rows.ensures.places)
     (stored_appended c.self.inside.table c.self.inside.batches.items c.self.inside.places.items c.self.inside.numbers
     c.push_batch.new.numbers c.args.columns.items c.args.rows
     (length c.self.inside.numbers) c.self.invariant batch pushed few c.in-Ok-keep_rows.ensures.light)
 
-pub returns-in-Ok-keep_rows-clause-world : goal.returns-in-Ok-keep_rows-clause-world
-returns-in-Ok-keep_rows-clause-world c =
+pub returns-in-Ok-keep_rows-clause-contents : goal.returns-in-Ok-keep_rows-clause-contents
+returns-in-Ok-keep_rows-clause-contents c =
     let B : Store → Type 0 = λ s. IsBatch s.table c.args.rows c.args.columns.items in
     let batch : IsBatch c.self.inside.table c.args.rows c.args.columns.items =
     subst B (sym c.self.view_is) c.requires in
@@ -77,11 +77,11 @@ returns-in-Ok-keep_rows-clause-world c =
     c.in-Ok-keep_rows.ensures.places
     ∙ slots_appended c.self.inside.table c.self.inside.batches.items c.self.inside.places.items c.self.inside.numbers
     c.push_batch.new.numbers c.args.columns.items c.args.rows c.self.invariant pushed in
-    ap world_of slots
+    ap contents_of slots
     ∙ world_added c.self.inside.table
     (joined (rows_by c.self.inside.batches.items c.self.inside.places.items) c.self.inside.numbers)
     (batch_rows c.args.rows c.args.columns.items)
-    ∙ ap (λ (s : Store). applied s.table (append (batch_rows c.args.rows c.args.columns.items)) (world_of s.slots))
+    ∙ ap (λ (s : Store). applied s.table (append (batch_rows c.args.rows c.args.columns.items)) (contents_of s.slots))
     c.self.view_is
 
 pub returns-in-Ok-keep_rows-clause-fits : goal.returns-in-Ok-keep_rows-clause-fits
@@ -96,13 +96,13 @@ returns-in-Ok-keep_rows-clause-fits c =
     PushesKeys (keys_in c.self.inside.table (batch_rows c.args.rows c.args.columns.items)) c.self.inside.numbers
     c.push_batch.new.numbers =
     subst K c.deref.ensures.value c.in-Ok.ensures.pushed in
-    let F : ℕ → Type 0 = λ n. are_many n c.len-before.result c.args.rows ≡ false in
-    let G : ℕ → Type 0 = λ n. are_many (live_count c.self.inside.numbers) n c.args.rows ≡ false in
-    let few : are_many (live_count c.self.inside.numbers) (length c.self.inside.numbers) c.args.rows ≡ false =
+    let F : ℕ → Type 0 = λ n. are_many c.self.inside.table.max_rows n c.len-before.result c.args.rows ≡ false in
+    let G : ℕ → Type 0 = λ n. are_many c.self.inside.table.max_rows (live_count c.self.inside.numbers) n c.args.rows ≡ false in
+    let few : are_many c.self.inside.table.max_rows (live_count c.self.inside.numbers) (length c.self.inside.numbers) c.args.rows ≡ false =
     subst G c.len-before.ensures.value (subst F c.live-live.ensures c.in-Ok-keep_rows.ensures.few) in
     let P : Store
     → Type 0 =
-    λ s. cause_of s.table (world_of s.slots) (append (batch_rows c.args.rows c.args.columns.items)) ≡ None in
+    λ s. cause_of s.table (contents_of s.slots) (append (batch_rows c.args.rows c.args.columns.items)) ≡ None in
     subst P c.self.view_is
     (batch_fits c.self.inside.table c.self.inside.batches.items c.self.inside.places.items c.self.inside.numbers
     c.push_batch.new.numbers c.args.columns.items c.args.rows
@@ -170,14 +170,14 @@ returns-in-Err-keep_rows-clause-refused c =
     c.push_batch.new.numbers =
     subst K c.deref.ensures.value c.in-Ok.ensures.pushed in
     let F : ℕ
-    → Type 0 = λ n. RefusesRows n c.len-before.result c.args.rows c.args.columns.items c.in-Err-keep_rows.fault in
+    → Type 0 = λ n. RefusesRows c.self.inside.table.max_rows n c.len-before.result c.args.rows c.args.columns.items c.in-Err-keep_rows.fault in
     let G : ℕ
     → Type 0 =
-    λ n. RefusesRows (live_count c.self.inside.numbers) n c.args.rows c.args.columns.items
+    λ n. RefusesRows c.self.inside.table.max_rows (live_count c.self.inside.numbers) n c.args.rows c.args.columns.items
     c.in-Err-keep_rows.fault in
     let P : Store
     → Type 0 =
-    λ s. Refuses (cause_of s.table (world_of s.slots) (append (batch_rows c.args.rows c.args.columns.items)))
+    λ s. Refuses (cause_of s.table (contents_of s.slots) (append (batch_rows c.args.rows c.args.columns.items)))
     c.in-Err-keep_rows.fault in
     subst P c.self.view_is
     (rows_unfit c.self.inside.table c.self.inside.batches.items c.self.inside.places.items c.self.inside.numbers

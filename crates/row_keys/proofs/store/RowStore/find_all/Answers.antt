@@ -6,11 +6,11 @@ use Rattle.view_lang.specs.Edits.{retract}
 use Rattle.row_keys.specs.Found.{FindsAll, MissesKey}
 use Rattle.row_keys.specs.KeyColumns.{PushesKeys, RefusesKeys}
 use Rattle.row_keys.specs.Numbers.{Numbered}
-use Rattle.row_keys.specs.Slots.{CanRetract, keys_at, world_of}
+use Rattle.row_keys.specs.Slots.{CanRetract, keys_at, contents_of}
 use Rattle.row_keys.specs.Store.{Refuses, Store}
 use Rattle.row_keys.specs.Stored.{joined, rows_by}
 use Rattle.row_keys.proofs.Finding.{found_can, found_fits, found_keys, keys_refused, keys_unknown}
-use Rattle.row_keys.proofs.Opening.{if_err, if_ok, on_ok}
+use Rattle.row_keys.proofs.Results.{if_err, if_ok, on_ok}
 use Rattle.row_keys.proofs.store.RowStore.find_all.Goals as goal
 
 pub returns-in-Ok-clause-numbers : goal.returns-in-Ok-clause-numbers
@@ -48,11 +48,11 @@ returns-in-Ok-clause-fits c =
     subst K c.new-seen.ensures c.in-Ok.ensures.pushed in
     let P : Store
     → Type 0 =
-    λ s. OnOk c.find_keys.result (cause_of s.table (world_of s.slots) (retract c.args.keys.now.cells) ≡ None) in
+    λ s. OnOk c.find_keys.result (cause_of s.table (contents_of s.slots) (retract c.args.keys.now.cells) ≡ None) in
     subst P c.self.view_is
     (on_ok (λ (ns : Vec ℕ Global). FindsAll c.args.keys.now.cells c.self.inside.numbers ns.items)
     (cause_of c.self.inside.table
-    (world_of (joined (rows_by c.self.inside.batches.items c.self.inside.places.items) c.self.inside.numbers))
+    (contents_of (joined (rows_by c.self.inside.batches.items c.self.inside.places.items) c.self.inside.numbers))
     (retract c.args.keys.now.cells) ≡ None) c.find_keys.result
     (λ ns h. found_fits c.self.inside.table c.self.inside.batches.items c.self.inside.places.items c.self.inside.numbers
     c.push_keys.new.numbers c.args.keys.now.cells ns.items c.self.invariant pushed h)
@@ -65,12 +65,12 @@ returns-in-Ok-clause-refused c =
     subst K c.new-seen.ensures c.in-Ok.ensures.pushed in
     let P : Store
     → Type 0 =
-    λ s. IfErr c.find_keys.result (Refuses (cause_of s.table (world_of s.slots) (retract c.args.keys.now.cells))) in
+    λ s. IfErr c.find_keys.result (Refuses (cause_of s.table (contents_of s.slots) (retract c.args.keys.now.cells))) in
     subst P c.self.view_is
     (if_err (MissesKey c.args.keys.now.cells c.self.inside.numbers)
     (Refuses
     (cause_of c.self.inside.table
-    (world_of (joined (rows_by c.self.inside.batches.items c.self.inside.places.items) c.self.inside.numbers))
+    (contents_of (joined (rows_by c.self.inside.batches.items c.self.inside.places.items) c.self.inside.numbers))
     (retract c.args.keys.now.cells)))
     c.find_keys.result
     (λ e h. keys_unknown c.self.inside.table c.self.inside.batches.items c.self.inside.places.items
@@ -80,5 +80,5 @@ returns-in-Ok-clause-refused c =
 pub returns-clause-refused : goal.returns-clause-refused
 returns-clause-refused c =
     let K : List Numbered → Type 0 = λ xs. RefusesKeys c.args.keys.now.cells xs c.in-Err.fault in
-    keys_refused c.args.self.now.table (world_of c.args.self.now.slots) c.args.keys.now.cells c.in-Err.fault
+    keys_refused c.args.self.now.table (contents_of c.args.self.now.slots) c.args.keys.now.cells c.in-Err.fault
     (subst K c.new-seen.ensures c.in-Err.ensures.refused)

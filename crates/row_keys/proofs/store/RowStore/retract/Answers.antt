@@ -1,8 +1,8 @@
 use Rattle.std.proofs.Common.{◌≡◌, List, ap, subst, sym, ◌∙◌}
+use Rattle.view_lang.specs.Contents.{applied}
 use Rattle.view_lang.specs.Edits.{retract}
-use Rattle.view_lang.specs.World.{applied}
 use Rattle.row_keys.specs.Numbers.{AreLive, Numbered}
-use Rattle.row_keys.specs.Slots.{CanPutBack, CanRetract, keys_at, retracted, world_of}
+use Rattle.row_keys.specs.Slots.{CanPutBack, CanRetract, keys_at, retracted, contents_of}
 use Rattle.row_keys.specs.Store.{Store, with_slots}
 use Rattle.row_keys.specs.Stored.{IsStored, joined, rows_by}
 use Rattle.row_keys.proofs.Storing.{off_back, off_can, off_world, stored_off}
@@ -43,12 +43,12 @@ returns-clause-slots c =
     c.self.inside.numbers)
     ∙ ap (λ (s : Store). with_slots s (retracted c.args.numbers.now s.slots)) c.self.view_is
 
-pub returns-clause-world : goal.returns-clause-world
-returns-clause-world c =
+pub returns-clause-contents : goal.returns-clause-contents
+returns-clause-contents c =
     let P : Store → Type 0 = λ s. CanRetract c.args.numbers.now s.slots in
     let Q : Store → Type 0 = λ s.
-    world_of (joined (rows_by c.self.inside.batches.items c.self.inside.places.items) c.retract_all.new.rows)
-    ≡ applied s.table (retract (keys_at s.table c.args.numbers.now s.slots)) (world_of s.slots) in
+    contents_of (joined (rows_by c.self.inside.batches.items c.self.inside.places.items) c.retract_all.new.rows)
+    ≡ applied s.table (retract (keys_at s.table c.args.numbers.now s.slots)) (contents_of s.slots) in
     subst Q c.self.view_is
     (off_world c.self.inside.table c.self.inside.batches.items c.self.inside.places.items c.self.inside.numbers
     c.retract_all.new.rows

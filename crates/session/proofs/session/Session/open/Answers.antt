@@ -12,7 +12,7 @@ pub invariant_of-result : goal.invariant_of-result
 invariant_of-result c =
     let conf : Config =
     record {
-      main = c.config.inside.main;
+      tables = c.config.inside.tables;
       feeds = c.config.inside.feeds.items;
       views = c.config.inside.views.items;
     } in
@@ -27,7 +27,7 @@ pub returns-clause-shows : goal.returns-clause-shows
 returns-clause-shows c =
     let conf : Config =
     record {
-      main = c.config.inside.main;
+      tables = c.config.inside.tables;
       feeds = c.config.inside.feeds.items;
       views = c.config.inside.views.items;
     } in

@@ -12,10 +12,11 @@ pub returns-then-place-len-clause-step : goal.returns-then-place-len-clause-step
 returns-then-place-len-clause-step c =
     let p : SessionParts =
     record {
+      sides = map string_bytes c.self.inside.names.items;
       feeds = c.self.inside.feeds.items;
       views = c.self.inside.views.items;
       links = c.self.inside.links.items;
-      store = c.self.inside.store;
+      stores = c.self.inside.stores.items;
       records = c.self.inside.records.items;
     } in
     let at :
@@ -32,10 +33,11 @@ pub push_to-requires-clause-link : goal.push_to-requires-clause-link
 push_to-requires-clause-link c =
     let p : SessionParts =
     record {
+      sides = map string_bytes c.self.inside.names.items;
       feeds = c.self.inside.feeds.items;
       views = c.self.inside.views.items;
       links = c.self.inside.links.items;
-      store = c.self.inside.store;
+      stores = c.self.inside.stores.items;
       records = c.self.inside.records.items;
     } in
     let below : c.feed_place-place.result < length c.self.inside.links.items =
@@ -46,14 +48,16 @@ pub invariant_of-self : goal.invariant_of-self
 invariant_of-self c =
     let p : SessionParts =
     record {
+      sides = map string_bytes c.self.inside.names.items;
       feeds = c.self.inside.feeds.items;
       views = c.self.inside.views.items;
       links = c.self.inside.links.items;
-      store = c.self.inside.store;
+      stores = c.self.inside.stores.items;
       records = c.self.inside.records.items;
     } in
     let q : SessionParts =
     record {
+      sides = map string_bytes c.self.inside.names.items;
       feeds = c.self.inside.feeds.items;
       views = c.self.inside.views.items;
       links = slice_set c.self.inside.links.items c.feed_place-place.result c.push_to.new.link;
@@ -79,14 +83,16 @@ pub returns-clause-step : goal.returns-clause-step
 returns-clause-step c =
     let p : SessionParts =
     record {
+      sides = map string_bytes c.self.inside.names.items;
       feeds = c.self.inside.feeds.items;
       views = c.self.inside.views.items;
       links = c.self.inside.links.items;
-      store = c.self.inside.store;
+      stores = c.self.inside.stores.items;
       records = c.self.inside.records.items;
     } in
     let q : SessionParts =
     record {
+      sides = map string_bytes c.self.inside.names.items;
       feeds = c.self.inside.feeds.items;
       views = c.self.inside.views.items;
       links = slice_set c.self.inside.links.items c.feed_place-place.result c.push_to.new.link;

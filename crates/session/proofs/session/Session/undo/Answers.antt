@@ -22,7 +22,7 @@ returns-clause-step c =
       feeds = feeds;
       views = views;
       links = links;
-      store = c.self.inside.store;
+      stores = c.self.inside.stores.items;
       records = c.self.inside.records.items;
     } in
     let q : SessionParts =

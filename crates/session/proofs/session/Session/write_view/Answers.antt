@@ -3,7 +3,7 @@ use Rattle.std.proofs.lemmas.Grind.{common_steps}
 use Rattle.std.proofs.lemmas.Result.{err_from_is_err_and}
 use Rattle.stream_writer.specs.Sinks.{Sunk}
 use Rattle.view_lang.specs.Config.{View}
-use Rattle.row_keys.specs.Slots.{world_of}
+use Rattle.row_keys.specs.Slots.{contents_of}
 use Rattle.session.specs.Names.{place_of}
 use Rattle.session.specs.Shows.{IsStep, SessionParts, config_of}
 use Rattle.session.specs.Steps.{WriteAnswers, WriteStep, stream_of}
@@ -16,14 +16,16 @@ returns-in_err-written-clause-step g c =
     let failed = err_from_is_err_and c.from_residual.result c.from_residual.ensures.1 in
     let p : SessionParts =
     record {
+      sides = map string_bytes c.self.inside.names.items;
       feeds = c.self.inside.feeds.items;
       views = c.self.inside.views.items;
       links = c.self.inside.links.items;
-      store = c.self.inside.store;
+      stores = c.self.inside.stores.items;
       records = c.self.inside.records.items;
     } in
     let q : SessionParts =
     record {
+      sides = map string_bytes c.self.inside.names.items;
       feeds = c.self.inside.feeds.items;
       views = c.self.inside.views.items;
       links = c.self.inside.links.items;
@@ -41,7 +43,7 @@ returns-in_err-written-clause-step g c =
     grind (arith, common_steps, c.len.ensures, c.if-place-len.false) in
     let writes :
     WriteAnswers old new c.from_residual.result
-    (stream_of p.store.table c.index.result.now (world_of p.store.slots)) =
+    (stream_of p.store.table c.index.result.now (contents_of p.store.slots)) =
     rw saturated c.in_err-written.ensures.writes in
     subst (λ (x : SessionParts). IsStep x
     (λ s t. WriteStep (config_of x) s c.args.view.now old c.from_residual.result new × (t ≡ s)) q)
@@ -54,14 +56,16 @@ pub returns-clause-step : goal.returns-clause-step
 returns-clause-step g c =
     let p : SessionParts =
     record {
+      sides = map string_bytes c.self.inside.names.items;
       feeds = c.self.inside.feeds.items;
       views = c.self.inside.views.items;
       links = c.self.inside.links.items;
-      store = c.self.inside.store;
+      stores = c.self.inside.stores.items;
       records = c.self.inside.records.items;
     } in
     let q : SessionParts =
     record {
+      sides = map string_bytes c.self.inside.names.items;
       feeds = c.self.inside.feeds.items;
       views = c.self.inside.views.items;
       links = c.self.inside.links.items;

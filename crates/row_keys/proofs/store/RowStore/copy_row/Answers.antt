@@ -9,7 +9,7 @@ use Rattle.row_keys.specs.Slots.{row_of}
 use Rattle.row_keys.specs.Store.{Store}
 use Rattle.row_keys.specs.Stored.{columns_of, joined, rows_by}
 use Rattle.row_keys.proofs.Storing.{columns_read, first_of, number_within, opened, place_known, second_of}
-use Rattle.row_keys.proofs.store.RowStore.open_row.Goals as goal
+use Rattle.row_keys.proofs.store.RowStore.copy_row.Goals as goal
 
 pub index-place-requires : goal.index-place-requires
 index-place-requires c =

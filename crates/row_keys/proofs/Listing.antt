@@ -1,0 +1,112 @@
+-- The numbers of all live rows, one after another.
+use Rattle.std.proofs.Common.{
+  ◌≡◌,
+  ℕ,
+  zero,
+  suc,
+  ◌+◌,
+  ◌<◌,
+  ◌≤◌,
+  Bool,
+  true,
+  false,
+  List,
+  [],
+  ◌∷◌,
+  ◌++◌,
+  All,
+  length,
+  take,
+  get_or,
+  map,
+  refl,
+  ap,
+  sym,
+  ◌∙◌,
+  arith,
+  append-nil,
+}
+use Rattle.std.specs.Prelude.{if◌then◌else◌}
+use Rattle.std.proofs.Math.Seq.{take-suc}
+use Rattle.std.proofs.lemmas.List.{map-append}
+use Rattle.std.proofs.lemmas.List.Elements.{All-nil, All-push}
+use Rattle.row_keys.specs.Slots.{Slot, live, no_slot, row_of}
+
+live_joined : (xs ys : List Slot) → live (xs ++ ys) ≡ live xs ++ live ys
+unfolding live
+live_joined [] ys = refl
+live_joined (s ∷ ss) ys = by s.live (live_joined ss ys)
+  where
+    by : (b : Bool) → live (ss ++ ys) ≡ live ss ++ live ys
+        → (if b then s.row ∷ live (ss ++ ys) else live (ss ++ ys)) ≡ (if b then s.row ∷ live ss else live ss) ++ live ys
+    by true h = ap (λ rs. s.row ∷ rs) h
+    by false h = h
+
+live_one : (s : Slot) → s.live ≡ true → live (s ∷ []) ≡ s.row ∷ []
+unfolding live
+live_one s h = ap (λ b. if b then s.row ∷ [] else []) h
+
+live_none : (s : Slot) → s.live ≡ false → live (s ∷ []) ≡ []
+unfolding live
+live_none s h = ap (λ b. if b then s.row ∷ [] else []) h
+
+one_more : (slots : List Slot) (n : ℕ) → n < length slots
+    → take (n + 1) slots ≡ take n slots ++ get_or slots n no_slot ∷ []
+one_more slots n below = let e : n + 1 ≡ suc n = omega arith in
+    ap (λ m. take m slots) e ∙ take-suc slots n no_slot below
+
+taken_live : (slots : List Slot) (n : ℕ) → n < length slots → (get_or slots n no_slot).live ≡ true
+    → live (take (n + 1) slots) ≡ live (take n slots) ++ row_of slots n ∷ []
+taken_live slots n below h =
+    ap live (one_more slots n below) ∙ live_joined (take n slots) (get_or slots n no_slot ∷ [])
+    ∙ ap (λ rs. live (take n slots) ++ rs) (live_one (get_or slots n no_slot) h)
+
+taken_dead : (slots : List Slot) (n : ℕ) → n < length slots → (get_or slots n no_slot).live ≡ false
+    → live (take (n + 1) slots) ≡ live (take n slots)
+taken_dead slots n below h =
+    ap live (one_more slots n below) ∙ live_joined (take n slots) (get_or slots n no_slot ∷ [])
+    ∙ ap (λ rs. live (take n slots) ++ rs) (live_none (get_or slots n no_slot) h)
+    ∙ append-nil (live (take n slots))
+
+-- the numbers of the live rows below number n
+pub record Listed (slots : List Slot) (n : ℕ) (numbers : List ℕ) : Type 0 where
+  pub are : map (row_of slots) numbers ≡ live (take n slots)
+  pub there : All (λ m. m < length slots) numbers
+
+none_taken : (slots : List Slot) → live (take 0 slots) ≡ []
+unfolding live
+none_taken [] = refl
+none_taken (s ∷ ss) = refl
+
+pub listed_none : (slots : List Slot) → Listed slots 0 []
+listed_none slots = record { are = sym (none_taken slots); there = All-nil (λ m. m < length slots) }
+
+pub listed_more :
+    (slots : List Slot) (n : ℕ) (numbers : List ℕ) → Listed slots n numbers → n < length slots
+    → (get_or slots n no_slot).live ≡ true → Listed slots (n + 1) (numbers ++ n ∷ [])
+listed_more slots n numbers l below lives = record {
+  are = map-append (row_of slots) numbers (n ∷ []) ∙ ap (λ rs. rs ++ row_of slots n ∷ []) l.are
+      ∙ sym (taken_live slots n below lives);
+  there = All-push (λ m. m < length slots) numbers n l.there below;
+}
+
+pub listed_same :
+    (slots : List Slot) (n : ℕ) (numbers : List ℕ) → Listed slots n numbers → n < length slots
+    → (get_or slots n no_slot).live ≡ false → Listed slots (n + 1) numbers
+listed_same slots n numbers l below dead = record {
+  are = l.are ∙ sym (taken_dead slots n below dead);
+  there = l.there;
+}
+
+all_taken : (slots : List Slot) (n : ℕ) → length slots ≤ n → take n slots ≡ slots
+all_taken [] zero h = refl
+all_taken [] (suc n) h = refl
+all_taken (s ∷ ss) zero h = absurd (omega (arith, h))
+all_taken (s ∷ ss) (suc n) h = ap (λ xs. s ∷ xs) (all_taken ss n (omega (arith, h)))
+
+pub listed_all :
+    (slots : List Slot) (n : ℕ) (numbers : List ℕ) → Listed slots n numbers → length slots ≤ n
+    → map (row_of slots) numbers ≡ live slots
+listed_all slots n numbers l end = l.are ∙ ap live (all_taken slots n end)
+
+pub ruleset listing = (listed_none, listed_all)
