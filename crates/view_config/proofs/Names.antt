@@ -5,7 +5,9 @@ use Rattle.std.proofs.lemmas.List.{drop_all, drop_more}
 use Rattle.values.specs.Rose.{Rose}
 use Rattle.values.specs.Logical.{NamedType}
 use Rattle.view_config.specs.Columns.{find, name_of}
-use Rattle.view_config.specs.Feeds.{are_name_bytes, is_name_byte}
+use Rattle.view_config.specs.Entries.{are_name_bytes, is_name_byte}
+use Rattle.view_config.specs.Sides.{find_side}
+use Rattle.view_lang.specs.Config.{SideTable}
 use Rattle.view_config.specs.Tree.{is_one_of, repeats}
 
 -- by what is left of a list
@@ -30,6 +32,14 @@ pub find-step :
 find-step cs i d n h = rw (drop_more cs i d h) refl
 
 pub ruleset finding = (find-step, drop_all)
+
+-- the first side table of a name
+pub side-step :
+    (ss : List SideTable) (i : ℕ) (d : SideTable) (n : List ℕ) → i < length ss
+    → find_side i n (drop i ss) ≡ find_side i n (get_or ss i d ∷ drop (i + 1) ss)
+side-step ss i d n h = rw (drop_more ss i d h) refl
+
+pub ruleset finding_sides = (side-step, drop_all)
 
 -- the bytes of a name
 pub bytes-step :

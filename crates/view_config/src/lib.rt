@@ -7,18 +7,24 @@
 #![tactic(auto)]
 
 mod columns;
+mod constants;
 mod config;
+mod entries;
 mod faults;
 mod feeds;
-mod laws;
+mod filters;
+//mod laws;
 mod limits;
+mod lookups;
+mod scope;
+mod sides;
 mod tables;
-#[cfg(test)]
-mod tests;
+//#[cfg(test)]
+//mod tests;
 mod tree;
 mod types;
 mod views;
 
 pub use config::read_config;
 pub use faults::ConfigFault;
-pub use laws::worked_law;
+//pub use laws::worked_law;
