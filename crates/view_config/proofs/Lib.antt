@@ -10,7 +10,17 @@ pub mod Gathering
 pub mod Joined
 pub mod FilterDepths
 pub mod FilterCounts
+pub mod Numbers
+pub mod OutputFields
+pub mod OutputNames
 pub mod Digits
 pub mod Pairs
 pub mod SoundTypes
 pub mod SoundFields
+pub mod Found
+pub mod SoundTables
+pub mod SoundFilters
+pub mod Samples
+pub mod SoundOutputs
+pub mod SoundViews
+pub mod SoundConfig

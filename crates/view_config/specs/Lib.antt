@@ -15,3 +15,4 @@ pub mod Outputs
 pub mod Lookups
 pub mod Views
 pub mod Config
+pub mod Worked

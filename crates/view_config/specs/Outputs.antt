@@ -39,7 +39,7 @@ abbrev pub distinct_numbers : List ℕ → Reading (Unit {0})
 distinct_numbers ns = refused_if fault.DuplicateColumn (repeats_number ns)
 
 -- group: columns that have an order, none of them twice
-abbrev pub grouping_column : Scope → Data → Reading ℕ
+unfoldable pub grouping_column : Scope → Data → Reading ℕ
 grouping_column s d = mapped (λ c. c.0) (ordered_reference s d)
 
 unfoldable pub group_of : Scope → Data → Reading (List ℕ)
@@ -61,8 +61,8 @@ shown_by s w ds =
     if bytes_eq w (codes "col") then mapped (λ c. c.0) (sole_reference s ds) else Err (one fault.Shape)
 
 -- what a view of groups shows, by its word: of columns of the groups those that they are grouped by
-abbrev pub key_of_group : List ℕ → Column → Reading Aggregate
-key_of_group by c = mapped aggregate.Key (must fault.UnknownName (place_of 0 c.0 by))
+abbrev pub key_of_group : List ℕ → ℕ → Reading Aggregate
+key_of_group by n = mapped aggregate.Key (must fault.UnknownName (place_of 0 n by))
 
 abbrev pub count_by : Scope → Items → Reading Aggregate
 count_by s ds =
@@ -78,7 +78,7 @@ sum_of_column c = if can_be_summed (type_of c.1) then Ok (aggregate.Sum c.0) els
 
 unfoldable pub aggregate_by : Scope → List ℕ → List ℕ → Items → Reading Aggregate
 aggregate_by s by w ds =
-    if bytes_eq w (codes "col") then sole_reference s ds >>= key_of_group by
+    if bytes_eq w (codes "col") then (sole_reference s ds >>= λ c. key_of_group by c.0)
     else if bytes_eq w (codes "count") then count_by s ds
     else if bytes_eq w (codes "sum") then sole_reference s ds >>= sum_of_column
     else if bytes_eq w (codes "least") then mapped (λ c. aggregate.Least c.0) (sole_ordered s ds)

@@ -22,10 +22,10 @@ use view_lang::Config;
 ///
 /// It answers Ok exactly where no fault stands in the text, unless memory runs out, and otherwise one of the faults
 /// that stand.
-#[tactic(auto, using(crate::proofs::Causes::failing), unfolding(crate::specs::Config::text_means))]
+#[tactic(auto, using(crate::proofs::SoundConfig::whole), unfolding(crate::specs::Config::text_means))]
 pub fn read_config(alloc: Global, text: &str) -> Result<Config, ConfigFault>
     ensures meaning { Answers (λ c. c) result (text_means text.now) }
-    //ensures rules { IfOk result IsConfig }
+    ensures rules { IfOk result IsConfig }
 {
     let tree = read_tree(alloc, text)?;
     read_entries(alloc, &tree)

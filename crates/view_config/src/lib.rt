@@ -13,18 +13,23 @@ mod entries;
 mod faults;
 mod feeds;
 mod filters;
-//mod laws;
+mod laws;
+mod groups;
 mod limits;
 mod lookups;
+mod naming;
+mod orders;
+mod outputs;
 mod scope;
+mod shown;
 mod sides;
 mod tables;
-//#[cfg(test)]
-//mod tests;
+#[cfg(test)]
+mod tests;
 mod tree;
 mod types;
 mod views;
 
 pub use config::read_config;
 pub use faults::ConfigFault;
-//pub use laws::worked_law;
+pub use laws::worked_law;

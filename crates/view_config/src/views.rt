@@ -1,15 +1,146 @@
 //! Views.
 
-ghost use Rattle.std.specs.Prelude.{◌≡◌};
-ghost use Rattle.toml.specs.View.{table_view};
+ghost use Rattle.std.specs.Prelude.{◌≡◌, option_map};
+ghost use Rattle.toml.specs.View.{table_view, view};
+ghost use Rattle.values.specs.Reading.{Judges};
+ghost use Rattle.view_config.specs.Filters.{whole_filter};
+ghost use Rattle.view_config.specs.Lookups.{lookup_of};
+ghost use Rattle.view_config.specs.Outputs.{group_of};
 ghost use Rattle.view_config.specs.Reading.{Answers};
-ghost use Rattle.view_config.specs.Views.{views_of};
+ghost use Rattle.view_config.specs.Tree.{each_member};
+ghost use Rattle.view_config.specs.Views.{perhaps, view_in, view_of, views_of};
 
+use crate::entries::{check_entry_name, check_few_entries};
 use crate::faults::ConfigFault;
+use crate::filters::read_whole_filter;
+use crate::groups::read_group;
+use crate::lookups::read_lookup;
+use crate::orders::{read_first, read_order_at};
+use crate::outputs::read_outputs;
+use crate::scope::Scope;
+use crate::tree::{check_names, entry, entry_at, members_in};
 use std::alloc::Global;
-use toml::Table as Entries;
-use view_lang::{SideTable, Table, View};
+use toml::{Table as Entries, Value};
+use values::limits::MAX_VIEWS;
+use view_lang::{Filter, Lookup, SideTable, Table, View};
 
+#[tactic(auto, using(crate::proofs::Causes::causes))]
+fn read_lookup_at<'a>(
+    main: &Table,
+    sides: &'a [SideTable],
+    value: Option<&Value>,
+) -> Result<Option<(Lookup, &'a SideTable)>, ConfigFault>
+    ensures { Judges (option_map (λ l. (l.0, l.1.now))) result (perhaps (lookup_of main.now sides.now) (option_map (λ v. view v.now) value.entry)) }
+{
+    match value {
+        Some(value) => Ok(Some(read_lookup(main, sides, value)?)),
+        None => Ok(None),
+    }
+}
+
+#[tactic(auto, using(crate::proofs::Causes::failing))]
+fn read_filter_at(
+    alloc: Global,
+    scope: &Scope,
+    value: Option<&Value>,
+) -> Result<Option<Filter>, ConfigFault>
+    ensures { Answers (λ f. f) result (perhaps (whole_filter scope.now) (option_map (λ v. view v.now) value.entry)) }
+{
+    match value {
+        Some(value) => Ok(Some(read_whole_filter(alloc, scope, value)?)),
+        None => Ok(None),
+    }
+}
+
+#[tactic(auto, using(crate::proofs::Causes::failing))]
+fn read_group_at(
+    alloc: Global,
+    scope: &Scope,
+    value: Option<&Value>,
+) -> Result<Option<Vec<usize>>, ConfigFault>
+    ensures { Answers (option_map (λ by. by.items)) result (perhaps (group_of scope.now) (option_map (λ v. view v.now) value.entry)) }
+{
+    match value {
+        Some(value) => Ok(Some(read_group(alloc, scope, value)?)),
+        None => Ok(None),
+    }
+}
+
+/// What a view does with the columns that it can name.
+#[tactic(auto, using(crate::proofs::Causes::failing), unfolding(crate::specs::Views::view_in))]
+fn read_view_in(
+    alloc: Global,
+    scope: &Scope,
+    name: &str,
+    lookup: Option<Lookup>,
+    entries: &Entries,
+) -> Result<View, ConfigFault>
+    ensures { Answers (λ v. v) result (view_in scope.now name.now lookup (table_view entries.now)) }
+{
+    let filter = read_filter_at(alloc, scope, entry_at(entries, "filter"))?;
+    let group = read_group_at(alloc, scope, entry_at(entries, "group"))?;
+    let outputs = read_outputs(alloc, scope, group, entry(entries, "columns")?)?;
+    let order = read_order_at(alloc, scope, &outputs, entry_at(entries, "order"))?;
+    let first = read_first(entry_at(entries, "first"))?;
+    Ok(View {
+        name: String::from_str(alloc, name)?,
+        lookup,
+        filter,
+        outputs,
+        order,
+        first,
+    })
+}
+
+#[tactic(auto, using(crate::proofs::Causes::failing), unfolding(crate::specs::Views::view_of))]
+fn read_view(
+    alloc: Global,
+    main: &Table,
+    sides: &[SideTable],
+    name: &str,
+    value: &Value,
+) -> Result<View, ConfigFault>
+    ensures { Answers (λ v. v) result (view_of main.now sides.now name.now (view value.now)) }
+{
+    let entries = members_in(value)?;
+    check_names(entries, &["lookup", "filter", "group", "columns", "order", "first"])?;
+    let name = check_entry_name(name)?;
+    match read_lookup_at(main, sides, entry_at(entries, "lookup"))? {
+        Some((lookup, side)) => {
+            let scope = Scope {
+                main: &main.columns,
+                side: &side.table.columns,
+            };
+            read_view_in(alloc, &scope, name, Some(lookup), entries)
+        }
+        None => {
+            let scope = Scope {
+                main: &main.columns,
+                side: &[],
+            };
+            read_view_in(alloc, &scope, name, None, entries)
+        }
+    }
+}
+
+#[tactic(auto, using(crate::proofs::Gathering::entering))]
+fn read_each_view(
+    alloc: Global,
+    main: &Table,
+    sides: &[SideTable],
+    entries: &Entries,
+) -> Result<Vec<View>, ConfigFault>
+    ensures { Answers (λ vs. vs.items) result (each_member (view_of main.now sides.now) (table_view entries.now)) }
+{
+    let mut views = Vec::new(alloc);
+    for (name, value) in entries {
+        views.push(read_view(alloc, main, sides, name.as_str(), value)?)?;
+    }
+    Ok(views)
+}
+
+/// The views of a configuration's entries, over these tables; none where there is no such entry.
+#[tactic(auto, using(crate::proofs::Causes::failing), unfolding(crate::specs::Tree::each_member))]
 pub(crate) fn read_views(
     alloc: Global,
     main: &Table,
@@ -18,5 +149,10 @@ pub(crate) fn read_views(
 ) -> Result<Vec<View>, ConfigFault>
     ensures { Answers (λ vs. vs.items) result (views_of main.now sides.now (table_view entries.now)) }
 {
-    Err(ConfigFault::Memory)
+    let Some(value) = entry_at(entries, "view") else {
+        return Ok(Vec::new(alloc));
+    };
+    let views = members_in(value)?;
+    check_few_entries(views, MAX_VIEWS)?;
+    read_each_view(alloc, main, sides, views)
 }
