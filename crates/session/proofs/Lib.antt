@@ -13,3 +13,5 @@ pub mod Refusing
 pub mod Sample
 pub mod Inputs
 pub mod Written
+mod Telling
+mod Replaying

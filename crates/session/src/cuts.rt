@@ -1,0 +1,26 @@
+//! The law of cuts: a function that does nothing, whose contract is a theorem about runs.
+
+ghost use Rattle.session.specs.Cuts.{
+  FaultsAreTold,
+  FaultsBreak,
+  FinishIsTold,
+  PushFaultsAreTold,
+  RunIsReplayed,
+  SameRuns,
+};
+
+use feed::cut_law as feed_law;
+
+/// However each feed is cut into pieces, two runs that complete messages in one order, with the same undos and writes
+/// between, accept the same edits and write the same bytes; a feed that breaks answers one of the faults that its
+/// joined bytes tell.
+pub fn cut_law()
+    ensures replay { RunIsReplayed }
+    ensures same { SameRuns }
+    ensures faults { FaultsAreTold }
+    ensures breaks { FaultsBreak }
+    ensures finish { FinishIsTold }
+    ensures pushes { PushFaultsAreTold }
+{
+    feed_law();
+}
