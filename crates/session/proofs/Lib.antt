@@ -15,3 +15,4 @@ pub mod Inputs
 pub mod Written
 mod Telling
 mod Replaying
+mod Breaking

@@ -387,3 +387,26 @@ PushFaultsAreTold =
     → IsRunOn conf streams steps replies sinks new after
     → (k : ℕ) (f : StreamFault) → BrokeByPush conf k f steps replies
     → Stands (told_at conf streams k).ending f
+
+-- the feed k is asked to finish
+abbrev pub AsksNow : Config → ℕ → Step → Type 0
+AsksNow conf k (step.Finish name) = place_in conf name.now ≡ k
+AsksNow conf k _ = ⊥
+
+unfoldable pub AsksEnd : Config → ℕ → List Step → Type 0
+AsksEnd conf k [] = ⊥
+AsksEnd conf k (s ∷ ss) = AsksNow conf k s ⊎ AsksEnd conf k ss
+
+-- Two runs that offer a feed all of the same bytes, where the second finishes it if the first does: if it is broken after
+-- the first, it is broken after the second.
+abbrev pub BreaksInBoth : Type 0
+BreaksInBoth =
+    (conf : Config) (streams : ℕ → List ℕ) (steps others : List Step) (replies answers : List Reply)
+    (sinks after sinks_too after_too : List Sunk) (new other : State)
+    → IsRunOn conf streams steps replies sinks new after
+    → IsRunOn conf streams others answers sinks_too other after_too
+    → (k : ℕ) (plan : FeedConfig) (c d : Channel) → slice_get conf.feeds k ≡ Some plan
+    → slice_get new.channels k ≡ Some c → slice_get other.channels k ≡ Some d
+    → IsOfferedWhole (left_at_end conf streams others answers k) d
+    → (AsksEnd conf k steps → AsksEnd conf k others)
+    → is_broken c.fed.condition ≡ true → is_broken d.fed.condition ≡ true

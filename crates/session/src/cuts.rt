@@ -1,6 +1,7 @@
 //! The law of cuts: a function that does nothing, whose contract is a theorem about runs.
 
 ghost use Rattle.session.specs.Cuts.{
+  BreaksInBoth,
   FaultsAreTold,
   FaultsBreak,
   FinishIsTold,
@@ -12,8 +13,8 @@ ghost use Rattle.session.specs.Cuts.{
 use feed::cut_law as feed_law;
 
 /// However each feed is cut into pieces, two runs that complete messages in one order, with the same undos and writes
-/// between, accept the same edits and write the same bytes; a feed that breaks answers one of the faults that its
-/// joined bytes tell.
+/// between, accept the same edits and write the same bytes. A feed that breaks in one of them breaks in the other, where
+/// all of its bytes were offered in both; each answers one of the faults that its joined bytes tell.
 pub fn cut_law()
     ensures replay { RunIsReplayed }
     ensures same { SameRuns }
@@ -21,6 +22,7 @@ pub fn cut_law()
     ensures breaks { FaultsBreak }
     ensures finish { FinishIsTold }
     ensures pushes { PushFaultsAreTold }
+    ensures both { BreaksInBoth }
 {
     feed_law();
 }

@@ -1,3 +1,4 @@
+use Rattle.session.proofs.Breaking.{breaks-in-both}
 use Rattle.session.proofs.Replaying.{faults-are-told, faults-break, finish-is-told, push-faults-are-told, run-is-replayed, same-runs}
 use Rattle.session.proofs.cuts.cut_law.Goals as goal
 
@@ -48,6 +49,15 @@ returns-clause-finish c = finish-is-told (record {
 
 pub returns-clause-pushes : goal.returns-clause-pushes
 returns-clause-pushes c = push-faults-are-told (record {
+  partial = c.cut_law.ensures.partial;
+  whole = c.cut_law.ensures.whole;
+  faults = c.cut_law.ensures.faults;
+  uses = c.cut_law.ensures.uses;
+  all = c.cut_law.ensures.all;
+})
+
+pub returns-clause-both : goal.returns-clause-both
+returns-clause-both c = breaks-in-both (record {
   partial = c.cut_law.ensures.partial;
   whole = c.cut_law.ensures.whole;
   faults = c.cut_law.ensures.faults;
