@@ -13,3 +13,6 @@ pub mod Refusing
 pub mod Sample
 pub mod Inputs
 pub mod Written
+mod Telling
+mod Replaying
+mod Breaking

@@ -6,3 +6,4 @@ pub mod Inputs
 pub mod Changes
 pub mod Laws
 pub mod Sample
+pub mod Cuts

@@ -6,6 +6,7 @@
 #![tactic(auto)]
 
 mod calls;
+mod cuts;
 mod edit;
 mod finish;
 mod laws;
@@ -16,6 +17,7 @@ mod session;
 mod undo;
 mod view;
 
+pub use cuts::cut_law;
 pub use calls::{Event, Fault, Pushed, Reply, Step, ViewFault};
 pub use laws::{refusal_law, sample_law};
 pub use session::Session;

@@ -1,0 +1,28 @@
+//! The law of cuts: a function that does nothing, whose contract is a theorem about runs.
+
+ghost use Rattle.session.specs.Cuts.{
+  BreaksInBoth,
+  FaultsAreTold,
+  FaultsBreak,
+  FinishIsTold,
+  PushFaultsAreTold,
+  RunIsReplayed,
+  SameRuns,
+};
+
+use feed::cut_law as feed_law;
+
+/// However each feed is cut into pieces, two runs that complete messages in one order, with the same undos and writes
+/// between, accept the same edits and write the same bytes. A feed that breaks in one of them breaks in the other, where
+/// all of its bytes were offered in both; each answers one of the faults that its joined bytes tell.
+pub fn cut_law()
+    ensures replay { RunIsReplayed }
+    ensures same { SameRuns }
+    ensures faults { FaultsAreTold }
+    ensures breaks { FaultsBreak }
+    ensures finish { FinishIsTold }
+    ensures pushes { PushFaultsAreTold }
+    ensures both { BreaksInBoth }
+{
+    feed_law();
+}
