@@ -29,8 +29,8 @@ use Rattle.values.specs.Logical.{NamedType}
 use Rattle.values.specs.Rose.{Rose}
 use Rattle.feed.specs.Shown.{FeedParts, Shows as FeedShows}
 use Rattle.feed.specs.States.{fresh}
-use Rattle.view_lang.specs.Config.{Config, FeedConfig, SideTable, Table, tables_of}
-use Rattle.view_lang.specs.ConfigRules.{IsConfig}
+use Rattle.view_lang.specs.Config.{Config, FeedConfig, SideTable, Table, View, tables_of}
+use Rattle.view_lang.specs.ConfigRules.{IsConfig, IsFeed, IsView}
 use Rattle.view_lang.specs.Contents.{no_contents}
 use Rattle.view_lang.specs.Edits.{table_of}
 use Rattle.view_lang.specs.TableRules.{IsTable}
@@ -195,3 +195,30 @@ opened_session conf names links stores records capacity columns right is empty n
       views = subst P (sym (ap tables_in empty ∙ tables_empty conf)) (tables_right conf right, right.views, shown);
       some = (start conf, opened_shown conf names links stores records empty none each);
     }
+
+-- what a feed or a view of a configuration names is there
+pub feed_there :
+    (conf : Config) (i : ℕ) (plan : FeedConfig) (role : Role) → IsConfig conf → i < length conf.feeds
+    → plan ≡ get_or conf.feeds i plan → role ≡ plan.role → table_of role < length (tables_of conf)
+feed_there conf i plan role right below is same =
+    let there : table_of (get_or conf.feeds i plan).role < length (tables_of conf) =
+    All-get_or (IsFeed (tables_of conf)) conf.feeds i plan below right.feeds in
+    subst (λ r. table_of r < length (tables_of conf)) (sym (same ∙ ap (λ (f : FeedConfig). f.role) is)) there
+
+pub view_there :
+    (conf : Config) (i : ℕ) (v : View) → IsConfig conf → i < length conf.views → v ≡ get_or conf.views i v
+    → IsView (tables_of conf) v
+view_there conf i v right below is =
+    subst (IsView (tables_of conf)) (sym is) (All-get_or (IsView (tables_of conf)) conf.views i v below right.views)
+
+pub view_opened :
+    (conf : Config) (i : ℕ) (v : View) (before after : List (List (Rose NamedType))) (fields : List (Rose NamedType))
+    → before ≡ map (view_columns (tables_of conf)) (take i conf.views) → i < length conf.views
+    → v ≡ get_or conf.views i v → fields ≡ view_columns (tables_of conf) v → after ≡ before ++ fields ∷ []
+    → after ≡ map (view_columns (tables_of conf)) (take (i + 1) conf.views)
+view_opened conf i v before after fields so_far below is named more =
+    let f : View → List (Rose NamedType) = view_columns (tables_of conf) in
+    more ∙ ap (λ xs. xs ++ fields ∷ []) so_far
+    ∙ ap (λ x. map f (take i conf.views) ++ x ∷ []) (named ∙ ap f is)
+    ∙ sym (ap (λ n. map f (take n conf.views)) (add-one i) ∙ ap (map f) (take-suc conf.views i v below)
+    ∙ map-append f (take i conf.views) (get_or conf.views i v ∷ []))

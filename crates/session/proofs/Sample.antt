@@ -21,11 +21,14 @@ use Rattle.values.specs.Limits.{max_main_rows}
 use Rattle.values.specs.Logical.{NamedType}
 use Rattle.values.specs.Rose.{Rose}
 use Rattle.session.specs.Sample.{
+  add_feed,
   after_two,
   both_view,
+  drop_feed,
   keys_view,
   named_view,
   output,
+  put_feed,
   row_again,
   sample_config,
   sample_feeds,
@@ -111,9 +114,9 @@ named_right = record {
 
 feeds_right : All (IsFeed sample_tables) sample_feeds
 feeds_right =
-    All-cons (IsFeed sample_tables) _ _ (lit< tt)
-    (All-cons (IsFeed sample_tables) _ _ (lit< tt)
-    (All-cons (IsFeed sample_tables) _ _ (lit< tt) (All-nil (IsFeed sample_tables))))
+    All-cons (IsFeed sample_tables) add_feed (put_feed ∷ drop_feed ∷ []) (lit< tt)
+    (All-cons (IsFeed sample_tables) put_feed (drop_feed ∷ []) (lit< tt)
+    (All-cons (IsFeed sample_tables) drop_feed [] (lit< tt) (All-nil (IsFeed sample_tables))))
 
 pub config_right : IsConfig sample_config
 config_right = record {

@@ -24,13 +24,21 @@ use Rattle.std.proofs.Common.{
   arith,
 }
 use Rattle.std.specs.Prelude.{slice_get, slice_set}
+use Rattle.std.proofs.lemmas.List.{length-map}
+use Rattle.std.proofs.lemmas.List.Elements.{All-get_or}
 use Rattle.std.proofs.lemmas.Option.{slice_get-get_or}
 use Rattle.values.specs.declared.causes.Cause.TheVariants as cause
 use Rattle.stream_writer.specs.Sinks.{Sunk}
 use Rattle.values.specs.Logical.{NamedType}
 use Rattle.values.specs.Rose.{Rose}
-use Rattle.view_lang.specs.Config.{Table, View, tables_of}
-use Rattle.view_lang.specs.World.{World, table_at, world}
+use Rattle.view_lang.specs.Config.{FeedConfig, Table, View, tables_of}
+use Rattle.view_lang.specs.World.{World, contents_at, table_at, world}
+use Rattle.values.specs.declared.schema.Schema.{Schema}
+use Rattle.view_lang.specs.ConfigRules.{IsView}
+use Rattle.view_lang.specs.Contents.{Contents}
+use Rattle.view_lang.specs.ViewColumns.{view_columns}
+use Rattle.row_keys.specs.Slots.{Slot, live}
+use Rattle.row_keys.specs.Store.{Store}
 use Rattle.session.specs.Names.{place_of}
 use Rattle.session.specs.Refusals.{refused}
 use Rattle.session.specs.Changes.{Ended, EndsTo, Pushed, PushesTo}
@@ -45,8 +53,10 @@ use Rattle.session.specs.Shows.{
   ShowsChannel,
   ShowsEach,
   ShowsPast,
+  columns_of,
   config_of,
   named_sides,
+  rows_at,
   rows_in,
   tables_in,
   world_of,
@@ -74,8 +84,12 @@ use Rattle.session.specs.declared.calls.ViewFault.{ViewFault}
 use Rattle.session.specs.declared.link.Link.{Link}
 use Rattle.session.specs.declared.undo.UndoRecord.{UndoRecord}
 use Rattle.session.proofs.Channels.{each_get, each_none, each_set}
-use Rattle.session.proofs.Pasts.{holds_world}
-use Rattle.session.proofs.Stores.{tables_length}
+use Rattle.session.proofs.Pasts.{contents_there, holds_world}
+use Rattle.session.proofs.Stores.{at_mapped, rows_length, rows_there, tables_length}
+
+abbrev pub parts : List (List ℕ) → List FeedConfig → List View → List Link → List Store → List UndoRecord → SessionParts
+parts sides feeds views links stores records =
+    record { sides = sides; feeds = feeds; views = views; links = links; stores = stores; records = records }
 
 -- The tables of the configuration are those of the stores.
 
@@ -244,6 +258,17 @@ rows_shown p s shown =
     holds_world (tables_in p.stores) (rows_in p.stores) p.records s.past.edits shown.past.holds in
     held.same
 
+pub live_shown :
+    (p : SessionParts) (s : State) (x : Store) (n : ℕ) → Shows p s → x ≡ get_or p.stores 0 x → n ≡ length (live x.slots)
+    → n ≡ length (contents_at (world (tables_of (config_of p)) s.past.edits) 0).live
+live_shown p s x n shown is many =
+    let rows : rows_at (rows_in p.stores) 0 ≡ x.slots = rows_there p.stores 0 x is shown.main in
+    let have = rows_length p.stores in
+    many ∙ ap (λ (ss : List Slot). length (live ss)) (sym rows)
+    ∙ ap (λ (c : Contents). length c.live) (sym (contents_there (rows_in p.stores) 0 (omega (arith, have, shown.main))))
+    ∙ ap (λ (w : World). length (contents_at w 0).live)
+    (rows_shown p s shown ∙ ap (λ ts. world ts s.past.edits) (sym (tables_told p shown.main)))
+
 pub write_known :
     (p q : SessionParts) (name : List ℕ) (k : ℕ) (v : View) (old new : Sunk) (answer : Result ℕ ViewFault)
     → k ≡ place_of name (map (λ x. x.name) p.views) → k < length p.views → v ≡ get_or p.views k v
@@ -275,6 +300,26 @@ write_known p q name k v old new answer at below is writes table slots links rec
         channels = subst (λ (ts : List Table). ShowsEach ts q.links s.channels) (sym table) placed;
       },
     )
+
+-- a view that is there, and its columns
+
+pub view_there :
+    (tables : List Table) (views : List View) (schemas : List Schema) (k : ℕ) (v : View)
+    → AreShown tables views (columns_of schemas) → k < length views → v ≡ get_or views k v → IsView tables v
+view_there tables views schemas k v shown below is =
+    subst (IsView tables) (sym is) (All-get_or (IsView tables) views k v below shown.1)
+
+pub schema_there :
+    (tables : List Table) (views : List View) (schemas : List Schema) (k : ℕ) (v : View) (x : Schema)
+    → AreShown tables views (columns_of schemas) → k < length views → v ≡ get_or views k v → x ≡ get_or schemas k x
+    → x.fields.items ≡ view_columns tables v
+schema_there tables views schemas k v x shown below is read =
+    let one = length-map schemas (λ (s : Schema). s.fields.items) in
+    let two = length-map views (view_columns tables) in
+    let equal = ap length shown.2 in
+    let within : k < length schemas = omega (arith, one, two, equal, below) in
+    sym (at_mapped (λ (s : Schema). s.fields.items) schemas k x [] read within)
+    ∙ ap (λ cs. get_or cs k []) shown.2 ∙ at_mapped (view_columns tables) views k v [] is below
 
 -- a step leaves a session
 pub session_kept :

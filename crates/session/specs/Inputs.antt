@@ -1,5 +1,5 @@
 -- The rows that a view is made of, as they are gathered from the stores.
-use Rattle.std.specs.Prelude.{◌≡◌, All, List, Option}
+use Rattle.std.specs.Prelude.{◌≡◌, All, List, [], ◌∷◌, Option, None, Some}
 use Rattle.values.specs.Datum.{Datum}
 use Rattle.view_lang.specs.Config.{Table, View}
 use Rattle.view_lang.specs.Joined.{Side}
@@ -11,6 +11,10 @@ use Rattle.session.specs.Shows.{Rows, world_of}
 
 abbrev pub side_by : List Table → Rows → View → Side
 side_by tables rows v = side_in tables (world_of rows) v.lookup
+
+abbrev pub listed : Option (List Datum) → List (List Datum)
+listed None = []
+listed (Some row) = row ∷ []
 
 -- what the view keeps of a row of the main table
 pub record IsInput (tables : List Table) (rows : Rows) (v : View) (row : List Datum) (kept : Option (List Datum)) :

@@ -25,10 +25,17 @@ sample_side = record { name = 115 ∷ []; table = record { key = 0; max_rows = m
 abbrev pub feed_named : List ℕ → Role → FeedConfig
 feed_named name r = record { name = name; role = r }
 
+abbrev pub add_feed : FeedConfig
+add_feed = feed_named (97 ∷ 100 ∷ 100 ∷ []) role.Append
+
+abbrev pub put_feed : FeedConfig
+put_feed = feed_named (112 ∷ 117 ∷ 116 ∷ []) (role.Put 0)
+
+abbrev pub drop_feed : FeedConfig
+drop_feed = feed_named (100 ∷ 114 ∷ 111 ∷ 112 ∷ []) (role.Drop 0)
+
 abbrev pub sample_feeds : List FeedConfig
-sample_feeds =
-    feed_named (97 ∷ 100 ∷ 100 ∷ []) role.Append ∷ feed_named (112 ∷ 117 ∷ 116 ∷ []) (role.Put 0)
-    ∷ feed_named (100 ∷ 114 ∷ 111 ∷ 112 ∷ []) (role.Drop 0) ∷ []
+sample_feeds = add_feed ∷ put_feed ∷ drop_feed ∷ []
 
 abbrev pub output : ℕ → ℕ → Output
 output letter column = record { name = letter ∷ []; column = column }
@@ -49,13 +56,16 @@ sample_lookup = record { side = 0; on = 0; missing = missing.Drop; columns = 2 }
 abbrev pub named_view : View
 named_view = plain_view (110 ∷ 97 ∷ 109 ∷ 101 ∷ 100 ∷ []) (Some sample_lookup) (output 107 0 ∷ output 118 3 ∷ [])
 
+abbrev pub sample_views : List View
+sample_views = both_view ∷ keys_view ∷ named_view ∷ []
+
 abbrev pub sample_config : Config
 sample_config =
     record {
       main = sample_main;
       sides = sample_side ∷ [];
       feeds = sample_feeds;
-      views = both_view ∷ keys_view ∷ named_view ∷ [];
+      views = sample_views;
     }
 
 abbrev pub sample_tables : List Table

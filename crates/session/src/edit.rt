@@ -91,17 +91,17 @@ fn table_of(role: Role, tables: usize) -> usize
 /// Makes the edit that a batch is, and records it. An error leaves all as it was.
 fn edit(
     role: Role,
-    stores: &mut [RowStore],
+    stores: &mut Vec<RowStore>,
     records: &mut HeapCircularBuffer<UndoRecord>,
     columns: Vec<Column>,
     rows: usize,
 ) -> Result<(), EditFault>
-    requires there { table_of role < length stores.old }
-    requires batch { IsBatch (feed_columns (tables_in stores.old) role) columns.items rows }
+    requires there { table_of role < length stores.old.items }
+    requires batch { IsBatch (feed_columns (tables_in stores.old.items) role) columns.items rows }
     requires capacity { records.old.capacity ≡ 64 }
-    ensures edits { Edits (tables_in stores.old) (edit_by role columns.items rows)
-        (rows_in stores.old) records.old.items (rows_in stores.new) records.new.items result }
-    ensures tables { tables_in stores.new ≡ tables_in stores.old }
+    ensures edits { Edits (tables_in stores.old.items) (edit_by role columns.items rows)
+        (rows_in stores.old.items) records.old.items (rows_in stores.new.items) records.new.items result }
+    ensures tables { tables_in stores.new.items ≡ tables_in stores.old.items }
     ensures capacity { records.new.capacity ≡ 64 }
 {
     let table = table_of(role, stores.len());
@@ -113,16 +113,16 @@ fn edit(
 /// Does what a message of a feed asks for, and answers its kind. An error leaves all as it was.
 pub(crate) fn respond(
     role: Role,
-    stores: &mut [RowStore],
+    stores: &mut Vec<RowStore>,
     records: &mut HeapCircularBuffer<UndoRecord>,
     event: FeedEvent,
 ) -> Result<Event, EditFault>
-    requires there { table_of role < length stores.old }
-    requires batch { IsBatchEvent (tables_in stores.old) role event }
+    requires there { table_of role < length stores.old.items }
+    requires batch { IsBatchEvent (tables_in stores.old.items) role event }
     requires capacity { records.old.capacity ≡ 64 }
-    ensures takes { Takes (tables_in stores.old) role (event_seen event) (rows_in stores.old) records.old.items
-        (rows_in stores.new) records.new.items result }
-    ensures tables { tables_in stores.new ≡ tables_in stores.old }
+    ensures takes { Takes (tables_in stores.old.items) role (event_seen event) (rows_in stores.old.items) records.old.items
+        (rows_in stores.new.items) records.new.items result }
+    ensures tables { tables_in stores.new.items ≡ tables_in stores.old.items }
     ensures capacity { records.new.capacity ≡ 64 }
 {
     match event {

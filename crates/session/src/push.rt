@@ -19,15 +19,15 @@ use values::Cause;
 /// where it fits.
 pub(crate) fn push_to(
     link: &mut Link,
-    stores: &mut [RowStore],
+    stores: &mut Vec<RowStore>,
     records: &mut HeapCircularBuffer<UndoRecord>,
     piece: &[u8],
 ) -> Result<Pushed, Fault>
-    requires link { (c : Channel) × ShowsChannel (tables_in stores.old) link.old c }
+    requires link { (c : Channel) × ShowsChannel (tables_in stores.old.items) link.old c }
     requires capacity { records.old.capacity ≡ 64 }
-    ensures pushes { PushesTo (tables_in stores.old) link.old (rows_in stores.old) records.old.items
-        piece.now result link.new (rows_in stores.new) records.new.items }
-    ensures tables { tables_in stores.new ≡ tables_in stores.old }
+    ensures pushes { PushesTo (tables_in stores.old.items) link.old (rows_in stores.old.items) records.old.items
+        piece.now result link.new (rows_in stores.new.items) records.new.items }
+    ensures tables { tables_in stores.new.items ≡ tables_in stores.old.items }
     ensures capacity { records.new.capacity ≡ 64 }
 {
     // It does nothing: the proof takes from it that a batch holds what was declared for its feed.

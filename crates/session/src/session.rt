@@ -1,6 +1,6 @@
 //! The session.
 
-ghost use Rattle.std.specs.Prelude.{◌≡◌, ◌<◌, ◌∷◌, All, IfOk, OnErr, length, map, string_bytes};
+ghost use Rattle.std.specs.Prelude.{◌≡◌, ◌<◌, ◌++◌, [], ◌∷◌, All, IfOk, OnErr, OnOk, length, map, string_bytes};
 ghost use Rattle.view_lang.specs.Config.{tables_of};
 ghost use Rattle.view_lang.specs.ConfigRules.{IsConfig};
 ghost use Rattle.view_lang.specs.TableRules.{IsTable};
@@ -57,6 +57,23 @@ fn open_views(alloc: Global, config: &Config) -> Result<Vec<Schema>, AllocError>
     Ok(schemas)
 }
 
+/// Adds the name of a side table, and the table without rows.
+fn open_side(
+    alloc: Global,
+    names: &mut Vec<String>,
+    stores: &mut Vec<RowStore>,
+    side: SideTable,
+) -> Result<(), AllocError>
+    requires { IsTable side.table }
+    ensures names { OnOk result (map string_bytes names.new.items ≡ map string_bytes names.old.items ++ side.name ∷ []) }
+    ensures stores { OnOk result (stores.new.items ≡ stores.old.items ++ no_rows side.table ∷ []) }
+{
+    let SideTable { name, table } = side;
+    names.push(name)?;
+    stores.push(RowStore::new(alloc, table))?;
+    Ok(())
+}
+
 /// The names of the side tables, and all tables without rows.
 fn open_tables(
     alloc: Global,
@@ -72,9 +89,7 @@ fn open_tables(
     let mut stores = Vec::new(alloc);
     stores.push(RowStore::new(alloc, main))?;
     for side in sides {
-        let SideTable { name, table } = side;
-        names.push(name)?;
-        stores.push(RowStore::new(alloc, table))?;
+        open_side(alloc, &mut names, &mut stores, side)?;
     }
     Ok((names, stores))
 }

@@ -1,8 +1,8 @@
 //! Taking accepted edits back.
 
-ghost use Rattle.std.specs.Prelude.{◌≡◌};
+ghost use Rattle.std.specs.Prelude.{◌≡◌, ◌<◌, length};
 ghost use Rattle.row_keys.specs.Store.{with_slots};
-ghost use Rattle.session.specs.Shows.{CanGoBack, ShowsPast, back, rows_in, tables_in};
+ghost use Rattle.session.specs.Shows.{CanGoBack, CanUndo, ShowsPast, back, before, rows_in, tables_in};
 ghost use Rattle.session.specs.Steps.{Past, Undoes};
 
 use crate::calls::Fault;
@@ -40,22 +40,32 @@ fn restore(store: &mut RowStore, change: &Change)
     }
 }
 
+/// Takes the edit of a record back.
+fn restore_table(stores: &mut Vec<RowStore>, latest: &UndoRecord)
+    requires there { latest.now.table < length stores.old.items }
+    requires can { CanUndo (tables_in stores.old.items) latest.now (rows_in stores.old.items) }
+    ensures rows { rows_in stores.new.items ≡ before latest.now (rows_in stores.old.items) }
+    ensures tables { tables_in stores.new.items ≡ tables_in stores.old.items }
+{
+    restore(&mut stores[latest.table], &latest.change);
+}
+
 /// Takes the latest edit back, whose record comes first.
 pub(crate) fn go_back(
-    stores: &mut [RowStore],
+    stores: &mut Vec<RowStore>,
     records: &mut HeapCircularBuffer<UndoRecord>,
 ) -> Result<(), Fault>
-    requires { (past : Past) × ShowsPast (tables_in stores.old) (rows_in stores.old) records.old.items past }
-    ensures undoes { (past : Past) → ShowsPast (tables_in stores.old) (rows_in stores.old) records.old.items past
+    requires { (past : Past) × ShowsPast (tables_in stores.old.items) (rows_in stores.old.items) records.old.items past }
+    ensures undoes { (past : Past) → ShowsPast (tables_in stores.old.items) (rows_in stores.old.items) records.old.items past
         → (next : Past) × Undoes past result next
-        × ShowsPast (tables_in stores.old) (rows_in stores.new) records.new.items next }
-    ensures tables { tables_in stores.new ≡ tables_in stores.old }
+        × ShowsPast (tables_in stores.old.items) (rows_in stores.new.items) records.new.items next }
+    ensures tables { tables_in stores.new.items ≡ tables_in stores.old.items }
     ensures capacity { records.new.capacity ≡ records.old.capacity }
 {
     let Some(latest) = records.front() else {
         return Err(Fault::of(Cause::NothingToUndo));
     };
-    restore(&mut stores[latest.table], &latest.change);
+    restore_table(stores, latest);
     records.pop_front();
     Ok(())
 }

@@ -1,10 +1,11 @@
 //! Writing views.
 
-ghost use Rattle.std.specs.Prelude.{◌≡◌, ◌<◌, ◌≤◌, All, IfOk, IfSome, length};
+ghost use Rattle.std.specs.Prelude.{◌≡◌, ◌<◌, ◌≤◌, ◌++◌, All, IfOk, IfSome, OnOk, length};
 ghost use Rattle.std.specs.Option.{option_map};
+ghost use Rattle.values.specs.Datum.{null};
 ghost use Rattle.values.specs.Limits.{max_main_rows};
 ghost use Rattle.stream_writer.specs.Sinks.{Writes};
-ghost use Rattle.view_lang.specs.Cells.{rows_of};
+ghost use Rattle.view_lang.specs.Cells.{cell_at, rows_of};
 ghost use Rattle.view_lang.specs.ConfigRules.{IsLookup, IsView};
 ghost use Rattle.view_lang.specs.Joined.{looked_up};
 ghost use Rattle.view_lang.specs.Laws.{side_columns};
@@ -13,15 +14,26 @@ ghost use Rattle.view_lang.specs.TableRules.{IsTable};
 ghost use Rattle.view_lang.specs.ViewColumns.{view_columns};
 ghost use Rattle.view_lang.specs.Views.{side_in};
 ghost use Rattle.row_keys.specs.Slots.{live, row_of};
-ghost use Rattle.session.specs.Inputs.{AreInput, IsInput};
+ghost use Rattle.session.specs.Inputs.{AreInput, IsInput, listed};
 ghost use Rattle.session.specs.Shows.{rows_at, rows_in, tables_in, world_of};
 ghost use Rattle.session.specs.Steps.{stream_of};
 
 use row_keys::RowStore;
 use std::alloc::{AllocError, Global};
 use stream_writer::{Sink, WriteFault, write_table};
-use values::{Row, Schema, Value};
+use values::{Kind, Row, Schema, Value};
 use view_lang::{Lookup, View, config_law, rows_law};
+
+/// The cell of a column, and the null at hand where the row has no such column.
+fn cell_or<'a>(row: &'a [Value], column: usize, absent: &'a Value) -> &'a Value
+    requires { absent.now ≡ null }
+    ensures { result.now ≡ cell_at row.now column }
+{
+    match row.get(column) {
+        Some(cell) => cell,
+        None => absent,
+    }
+}
 
 /// The row of a side table that is looked up for a row of the main table, if there is one.
 fn look_up(
@@ -38,26 +50,25 @@ fn look_up(
     let Some(lookup) = lookup else {
         return Ok(None);
     };
-    match row.get(lookup.on) {
-        Some(cell) => stores[lookup.side + 1].row_with_key(cell),
-        None => Ok(None),
-    }
+    let absent = Value { kind: Kind::Null };
+    let cell = cell_or(row, lookup.on, &absent);
+    stores[lookup.side + 1].row_with_key(cell)
 }
 
 /// What a view keeps of a row of the main table: the row with what is looked up for it.
 fn input_row(
     alloc: Global,
-    stores: &mut [RowStore],
+    stores: &mut Vec<RowStore>,
     view: &View,
     number: usize,
 ) -> Result<Option<Row>, AllocError>
-    requires view { IsView (tables_in stores.old) view.now }
-    requires main { 0 < length stores.old }
-    requires there { number < length (rows_at (rows_in stores.old) 0) }
-    ensures row { IfOk result (λ kept. IsInput (tables_in stores.old) (rows_in stores.old) view.now
-        (row_of (rows_at (rows_in stores.old) 0) number) (option_map (λ r. r.items) kept)) }
-    ensures tables { tables_in stores.new ≡ tables_in stores.old }
-    ensures rows { rows_in stores.new ≡ rows_in stores.old }
+    requires view { IsView (tables_in stores.old.items) view.now }
+    requires main { 0 < length stores.old.items }
+    requires there { number < length (rows_at (rows_in stores.old.items) 0) }
+    ensures row { IfOk result (λ kept. IsInput (tables_in stores.old.items) (rows_in stores.old.items) view.now
+        (row_of (rows_at (rows_in stores.old.items) 0) number) (option_map (λ r. r.items) kept)) }
+    ensures tables { tables_in stores.new.items ≡ tables_in stores.old.items }
+    ensures rows { rows_in stores.new.items ≡ rows_in stores.old.items }
 {
     let row = stores[0].open_row(number)?;
     let side_row = look_up(stores, view.lookup, &row)?;
@@ -71,22 +82,35 @@ fn input_row(
     }
 }
 
+/// Adds a row, if there is one.
+#[tactic(auto, using(crate::proofs::Inputs::pushing))]
+fn push_some(rows: &mut Vec<Row>, row: Option<Row>) -> Result<(), AllocError>
+    ensures { OnOk result (rows_of rows.new.items ≡ rows_of rows.old.items ++ listed (option_map (λ r. r.items) row)) }
+{
+    match row {
+        Some(row) => {
+            rows.push(row)?;
+            Ok(())
+        }
+        None => Ok(()),
+    }
+}
+
 /// The rows that a view is made of.
-fn input(alloc: Global, stores: &mut [RowStore], view: &View) -> Result<Vec<Row>, AllocError>
-    requires view { IsView (tables_in stores.old) view.now }
-    requires main { 0 < length stores.old }
-    ensures rows { IfOk result (λ input. AreInput (tables_in stores.old) (rows_in stores.old) view.now
-        (live (rows_at (rows_in stores.old) 0)) (rows_of input.items)) }
-    ensures few { length (live (rows_at (rows_in stores.old) 0)) ≤ max_main_rows }
-    ensures same_tables { tables_in stores.new ≡ tables_in stores.old }
-    ensures same_rows { rows_in stores.new ≡ rows_in stores.old }
+fn input(alloc: Global, stores: &mut Vec<RowStore>, view: &View) -> Result<Vec<Row>, AllocError>
+    requires view { IsView (tables_in stores.old.items) view.now }
+    requires main { 0 < length stores.old.items }
+    ensures rows { IfOk result (λ input. AreInput (tables_in stores.old.items) (rows_in stores.old.items) view.now
+        (live (rows_at (rows_in stores.old.items) 0)) (rows_of input.items)) }
+    ensures few { length (live (rows_at (rows_in stores.old.items) 0)) ≤ max_main_rows }
+    ensures same_tables { tables_in stores.new.items ≡ tables_in stores.old.items }
+    ensures same_rows { rows_in stores.new.items ≡ rows_in stores.old.items }
 {
     let numbers = stores[0].live_numbers()?;
     let mut input = Vec::new(alloc);
     for number in &numbers {
-        if let Some(row) = input_row(alloc, stores, view, *number)? {
-            input.push(row)?;
-        }
+        let kept = input_row(alloc, stores, view, *number)?;
+        push_some(&mut input, kept)?;
     }
     Ok(input)
 }
@@ -94,19 +118,19 @@ fn input(alloc: Global, stores: &mut [RowStore], view: &View) -> Result<Vec<Row>
 /// Writes what a view shows of the live rows, and answers how many bytes went out.
 pub(crate) fn write_rows<S: Sink>(
     alloc: Global,
-    stores: &mut [RowStore],
+    stores: &mut Vec<RowStore>,
     view: &View,
     schema: &Schema,
     sink: &mut S,
 ) -> Result<u64, WriteFault>
-    requires main { 0 < length stores.old }
-    requires right { All IsTable (tables_in stores.old) }
-    requires view { IsView (tables_in stores.old) view.now }
-    requires schema { schema.now.fields.items ≡ view_columns (tables_in stores.old) view.now }
+    requires main { 0 < length stores.old.items }
+    requires right { All IsTable (tables_in stores.old.items) }
+    requires view { IsView (tables_in stores.old.items) view.now }
+    requires schema { schema.now.fields.items ≡ view_columns (tables_in stores.old.items) view.now }
     ensures writes { Writes (S.sunk sink.old) (S.sunk sink.new) result
-        (stream_of (tables_in stores.old) view.now (world_of (rows_in stores.old))) }
-    ensures tables { tables_in stores.new ≡ tables_in stores.old }
-    ensures rows { rows_in stores.new ≡ rows_in stores.old }
+        (stream_of (tables_in stores.old.items) view.now (world_of (rows_in stores.old.items))) }
+    ensures tables { tables_in stores.new.items ≡ tables_in stores.old.items }
+    ensures rows { rows_in stores.new.items ≡ rows_in stores.old.items }
 {
     // They do nothing: the proof takes from them that the rows of a view can be written.
     config_law();

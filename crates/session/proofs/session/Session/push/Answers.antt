@@ -1,24 +1,17 @@
 use Rattle.std.proofs.Common.{◌≡◌, ◌<◌, ◌≤◌, Err, arith, length, map, refl, subst}
-use Rattle.std.specs.Prelude.{slice_set}
+use Rattle.std.specs.Prelude.{slice_set, string_bytes}
 use Rattle.std.proofs.lemmas.Grind.{common_steps}
 use Rattle.view_lang.specs.Config.{FeedConfig}
 use Rattle.session.specs.Names.{place_of}
-use Rattle.session.specs.Shows.{IsStep, SessionParts, config_of}
+use Rattle.session.specs.Shows.{IsStep, SessionParts, columns_of, config_of}
 use Rattle.session.specs.Steps.{PushStep}
-use Rattle.session.proofs.Sessions.{link_shown, push_known, push_unknown, session_kept}
+use Rattle.session.proofs.Sessions.{parts, link_shown, push_known, push_unknown, session_kept}
 use Rattle.session.proofs.session.Session.push.Goals as goal
 
 pub returns-then-place-len-clause-step : goal.returns-then-place-len-clause-step
 returns-then-place-len-clause-step c =
-    let p : SessionParts =
-    record {
-      sides = map string_bytes c.self.inside.names.items;
-      feeds = c.self.inside.feeds.items;
-      views = c.self.inside.views.items;
-      links = c.self.inside.links.items;
-      stores = c.self.inside.stores.items;
-      records = c.self.inside.records.items;
-    } in
+    let p : SessionParts = parts (map string_bytes c.self.inside.names.items) c.self.inside.feeds.items c.self.inside.views.items
+    c.self.inside.links.items c.self.inside.stores.items c.self.inside.records.items in
     let at :
     c.feed_place-place.result ≡ place_of c.args.feed.now
     (map (λ (f : FeedConfig). f.name) c.self.inside.feeds.items) =
@@ -31,40 +24,18 @@ returns-then-place-len-clause-step c =
 
 pub push_to-requires-clause-link : goal.push_to-requires-clause-link
 push_to-requires-clause-link c =
-    let p : SessionParts =
-    record {
-      sides = map string_bytes c.self.inside.names.items;
-      feeds = c.self.inside.feeds.items;
-      views = c.self.inside.views.items;
-      links = c.self.inside.links.items;
-      stores = c.self.inside.stores.items;
-      records = c.self.inside.records.items;
-    } in
+    let p : SessionParts = parts (map string_bytes c.self.inside.names.items) c.self.inside.feeds.items c.self.inside.views.items
+    c.self.inside.links.items c.self.inside.stores.items c.self.inside.records.items in
     let below : c.feed_place-place.result < length c.self.inside.links.items =
     grind (arith, common_steps, c.len.ensures, c.if-place-len.false) in
     link_shown p c.feed_place-place.result c.index_mut.result.now c.self.invariant.some below c.index_mut.ensures.value
 
 pub invariant_of-self : goal.invariant_of-self
 invariant_of-self c =
-    let p : SessionParts =
-    record {
-      sides = map string_bytes c.self.inside.names.items;
-      feeds = c.self.inside.feeds.items;
-      views = c.self.inside.views.items;
-      links = c.self.inside.links.items;
-      stores = c.self.inside.stores.items;
-      records = c.self.inside.records.items;
-    } in
-    let q : SessionParts =
-    record {
-      sides = map string_bytes c.self.inside.names.items;
-      feeds = c.self.inside.feeds.items;
-      views = c.self.inside.views.items;
-      links = slice_set c.self.inside.links.items c.feed_place-place.result c.push_to.new.link;
-      store =
-          c.push_to.new.store;
-      records = c.push_to.new.records.items;
-    } in
+    let p : SessionParts = parts (map string_bytes c.self.inside.names.items) c.self.inside.feeds.items c.self.inside.views.items
+    c.self.inside.links.items c.self.inside.stores.items c.self.inside.records.items in
+    let q : SessionParts = parts (map string_bytes c.self.inside.names.items) c.self.inside.feeds.items c.self.inside.views.items
+    (slice_set c.self.inside.links.items c.feed_place-place.result c.push_to.new.link) c.push_to.new.stores.items c.push_to.new.records.items in
     let at :
     c.feed_place-place.result ≡ place_of c.args.feed.now
     (map (λ (f : FeedConfig). f.name) c.self.inside.feeds.items) =
@@ -72,34 +43,19 @@ invariant_of-self c =
     let below : c.feed_place-place.result < length c.self.inside.links.items =
     grind (arith, common_steps, c.len.ensures, c.if-place-len.false) in
     session_kept p q (λ s t. PushStep (config_of p) s c.args.feed.now c.args.piece.now c.push_to.result t)
-    c.self.inside.records.capacity
-    c.push_to.new.records.capacity c.self.invariant
+    c.self.inside.records.capacity c.push_to.new.records.capacity (columns_of c.self.inside.schemas.items)
+    c.self.invariant
     (push_known p q c.args.feed.now c.args.piece.now c.feed_place-place.result c.index_mut.result.now c.push_to.new.link
     c.push_to.result at below
-    c.index_mut.ensures.value c.push_to.ensures.pushes c.push_to.ensures.table refl)
-    c.push_to.ensures.table refl c.push_to.ensures.capacity
+    c.index_mut.ensures.value c.push_to.ensures.pushes c.push_to.ensures.tables refl)
+    c.push_to.ensures.tables refl c.push_to.ensures.capacity
 
 pub returns-clause-step : goal.returns-clause-step
 returns-clause-step c =
-    let p : SessionParts =
-    record {
-      sides = map string_bytes c.self.inside.names.items;
-      feeds = c.self.inside.feeds.items;
-      views = c.self.inside.views.items;
-      links = c.self.inside.links.items;
-      stores = c.self.inside.stores.items;
-      records = c.self.inside.records.items;
-    } in
-    let q : SessionParts =
-    record {
-      sides = map string_bytes c.self.inside.names.items;
-      feeds = c.self.inside.feeds.items;
-      views = c.self.inside.views.items;
-      links = slice_set c.self.inside.links.items c.feed_place-place.result c.push_to.new.link;
-      store =
-          c.push_to.new.store;
-      records = c.push_to.new.records.items;
-    } in
+    let p : SessionParts = parts (map string_bytes c.self.inside.names.items) c.self.inside.feeds.items c.self.inside.views.items
+    c.self.inside.links.items c.self.inside.stores.items c.self.inside.records.items in
+    let q : SessionParts = parts (map string_bytes c.self.inside.names.items) c.self.inside.feeds.items c.self.inside.views.items
+    (slice_set c.self.inside.links.items c.feed_place-place.result c.push_to.new.link) c.push_to.new.stores.items c.push_to.new.records.items in
     let at :
     c.feed_place-place.result ≡ place_of c.args.feed.now
     (map (λ (f : FeedConfig). f.name) c.self.inside.feeds.items) =
@@ -110,4 +66,4 @@ returns-clause-step c =
     (λ s t. PushStep (config_of x) s c.args.feed.now c.args.piece.now c.push_to.result t) q) c.self.view_is
     (push_known p q c.args.feed.now c.args.piece.now c.feed_place-place.result c.index_mut.result.now c.push_to.new.link
     c.push_to.result at below
-    c.index_mut.ensures.value c.push_to.ensures.pushes c.push_to.ensures.table refl)
+    c.index_mut.ensures.value c.push_to.ensures.pushes c.push_to.ensures.tables refl)

@@ -1,37 +1,40 @@
 use Rattle.std.proofs.Common.{◌≡◌, ◌<◌, Err, Ok, ap, arith, length, map, refl, subst, ◌∙◌}
+use Rattle.std.specs.Prelude.{string_bytes}
 use Rattle.std.proofs.lemmas.Grind.{common_steps}
 use Rattle.std.proofs.lemmas.Result.{err_from_is_err_and}
 use Rattle.stream_writer.specs.Sinks.{Sunk}
 use Rattle.view_lang.specs.Config.{View}
-use Rattle.row_keys.specs.Slots.{contents_of}
 use Rattle.session.specs.Names.{place_of}
-use Rattle.session.specs.Shows.{IsStep, SessionParts, config_of}
+use Rattle.session.specs.Shows.{IsStep, SessionParts, columns_of, config_of, rows_in, tables_in, world_of}
 use Rattle.session.specs.Steps.{WriteAnswers, WriteStep, stream_of}
 use Rattle.session.specs.declared.calls.ViewFault.TheVariants.{Write}
-use Rattle.session.proofs.Sessions.{write_known}
+use Rattle.session.proofs.Sessions.{parts, schema_there, session_kept, view_there, write_known}
 use Rattle.session.proofs.session.Session.write_view.Goals as goal
 
-pub returns-in_err-written-clause-step : goal.returns-in_err-written-clause-step
-returns-in_err-written-clause-step g c =
+pub write_rows-requires-clause-view : goal.write_rows-requires-clause-view
+write_rows-requires-clause-view g c =
+    let below : c.view_place-place.result < length c.self.inside.views.items =
+    grind (arith, common_steps, c.len.ensures, c.if-place-len.false) in
+    view_there (tables_in c.self.inside.stores.items) c.self.inside.views.items c.self.inside.schemas.items
+    c.view_place-place.result c.index.result.now c.self.invariant.views below c.index.ensures
+
+pub write_rows-requires-clause-schema : goal.write_rows-requires-clause-schema
+write_rows-requires-clause-schema g c =
+    let below : c.view_place-place.result < length c.self.inside.views.items =
+    grind (arith, common_steps, c.len.ensures, c.if-place-len.false) in
+    schema_there (tables_in c.self.inside.stores.items) c.self.inside.views.items c.self.inside.schemas.items
+    c.view_place-place.result c.index.result.now c.index-2.result.now c.self.invariant.views below c.index.ensures
+    c.index-2.ensures
+
+pub invariant_of-self : goal.invariant_of-self
+invariant_of-self g c =
     let failed = err_from_is_err_and c.from_residual.result c.from_residual.ensures.1 in
     let p : SessionParts =
-    record {
-      sides = map string_bytes c.self.inside.names.items;
-      feeds = c.self.inside.feeds.items;
-      views = c.self.inside.views.items;
-      links = c.self.inside.links.items;
-      stores = c.self.inside.stores.items;
-      records = c.self.inside.records.items;
-    } in
+    parts (map string_bytes c.self.inside.names.items) c.self.inside.feeds.items c.self.inside.views.items
+    c.self.inside.links.items c.self.inside.stores.items c.self.inside.records.items in
     let q : SessionParts =
-    record {
-      sides = map string_bytes c.self.inside.names.items;
-      feeds = c.self.inside.feeds.items;
-      views = c.self.inside.views.items;
-      links = c.self.inside.links.items;
-      store = c.write_rows.new.store;
-      records = c.self.inside.records.items;
-    } in
+    parts (map string_bytes c.self.inside.names.items) c.self.inside.feeds.items c.self.inside.views.items
+    c.self.inside.links.items c.write_rows.new.stores.items c.self.inside.records.items in
     let old : Sunk = g.S.Sink.sunk c.args.sink.now in
     let new : Sunk = g.S.Sink.sunk c.write_rows.new.sink in
     let saturated : c.from_residual.result ≡ Err (Write c.in_err-written.field-0.0) =
@@ -43,35 +46,72 @@ returns-in_err-written-clause-step g c =
     grind (arith, common_steps, c.len.ensures, c.if-place-len.false) in
     let writes :
     WriteAnswers old new c.from_residual.result
-    (stream_of p.store.table c.index.result.now (contents_of p.store.slots)) =
+    (stream_of (tables_in p.stores) c.index.result.now (world_of (rows_in p.stores))) =
+    rw saturated c.in_err-written.ensures.writes in
+    session_kept p q (λ s t. WriteStep (config_of p) s c.args.view.now old c.from_residual.result new × (t ≡ s))
+    c.self.inside.records.capacity c.self.inside.records.capacity (columns_of c.self.inside.schemas.items)
+    c.self.invariant
+    (write_known p q c.args.view.now c.view_place-place.result c.index.result.now old new
+    c.from_residual.result at below c.index.ensures writes
+    c.write_rows.ensures.tables c.write_rows.ensures.rows refl refl)
+    c.write_rows.ensures.tables refl c.self.invariant.capacity_is
+
+pub invariant_of-self-2 : goal.invariant_of-self-2
+invariant_of-self-2 g c =
+    let p : SessionParts =
+    parts (map string_bytes c.self.inside.names.items) c.self.inside.feeds.items c.self.inside.views.items
+    c.self.inside.links.items c.self.inside.stores.items c.self.inside.records.items in
+    let q : SessionParts =
+    parts (map string_bytes c.self.inside.names.items) c.self.inside.feeds.items c.self.inside.views.items
+    c.self.inside.links.items c.write_rows.new.stores.items c.self.inside.records.items in
+    let old : Sunk = g.S.Sink.sunk c.args.sink.now in
+    let new : Sunk = g.S.Sink.sunk c.write_rows.new.sink in
+    let at :
+    c.view_place-place.result ≡ place_of c.args.view.now (map (λ (v : View). v.name) c.self.inside.views.items) =
+    rw c.deref.ensures.value at c.view_place-place.ensures in
+    let below : c.view_place-place.result < length c.self.inside.views.items =
+    grind (arith, common_steps, c.len.ensures, c.if-place-len.false) in
+    session_kept p q (λ s t. WriteStep (config_of p) s c.args.view.now old (Ok c.in_ok-written.written) new × (t ≡ s))
+    c.self.inside.records.capacity c.self.inside.records.capacity (columns_of c.self.inside.schemas.items)
+    c.self.invariant
+    (write_known p q c.args.view.now c.view_place-place.result c.index.result.now old new
+    (Ok c.in_ok-written.written) at below c.index.ensures
+    c.in_ok-written.ensures.writes c.write_rows.ensures.tables c.write_rows.ensures.rows refl refl)
+    c.write_rows.ensures.tables refl c.self.invariant.capacity_is
+
+pub returns-in_err-written-clause-step : goal.returns-in_err-written-clause-step
+returns-in_err-written-clause-step g c =
+    let failed = err_from_is_err_and c.from_residual.result c.from_residual.ensures.1 in
+    let p : SessionParts = parts (map string_bytes c.self.inside.names.items) c.self.inside.feeds.items c.self.inside.views.items
+    c.self.inside.links.items c.self.inside.stores.items c.self.inside.records.items in
+    let q : SessionParts = parts (map string_bytes c.self.inside.names.items) c.self.inside.feeds.items c.self.inside.views.items
+    c.self.inside.links.items c.write_rows.new.stores.items c.self.inside.records.items in
+    let old : Sunk = g.S.Sink.sunk c.args.sink.now in
+    let new : Sunk = g.S.Sink.sunk c.write_rows.new.sink in
+    let saturated : c.from_residual.result ≡ Err (Write c.in_err-written.field-0.0) =
+    failed.1 ∙ ap (λ e. Err e) failed.2 in
+    let at :
+    c.view_place-place.result ≡ place_of c.args.view.now (map (λ (v : View). v.name) c.self.inside.views.items) =
+    rw c.deref.ensures.value at c.view_place-place.ensures in
+    let below : c.view_place-place.result < length c.self.inside.views.items =
+    grind (arith, common_steps, c.len.ensures, c.if-place-len.false) in
+    let writes :
+    WriteAnswers old new c.from_residual.result
+    (stream_of (tables_in p.stores) c.index.result.now (world_of (rows_in p.stores))) =
     rw saturated c.in_err-written.ensures.writes in
     subst (λ (x : SessionParts). IsStep x
     (λ s t. WriteStep (config_of x) s c.args.view.now old c.from_residual.result new × (t ≡ s)) q)
     c.self.view_is
     (write_known p q c.args.view.now c.view_place-place.result c.index.result.now old new
     c.from_residual.result at below c.index.ensures writes
-    c.write_rows.ensures.table c.write_rows.ensures.slots refl refl)
+    c.write_rows.ensures.tables c.write_rows.ensures.rows refl refl)
 
 pub returns-clause-step : goal.returns-clause-step
 returns-clause-step g c =
-    let p : SessionParts =
-    record {
-      sides = map string_bytes c.self.inside.names.items;
-      feeds = c.self.inside.feeds.items;
-      views = c.self.inside.views.items;
-      links = c.self.inside.links.items;
-      stores = c.self.inside.stores.items;
-      records = c.self.inside.records.items;
-    } in
-    let q : SessionParts =
-    record {
-      sides = map string_bytes c.self.inside.names.items;
-      feeds = c.self.inside.feeds.items;
-      views = c.self.inside.views.items;
-      links = c.self.inside.links.items;
-      store = c.write_rows.new.store;
-      records = c.self.inside.records.items;
-    } in
+    let p : SessionParts = parts (map string_bytes c.self.inside.names.items) c.self.inside.feeds.items c.self.inside.views.items
+    c.self.inside.links.items c.self.inside.stores.items c.self.inside.records.items in
+    let q : SessionParts = parts (map string_bytes c.self.inside.names.items) c.self.inside.feeds.items c.self.inside.views.items
+    c.self.inside.links.items c.write_rows.new.stores.items c.self.inside.records.items in
     let old : Sunk = g.S.Sink.sunk c.args.sink.now in
     let new : Sunk = g.S.Sink.sunk c.write_rows.new.sink in
     let at :
@@ -84,4 +124,4 @@ returns-clause-step g c =
     c.self.view_is
     (write_known p q c.args.view.now c.view_place-place.result c.index.result.now old new
     (Ok c.in_ok-written.written) at below c.index.ensures
-    c.in_ok-written.ensures.writes c.write_rows.ensures.table c.write_rows.ensures.slots refl refl)
+    c.in_ok-written.ensures.writes c.write_rows.ensures.tables c.write_rows.ensures.rows refl refl)
