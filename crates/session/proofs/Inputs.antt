@@ -312,12 +312,10 @@ number_there stores now s numbers given i n is some same all at below rows =
     let Q : Rows → Type 0 = λ rs. n < length (rows_at rs 0) in
     subst Q (sym rows) (subst P (sym (rows_there stores 0 s is some)) here)
 
-pub some_now : (stores now : List Store) → tables_in now ≡ tables_in stores → 0 < length stores → 0 < length now
-some_now stores now same some =
-    let one = tables_length stores in
-    let two = tables_length now in
-    let equal = ap length same in
-    omega (arith, one, two, equal, some)
+pub same_read : {X : Type 0} (xs : List X) (n : ℕ) (d : X) → n < length xs → get_or xs n d ≡ get_or xs n (get_or xs n d)
+same_read [] n d below = absurd (omega (arith, below))
+same_read (x ∷ xs) zero d below = refl
+same_read (x ∷ xs) (suc n) d below = same_read xs n d (omega (arith, below))
 
 pub rows_pushed : (xs : List (Vec Datum Global)) (x : Vec Datum Global)
     → rows_of (xs ++ x ∷ []) ≡ rows_of xs ++ x.items ∷ []

@@ -52,7 +52,8 @@ fn open_views(alloc: Global, config: &Config) -> Result<Vec<Schema>, AllocError>
 {
     let mut schemas = Vec::with_capacity(alloc, config.views.len())?;
     for view in &config.views {
-        schemas.push(config.view_schema(alloc, view)?)?;
+        let schema = config.view_schema(alloc, view)?;
+        schemas.push(schema)?;
     }
     Ok(schemas)
 }
