@@ -4,8 +4,10 @@ use Rattle.std.specs.Prelude.{◌||◌, ◌&&◌}
 use Rattle.std.proofs.lemmas.List.{drop_all, drop_more}
 use Rattle.values.specs.Rose.{Rose}
 use Rattle.values.specs.Logical.{NamedType}
-use Rattle.view_config.specs.Columns.{find, name_of}
-use Rattle.view_config.specs.Feeds.{are_name_bytes, is_name_byte}
+use Rattle.view_config.specs.Columns.{find, find_name, name_of}
+use Rattle.view_config.specs.Entries.{are_name_bytes, is_name_byte}
+use Rattle.view_config.specs.Sides.{find_side}
+use Rattle.view_lang.specs.Config.{SideTable}
 use Rattle.view_config.specs.Tree.{is_one_of, repeats}
 
 -- by what is left of a list
@@ -30,6 +32,22 @@ pub find-step :
 find-step cs i d n h = rw (drop_more cs i d h) refl
 
 pub ruleset finding = (find-step, drop_all)
+
+-- the place of a name
+pub name-step :
+    {A : Type 0} (name_of : A → List ℕ) (xs : List A) (i : ℕ) (d : A) (n : List ℕ) → i < length xs
+    → find_name i n (map name_of (drop i xs)) ≡ find_name i n (name_of (get_or xs i d) ∷ map name_of (drop (i + 1) xs))
+name-step name_of xs i d n h = rw (drop_more xs i d h) refl
+
+pub ruleset finding_names = (name-step, drop_all)
+
+-- the first side table of a name
+pub side-step :
+    (ss : List SideTable) (i : ℕ) (d : SideTable) (n : List ℕ) → i < length ss
+    → find_side i n (drop i ss) ≡ find_side i n (get_or ss i d ∷ drop (i + 1) ss)
+side-step ss i d n h = rw (drop_more ss i d h) refl
+
+pub ruleset finding_sides = (side-step, drop_all)
 
 -- the bytes of a name
 pub bytes-step :

@@ -5,35 +5,56 @@ use Rattle.view_config.specs.Tree.{each_item, each_member}
 use Rattle.view_config.specs.Limits.{column_limits}
 use Rattle.view_config.specs.ColumnTypes.{decimal_of, timestamp_of, simple_of, list_of, child_of, struct_of, array_of}
 use Rattle.view_config.specs.ColumnTypes.{type_by, field_of}
-use Rattle.view_config.specs.Tables.{column_of, columns_of, key_of, table_of, main_of}
-use Rattle.view_config.specs.Feeds.{feed_of}
-use Rattle.view_config.specs.Views.{reference_in, reference, output_by, output_of, output_limits, outputs_of, view_of}
+use Rattle.view_config.specs.Tables.{column_of, columns_of, main_of, ordered_column, table_of}
+use Rattle.view_config.specs.Sides.{side_of}
+use Rattle.view_config.specs.Feeds.{feed_of, role_by, role_of, side_number}
+use Rattle.view_config.specs.Scope.{ordered_reference, reference, reference_in}
+use Rattle.view_config.specs.Constants.{constant_in, decimal, pairs as hexadecimal, pointed, unscaled}
+use Rattle.view_config.specs.Filters.{comparison_of, filter_by, filter_of, filter_with, negation_of, null_of}
+use Rattle.view_config.specs.Filters.{operand_of, whole_filter}
+use Rattle.view_config.specs.Outputs.{aggregate_by, group_of, group_output_of, output_limits, output_of, outputs_in}
+use Rattle.view_config.specs.Outputs.{grouping_column, outputs_of}
+use Rattle.view_config.specs.Lookups.{lookup_of}
+use Rattle.view_config.specs.Views.{order_by_of, order_of, view_in, view_of}
 use Rattle.view_config.specs.Config.{config_of, text_means}
-use Rattle.view_config.specs.Worked.{FaultsStand, amounts, amounts_text, pairs, pairs_text}
+use Rattle.view_config.specs.Worked.{ConstantsRead, FaultsStand, LimitsTaken, amounts, amounts_text, pairs, pairs_text}
+use Rattle.view_config.specs.Worked.{zones, zones_text}
 
--- what a sample unfolds: the words of types, and of all else
+-- what a sample unfolds: the words of types, of tables, of filters, and of all else
 unfoldable types_on_literals : ⊤
 unfolding decimal_of timestamp_of simple_of list_of child_of struct_of array_of type_by field_of column_limits
 types_on_literals = tt
 
 unfoldable tables_on_literals : ⊤
-unfolding each_item each_member column_of columns_of key_of table_of main_of feed_of
+unfolding each_item each_member column_of columns_of ordered_column table_of main_of side_of feed_of role_of role_by side_number
 tables_on_literals = tt
 
+unfoldable constants_on_literals : ⊤
+unfolding constant_in decimal hexadecimal pointed unscaled
+constants_on_literals = tt
+
+unfoldable filters_on_literals : ⊤
+unfolding reference_in reference ordered_reference operand_of comparison_of null_of negation_of filter_by filter_with filter_of whole_filter
+filters_on_literals = tt
+
 unfoldable views_on_literals : ⊤
-unfolding reference_in reference output_by output_of output_limits outputs_of view_of config_of text_means
+unfolding group_of grouping_column aggregate_by output_of group_output_of outputs_in output_limits outputs_of lookup_of order_by_of order_of view_in view_of config_of text_means
 views_on_literals = tt
 
 pub sample-amounts : text_means amounts_text ≡ Ok amounts
-unfolding toml_on_literals types_on_literals tables_on_literals views_on_literals
+unfolding toml_on_literals types_on_literals tables_on_literals constants_on_literals filters_on_literals views_on_literals
 sample-amounts = refl
 
 pub sample-pairs : text_means pairs_text ≡ Ok pairs
-unfolding toml_on_literals types_on_literals tables_on_literals views_on_literals
+unfolding toml_on_literals types_on_literals tables_on_literals constants_on_literals filters_on_literals views_on_literals
 sample-pairs = refl
 
+pub sample-zones : text_means zones_text ≡ Ok zones
+unfolding toml_on_literals types_on_literals tables_on_literals constants_on_literals filters_on_literals views_on_literals
+sample-zones = refl
+
 pub sample-faults : FaultsStand
-unfolding toml_on_literals types_on_literals tables_on_literals views_on_literals
+unfolding toml_on_literals types_on_literals tables_on_literals constants_on_literals filters_on_literals views_on_literals
 sample-faults = record {
   not_toml = refl;
   unknown_key = refl;
@@ -58,4 +79,72 @@ sample-faults = record {
   side_of_append = refl;
   other_word = refl;
   other_name = refl;
+  put_without_side = refl;
+  put_to_no_side = refl;
+  lookup_in_no_side = refl;
+  lookup_of_another_type = refl;
+  lookup_of_list = refl;
+  other_missing = refl;
+  lookup_entry = refl;
+  side_without_lookup = refl;
+  other_comparison = refl;
+  no_parts = refl;
+  two_negated = refl;
+  above_width = refl;
+  below_width = refl;
+  one_place = refl;
+  five_digits = refl;
+  number_for_text = refl;
+  date = refl;
+  other_column = refl;
+  list_compared = refl;
+  deep_filter = refl;
+  many_parts = refl;
+  grouped_twice = refl;
+  grouped_by_list = refl;
+  not_grouped = refl;
+  sum_of_text = refl;
+  sum_of_29_digits = refl;
+  least_list = refl;
+  sum_of_rows = refl;
+  order_of_none = refl;
+  ordered_twice = refl;
+  order_of_list = refl;
+  other_direction = refl;
+  first_above = refl;
+  first_below = refl;
+  first_text = refl;
+}
+
+pub sample-limits : LimitsTaken
+unfolding toml_on_literals types_on_literals tables_on_literals constants_on_literals filters_on_literals views_on_literals
+sample-limits = record {
+  deep_filter = tt;
+  many_parts = tt;
+  first = tt;
+  no_group = tt;
+  no_order = tt;
+  sides = tt;
+}
+
+pub sample-constants : ConstantsRead
+unfolding toml_on_literals types_on_literals tables_on_literals constants_on_literals filters_on_literals views_on_literals
+sample-constants = record {
+  leading_zeros = refl;
+  negative = refl;
+  negative_zero = refl;
+  whole_digits = refl;
+  too_many_digits = refl;
+  no_whole_digit = refl;
+  no_digit = refl;
+  plus = refl;
+  point_alone = refl;
+  greatest = refl;
+  unsigned = refl;
+  pairs = refl;
+  no_pairs = refl;
+  upper_case = refl;
+  odd = refl;
+  fixed = refl;
+  fixed_short = refl;
 }

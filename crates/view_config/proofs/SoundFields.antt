@@ -14,7 +14,7 @@ use Rattle.values.proofs.Readings.{both_Ok, mapped_Ok, must_Ok}
 use Rattle.values.specs.declared.layout.OffsetWidth.TheVariants as offset
 use Rattle.values.specs.declared.col_type.ColType.{ColType}
 use Rattle.values.specs.declared.col_type.ColType.TheVariants as col
-use Rattle.view_lang.specs.ConfigRules.{AreWithin, IsName, IsWithin}
+use Rattle.view_lang.specs.TableRules.{AreWithin, IsName, IsWithin}
 use Rattle.view_lang.specs.Limits.{max_column_name_len}
 use Rattle.view_config.specs.Columns.{name_of}
 use Rattle.view_config.specs.Reading.{Reading}

@@ -7,30 +7,27 @@ use Rattle.std.proofs.Common.{Ordering, Less, Equal, Greater}
 use Rattle.std.proofs.lemmas.Bool.{and_parts, leb-true}
 use Rattle.toml.specs.Data.{as_str, Data, string, integer, float, boolean, datetime, array, table, Items, no_items}
 use Rattle.toml.specs.Data.{item, Members, no_members, member, get_member}
-use Rattle.values.specs.ColTypes.{IsSingle}
 use Rattle.values.specs.Layouts.{slot}
-use Rattle.values.specs.Limits.{max_depth, max_fields, max_slot}
+use Rattle.values.specs.Limits.{max_depth, max_fields, max_main_rows, max_slot}
 use Rattle.values.specs.Logical.{NamedType, trees_of}
 use Rattle.values.specs.Reading.{◌>>=◌, cons, first, must, refused_if}
 use Rattle.values.specs.Rose.{Rose, Roses, none, more, node, kids_of, roses_size}
 use Rattle.values.proofs.Readings.{both_Ok, mapped_Ok, must_Ok}
 use Rattle.values.specs.declared.layout.Layout.{Layout}
-use Rattle.values.specs.declared.col_type.ColType.{ColType}
-use Rattle.values.specs.declared.col_type.ColType.TheVariants as col
 use Rattle.view_lang.specs.Config.{Table}
-use Rattle.view_lang.specs.ConfigRules.{AreColumns, AreSlim, IsKeyColumn, IsSlim, IsTable, type_of}
+use Rattle.view_lang.specs.TableRules.{AreColumns, AreSlim, IsKeyColumn, IsSlim, IsTable, type_of}
 use Rattle.view_lang.specs.Limits.{max_columns}
-use Rattle.view_config.specs.Columns.{find, has_order}
+use Rattle.view_config.specs.Columns.{find, ordered}
 use Rattle.view_config.specs.Reading.{Reading}
 use Rattle.view_config.specs.Tree.{count_items, each_item, items_in, members_in, needed, only, pair_in, text_in}
 use Rattle.view_config.specs.Limits.{are_within_slot, column_limits, column_name, few_fields, is_within_slot}
 use Rattle.view_config.specs.ColumnTypes.{field_of}
-use Rattle.view_config.specs.Tables.{column_of, columns_of, few_columns, key_of, keyed, main_of, ordered_key}
+use Rattle.view_config.specs.Tables.{column_of, columns_of, few_columns, key_of, keyed, main_of, ordered_column}
 use Rattle.view_config.specs.Tables.{table_entries, table_of}
 use Rattle.view_config.specs.declared.faults.ConfigFault.{ConfigFault}
 use Rattle.view_config.specs.declared.faults.ConfigFault.TheVariants as fault
-use Rattle.view_config.proofs.Outputs.{find-found}
-use Rattle.view_config.proofs.Readings.{bound, test_Ok}
+use Rattle.view_config.proofs.Found.{found-at, order-single, ordered-same}
+use Rattle.view_config.proofs.Readings.{bound}
 use Rattle.view_config.proofs.SoundFields.{IsColumn, column-sound, items-fields, pair_in-textual, string-textual}
 use Rattle.view_config.proofs.Texts.{AreTextual, HasTextual, IsTextual}
 
@@ -152,44 +149,36 @@ columns-sound d cs t e =
     slim-true true h = refl
     slim-true false h = cc
 
-order-single : (t : ColType) → has_order t ≡ true → IsSingle t
-order-single col.Bool h = tt
-order-single (col.Int w s) h = tt
-order-single (col.Decimal p s) h = tt
-order-single (col.Date u) h = tt
-order-single (col.Time u) h = tt
-order-single (col.Timestamp u z) h = tt
-order-single (col.Duration u) h = tt
-order-single (col.Utf8 o) h = tt
-order-single (col.Binary o) h = tt
-order-single (col.FixedSizeBinary w) h = tt
-order-single (col.List o) h = cc
-order-single col.Struct h = cc
-
 key-sound : (cs : List (Rose NamedType)) (name : List ℕ) (k : ℕ) → key_of cs name ≡ Ok k → IsKeyColumn k cs
-unfolding key_of
+unfolding ordered_column
 key-sound cs name k e =
-    bound (must fault.UnknownName (find 0 name cs)) ordered_key k e (λ p a e1.
-    let found = find-found 0 name cs p (must_Ok fault.UnknownName (find 0 name cs) p a) in
-    let ordered = test_Ok (has_order (type_of p.1)) (Ok p.0) _ k e1 in
-    let number : p.0 ≡ k = let q = ordered.1 in cc in
-    let place : found.0 ≡ k = omega (arith, found.1, number) in
-    (p.1, subst (λ (i : ℕ). slice_get cs i ≡ Some p.1) place found.2, order-single (type_of p.1) ordered.0))
+    let named = mapped_Ok (λ (f : ℕ × Rose NamedType). f.0) (ordered_column cs name) k e in
+    bound (must fault.UnknownName (find 0 name cs)) ordered named.0 named.1 (λ p a e1.
+    let found = found-at cs name p (must_Ok fault.UnknownName (find 0 name cs) p a) in
+    let order = ordered-same p named.0 e1 in
+    let number : p.0 ≡ k = ap (λ (f : ℕ × Rose NamedType). f.0) order.0 ∙ named.2 in
+    (p.1, subst (λ (i : ℕ). slice_get cs i ≡ Some p.1) number found, order-single (type_of p.1) order.1))
 
-pub table-sound : (ms : Members) (t : Table) → HasTextual ms → table_of ms ≡ Ok t → IsTable t
+-- a table of at most so many rows
+pub table-sound :
+    (rows : ℕ) (ms : Members) (t : Table) → rows ≤ max_main_rows → HasTextual ms → table_of rows ms ≡ Ok t
+    → IsTable t × (t.max_rows ≡ rows)
 unfolding table_of
-table-sound ms t h e =
+table-sound rows ms t few h e =
     bound (only table_entries ms) _ t e (λ u a e1.
     bound (needed (codes "key") ms >>= text_in) _ t e1 (λ name b e2.
     bound (needed (codes "columns") ms >>= columns_of) _ t e2 (λ cs c e3.
     bound (needed (codes "columns") ms) columns_of cs c (λ d there read.
-    let made = mapped_Ok (keyed cs) (key_of cs name) t e3 in
-    let columns = columns-sound d cs (needed-textual (codes "columns") ms d there h) read in
-    subst IsTable made.2 (record { columns = columns; key = key-sound cs name made.0 made.1 })))))
+    let made = mapped_Ok (keyed rows cs) (key_of cs name) t e3 in
+    let fields = columns-sound d cs (needed-textual (codes "columns") ms d there h) read in
+    subst (λ (u : Table). IsTable u × (u.max_rows ≡ rows)) made.2
+    (record { columns = fields; key = key-sound cs name made.0 made.1; few = few }, refl)))))
 
-pub main-sound : (ms : Members) (t : Table) → HasTextual ms → main_of ms ≡ Ok t → IsTable t
+pub main-sound : (ms : Members) (t : Table) → HasTextual ms → main_of ms ≡ Ok t
+    → IsTable t × (t.max_rows ≡ max_main_rows)
 unfolding main_of
 main-sound ms t h e =
-    bound (needed (codes "main") ms >>= members_in) table_of t e (λ ns a e1.
+    bound (needed (codes "main") ms >>= members_in) (table_of max_main_rows) t e (λ ns a e1.
     bound (needed (codes "main") ms) members_in ns a (λ d there read.
-    table-sound ns t (members-textual d ns read (needed-textual (codes "main") ms d there h)) e1))
+    table-sound max_main_rows ns t (omega arith)
+    (members-textual d ns read (needed-textual (codes "main") ms d there h)) e1))

@@ -1,10 +1,14 @@
 -- Columns, by their names.
-use Rattle.std.specs.Prelude.{ℕ, ◌+◌, Bool, true, false, Option, None, Some, List, [], ◌∷◌, if◌then◌else◌}
+use Rattle.std.specs.Prelude.{ℕ, ◌+◌, Bool, true, false, Option, None, Some, Ok, Err, List, [], ◌∷◌, if◌then◌else◌}
 use Rattle.std.specs.Str.{bytes_eq}
+use Rattle.values.specs.Reading.{one}
 use Rattle.values.specs.Rose.{Rose, node}
 use Rattle.values.specs.Logical.{NamedType}
 use Rattle.values.specs.declared.col_type.ColType.{ColType}
 use Rattle.values.specs.declared.col_type.ColType.TheVariants as col
+use Rattle.view_config.specs.Reading.{Reading}
+use Rattle.view_config.specs.declared.faults.ConfigFault.TheVariants as fault
+use Rattle.view_lang.specs.TableRules.{type_of}
 
 abbrev pub name_of : Rose NamedType → List ℕ
 name_of (node f kids) = f.name
@@ -19,3 +23,12 @@ has_order t = true
 abbrev pub find : ℕ → List ℕ → List (Rose NamedType) → Option (ℕ × Rose NamedType)
 find i name [] = None
 find i name (c ∷ cs) = if bytes_eq (name_of c) name then Some (i, c) else find (i + 1) name cs
+
+-- a column and its number, where its values have an order
+abbrev pub ordered : ℕ × Rose NamedType → Reading (ℕ × Rose NamedType)
+ordered f = if has_order (type_of f.1) then Ok f else Err (one fault.OrderType)
+
+-- the place of this name among names, of which the first has place i
+abbrev pub find_name : ℕ → List ℕ → List (List ℕ) → Option ℕ
+find_name i name [] = None
+find_name i name (n ∷ ns) = if bytes_eq n name then Some i else find_name (i + 1) name ns

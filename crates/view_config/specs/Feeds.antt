@@ -1,64 +1,51 @@
 -- Feeds, each with its role.
-use Rattle.std.specs.Prelude.{codes, ℕ, nat_le, nat_lt, ◌==◌, ◌&&◌, ◌||◌, Bool, true, Option, Ok, Err, List, [], ◌∷◌}
-use Rattle.std.specs.Prelude.{length, if◌then◌else◌}
+use Rattle.std.specs.Prelude.{codes, ℕ, Ok, Err, List, [], ◌∷◌, if◌then◌else◌}
 use Rattle.std.specs.Str.{bytes_eq}
 use Rattle.toml.specs.Data.{Data, Members, get_member}
-use Rattle.values.specs.Reading.{◌>>=◌, both, one, refused_if}
-use Rattle.view_config.specs.Limits.{max_entry_name_len}
+use Rattle.values.specs.Reading.{◌>>=◌, both, mapped, one}
+use Rattle.view_config.specs.Entries.{each_entry, entry_name}
 use Rattle.view_config.specs.Reading.{Reading}
-use Rattle.view_config.specs.Tree.{each_member, members_in, members_or_none, text_in, needed, only, count_members}
-use Rattle.view_lang.specs.Config.{FeedConfig}
+use Rattle.view_config.specs.Sides.{side_called}
+use Rattle.view_config.specs.Tree.{members_in, text_in, needed, only}
+use Rattle.view_lang.specs.Config.{FeedConfig, SideTable}
 use Rattle.view_lang.specs.Limits.{max_feeds}
 use Rattle.view_lang.specs.declared.config.Role.{Role}
 use Rattle.view_lang.specs.declared.config.Role.TheVariants as role
 use Rattle.view_config.specs.declared.faults.ConfigFault.TheVariants as fault
 
--- an ASCII letter, a digit, `_` or `-`
-abbrev pub is_letter : ℕ → Bool
-is_letter c = nat_le 65 c && nat_le c 90 || nat_le 97 c && nat_le c 122
+-- A feed of rows of the main table names no side table.
+abbrev pub sideless : Role → Members → Reading Role
+sideless r ms = only (codes "role" ∷ []) ms >>= λ _. Ok r
 
-abbrev pub is_name_byte : ℕ → Bool
-is_name_byte c = is_letter c || nat_le 48 c && nat_le c 57 || c == 95 || c == 45
+-- the number of the side table that a feed changes
+unfoldable pub side_number : List SideTable → Members → Reading ℕ
+side_number sides ms = do
+  name ← needed (codes "side") ms >>= text_in
+  mapped (λ s. s.0) (side_called sides name)
 
-abbrev pub are_name_bytes : List ℕ → Bool
-are_name_bytes [] = true
-are_name_bytes (c ∷ cs) = is_name_byte c && are_name_bytes cs
+unfoldable pub role_by : List SideTable → Members → List ℕ → Reading Role
+role_by sides ms w =
+    if bytes_eq w (codes "append") then sideless role.Append ms
+    else if bytes_eq w (codes "retract") then sideless role.Retract ms
+    else if bytes_eq w (codes "put") then mapped role.Put (side_number sides ms)
+    else if bytes_eq w (codes "drop") then mapped role.Drop (side_number sides ms) else Err (one fault.Shape)
 
--- The name of a feed or a view has 1 to 64 of these.
-abbrev pub entry_name : List ℕ → Reading (List ℕ)
-entry_name name =
-    if are_name_bytes name && nat_le 1 (length name) && nat_le (length name) max_entry_name_len then Ok name
-    else Err (one fault.Shape)
-
--- at most so many entries
-abbrev pub few_entries : ℕ → Members → Reading (Unit {0})
-few_entries n ms = refused_if fault.OverLimit (nat_lt n (count_members ms))
-
--- the entries of a table that may be absent, at most so many
-abbrev pub each_entry : {X : Type 0} → ℕ → (List ℕ → Data → Reading X) → Option Data → Reading (List X)
-each_entry n f d = do
-  ms ← members_or_none d
-  _ ← few_entries n ms
-  each_member f ms
-
-abbrev pub role_by : List ℕ → Reading Role
-role_by w =
-    if bytes_eq w (codes "append") then Ok role.Append else if bytes_eq w (codes "retract") then Ok role.Retract
-    else Err (one fault.Shape)
+unfoldable pub role_of : List SideTable → Members → Reading Role
+role_of sides ms = needed (codes "role") ms >>= text_in >>= role_by sides ms
 
 -- [feed.NAME]
 abbrev pub feed_entries : List (List ℕ)
-feed_entries = codes "role" ∷ []
+feed_entries = codes "role" ∷ codes "side" ∷ []
 
 abbrev pub feed_named : List ℕ → Role → FeedConfig
 feed_named name r = record { name = name; role = r }
 
-unfoldable pub feed_of : List ℕ → Data → Reading FeedConfig
-feed_of key d = do
+unfoldable pub feed_of : List SideTable → List ℕ → Data → Reading FeedConfig
+feed_of sides key d = do
   ms ← members_in d
   _ ← only feed_entries ms
-  both feed_named (entry_name key) (needed (codes "role") ms >>= text_in >>= role_by)
+  both feed_named (entry_name key) (role_of sides ms)
 
 -- at most 16 feeds
-abbrev pub feeds_of : Members → Reading (List FeedConfig)
-feeds_of ms = each_entry max_feeds feed_of (get_member (codes "feed") ms)
+abbrev pub feeds_of : List SideTable → Members → Reading (List FeedConfig)
+feeds_of sides ms = each_entry max_feeds (feed_of sides) (get_member (codes "feed") ms)

@@ -5,7 +5,14 @@ pub mod Columns
 pub mod Limits
 pub mod ColumnTypes
 pub mod Tables
+pub mod Entries
+pub mod Sides
 pub mod Feeds
+pub mod Scope
+pub mod Constants
+pub mod Filters
+pub mod Outputs
+pub mod Lookups
 pub mod Views
 pub mod Config
 pub mod Worked

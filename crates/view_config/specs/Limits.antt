@@ -1,5 +1,5 @@
 -- The limits of columns: of their names, of how many fields they have at all levels, and of what their slots weigh.
-use Rattle.std.specs.Prelude.{◌≡◌, ℕ, ◌+◌, ◌<◌, nat_le, nat_lt, not, ◌&&◌, Bool, true, false, MatchOption, Option, Ok}
+use Rattle.std.specs.Prelude.{◌≡◌, ℕ, ◌+◌, ◌<◌, ◌^◌, nat_le, nat_lt, not, ◌&&◌, Bool, true, false, MatchOption, Option, Ok}
 use Rattle.std.specs.Prelude.{Err, List, length, if◌then◌else◌, map}
 use Rattle.values.specs.Limits.{max_fields, max_slot}
 use Rattle.values.specs.Layouts.{slot, slots}
@@ -13,12 +13,27 @@ use Rattle.view_config.specs.Reading.{Reading}
 use Rattle.view_config.specs.Tree.{repeats}
 use Rattle.view_config.specs.declared.faults.ConfigFault.TheVariants as fault
 
--- bytes of a time zone, and of the name of a feed or a view
+-- bytes of a time zone, and of the name of a side table, a feed or a view
 abbrev pub max_zone_len : ℕ
 max_zone_len = 255
 
 abbrev pub max_entry_name_len : ℕ
 max_entry_name_len = 64
+
+-- filters that a filter is made of, and levels of them
+abbrev pub max_filter_parts : ℕ
+max_filter_parts = 256
+
+abbrev pub max_filter_depth : ℕ
+max_filter_depth = 16
+
+-- digits of a decimal that is summed
+abbrev pub max_sum_precision : ℕ
+max_sum_precision = 28
+
+-- rows of a view that has at most so many
+abbrev pub max_first : ℕ
+max_first = 2 ^ 24
 
 -- Names of columns, of outputs and of the children of structs have 1 to 255 bytes.
 abbrev pub column_name : List ℕ → Reading (List ℕ)

@@ -1,96 +1,115 @@
--- Views: columns of the main table, under names of their own.
-use Rattle.std.specs.Prelude.{codes, ℕ, Ok, Err, List, [], ◌∷◌, ◌<◌, All, length, map, if◌then◌else◌}
+-- Views.
+use Rattle.std.specs.Prelude.{codes, ℕ, ℤ, pos, nat_abs, int_le, ◌&&◌, not, Bool, false, Option, None, Some, Ok, Err, List}
+use Rattle.std.specs.Prelude.{[], ◌∷◌, if◌then◌else◌, map, slice_get}
 use Rattle.std.specs.Str.{bytes_eq}
-use Rattle.toml.specs.Data.{as_str, Data, string, array, Items, Members, get_member}
-use Rattle.values.specs.Reading.{◌>>=◌, both, mapped, must, one}
-use Rattle.values.specs.Rose.{Rose}
+use Rattle.toml.specs.Data.{as_str, Data, integer, Members, get_member}
 use Rattle.values.specs.Logical.{NamedType}
-use Rattle.view_config.specs.Reading.{Reading}
-use Rattle.view_config.specs.Tree.{each_item, headed, items_in, members_in, needed, only, pair, sole}
-use Rattle.view_config.specs.Columns.{find}
-use Rattle.view_config.specs.Feeds.{each_entry, entry_name}
-use Rattle.view_config.specs.Limits.{column_name, distinct, few_fields}
-use Rattle.view_config.specs.Tables.{few_columns}
-use Rattle.view_lang.specs.Config.{Output, View}
+use Rattle.values.specs.Reading.{◌>>=◌, mapped, must, one, refused_if}
+use Rattle.values.specs.Rose.{Rose}
+use Rattle.values.specs.declared.col_type.ColType.{ColType}
+use Rattle.values.specs.contracts.col_type.ColTypePartialEq.TheImpl as equality
+use Rattle.view_lang.specs.Config.{SideTable, Table, View}
+use Rattle.view_lang.specs.Filter.{Filter}
 use Rattle.view_lang.specs.Limits.{max_views}
-use Rattle.view_lang.specs.ConfigRules.{output_fields}
+use Rattle.view_lang.specs.Outputs.{Outputs}
+use Rattle.view_lang.specs.TableRules.{type_of}
+use Rattle.view_lang.specs.ViewColumns.{output_fields}
+use Rattle.view_lang.specs.declared.view.Direction.{Direction}
+use Rattle.view_lang.specs.declared.view.Direction.TheVariants as direction
+use Rattle.view_lang.specs.declared.view.Lookup.{Lookup}
+use Rattle.view_lang.specs.declared.view.Missing.{Missing}
+use Rattle.view_lang.specs.declared.view.Missing.TheVariants as missing
+use Rattle.view_lang.specs.declared.view.OrderBy.{OrderBy}
+use Rattle.view_config.specs.Entries.{each_entry, entry_name}
+use Rattle.view_config.specs.Filters.{whole_filter}
+use Rattle.view_config.specs.Limits.{max_first}
+use Rattle.view_config.specs.Lookups.{Looked, lookup_of}
+use Rattle.view_config.specs.Outputs.{distinct_numbers, group_of, outputs_of}
+use Rattle.view_config.specs.Reading.{Reading}
+use Rattle.view_config.specs.Scope.{Scope, fields_of}
+use Rattle.view_config.specs.Tables.{key_of}
+use Rattle.view_config.specs.Tree.{each_item, items_in, members_in, needed, only, pair_in}
 use Rattle.view_config.specs.declared.faults.ConfigFault.TheVariants as fault
 
--- a column of the main table, by its name
-abbrev pub column_number : List (Rose NamedType) → List ℕ → Reading ℕ
-column_number cs name = mapped (λ f. f.0) (must fault.UnknownName (find 0 name cs))
+-- what an entry means that may be absent
+abbrev pub perhaps : {X : Type 0} → (Data → Reading X) → Option Data → Reading (Option X)
+perhaps f None = Ok None
+perhaps f (Some d) = mapped (λ x. Some x) (f d)
 
--- "name" and ["main", "name"]; there is no side table yet that ["side", "name"] could mean
-abbrev pub reference_by : List (Rose NamedType) → List ℕ → List ℕ → Reading ℕ
-reference_by cs w name =
-    if bytes_eq w (codes "main") then column_number cs name
-    else if bytes_eq w (codes "side") then Err (one fault.UnknownName) else Err (one fault.Shape)
+-- order: outputs by their names, none of them twice
+abbrev pub direction_by : List ℕ → Option Direction
+direction_by w =
+    if bytes_eq w (codes "asc") then Some direction.Ascending
+    else if bytes_eq w (codes "desc") then Some direction.Descending else None
 
-unfoldable pub reference_in : List (Rose NamedType) → Items → Reading ℕ
-reference_in cs ds = do
-  parts ← must fault.Shape (pair ds)
-  w ← must fault.Shape (as_str parts.0)
-  name ← must fault.Shape (as_str parts.1)
-  reference_by cs w name
+abbrev pub sorted_by : Direction → ℕ → OrderBy
+sorted_by towards column = record { column = column; direction = towards }
 
-unfoldable pub reference : List (Rose NamedType) → Data → Reading ℕ
-reference cs (string name) = column_number cs name
-reference cs (array ds) = reference_in cs ds
-reference cs d = Err (one fault.Shape)
+-- [output name, "asc" or "desc"]
+unfoldable pub order_by_of : List (Rose NamedType) → Data → Reading OrderBy
+order_by_of outputs d = do
+  parts ← must fault.Shape (pair_in d)
+  name ← must fault.Shape (as_str parts.0)
+  word ← must fault.Shape (as_str parts.1)
+  towards ← must fault.Shape (direction_by word)
+  mapped (sorted_by towards) (key_of outputs name)
 
-abbrev pub output_named : List ℕ → ℕ → Output
-output_named name column = record { name = name; column = column }
+abbrev pub numbers_of : List OrderBy → List ℕ
+numbers_of os = map (λ o. o.column) os
 
--- what an output shows, by its word
-unfoldable pub output_by : List (Rose NamedType) → List ℕ → List ℕ → Items → Reading Output
-output_by cs name w ds =
-    if bytes_eq w (codes "col") then mapped (output_named name) (must fault.Shape (sole ds) >>= reference cs)
-    else Err (one fault.Shape)
-
--- [out, word, ...]
-unfoldable pub output_of : List (Rose NamedType) → Data → Reading Output
-output_of cs d = do
+unfoldable pub order_of : List (Rose NamedType) → Data → Reading (List OrderBy)
+order_of outputs d = do
   ds ← items_in d
-  out ← must fault.Shape (headed ds)
-  word ← must fault.Shape (headed out.1)
-  name ← column_name out.0
-  output_by cs name word.0 word.1
-
--- an output's name
-abbrev pub name_of : Output → List ℕ
-name_of o = o.name
-
--- Outputs have at most 1,024 fields at all levels, and no two have one name.
-unfoldable pub output_limits : List (Rose NamedType) → List Output → Reading (Unit {0})
-output_limits cs os = do
-  _ ← few_fields (output_fields cs os)
-  distinct (map name_of os)
-
-unfoldable pub outputs_of : List (Rose NamedType) → Data → Reading (List Output)
-outputs_of cs d = do
-  ds ← items_in d
-  _ ← few_columns ds
-  os ← each_item (output_of cs) ds
-  _ ← output_limits cs os
+  os ← each_item (order_by_of outputs) ds
+  _ ← distinct_numbers (numbers_of os)
   Ok os
 
--- each of a table's columns that is shown is there
-abbrev pub AreThere : List (Rose NamedType) → List Output → Type 0
-AreThere cs os = All (λ o. o.column < length cs) os
+abbrev pub order_in : List (Rose NamedType) → Option Data → Reading (List OrderBy)
+order_in outputs None = Ok []
+order_in outputs (Some d) = order_of outputs d
+
+-- first: 0 to 2^24
+abbrev pub first_within : ℤ → Reading ℕ
+first_within n = if int_le (pos 0) n && int_le n (pos max_first) then Ok (nat_abs n) else Err (one fault.OverLimit)
+
+abbrev pub first_of : Data → Reading ℕ
+first_of (integer n) = first_within n
+first_of d = Err (one fault.Shape)
 
 -- [view.NAME]
 abbrev pub view_entries : List (List ℕ)
-view_entries = codes "columns" ∷ []
+view_entries =
+    codes "lookup" ∷ codes "filter" ∷ codes "group" ∷ codes "columns" ∷ codes "order" ∷ codes "first" ∷ []
 
-abbrev pub view_named : List ℕ → List Output → View
-view_named name outputs = record { name = name; outputs = outputs }
+abbrev pub view_named : List ℕ → Option Lookup → Option Filter → Outputs → List OrderBy → Option ℕ → View
+view_named name lookup filter outputs order n =
+    record { name = name; lookup = lookup; filter = filter; outputs = outputs; order = order; first = n }
 
-unfoldable pub view_of : List (Rose NamedType) → List ℕ → Data → Reading View
-view_of cs key d = do
+-- what a view does with the rows that it looks up
+unfoldable pub view_in : Scope → List ℕ → Option Lookup → Members → Reading View
+view_in s name lookup ms = do
+  filter ← perhaps (whole_filter s) (get_member (codes "filter") ms)
+  group ← perhaps (group_of s) (get_member (codes "group") ms)
+  outputs ← needed (codes "columns") ms >>= outputs_of s group
+  order ← order_in (output_fields (fields_of s) outputs) (get_member (codes "order") ms)
+  mapped (view_named name lookup filter outputs order) (perhaps first_of (get_member (codes "first") ms))
+
+abbrev pub lookup_alone : Option Looked → Option Lookup
+lookup_alone None = None
+lookup_alone (Some l) = Some l.0
+
+abbrev pub scope_of : Table → Option Looked → Scope
+scope_of main None = record { main = main.columns; side = [] }
+scope_of main (Some l) = record { main = main.columns; side = l.1.table.columns }
+
+unfoldable pub view_of : Table → List SideTable → List ℕ → Data → Reading View
+view_of main sides key d = do
   ms ← members_in d
   _ ← only view_entries ms
-  both view_named (entry_name key) (needed (codes "columns") ms >>= outputs_of cs)
+  name ← entry_name key
+  looked ← perhaps (lookup_of main sides) (get_member (codes "lookup") ms)
+  view_in (scope_of main looked) name (lookup_alone looked) ms
 
--- at most 32 views of a table with these columns
-abbrev pub views_of : List (Rose NamedType) → Members → Reading (List View)
-views_of cs ms = each_entry max_views (view_of cs) (get_member (codes "view") ms)
+-- at most 32 views of these tables
+abbrev pub views_of : Table → List SideTable → Members → Reading (List View)
+views_of main sides ms = each_entry max_views (view_of main sides) (get_member (codes "view") ms)

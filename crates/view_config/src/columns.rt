@@ -1,9 +1,11 @@
 //! Columns, by their names.
 
-ghost use Rattle.std.specs.Prelude.{◌≡◌, option_map, map};
-ghost use Rattle.view_config.specs.Columns.{find, has_order, name_of};
+ghost use Rattle.std.specs.Prelude.{◌≡◌, ◌<◌, IfSome, length, option_map, map};
+ghost use Rattle.values.specs.Reading.{Judges};
+ghost use Rattle.view_config.specs.Columns.{find, has_order, name_of, ordered};
 ghost use Rattle.view_config.specs.Tree.{is_one_of, repeats};
 
+use crate::faults::ConfigFault;
 use values::{ColType, LogicalField};
 
 /// Whether the values of a type have an order.
@@ -11,6 +13,20 @@ pub(crate) fn has_order(col_type: &ColType) -> bool
     ensures { result ≡ has_order col_type.now }
 {
     !matches!(col_type, ColType::List { .. } | ColType::Struct)
+}
+
+/// A column with its number, where its values have an order.
+pub(crate) fn ordered<'a>(
+    number: usize,
+    column: &'a LogicalField,
+) -> Result<(usize, &'a LogicalField), ConfigFault>
+    ensures { Judges (λ c. (c.0, c.1.now)) result (ordered (number, column.now)) }
+{
+    if has_order(&column.col_type) {
+        Ok((number, column))
+    } else {
+        Err(ConfigFault::OrderType)
+    }
 }
 
 /// Whether two of these fields have one name.
@@ -42,7 +58,8 @@ fn is_among(name: &str, fields: &[LogicalField]) -> bool
 /// The first column of this name, with its number.
 #[tactic(auto, using(crate::proofs::Names::finding))]
 pub(crate) fn find<'a>(columns: &'a [LogicalField], name: &str) -> Option<(usize, &'a LogicalField)>
-    ensures { option_map (λ f. (f.0, f.1.now)) result ≡ find 0 name.now columns.now }
+    ensures value { option_map (λ f. (f.0, f.1.now)) result ≡ find 0 name.now columns.now }
+    ensures bound { IfSome result (λ f. f.0 < length columns.now) }
 {
     for index in 0..columns.len() {
         let column = &columns[index];

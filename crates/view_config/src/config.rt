@@ -10,6 +10,7 @@ ghost use Rattle.view_config.specs.Reading.{Answers};
 
 use crate::faults::ConfigFault;
 use crate::feeds::read_feeds;
+use crate::sides::read_sides;
 use crate::tables::read_main;
 use crate::tree::check_names;
 use crate::views::read_views;
@@ -46,9 +47,15 @@ fn read_tree(alloc: Global, text: &str) -> Result<Entries, ConfigFault>
 fn read_entries(alloc: Global, entries: &Entries) -> Result<Config, ConfigFault>
     ensures { Answers (λ c. c) result (config_of (table_view entries.now)) }
 {
-    check_names(entries, &["main", "feed", "view"])?;
+    check_names(entries, &["main", "side", "feed", "view"])?;
     let main = read_main(alloc, entries)?;
-    let feeds = read_feeds(alloc, entries)?;
-    let views = read_views(alloc, &main.columns, entries)?;
-    Ok(Config { main, feeds, views })
+    let sides = read_sides(alloc, entries)?;
+    let feeds = read_feeds(alloc, &sides, entries)?;
+    let views = read_views(alloc, &main, &sides, entries)?;
+    Ok(Config {
+        main,
+        sides,
+        feeds,
+        views,
+    })
 }

@@ -3,80 +3,74 @@
 ghost use Rattle.std.specs.Prelude.{◌≡◌};
 ghost use Rattle.toml.specs.View.{table_view, view};
 ghost use Rattle.values.specs.Reading.{Judges};
-ghost use Rattle.view_config.specs.Feeds.{are_name_bytes, entry_name, feed_of, feeds_of, few_entries, is_name_byte};
-ghost use Rattle.view_config.specs.Feeds.{role_by};
+ghost use Rattle.view_config.specs.Feeds.{feed_of, feeds_of, role_by, role_of, side_number, sideless};
 ghost use Rattle.view_config.specs.Reading.{Answers};
 ghost use Rattle.view_config.specs.Tree.{each_member};
 
+use crate::entries::{check_entry_name, check_few_entries};
 use crate::faults::ConfigFault;
-use crate::limits::MAX_ENTRY_NAME_LEN;
+use crate::sides::side_called;
 use crate::tree::{check_names, entry, entry_at, members_in, text_in};
 use std::alloc::Global;
 use toml::{Table as Entries, Value};
 use values::limits::MAX_FEEDS;
-use view_lang::{FeedConfig, Role};
+use view_lang::{FeedConfig, Role, SideTable};
 
-/// An ASCII letter, a digit, `_` or `-`.
-fn is_name_byte(byte: u8) -> bool
-    ensures { result ≡ is_name_byte byte }
+/// A role that names no side table.
+fn sideless(role: Role, entries: &Entries) -> Result<Role, ConfigFault>
+    ensures { Judges (λ r. r) result (sideless role (table_view entries.now)) }
 {
-    matches!(byte, b'A'..=b'Z' | b'a'..=b'z' | b'0'..=b'9' | b'_' | b'-')
+    check_names(entries, &["role"])?;
+    Ok(role)
 }
 
-#[tactic(auto, using(crate::proofs::Names::name_bytes))]
-fn are_name_bytes(bytes: &[u8]) -> bool
-    ensures { result ≡ are_name_bytes bytes.now }
+/// The number of the side table that a feed names.
+#[tactic(auto, using(crate::proofs::Causes::causes), unfolding(crate::specs::Feeds::side_number))]
+fn side_number(sides: &[SideTable], entries: &Entries) -> Result<usize, ConfigFault>
+    ensures { Judges (λ n. n) result (side_number sides.now (table_view entries.now)) }
 {
-    for byte in bytes {
-        if !is_name_byte(*byte) {
-            return false;
-        }
-    }
-    true
+    let name = text_in(entry(entries, "side")?)?;
+    let (number, _) = side_called(sides, name)?;
+    Ok(number)
 }
 
-/// The name of a feed or a view, which has 1 to 64 such bytes.
-pub(crate) fn check_entry_name(name: &str) -> Result<&str, ConfigFault>
-    ensures { Judges (λ n. n.now) result (entry_name name.now) }
-{
-    if are_name_bytes(name.as_bytes()) && 1 <= name.len() && name.len() <= MAX_ENTRY_NAME_LEN {
-        Ok(name)
-    } else {
-        Err(ConfigFault::Shape)
-    }
-}
-
-/// Refuses more entries than `most`.
-#[tactic(auto, using(crate::proofs::Arrays::counts))]
-pub(crate) fn check_few_entries(entries: &Entries, most: usize) -> Result<(), ConfigFault>
-    ensures { Judges (λ u. u) result (few_entries most (table_view entries.now)) }
-{
-    if entries.len() > most {
-        return Err(ConfigFault::OverLimit);
-    }
-    Ok(())
-}
-
-fn role_of(word: &str) -> Result<Role, ConfigFault>
-    ensures { Judges (λ r. r) result (role_by word.now) }
+#[tactic(auto, using(crate::proofs::Causes::causes), unfolding(crate::specs::Feeds::role_by))]
+fn role_by(sides: &[SideTable], entries: &Entries, word: &str) -> Result<Role, ConfigFault>
+    ensures { Judges (λ r. r) result (role_by sides.now (table_view entries.now) word.now) }
 {
     if word == "append" {
-        Ok(Role::Append)
+        sideless(Role::Append, entries)
     } else if word == "retract" {
-        Ok(Role::Retract)
+        sideless(Role::Retract, entries)
+    } else if word == "put" {
+        Ok(Role::Put(side_number(sides, entries)?))
+    } else if word == "drop" {
+        Ok(Role::Drop(side_number(sides, entries)?))
     } else {
         Err(ConfigFault::Shape)
     }
+}
+
+#[tactic(auto, using(crate::proofs::Causes::causes), unfolding(crate::specs::Feeds::role_of))]
+fn read_role(sides: &[SideTable], entries: &Entries) -> Result<Role, ConfigFault>
+    ensures { Judges (λ r. r) result (role_of sides.now (table_view entries.now)) }
+{
+    role_by(sides, entries, text_in(entry(entries, "role")?)?)
 }
 
 #[tactic(auto, using(crate::proofs::Causes::failing), unfolding(crate::specs::Feeds::feed_of))]
-fn read_feed(alloc: Global, name: &str, value: &Value) -> Result<FeedConfig, ConfigFault>
-    ensures { Answers (λ f. f) result (feed_of name.now (view value.now)) }
+fn read_feed(
+    alloc: Global,
+    sides: &[SideTable],
+    name: &str,
+    value: &Value,
+) -> Result<FeedConfig, ConfigFault>
+    ensures { Answers (λ f. f) result (feed_of sides.now name.now (view value.now)) }
 {
     let entries = members_in(value)?;
-    check_names(entries, &["role"])?;
+    check_names(entries, &["role", "side"])?;
     let name = check_entry_name(name)?;
-    let role = role_of(text_in(entry(entries, "role")?)?)?;
+    let role = read_role(sides, entries)?;
     Ok(FeedConfig {
         name: String::from_str(alloc, name)?,
         role,
@@ -84,25 +78,34 @@ fn read_feed(alloc: Global, name: &str, value: &Value) -> Result<FeedConfig, Con
 }
 
 #[tactic(auto, using(crate::proofs::Gathering::entering))]
-fn read_each_feed(alloc: Global, entries: &Entries) -> Result<Vec<FeedConfig>, ConfigFault>
-    ensures { Answers (λ fs. fs.items) result (each_member feed_of (table_view entries.now)) }
+fn read_each_feed(
+    alloc: Global,
+    sides: &[SideTable],
+    entries: &Entries,
+) -> Result<Vec<FeedConfig>, ConfigFault>
+    ensures { Answers (λ fs. fs.items) result (each_member (feed_of sides.now) (table_view entries.now)) }
 {
     let mut feeds = Vec::new(alloc);
     for (name, value) in entries {
-        feeds.push(read_feed(alloc, name.as_str(), value)?)?;
+        feeds.push(read_feed(alloc, sides, name.as_str(), value)?)?;
     }
     Ok(feeds)
 }
 
-/// The feeds of a configuration's entries; none where there is no such entry.
+/// The feeds of a configuration's entries, which change the main table or one of these side tables; none where there is
+/// no such entry.
 #[tactic(auto, using(crate::proofs::Causes::failing), unfolding(crate::specs::Tree::each_member))]
-pub(crate) fn read_feeds(alloc: Global, entries: &Entries) -> Result<Vec<FeedConfig>, ConfigFault>
-    ensures { Answers (λ fs. fs.items) result (feeds_of (table_view entries.now)) }
+pub(crate) fn read_feeds(
+    alloc: Global,
+    sides: &[SideTable],
+    entries: &Entries,
+) -> Result<Vec<FeedConfig>, ConfigFault>
+    ensures { Answers (λ fs. fs.items) result (feeds_of sides.now (table_view entries.now)) }
 {
     let Some(value) = entry_at(entries, "feed") else {
         return Ok(Vec::new(alloc));
     };
     let feeds = members_in(value)?;
     check_few_entries(feeds, MAX_FEEDS)?;
-    read_each_feed(alloc, feeds)
+    read_each_feed(alloc, sides, feeds)
 }

@@ -2,11 +2,16 @@
 
 ghost use Rattle.std.specs.Prelude.{◌≡◌, Ok};
 ghost use Rattle.view_config.specs.Config.{text_means};
-ghost use Rattle.view_config.specs.Worked.{FaultsStand, amounts, amounts_text, pairs, pairs_text};
+ghost use Rattle.view_config.specs.Worked.{ConstantsRead, FaultsStand, LimitsTaken, amounts, amounts_text, pairs};
+ghost use Rattle.view_config.specs.Worked.{pairs_text, zones, zones_text};
 
-/// Two worked configurations mean what they say, and each of some wrong texts has its one fault.
+/// Three worked configurations mean what they say, each of some wrong texts has its one fault, texts at the limits have
+/// none, and constants at the borders of their forms are read as they say.
 pub fn worked_law()
     ensures amounts { text_means amounts_text ≡ Ok amounts }
     ensures pairs { text_means pairs_text ≡ Ok pairs }
+    ensures zones { text_means zones_text ≡ Ok zones }
     ensures faults { FaultsStand }
+    ensures limits { LimitsTaken }
+    ensures constants { ConstantsRead }
 {}

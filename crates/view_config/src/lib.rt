@@ -7,11 +7,22 @@
 #![tactic(auto)]
 
 mod columns;
+mod constants;
 mod config;
+mod entries;
 mod faults;
 mod feeds;
+mod filters;
 mod laws;
+mod groups;
 mod limits;
+mod lookups;
+mod naming;
+mod orders;
+mod outputs;
+mod scope;
+mod shown;
+mod sides;
 mod tables;
 #[cfg(test)]
 mod tests;

@@ -18,8 +18,20 @@ use view_lang::MAX_COLUMN_NAME_LEN;
 /// The longest time zone of a declared column, in bytes.
 pub(crate) const MAX_ZONE_LEN: usize = 255;
 
-/// The longest name of a feed or a view, in bytes.
+/// The longest name of a side table, a feed or a view, in bytes.
 pub(crate) const MAX_ENTRY_NAME_LEN: usize = 64;
+
+/// The most filters that a filter may be made of, itself among them.
+pub(crate) const MAX_FILTER_PARTS: u32 = 256;
+
+/// The most levels of a filter.
+pub(crate) const MAX_FILTER_DEPTH: u8 = 16;
+
+/// The most digits of a decimal that may be summed.
+pub(crate) const MAX_SUM_PRECISION: u8 = 28;
+
+/// The most rows that a view may be cut to.
+pub(crate) const MAX_FIRST: i64 = 1 << 24;
 
 /// A name of a column, of an output or of a struct's child, which has 1 to 255 bytes.
 pub(crate) fn check_name(name: &str) -> Result<&str, ConfigFault>

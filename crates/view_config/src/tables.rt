@@ -4,10 +4,10 @@ ghost use Rattle.std.specs.Prelude.{◌≡◌};
 ghost use Rattle.toml.specs.View.{items_view, table_view, view};
 ghost use Rattle.values.specs.Reading.{Judges};
 ghost use Rattle.view_config.specs.Reading.{Answers};
-ghost use Rattle.view_config.specs.Tables.{column_of, columns_of, few_columns, key_of, main_of, table_of};
+ghost use Rattle.view_config.specs.Tables.{column_of, columns_of, few_columns, main_of, ordered_column, table_of};
 ghost use Rattle.view_config.specs.Tree.{each_item};
 
-use crate::columns::{find, has_order};
+use crate::columns::{find, ordered};
 use crate::faults::ConfigFault;
 use crate::limits::{check_columns, check_name};
 use crate::tree::{check_names, entry, items_in, members_in, pair_in, text_in};
@@ -15,7 +15,7 @@ use crate::types::read_field;
 use std::alloc::Global;
 use toml::{Table as Entries, Value};
 use values::LogicalField;
-use values::limits::{MAX_COLUMNS, MAX_DEPTH};
+use values::limits::{MAX_COLUMNS, MAX_DEPTH, MAX_MAIN_ROWS};
 use view_lang::Table;
 
 #[tactic(auto, using(crate::proofs::Causes::failing), unfolding(crate::specs::Tables::column_of))]
@@ -62,28 +62,36 @@ fn read_columns(alloc: Global, value: &Value) -> Result<Vec<LogicalField>, Confi
     Ok(columns)
 }
 
-/// The number of the column of this name, whose values must have an order.
-#[tactic(auto, using(crate::proofs::Causes::causes), unfolding(crate::specs::Tables::key_of))]
-fn key_of(columns: &[LogicalField], name: &str) -> Result<usize, ConfigFault>
-    ensures { Judges (λ k. k) result (key_of columns.now name.now) }
+/// The column of this name, whose values must have an order, and its number.
+#[tactic(auto, using(crate::proofs::Causes::causes), unfolding(crate::specs::Tables::ordered_column))]
+pub(crate) fn ordered_column<'a>(
+    columns: &'a [LogicalField],
+    name: &str,
+) -> Result<(usize, &'a LogicalField), ConfigFault>
+    ensures { Judges (λ c. (c.0, c.1.now)) result (ordered_column columns.now name.now) }
 {
-    let (key, column) = find(columns, name).ok_or(ConfigFault::UnknownName)?;
-    if has_order(&column.col_type) {
-        Ok(key)
-    } else {
-        Err(ConfigFault::OrderType)
-    }
+    let (number, column) = find(columns, name).ok_or(ConfigFault::UnknownName)?;
+    ordered(number, column)
 }
 
+/// A table of at most so many rows.
 #[tactic(auto, using(crate::proofs::Causes::failing), unfolding(crate::specs::Tables::table_of))]
-fn read_table(alloc: Global, entries: &Entries) -> Result<Table, ConfigFault>
-    ensures { Answers (λ t. t) result (table_of (table_view entries.now)) }
+pub(crate) fn read_table(
+    alloc: Global,
+    entries: &Entries,
+    max_rows: usize,
+) -> Result<Table, ConfigFault>
+    ensures { Answers (λ t. t) result (table_of max_rows (table_view entries.now)) }
 {
     check_names(entries, &["key", "columns"])?;
     let name = text_in(entry(entries, "key")?)?;
     let columns = read_columns(alloc, entry(entries, "columns")?)?;
-    let key = key_of(&columns, name)?;
-    Ok(Table { key, columns })
+    let (key, _) = ordered_column(&columns, name)?;
+    Ok(Table {
+        key,
+        max_rows,
+        columns,
+    })
 }
 
 /// The main table of a configuration's entries.
@@ -91,5 +99,5 @@ fn read_table(alloc: Global, entries: &Entries) -> Result<Table, ConfigFault>
 pub(crate) fn read_main(alloc: Global, entries: &Entries) -> Result<Table, ConfigFault>
     ensures { Answers (λ t. t) result (main_of (table_view entries.now)) }
 {
-    read_table(alloc, members_in(entry(entries, "main")?)?)
+    read_table(alloc, members_in(entry(entries, "main")?)?, MAX_MAIN_ROWS)
 }

@@ -109,7 +109,7 @@ pub(crate) fn has_only(entries: &Entries, names: &[&str]) -> bool
 }
 
 #[tactic(auto, using(crate::proofs::Names::naming))]
-fn is_one_of(names: &[&str], name: &str) -> bool
+pub(crate) fn is_one_of(names: &[&str], name: &str) -> bool
     ensures { result ≡ is_one_of (map (λ n. n.now) names.now) name.now }
 {
     for known in names {

@@ -1,5 +1,13 @@
-use Rattle.view_config.proofs.Samples.{sample-amounts, sample-pairs, sample-faults}
+use Rattle.view_config.proofs.Samples.{sample-amounts, sample-constants, sample-faults, sample-limits, sample-pairs}
+use Rattle.view_config.proofs.Samples.{sample-zones}
 use Rattle.view_config.proofs.laws.worked_law.Goals as goal
 
 pub returns : goal.returns
-returns c = record { amounts = sample-amounts; pairs = sample-pairs; faults = sample-faults }
+returns c = record {
+  amounts = sample-amounts;
+  pairs = sample-pairs;
+  zones = sample-zones;
+  faults = sample-faults;
+  limits = sample-limits;
+  constants = sample-constants;
+}

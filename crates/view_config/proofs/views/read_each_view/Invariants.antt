@@ -8,5 +8,5 @@ use Rattle.view_config.proofs.views.read_each_view.Given as goal
 abbrev pub invariant-loop-name : goal.invariant-loop-name
 invariant-loop-name l =
     (goal.iterator-loop-name).can_next l.name-iterator × (goal.iterator-loop-name).is_finite l.name-iterator
-    × (with_front l.views.items (each_member (view_of l.columns) (members_view l.name-iterator))
-    ≡ each_member (view_of l.columns) (table_view l.entries))
+    × (with_front l.views.items (each_member (view_of l.main l.sides) (members_view l.name-iterator))
+    ≡ each_member (view_of l.main l.sides) (table_view l.entries))

@@ -1,6 +1,6 @@
 use Rattle.std.proofs.Common.{◌≡◌, drop}
-use Rattle.view_config.specs.Feeds.{are_name_bytes}
-use Rattle.view_config.proofs.feeds.are_name_bytes.Given as goal
+use Rattle.view_config.specs.Entries.{are_name_bytes}
+use Rattle.view_config.proofs.entries.are_name_bytes.Given as goal
 
 abbrev pub invariant-loop-byte : goal.invariant-loop-byte
 invariant-loop-byte l = are_name_bytes (drop l.byte-index l.bytes) ≡ are_name_bytes l.bytes

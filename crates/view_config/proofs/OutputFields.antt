@@ -1,0 +1,156 @@
+-- The fields of outputs: their sizes and their types.
+use Rattle.std.proofs.Common.{◌≡◌, ℕ, zero, suc, ◌+◌, ◌<◌, ◌≤◌, List, [], ◌∷◌, length, get_or, drop, map, refl, ap, sym, subst}
+use Rattle.std.proofs.Common.{◌∙◌, arith, Some, None, true, slice_get}
+use Rattle.std.proofs.lemmas.List.{drop_all, drop_more, get_or-map}
+use Rattle.std.proofs.lemmas.Option.{get_or_from_slice_get}
+use Rattle.values.specs.Rose.{Rose, node, kids_of, rose_size, roses_size}
+use Rattle.values.specs.Logical.{NamedType}
+use Rattle.values.specs.declared.col_type.ColType.{ColType}
+use Rattle.values.specs.declared.col_type.ColType.TheVariants as col
+use Rattle.view_lang.specs.Outputs.{GroupOutput, Output, columns, groups}
+use Rattle.view_lang.specs.TableRules.{type_of}
+use Rattle.view_lang.specs.ViewColumns.{aggregate_field, field_at, no_field, output_field, output_fields, renamed, sum_type}
+use Rattle.view_lang.specs.declared.view.Aggregate.{Aggregate}
+use Rattle.view_lang.specs.declared.view.Aggregate.TheVariants as aggregate
+use Rattle.view_config.specs.Columns.{has_order, name_of}
+
+pub renamed-size : (name : List ℕ) (f : Rose NamedType) → rose_size (renamed name f) ≡ rose_size f
+renamed-size name (node f kids) = refl
+
+pub renamed-type : (name : List ℕ) (f : Rose NamedType) → type_of (renamed name f) ≡ type_of f
+renamed-type name (node f kids) = refl
+
+pub renamed-name : (name : List ℕ) (f : Rose NamedType) → name_of (renamed name f) ≡ name
+renamed-name name (node f kids) = refl
+
+-- a column by its number
+pub field-some : (fs : List (Rose NamedType)) (k : ℕ) (f : Rose NamedType) → Some f ≡ slice_get fs k → field_at fs k ≡ f
+field-some fs k f e = get_or_from_slice_get fs k f no_field (sym e)
+
+pub field-none : (fs : List (Rose NamedType)) (k : ℕ) → None ≡ slice_get fs k → field_at fs k ≡ no_field
+field-none [] k e = refl
+field-none (f ∷ fs) zero e = cc
+field-none (f ∷ fs) (suc k) e = field-none fs k e
+
+pub ruleset column_sizes = (field-some, field-none)
+
+-- the size and the order of an aggregate's field, whatever its name
+pub aggregate-size :
+    (fields : List (Rose NamedType)) (by name : List ℕ) (a : Aggregate)
+    → rose_size (aggregate_field fields by name a) ≡ rose_size (aggregate_field fields by [] a)
+aggregate-size fields by name (aggregate.Key k) =
+    renamed-size name (field_at fields (get_or by k 0)) ∙ sym (renamed-size [] (field_at fields (get_or by k 0)))
+aggregate-size fields by name aggregate.Count = refl
+aggregate-size fields by name (aggregate.CountOf k) = refl
+aggregate-size fields by name (aggregate.Sum k) = refl
+aggregate-size fields by name (aggregate.Least k) =
+    renamed-size name (field_at fields k) ∙ sym (renamed-size [] (field_at fields k))
+aggregate-size fields by name (aggregate.Greatest k) =
+    renamed-size name (field_at fields k) ∙ sym (renamed-size [] (field_at fields k))
+
+pub aggregate-type :
+    (fields : List (Rose NamedType)) (by name : List ℕ) (a : Aggregate)
+    → type_of (aggregate_field fields by name a) ≡ type_of (aggregate_field fields by [] a)
+aggregate-type fields by name (aggregate.Key k) =
+    renamed-type name (field_at fields (get_or by k 0)) ∙ sym (renamed-type [] (field_at fields (get_or by k 0)))
+aggregate-type fields by name aggregate.Count = refl
+aggregate-type fields by name (aggregate.CountOf k) = refl
+aggregate-type fields by name (aggregate.Sum k) = refl
+aggregate-type fields by name (aggregate.Least k) =
+    renamed-type name (field_at fields k) ∙ sym (renamed-type [] (field_at fields k))
+aggregate-type fields by name (aggregate.Greatest k) =
+    renamed-type name (field_at fields k) ∙ sym (renamed-type [] (field_at fields k))
+
+pub sum-ordered : (t : ColType) → has_order (sum_type t) ≡ true
+sum-ordered col.Bool = refl
+sum-ordered (col.Int w s) = refl
+sum-ordered (col.Decimal p s) = refl
+sum-ordered (col.Date u) = refl
+sum-ordered (col.Time u) = refl
+sum-ordered (col.Timestamp u z) = refl
+sum-ordered (col.Duration u) = refl
+sum-ordered (col.Utf8 o) = refl
+sum-ordered (col.Binary o) = refl
+sum-ordered (col.FixedSizeBinary w) = refl
+sum-ordered (col.List o) = refl
+sum-ordered col.Struct = refl
+
+pub ruleset aggregate_sizes = (renamed-size)
+
+pub ruleset aggregate_types = (renamed-type, sum-ordered)
+
+-- one output after the other
+pub outputs-step :
+    (fields : List (Rose NamedType)) (os : List Output) (k : ℕ) (o d : Output) → o ≡ get_or os k d → k < length os
+    → roses_size (kids_of (output_fields fields (columns (drop k os))))
+    ≡ rose_size (field_at fields o.column) + roses_size (kids_of (output_fields fields (columns (drop (k + 1) os))))
+outputs-step fields os k o d is below =
+    let rest = output_fields fields (columns (drop (k + 1) os)) in
+    let split : drop k os ≡ o ∷ drop (k + 1) os = drop_more os k d below ∙ ap (λ p. p ∷ drop (k + 1) os) (sym is) in
+    ap (λ (ps : List Output). roses_size (kids_of (output_fields fields (columns ps)))) split
+    ∙ ap (λ n. n + roses_size (kids_of rest)) (renamed-size o.name (field_at fields o.column))
+
+pub outputs-end : (fields : List (Rose NamedType)) (os : List Output) (k : ℕ) → length os ≤ k
+    → roses_size (kids_of (output_fields fields (columns (drop k os)))) ≡ 0
+outputs-end fields os k past =
+    ap (λ (ps : List Output). roses_size (kids_of (output_fields fields (columns ps)))) (drop_all k os past)
+
+pub groups-step :
+    (fields : List (Rose NamedType)) (by : List ℕ) (os : List GroupOutput) (k : ℕ) (o d : GroupOutput)
+    → o ≡ get_or os k d → k < length os
+    → roses_size (kids_of (output_fields fields (groups by (drop k os))))
+    ≡ rose_size (aggregate_field fields by [] o.aggregate)
+    + roses_size (kids_of (output_fields fields (groups by (drop (k + 1) os))))
+groups-step fields by os k o d is below =
+    let rest = output_fields fields (groups by (drop (k + 1) os)) in
+    let split : drop k os ≡ o ∷ drop (k + 1) os = drop_more os k d below ∙ ap (λ p. p ∷ drop (k + 1) os) (sym is) in
+    ap (λ (ps : List GroupOutput). roses_size (kids_of (output_fields fields (groups by ps)))) split
+    ∙ ap (λ n. n + roses_size (kids_of rest)) (aggregate-size fields by o.name o.aggregate)
+
+pub groups-end :
+    (fields : List (Rose NamedType)) (by : List ℕ) (os : List GroupOutput) (k : ℕ) → length os ≤ k
+    → roses_size (kids_of (output_fields fields (groups by (drop k os)))) ≡ 0
+groups-end fields by os k past =
+    ap (λ (ps : List GroupOutput). roses_size (kids_of (output_fields fields (groups by ps)))) (drop_all k os past)
+
+pub ruleset output_sizes = (outputs-step, outputs-end, groups-step, groups-end)
+
+-- an output by its place
+mapped-none : {X : Type 0} (f : X → Rose NamedType) (xs : List X) (k : ℕ) → None ≡ slice_get xs k
+    → field_at (map f xs) k ≡ no_field
+mapped-none f [] k e = refl
+mapped-none f (x ∷ xs) zero e = cc
+mapped-none f (x ∷ xs) (suc k) e = mapped-none f xs k e
+
+mapped-some : {X : Type 0} (f : X → Rose NamedType) (xs : List X) (k : ℕ) (x : X) → Some x ≡ slice_get xs k
+    → field_at (map f xs) k ≡ f x
+mapped-some f [] k x e = cc
+mapped-some f (y ∷ xs) zero x e = let same : y ≡ x = cc in ap f same
+mapped-some f (y ∷ xs) (suc k) x e = mapped-some f xs k x e
+
+pub type-output :
+    (fields : List (Rose NamedType)) (os : List Output) (k : ℕ) (o : Output) → Some o ≡ slice_get os k
+    → type_of (field_at (output_fields fields (columns os)) k) ≡ type_of (field_at fields o.column)
+type-output fields os k o e =
+    ap type_of (mapped-some (output_field fields) os k o e) ∙ renamed-type o.name (field_at fields o.column)
+
+pub type-no-output :
+    (fields : List (Rose NamedType)) (os : List Output) (k : ℕ) → None ≡ slice_get os k
+    → type_of (field_at (output_fields fields (columns os)) k) ≡ col.Bool
+type-no-output fields os k e = ap type_of (mapped-none (output_field fields) os k e)
+
+pub type-group :
+    (fields : List (Rose NamedType)) (by : List ℕ) (os : List GroupOutput) (k : ℕ) (o : GroupOutput)
+    → Some o ≡ slice_get os k
+    → type_of (field_at (output_fields fields (groups by os)) k) ≡ type_of (aggregate_field fields by [] o.aggregate)
+type-group fields by os k o e =
+    ap type_of (mapped-some (λ p. aggregate_field fields by p.name p.aggregate) os k o e)
+    ∙ aggregate-type fields by o.name o.aggregate
+
+pub type-no-group :
+    (fields : List (Rose NamedType)) (by : List ℕ) (os : List GroupOutput) (k : ℕ) → None ≡ slice_get os k
+    → type_of (field_at (output_fields fields (groups by os)) k) ≡ col.Bool
+type-no-group fields by os k e =
+    ap type_of (mapped-none (λ p. aggregate_field fields by p.name p.aggregate) os k e)
+
+pub ruleset output_types = (type-output, type-no-output, type-group, type-no-group)

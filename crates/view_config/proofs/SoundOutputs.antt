@@ -1,0 +1,253 @@
+-- Outputs that were read keep their rules.
+use Rattle.std.proofs.Common.{◌≡◌, ℕ, zero, suc, ◌+◌, ◌<◌, ◌≤◌, List, [], ◌∷◌, length, map, refl, ap, sym, subst, ◌∙◌, arith, Ok}
+use Rattle.std.proofs.Common.{Err, Option, Some, None, Bool, true, false, inl, inr, slice_get}
+use Rattle.std.specs.Prelude.{All, codes, if◌then◌else◌, nat_le, ◌==◌, not, ◌&&◌}
+use Rattle.std.specs.Str.{bytes_eq, is_utf8}
+use Rattle.std.proofs.lemmas.Bool.{leb-true}
+use Rattle.std.proofs.lemmas.List.Elements.{All-nil, All-cons}
+use Rattle.std.proofs.lemmas.Option.{get_or_from_slice_get}
+use Rattle.toml.specs.Data.{Data, Items, no_items, item}
+use Rattle.values.specs.ColTypes.{IsSingle}
+use Rattle.values.specs.Limits.{max_fields}
+use Rattle.values.specs.Logical.{NamedType}
+use Rattle.values.specs.Reading.{◌>>=◌, cons, mapped, must, one}
+use Rattle.values.specs.Rose.{Rose, kids_of, roses_size}
+use Rattle.values.proofs.Readings.{both_Ok, mapped_Ok, must_Ok}
+use Rattle.values.specs.declared.col_type.ColType.{ColType}
+use Rattle.values.specs.declared.col_type.ColType.TheVariants as col
+use Rattle.view_lang.specs.ConfigRules.{AreOutputs, IsAddable, IsAggregate, IsColumn, IsGroupOutput, IsOrdered, IsOutput}
+use Rattle.view_lang.specs.ConfigRules.{IsText}
+use Rattle.view_lang.specs.Limits.{max_columns}
+use Rattle.view_lang.specs.Outputs.{GroupOutput, Output, Outputs, columns, groups}
+use Rattle.view_lang.specs.TableRules.{IsName, type_of}
+use Rattle.view_lang.specs.ViewColumns.{field_at, no_field, output_fields}
+use Rattle.view_lang.specs.declared.view.Aggregate.{Aggregate}
+use Rattle.view_lang.specs.declared.view.Aggregate.TheVariants as aggregate
+use Rattle.view_config.specs.Limits.{column_name, few_fields, max_sum_precision}
+use Rattle.view_config.specs.Outputs.{aggregate_by, can_be_summed, count_by, distinct_numbers, group_of, group_output_named}
+use Rattle.view_config.specs.Outputs.{group_output_of, grouping_column, key_of_group, output_limits, output_named}
+use Rattle.view_config.specs.Outputs.{output_of, outputs_in, outputs_of, place_of, shown_by, sole_ordered}
+use Rattle.view_config.specs.Outputs.{sole_reference, sum_of_column}
+use Rattle.view_config.specs.Reading.{Reading}
+use Rattle.view_config.specs.Scope.{Column, Scope, fields_of, ordered_reference, reference}
+use Rattle.view_config.specs.Tables.{few_columns}
+use Rattle.view_config.specs.Tree.{count_items, each_item, headed, items_in, sole}
+use Rattle.view_config.specs.declared.faults.ConfigFault.TheVariants as fault
+use Rattle.view_config.proofs.Found.{IsAt, column-there, reference-at, reference-ordered}
+use Rattle.view_config.proofs.Readings.{bound, items_all, test_Ok, test_Some}
+use Rattle.view_config.proofs.SoundFields.{headed-textual, name-sound}
+use Rattle.view_config.proofs.SoundTables.{columns-some, few-sound, items-length, items-textual}
+use Rattle.view_config.proofs.Texts.{AreTextual, IsTextual}
+
+-- the columns that rows are grouped by
+grouping-sound : (s : Scope) (d : Data) (n : ℕ) → grouping_column s d ≡ Ok n → IsOrdered (fields_of s) n
+unfolding grouping_column
+grouping-sound s d n e =
+    let read = mapped_Ok (λ (c : Column). c.0) (ordered_reference s d) n e in
+    subst (IsOrdered (fields_of s)) read.2 (reference-ordered s d read.0 read.1)
+
+pub group-sound : (s : Scope) (d : Data) (by : List ℕ) → group_of s d ≡ Ok by → All (IsOrdered (fields_of s)) by
+unfolding group_of
+group-sound s d by e =
+    bound (items_in d) _ by e (λ ds a e1.
+    bound (each_item (grouping_column s) ds) _ by e1 (λ ns b e2.
+    bound (distinct_numbers ns) _ by e2 (λ u c e3.
+    let same : ns ≡ by = cc in
+    subst (λ (ms : List ℕ). All (IsOrdered (fields_of s)) ms) same
+    (items_all (IsOrdered (fields_of s)) (grouping_column s) ds ns (grouping-sound s) b))))
+
+sole-at : (s : Scope) (ds : Items) (c : Column) → sole_reference s ds ≡ Ok c → IsAt (fields_of s) c
+sole-at s ds c e = bound (must fault.Shape (sole ds)) (reference s) c e (λ d a e1. reference-at s d c e1)
+
+sole-order : (s : Scope) (ds : Items) (c : Column) → sole_ordered s ds ≡ Ok c → IsOrdered (fields_of s) c.0
+sole-order s ds c e = bound (must fault.Shape (sole ds)) (ordered_reference s) c e (λ d a e1. reference-ordered s d c e1)
+
+-- a place that was found is there
+place-found : (i n : ℕ) (ns : List ℕ) (k : ℕ) → place_of i n ns ≡ Some k → k < i + length ns
+place-found i n [] k e = cc
+place-found i n (m ∷ ms) k e =
+    elim (test_Some (n == m) i k (place_of (i + 1) n ms) e)
+    [ inl a ↦ omega (arith, a) | inr b ↦ let r = place-found (i + 1) n ms k b in omega (arith, r) ]
+
+key-group :
+    (fields : List (Rose NamedType)) (by : List ℕ) (n : ℕ) (a : Aggregate) → key_of_group by n ≡ Ok a
+    → IsAggregate fields by a
+key-group fields by n a e =
+    let read = mapped_Ok aggregate.Key (must fault.UnknownName (place_of 0 n by)) a e in
+    let there = place-found 0 n by read.0 (must_Ok fault.UnknownName (place_of 0 n by) read.0 read.1) in
+    subst (IsAggregate fields by) read.2 (omega (arith, there))
+
+count-sound : (s : Scope) (by : List ℕ) (ds : Items) (a : Aggregate) → count_by s ds ≡ Ok a
+    → IsAggregate (fields_of s) by a
+count-sound s by ds a e = either (count_items ds == 0) e
+  where
+    either : (b : Bool)
+        → (if b then Ok aggregate.Count else mapped (λ c. aggregate.CountOf c.0) (sole_reference s ds)) ≡ Ok a
+        → IsAggregate (fields_of s) by a
+    either true e = let same : aggregate.Count ≡ a = cc in subst (IsAggregate (fields_of s) by) same tt
+    either false e =
+        let read = mapped_Ok (λ (c : Column). aggregate.CountOf c.0) (sole_reference s ds) a e in
+        subst (IsAggregate (fields_of s) by) read.2 (column-there (fields_of s) read.0 (sole-at s ds read.0 read.1))
+
+addable : (t : ColType) → can_be_summed t ≡ true → IsAddable t
+addable col.Bool h = cc
+addable (col.Int w s) h = tt
+addable (col.Decimal p s) h = leb-true p max_sum_precision h
+addable (col.Date u) h = cc
+addable (col.Time u) h = cc
+addable (col.Timestamp u z) h = cc
+addable (col.Duration u) h = cc
+addable (col.Utf8 o) h = cc
+addable (col.Binary o) h = cc
+addable (col.FixedSizeBinary w) h = cc
+addable (col.List o) h = cc
+addable col.Struct h = cc
+
+sum-sound : (fields : List (Rose NamedType)) (by : List ℕ) (c : Column) (a : Aggregate) → IsAt fields c
+    → sum_of_column c ≡ Ok a → IsAggregate fields by a
+sum-sound fields by c a at e =
+    let read = test_Ok (can_be_summed (type_of c.1)) (Ok (aggregate.Sum c.0)) _ a e in
+    let same : aggregate.Sum c.0 ≡ a = let q = read.1 in cc in
+    let here = get_or_from_slice_get fields c.0 c.1 no_field at in
+    subst (IsAggregate fields by) same (
+      column-there fields c at,
+      subst (λ (f : Rose NamedType). IsAddable (type_of f)) (sym here) (addable (type_of c.1) read.0),
+    )
+
+aggregate-by-sound :
+    (s : Scope) (by : List ℕ) (ds : Items) (a : Aggregate) (p q r t u : Bool)
+    → (if p then (sole_reference s ds >>= λ c. key_of_group by c.0)
+    else if q then count_by s ds
+    else if r then sole_reference s ds >>= sum_of_column
+    else if t then mapped (λ c. aggregate.Least c.0) (sole_ordered s ds)
+    else if u then mapped (λ c. aggregate.Greatest c.0) (sole_ordered s ds)
+    else Err (one fault.Shape)) ≡ Ok a
+    → IsAggregate (fields_of s) by a
+aggregate-by-sound s by ds a true q r t u e =
+    bound (sole_reference s ds) _ a e (λ c b e1. key-group (fields_of s) by c.0 a e1)
+aggregate-by-sound s by ds a false true r t u e = count-sound s by ds a e
+aggregate-by-sound s by ds a false false true t u e =
+    bound (sole_reference s ds) sum_of_column a e (λ c b e1. sum-sound (fields_of s) by c a (sole-at s ds c b) e1)
+aggregate-by-sound s by ds a false false false true u e =
+    let read = mapped_Ok (λ (c : Column). aggregate.Least c.0) (sole_ordered s ds) a e in
+    subst (IsAggregate (fields_of s) by) read.2 (sole-order s ds read.0 read.1)
+aggregate-by-sound s by ds a false false false false true e =
+    let read = mapped_Ok (λ (c : Column). aggregate.Greatest c.0) (sole_ordered s ds) a e in
+    subst (IsAggregate (fields_of s) by) read.2 (sole-order s ds read.0 read.1)
+aggregate-by-sound s by ds a false false false false false e = cc
+
+aggregate-sound : (s : Scope) (by w : List ℕ) (ds : Items) (a : Aggregate) → aggregate_by s by w ds ≡ Ok a
+    → IsAggregate (fields_of s) by a
+unfolding aggregate_by
+aggregate-sound s by w ds a e =
+    aggregate-by-sound s by ds a (bytes_eq w (codes "col")) (bytes_eq w (codes "count")) (bytes_eq w (codes "sum"))
+    (bytes_eq w (codes "least")) (bytes_eq w (codes "greatest")) e
+
+shown-sound : (s : Scope) (w : List ℕ) (ds : Items) (n : ℕ) → shown_by s w ds ≡ Ok n → IsColumn (fields_of s) n
+shown-sound s w ds n e =
+    let test = test_Ok (bytes_eq w (codes "col")) _ _ n e in
+    let read = mapped_Ok (λ (c : Column). c.0) (sole_reference s ds) n test.1 in
+    subst (IsColumn (fields_of s)) read.2 (column-there (fields_of s) read.0 (sole-at s ds read.0 read.1))
+
+-- a name that was read
+name-text : (n m : List ℕ) → column_name n ≡ Ok m → is_utf8 n ≡ true → IsText m
+name-text n m e t =
+    let given = test_Ok _ (Ok n) _ m e in
+    let same : n ≡ m = let q = given.1 in cc in
+    subst IsText same (name-sound n m e, t)
+
+output-sound : (s : Scope) (d : Data) (o : Output) → IsTextual d → output_of s d ≡ Ok o → IsOutput (fields_of s) o
+unfolding output_of
+output-sound s d o t e =
+    bound (items_in d) _ o e (λ ds a e1.
+    bound (must fault.Shape (headed ds)) _ o e1 (λ out b e2.
+    bound (must fault.Shape (headed out.1)) _ o e2 (λ word c e3.
+    bound (column_name out.0) _ o e3 (λ name n e4.
+    let texts = headed-textual ds out (must_Ok fault.Shape (headed ds) out b) (items-textual d ds a t) in
+    let made = mapped_Ok (output_named name) (shown_by s word.0 word.1) o e4 in
+    subst (IsOutput (fields_of s)) made.2
+    (name-text out.0 name n texts.0, shown-sound s word.0 word.1 made.0 made.1)))))
+
+group-output-sound :
+    (s : Scope) (by : List ℕ) (d : Data) (o : GroupOutput) → IsTextual d → group_output_of s by d ≡ Ok o
+    → IsGroupOutput (fields_of s) by o
+unfolding group_output_of
+group-output-sound s by d o t e =
+    bound (items_in d) _ o e (λ ds a e1.
+    bound (must fault.Shape (headed ds)) _ o e1 (λ out b e2.
+    bound (must fault.Shape (headed out.1)) _ o e2 (λ word c e3.
+    bound (column_name out.0) _ o e3 (λ name n e4.
+    let texts = headed-textual ds out (must_Ok fault.Shape (headed ds) out b) (items-textual d ds a t) in
+    let made = mapped_Ok (group_output_named name) (aggregate_by s by word.0 word.1) o e4 in
+    subst (IsGroupOutput (fields_of s) by) made.2
+    (name-text out.0 name n texts.0, aggregate-sound s by word.0 word.1 made.0 made.1)))))
+
+-- what holds of each thing that is read from texts so holds of all
+each-sound :
+    {X : Type 0} (P : X → Type 0) (f : Data → Reading X) (ds : Items) (xs : List X)
+    → ((d : Data) (x : X) → IsTextual d → f d ≡ Ok x → P x) → AreTextual ds → each_item f ds ≡ Ok xs → All P xs
+unfolding each_item
+each-sound P f no_items xs h t e = let k : [] ≡ xs = cc in subst (λ (zs : List _). All P zs) k (All-nil P)
+each-sound P f (item d ds) xs h t e =
+    let p = both_Ok cons (f d) (each_item f ds) xs e in
+    subst (λ (zs : List _). All P zs) p.4 (All-cons P p.0 p.1 (h d p.0 t.0 p.2) (each-sound P f ds p.1 h t.1 p.3))
+
+-- the grouping columns of a view that has them
+unfoldable pub AreGrouping : Scope → Option (List ℕ) → Type 0
+AreGrouping s None = Unit {0}
+AreGrouping s (Some by) = All (IsOrdered (fields_of s)) by
+
+-- as many outputs as items
+record AreShown (s : Scope) (n : ℕ) (os : Outputs) : Type 0 where
+  rules : AreOutputs (fields_of s) os
+  count : length (output_fields (fields_of s) os) ≡ n
+
+count-map : {X Y : Type 0} (f : X → Y) (xs : List X) → length (map f xs) ≡ length xs
+count-map f [] = refl
+count-map f (x ∷ xs) = ap suc (count-map f xs)
+
+in-sound :
+    (s : Scope) (g : Option (List ℕ)) (ds : Items) (os : Outputs) → AreGrouping s g → AreTextual ds
+    → outputs_in s g ds ≡ Ok os → AreShown s (count_items ds) os
+unfolding outputs_in AreGrouping
+in-sound s None ds os h t e =
+    let read = mapped_Ok columns (each_item (output_of s) ds) os e in
+    subst (AreShown s (count_items ds)) read.2 (record {
+      rules = each-sound (IsOutput (fields_of s)) (output_of s) ds read.0 (output-sound s) t read.1;
+      count = count-map _ read.0 ∙ items-length (output_of s) ds read.0 read.1;
+    })
+in-sound s (Some by) ds os h t e =
+    let read = mapped_Ok (groups by) (each_item (group_output_of s by) ds) os e in
+    subst (AreShown s (count_items ds)) read.2 (record {
+      rules = (
+        h,
+        each-sound (IsGroupOutput (fields_of s) by) (group_output_of s by) ds read.0 (group-output-sound s by) t read.1,
+      );
+      count = count-map _ read.0 ∙ items-length (group_output_of s by) ds read.0 read.1;
+    })
+
+pub record AreColumnsOf (s : Scope) (os : Outputs) : Type 0 where
+  pub rules : AreOutputs (fields_of s) os
+  pub some : 1 ≤ length (output_fields (fields_of s) os)
+  pub few : length (output_fields (fields_of s) os) ≤ max_columns
+  pub small : roses_size (kids_of (output_fields (fields_of s) os)) ≤ max_fields
+
+pub outputs-sound :
+    (s : Scope) (g : Option (List ℕ)) (d : Data) (os : Outputs) → AreGrouping s g → IsTextual d
+    → outputs_of s g d ≡ Ok os → AreColumnsOf s os
+unfolding outputs_of output_limits
+outputs-sound s g d os h t e =
+    bound (items_in d) _ os e (λ ds a e1.
+    bound (few_columns ds) _ os e1 (λ u b e2.
+    bound (outputs_in s g ds) _ os e2 (λ ps c e3.
+    bound (output_limits (fields_of s) ps) _ os e3 (λ v f e4.
+    bound (few_fields (output_fields (fields_of s) ps)) _ v f (λ x few f1.
+    let shown = in-sound s g ds ps h (items-textual d ds a t) c in
+    let count = columns-some ds u b in
+    let same : ps ≡ os = cc in
+    subst (AreColumnsOf s) same (record {
+      rules = shown.rules;
+      some = omega (arith, count.0, shown.count);
+      few = omega (arith, count.1, shown.count);
+      small = few-sound (output_fields (fields_of s) ps) x few;
+    }))))))

@@ -1,0 +1,11 @@
+use Rattle.std.proofs.Common.{◌≡◌, drop}
+use Rattle.toml.specs.View.{items_view}
+use Rattle.values.specs.Reading.{with_front}
+use Rattle.view_config.specs.Outputs.{output_of}
+use Rattle.view_config.specs.Tree.{each_item}
+use Rattle.view_config.proofs.outputs.read_each_output.Given as goal
+
+abbrev pub invariant-loop-value : goal.invariant-loop-value
+invariant-loop-value l =
+    with_front l.outputs.items (each_item (output_of l.scope) (items_view (drop l.value-index l.values)))
+    ≡ each_item (output_of l.scope) (items_view l.values)

@@ -1,0 +1,277 @@
+//! Constants of filters, each by the type of the column that it is compared with.
+
+ghost use Rattle.std.specs.Prelude.{◌≡◌, ◌<◌, ◌≤◌, ◌^◌, IfSome, length, min};
+ghost use Rattle.toml.specs.View.{view};
+ghost use Rattle.values.specs.Limits.{max_precision};
+ghost use Rattle.values.specs.Reading.{must};
+ghost use Rattle.view_config.specs.Constants.{and_then, binary_in, byte_of, bytes_in_pairs, constant_of, decimal};
+ghost use Rattle.view_config.specs.Constants.{decimal_in, fixed_in, greatest_of, held, held_after, least_of, magnitude};
+ghost use Rattle.view_config.specs.Constants.{nibble, pairs, pointed, some_digits, text_constant, truth_in, unscaled};
+ghost use Rattle.view_config.specs.Constants.{whole_in, within};
+ghost use Rattle.view_config.specs.Reading.{Answers};
+
+use crate::faults::ConfigFault;
+use std::alloc::Global;
+use toml::Value;
+use values::limits::MAX_PRECISION;
+use values::{ColType, IntWidth, Kind, Value as Constant};
+
+fn truth_in(value: &Value) -> Option<Constant>
+    ensures { result ≡ truth_in (view value.now) }
+{
+    match value {
+        Value::Boolean(truth) => Some(Constant {
+            kind: Kind::Bool(*truth),
+        }),
+        _ => None,
+    }
+}
+
+/// The least whole number of this width.
+fn least_of(width: IntWidth, signed: bool) -> i128
+    ensures { result ≡ least_of width signed }
+{
+    match (width, signed) {
+        (IntWidth::Bits8, true) => i128::from(i8::MIN),
+        (IntWidth::Bits16, true) => i128::from(i16::MIN),
+        (IntWidth::Bits32, true) => i128::from(i32::MIN),
+        (IntWidth::Bits64, true) => i128::from(i64::MIN),
+        (_, false) => 0,
+    }
+}
+
+/// The greatest whole number of this width.
+fn greatest_of(width: IntWidth, signed: bool) -> i128
+    ensures { result ≡ greatest_of width signed }
+{
+    match (width, signed) {
+        (IntWidth::Bits8, true) => i128::from(i8::MAX),
+        (IntWidth::Bits16, true) => i128::from(i16::MAX),
+        (IntWidth::Bits32, true) => i128::from(i32::MAX),
+        (IntWidth::Bits64, true) => i128::from(i64::MAX),
+        (IntWidth::Bits8, false) => i128::from(u8::MAX),
+        (IntWidth::Bits16, false) => i128::from(u16::MAX),
+        (IntWidth::Bits32, false) => i128::from(u32::MAX),
+        (IntWidth::Bits64, false) => i128::from(u64::MAX),
+    }
+}
+
+fn whole_in(width: IntWidth, signed: bool, value: &Value) -> Option<Constant>
+    ensures { result ≡ whole_in width signed (view value.now) }
+{
+    match value {
+        Value::Integer(number) => {
+            let number = i128::from(*number);
+            if least_of(width, signed) <= number && number <= greatest_of(width, signed) {
+                Some(Constant {
+                    kind: Kind::Int(number),
+                })
+            } else {
+                None
+            }
+        }
+        _ => None,
+    }
+}
+
+/// The number of these digits, which come after those of `start`. Above 128 bits it is the greatest that they hold.
+#[tactic(auto, using(crate::proofs::Digits::digits))]
+fn digits_after(start: u128, digits: &[u8]) -> Option<u128>
+    ensures { result ≡ held_after start digits.now }
+{
+    let mut number = start;
+    for digit in digits {
+        if !(b'0' <= *digit && *digit <= b'9') {
+            return None;
+        }
+        number = number
+            .saturating_mul(10)
+            .saturating_add(u128::from(*digit - b'0'));
+    }
+    Some(number)
+}
+
+#[tactic(auto, using(crate::proofs::Digits::numbers))]
+fn some_digits(digits: &[u8]) -> Option<u128>
+    ensures { result ≡ held (some_digits digits.now) }
+{
+    if digits.is_empty() {
+        return None;
+    }
+    digits_after(0, digits)
+}
+
+/// The number of the digits on both sides of a point that stands at this place.
+#[tactic(auto, using(crate::proofs::Digits::numbers), unfolding(crate::specs::Constants::pointed))]
+fn pointed(point: usize, text: &[u8]) -> Option<u128>
+    requires { point < length text.now }
+    ensures { result ≡ held (pointed point text.now) }
+{
+    if text[point] != b'.' {
+        return None;
+    }
+    digits_after(some_digits(&text[..point])?, &text[point + 1..])
+}
+
+/// The number of a text without a sign, with so many digits after the point.
+#[tactic(auto, using(crate::proofs::Digits::scales))]
+fn unscaled(scale: u8, text: &[u8]) -> Option<u128>
+    ensures { result ≡ held (unscaled scale text.now) }
+{
+    if scale == 0 {
+        return some_digits(text);
+    }
+    let behind = usize::from(scale) + 1;
+    if text.len() < behind {
+        return None;
+    }
+    pointed(text.len() - behind, text)
+}
+
+/// The least number that has more digits than a decimal of this precision.
+#[tactic(auto, using(crate::proofs::Digits::powers))]
+fn limit_of(precision: u8) -> u128
+    ensures value { result ≡ 10 ^ min precision max_precision }
+    ensures bound { result ≤ 10 ^ max_precision }
+{
+    10u128.pow(u32::from(precision.min(MAX_PRECISION)))
+}
+
+#[tactic(auto, using(crate::proofs::Digits::magnitudes))]
+fn magnitude(precision: u8, scale: u8, text: &[u8]) -> Option<u128>
+    ensures value { result ≡ magnitude precision scale text.now }
+    ensures bound { IfSome result (λ m. m < 10 ^ max_precision) }
+{
+    let number = unscaled(scale, text)?;
+    if number < limit_of(precision) {
+        Some(number)
+    } else {
+        None
+    }
+}
+
+#[tactic(auto, unfolding(crate::specs::Constants::decimal))]
+fn decimal(precision: u8, scale: u8, text: &[u8]) -> Option<Constant>
+    ensures { result ≡ decimal precision scale text.now }
+{
+    let (first, rest) = text.split_first()?;
+    let number = if *first == b'-' {
+        -(magnitude(precision, scale, rest)? as i128)
+    } else {
+        magnitude(precision, scale, text)? as i128
+    };
+    Some(Constant {
+        kind: Kind::Int(number),
+    })
+}
+
+fn decimal_in(precision: u8, scale: u8, value: &Value) -> Option<Constant>
+    ensures { result ≡ decimal_in precision scale (view value.now) }
+{
+    match value {
+        Value::String(text) => decimal(precision, scale, text.as_bytes()),
+        _ => None,
+    }
+}
+
+fn text_in(alloc: Global, value: &Value) -> Result<Constant, ConfigFault>
+    ensures { Answers (λ c. c) result (must ConfigFault.ConstantType (text_constant (view value.now))) }
+{
+    match value {
+        Value::String(text) => Ok(Constant {
+            kind: Kind::Utf8(String::from_str(alloc, text.as_str())?),
+        }),
+        _ => Err(ConfigFault::ConstantType),
+    }
+}
+
+/// The value of a hexadecimal digit in lower case.
+fn nibble(digit: u8) -> Option<u8>
+    ensures value { result ≡ nibble digit }
+    ensures bound { IfSome result (λ n. n < 16) }
+{
+    match digit {
+        b'0'..=b'9' => Some(digit - b'0'),
+        b'a'..=b'f' => Some(digit - b'a' + 10),
+        _ => None,
+    }
+}
+
+fn byte_of(high: u8, low: u8) -> Option<u8>
+    ensures { result ≡ byte_of high low }
+{
+    Some(16 * nibble(high)? + nibble(low)?)
+}
+
+/// The bytes that pairs of hexadecimal digits say.
+#[tactic(auto, using(crate::proofs::Pairs::paired))]
+fn pairs(alloc: Global, text: &[u8]) -> Result<Vec<u8>, ConfigFault>
+    ensures { Answers (λ b. b.items) result (must ConfigFault.ConstantType (pairs text.now)) }
+{
+    if text.len() % 2 != 0 {
+        return Err(ConfigFault::ConstantType);
+    }
+    let mut bytes = Vec::new(alloc);
+    for index in 0..text.len() / 2 {
+        let byte = byte_of(text[2 * index], text[2 * index + 1]);
+        bytes.push(byte.ok_or(ConfigFault::ConstantType)?)?;
+    }
+    Ok(bytes)
+}
+
+fn bytes_in(alloc: Global, value: &Value) -> Result<Vec<u8>, ConfigFault>
+    ensures { Answers (λ b. b.items) result (must ConfigFault.ConstantType (bytes_in_pairs (view value.now))) }
+{
+    match value {
+        Value::String(text) => pairs(alloc, text.as_bytes()),
+        _ => Err(ConfigFault::ConstantType),
+    }
+}
+
+#[tactic(auto, using(crate::proofs::Pairs::made))]
+fn binary_in(alloc: Global, value: &Value) -> Result<Constant, ConfigFault>
+    ensures { Answers (λ c. c) result (must ConfigFault.ConstantType (binary_in (view value.now))) }
+{
+    Ok(Constant {
+        kind: Kind::Binary(bytes_in(alloc, value)?),
+    })
+}
+
+#[tactic(auto, using(crate::proofs::Pairs::made))]
+fn fixed_in(alloc: Global, width: u32, value: &Value) -> Result<Constant, ConfigFault>
+    ensures { Answers (λ c. c) result (must ConfigFault.ConstantType (fixed_in width (view value.now))) }
+{
+    let bytes = bytes_in(alloc, value)?;
+    if bytes.len() != width as usize {
+        return Err(ConfigFault::ConstantType);
+    }
+    Ok(Constant {
+        kind: Kind::Binary(bytes),
+    })
+}
+
+/// The constant that a column of this type is compared with.
+#[tactic(auto, unfolding(crate::specs::Constants::constant_in))]
+pub(crate) fn read_constant(
+    alloc: Global,
+    col_type: &ColType,
+    value: &Value,
+) -> Result<Constant, ConfigFault>
+    ensures { Answers (λ c. c) result (constant_of col_type.now (view value.now)) }
+{
+    let constant = match col_type {
+        ColType::Bool => truth_in(value),
+        ColType::Int { width, signed } => whole_in(*width, *signed, value),
+        ColType::Decimal { precision, scale } => decimal_in(*precision, *scale, value),
+        ColType::Date { unit } => whole_in(unit.width(), true, value),
+        ColType::Time { unit } => whole_in(unit.width(), true, value),
+        ColType::Timestamp { .. } | ColType::Duration { .. } => {
+            whole_in(IntWidth::Bits64, true, value)
+        }
+        ColType::Utf8 { .. } => return text_in(alloc, value),
+        ColType::Binary { .. } => return binary_in(alloc, value),
+        ColType::FixedSizeBinary { width } => return fixed_in(alloc, *width, value),
+        ColType::List { .. } | ColType::Struct => None,
+    };
+    constant.ok_or(ConfigFault::ConstantType)
+}

@@ -1,0 +1,145 @@
+//! Which columns outputs are: how many fields they have, and whether their values have an order.
+
+ghost use Rattle.std.specs.Prelude.{◌≡◌, [], get_or};
+ghost use Rattle.values.specs.Reading.{Judges};
+ghost use Rattle.values.specs.Rose.{kids_of, rose_size, roses_size};
+ghost use Rattle.view_lang.specs.Outputs.{columns as columns_seen, groups as groups_seen};
+ghost use Rattle.view_lang.specs.OutputsSeen.{outputs_of as seen};
+ghost use Rattle.view_lang.specs.TableRules.{type_of};
+ghost use Rattle.view_lang.specs.ViewColumns.{aggregate_field, field_at, output_fields};
+ghost use Rattle.view_config.specs.Columns.{has_order};
+ghost use Rattle.view_config.specs.Limits.{IsRoomAfter, few_fields};
+ghost use Rattle.view_config.specs.Scope.{fields_of};
+
+use crate::columns::has_order;
+use crate::faults::ConfigFault;
+use crate::limits::room_after;
+use crate::scope::{Scope, column_at};
+use values::limits::MAX_FIELDS;
+use view_lang::{Aggregate, GroupOutput, Output, Outputs};
+
+/// The number at a place among grouping columns.
+fn grouped_at(by: &[usize], place: usize) -> usize
+    ensures { result ≡ get_or by.now place 0 }
+{
+    match by.get(place) {
+        Some(number) => *number,
+        None => 0,
+    }
+}
+
+/// What is left of `room` after the fields of a column; `None` where they are more.
+#[tactic(auto, using(crate::proofs::OutputFields::column_sizes))]
+fn room_after_column(scope: &Scope, number: usize, room: u32) -> Option<u32>
+    ensures { IsRoomAfter room (rose_size (field_at (fields_of scope.now) number)) result }
+{
+    match column_at(scope, number) {
+        Some(field) => room_after(field, room),
+        None => room.checked_sub(1),
+    }
+}
+
+/// What is left of `room` after the fields of these outputs, at all levels; `None` where they are more.
+#[tactic(auto, using(crate::proofs::OutputFields::output_sizes))]
+fn room_after_outputs(scope: &Scope, outputs: &[Output], room: u32) -> Option<u32>
+    ensures { IsRoomAfter room (roses_size (kids_of (output_fields (fields_of scope.now) (columns_seen outputs.now)))) result }
+{
+    let mut left = room;
+    for output in outputs {
+        left = room_after_column(scope, output.column, left)?;
+    }
+    Some(left)
+}
+
+/// The same of an output of groups by these columns.
+#[tactic(auto, using(crate::proofs::OutputFields::aggregate_sizes))]
+fn room_after_aggregate(
+    scope: &Scope,
+    by: &[usize],
+    aggregate: Aggregate,
+    room: u32,
+) -> Option<u32>
+    ensures { IsRoomAfter room (rose_size (aggregate_field (fields_of scope.now) by.now [] aggregate)) result }
+{
+    match aggregate {
+        Aggregate::Key(place) => {
+            room_after_column(scope, grouped_at(by, place), room)
+        }
+        Aggregate::Count | Aggregate::CountOf(_) | Aggregate::Sum(_) => room.checked_sub(1),
+        Aggregate::Least(number) | Aggregate::Greatest(number) => {
+            room_after_column(scope, number, room)
+        }
+    }
+}
+
+#[tactic(auto, using(crate::proofs::OutputFields::output_sizes))]
+fn room_after_group_outputs(
+    scope: &Scope,
+    by: &[usize],
+    outputs: &[GroupOutput],
+    room: u32,
+) -> Option<u32>
+    ensures { IsRoomAfter room (roses_size (kids_of (output_fields (fields_of scope.now) (groups_seen by.now outputs.now)))) result }
+{
+    let mut left = room;
+    for output in outputs {
+        left = room_after_aggregate(scope, by, output.aggregate, left)?;
+    }
+    Some(left)
+}
+
+/// Refuses outputs that have too many fields, at all levels.
+pub(crate) fn check_fields(scope: &Scope, outputs: &Outputs) -> Result<(), ConfigFault>
+    ensures { Judges (λ u. u) result (few_fields (output_fields (fields_of scope.now) (seen outputs.now))) }
+{
+    let left = match outputs {
+        Outputs::Columns(outputs) => room_after_outputs(scope, outputs, MAX_FIELDS),
+        Outputs::Groups { by, columns } => {
+            room_after_group_outputs(scope, by, columns, MAX_FIELDS)
+        }
+    };
+    match left {
+        Some(_) => Ok(()),
+        None => Err(ConfigFault::OverLimit),
+    }
+}
+
+/// Whether the values of a column have an order.
+#[tactic(auto, using(crate::proofs::OutputFields::column_sizes))]
+fn is_ordered(scope: &Scope, number: usize) -> bool
+    ensures { result ≡ has_order (type_of (field_at (fields_of scope.now) number)) }
+{
+    match column_at(scope, number) {
+        Some(field) => has_order(&field.col_type),
+        None => true,
+    }
+}
+
+/// Whether the values of an output of groups by these columns have an order.
+#[tactic(auto, using(crate::proofs::OutputFields::aggregate_types))]
+fn is_aggregate_ordered(scope: &Scope, by: &[usize], aggregate: Aggregate) -> bool
+    ensures { result ≡ has_order (type_of (aggregate_field (fields_of scope.now) by.now [] aggregate)) }
+{
+    match aggregate {
+        Aggregate::Key(place) => is_ordered(scope, grouped_at(by, place)),
+        Aggregate::Count | Aggregate::CountOf(_) | Aggregate::Sum(_) => true,
+        Aggregate::Least(number) | Aggregate::Greatest(number) => is_ordered(scope, number),
+    }
+}
+
+/// Whether the values of the output at this place have an order.
+#[tactic(auto, using(crate::proofs::OutputFields::output_types))]
+pub(crate) fn is_output_ordered(scope: &Scope, outputs: &Outputs, place: usize) -> bool
+    ensures { result ≡ has_order (type_of (field_at (output_fields (fields_of scope.now) (seen outputs.now)) place)) }
+{
+    match outputs {
+        Outputs::Columns(outputs) => match outputs.get(place) {
+            Some(output) => is_ordered(scope, output.column),
+            None => true,
+        },
+        Outputs::Groups { by, columns } => match columns.get(place) {
+            Some(output) => is_aggregate_ordered(scope, by, output.aggregate),
+            None => true,
+        },
+    }
+}
