@@ -1,5 +1,6 @@
 -- The digits of decimals.
-use Rattle.std.proofs.Common.{◌≡◌, ℕ, zero, suc, ◌+◌, ◌*◌, ◌-◌, ◌^◌, ◌<◌, ◌≤◌, Bool, true, false, List, [], ◌∷◌, Option, None}
+use Rattle.std.proofs.Common.{◌≡◌, ℕ, zero, suc, ◌+◌, ◌*◌, ◌-◌, ◌^◌, ◌<◌, ◌≤◌, Bool, true, false, List, [], ◌∷◌, Option}
+use Rattle.std.proofs.Common.{None}
 use Rattle.std.proofs.Common.{Some, length, drop, get_or, refl, sym, ap, subst, ◌∙◌, arith, min, take}
 use Rattle.std.specs.Prelude.{if◌then◌else◌, option_map, nat_lt, ◌==◌}
 use Rattle.std.proofs.lemmas.List.{drop_all, drop_more, take_all, length-drop}
@@ -59,7 +60,8 @@ unfolding pointed
 pointed-some point cs n h is e =
     let rest = drop (point + 1) cs in
     let count = length-drop (point + 1) cs in
-    let all : take (length cs - (point + 1)) rest ≡ rest = take_all (length cs - (point + 1)) rest (omega (arith, count)) in
+    let all : take (length cs - (point + 1)) rest ≡ rest =
+    take_all (length cs - (point + 1)) rest (omega (arith, count)) in
     let here : (get_or cs point 0 == 46) ≡ true = rw is refl in
     ap (held_after n) all ∙ held-both (some_digits (take point cs)) n rest e ∙ rw here refl
 

@@ -1,8 +1,10 @@
 -- The filters that a filter is made of, as loops count them.
-use Rattle.std.proofs.Common.{◌≡◌, ℕ, zero, suc, ◌+◌, ◌<◌, ◌≤◌, List, [], ◌∷◌, length, drop, get_or, refl, sym, ap, subst}
+use Rattle.std.proofs.Common.{◌≡◌, ℕ, zero, suc, ◌+◌, ◌<◌, ◌≤◌, List, [], ◌∷◌, length, drop, get_or, refl, sym, ap}
+use Rattle.std.proofs.Common.{subst}
 use Rattle.std.proofs.Common.{◌∙◌, arith}
 use Rattle.std.proofs.lemmas.List.{drop_all, drop_more}
-use Rattle.view_lang.specs.Filter.{Filter, all_of, compare, filter_size, negation, null_in, one_of, parts_of, parts_size}
+use Rattle.view_lang.specs.Filter.{Filter, all_of, compare, filter_size, negation, null_in, one_of, parts_of}
+use Rattle.view_lang.specs.Filter.{parts_size}
 
 -- there is a filter
 pub some_filter : (f : Filter) → 1 ≤ filter_size f
@@ -12,7 +14,8 @@ some_filter (negation f) = omega arith
 some_filter (all_of fs) = omega arith
 some_filter (one_of fs) = omega arith
 
-part-size : (fs : List Filter) (i : ℕ) (d : Filter) → i < length fs → filter_size (get_or fs i d) ≤ parts_size (parts_of fs)
+part-size : (fs : List Filter) (i : ℕ) (d : Filter) → i < length fs
+    → filter_size (get_or fs i d) ≤ parts_size (parts_of fs)
 part-size [] i d h = absurd (omega (arith, h))
 part-size (e ∷ fs) zero d h = omega arith
 part-size (e ∷ fs) (suc i) d h = let rest = part-size fs i d (omega (arith, h)) in omega (arith, rest)

@@ -1,5 +1,6 @@
 -- What is found by its name stands at its number.
-use Rattle.std.proofs.Common.{◌≡◌, inl, inr, ℕ, zero, suc, ◌+◌, ◌-◌, ◌<◌, ◌≤◌, List, [], ◌∷◌, ◌++◌, length, refl, ap, sym, subst}
+use Rattle.std.proofs.Common.{◌≡◌, inl, inr, ℕ, zero, suc, ◌+◌, ◌-◌, ◌<◌, ◌≤◌, List, [], ◌∷◌, ◌++◌, length, refl, ap}
+use Rattle.std.proofs.Common.{sym, subst}
 use Rattle.std.proofs.Common.{◌∙◌, arith, Ok, Err, Some, Bool, true, false, slice_get}
 use Rattle.std.specs.Prelude.{codes, if◌then◌else◌}
 use Rattle.std.specs.Str.{bytes_eq}
@@ -54,7 +55,8 @@ find_side-found i n (s ∷ ss) p e =
       | inr b ↦ let r = find_side-found (i + 1) n ss p b in (suc r.0, omega (arith, r.1), r.2)
     ]
 
-pub side-at : (ss : List SideTable) (n : List ℕ) (p : ℕ × SideTable) → side_called ss n ≡ Ok p → slice_get ss p.0 ≡ Some p.1
+pub side-at : (ss : List SideTable) (n : List ℕ) (p : ℕ × SideTable) → side_called ss n ≡ Ok p
+    → slice_get ss p.0 ≡ Some p.1
 side-at ss n p e =
     let found = find_side-found 0 n ss p (must_Ok fault.UnknownName (find_side 0 n ss) p e) in
     let place : found.0 ≡ p.0 = omega (arith, found.1) in
@@ -140,8 +142,7 @@ pub column-ordered :
     (fields : List (Rose NamedType)) (c : Column) → IsAt fields c → has_order (type_of c.1) ≡ true
     → IsOrdered fields c.0
 column-ordered fields c e h =
-    let here = get_or_from_slice_get fields c.0 c.1 no_field e in
-    (
+    let here = get_or_from_slice_get fields c.0 c.1 no_field e in (
       column-there fields c e,
       subst (λ (f : Rose NamedType). IsSingle (type_of f)) (sym here) (order-single (type_of c.1) h),
     )

@@ -1,5 +1,6 @@
 -- The fields of outputs: their sizes and their types.
-use Rattle.std.proofs.Common.{◌≡◌, ℕ, zero, suc, ◌+◌, ◌<◌, ◌≤◌, List, [], ◌∷◌, length, get_or, drop, map, refl, ap, sym, subst}
+use Rattle.std.proofs.Common.{◌≡◌, ℕ, zero, suc, ◌+◌, ◌<◌, ◌≤◌, List, [], ◌∷◌, length, get_or, drop, map, refl, ap, sym}
+use Rattle.std.proofs.Common.{subst}
 use Rattle.std.proofs.Common.{◌∙◌, arith, Some, None, true, slice_get}
 use Rattle.std.proofs.lemmas.List.{drop_all, drop_more, get_or-map}
 use Rattle.std.proofs.lemmas.Option.{get_or_from_slice_get}
@@ -9,7 +10,8 @@ use Rattle.values.specs.declared.col_type.ColType.{ColType}
 use Rattle.values.specs.declared.col_type.ColType.TheVariants as col
 use Rattle.view_lang.specs.Outputs.{GroupOutput, Output, columns, groups}
 use Rattle.view_lang.specs.TableRules.{type_of}
-use Rattle.view_lang.specs.ViewColumns.{aggregate_field, field_at, no_field, output_field, output_fields, renamed, sum_type}
+use Rattle.view_lang.specs.ViewColumns.{aggregate_field, field_at, no_field, output_field, output_fields, renamed}
+use Rattle.view_lang.specs.ViewColumns.{sum_type}
 use Rattle.view_lang.specs.declared.view.Aggregate.{Aggregate}
 use Rattle.view_lang.specs.declared.view.Aggregate.TheVariants as aggregate
 use Rattle.view_config.specs.Columns.{has_order, name_of}

@@ -1,5 +1,6 @@
 -- Outputs by their names.
-use Rattle.std.proofs.Common.{◌≡◌, ◌⊎◌, inl, inr, ℕ, zero, suc, ◌+◌, ◌-◌, ◌<◌, ◌≤◌, List, [], ◌∷◌, length, get_or, map, refl, ap}
+use Rattle.std.proofs.Common.{◌≡◌, ◌⊎◌, inl, inr, ℕ, zero, suc, ◌+◌, ◌-◌, ◌<◌, ◌≤◌, List, [], ◌∷◌, length, get_or, map}
+use Rattle.std.proofs.Common.{refl, ap}
 use Rattle.std.proofs.Common.{sym, subst, ◌∙◌, arith, Option, Some, None, Ok, Err, Bool, true, false}
 use Rattle.std.specs.Prelude.{if◌then◌else◌}
 use Rattle.std.specs.Str.{bytes_eq}
@@ -47,7 +48,9 @@ fields-names fields (columns os) = columns-names fields os
 fields-names fields (groups by os) = groups-names fields by os
 
 -- A column is found by its name where the name is.
-found-none : (i : ℕ) (n : List ℕ) (cs : List (Rose NamedType)) → find_name i n (map name_of cs) ≡ None → find i n cs ≡ None
+found-none :
+    (i : ℕ) (n : List ℕ) (cs : List (Rose NamedType)) → find_name i n (map name_of cs) ≡ None
+    → find i n cs ≡ None
 found-none i n [] e = refl
 found-none i n (c ∷ cs) e = other (bytes_eq (name_of c) n) e (found-none (i + 1) n cs)
   where

@@ -26,35 +26,44 @@ unfolding decimal_of timestamp_of simple_of list_of child_of struct_of array_of 
 types_on_literals = tt
 
 unfoldable tables_on_literals : ⊤
-unfolding each_item each_member column_of columns_of ordered_column table_of main_of side_of feed_of role_of role_by side_number
+unfolding each_item each_member column_of columns_of ordered_column table_of main_of
 tables_on_literals = tt
+
+unfoldable sides_on_literals : ⊤
+unfolding tables_on_literals side_of feed_of role_of role_by side_number lookup_of
+sides_on_literals = tt
 
 unfoldable constants_on_literals : ⊤
 unfolding constant_in decimal hexadecimal pointed unscaled
 constants_on_literals = tt
 
 unfoldable filters_on_literals : ⊤
-unfolding reference_in reference ordered_reference operand_of comparison_of null_of negation_of filter_by filter_with filter_of whole_filter
+unfolding constants_on_literals reference_in reference ordered_reference operand_of comparison_of null_of negation_of
+  filter_by filter_with filter_of whole_filter
 filters_on_literals = tt
 
 unfoldable views_on_literals : ⊤
-unfolding group_of grouping_column aggregate_by output_of group_output_of outputs_in output_limits outputs_of lookup_of order_by_of order_of view_in view_of config_of text_means
+unfolding group_of grouping_column aggregate_by output_of group_output_of outputs_in output_limits outputs_of
 views_on_literals = tt
 
+unfoldable all_on_literals : ⊤
+unfolding types_on_literals sides_on_literals filters_on_literals views_on_literals order_by_of order_of view_in view_of
+all_on_literals = tt
+
 pub sample-amounts : text_means amounts_text ≡ Ok amounts
-unfolding toml_on_literals types_on_literals tables_on_literals constants_on_literals filters_on_literals views_on_literals
+unfolding toml_on_literals all_on_literals config_of text_means
 sample-amounts = refl
 
 pub sample-pairs : text_means pairs_text ≡ Ok pairs
-unfolding toml_on_literals types_on_literals tables_on_literals constants_on_literals filters_on_literals views_on_literals
+unfolding toml_on_literals all_on_literals config_of text_means
 sample-pairs = refl
 
 pub sample-zones : text_means zones_text ≡ Ok zones
-unfolding toml_on_literals types_on_literals tables_on_literals constants_on_literals filters_on_literals views_on_literals
+unfolding toml_on_literals all_on_literals config_of text_means
 sample-zones = refl
 
 pub sample-faults : FaultsStand
-unfolding toml_on_literals types_on_literals tables_on_literals constants_on_literals filters_on_literals views_on_literals
+unfolding toml_on_literals all_on_literals config_of text_means
 sample-faults = record {
   not_toml = refl;
   unknown_key = refl;
@@ -117,7 +126,7 @@ sample-faults = record {
 }
 
 pub sample-limits : LimitsTaken
-unfolding toml_on_literals types_on_literals tables_on_literals constants_on_literals filters_on_literals views_on_literals
+unfolding toml_on_literals all_on_literals config_of text_means
 sample-limits = record {
   deep_filter = tt;
   many_parts = tt;
@@ -128,7 +137,7 @@ sample-limits = record {
 }
 
 pub sample-constants : ConstantsRead
-unfolding toml_on_literals types_on_literals tables_on_literals constants_on_literals filters_on_literals views_on_literals
+unfolding toml_on_literals all_on_literals config_of text_means
 sample-constants = record {
   leading_zeros = refl;
   negative = refl;

@@ -1,7 +1,8 @@
 -- A configuration that was read keeps its rules.
 use Rattle.std.proofs.Common.{◌≡◌, ℕ, suc, ◌<◌, ◌≤◌, Ok, Err, Bool, true, false, refl, ap, sym, subst, arith, ◌∙◌, map}
 use Rattle.std.proofs.Common.{String, Global}
-use Rattle.std.specs.Prelude.{All, IfOk, Result, codes, if◌then◌else◌, nat_lt, length, List, [], ◌∷◌, Option, None, Some}
+use Rattle.std.specs.Prelude.{All, IfOk, Result, codes, if◌then◌else◌, nat_lt, length, List, [], ◌∷◌, Option, None}
+use Rattle.std.specs.Prelude.{Some}
 use Rattle.std.specs.Str.{bytes_eq}
 use Rattle.std.proofs.lemmas.List.Elements.{All-nil, All-cons}
 use Rattle.std.proofs.lemmas.Option.{slice_get_within}
@@ -23,7 +24,8 @@ use Rattle.view_config.specs.Tree.{count_members, each_member, members_in, membe
 use Rattle.view_config.specs.Tables.{main_of, table_of}
 use Rattle.view_config.specs.Entries.{each_entry, entry_name, few_entries}
 use Rattle.view_config.specs.Sides.{side_called, side_named, side_of, sides_of}
-use Rattle.view_config.specs.Feeds.{feed_entries, feed_named, feed_of, feeds_of, role_by, role_of, side_number, sideless}
+use Rattle.view_config.specs.Feeds.{feed_entries, feed_named, feed_of, feeds_of, role_by, role_of, side_number}
+use Rattle.view_config.specs.Feeds.{sideless}
 use Rattle.view_config.specs.Views.{view_of, views_of}
 use Rattle.view_config.specs.Config.{config_by, config_entries, config_of}
 use Rattle.view_config.specs.declared.faults.ConfigFault.{ConfigFault}

@@ -1,5 +1,6 @@
 -- Outputs that were read keep their rules.
-use Rattle.std.proofs.Common.{◌≡◌, ℕ, zero, suc, ◌+◌, ◌<◌, ◌≤◌, List, [], ◌∷◌, length, map, refl, ap, sym, subst, ◌∙◌, arith, Ok}
+use Rattle.std.proofs.Common.{◌≡◌, ℕ, zero, suc, ◌+◌, ◌<◌, ◌≤◌, List, [], ◌∷◌, length, map, refl, ap, sym, subst, ◌∙◌}
+use Rattle.std.proofs.Common.{arith, Ok}
 use Rattle.std.proofs.Common.{Err, Option, Some, None, Bool, true, false, inl, inr, slice_get}
 use Rattle.std.specs.Prelude.{All, codes, if◌then◌else◌, nat_le, ◌==◌, not, ◌&&◌}
 use Rattle.std.specs.Str.{bytes_eq, is_utf8}
@@ -15,7 +16,8 @@ use Rattle.values.specs.Rose.{Rose, kids_of, roses_size}
 use Rattle.values.proofs.Readings.{both_Ok, mapped_Ok, must_Ok}
 use Rattle.values.specs.declared.col_type.ColType.{ColType}
 use Rattle.values.specs.declared.col_type.ColType.TheVariants as col
-use Rattle.view_lang.specs.ConfigRules.{AreOutputs, IsAddable, IsAggregate, IsColumn, IsGroupOutput, IsOrdered, IsOutput}
+use Rattle.view_lang.specs.ConfigRules.{AreOutputs, IsAddable, IsAggregate, IsColumn, IsGroupOutput, IsOrdered}
+use Rattle.view_lang.specs.ConfigRules.{IsOutput}
 use Rattle.view_lang.specs.ConfigRules.{IsText}
 use Rattle.view_lang.specs.Limits.{max_columns}
 use Rattle.view_lang.specs.Outputs.{GroupOutput, Output, Outputs, columns, groups}
@@ -24,7 +26,8 @@ use Rattle.view_lang.specs.ViewColumns.{field_at, no_field, output_fields}
 use Rattle.view_lang.specs.declared.view.Aggregate.{Aggregate}
 use Rattle.view_lang.specs.declared.view.Aggregate.TheVariants as aggregate
 use Rattle.view_config.specs.Limits.{column_name, few_fields, max_sum_precision}
-use Rattle.view_config.specs.Outputs.{aggregate_by, can_be_summed, count_by, distinct_numbers, group_of, group_output_named}
+use Rattle.view_config.specs.Outputs.{aggregate_by, can_be_summed, count_by, distinct_numbers, group_of}
+use Rattle.view_config.specs.Outputs.{group_output_named}
 use Rattle.view_config.specs.Outputs.{group_output_of, grouping_column, key_of_group, output_limits, output_named}
 use Rattle.view_config.specs.Outputs.{output_of, outputs_in, outputs_of, place_of, shown_by, sole_ordered}
 use Rattle.view_config.specs.Outputs.{sole_reference, sum_of_column}
@@ -60,7 +63,8 @@ sole-at : (s : Scope) (ds : Items) (c : Column) → sole_reference s ds ≡ Ok c
 sole-at s ds c e = bound (must fault.Shape (sole ds)) (reference s) c e (λ d a e1. reference-at s d c e1)
 
 sole-order : (s : Scope) (ds : Items) (c : Column) → sole_ordered s ds ≡ Ok c → IsOrdered (fields_of s) c.0
-sole-order s ds c e = bound (must fault.Shape (sole ds)) (ordered_reference s) c e (λ d a e1. reference-ordered s d c e1)
+sole-order s ds c e =
+    bound (must fault.Shape (sole ds)) (ordered_reference s) c e (λ d a e1. reference-ordered s d c e1)
 
 -- a place that was found is there
 place-found : (i n : ℕ) (ns : List ℕ) (k : ℕ) → place_of i n ns ≡ Some k → k < i + length ns

@@ -68,7 +68,8 @@ held_after m (c ∷ cs) = if is_digit c then held_after (min (10 * m + (c - 48))
 -- those on both sides of a point that stands at this place
 unfoldable pub pointed : ℕ → List ℕ → Option ℕ
 pointed point cs =
-    if get_or cs point 0 == 46 then and_then (some_digits (take point cs)) (λ m. digits_after m (drop (point + 1) cs)) else None
+    if get_or cs point 0 == 46 then and_then (some_digits (take point cs)) (λ m. digits_after m (drop (point + 1) cs))
+    else None
 
 -- without a sign, so many digits after the point
 unfoldable pub unscaled : ℕ → List ℕ → Option ℕ

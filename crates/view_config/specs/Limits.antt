@@ -1,5 +1,6 @@
 -- The limits of columns: of their names, of how many fields they have at all levels, and of what their slots weigh.
-use Rattle.std.specs.Prelude.{◌≡◌, ℕ, ◌+◌, ◌<◌, ◌^◌, nat_le, nat_lt, not, ◌&&◌, Bool, true, false, MatchOption, Option, Ok}
+use Rattle.std.specs.Prelude.{◌≡◌, ℕ, ◌+◌, ◌<◌, ◌^◌, nat_le, nat_lt, not, ◌&&◌, Bool, true, false, MatchOption, Option}
+use Rattle.std.specs.Prelude.{Ok}
 use Rattle.std.specs.Prelude.{Err, List, length, if◌then◌else◌, map}
 use Rattle.values.specs.Limits.{max_fields, max_slot}
 use Rattle.values.specs.Layouts.{slot, slots}
@@ -63,6 +64,10 @@ column_limits cs = do
   _ ← few_fields cs
   _ ← refused_if fault.OverLimit (not (are_within_slot (trees_of (kids_of cs))))
   distinct (map name_of cs)
+
+-- the fields of columns, at all levels
+abbrev pub size_of : List (Rose NamedType) → ℕ
+size_of fields = roses_size (kids_of fields)
 
 -- what is left of a room after n things; none where they are more
 abbrev pub IsRoomAfter : ℕ → ℕ → Option ℕ → Type 0

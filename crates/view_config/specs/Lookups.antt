@@ -22,7 +22,8 @@ use Rattle.view_config.specs.declared.faults.ConfigFault.TheVariants as fault
 
 abbrev pub missing_by : List ℕ → Option Missing
 missing_by w =
-    if bytes_eq w (codes "null") then Some missing.Null else if bytes_eq w (codes "drop") then Some missing.Drop else None
+    if bytes_eq w (codes "null") then Some missing.Null
+    else if bytes_eq w (codes "drop") then Some missing.Drop else None
 
 -- A column is compared with one of its own type.
 abbrev pub is_alike : ColType → Option (Rose NamedType) → Bool

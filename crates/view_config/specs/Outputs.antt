@@ -1,5 +1,6 @@
 -- The columns of views.
-use Rattle.std.specs.Prelude.{codes, ℕ, suc, ◌+◌, ◌==◌, nat_le, ◌||◌, Bool, true, false, Option, None, Some, Ok, Err, List}
+use Rattle.std.specs.Prelude.{codes, ℕ, suc, ◌+◌, ◌==◌, nat_le, ◌||◌, Bool, true, false, Option, None, Some, Ok, Err}
+use Rattle.std.specs.Prelude.{List}
 use Rattle.std.specs.Prelude.{[], ◌∷◌, if◌then◌else◌, map}
 use Rattle.std.specs.Str.{bytes_eq}
 use Rattle.toml.specs.Data.{Data, Items}
@@ -9,10 +10,12 @@ use Rattle.values.specs.Rose.{Rose}
 use Rattle.values.specs.declared.col_type.ColType.{ColType}
 use Rattle.values.specs.declared.col_type.ColType.TheVariants as col
 use Rattle.view_lang.specs.Outputs.{GroupOutput, Output, Outputs, columns, groups}
+use Rattle.view_lang.specs.OutputsSeen.{outputs_of as outputs_seen}
 use Rattle.view_lang.specs.TableRules.{type_of}
 use Rattle.view_lang.specs.ViewColumns.{output_fields}
 use Rattle.view_lang.specs.declared.view.Aggregate.{Aggregate}
 use Rattle.view_lang.specs.declared.view.Aggregate.TheVariants as aggregate
+use Rattle.view_lang.specs.declared.view.Outputs.{Outputs as Stored}
 use Rattle.view_config.specs.Limits.{column_name, distinct, few_fields, max_sum_precision}
 use Rattle.view_config.specs.Reading.{Reading}
 use Rattle.view_config.specs.Scope.{Column, Scope, fields_of, ordered_reference, reference}
@@ -115,6 +118,10 @@ outputs_in s (Some by) ds = mapped (groups by) (each_item (group_output_of s by)
 abbrev pub names_of : Outputs → List (List ℕ)
 names_of (columns outputs) = map (λ o. o.name) outputs
 names_of (groups by outputs) = map (λ o. o.name) outputs
+
+-- the columns that outputs of the program are
+abbrev pub shown_in : Scope → Stored → List (Rose NamedType)
+shown_in s os = output_fields (fields_of s) (outputs_seen os)
 
 -- Outputs have at most 1,024 fields at all levels, and no two have one name.
 unfoldable pub output_limits : List (Rose NamedType) → Outputs → Reading (Unit {0})

@@ -1,8 +1,12 @@
 -- The entries of a TOML document: of what kind they are, and which may be there.
 use Rattle.std.specs.Prelude.{ℕ, suc, Bool, true, false, ◌||◌, not, Option, None, Some, Ok, Err, List, [], ◌∷◌}
 use Rattle.std.specs.Prelude.{if◌then◌else◌}
+use Rattle.std.proofs.Common.{Bor}
+use Rattle.std.specs.Option.{option_map}
 use Rattle.std.specs.Str.{bytes_eq}
 use Rattle.toml.specs.Data.{Data, string, array, table, Items, no_items, item, Members, no_members, member, get_member}
+use Rattle.toml.specs.View.{view}
+use Rattle.toml.specs.declared.value.Value.{Value}
 use Rattle.values.specs.Reading.{both, cons, must, one, refused_if}
 use Rattle.view_config.specs.Reading.{Reading}
 use Rattle.view_config.specs.declared.faults.ConfigFault.TheVariants as fault
@@ -23,6 +27,10 @@ members_in d = Err (one fault.Shape)
 -- the value of an entry that must be there
 abbrev pub needed : List ℕ → Members → Reading Data
 needed key ms = must fault.Shape (get_member key ms)
+
+-- the data of a value of the program that may be absent
+abbrev pub data_of : Option (Bor Value) → Option Data
+data_of value = option_map (λ v. view v.now) value
 
 -- the table of an entry that may be absent, which is then empty
 abbrev pub members_or_none : Option Data → Reading Members

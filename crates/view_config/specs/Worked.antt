@@ -1,5 +1,6 @@
 -- Worked configurations: what each means, and texts with one fault each.
-use Rattle.std.specs.Prelude.{codes, ◌≡◌, ℕ, zero, suc, pos, neg_ℤ, ◌^◌, ◌-◌, true, false, Some, None, Err, List, [], ◌∷◌, ◌++◌}
+use Rattle.std.specs.Prelude.{codes, ◌≡◌, ℕ, zero, suc, pos, neg_ℤ, ◌^◌, ◌-◌, true, false, Some, None, Err, List, []}
+use Rattle.std.specs.Prelude.{◌∷◌, ◌++◌}
 use Rattle.toml.specs.Data.{integer, string}
 use Rattle.values.specs.Datum.{bytes, whole}
 use Rattle.values.specs.Limits.{max_main_rows}
@@ -107,7 +108,8 @@ zones_text = lines (
     ∷ codes "first = 2"
     ∷ codes "[view.sums]"
     ∷ codes "group = [\"grp\"]"
-    ∷ codes "columns = [[\"grp\", \"col\", \"grp\"], [\"n\", \"count\"], [\"s\", \"sum\", \"amt\"], [\"hi\", \"greatest\", \"amt\"]]"
+    ∷ codes "columns = [[\"grp\", \"col\", \"grp\"], [\"n\", \"count\"],"
+    ∷ codes "  [\"s\", \"sum\", \"amt\"], [\"hi\", \"greatest\", \"amt\"]]"
     ∷ codes "[view.zone]"
     ∷ codes "lookup = { side = \"zones\", on = \"grp\", missing = \"drop\" }"
     ∷ codes "group = [[\"side\", \"zone\"]]"
@@ -181,7 +183,8 @@ with_view outputs = with_lines (codes "[view.v]" ∷ (codes "columns = [" ++ (ou
 abbrev many : List (List ℕ) → List ℕ
 many ls =
     lines (codes "[main]" ∷ codes "key = \"id\""
-    ∷ codes "columns = [[\"id\", \"int64\"], [\"b\", \"int8\"], [\"d\", [\"decimal\", 6, 2]], [\"l\", [\"list\", \"utf8\"]], [\"w\", [\"decimal\", 29, 0]], [\"x\", \"utf8\"]]"
+    ∷ codes "columns = [[\"id\", \"int64\"], [\"b\", \"int8\"], [\"d\", [\"decimal\", 6, 2]],"
+    ∷ codes "  [\"l\", [\"list\", \"utf8\"]], [\"w\", [\"decimal\", 29, 0]], [\"x\", \"utf8\"]]"
     ∷ codes "[side.z]" ∷ codes "key = \"k\"" ∷ codes "columns = [[\"k\", \"utf8\"], [\"v\", \"int64\"]]"
     ∷ codes "[view.v]" ∷ ls)
 

@@ -8,9 +8,11 @@ use values::Cause;
 pub enum ConfigFault {
     /// The text isn't TOML.
     NotToml,
-    /// A name of a column isn't there.
+    /// A name of a column, a side table or an output isn't there, or a column isn't among those that rows are grouped
+    /// by.
     UnknownName,
-    /// A name stands twice among a table's columns, a struct's children or a view's outputs.
+    /// A name stands twice among a table's columns, a struct's children, a view's outputs or its order, or a column
+    /// among those that rows are grouped by.
     DuplicateColumn,
     /// What stands in a type's place is no type.
     TypeText,
@@ -18,9 +20,9 @@ pub enum ConfigFault {
     ConstantType,
     /// A sum over a type that has none.
     SumType,
-    /// A list or a struct where values must have an order, as those of a key.
+    /// A list or a struct where values must have an order, as those of a key, in a comparison, or in an order.
     OrderType,
-    /// A count, a depth, a slot or the length of a name is out of its limits.
+    /// A count, a depth, a slot, the length of a name or how many rows a view has is out of its limits.
     OverLimit,
     /// An entry is missing or unknown, or a value isn't of the form that its place wants.
     Shape,

@@ -1,7 +1,7 @@
 //! Filters.
 
 ghost use Rattle.std.specs.Prelude.{◌≡◌};
-ghost use Rattle.toml.specs.View.{items_view, view};
+ghost use Rattle.toml.specs.View.{items_view as items, view};
 ghost use Rattle.view_lang.specs.Filter.{filter_size, parts_of, parts_size};
 ghost use Rattle.view_config.specs.Filters.{comparison_by, comparison_of, filter_by, filter_of, filter_with};
 ghost use Rattle.view_config.specs.Filters.{filters_in, negation_of, null_of, operand_of, whole_filter};
@@ -70,7 +70,7 @@ fn read_comparison(
     comparison: Comparison,
     values: &[Value],
 ) -> Result<Filter, ConfigFault>
-    ensures { Answers (λ f. f) result (comparison_of scope.now comparison (items_view values.now)) }
+    ensures { Answers (λ f. f) result (comparison_of scope.now comparison (items values.now)) }
 {
     let (column, with) = pair(values).ok_or(ConfigFault::Shape)?;
     let (number, field) = ordered_reference(scope, column)?;
@@ -87,7 +87,7 @@ fn read_comparison(
 /// `["is_null", REF]`.
 #[tactic(auto, using(crate::proofs::Causes::causes), unfolding(crate::specs::Filters::null_of))]
 fn null_test(scope: &Scope, values: &[Value]) -> Result<Filter, ConfigFault>
-    ensures { Judges (λ f. f) result (null_of scope.now (items_view values.now)) }
+    ensures { Judges (λ f. f) result (null_of scope.now (items values.now)) }
 {
     let (number, _) = reference(scope, sole(values).ok_or(ConfigFault::Shape)?)?;
     Ok(Filter {
@@ -141,7 +141,7 @@ fn read_filter_by(
     values: &[Value],
     depth: u8,
 ) -> Result<Filter, ConfigFault>
-    ensures { Answers (λ f. f) result (filter_by scope.now (filter_of depth scope.now) word.now (items_view values.now)) }
+    ensures { Answers (λ f. f) result (filter_by scope.now (filter_of depth scope.now) word.now (items values.now)) }
 {
     if word == "not" {
         return read_negation(alloc, scope, values, depth);
@@ -168,7 +168,7 @@ fn read_negation(
     values: &[Value],
     depth: u8,
 ) -> Result<Filter, ConfigFault>
-    ensures { Answers (λ f. f) result (negation_of (filter_of depth scope.now) (items_view values.now)) }
+    ensures { Answers (λ f. f) result (negation_of (filter_of depth scope.now) (items values.now)) }
 {
     let value = sole(values).ok_or(ConfigFault::Shape)?;
     let part = read_filter(alloc, scope, value, depth)?;
@@ -186,7 +186,7 @@ fn read_parts(
     values: &[Value],
     depth: u8,
 ) -> Result<Vec<Filter>, ConfigFault>
-    ensures { Answers (λ fs. fs.items) result (filters_in (filter_of depth scope.now) (items_view values.now)) }
+    ensures { Answers (λ fs. fs.items) result (filters_in (filter_of depth scope.now) (items values.now)) }
 {
     if values.is_empty() {
         return Err(ConfigFault::Shape);
@@ -202,7 +202,7 @@ fn read_each_part(
     values: &[Value],
     depth: u8,
 ) -> Result<Vec<Filter>, ConfigFault>
-    ensures { Answers (λ fs. fs.items) result (each_item (filter_of depth scope.now) (items_view values.now)) }
+    ensures { Answers (λ fs. fs.items) result (each_item (filter_of depth scope.now) (items values.now)) }
 {
     let mut parts = Vec::new(alloc);
     for value in values {

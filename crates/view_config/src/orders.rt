@@ -1,16 +1,15 @@
 //! Orders: by which outputs the rows of a view are sorted, and how many of them it has.
 
-ghost use Rattle.std.specs.Prelude.{◌≡◌, IfOk, map, option_map};
-ghost use Rattle.toml.specs.View.{items_view, view};
+ghost use Rattle.std.specs.Prelude.{◌≡◌, IfOk, map};
+ghost use Rattle.toml.specs.View.{items_view as items, view};
 ghost use Rattle.values.specs.Reading.{Judges};
 ghost use Rattle.view_lang.specs.OutputsSeen.{outputs_of as seen};
-ghost use Rattle.view_lang.specs.ViewColumns.{output_fields};
-ghost use Rattle.view_config.specs.Outputs.{names_of};
+ghost use Rattle.view_config.specs.Outputs.{names_of, shown_in};
 ghost use Rattle.view_config.specs.Reading.{Answers};
-ghost use Rattle.view_config.specs.Scope.{fields_of};
 ghost use Rattle.view_config.specs.Tables.{key_of};
-ghost use Rattle.view_config.specs.Tree.{each_item};
-ghost use Rattle.view_config.specs.Views.{direction_by, first_of, numbers_of, order_by_of, order_in, order_of, perhaps};
+ghost use Rattle.view_config.specs.Tree.{data_of, each_item};
+ghost use Rattle.view_config.specs.Views.{direction_by, first_of, numbers_of, order_by_of as sorts, order_in, order_of};
+ghost use Rattle.view_config.specs.Views.{perhaps};
 
 use crate::faults::ConfigFault;
 use crate::groups::check_distinct_numbers;
@@ -45,7 +44,7 @@ fn sorting_column(
     name: &str,
 ) -> Result<usize, ConfigFault>
     requires { map (λ n. n.now) names.now ≡ names_of (seen outputs.now) }
-    ensures { Judges (λ n. n) result (key_of (output_fields (fields_of scope.now) (seen outputs.now)) name.now) }
+    ensures { Judges (λ n. n) result (key_of (shown_in scope.now outputs.now) name.now) }
 {
     let Some(place) = find_name(names, name) else {
         return Err(ConfigFault::UnknownName);
@@ -66,7 +65,7 @@ fn read_order_by(
     value: &Value,
 ) -> Result<OrderBy, ConfigFault>
     requires { map (λ n. n.now) names.now ≡ names_of (seen outputs.now) }
-    ensures { Judges (λ o. o) result (order_by_of (output_fields (fields_of scope.now) (seen outputs.now)) (view value.now)) }
+    ensures { Judges (λ o. o) result (sorts (shown_in scope.now outputs.now) (view value.now)) }
 {
     let (name, word) = pair_in(value).ok_or(ConfigFault::Shape)?;
     let name = name.as_str().ok_or(ConfigFault::Shape)?;
@@ -85,7 +84,7 @@ fn read_each_order_by(
     values: &[Value],
 ) -> Result<Vec<OrderBy>, ConfigFault>
     requires { map (λ n. n.now) names.now ≡ names_of (seen outputs.now) }
-    ensures { Answers (λ os. os.items) result (each_item (order_by_of (output_fields (fields_of scope.now) (seen outputs.now))) (items_view values.now)) }
+    ensures { Answers (λ os. os.items) result (each_item (sorts (shown_in scope.now outputs.now)) (items values.now)) }
 {
     let mut order = Vec::new(alloc);
     for value in values {
@@ -112,7 +111,7 @@ fn read_order(
     outputs: &Outputs,
     value: &Value,
 ) -> Result<Vec<OrderBy>, ConfigFault>
-    ensures { Answers (λ os. os.items) result (order_of (output_fields (fields_of scope.now) (seen outputs.now)) (view value.now)) }
+    ensures { Answers (λ os. os.items) result (order_of (shown_in scope.now outputs.now) (view value.now)) }
 {
     let values = items_in(value)?;
     let names = names_of(alloc, outputs)?;
@@ -128,7 +127,7 @@ pub(crate) fn read_order_at(
     outputs: &Outputs,
     value: Option<&Value>,
 ) -> Result<Vec<OrderBy>, ConfigFault>
-    ensures { Answers (λ os. os.items) result (order_in (output_fields (fields_of scope.now) (seen outputs.now)) (option_map (λ v. view v.now) value.entry)) }
+    ensures { Answers (λ os. os.items) result (order_in (shown_in scope.now outputs.now) (data_of value.entry)) }
 {
     match value {
         Some(value) => read_order(alloc, scope, outputs, value),
@@ -154,7 +153,7 @@ fn first_of(value: &Value) -> Result<usize, ConfigFault>
 /// How many rows a view has at most, if it says so.
 #[tactic(auto, using(crate::proofs::Causes::causes))]
 pub(crate) fn read_first(value: Option<&Value>) -> Result<Option<usize>, ConfigFault>
-    ensures { Judges (λ n. n) result (perhaps first_of (option_map (λ v. view v.now) value.entry)) }
+    ensures { Judges (λ n. n) result (perhaps first_of (data_of value.entry)) }
 {
     match value {
         Some(value) => Ok(Some(first_of(value)?)),

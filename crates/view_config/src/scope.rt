@@ -42,19 +42,13 @@ pub(crate) fn column_at<'a>(scope: &Scope<'a>, number: usize) -> Option<&'a Logi
     }
 }
 
-fn main_column<'a>(
-    scope: &Scope<'a>,
-    name: &str,
-) -> Result<(usize, &'a LogicalField), ConfigFault>
+fn main_column<'a>(scope: &Scope<'a>, name: &str) -> Result<(usize, &'a LogicalField), ConfigFault>
     ensures { Judges (λ c. (c.0, c.1.now)) result (main_column scope.now name.now) }
 {
     find(scope.main, name).ok_or(ConfigFault::UnknownName)
 }
 
-fn side_column<'a>(
-    scope: &Scope<'a>,
-    name: &str,
-) -> Result<(usize, &'a LogicalField), ConfigFault>
+fn side_column<'a>(scope: &Scope<'a>, name: &str) -> Result<(usize, &'a LogicalField), ConfigFault>
     ensures { Judges (λ c. (c.0, c.1.now)) result (side_column scope.now name.now) }
 {
     let (number, column) = find(scope.side, name).ok_or(ConfigFault::UnknownName)?;

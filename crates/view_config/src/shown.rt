@@ -2,13 +2,13 @@
 
 ghost use Rattle.std.specs.Prelude.{◌≡◌, [], get_or};
 ghost use Rattle.values.specs.Reading.{Judges};
-ghost use Rattle.values.specs.Rose.{kids_of, rose_size, roses_size};
+ghost use Rattle.values.specs.Rose.{rose_size};
 ghost use Rattle.view_lang.specs.Outputs.{columns as columns_seen, groups as groups_seen};
-ghost use Rattle.view_lang.specs.OutputsSeen.{outputs_of as seen};
 ghost use Rattle.view_lang.specs.TableRules.{type_of};
 ghost use Rattle.view_lang.specs.ViewColumns.{aggregate_field, field_at, output_fields};
 ghost use Rattle.view_config.specs.Columns.{has_order};
-ghost use Rattle.view_config.specs.Limits.{IsRoomAfter, few_fields};
+ghost use Rattle.view_config.specs.Limits.{IsRoomAfter, few_fields, size_of};
+ghost use Rattle.view_config.specs.Outputs.{shown_in};
 ghost use Rattle.view_config.specs.Scope.{fields_of};
 
 use crate::columns::has_order;
@@ -42,7 +42,7 @@ fn room_after_column(scope: &Scope, number: usize, room: u32) -> Option<u32>
 /// What is left of `room` after the fields of these outputs, at all levels; `None` where they are more.
 #[tactic(auto, using(crate::proofs::OutputFields::output_sizes))]
 fn room_after_outputs(scope: &Scope, outputs: &[Output], room: u32) -> Option<u32>
-    ensures { IsRoomAfter room (roses_size (kids_of (output_fields (fields_of scope.now) (columns_seen outputs.now)))) result }
+    ensures { IsRoomAfter room (size_of (output_fields (fields_of scope.now) (columns_seen outputs.now))) result }
 {
     let mut left = room;
     for output in outputs {
@@ -53,18 +53,11 @@ fn room_after_outputs(scope: &Scope, outputs: &[Output], room: u32) -> Option<u3
 
 /// The same of an output of groups by these columns.
 #[tactic(auto, using(crate::proofs::OutputFields::aggregate_sizes))]
-fn room_after_aggregate(
-    scope: &Scope,
-    by: &[usize],
-    aggregate: Aggregate,
-    room: u32,
-) -> Option<u32>
+fn room_after_aggregate(scope: &Scope, by: &[usize], aggregate: Aggregate, room: u32) -> Option<u32>
     ensures { IsRoomAfter room (rose_size (aggregate_field (fields_of scope.now) by.now [] aggregate)) result }
 {
     match aggregate {
-        Aggregate::Key(place) => {
-            room_after_column(scope, grouped_at(by, place), room)
-        }
+        Aggregate::Key(place) => { room_after_column(scope, grouped_at(by, place), room) }
         Aggregate::Count | Aggregate::CountOf(_) | Aggregate::Sum(_) => room.checked_sub(1),
         Aggregate::Least(number) | Aggregate::Greatest(number) => {
             room_after_column(scope, number, room)
@@ -79,7 +72,7 @@ fn room_after_group_outputs(
     outputs: &[GroupOutput],
     room: u32,
 ) -> Option<u32>
-    ensures { IsRoomAfter room (roses_size (kids_of (output_fields (fields_of scope.now) (groups_seen by.now outputs.now)))) result }
+    ensures { IsRoomAfter room (size_of (output_fields (fields_of scope.now) (groups_seen by.now outputs.now))) result }
 {
     let mut left = room;
     for output in outputs {
@@ -90,7 +83,7 @@ fn room_after_group_outputs(
 
 /// Refuses outputs that have too many fields, at all levels.
 pub(crate) fn check_fields(scope: &Scope, outputs: &Outputs) -> Result<(), ConfigFault>
-    ensures { Judges (λ u. u) result (few_fields (output_fields (fields_of scope.now) (seen outputs.now))) }
+    ensures { Judges (λ u. u) result (few_fields (shown_in scope.now outputs.now)) }
 {
     let left = match outputs {
         Outputs::Columns(outputs) => room_after_outputs(scope, outputs, MAX_FIELDS),
@@ -130,7 +123,7 @@ fn is_aggregate_ordered(scope: &Scope, by: &[usize], aggregate: Aggregate) -> bo
 /// Whether the values of the output at this place have an order.
 #[tactic(auto, using(crate::proofs::OutputFields::output_types))]
 pub(crate) fn is_output_ordered(scope: &Scope, outputs: &Outputs, place: usize) -> bool
-    ensures { result ≡ has_order (type_of (field_at (output_fields (fields_of scope.now) (seen outputs.now)) place)) }
+    ensures { result ≡ has_order (type_of (field_at (shown_in scope.now outputs.now) place)) }
 {
     match outputs {
         Outputs::Columns(outputs) => match outputs.get(place) {

@@ -91,17 +91,35 @@ fn fault_of_view(alloc: Global, lines: &str) -> Result<Option<ConfigFault>, Allo
 #[test]
 fn refuses_wrong_views(rt: HostRuntime) -> Result<(), Fail> {
     let plain = "columns = [[\"a\", \"col\", \"id\"], [\"a\", \"col\", \"x\"]]\n";
-    assert_eq!(rt; fault_of_view(rt.alloc(), plain)?, Some(ConfigFault::DuplicateColumn));
+    assert_eq!(rt;
+        fault_of_view(rt.alloc(), plain)?,
+        Some(ConfigFault::DuplicateColumn)
+    );
     let unknown = "columns = [[\"a\", \"col\", [\"side\", \"id\"]]]\n";
-    assert_eq!(rt; fault_of_view(rt.alloc(), unknown)?, Some(ConfigFault::UnknownName));
+    assert_eq!(rt;
+        fault_of_view(rt.alloc(), unknown)?,
+        Some(ConfigFault::UnknownName)
+    );
     let above = "filter = [\"lt\", \"id\", 128]\ncolumns = [[\"a\", \"col\", \"id\"]]\n";
-    assert_eq!(rt; fault_of_view(rt.alloc(), above)?, Some(ConfigFault::ConstantType));
+    assert_eq!(rt;
+        fault_of_view(rt.alloc(), above)?,
+        Some(ConfigFault::ConstantType)
+    );
     let text = "group = []\ncolumns = [[\"s\", \"sum\", \"x\"]]\n";
-    assert_eq!(rt; fault_of_view(rt.alloc(), text)?, Some(ConfigFault::SumType));
+    assert_eq!(rt;
+        fault_of_view(rt.alloc(), text)?,
+        Some(ConfigFault::SumType)
+    );
     let list = "group = [\"l\"]\ncolumns = [[\"n\", \"count\"]]\n";
-    assert_eq!(rt; fault_of_view(rt.alloc(), list)?, Some(ConfigFault::OrderType));
+    assert_eq!(rt;
+        fault_of_view(rt.alloc(), list)?,
+        Some(ConfigFault::OrderType)
+    );
     let first = "first = 16777217\ncolumns = [[\"a\", \"col\", \"id\"]]\n";
-    assert_eq!(rt; fault_of_view(rt.alloc(), first)?, Some(ConfigFault::OverLimit));
+    assert_eq!(rt;
+        fault_of_view(rt.alloc(), first)?,
+        Some(ConfigFault::OverLimit)
+    );
     Ok(())
 }
 
@@ -131,9 +149,15 @@ fn refuses_long_texts(rt: HostRuntime) -> Result<(), Fail> {
 
 #[test]
 fn refuses_many_tests(rt: HostRuntime) -> Result<(), Fail> {
-    let mut text = String::from_str(rt.alloc(), "columns = [[\"a\", \"col\", \"id\"]]\nfilter = [\"or\", ")?;
+    let mut text = String::from_str(
+        rt.alloc(),
+        "columns = [[\"a\", \"col\", \"id\"]]\nfilter = [\"or\", ",
+    )?;
     text.push_str(repeated(rt.alloc(), "[\"is_null\", \"x\"], ", 14)?.as_str())?;
     text.push_str("[\"is_null\", \"x\"]]\n")?;
-    assert_eq!(rt; fault_of_view(rt.alloc(), text.as_str())?, Some(ConfigFault::OverLimit));
+    assert_eq!(rt;
+        fault_of_view(rt.alloc(), text.as_str())?,
+        Some(ConfigFault::OverLimit)
+    );
     Ok(())
 }

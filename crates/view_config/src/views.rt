@@ -4,10 +4,10 @@ ghost use Rattle.std.specs.Prelude.{◌≡◌, option_map};
 ghost use Rattle.toml.specs.View.{table_view, view};
 ghost use Rattle.values.specs.Reading.{Judges};
 ghost use Rattle.view_config.specs.Filters.{whole_filter};
-ghost use Rattle.view_config.specs.Lookups.{lookup_of};
+ghost use Rattle.view_config.specs.Lookups.{lookup_of as reads};
 ghost use Rattle.view_config.specs.Outputs.{group_of};
 ghost use Rattle.view_config.specs.Reading.{Answers};
-ghost use Rattle.view_config.specs.Tree.{each_member};
+ghost use Rattle.view_config.specs.Tree.{data_of as data, each_member};
 ghost use Rattle.view_config.specs.Views.{perhaps, view_in, view_of, views_of};
 
 use crate::entries::{check_entry_name, check_few_entries};
@@ -30,7 +30,7 @@ fn read_lookup_at<'a>(
     sides: &'a [SideTable],
     value: Option<&Value>,
 ) -> Result<Option<(Lookup, &'a SideTable)>, ConfigFault>
-    ensures { Judges (option_map (λ l. (l.0, l.1.now))) result (perhaps (lookup_of main.now sides.now) (option_map (λ v. view v.now) value.entry)) }
+    ensures { Judges (option_map (λ l. (l.0, l.1.now))) result (perhaps (reads main.now sides.now) (data value.entry)) }
 {
     match value {
         Some(value) => Ok(Some(read_lookup(main, sides, value)?)),
@@ -44,7 +44,7 @@ fn read_filter_at(
     scope: &Scope,
     value: Option<&Value>,
 ) -> Result<Option<Filter>, ConfigFault>
-    ensures { Answers (λ f. f) result (perhaps (whole_filter scope.now) (option_map (λ v. view v.now) value.entry)) }
+    ensures { Answers (λ f. f) result (perhaps (whole_filter scope.now) (data value.entry)) }
 {
     match value {
         Some(value) => Ok(Some(read_whole_filter(alloc, scope, value)?)),
@@ -58,7 +58,7 @@ fn read_group_at(
     scope: &Scope,
     value: Option<&Value>,
 ) -> Result<Option<Vec<usize>>, ConfigFault>
-    ensures { Answers (option_map (λ by. by.items)) result (perhaps (group_of scope.now) (option_map (λ v. view v.now) value.entry)) }
+    ensures { Answers (option_map (λ by. by.items)) result (perhaps (group_of scope.now) (data value.entry)) }
 {
     match value {
         Some(value) => Ok(Some(read_group(alloc, scope, value)?)),
@@ -103,7 +103,10 @@ fn read_view(
     ensures { Answers (λ v. v) result (view_of main.now sides.now name.now (view value.now)) }
 {
     let entries = members_in(value)?;
-    check_names(entries, &["lookup", "filter", "group", "columns", "order", "first"])?;
+    check_names(
+        entries,
+        &["lookup", "filter", "group", "columns", "order", "first"],
+    )?;
     let name = check_entry_name(name)?;
     match read_lookup_at(main, sides, entry_at(entries, "lookup"))? {
         Some((lookup, side)) => {
