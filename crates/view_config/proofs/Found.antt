@@ -1,5 +1,5 @@
 -- What is found by its name stands at its number.
-use Rattle.std.proofs.Common.{◌≡◌, inl, inr, ℕ, zero, suc, ◌+◌, ◌-◌, ◌<◌, ◌≤◌, List, [], ◌∷◌, ◌++◌, length, refl, ap}
+use Rattle.std.proofs.Common.{◌≡◌, inl, inr, ℕ, suc, ◌+◌, ◌-◌, List, [], ◌∷◌, ◌++◌, length, ap}
 use Rattle.std.proofs.Common.{sym, subst}
 use Rattle.std.proofs.Common.{◌∙◌, arith, Ok, Err, Some, Bool, true, false, slice_get}
 use Rattle.std.specs.Prelude.{codes, if◌then◌else◌}
@@ -7,7 +7,7 @@ use Rattle.std.specs.Str.{bytes_eq}
 use Rattle.std.proofs.lemmas.Option.{get_or_from_slice_get, slice_get_within}
 use Rattle.toml.specs.Data.{as_str, Data, string, integer, float, boolean, datetime, array, table, Items}
 use Rattle.values.specs.ColTypes.{IsSingle}
-use Rattle.values.specs.Reading.{◌>>=◌, must, one}
+use Rattle.values.specs.Reading.{must, one}
 use Rattle.values.proofs.Readings.{mapped_Ok, must_Ok}
 use Rattle.values.specs.Rose.{Rose}
 use Rattle.values.specs.Logical.{NamedType}
@@ -18,9 +18,8 @@ use Rattle.view_lang.specs.ConfigRules.{IsColumn, IsOrdered}
 use Rattle.view_lang.specs.TableRules.{type_of}
 use Rattle.view_lang.specs.ViewColumns.{no_field}
 use Rattle.view_config.specs.Columns.{find, has_order, name_of, ordered}
-use Rattle.view_config.specs.Reading.{Reading}
 use Rattle.view_config.specs.Scope.{Column, Scope, behind, fields_of, main_column, ordered_reference, reference}
-use Rattle.view_config.specs.Scope.{reference_by, reference_in, side_column}
+use Rattle.view_config.specs.Scope.{reference_in, side_column}
 use Rattle.view_config.specs.Sides.{find_side, side_called}
 use Rattle.view_config.specs.Tree.{pair}
 use Rattle.view_config.specs.declared.faults.ConfigFault.TheVariants as fault

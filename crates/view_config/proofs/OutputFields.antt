@@ -1,8 +1,7 @@
 -- The fields of outputs: their sizes and their types.
 use Rattle.std.proofs.Common.{◌≡◌, ℕ, zero, suc, ◌+◌, ◌<◌, ◌≤◌, List, [], ◌∷◌, length, get_or, drop, map, refl, ap, sym}
-use Rattle.std.proofs.Common.{subst}
-use Rattle.std.proofs.Common.{◌∙◌, arith, Some, None, true, slice_get}
-use Rattle.std.proofs.lemmas.List.{drop_all, drop_more, get_or-map}
+use Rattle.std.proofs.Common.{◌∙◌, Some, None, true, slice_get}
+use Rattle.std.proofs.lemmas.List.{drop_all, drop_more}
 use Rattle.std.proofs.lemmas.Option.{get_or_from_slice_get}
 use Rattle.values.specs.Rose.{Rose, node, kids_of, rose_size, roses_size}
 use Rattle.values.specs.Logical.{NamedType}

@@ -1,11 +1,11 @@
 -- Outputs by their names.
-use Rattle.std.proofs.Common.{◌≡◌, ◌⊎◌, inl, inr, ℕ, zero, suc, ◌+◌, ◌-◌, ◌<◌, ◌≤◌, List, [], ◌∷◌, length, get_or, map}
+use Rattle.std.proofs.Common.{◌≡◌, ℕ, suc, ◌+◌, ◌-◌, ◌≤◌, List, [], ◌∷◌, get_or, map}
 use Rattle.std.proofs.Common.{refl, ap}
-use Rattle.std.proofs.Common.{sym, subst, ◌∙◌, arith, Option, Some, None, Ok, Err, Bool, true, false}
+use Rattle.std.proofs.Common.{sym, subst, ◌∙◌, arith, Some, None, Ok, Err, Bool, true, false}
 use Rattle.std.specs.Prelude.{if◌then◌else◌}
 use Rattle.std.specs.Str.{bytes_eq}
 use Rattle.values.specs.Logical.{NamedType}
-use Rattle.values.specs.Reading.{must, one}
+use Rattle.values.specs.Reading.{one}
 use Rattle.values.specs.Rose.{Rose}
 use Rattle.view_lang.specs.Outputs.{GroupOutput, Output, Outputs, columns, groups}
 use Rattle.view_lang.specs.TableRules.{type_of}
@@ -14,7 +14,6 @@ use Rattle.view_lang.specs.declared.view.Aggregate.{Aggregate}
 use Rattle.view_lang.specs.declared.view.Aggregate.TheVariants as aggregate
 use Rattle.view_config.specs.Columns.{find, find_name, has_order, name_of}
 use Rattle.view_config.specs.Outputs.{names_of}
-use Rattle.view_config.specs.Reading.{Reading}
 use Rattle.view_config.specs.Tables.{key_of, ordered_column}
 use Rattle.view_config.specs.declared.faults.ConfigFault.TheVariants as fault
 use Rattle.view_config.proofs.OutputFields.{renamed-name}

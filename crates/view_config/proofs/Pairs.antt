@@ -1,11 +1,11 @@
 -- Pairs of hexadecimal digits.
-use Rattle.std.proofs.Common.{◌≡◌, ℕ, suc, ◌+◌, ◌*◌, ◌%◌, ◌<◌, ◌≤◌, List, [], ◌∷◌, ◌++◌, Option, None, Some, Ok, length}
+use Rattle.std.proofs.Common.{◌≡◌, ℕ, ◌+◌, ◌*◌, ◌%◌, ◌<◌, ◌≤◌, List, [], ◌∷◌, ◌++◌, Option, None, Some, Ok, length}
 use Rattle.std.proofs.Common.{get_or, drop, refl, ap, sym, subst, ◌∙◌, arith, append_assoc, append-nil}
 use Rattle.std.specs.Prelude.{◌≢◌, option_map}
 use Rattle.std.proofs.lemmas.List.{drop_all, drop_more}
 use Rattle.values.specs.Reading.{must, Stands}
 use Rattle.view_config.specs.Constants.{and_then, byte_of, pairs}
-use Rattle.view_config.specs.Reading.{Fails, Reading}
+use Rattle.view_config.specs.Reading.{Fails}
 use Rattle.view_config.specs.declared.faults.ConfigFault.{ConfigFault}
 use Rattle.view_config.proofs.Causes.{fails_along}
 

@@ -39,7 +39,7 @@ constants_on_literals = tt
 
 unfoldable filters_on_literals : ⊤
 unfolding constants_on_literals reference_in reference ordered_reference operand_of comparison_of null_of negation_of
-  filter_by filter_with filter_of whole_filter
+    filter_by filter_with filter_of whole_filter
 filters_on_literals = tt
 
 unfoldable views_on_literals : ⊤

@@ -9,10 +9,9 @@ use Rattle.std.proofs.lemmas.Option.{slice_get_within}
 use Rattle.toml.specs.Data.{Data, Members, no_members, member, get_member}
 use Rattle.toml.specs.View.{members_view}
 use Rattle.toml.specs.declared.value.Value.{Value}
-use Rattle.values.specs.Limits.{max_main_rows}
 use Rattle.values.specs.Reading.{◌>>=◌, cons, mapped, one}
 use Rattle.values.proofs.Readings.{both_Ok, mapped_Ok}
-use Rattle.view_lang.specs.Config.{Config, FeedConfig, SideTable, Table, View}
+use Rattle.view_lang.specs.Config.{Config, FeedConfig, SideTable, Table}
 use Rattle.view_lang.specs.ConfigRules.{IsConfig, IsFeed, IsView}
 use Rattle.view_lang.specs.Edits.{table_of as table_number}
 use Rattle.view_lang.specs.Limits.{max_feeds, max_side_rows, max_sides, max_views}

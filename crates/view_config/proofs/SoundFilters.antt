@@ -1,12 +1,10 @@
 -- A filter that was read keeps its rules.
-use Rattle.std.proofs.Common.{◌≡◌, ℕ, zero, suc, List, [], ◌∷◌, ap, subst, Ok, Err, Bool, true, false}
+use Rattle.std.proofs.Common.{◌≡◌, ℕ, zero, suc, List, [], subst, Ok, Bool, true, false}
 use Rattle.std.specs.Prelude.{codes, if◌then◌else◌, nat_lt}
 use Rattle.std.specs.Str.{bytes_eq}
 use Rattle.toml.specs.Data.{Data, string, integer, float, boolean, datetime, array, table, Items, no_items, item}
-use Rattle.values.specs.Reading.{◌>>=◌, cons, mapped, must, one, refused_if}
+use Rattle.values.specs.Reading.{◌>>=◌, cons, mapped, must, refused_if}
 use Rattle.values.proofs.Readings.{both_Ok, mapped_Ok}
-use Rattle.values.specs.Rose.{Rose}
-use Rattle.values.specs.Logical.{NamedType}
 use Rattle.values.specs.declared.col_type.ColType.{ColType}
 use Rattle.values.specs.contracts.col_type.ColTypePartialEq.TheImpl as equality
 use Rattle.view_lang.specs.ConfigRules.{AreFilters, IsFilter, IsOperand}

@@ -1,14 +1,13 @@
 -- Outputs that were read keep their rules.
-use Rattle.std.proofs.Common.{◌≡◌, ℕ, zero, suc, ◌+◌, ◌<◌, ◌≤◌, List, [], ◌∷◌, length, map, refl, ap, sym, subst, ◌∙◌}
+use Rattle.std.proofs.Common.{◌≡◌, ℕ, suc, ◌+◌, ◌<◌, ◌≤◌, List, [], ◌∷◌, length, map, refl, ap, sym, subst, ◌∙◌}
 use Rattle.std.proofs.Common.{arith, Ok}
-use Rattle.std.proofs.Common.{Err, Option, Some, None, Bool, true, false, inl, inr, slice_get}
-use Rattle.std.specs.Prelude.{All, codes, if◌then◌else◌, nat_le, ◌==◌, not, ◌&&◌}
+use Rattle.std.proofs.Common.{Err, Option, Some, None, Bool, true, false, inl, inr}
+use Rattle.std.specs.Prelude.{All, codes, if◌then◌else◌, ◌==◌}
 use Rattle.std.specs.Str.{bytes_eq, is_utf8}
 use Rattle.std.proofs.lemmas.Bool.{leb-true}
 use Rattle.std.proofs.lemmas.List.Elements.{All-nil, All-cons}
 use Rattle.std.proofs.lemmas.Option.{get_or_from_slice_get}
 use Rattle.toml.specs.Data.{Data, Items, no_items, item}
-use Rattle.values.specs.ColTypes.{IsSingle}
 use Rattle.values.specs.Limits.{max_fields}
 use Rattle.values.specs.Logical.{NamedType}
 use Rattle.values.specs.Reading.{◌>>=◌, cons, mapped, must, one}
@@ -21,8 +20,8 @@ use Rattle.view_lang.specs.ConfigRules.{IsOutput}
 use Rattle.view_lang.specs.ConfigRules.{IsText}
 use Rattle.view_lang.specs.Limits.{max_columns}
 use Rattle.view_lang.specs.Outputs.{GroupOutput, Output, Outputs, columns, groups}
-use Rattle.view_lang.specs.TableRules.{IsName, type_of}
-use Rattle.view_lang.specs.ViewColumns.{field_at, no_field, output_fields}
+use Rattle.view_lang.specs.TableRules.{type_of}
+use Rattle.view_lang.specs.ViewColumns.{no_field, output_fields}
 use Rattle.view_lang.specs.declared.view.Aggregate.{Aggregate}
 use Rattle.view_lang.specs.declared.view.Aggregate.TheVariants as aggregate
 use Rattle.view_config.specs.Limits.{column_name, few_fields, max_sum_precision}

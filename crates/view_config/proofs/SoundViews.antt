@@ -1,23 +1,22 @@
 -- A view that was read keeps its rules.
-use Rattle.std.proofs.Common.{◌≡◌, ℕ, zero, suc, ◌<◌, ◌≤◌, List, [], ◌∷◌, ◌++◌, length, map, refl, ap, sym, subst, ◌∙◌}
+use Rattle.std.proofs.Common.{◌≡◌, ℕ, suc, ◌≤◌, List, [], ◌∷◌, ◌++◌, length, map, refl, ap, sym, subst, ◌∙◌}
 use Rattle.std.proofs.Common.{arith, Ok}
-use Rattle.std.proofs.Common.{Option, Some, None, get_or, slice_get, append-nil}
+use Rattle.std.proofs.Common.{Option, Some, None, slice_get, append-nil}
 use Rattle.std.specs.Prelude.{All, codes, not}
 use Rattle.std.specs.Option.{option_map}
 use Rattle.std.proofs.lemmas.Option.{get_or_from_slice_get, slice_get_within, slice_get-map}
 use Rattle.toml.specs.Data.{as_str, Data, Members, get_member}
 use Rattle.values.specs.Limits.{max_fields}
 use Rattle.values.specs.Logical.{NamedType}
-use Rattle.values.specs.Reading.{◌>>=◌, mapped, must, refused_if}
+use Rattle.values.specs.Reading.{◌>>=◌, must, refused_if}
 use Rattle.values.specs.Rose.{Rose, kids_of, roses_size}
 use Rattle.values.proofs.Readings.{mapped_Ok, must_Ok}
 use Rattle.view_lang.specs.Config.{SideTable, Table, View}
 use Rattle.view_lang.specs.ConfigRules.{AreOutputs, IsFilterOf, IsLookup, IsOrdered, IsView}
 use Rattle.view_lang.specs.Limits.{max_columns}
 use Rattle.view_lang.specs.Filter.{Filter}
-use Rattle.view_lang.specs.Outputs.{Outputs}
 use Rattle.view_lang.specs.TableRules.{type_of}
-use Rattle.view_lang.specs.ViewColumns.{joined_columns, output_fields, view_columns}
+use Rattle.view_lang.specs.ViewColumns.{joined_columns, output_fields}
 use Rattle.view_lang.specs.World.{no_table, table_at}
 use Rattle.view_lang.specs.declared.view.Lookup.{Lookup}
 use Rattle.view_lang.specs.declared.view.OrderBy.{OrderBy}
@@ -26,7 +25,6 @@ use Rattle.view_config.specs.Entries.{entry_name}
 use Rattle.view_config.specs.Filters.{whole_filter}
 use Rattle.view_config.specs.Lookups.{Looked, has_key_of, looked_up, lookup_entries, lookup_of, missing_by}
 use Rattle.view_config.specs.Outputs.{distinct_numbers, group_of, outputs_of}
-use Rattle.view_config.specs.Reading.{Reading}
 use Rattle.view_config.specs.Scope.{Column, Scope, fields_of}
 use Rattle.view_config.specs.Sides.{side_called}
 use Rattle.view_config.specs.Tables.{key_of, ordered_column}
@@ -37,7 +35,7 @@ use Rattle.view_config.specs.declared.faults.ConfigFault.TheVariants as fault
 use Rattle.view_config.proofs.Found.{found-at, ordered-column, side-at}
 use Rattle.view_config.proofs.Readings.{bound, items_all}
 use Rattle.view_config.proofs.SoundFilters.{whole-sound}
-use Rattle.view_config.proofs.SoundOutputs.{AreColumnsOf, AreGrouping, group-sound, outputs-sound}
+use Rattle.view_config.proofs.SoundOutputs.{AreGrouping, group-sound, outputs-sound}
 use Rattle.view_config.proofs.SoundTables.{members-textual, needed-textual}
 use Rattle.view_config.proofs.Texts.{HasTextual, IsTextual}
 

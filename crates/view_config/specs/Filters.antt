@@ -1,5 +1,5 @@
 -- Filters.
-use Rattle.std.specs.Prelude.{codes, ℕ, zero, suc, nat_lt, Option, None, Some, Ok, Err, List, [], ◌∷◌, if◌then◌else◌}
+use Rattle.std.specs.Prelude.{codes, ℕ, zero, suc, nat_lt, Option, None, Some, Ok, Err, List, if◌then◌else◌}
 use Rattle.std.specs.Str.{bytes_eq}
 use Rattle.toml.specs.Data.{Data, array, Items, no_items}
 use Rattle.values.specs.Reading.{◌>>=◌, mapped, must, one, refused_if}

@@ -14,7 +14,6 @@ use Rattle.view_lang.specs.declared.view.Lookup.{Lookup}
 use Rattle.view_lang.specs.declared.view.Missing.{Missing}
 use Rattle.view_lang.specs.declared.view.Missing.TheVariants as missing
 use Rattle.view_config.specs.Reading.{Reading}
-use Rattle.view_config.specs.Scope.{Column}
 use Rattle.view_config.specs.Sides.{side_called}
 use Rattle.view_config.specs.Tables.{ordered_column}
 use Rattle.view_config.specs.Tree.{members_in, needed, only, text_in}

@@ -1,25 +1,20 @@
 -- Views.
-use Rattle.std.specs.Prelude.{codes, ℕ, ℤ, pos, nat_abs, int_le, ◌&&◌, not, Bool, false, Option, None, Some, Ok, Err}
+use Rattle.std.specs.Prelude.{codes, ℕ, ℤ, pos, nat_abs, int_le, ◌&&◌, Option, None, Some, Ok, Err}
 use Rattle.std.specs.Prelude.{List}
-use Rattle.std.specs.Prelude.{[], ◌∷◌, if◌then◌else◌, map, slice_get}
+use Rattle.std.specs.Prelude.{[], ◌∷◌, if◌then◌else◌, map}
 use Rattle.std.specs.Str.{bytes_eq}
 use Rattle.toml.specs.Data.{as_str, Data, integer, Members, get_member}
 use Rattle.values.specs.Logical.{NamedType}
-use Rattle.values.specs.Reading.{◌>>=◌, mapped, must, one, refused_if}
+use Rattle.values.specs.Reading.{◌>>=◌, mapped, must, one}
 use Rattle.values.specs.Rose.{Rose}
-use Rattle.values.specs.declared.col_type.ColType.{ColType}
-use Rattle.values.specs.contracts.col_type.ColTypePartialEq.TheImpl as equality
 use Rattle.view_lang.specs.Config.{SideTable, Table, View}
 use Rattle.view_lang.specs.Filter.{Filter}
 use Rattle.view_lang.specs.Limits.{max_views}
 use Rattle.view_lang.specs.Outputs.{Outputs}
-use Rattle.view_lang.specs.TableRules.{type_of}
 use Rattle.view_lang.specs.ViewColumns.{output_fields}
 use Rattle.view_lang.specs.declared.view.Direction.{Direction}
 use Rattle.view_lang.specs.declared.view.Direction.TheVariants as direction
 use Rattle.view_lang.specs.declared.view.Lookup.{Lookup}
-use Rattle.view_lang.specs.declared.view.Missing.{Missing}
-use Rattle.view_lang.specs.declared.view.Missing.TheVariants as missing
 use Rattle.view_lang.specs.declared.view.OrderBy.{OrderBy}
 use Rattle.view_config.specs.Entries.{each_entry, entry_name}
 use Rattle.view_config.specs.Filters.{whole_filter}

@@ -7,7 +7,7 @@ ghost use Rattle.view_config.specs.Filters.{whole_filter};
 ghost use Rattle.view_config.specs.Lookups.{lookup_of as reads};
 ghost use Rattle.view_config.specs.Outputs.{group_of};
 ghost use Rattle.view_config.specs.Reading.{Answers};
-ghost use Rattle.view_config.specs.Tree.{data_of as data, each_member};
+ghost use Rattle.view_config.specs.Tree.{data_of as told, each_member};
 ghost use Rattle.view_config.specs.Views.{perhaps, view_in, view_of, views_of};
 
 use crate::entries::{check_entry_name, check_few_entries};
@@ -30,7 +30,7 @@ fn read_lookup_at<'a>(
     sides: &'a [SideTable],
     value: Option<&Value>,
 ) -> Result<Option<(Lookup, &'a SideTable)>, ConfigFault>
-    ensures { Judges (option_map (λ l. (l.0, l.1.now))) result (perhaps (reads main.now sides.now) (data value.entry)) }
+    ensures { Judges (option_map (λ l. (l.0, l.1.now))) result (perhaps (reads main.now sides.now) (told value.entry)) }
 {
     match value {
         Some(value) => Ok(Some(read_lookup(main, sides, value)?)),
@@ -44,7 +44,7 @@ fn read_filter_at(
     scope: &Scope,
     value: Option<&Value>,
 ) -> Result<Option<Filter>, ConfigFault>
-    ensures { Answers (λ f. f) result (perhaps (whole_filter scope.now) (data value.entry)) }
+    ensures { Answers (λ f. f) result (perhaps (whole_filter scope.now) (told value.entry)) }
 {
     match value {
         Some(value) => Ok(Some(read_whole_filter(alloc, scope, value)?)),
@@ -58,7 +58,7 @@ fn read_group_at(
     scope: &Scope,
     value: Option<&Value>,
 ) -> Result<Option<Vec<usize>>, ConfigFault>
-    ensures { Answers (option_map (λ by. by.items)) result (perhaps (group_of scope.now) (data value.entry)) }
+    ensures { Answers (option_map (λ by. by.items)) result (perhaps (group_of scope.now) (told value.entry)) }
 {
     match value {
         Some(value) => Ok(Some(read_group(alloc, scope, value)?)),

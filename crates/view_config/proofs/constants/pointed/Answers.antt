@@ -1,4 +1,4 @@
-use Rattle.std.proofs.Common.{◌≡◌, refl, sym, ◌∙◌, arith}
+use Rattle.std.proofs.Common.{sym, ◌∙◌, arith}
 use Rattle.view_config.proofs.Digits.{pointed-some}
 use Rattle.view_config.proofs.constants.pointed.Goals as goal
 
