@@ -144,19 +144,23 @@ fn read_filter_by(
     ensures { Answers (λ f. f) result (filter_by scope.now (filter_of depth scope.now) word.now (items values.now)) }
 {
     if word == "not" {
-        return read_negation(alloc, scope, values, depth);
-    }
-    let test = if word == "and" {
-        Test::And(read_parts(alloc, scope, values, depth)?)
+        read_negation(alloc, scope, values, depth)
+    } else if word == "and" {
+        let parts = read_parts(alloc, scope, values, depth)?;
+        Ok(Filter {
+            test: Test::And(parts),
+        })
     } else if word == "or" {
-        Test::Or(read_parts(alloc, scope, values, depth)?)
+        let parts = read_parts(alloc, scope, values, depth)?;
+        Ok(Filter {
+            test: Test::Or(parts),
+        })
     } else if word == "is_null" {
-        return null_test(scope, values);
+        null_test(scope, values)
     } else {
         let comparison = comparison_by(word).ok_or(ConfigFault::Shape)?;
-        return read_comparison(alloc, scope, comparison, values);
-    };
-    Ok(Filter { test })
+        read_comparison(alloc, scope, comparison, values)
+    }
 }
 
 /// `["not", F]`.
