@@ -1,12 +1,11 @@
 -- The digits of decimals.
 use Rattle.std.proofs.Common.{◌≡◌, ℕ, zero, suc, ◌+◌, ◌*◌, ◌-◌, ◌^◌, ◌<◌, ◌≤◌, Bool, true, false, List, [], ◌∷◌, Option}
-use Rattle.std.proofs.Common.{None}
-use Rattle.std.proofs.Common.{Some, length, drop, get_or, refl, ap, subst, ◌∙◌, arith, min, take}
+use Rattle.std.proofs.Common.{None, Some, length, drop, get_or, refl, ap, subst, ◌∙◌, arith, min, take}
 use Rattle.std.specs.Prelude.{if◌then◌else◌, nat_lt, ◌==◌}
 use Rattle.std.proofs.lemmas.List.{drop_all, drop_more, take_all, length-drop}
 use Rattle.values.specs.Limits.{max_precision}
-use Rattle.view_config.specs.Constants.{and_then, digits_after, greatest_held, held, held_after, is_digit}
-use Rattle.view_config.specs.Constants.{pointed, some_digits, unscaled, within}
+use Rattle.view_config.specs.Constants.{and_then, digits_after, greatest_held, held, held_after, is_digit, pointed}
+use Rattle.view_config.specs.Constants.{some_digits, unscaled, within}
 
 pub digits-step :
     (m : ℕ) (cs : List ℕ) (i d : ℕ) → i < length cs

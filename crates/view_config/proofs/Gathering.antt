@@ -1,7 +1,7 @@
 -- Loops that gather: what was read, and what is left to read, are the whole. Items are left from a number on, and those
 -- entries that the iterator still gives.
-use Rattle.std.proofs.Common.{◌≡◌, ℕ, ◌+◌, ◌<◌, ◌≤◌, List, [], ◌∷◌, ◌++◌, String, Global, string_bytes, length}
-use Rattle.std.proofs.Common.{get_or, drop, refl, ap, sym, subst, ◌∙◌, append_assoc, append-nil, Ok, Err}
+use Rattle.std.proofs.Common.{◌≡◌, ℕ, ◌+◌, ◌<◌, ◌≤◌, List, [], ◌∷◌, ◌++◌, String, Global, string_bytes, length, get_or}
+use Rattle.std.proofs.Common.{drop, refl, ap, sym, subst, ◌∙◌, append_assoc, append-nil, Ok, Err}
 use Rattle.std.proofs.lemmas.List.{drop_all, drop_more}
 use Rattle.toml.specs.Data.{Data}
 use Rattle.toml.specs.View.{view, items_view, members_view}

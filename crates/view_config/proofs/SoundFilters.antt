@@ -15,8 +15,8 @@ use Rattle.view_lang.specs.declared.filter.Operand.{Operand}
 use Rattle.view_lang.specs.declared.filter.Operand.TheVariants as operand
 use Rattle.view_config.specs.Constants.{constant_of}
 use Rattle.view_config.specs.Filters.{alike, comparison_by, comparison_of, conjunction, disjunction, filter_by}
-use Rattle.view_config.specs.Filters.{filter_of}
-use Rattle.view_config.specs.Filters.{filter_with, filters_in, negation_of, null_of, operand_of, whole_filter}
+use Rattle.view_config.specs.Filters.{filter_of, filter_with, filters_in, negation_of, null_of, operand_of}
+use Rattle.view_config.specs.Filters.{whole_filter}
 use Rattle.view_config.specs.Limits.{max_filter_depth, max_filter_parts}
 use Rattle.view_config.specs.Reading.{Reading}
 use Rattle.view_config.specs.Scope.{Column, Scope, fields_of, ordered_reference, reference}

@@ -1,7 +1,6 @@
 -- Outputs that were read keep their rules.
-use Rattle.std.proofs.Common.{◌≡◌, ℕ, suc, ◌+◌, ◌<◌, ◌≤◌, List, [], ◌∷◌, length, map, refl, ap, sym, subst, ◌∙◌}
-use Rattle.std.proofs.Common.{arith, Ok}
-use Rattle.std.proofs.Common.{Err, Option, Some, None, Bool, true, false, inl, inr}
+use Rattle.std.proofs.Common.{◌≡◌, ℕ, suc, ◌+◌, ◌<◌, ◌≤◌, List, [], ◌∷◌, length, map, refl, ap, sym, subst, ◌∙◌, arith}
+use Rattle.std.proofs.Common.{Ok, Err, Option, Some, None, Bool, true, false, inl, inr}
 use Rattle.std.specs.Prelude.{All, codes, if◌then◌else◌, ◌==◌}
 use Rattle.std.specs.Str.{bytes_eq, is_utf8}
 use Rattle.std.proofs.lemmas.Bool.{leb-true}
@@ -16,8 +15,7 @@ use Rattle.values.proofs.Readings.{both_Ok, mapped_Ok, must_Ok}
 use Rattle.values.specs.declared.col_type.ColType.{ColType}
 use Rattle.values.specs.declared.col_type.ColType.TheVariants as col
 use Rattle.view_lang.specs.ConfigRules.{AreOutputs, IsAddable, IsAggregate, IsColumn, IsGroupOutput, IsOrdered}
-use Rattle.view_lang.specs.ConfigRules.{IsOutput}
-use Rattle.view_lang.specs.ConfigRules.{IsText}
+use Rattle.view_lang.specs.ConfigRules.{IsOutput, IsText}
 use Rattle.view_lang.specs.Limits.{max_columns}
 use Rattle.view_lang.specs.Outputs.{GroupOutput, Output, Outputs, columns, groups}
 use Rattle.view_lang.specs.TableRules.{type_of}
@@ -26,9 +24,8 @@ use Rattle.view_lang.specs.declared.view.Aggregate.{Aggregate}
 use Rattle.view_lang.specs.declared.view.Aggregate.TheVariants as aggregate
 use Rattle.view_config.specs.Limits.{column_name, few_fields, max_sum_precision}
 use Rattle.view_config.specs.Outputs.{aggregate_by, can_be_summed, count_by, distinct_numbers, group_of}
-use Rattle.view_config.specs.Outputs.{group_output_named}
-use Rattle.view_config.specs.Outputs.{group_output_of, grouping_column, key_of_group, output_limits, output_named}
-use Rattle.view_config.specs.Outputs.{output_of, outputs_in, outputs_of, place_of, shown_by, sole_ordered}
+use Rattle.view_config.specs.Outputs.{group_output_named, group_output_of, grouping_column, key_of_group, output_limits}
+use Rattle.view_config.specs.Outputs.{output_named, output_of, outputs_in, outputs_of, place_of, shown_by, sole_ordered}
 use Rattle.view_config.specs.Outputs.{sole_reference, sum_of_column}
 use Rattle.view_config.specs.Reading.{Reading}
 use Rattle.view_config.specs.Scope.{Column, Scope, fields_of, ordered_reference, reference}

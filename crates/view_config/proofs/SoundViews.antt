@@ -1,6 +1,5 @@
 -- A view that was read keeps its rules.
-use Rattle.std.proofs.Common.{◌≡◌, ℕ, suc, ◌≤◌, List, [], ◌∷◌, ◌++◌, length, map, refl, ap, sym, subst, ◌∙◌}
-use Rattle.std.proofs.Common.{arith, Ok}
+use Rattle.std.proofs.Common.{◌≡◌, ℕ, suc, ◌≤◌, List, [], ◌∷◌, ◌++◌, length, map, refl, ap, sym, subst, ◌∙◌, arith, Ok}
 use Rattle.std.proofs.Common.{Option, Some, None, slice_get, append-nil}
 use Rattle.std.specs.Prelude.{All, codes, not}
 use Rattle.std.specs.Option.{option_map}

@@ -1,7 +1,6 @@
 -- The limits of columns: of their names, of how many fields they have at all levels, and of what their slots weigh.
 use Rattle.std.specs.Prelude.{◌≡◌, ℕ, ◌+◌, ◌<◌, ◌^◌, nat_le, nat_lt, not, ◌&&◌, Bool, true, false, MatchOption, Option}
-use Rattle.std.specs.Prelude.{Ok}
-use Rattle.std.specs.Prelude.{Err, List, length, if◌then◌else◌, map}
+use Rattle.std.specs.Prelude.{Ok, Err, List, length, if◌then◌else◌, map}
 use Rattle.values.specs.Limits.{max_fields, max_slot}
 use Rattle.values.specs.Layouts.{slot, slots}
 use Rattle.values.specs.Logical.{NamedType, trees_of}

@@ -1,6 +1,5 @@
 -- The columns of views.
-use Rattle.std.specs.Prelude.{codes, ℕ, ◌+◌, ◌==◌, nat_le, ◌||◌, Bool, true, false, Option, None, Some, Ok, Err}
-use Rattle.std.specs.Prelude.{List}
+use Rattle.std.specs.Prelude.{codes, ℕ, ◌+◌, ◌==◌, nat_le, ◌||◌, Bool, true, false, Option, None, Some, Ok, Err, List}
 use Rattle.std.specs.Prelude.{[], ◌∷◌, if◌then◌else◌, map}
 use Rattle.std.specs.Str.{bytes_eq}
 use Rattle.toml.specs.Data.{Data, Items}

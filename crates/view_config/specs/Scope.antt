@@ -1,6 +1,5 @@
 -- The columns that a view can name.
-use Rattle.std.specs.Prelude.{codes, ℕ, ◌+◌, ◌++◌, Err, List, length, refl}
-use Rattle.std.specs.Prelude.{if◌then◌else◌}
+use Rattle.std.specs.Prelude.{codes, ℕ, ◌+◌, ◌++◌, Err, List, length, refl, if◌then◌else◌}
 use Rattle.std.specs.Coded.{Coded, code_by, coded×, coded_list}
 use Rattle.std.specs.Str.{bytes_eq}
 use Rattle.toml.specs.Data.{as_str, Data, string, array, Items}

@@ -1,7 +1,6 @@
 -- Views.
-use Rattle.std.specs.Prelude.{codes, ℕ, ℤ, pos, nat_abs, int_le, ◌&&◌, Option, None, Some, Ok, Err}
-use Rattle.std.specs.Prelude.{List}
-use Rattle.std.specs.Prelude.{[], ◌∷◌, if◌then◌else◌, map}
+use Rattle.std.specs.Prelude.{codes, ℕ, ℤ, pos, nat_abs, int_le, ◌&&◌, Option, None, Some, Ok, Err, List, [], ◌∷◌}
+use Rattle.std.specs.Prelude.{if◌then◌else◌, map}
 use Rattle.std.specs.Str.{bytes_eq}
 use Rattle.toml.specs.Data.{as_str, Data, integer, Members, get_member}
 use Rattle.values.specs.Logical.{NamedType}
