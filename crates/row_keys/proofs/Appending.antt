@@ -226,7 +226,8 @@ pub stored_appended :
     (t : Table) (bs : List (List CheckedColumn)) (ps : List Place) (xs new : List Numbered)
     (columns : List CheckedColumn) (n appended : ℕ)
     → IsStored t bs ps xs → IsBatch t n columns → PushesKeys (keys_in t (batch_rows n columns)) xs new
-    → are_many t.max_rows (live_count xs) appended n ≡ false → any_heavy (layouts_in columns) (batch_rows n columns) ≡ false
+    → are_many t.max_rows (live_count xs) appended n ≡ false → any_heavy (layouts_in columns) (batch_rows n columns) ≡
+    false
     → IsStored t (bs ++ columns ∷ []) (ps ++ places_from (length bs) 0 n) new
 stored_appended t bs ps xs new columns n appended is batch p few light =
     let rows = rows_joined t bs columns ps n is.placed in
@@ -298,7 +299,8 @@ pub keys_unfit :
     (t : Table) (bs : List (List CheckedColumn)) (ps : List Place) (xs : List Numbered) (rows : List (List Datum))
     (e : EditFault) → IsStored t bs ps xs
     → RefusesKeys (keys_in t rows) xs e → Refuses (cause_of t (contents_of (joined (rows_by bs ps) xs)) (append rows)) e
-keys_unfit t bs ps xs rows (fault.Unfit unfit.NullKey) is h = cause_null t (contents_of (joined (rows_by bs ps) xs)) rows h
+keys_unfit t bs ps xs rows (fault.Unfit unfit.NullKey) is h = cause_null t (contents_of (joined (rows_by bs ps) xs))
+    rows h
 keys_unfit t bs ps xs rows (fault.Unfit unfit.DuplicateKey) is h =
     cause_repeated t (contents_of (joined (rows_by bs ps) xs)) rows h.0
     (ap (λ ks. has_repeated (keys_in t rows) || any_among (keys_in t rows) ks) (sym (live_keys_are t bs ps xs is))

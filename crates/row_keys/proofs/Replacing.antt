@@ -147,7 +147,8 @@ without_some t p ks [] stay = refl
 without_some t p ks (r ∷ rs) stay =
     let here : is_among (key_in t r) (filter p ks) ≡ is_among (key_in t r) ks =
     among_left p (key_in t r) ks
-    (λ k same. stay k (or_left (same_key k (key_in t r)) (is_among k (keys_in t rs)) (same_sym k (key_in t r) ∙ same))) in
+    (λ k same. stay k (or_left (same_key k (key_in t r)) (is_among k (keys_in t rs)) (same_sym k (key_in t r) ∙ same)))
+    in
     ap (λ b. cond (not b) (r ∷ without t (filter p ks) rs) (without t (filter p ks) rs)) here
     ∙ ap (λ xs. cond (not (is_among (key_in t r) ks)) (r ∷ xs) xs)
     (without_some t p ks rs (λ k among. stay k (or_right (same_key k (key_in t r)) (is_among k (keys_in t rs)) among)))

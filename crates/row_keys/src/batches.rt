@@ -78,8 +78,8 @@ pub(crate) fn keep_batch(
     Ok(())
 }
 
-/// Keeps a batch of `rows` rows of a table beside `live` live rows among `appended`: 44 where there would be too many, 45
-/// where one is too heavy. On an error nothing has changed.
+/// Keeps a batch of `rows` rows of a table beside `live` live rows among `appended`: 44 where there would be too many,
+/// 45 where one is too heavy. On an error nothing has changed.
 pub(crate) fn keep_rows(
     table: &Table,
     batches: &mut Vec<Batch>,
@@ -112,9 +112,7 @@ pub(crate) fn keep_rows(
 fn has_many(most: usize, live: usize, appended: usize, rows: usize) -> bool
     ensures { result ≡ are_many most live appended rows }
 {
-    live > most
-        || rows > most - live
-        || appended.saturating_add(rows) as u64 > MAX_APPENDED_ROWS
+    live > most || rows > most - live || appended.saturating_add(rows) as u64 > MAX_APPENDED_ROWS
 }
 
 /// A copy of row `index`.

@@ -153,11 +153,7 @@ pub(crate) fn find_keys(
 
 /// The numbers of the live rows whose keys are in a column, in its order. Keys that no live row has are passed over.
 #[tactic(auto, using(crate::proofs::Replacing::knowing))]
-fn find_known(
-    alloc: Global,
-    column: &Column,
-    numbers: &Numbers,
-) -> Result<Vec<usize>, AllocError>
+fn find_known(alloc: Global, column: &Column, numbers: &Numbers) -> Result<Vec<usize>, AllocError>
     requires { HoldsKeys column.now.layouts }
     ensures { IfOk result (λ found.
         FindsAll (known_keys column.now.cells numbers.now) numbers.now found.items) }

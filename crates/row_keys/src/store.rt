@@ -199,8 +199,10 @@ impl RowStore {
         requires { AreKeys self.now.table keys.now }
         ensures numbers { IfOk result (λ ns. CanRetract ns.items self.now.slots) }
         ensures keys { IfOk result (λ ns. keys_at self.now.table ns.items self.now.slots ≡ keys.now.cells) }
-        ensures fits { OnOk result (cause_of self.now.table (contents_of self.now.slots) (retract keys.now.cells) ≡ None) }
-        ensures refused { IfErr result (Refuses (cause_of self.now.table (contents_of self.now.slots) (retract keys.now.cells))) }
+        ensures fits { OnOk result
+            (cause_of self.now.table (contents_of self.now.slots) (retract keys.now.cells) ≡ None) }
+        ensures refused { IfErr result
+            (Refuses (cause_of self.now.table (contents_of self.now.slots) (retract keys.now.cells))) }
     {
         let _table = &self.table;
         let mut seen = Numbers::new(self.alloc);
@@ -319,7 +321,7 @@ impl RowStore {
         Ok(self.numbers.find(&key))
     }
 
-    /// A copy of the live row whose key a cell is, if there is one. A null is no row's key. It isn't counted as a visit.
+    /// A copy of the live row whose key a cell is, if there is one: a null is no row's key. It isn't a visit.
     pub fn row_with_key(&self, cell: &Value) -> Result<Option<Row>, AllocError>
         ensures row { IfOk result (λ row. option_map (λ r. r.items) row
             ≡ side_of self.now.table (contents_of self.now.slots) cell.now) }

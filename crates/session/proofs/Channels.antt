@@ -35,12 +35,18 @@ each_none tables (l ∷ ls) (c ∷ cs) (suc k) h past = each_none tables ls cs k
 
 -- the channel that a feed shows
 pub each_get :
-    (tables : List Table) (ls : List Link) (cs : List Channel) (k : ℕ) (l : Link) → ShowsEach tables ls cs → k < length ls
+    (tables : List Table) (ls : List Link) (cs : List Channel) (k : ℕ) (l : Link) → ShowsEach tables ls cs → k < length
+    ls
     → l ≡ get_or ls k l
     → (c : Channel) × (slice_get cs k ≡ Some c) × ShowsChannel tables l c
 each_get tables [] cs k l h below is = absurd (omega (arith, below))
 each_get tables (m ∷ ls) [] k l h below is = absurd h
-each_get tables (m ∷ ls) (c ∷ cs) zero l h below is = (c, refl, subst (λ (x : Link). ShowsChannel tables x c) (sym is) h.0)
+each_get tables (m ∷ ls) (c ∷ cs) zero l h below is = (
+  c,
+  refl,
+  subst (λ (x : Link). ShowsChannel tables x c) (sym is)
+      h.0,
+)
 each_get tables (m ∷ ls) (c ∷ cs) (suc k) l h below is = each_get tables ls cs k l h.1 (omega (arith, below)) is
 
 pub each_set :

@@ -202,7 +202,8 @@ pub look_row :
 look_row stores o l n s row cell (Err e) right some at is there h = tt
 look_row stores o l n s row cell (Ok found) right some at is there h =
     let look : IsLookup (tables_in stores) (Some l) = subst (IsLookup (tables_in stores)) some right in
-    let made = side_found stores n s row l.on cell (option_map (λ x. x.items) found) is (look_there stores l n s look at)
+    let made = side_found stores n s row l.on cell (option_map (λ x. x.items) found) is (look_there stores l n s look
+    at)
     there h in
     let P : ℕ → Type 0 = λ m. option_map (λ x. x.items) found
     ≡ side_of (table_at (tables_in stores) m) (contents_at (world_of (rows_in stores)) m) (cell_at row l.on) in

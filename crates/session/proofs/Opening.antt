@@ -90,14 +90,16 @@ pub one_opened :
 one_opened tables feeds i ls ms role plan fields f so_far below is same columns shown there more =
     let next : take (i + 1) feeds ≡ take i feeds ++ plan ∷ [] =
     ap (λ n. take n feeds) (add-one i) ∙ take-suc feeds i plan below ∙ ap (λ x. take i feeds ++ x ∷ []) (sym is) in
-    let channels : map (opened tables) (take (i + 1) feeds) ≡ map (opened tables) (take i feeds) ++ opened tables plan ∷ [] =
+    let channels : map (opened tables) (take (i + 1) feeds) ≡ map (opened tables) (take i feeds) ++ opened tables plan
+    ∷ [] =
     ap (map (opened tables)) next ∙ map-append (opened tables) (take i feeds) (plan ∷ []) in
     let l : Link = record { role = role; feed = f } in
     let made : ShowsEach tables (ls ++ l ∷ []) (map (opened tables) (take i feeds) ++ opened tables plan ∷ []) =
     each_more tables ls (map (opened tables) (take i feeds)) l (opened tables plan) so_far
     (channel_opened tables role plan fields f same columns shown there) in
     let placed : ShowsEach tables ms (map (opened tables) (take i feeds) ++ opened tables plan ∷ []) =
-    subst (λ (xs : List Link). ShowsEach tables xs (map (opened tables) (take i feeds) ++ opened tables plan ∷ [])) (sym more)
+    subst (λ (xs : List Link). ShowsEach tables xs (map (opened tables) (take i feeds) ++ opened tables plan ∷ []))
+    (sym more)
     made in
     subst (λ (cs : List Channel). ShowsEach tables ms cs) (sym channels) placed
 

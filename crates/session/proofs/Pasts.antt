@@ -28,10 +28,10 @@ use Rattle.std.proofs.Common.{
 use Rattle.std.specs.Prelude.{slice_get, slice_set}
 use Rattle.view_lang.specs.Causes.{cause_in, cause_of}
 use Rattle.view_lang.specs.Config.{Table}
-use Rattle.view_lang.specs.Contents.{Contents, applied}
+use Rattle.view_lang.specs.Contents.{applied}
 use Rattle.view_lang.specs.Edits.{Edit}
-use Rattle.view_lang.specs.World.{World, contents_at, edited, table_at, world}
-use Rattle.row_keys.specs.Slots.{Slot, contents_of, live}
+use Rattle.view_lang.specs.World.{contents_at, edited, table_at, world}
+use Rattle.row_keys.specs.Slots.{Slot, contents_of}
 use Rattle.row_keys.specs.Store.{Refuses, Store, with_slots}
 use Rattle.row_keys.specs.declared.faults.EditFault.{EditFault}
 use Rattle.session.specs.Changes.{Makes}
@@ -52,18 +52,7 @@ use Rattle.session.specs.Shows.{
 }
 use Rattle.session.specs.declared.undo.Change.{Change}
 use Rattle.session.specs.declared.undo.UndoRecord.{UndoRecord}
-use Rattle.session.proofs.Stores.{
-  at_mapped,
-  length_placed,
-  rows_kept,
-  rows_length,
-  rows_placed,
-  rows_restored,
-  rows_set,
-  rows_there,
-  set_mapped,
-  table_there,
-}
+use Rattle.session.proofs.Stores.{length_placed, rows_kept, rows_length, rows_placed, rows_restored, rows_set, rows_there, set_mapped, table_there}
 
 pub holds_world :
     (tables : List Table) (rows : Rows) (rs : List UndoRecord) (es : List Edit) → HoldsBack tables rows rs es
@@ -124,7 +113,8 @@ can_undo tables rows rs r past front shown =
 
 -- and leads to the edits before the last
 pub undo_shown :
-    (tables : List Table) (old new : Rows) (rs : List UndoRecord) (r : UndoRecord) (past : Past) → slice_get rs 0 ≡ Some r
+    (tables : List Table) (old new : Rows) (rs : List UndoRecord) (r : UndoRecord) (past : Past) → slice_get rs 0 ≡
+    Some r
     → new ≡ before r old
     → ShowsPast tables old rs past → (next : Past) × Undoes past (Ok tt) next × ShowsPast tables new (drop 1 rs) next
 unfolding undone
@@ -151,7 +141,8 @@ undo_shown tables old new rs r past front is shown = by_depth past.depth refl wh
 
 -- an edit that is refused, and one that is made
 
-pub contents_there : (rows : Rows) (n : ℕ) → n < length rows → contents_at (world_of rows) n ≡ contents_of (rows_at rows n)
+pub contents_there : (rows : Rows) (n : ℕ) → n < length rows → contents_at (world_of rows) n ≡ contents_of (rows_at
+    rows n)
 contents_there [] n below = absurd (omega (arith, below))
 contents_there (r ∷ rs) zero below = refl
 contents_there (r ∷ rs) (suc n) below = contents_there rs n (omega (arith, below))

@@ -101,22 +101,30 @@ declared_after s piece (Err f) = refl
 
 -- what it gives settles the rest
 pub push_shown :
-    (tables : List Table) (past after : Past) (c : Channel) (l : Link) (piece : List ℕ) (gave : Result Given StreamFault)
+    (tables : List Table) (past after : Past) (c : Channel) (l : Link) (piece : List ℕ) (gave : Result Given
+    StreamFault)
     (f : FeedParts)
     (answer : Result Came Fault) (slots : Rows) (records : List UndoRecord) → is_broken c.fed.condition ≡ false
     → 0 < length piece
     → Gives c.fed piece gave → Shows f (after_push c.fed piece gave) → answer ≡ push_answer tables c.role past gave
     → after ≡ push_past tables c.role past gave → ShowsPast tables slots records after → ShowsChannel tables l c
     → Pushed tables past c piece answer (record { role = l.role; feed = f }) slots records
-push_shown tables past after c l piece gave f answer slots records goes some may feed answers leads shows shown = record {
-  after = after;
-  channel = push_channel c piece gave;
-  pushes =
-      gets_by tables past after c (push_channel c piece gave) (is_broken c.fed.condition) piece answer goes some
-      (record { gave = gave; may = may; answers = answers; edits = leads; stream = refl });
-  shows = shows;
-  feed = record { role = shown.role; there = shown.there; feed = feed; declared = declared_after c.fed piece gave ∙ shown.declared };
-}
+push_shown tables past after c l piece gave f answer slots records goes some may feed answers leads shows shown =
+    record {
+      after = after;
+      channel = push_channel c piece gave;
+      pushes =
+          gets_by tables past after c (push_channel c piece gave) (is_broken c.fed.condition) piece answer goes some
+          (record { gave = gave; may = may; answers = answers; edits = leads; stream = refl });
+      shows = shows;
+      feed = record {
+        role = shown.role;
+        there = shown.there;
+        feed = feed;
+        declared = declared_after c.fed piece gave ∙
+            shown.declared;
+      };
+    }
 
 -- a fault of the stream, or want of memory
 pub fault_shown :
@@ -137,7 +145,8 @@ pub part_shown :
     (slots : Rows)
     (records : List UndoRecord) → is_broken c.fed.condition ≡ false → 0 < length piece → fed.event ≡ None
     → MayAnswer l.feed piece (Ok (seen fed))
-    → WillTake l.feed piece (seen fed) f → ((s : FeedState) → Leads f s → Shows g s) → ShowsPast tables slots records past
+    → WillTake l.feed piece (seen fed) f → ((s : FeedState) → Leads f s → Shows g s) → ShowsPast tables slots records
+    past
     → ShowsChannel tables l c
     → Pushed tables past c piece (Ok (pushed fed.used None)) (record { role = l.role; feed = g }) slots records
 part_shown tables past c l piece fed f g slots records goes some none may will commit shows shown =
@@ -158,7 +167,8 @@ message_ok tables past used is kind None fits same = (ap (λ k. Ok (pushed used 
 message_ok tables past used is kind (Some e) fits same = rw fits (ap (λ k. Ok (pushed used (Some k))) same, refl)
 
 message_unfit :
-    (tables : List Table) (past : Past) (used : ℕ) (is : Event) (o : Option Edit) (u : Unfit) → unfit_by tables past o ≡ Some u
+    (tables : List Table) (past : Past) (used : ℕ) (is : Event) (o : Option Edit) (u : Unfit) → unfit_by tables past o
+    ≡ Some u
     → (Err (record { cause = named u; used = used }) ≡ message_answer tables past used is o)
     × (past_by past o (Err (edit_fault.Unfit u)) ≡ message_past tables past o)
 message_unfit tables past used is None u stands = absurd (cc)
@@ -201,7 +211,8 @@ module _ (tables : List Table) (past : Past) (c : Channel) (l : Link) (piece : L
   message_shown kind f g goes some is may will commit takes shows shown =
       let t = takes past shows in
       let made = message_ok tables past fed.used (kind_of (event_seen event)) kind this t.0.0 t.0.1 in
-      push_shown tables past (past_by past this (Ok kind)) c l piece (Ok (seen fed)) g (Ok (pushed fed.used (Some kind)))
+      push_shown tables past (past_by past this (Ok kind)) c l piece (Ok (seen fed)) g (Ok (pushed fed.used (Some
+      kind)))
       slots records goes some
       (may c.fed shown.feed) (commit (after_push c.fed piece (Ok (seen fed))) (will c.fed shown.feed))
       (answered (Ok (pushed fed.used (Some kind))) is shown.role made.0)
@@ -253,7 +264,8 @@ module _ (trees : LogicalTrees) (holds : NarrowHolds) (weighs : NarrowWeighs) wh
   batch_typed tables role s known feed_event.End declared is typed = tt
   batch_typed tables role s None (feed_event.Batch columns rows body) declared is typed = absurd typed
   batch_typed tables role s (Some fields) (feed_event.Batch columns rows body) declared is typed = record {
-    alike = batch_alike trees holds weighs s (feed_columns tables role) fields columns.items rows declared (sym is) typed;
+    alike = batch_alike trees holds weighs s (feed_columns tables role) fields columns.items rows declared (sym is)
+        typed;
     lengths = typed.1;
   }
 
@@ -298,5 +310,11 @@ end_shown tables c l gave f answer goes answers may feed shown =
       finishes =
           ends_by c d (is_broken c.fed.condition) answer goes
           (record { gave = gave; may = may; answers = answers; channel = refl });
-      feed = record { role = shown.role; there = shown.there; feed = feed; declared = declared_at_end c.fed gave ∙ shown.declared };
+      feed = record {
+        role = shown.role;
+        there = shown.there;
+        feed = feed;
+        declared = declared_at_end c.fed gave ∙
+            shown.declared;
+      };
     }

@@ -167,7 +167,8 @@ given_by_memory :
     → Err f ≡ given_answer tables role past used o
     → f.cause ≡ cause.Memory → ⊥
 given_by_memory tables role past used None f h m = cc
-given_by_memory tables role past used (Some x) f h m = message_by_memory tables past used (kind_of x) (edit_in role x) f h m
+given_by_memory tables role past used (Some x) f h m = message_by_memory tables past used (kind_of x) (edit_in role x)
+    f h m
 
 gave_by_memory :
     (tables : List Table) (past : Past) (c : Channel) (piece : List ℕ) (gave : Result Given StreamFault) (f : Fault)
@@ -194,7 +195,8 @@ set_same (y ∷ ys) zero x h = let same : y ≡ x = cc in ap (λ z. z ∷ ys) (s
 set_same (y ∷ ys) (suc k) x h = ap (λ zs. y ∷ zs) (set_same ys k x h)
 
 to_by_memory :
-    (tables : List Table) (s t : State) (k : ℕ) (o : Option Channel) (piece : List ℕ) (f : Fault) → slice_get s.channels k ≡ o
+    (tables : List Table) (s t : State) (k : ℕ) (o : Option Channel) (piece : List ℕ) (f : Fault) → slice_get
+    s.channels k ≡ o
     → PushTo tables s k o piece (Err f) t → f.cause ≡ cause.Memory → t ≡ s
 to_by_memory tables s t k None piece f at h m = h.1
 to_by_memory tables s t k (Some c) piece f at h m =
@@ -227,6 +229,7 @@ to_others tables s t k j (Some c) piece answer h differ =
 
 pub others_stay : OthersStay
 others_stay conf s t name piece answer k h differ =
-    to_others (tables_of conf) s t (place_in conf name) k (slice_get s.channels (place_in conf name)) piece answer h differ
+    to_others (tables_of conf) s t (place_in conf name) k (slice_get s.channels (place_in conf name)) piece answer h
+    differ
 
 pub ruleset refusing = (refusals_keep_edits, memory_changes_nothing, others_stay)

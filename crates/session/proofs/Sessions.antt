@@ -134,7 +134,8 @@ pub push_unknown :
     → length p.links ≤ k
     → e ≡ refused cause.UnknownFeed → IsStep p (λ s t. PushStep (config_of p) s name piece (Err e) t) p
 push_unknown p name piece k e at beyond saturated s shown =
-    let none : slice_get s.channels k ≡ None = each_none (tables_in p.stores) p.links s.channels k shown.channels beyond in (
+    let none : slice_get s.channels k ≡ None = each_none (tables_in p.stores) p.links s.channels k shown.channels
+    beyond in (
       s,
       place_is (λ n o t. PushTo (tables_of (config_of p)) s n o piece (Err e) t) (feed_names p) name s s k None at none
           (ap (λ x. Err x) saturated, refl),
@@ -146,7 +147,8 @@ pub finish_unknown :
     → length p.links ≤ k
     → e ≡ refused cause.UnknownFeed → IsStep p (λ s t. FinishStep (config_of p) s name (Err e) t) p
 finish_unknown p name k e at beyond saturated s shown =
-    let none : slice_get s.channels k ≡ None = each_none (tables_in p.stores) p.links s.channels k shown.channels beyond in (
+    let none : slice_get s.channels k ≡ None = each_none (tables_in p.stores) p.links s.channels k shown.channels
+    beyond in (
       s,
       place_is (λ n o t. FinishTo s n o (Err e) t) (feed_names p) name s s k None at none (
         ap (λ x. Err x) saturated,
@@ -157,7 +159,8 @@ finish_unknown p name k e at beyond saturated s shown =
 
 -- what is shown with another channel at that place
 channels_moved :
-    (p q : SessionParts) (cs : List Channel) (k : ℕ) (m : Link) (d : Channel) → (tables_in q.stores) ≡ (tables_in p.stores)
+    (p q : SessionParts) (cs : List Channel) (k : ℕ) (m : Link) (d : Channel) → (tables_in q.stores) ≡ (tables_in
+    p.stores)
     → q.links ≡ slice_set p.links k m
     → ShowsEach (tables_in p.stores) p.links cs → ShowsChannel (tables_in p.stores) m d
     → ShowsEach (tables_in q.stores) q.links (slice_set cs k d)
@@ -171,7 +174,8 @@ channels_moved p q cs k m d table links shown feed =
 past_moved :
     (t u : List Table) (slots : Rows) (records : List UndoRecord) (past : Past) → u ≡ t → ShowsPast t slots records past
     → ShowsPast u slots records past
-past_moved t u slots records past same shown = subst (λ (x : List Table). ShowsPast x slots records past) (sym same) shown
+past_moved t u slots records past same shown = subst (λ (x : List Table). ShowsPast x slots records past) (sym same)
+    shown
 
 -- the feed of that name shows a channel
 pub link_shown :
@@ -197,11 +201,13 @@ push_known p q name piece k l m answer at below is pushes table links s shown =
     let step : PushTo (tables_of (config_of p)) s k (Some here.0) piece answer t =
     subst (λ ts. PushTo ts s k (Some here.0) piece answer t) (sym (tables_told p shown.main)) goes in (
       t,
-      place_is (λ n o u. PushTo (tables_of (config_of p)) s n o piece answer u) (feed_names p) name s t k (Some here.0) at here.1
+      place_is (λ n o u. PushTo (tables_of (config_of p)) s n o piece answer u) (feed_names p) name s t k (Some here.0)
+          at here.1
           step,
       record {
         main = main_moved p q table shown.main;
-        past = past_moved (tables_in p.stores) (tables_in q.stores) (rows_in q.stores) q.records made.after table made.shows;
+        past = past_moved (tables_in p.stores) (tables_in q.stores) (rows_in q.stores) q.records made.after table
+            made.shows;
         channels = channels_moved p q s.channels k m made.channel table links shown.channels made.feed;
       },
     )
@@ -219,7 +225,8 @@ finish_known p q name k l m answer at below is ends stores records links s shown
     let goes : FinishTo s k (Some here.0) answer t =
     record { channel = made.channel; finishes = made.finishes; leads = refl } in
     let rows : ShowsPast (tables_in p.stores) (rows_in p.stores) q.records s.past =
-    subst (λ (rs : List UndoRecord). ShowsPast (tables_in p.stores) (rows_in p.stores) rs s.past) (sym records) shown.past in
+    subst (λ (rs : List UndoRecord). ShowsPast (tables_in p.stores) (rows_in p.stores) rs s.past) (sym records)
+    shown.past in
     let slots : ShowsPast (tables_in p.stores) (rows_in q.stores) q.records s.past =
     subst (λ (ss : Rows). ShowsPast (tables_in p.stores) ss q.records s.past) (sym (ap rows_in stores)) rows in (
       t,
@@ -272,22 +279,26 @@ live_shown p s x n shown is many =
 pub write_known :
     (p q : SessionParts) (name : List ℕ) (k : ℕ) (v : View) (old new : Sunk) (answer : Result ℕ ViewFault)
     → k ≡ place_of name (map (λ x. x.name) p.views) → k < length p.views → v ≡ get_or p.views k v
-    → WriteAnswers old new answer (stream_of (tables_in p.stores) v (world_of (rows_in p.stores))) → (tables_in q.stores) ≡ (tables_in p.stores)
+    → WriteAnswers old new answer (stream_of (tables_in p.stores) v (world_of (rows_in p.stores))) → (tables_in
+    q.stores) ≡ (tables_in p.stores)
     → (rows_in q.stores) ≡ (rows_in p.stores) → q.links ≡ p.links → q.records ≡ p.records
     → IsStep p (λ s t. WriteStep (config_of p) s name old answer new × (t ≡ s)) q
 write_known p q name k v old new answer at below is writes table slots links records s shown =
     let found : slice_get p.views k ≡ Some v = slice_get-get_or p.views k v below ∙ ap (λ x. Some x) (sym is) in
     let there : view_in (config_of p) name ≡ Some v =
     subst (λ (n : ℕ). slice_get p.views n ≡ Some v) at found in
-    let rows : WriteAnswers old new answer (stream_of (tables_in p.stores) v (world (tables_in p.stores) s.past.edits)) =
-    subst (λ (w : World). WriteAnswers old new answer (stream_of (tables_in p.stores) v w)) (rows_shown p s shown) writes in
+    let rows : WriteAnswers old new answer (stream_of (tables_in p.stores) v (world (tables_in p.stores) s.past.edits))
+    =
+    subst (λ (w : World). WriteAnswers old new answer (stream_of (tables_in p.stores) v w)) (rows_shown p s shown)
+    writes in
     let goes : WritesView (tables_in p.stores) s.past (view_in (config_of p) name) old answer new =
     subst (λ (o : Option View). WritesView (tables_in p.stores) s.past o old answer new) (sym there) rows in
     let step : WriteStep (config_of p) s name old answer new =
     subst (λ ts. WritesView ts s.past (view_in (config_of p) name) old answer new) (sym (tables_told p shown.main))
     goes in
     let past : ShowsPast (tables_in p.stores) (rows_in p.stores) q.records s.past =
-    subst (λ (rs : List UndoRecord). ShowsPast (tables_in p.stores) (rows_in p.stores) rs s.past) (sym records) shown.past in
+    subst (λ (rs : List UndoRecord). ShowsPast (tables_in p.stores) (rows_in p.stores) rs s.past) (sym records)
+    shown.past in
     let held : ShowsPast (tables_in p.stores) (rows_in q.stores) q.records s.past =
     subst (λ (ss : Rows). ShowsPast (tables_in p.stores) ss q.records s.past) (sym slots) past in
     let placed : ShowsEach (tables_in p.stores) q.links s.channels =

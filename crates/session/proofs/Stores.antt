@@ -1,29 +1,10 @@
 -- Stores by number, and the tables and rows that they hold.
-use Rattle.std.proofs.Common.{
-  ◌≡◌,
-  ℕ,
-  zero,
-  suc,
-  ◌<◌,
-  List,
-  [],
-  ◌∷◌,
-  length,
-  get_or,
-  map,
-  refl,
-  ap,
-  sym,
-  subst,
-  ◌∙◌,
-  arith,
-}
+use Rattle.std.proofs.Common.{◌≡◌, ℕ, zero, suc, ◌<◌, List, [], ◌∷◌, length, get_or, map, refl, ap, sym, ◌∙◌, arith}
 use Rattle.std.specs.Prelude.{slice_set}
 use Rattle.std.proofs.lemmas.List.{length-map}
-use Rattle.view_lang.specs.Config.{Table}
 use Rattle.view_lang.specs.World.{table_at}
 use Rattle.row_keys.specs.Slots.{Slot}
-use Rattle.row_keys.specs.Store.{Store, with_slots}
+use Rattle.row_keys.specs.Store.{Store}
 use Rattle.session.specs.Shows.{Rows, rows_at, rows_in, tables_in}
 
 pub at_mapped : {X Y : Type 0} (f : X → Y) (xs : List X) (n : ℕ) (x : X) (d : Y) → x ≡ get_or xs n x → n < length xs
@@ -32,7 +13,8 @@ at_mapped f [] n x d is below = absurd (omega (arith, below))
 at_mapped f (y ∷ ys) zero x d is below = ap f (sym is)
 at_mapped f (y ∷ ys) (suc n) x d is below = at_mapped f ys n x d is (omega (arith, below))
 
-pub set_mapped : {X Y : Type 0} (f : X → Y) (xs : List X) (n : ℕ) (x : X) → map f (slice_set xs n x) ≡ slice_set (map f xs) n (f x)
+pub set_mapped : {X Y : Type 0} (f : X → Y) (xs : List X) (n : ℕ) (x : X) → map f (slice_set xs n x) ≡ slice_set (map f
+    xs) n (f x)
 set_mapped f [] n x = refl
 set_mapped f (y ∷ ys) zero x = refl
 set_mapped f (y ∷ ys) (suc n) x = ap (λ zs. f y ∷ zs) (set_mapped f ys n x)
@@ -68,7 +50,8 @@ tables_length stores = length-map stores (λ (x : Store). x.table)
 
 -- Rows by number
 
-pub rows_placed : (rows : Rows) (n : ℕ) (slots : List Slot) → n < length rows → rows_at (slice_set rows n slots) n ≡ slots
+pub rows_placed : (rows : Rows) (n : ℕ) (slots : List Slot) → n < length rows → rows_at (slice_set rows n slots) n ≡
+    slots
 rows_placed [] n slots below = absurd (omega (arith, below))
 rows_placed (r ∷ rs) zero slots below = refl
 rows_placed (r ∷ rs) (suc n) slots below = rows_placed rs n slots (omega (arith, below))

@@ -1,5 +1,5 @@
 -- The rows of a view can be written.
-use Rattle.std.proofs.Common.{◌≡◌, ◌<◌, ◌≤◌, All, List, length, map, ap, subst, sym, ◌∙◌, arith}
+use Rattle.std.proofs.Common.{◌≡◌, ◌<◌, ◌≤◌, All, List, length, ap, subst, sym, ◌∙◌, arith}
 use Rattle.std.proofs.lemmas.List.Elements.{All-weaker}
 use Rattle.values.specs.Datum.{Datum}
 use Rattle.values.specs.Limits.{max_main_rows}
@@ -16,7 +16,7 @@ use Rattle.view_lang.specs.Rows.{IsRow, RowsAreLight}
 use Rattle.view_lang.specs.Sums.{CanSum}
 use Rattle.view_lang.specs.TableRules.{AreColumns, AreWithin, IsTable, IsWithin}
 use Rattle.view_lang.specs.ViewColumns.{view_columns}
-use Rattle.view_lang.specs.Views.{shown_rows, view_input, view_rows}
+use Rattle.view_lang.specs.Views.{shown_rows, view_rows}
 use Rattle.row_keys.specs.Slots.{live}
 use Rattle.session.specs.Inputs.{AreInput, side_by}
 use Rattle.session.specs.Shows.{Rows, rows_at, world_of}

@@ -5,7 +5,7 @@ use Rattle.feed.specs.Shown.{Shows as FeedShows}
 use Rattle.values.specs.Logical.{NamedType}
 use Rattle.values.specs.Rose.{Rose}
 use Rattle.values.specs.declared.schema.Schema.{Schema}
-use Rattle.view_lang.specs.Config.{Config, FeedConfig, SideTable, Table, View, feed_code, tables_of, view_code}
+use Rattle.view_lang.specs.Config.{Config, FeedConfig, SideTable, Table, View, feed_code, view_code}
 use Rattle.view_lang.specs.ConfigRules.{IsView}
 use Rattle.view_lang.specs.Edits.{Edit, table_of}
 use Rattle.view_lang.specs.TableRules.{IsTable}

@@ -170,7 +170,8 @@ Pushes tables past c piece answer next_past next =
 abbrev pub moved : State → ℕ → Past → Channel → State
 moved s k past c = record { past = past; channels = slice_set s.channels k c }
 
-pub record PushAt (tables : List Table) (s : State) (k : ℕ) (c : Channel) (piece : List ℕ) (answer : Result Pushed Fault)
+pub record PushAt (tables : List Table) (s : State) (k : ℕ) (c : Channel) (piece : List ℕ) (answer : Result Pushed
+    Fault)
     (new : State) : Type 0 where
   pub past : Past
   pub channel : Channel

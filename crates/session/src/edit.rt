@@ -31,11 +31,7 @@ fn append_batch(
 }
 
 /// Takes the rows away whose keys a batch names.
-fn retract_batch(
-    store: &mut RowStore,
-    columns: &[Column],
-    rows: usize,
-) -> Result<Change, EditFault>
+fn retract_batch(store: &mut RowStore, columns: &[Column], rows: usize) -> Result<Change, EditFault>
     requires { IsBatch (key_column store.old.table) columns.now rows }
     ensures makes { Makes store.old.table (change_by Retract columns.now rows) store.old.slots store.new.slots result }
     ensures table { store.new.table ≡ store.old.table }
@@ -46,13 +42,10 @@ fn retract_batch(
 }
 
 /// Puts the rows of a batch after all others, in place of those with their keys.
-fn put_batch(
-    store: &mut RowStore,
-    columns: Vec<Column>,
-    rows: usize,
-) -> Result<Change, EditFault>
+fn put_batch(store: &mut RowStore, columns: Vec<Column>, rows: usize) -> Result<Change, EditFault>
     requires { IsBatch store.old.table.columns columns.items rows }
-    ensures makes { Makes store.old.table (change_by (Put 0) columns.items rows) store.old.slots store.new.slots result }
+    ensures makes { Makes store.old.table (change_by (Put 0) columns.items rows)
+        store.old.slots store.new.slots result }
     ensures table { store.new.table ≡ store.old.table }
 {
     let replaced = store.put(columns, rows)?;
@@ -120,8 +113,8 @@ pub(crate) fn respond(
     requires there { table_of role < length stores.old.items }
     requires batch { IsBatchEvent (tables_in stores.old.items) role event }
     requires capacity { records.old.capacity ≡ 64 }
-    ensures takes { Takes (tables_in stores.old.items) role (event_seen event) (rows_in stores.old.items) records.old.items
-        (rows_in stores.new.items) records.new.items result }
+    ensures takes { Takes (tables_in stores.old.items) role (event_seen event) (rows_in stores.old.items)
+        records.old.items (rows_in stores.new.items) records.new.items result }
     ensures tables { tables_in stores.new.items ≡ tables_in stores.old.items }
     ensures capacity { records.new.capacity ≡ 64 }
 {

@@ -66,7 +66,8 @@ fn open_side(
     side: SideTable,
 ) -> Result<(), AllocError>
     requires { IsTable side.table }
-    ensures names { OnOk result (map string_bytes names.new.items ≡ map string_bytes names.old.items ++ side.name ∷ []) }
+    ensures names { OnOk result
+        (map string_bytes names.new.items ≡ map string_bytes names.old.items ++ side.name ∷ []) }
     ensures stores { OnOk result (stores.new.items ≡ stores.old.items ++ no_rows side.table ∷ []) }
 {
     let SideTable { name, table } = side;

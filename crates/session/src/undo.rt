@@ -55,8 +55,10 @@ pub(crate) fn go_back(
     stores: &mut Vec<RowStore>,
     records: &mut HeapCircularBuffer<UndoRecord>,
 ) -> Result<(), Fault>
-    requires { (past : Past) × ShowsPast (tables_in stores.old.items) (rows_in stores.old.items) records.old.items past }
-    ensures undoes { (past : Past) → ShowsPast (tables_in stores.old.items) (rows_in stores.old.items) records.old.items past
+    requires { (past : Past)
+        × ShowsPast (tables_in stores.old.items) (rows_in stores.old.items) records.old.items past }
+    ensures undoes { (past : Past)
+        → ShowsPast (tables_in stores.old.items) (rows_in stores.old.items) records.old.items past
         → (next : Past) × Undoes past result next
         × ShowsPast (tables_in stores.old.items) (rows_in stores.new.items) records.new.items next }
     ensures tables { tables_in stores.new.items ≡ tables_in stores.old.items }

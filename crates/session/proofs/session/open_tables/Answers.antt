@@ -1,21 +1,4 @@
-use Rattle.std.proofs.Common.{
-  ◌≡◌,
-  ◌++◌,
-  [],
-  ◌∷◌,
-  All,
-  List,
-  length,
-  map,
-  ap,
-  arith,
-  append_assoc,
-  append-nil,
-  refl,
-  subst,
-  sym,
-  ◌∙◌,
-}
+use Rattle.std.proofs.Common.{◌≡◌, ◌++◌, [], ◌∷◌, All, length, map, ap, arith, append_assoc, subst, sym, ◌∙◌}
 use Rattle.std.specs.Vec.Iter.{into_iter_items}
 use Rattle.std.proofs.lemmas.List.{map-append}
 use Rattle.std.proofs.lemmas.List.Elements.{All-head, All-tail}
@@ -43,8 +26,10 @@ loop-side-preserved c =
       c.in_ok-open_side.ensures.names ∙ ap (λ ns. ns ++ x.name ∷ []) at.invariant.1
           ∙ sym (map-append (λ (s : SideTable). s.name) at.yielded (x ∷ [])),
       c.in_ok-open_side.ensures.stores ∙ ap (λ ss. ss ++ no_rows x.table ∷ []) at.invariant.2
-          ∙ append_assoc c.push.new.self.items (map (λ (s : SideTable). no_rows s.table) at.yielded) (no_rows x.table ∷ [])
-          ∙ ap (λ ss. c.push.new.self.items ++ ss) (sym (map-append (λ (s : SideTable). no_rows s.table) at.yielded (x ∷ []))),
+          ∙ append_assoc c.push.new.self.items (map (λ (s : SideTable). no_rows s.table) at.yielded) (no_rows x.table ∷
+          [])
+          ∙ ap (λ ss. c.push.new.self.items ++ ss) (sym (map-append (λ (s : SideTable). no_rows s.table) at.yielded (x
+          ∷ []))),
       All-tail IsRight x (into_iter_items c.next.new.self) (subst (All IsRight) steps at.invariant.3),
       let was = at.invariant.4 in
           let gone = c.in-Some.ensures.steps.1 in

@@ -24,17 +24,21 @@ input_row-requires-clause-view c =
 pub input_row-requires-clause-there : goal.input_row-requires-clause-there
 input_row-requires-clause-there c =
     number_there c.args.stores.now.items c.loop-number.stores.items c.index.result.now c.deref-number-items.result.now
-    c.in_ok-numbers.numbers.items c.loop-number.number-index (get_or c.deref-number-items.result.now c.loop-number.number-index 0) c.index.ensures c.requires.main
-    c.deref-number-items.ensures.value c.in_ok-numbers.ensures.there (same_read c.deref-number-items.result.now c.loop-number.number-index 0 c.loop-number-test.true) c.loop-number-test.true
+    c.in_ok-numbers.numbers.items c.loop-number.number-index (get_or c.deref-number-items.result.now
+    c.loop-number.number-index 0) c.index.ensures c.requires.main
+    c.deref-number-items.ensures.value c.in_ok-numbers.ensures.there (same_read c.deref-number-items.result.now
+    c.loop-number.number-index 0 c.loop-number-test.true) c.loop-number-test.true
     c.loop-number.invariant.rows
 
 pub loop-number-preserved : goal.loop-number-preserved
 loop-number-preserved c = record {
   input =
       gathered_more c.args.stores.now.items c.loop-number.stores.items c.args.view.now c.deref-number-items.result.now
-      c.loop-number.number-index (get_or c.deref-number-items.result.now c.loop-number.number-index 0) (rows_of c.loop-number.input.items)
+      c.loop-number.number-index (get_or c.deref-number-items.result.now c.loop-number.number-index 0) (rows_of
+      c.loop-number.input.items)
       (rows_of c.push_some.new.rows.items) (option_map (λ r. r.items) c.in_ok-kept.kept)
-      c.loop-number.invariant.tables c.loop-number.invariant.rows c.loop-number.invariant.input (same_read c.deref-number-items.result.now c.loop-number.number-index 0 c.loop-number-test.true)
+      c.loop-number.invariant.tables c.loop-number.invariant.rows c.loop-number.invariant.input (same_read
+      c.deref-number-items.result.now c.loop-number.number-index 0 c.loop-number-test.true)
       c.loop-number-test.true c.in_ok-kept.ensures.row c.in_ok-push_some.ensures;
   tables = c.input_row.ensures.tables ∙ c.loop-number.invariant.tables;
   rows = c.input_row.ensures.rows ∙ c.loop-number.invariant.rows;

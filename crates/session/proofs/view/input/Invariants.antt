@@ -9,7 +9,8 @@ abbrev pub invariant-loop-number : goal.invariant-loop-number
 invariant-loop-number l = record {
   input :
       AreInput (tables_in l.fn.stores.items) (rows_in l.fn.stores.items) l.view
-      (map (row_of (rows_at (rows_in l.fn.stores.items) 0)) (take l.number-index l.number-items)) (rows_of l.input.items);
+      (map (row_of (rows_at (rows_in l.fn.stores.items) 0)) (take l.number-index l.number-items)) (rows_of
+      l.input.items);
   tables : tables_in l.stores.items ≡ tables_in l.fn.stores.items;
   rows : rows_in l.stores.items ≡ rows_in l.fn.stores.items;
 }

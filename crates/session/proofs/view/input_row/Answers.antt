@@ -1,4 +1,4 @@
-use Rattle.std.proofs.Common.{◌≡◌, None, Some, Vec, ap, false, subst, sym, true, ◌∙◌}
+use Rattle.std.proofs.Common.{◌≡◌, None, Some, Vec, ap, false, sym, true, ◌∙◌}
 use Rattle.std.specs.Prelude.{slice_set}
 use Rattle.std.specs.Option.{option_map}
 use Rattle.std.specs.declared.alloc.Global.{Global}
@@ -29,7 +29,8 @@ pub returns-then-keeps-clause-row : goal.returns-then-keeps-clause-row
 returns-then-keeps-clause-row c =
     let lookup : c.view.inside.lookup ≡ c.args.view.now.lookup = ap (λ (v : View). v.lookup) c.view.view_is in
     row_input c.args.stores.now.items c.index_mut.result.now c.open_row.new.self c.args.view.now c.args.number
-    c.in_ok-row.row.items (option_map (λ (r : Vec Datum Global). r.items) c.in_ok-side_row.side_row) (Some c.in-Some.joined.items)
+    c.in_ok-row.row.items (option_map (λ (r : Vec Datum Global). r.items) c.in_ok-side_row.side_row) (Some
+    c.in-Some.joined.items)
     c.index_mut.ensures.value c.requires.main c.open_row.ensures.visit c.in_ok-row.ensures.row c.in_ok-row.ensures.held
     (row_looked (slice_set c.args.stores.now.items 0 c.open_row.new.self) c.deref.result.now c.args.view.now
     c.view.inside.lookup c.in_ok-row.row.items c.deref-2.result.now

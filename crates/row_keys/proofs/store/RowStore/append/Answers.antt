@@ -48,8 +48,10 @@ invariant_of-self-in-Ok-keep_rows c =
     c.push_batch.new.numbers =
     subst K c.deref.ensures.value c.in-Ok.ensures.pushed in
     let F : ℕ → Type 0 = λ n. are_many c.self.inside.table.max_rows n c.len-before.result c.args.rows ≡ false in
-    let G : ℕ → Type 0 = λ n. are_many c.self.inside.table.max_rows (live_count c.self.inside.numbers) n c.args.rows ≡ false in
-    let few : are_many c.self.inside.table.max_rows (live_count c.self.inside.numbers) (length c.self.inside.numbers) c.args.rows ≡ false =
+    let G : ℕ → Type 0 = λ n. are_many c.self.inside.table.max_rows (live_count c.self.inside.numbers) n c.args.rows ≡
+    false in
+    let few : are_many c.self.inside.table.max_rows (live_count c.self.inside.numbers) (length c.self.inside.numbers)
+    c.args.rows ≡ false =
     subst G c.len-before.ensures.value (subst F c.live-live.ensures c.in-Ok-keep_rows.ensures.few) in
     rw (c.in-Ok-keep_rows.ensures.batches, c.in-Ok-keep_rows.ensures.places)
     (stored_appended c.self.inside.table c.self.inside.batches.items c.self.inside.places.items c.self.inside.numbers
@@ -97,8 +99,10 @@ returns-in-Ok-keep_rows-clause-fits c =
     c.push_batch.new.numbers =
     subst K c.deref.ensures.value c.in-Ok.ensures.pushed in
     let F : ℕ → Type 0 = λ n. are_many c.self.inside.table.max_rows n c.len-before.result c.args.rows ≡ false in
-    let G : ℕ → Type 0 = λ n. are_many c.self.inside.table.max_rows (live_count c.self.inside.numbers) n c.args.rows ≡ false in
-    let few : are_many c.self.inside.table.max_rows (live_count c.self.inside.numbers) (length c.self.inside.numbers) c.args.rows ≡ false =
+    let G : ℕ → Type 0 = λ n. are_many c.self.inside.table.max_rows (live_count c.self.inside.numbers) n c.args.rows ≡
+    false in
+    let few : are_many c.self.inside.table.max_rows (live_count c.self.inside.numbers) (length c.self.inside.numbers)
+    c.args.rows ≡ false =
     subst G c.len-before.ensures.value (subst F c.live-live.ensures c.in-Ok-keep_rows.ensures.few) in
     let P : Store
     → Type 0 =
@@ -170,7 +174,8 @@ returns-in-Err-keep_rows-clause-refused c =
     c.push_batch.new.numbers =
     subst K c.deref.ensures.value c.in-Ok.ensures.pushed in
     let F : ℕ
-    → Type 0 = λ n. RefusesRows c.self.inside.table.max_rows n c.len-before.result c.args.rows c.args.columns.items c.in-Err-keep_rows.fault in
+    → Type 0 = λ n. RefusesRows c.self.inside.table.max_rows n c.len-before.result c.args.rows c.args.columns.items
+    c.in-Err-keep_rows.fault in
     let G : ℕ
     → Type 0 =
     λ n. RefusesRows c.self.inside.table.max_rows (live_count c.self.inside.numbers) n c.args.rows c.args.columns.items

@@ -82,9 +82,11 @@ invariant_of-self-2 g c =
 pub returns-in_err-written-clause-step : goal.returns-in_err-written-clause-step
 returns-in_err-written-clause-step g c =
     let failed = err_from_is_err_and c.from_residual.result c.from_residual.ensures.1 in
-    let p : SessionParts = parts (map string_bytes c.self.inside.names.items) c.self.inside.feeds.items c.self.inside.views.items
+    let p : SessionParts = parts (map string_bytes c.self.inside.names.items) c.self.inside.feeds.items
+    c.self.inside.views.items
     c.self.inside.links.items c.self.inside.stores.items c.self.inside.records.items in
-    let q : SessionParts = parts (map string_bytes c.self.inside.names.items) c.self.inside.feeds.items c.self.inside.views.items
+    let q : SessionParts = parts (map string_bytes c.self.inside.names.items) c.self.inside.feeds.items
+    c.self.inside.views.items
     c.self.inside.links.items c.write_rows.new.stores.items c.self.inside.records.items in
     let old : Sunk = g.S.Sink.sunk c.args.sink.now in
     let new : Sunk = g.S.Sink.sunk c.write_rows.new.sink in
@@ -108,9 +110,11 @@ returns-in_err-written-clause-step g c =
 
 pub returns-clause-step : goal.returns-clause-step
 returns-clause-step g c =
-    let p : SessionParts = parts (map string_bytes c.self.inside.names.items) c.self.inside.feeds.items c.self.inside.views.items
+    let p : SessionParts = parts (map string_bytes c.self.inside.names.items) c.self.inside.feeds.items
+    c.self.inside.views.items
     c.self.inside.links.items c.self.inside.stores.items c.self.inside.records.items in
-    let q : SessionParts = parts (map string_bytes c.self.inside.names.items) c.self.inside.feeds.items c.self.inside.views.items
+    let q : SessionParts = parts (map string_bytes c.self.inside.names.items) c.self.inside.feeds.items
+    c.self.inside.views.items
     c.self.inside.links.items c.write_rows.new.stores.items c.self.inside.records.items in
     let old : Sunk = g.S.Sink.sunk c.args.sink.now in
     let new : Sunk = g.S.Sink.sunk c.write_rows.new.sink in
