@@ -361,35 +361,35 @@ pub breaks-in-both : FeedLaws → BreaksInBoth
 breaks-in-both laws conf streams steps others replies answers sinks after sinks_too after_too new other run run_too k plan c
     d is there there_too whole asks broke =
     by_ending (told_at conf streams k).ending refl (l.fell refl (ap (λ x. broken x) (sym same) ∙ broke)) where
-  l : Leads conf steps replies new k (opened (tables_of conf) plan)
-  l = leads conf steps replies sinks after (start conf) new k (opened (tables_of conf) plan) (first-channel conf k plan is)
-      run.runs
+      l : Leads conf steps replies new k (opened (tables_of conf) plan)
+      l = leads conf steps replies sinks after (start conf) new k (opened (tables_of conf) plan) (first-channel conf k plan is)
+          run.runs
 
-  m : Leads conf others answers other k (opened (tables_of conf) plan)
-  m = leads conf others answers sinks_too after_too (start conf) other k (opened (tables_of conf) plan)
-      (first-channel conf k plan is) run_too.runs
+      m : Leads conf others answers other k (opened (tables_of conf) plan)
+      m = leads conf others answers sinks_too after_too (start conf) other k (opened (tables_of conf) plan)
+          (first-channel conf k plan is) run_too.runs
 
-  same : c ≡ l.next
-  same = same_Some c l.next (sym there ∙ l.there)
+      same : c ≡ l.next
+      same = same_Some c l.next (sym there ∙ l.there)
 
-  same_too : m.next ≡ d
-  same_too = same_Some m.next d (sym m.there ∙ there_too)
+      same_too : m.next ≡ d
+      same_too = same_Some m.next d (sym m.there ∙ there_too)
 
-  by_end : (f : StreamFault) → Broke conf k f steps replies
-      → EndedWell conf k others answers ⊎ (broken m.next ≡ true) → broken d ≡ true
-  by_end f h (inl well) =
-      absurd
-      (finish-is-told laws conf streams others answers sinks_too other after_too run_too k f well
-      (faults-are-told laws conf streams steps replies sinks new after run k f h))
-  by_end f h (inr fallen) = ap (λ x. broken x) (sym same_too) ∙ fallen
+      by_end : (f : StreamFault) → Broke conf k f steps replies
+          → EndedWell conf k others answers ⊎ (broken m.next ≡ true) → broken d ≡ true
+      by_end f h (inl well) =
+          absurd
+          (finish-is-told laws conf streams others answers sinks_too other after_too run_too k f well
+          (faults-are-told laws conf streams steps replies sinks new after run k f h))
+      by_end f h (inr fallen) = ap (λ x. broken x) (sym same_too) ∙ fallen
 
-  by_ending : (e : Reading FeedState) → (told_at conf streams k).ending ≡ e
-      → ((f : StreamFault) × BrokeByPush conf k f steps replies)
-      ⊎ (AsksEnd conf k steps × ((f : StreamFault) × Broke conf k f steps replies))
-      → broken d ≡ true
-  by_ending (Err fs) e h =
-      faults-break laws conf streams others answers sinks_too other after_too run_too k d fs there_too e whole
-  by_ending (Ok st) e (inl h) =
-      absurd
-      (subst (λ x. Stands x h.0) e (push-faults-are-told laws conf streams steps replies sinks new after run k h.0 h.1))
-  by_ending (Ok st) e (inr h) = by_end h.1.0 h.1.1 (m.asked (asks h.0))
+      by_ending : (e : Reading FeedState) → (told_at conf streams k).ending ≡ e
+          → ((f : StreamFault) × BrokeByPush conf k f steps replies)
+          ⊎ (AsksEnd conf k steps × ((f : StreamFault) × Broke conf k f steps replies))
+          → broken d ≡ true
+      by_ending (Err fs) e h =
+          faults-break laws conf streams others answers sinks_too other after_too run_too k d fs there_too e whole
+      by_ending (Ok st) e (inl h) =
+          absurd
+          (subst (λ x. Stands x h.0) e (push-faults-are-told laws conf streams steps replies sinks new after run k h.0 h.1))
+      by_ending (Ok st) e (inr h) = by_end h.1.0 h.1.1 (m.asked (asks h.0))

@@ -17,8 +17,8 @@ mod session;
 mod undo;
 mod view;
 
-pub use cuts::cut_law;
 pub use calls::{Event, Fault, Pushed, Reply, Step, ViewFault};
+pub use cuts::cut_law;
 pub use laws::{refusal_law, sample_law};
 pub use session::Session;
 

@@ -105,8 +105,8 @@ joined_fits tables side (Some l) row all is looked fit =
     let t : Table = table_at tables (suc l.side) in
     let slim = (All-get_or IsTable tables (suc l.side) no_table is.0 all).columns.slim in
     let P : ℕ → Type 0 = λ n.
-        IfSome (option_map (λ more. row ++ more) (or_missing l.missing n (looked_up (Some l) side row)))
-        (AreFit ((table_at tables 0).columns ++ t.columns)) in
+    IfSome (option_map (λ more. row ++ more) (or_missing l.missing n (looked_up (Some l) side row)))
+    (AreFit ((table_at tables 0).columns ++ t.columns)) in
     subst P (sym is.2)
     (with_side (table_at tables 0).columns t.columns l.missing row (looked_up (Some l) side row) fit
     (nulls_fit t.columns slim) (fit_some t.columns (looked_up (Some l) side row) looked))

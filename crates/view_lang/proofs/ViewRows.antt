@@ -245,7 +245,7 @@ module _ (fs : List (Rose NamedType)) (such : AreSuch fs) (rows : List (List Dat
   outputs_summable (groups by os) is = (
     few,
     All-weaker (AreFit fs) (λ row. All (λ o. IsSummable o.aggregate row) os) (λ row fit. row_summable fs by os row is.1 fit)
-    rows all,
+        rows all,
   )
 
 -- The laws
@@ -279,5 +279,5 @@ views_have_few_rows tables v side input is =
       length_first v.first (sorted (row_cmp v.order) made),
       length-sorted (row_cmp v.order) made,
       outputs_few fs (joined_such tables v.lookup is.right is.view.lookup) rows (input_fits tables v side input is)
-      (input_few tables v side input is) v.outputs,
+          (input_few tables v side input is) v.outputs,
     )
