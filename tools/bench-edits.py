@@ -1,6 +1,6 @@
 #!/usr/bin/env python3
 """Processor time and memory of edits by `lv run`: rows that come in batches, beside `lv recast` of the same stream, and then edits of one row
-each over 10,000 and over 1,000,000 live rows. Rows are of int64, utf8 of 10 bytes and int64."""
+each over 10,000 and over 1,000,000 live rows; and of writing views of these. Rows are of int64, utf8 of 10 bytes and int64."""
 
 import os
 import struct
@@ -26,6 +26,14 @@ role = "append"
 role = "retract"
 [view.all]
 columns = [["i", "col", "i"], ["n", "col", "n"], ["a", "col", "a"]]
+[view.sorted]
+columns = [["i", "col", "i"], ["n", "col", "n"], ["a", "col", "a"]]
+order = [["n", "asc"], ["a", "desc"]]
+[view.groups]
+group = ["n"]
+columns = [["n", "col", "n"], ["rows", "count"], ["sum", "sum", "a"], ["most", "greatest", "a"]]
+order = [["sum", "desc"]]
+first = 10
 """
 NUMBER = field(2, 64, 1, name=b"i")
 SCHEMA = schema([NUMBER, field(5, name=b"n"), field(2, 64, 1, name=b"a")])
@@ -63,8 +71,9 @@ class Bench:
         self.write("more", SCHEMA + b"".join(rows_from(live + it, 1) for it in range(edits)) + END_MARK)
         self.write("gone", schema([NUMBER]) + b"".join(keys_from(live + it, 1) for it in range(edits)) + END_MARK)
 
-    def run(self, feeds):
-        self.write("script", "".join(f"feed {it} {self.path(it)}\n" for it in feeds).encode())
+    def run(self, feeds, views=()):
+        lines = [f"feed {it} {self.path(it)}" for it in feeds] + [f"write {it} {self.path('out')}" for it in views]
+        self.write("script", ("\n".join(lines) + "\n").encode())
         return measured([LV, "run", self.path("config"), self.path("script")])
 
 
@@ -97,6 +106,8 @@ def main():
             print(f"{live:,} rows in batches of 1,024: {rows[0]:.2f} s, {rows[1] / live:.0f} bytes a row; recast {recast[0]:.2f} s")
             print(f"  then {edits:,} appends of one row: {1e6 * (more[0] - rows[0]) / edits:.1f} microseconds each")
             print(f"  then {edits:,} retracts of one row: {1e6 * (gone[0] - more[0]) / edits:.1f} microseconds each")
+            for view in ("all", "sorted", "groups"):
+                print(f"  view {view} written: {bench.run(['rows'], [view])[0] - rows[0]:.2f} s")
 
 
 if __name__ == "__main__":
