@@ -130,7 +130,8 @@ record Moves (conf : Config) (st : Step) (re : Reply) (t : State) (k : ℕ) (c :
   there : slice_get t.channels k ≡ Some next
   stays : broken c ≡ true → broken next ≡ true
   fell : broken c ≡ false → broken next ≡ true
-      → ((f : StreamFault) × BreaksByPush conf k f st re) ⊎ (AsksNow conf k st × ((f : StreamFault) × Breaks conf k f st re))
+      → ((f : StreamFault) × BreaksByPush conf k f st re) ⊎
+      (AsksNow conf k st × ((f : StreamFault) × Breaks conf k f st re))
   asked : AsksNow conf k st → EndsWell conf k st re ⊎ (broken next ≡ true)
 
 module _ (conf : Config) (s t : State) (k : ℕ) (c : Channel) (here : slice_get s.channels k ≡ Some c) where
@@ -145,7 +146,8 @@ module _ (conf : Config) (s t : State) (k : ℕ) (c : Channel) (here : slice_get
     asked = λ h. absurd h;
   }
 
-  pushed-with : (name piece : Bor (List ℕ)) (answer : Result Pushed Fault) (bytes : List ℕ) (gave : Result Given StreamFault)
+  pushed-with : (name piece : Bor (List ℕ)) (answer : Result Pushed Fault) (bytes : List ℕ)
+      (gave : Result Given StreamFault)
       → place_in conf name.now ≡ k → broken c ≡ false
       → answer ≡ push_answer (tables_of conf) c.role s.past gave
       → slice_get t.channels k ≡ Some (push_channel c bytes gave)
@@ -154,7 +156,8 @@ module _ (conf : Config) (s t : State) (k : ℕ) (c : Channel) (here : slice_get
     next = push_channel c bytes (Ok g);
     there = there;
     stays = λ b. absurd (both-ways (broken c) b whole);
-    fell = λ w b. absurd (both-ways (is_broken (after_push c.fed bytes (Ok g)).condition) b (push-keeps c.fed bytes g whole));
+    fell = λ w b. absurd (both-ways (is_broken (after_push c.fed bytes (Ok g)).condition) b
+        (push-keeps c.fed bytes g whole));
     asked = λ h. absurd h;
   }
   pushed-with name piece answer bytes (Err f) at whole answers there = record {
@@ -165,7 +168,8 @@ module _ (conf : Config) (s t : State) (k : ℕ) (c : Channel) (here : slice_get
     asked = λ h. absurd h;
   }
 
-  elsewhere : (j : ℕ) (past : Past) (next : Channel) → (k ≡ j → ⊥) → t ≡ moved s j past next → slice_get t.channels k ≡ Some c
+  elsewhere : (j : ℕ) (past : Past) (next : Channel) → (k ≡ j → ⊥) → t ≡ moved s j past next
+      → slice_get t.channels k ≡ Some c
   elsewhere j past next differ leads =
       ap (λ x. slice_get x.channels k) leads ∙ get-other s.channels j k next differ ∙ here
 
@@ -178,10 +182,12 @@ module _ (conf : Config) (s t : State) (k : ℕ) (c : Channel) (here : slice_get
   unmoved same = ap (λ x. slice_get x.channels k) same ∙ here
 
   push-moves : (name piece : Bor (List ℕ)) (answer : Result Pushed Fault)
-      → PushTo (tables_of conf) s (place_in conf name.now) (slice_get s.channels (place_in conf name.now)) piece.now answer t
+      → PushTo (tables_of conf) s (place_in conf name.now)
+      (slice_get s.channels (place_in conf name.now)) piece.now answer t
       → Moves conf (step.Push name piece) (reply.Push answer) t k c
   push-moves name piece answer happened = by_channel (slice_get s.channels (place_in conf name.now)) refl happened where
-    by_piece : (d : Channel) → k ≡ place_in conf name.now → d ≡ c → (xs : List ℕ) (b : Bool) → broken d ≡ b → (past : Past)
+    by_piece : (d : Channel) → k ≡ place_in conf name.now → d ≡ c → (xs : List ℕ) (b : Bool) → broken d ≡ b →
+        (past : Past)
         (next : Channel)
         → PushBy (tables_of conf) s.past d b xs answer past next → t ≡ moved s (place_in conf name.now) past next
         → Moves conf (step.Push name piece) (reply.Push answer) t k c
@@ -267,7 +273,8 @@ module _ (conf : Config) (s t : State) (k : ℕ) (c : Channel) (here : slice_get
         finish-past name answer (λ e. none-some c (sym at ∙ ap (λ i. slice_get s.channels i) e ∙ here)) (unmoved h.1)
     by_channel (Some d) at h = elim (same_by k (place_in conf name.now)) [
       | inl e ↦ by_broken d e.1
-          (same_Some d c (sym at ∙ ap (λ i. slice_get s.channels i) (sym e.1) ∙ here)) (broken d) refl h.channel h.finishes
+          (same_Some d c (sym at ∙ ap (λ i. slice_get s.channels i) (sym e.1) ∙ here))
+          (broken d) refl h.channel h.finishes
           h.leads
       | inr e ↦ finish-past name answer (λ x. e.1 (sym x))
           (elsewhere (place_in conf name.now) s.past h.channel e.1 h.leads)
@@ -294,7 +301,8 @@ module _ (conf : Config) (s t : State) (k : ℕ) (c : Channel) (here : slice_get
   step-moves _ _ sinks ls h = elim h [ ]
 
 -- what a run does to the feed k, which stood so
-record Leads (conf : Config) (steps : List Step) (replies : List Reply) (new : State) (k : ℕ) (c : Channel) : Type 0 where
+record Leads (conf : Config) (steps : List Step) (replies : List Reply) (new : State) (k : ℕ)
+    (c : Channel) : Type 0 where
   next : Channel
   there : slice_get new.channels k ≡ Some next
   stays : broken c ≡ true → broken next ≡ true
@@ -362,7 +370,8 @@ breaks-in-both laws conf streams steps others replies answers sinks after sinks_
     d is there there_too whole asks broke =
     by_ending (told_at conf streams k).ending refl (l.fell refl (ap (λ x. broken x) (sym same) ∙ broke)) where
       l : Leads conf steps replies new k (opened (tables_of conf) plan)
-      l = leads conf steps replies sinks after (start conf) new k (opened (tables_of conf) plan) (first-channel conf k plan is)
+      l = leads conf steps replies sinks after (start conf) new k (opened (tables_of conf) plan)
+          (first-channel conf k plan is)
           run.runs
 
       m : Leads conf others answers other k (opened (tables_of conf) plan)
@@ -391,5 +400,6 @@ breaks-in-both laws conf streams steps others replies answers sinks after sinks_
           faults-break laws conf streams others answers sinks_too other after_too run_too k d fs there_too e whole
       by_ending (Ok st) e (inl h) =
           absurd
-          (subst (λ x. Stands x h.0) e (push-faults-are-told laws conf streams steps replies sinks new after run k h.0 h.1))
+          (subst (λ x. Stands x h.0) e
+          (push-faults-are-told laws conf streams steps replies sinks new after run k h.0 h.1))
       by_ending (Ok st) e (inr h) = by_end h.1.0 h.1.1 (m.asked (asks h.0))
