@@ -13,6 +13,7 @@ pub mod Refusing
 pub mod Sample
 pub mod Inputs
 pub mod Written
+pub mod Readings
 mod Telling
 mod Replaying
 mod Breaking

@@ -1071,7 +1071,7 @@ module _ (laws : FeedLaws) (conf : Config) (ends : ℕ → Reading FeedState) (m
         goes bytes (ap (λ o. written_by conf o n (record { past = s.past; bytes = bytes })) there)
         (subst (λ l. Took bytes before l)
         (sym (w.result ∙ ap (λ x. slice_set sinks n x) h.1 ∙ set-same sinks n w.old w.there)) took)
-    by_view (Some view) there h = by_answer view there answer refl h
+    by_view (Some view) there h = by_answer view there answer refl h.0
 
   step-goes : (st : Step) (re : Reply) → IsAmple re → OffersNow conf streams st re → Steps conf s sinks st re t ls
       → Goes conf ends st re messages streams bytes before s t ls

@@ -71,6 +71,7 @@ use Rattle.session.specs.Steps.{
   State,
   UndoTo,
   Undoes,
+  IsReadIfWhole,
   WriteAnswers,
   WriteStep,
   WritesView,
@@ -276,21 +277,28 @@ live_shown p s x n shown is many =
     ∙ ap (λ (w : World). length (contents_at w 0).live)
     (rows_shown p s shown ∙ ap (λ ts. world ts s.past.edits) (sym (tables_told p shown.main)))
 
+-- nothing is asked of what wasn't written whole
+pub refused_read :
+    (tables : List Table) (v : View) (w : World) (answer : Result ℕ ViewFault) (f : ViewFault) → answer ≡ Err f
+    → IsReadIfWhole tables v w answer
+refused_read tables v w answer f is = subst (IsReadIfWhole tables v w) (sym is) tt
+
 pub write_known :
     (p q : SessionParts) (name : List ℕ) (k : ℕ) (v : View) (old new : Sunk) (answer : Result ℕ ViewFault)
     → k ≡ place_of name (map (λ x. x.name) p.views) → k < length p.views → v ≡ get_or p.views k v
-    → WriteAnswers old new answer (stream_of (tables_in p.stores) v (world_of (rows_in p.stores))) → (tables_in
-    q.stores) ≡ (tables_in p.stores)
+    → WriteAnswers old new answer (stream_of (tables_in p.stores) v (world_of (rows_in p.stores)))
+    → IsReadIfWhole (tables_in p.stores) v (world_of (rows_in p.stores)) answer
+    → (tables_in q.stores) ≡ (tables_in p.stores)
     → (rows_in q.stores) ≡ (rows_in p.stores) → q.links ≡ p.links → q.records ≡ p.records
     → IsStep p (λ s t. WriteStep (config_of p) s name old answer new × (t ≡ s)) q
-write_known p q name k v old new answer at below is writes table slots links records s shown =
+write_known p q name k v old new answer at below is writes read table slots links records s shown =
     let found : slice_get p.views k ≡ Some v = slice_get-get_or p.views k v below ∙ ap (λ x. Some x) (sym is) in
     let there : view_in (config_of p) name ≡ Some v =
     subst (λ (n : ℕ). slice_get p.views n ≡ Some v) at found in
     let rows : WriteAnswers old new answer (stream_of (tables_in p.stores) v (world (tables_in p.stores) s.past.edits))
-    =
-    subst (λ (w : World). WriteAnswers old new answer (stream_of (tables_in p.stores) v w)) (rows_shown p s shown)
-    writes in
+    × IsReadIfWhole (tables_in p.stores) v (world (tables_in p.stores) s.past.edits) answer =
+    subst (λ (w : World). WriteAnswers old new answer (stream_of (tables_in p.stores) v w)
+    × IsReadIfWhole (tables_in p.stores) v w answer) (rows_shown p s shown) (writes, read) in
     let goes : WritesView (tables_in p.stores) s.past (view_in (config_of p) name) old answer new =
     subst (λ (o : Option View). WritesView (tables_in p.stores) s.past o old answer new) (sym there) rows in
     let step : WriteStep (config_of p) s name old answer new =

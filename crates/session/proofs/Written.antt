@@ -1,11 +1,37 @@
 -- The rows of a view can be written.
-use Rattle.std.proofs.Common.{◌≡◌, ◌<◌, ◌≤◌, All, List, length, ap, subst, sym, ◌∙◌, arith}
+use Rattle.std.proofs.Common.{
+  ◌≡◌,
+  ◌<◌,
+  ◌≤◌,
+  ◌&&◌,
+  true,
+  All,
+  Result,
+  Ok,
+  Err,
+  OnOk,
+  List,
+  length,
+  refl,
+  ap,
+  ap₂,
+  le-leb,
+  subst,
+  sym,
+  ◌∙◌,
+  arith,
+}
 use Rattle.std.proofs.lemmas.List.Elements.{All-weaker}
 use Rattle.values.specs.Datum.{Datum}
-use Rattle.values.specs.Limits.{max_main_rows}
-use Rattle.values.specs.Logical.{NamedType}
+use Rattle.values.specs.Layouts.{slot}
+use Rattle.values.specs.Limits.{max_main_rows, max_slot}
+use Rattle.values.specs.Logical.{NamedType, trees_of}
 use Rattle.values.specs.Rose.{Rose, node, Roses, none, more, kids_of}
+use Rattle.values.specs.declared.layout.Layout.{Layout}
+use Rattle.schema_meta.specs.FieldLayouts.{are_within_slot, is_within_slot}
+use Rattle.schema_meta.specs.SchemaLaw.{AreNamed}
 use Rattle.schema_meta.specs.SchemaTree as written
+use Rattle.stream_writer.specs.RoundTrip.{MeansItsTable}
 use Rattle.stream_writer.specs.Stream.{canon}
 use Rattle.stream_writer.specs.Table as writer
 use Rattle.view_lang.specs.Config.{Table, View}
@@ -14,13 +40,13 @@ use Rattle.view_lang.specs.Joined.{Side}
 use Rattle.view_lang.specs.Laws.{Viewed, ViewsAreTables, ViewsCanSum, ViewsHaveFewRows, ViewsHaveRows}
 use Rattle.view_lang.specs.Rows.{IsRow, RowsAreLight}
 use Rattle.view_lang.specs.Sums.{CanSum}
-use Rattle.view_lang.specs.TableRules.{AreColumns, AreWithin, IsTable, IsWithin}
+use Rattle.view_lang.specs.TableRules.{AreColumns, AreSlim, AreWithin, IsSlim, IsTable, IsWithin}
 use Rattle.view_lang.specs.ViewColumns.{view_columns}
-use Rattle.view_lang.specs.Views.{shown_rows, view_rows}
+use Rattle.view_lang.specs.Views.{shown_rows, view_of, view_rows}
 use Rattle.row_keys.specs.Slots.{live}
 use Rattle.session.specs.Inputs.{AreInput, side_by}
 use Rattle.session.specs.Shows.{Rows, rows_at, world_of}
-use Rattle.session.specs.Steps.{stream_of}
+use Rattle.session.specs.Steps.{IsReadAsView, stream_of}
 use Rattle.session.proofs.Pasts.{contents_there}
 
 mutual
@@ -99,3 +125,41 @@ stream_is tables rows v fields input shown some made named same =
     ∙ ap (canon (view_columns tables v)) (shown_is tables rows v input shown made same)
     ∙ ap (λ c. canon (view_columns tables v) (view_rows v (side_by tables rows v) c.live))
     (sym (contents_there rows 0 some))
+
+mutual
+  within_slot : (t : Rose Layout) → IsSlim t → is_within_slot t ≡ true
+  within_slot (node l kids) h =
+      ap₂ (λ a b. a && b) (le-leb (slot (node l kids)) max_slot h.0) (all_within_slot kids h.1)
+
+  all_within_slot : (ts : Roses Layout) → AreSlim ts → are_within_slot ts ≡ true
+  all_within_slot none h = refl
+  all_within_slot (more t ts) h = ap₂ (λ a b. a && b) (within_slot t h.0) (all_within_slot ts h.1)
+
+columns_named : (fields : List (Rose NamedType)) → AreColumns fields → AreNamed fields
+columns_named fields own = record {
+  logical = own.logical;
+  layouts = own.layouts;
+  shallow = own.shallow;
+  within_slot = all_within_slot (trees_of (kids_of fields)) own.slim;
+}
+
+pub on_ok : {X E : Type 0} (r : Result X E) (P : Type 0) → P → OnOk r P
+on_ok (Ok x) P p = p
+on_ok (Err e) P p = tt
+
+-- That stream is read as the view's table.
+pub view_read :
+    (means : MeansItsTable) (views : ViewsAreTables) (tables : List Table) (rows : Rows) (v : View)
+    (fields : List (Rose NamedType)) (input shown : List (List Datum)) → 0 < length rows → All IsTable tables
+    → IsView tables v → AreInput tables rows v (main_rows rows) input → fields ≡ view_columns tables v
+    → shown ≡ shown_rows v input → writer.IsTable fields shown → IsReadAsView tables v (world_of rows)
+view_read means views tables rows v fields input shown some right is made named same fits =
+    let columns : List (Rose NamedType) = view_columns tables v in
+    let whole : List (List Datum) = view_of tables v (world_of rows) in
+    let cells : shown ≡ whole =
+    shown_is tables rows v input shown made same
+    ∙ ap (λ c. view_rows v (side_by tables rows v) c.live) (sym (contents_there rows 0 some)) in
+    let fit : writer.IsTable columns whole =
+    subst (λ (fs : List (Rose NamedType)). writer.IsTable fs whole) named
+    (subst (λ (xs : List (List Datum)). writer.IsTable fields xs) cells fits) in
+    means columns whole fit (columns_named columns (views tables v right is))

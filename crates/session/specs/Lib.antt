@@ -5,5 +5,6 @@ pub mod Shows
 pub mod Inputs
 pub mod Changes
 pub mod Laws
+pub mod Readings
 pub mod Sample
 pub mod Cuts

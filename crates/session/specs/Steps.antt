@@ -25,7 +25,9 @@ use Rattle.std.specs.Prelude.{
 use Rattle.values.specs.StreamCauses.{cause_of as cause_named}
 use Rattle.values.specs.declared.causes.Cause.TheVariants as cause
 use Rattle.values.specs.declared.faults.StreamFault.{StreamFault}
+use Rattle.schema_meta.specs.Means.{Means}
 use Rattle.schema_meta.specs.Rows.{rows_in}
+use Rattle.schema_meta.specs.Story.{story_of}
 use Rattle.stream_writer.specs.Sinks.{Sunk, Writes}
 use Rattle.stream_writer.specs.Stream.{canon}
 use Rattle.feed.specs.Events.{Event as Message, batch, dictionary, ended, schema, Given}
@@ -244,11 +246,22 @@ WriteAnswers old new (Ok n) whole = Writes old new (Ok n) whole
 WriteAnswers old new (Err (view_fault.Write f)) whole = Writes old new (Err f) whole
 WriteAnswers old new (Err view_fault.UnknownView) whole = ⊥
 
+-- Read by the format's rules, the stream of a view is the view's table: no fault stands in it, and its columns and rows
+-- are the view's.
+abbrev pub IsReadAsView : List Table → View → World → Type 0
+IsReadAsView tables view w =
+    Means (story_of (stream_of tables view w)) (view_columns tables view) (view_of tables view w)
+
+abbrev pub IsReadIfWhole : List Table → View → World → Result ℕ ViewFault → Type 0
+IsReadIfWhole tables view w (Ok n) = IsReadAsView tables view w
+IsReadIfWhole tables view w (Err f) = Unit {0}
+
 -- A write of a view answers so, and does this to its sink.
 abbrev pub WritesView : List Table → Past → Option View → Sunk → Result ℕ ViewFault → Sunk → Type 0
 WritesView tables past None old answer new = (answer ≡ Err view_fault.UnknownView) × (new ≡ old)
 WritesView tables past (Some view) old answer new =
     WriteAnswers old new answer (stream_of tables view (world tables past.edits))
+    × IsReadIfWhole tables view (world tables past.edits) answer
 
 -- Steps
 

@@ -6,6 +6,7 @@ ghost use Rattle.feed.specs.Events.{given};
 ghost use Rattle.view_lang.specs.ConfigRules.{IsConfig};
 ghost use Rattle.view_lang.specs.declared.config.Role.TheVariants as role;
 ghost use Rattle.session.specs.Laws.{MemoryChangesNothing, OthersStay, RefusalsKeepEdits};
+ghost use Rattle.session.specs.Readings.{WrittenIsRead};
 ghost use Rattle.session.specs.Sample.{after_two, row_again, sample_config, sample_tables, two_rows};
 ghost use Rattle.session.specs.Steps.{no_edits, push_answer, push_past, pushed, undone};
 ghost use Rattle.session.specs.declared.calls.Event.TheVariants as event;
@@ -17,6 +18,13 @@ pub fn refusal_law()
     ensures edits { RefusalsKeepEdits }
     ensures memory { MemoryChangesNothing }
     ensures others { OthersStay }
+{}
+
+/// What a run of a fresh session wrote of a view, read by the format's rules, is exactly the table that the view's
+/// definition gives from scratch on the rows left by the accepted edits that aren't undone by then.
+#[tactic(auto, using(crate::proofs::Readings::written_read))]
+pub fn reading_law()
+    ensures { WrittenIsRead }
 {}
 
 /// Some steps of a small configuration: a batch that is accepted, one that names a live key, and an undo.

@@ -19,7 +19,7 @@ mod view;
 
 pub use calls::{Event, Fault, Pushed, Reply, Step, ViewFault};
 pub use cuts::cut_law;
-pub use laws::{refusal_law, sample_law};
+pub use laws::{reading_law, refusal_law, sample_law};
 pub use session::Session;
 
 #[cfg(test)]

@@ -345,6 +345,26 @@ fn undoes_what_was_put(rt: HostRuntime) -> Result<(), Fail> {
     Ok(())
 }
 
+#[test]
+fn refuses_a_key_put_twice(rt: HostRuntime) -> Result<(), Fail> {
+    let mut session = open(rt.alloc())?;
+    push_rows(&mut session, "add", &SAMPLE);
+    push_rows(&mut session, "put", &SAMPLE);
+    let mut twice = with_value(11);
+    twice[448] = 1;
+    assert_eq!(rt;
+        session.push("put", &twice[232..496]),
+        Err(Fault {
+            cause: Cause::DuplicateKey,
+            used: 264
+        })
+    );
+    let mut sink = MemorySink::new(rt.alloc());
+    assert_eq!(rt; session.write_view("named", &mut sink), Ok(504));
+    assert_eq!(rt; sink.bytes(), SAMPLE.as_slice());
+    Ok(())
+}
+
 /// How many bytes of a piece were consumed.
 fn used(pushed: Result<Pushed, Fault>) -> usize {
     match pushed {

@@ -16,11 +16,11 @@ ghost use Rattle.view_lang.specs.Views.{side_in};
 ghost use Rattle.row_keys.specs.Slots.{live, row_of};
 ghost use Rattle.session.specs.Inputs.{AreInput, IsInput, listed};
 ghost use Rattle.session.specs.Shows.{rows_at, rows_in, tables_in, world_of};
-ghost use Rattle.session.specs.Steps.{stream_of};
+ghost use Rattle.session.specs.Steps.{IsReadAsView, stream_of};
 
 use row_keys::RowStore;
 use std::alloc::{AllocError, Global};
-use stream_writer::{Sink, WriteFault, write_table};
+use stream_writer::{Sink, WriteFault, canon_law, write_table};
 use values::{Kind, Row, Schema, Value};
 use view_lang::{Lookup, View, config_law, rows_law};
 
@@ -129,12 +129,15 @@ pub(crate) fn write_rows<S: Sink>(
     requires schema { schema.now.fields.items ≡ view_columns (tables_in stores.old.items) view.now }
     ensures writes { Writes (S.sunk sink.old) (S.sunk sink.new) result
         (stream_of (tables_in stores.old.items) view.now (world_of (rows_in stores.old.items))) }
+    ensures read { OnOk result
+        (IsReadAsView (tables_in stores.old.items) view.now (world_of (rows_in stores.old.items))) }
     ensures tables { tables_in stores.new.items ≡ tables_in stores.old.items }
     ensures rows { rows_in stores.new.items ≡ rows_in stores.old.items }
 {
-    // They do nothing: the proof takes from them that the rows of a view can be written.
+    // They do nothing: the proof takes from them that the rows of a view can be written, and are read as they were.
     config_law();
     rows_law();
+    canon_law();
     let input = input(alloc, stores, view)?;
     let shown = view.show(alloc, input)?;
     write_table(alloc, sink, schema, &shown)

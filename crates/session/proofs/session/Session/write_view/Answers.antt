@@ -6,9 +6,9 @@ use Rattle.stream_writer.specs.Sinks.{Sunk}
 use Rattle.view_lang.specs.Config.{View}
 use Rattle.session.specs.Names.{place_of}
 use Rattle.session.specs.Shows.{IsStep, SessionParts, columns_of, config_of, rows_in, tables_in, world_of}
-use Rattle.session.specs.Steps.{WriteAnswers, WriteStep, stream_of}
+use Rattle.session.specs.Steps.{IsReadIfWhole, WriteAnswers, WriteStep, stream_of}
 use Rattle.session.specs.declared.calls.ViewFault.TheVariants.{Write}
-use Rattle.session.proofs.Sessions.{parts, schema_there, session_kept, view_there, write_known}
+use Rattle.session.proofs.Sessions.{parts, refused_read, schema_there, session_kept, view_there, write_known}
 use Rattle.session.proofs.session.Session.write_view.Goals as goal
 
 pub write_rows-requires-clause-view : goal.write_rows-requires-clause-view
@@ -48,11 +48,15 @@ invariant_of-self g c =
     WriteAnswers old new c.from_residual.result
     (stream_of (tables_in p.stores) c.index.result.now (world_of (rows_in p.stores))) =
     rw saturated c.in_err-written.ensures.writes in
+    let read :
+    IsReadIfWhole (tables_in p.stores) c.index.result.now (world_of (rows_in p.stores)) c.from_residual.result =
+    refused_read (tables_in p.stores) c.index.result.now (world_of (rows_in p.stores)) c.from_residual.result
+    (Write c.in_err-written.field-0.0) saturated in
     session_kept p q (λ s t. WriteStep (config_of p) s c.args.view.now old c.from_residual.result new × (t ≡ s))
     c.self.inside.records.capacity c.self.inside.records.capacity (columns_of c.self.inside.schemas.items)
     c.self.invariant
     (write_known p q c.args.view.now c.view_place-place.result c.index.result.now old new
-    c.from_residual.result at below c.index.ensures writes
+    c.from_residual.result at below c.index.ensures writes read
     c.write_rows.ensures.tables c.write_rows.ensures.rows refl refl)
     c.write_rows.ensures.tables refl c.self.invariant.capacity_is
 
@@ -76,7 +80,8 @@ invariant_of-self-2 g c =
     c.self.invariant
     (write_known p q c.args.view.now c.view_place-place.result c.index.result.now old new
     (Ok c.in_ok-written.written) at below c.index.ensures
-    c.in_ok-written.ensures.writes c.write_rows.ensures.tables c.write_rows.ensures.rows refl refl)
+    c.in_ok-written.ensures.writes c.in_ok-written.ensures.read c.write_rows.ensures.tables
+    c.write_rows.ensures.rows refl refl)
     c.write_rows.ensures.tables refl c.self.invariant.capacity_is
 
 pub returns-in_err-written-clause-step : goal.returns-in_err-written-clause-step
@@ -101,11 +106,15 @@ returns-in_err-written-clause-step g c =
     WriteAnswers old new c.from_residual.result
     (stream_of (tables_in p.stores) c.index.result.now (world_of (rows_in p.stores))) =
     rw saturated c.in_err-written.ensures.writes in
+    let read :
+    IsReadIfWhole (tables_in p.stores) c.index.result.now (world_of (rows_in p.stores)) c.from_residual.result =
+    refused_read (tables_in p.stores) c.index.result.now (world_of (rows_in p.stores)) c.from_residual.result
+    (Write c.in_err-written.field-0.0) saturated in
     subst (λ (x : SessionParts). IsStep x
     (λ s t. WriteStep (config_of x) s c.args.view.now old c.from_residual.result new × (t ≡ s)) q)
     c.self.view_is
     (write_known p q c.args.view.now c.view_place-place.result c.index.result.now old new
-    c.from_residual.result at below c.index.ensures writes
+    c.from_residual.result at below c.index.ensures writes read
     c.write_rows.ensures.tables c.write_rows.ensures.rows refl refl)
 
 pub returns-clause-step : goal.returns-clause-step
@@ -128,4 +137,5 @@ returns-clause-step g c =
     c.self.view_is
     (write_known p q c.args.view.now c.view_place-place.result c.index.result.now old new
     (Ok c.in_ok-written.written) at below c.index.ensures
-    c.in_ok-written.ensures.writes c.write_rows.ensures.tables c.write_rows.ensures.rows refl refl)
+    c.in_ok-written.ensures.writes c.in_ok-written.ensures.read c.write_rows.ensures.tables
+    c.write_rows.ensures.rows refl refl)
