@@ -1,8 +1,11 @@
 #!/usr/bin/env python3
 """Processor time and memory of edits by `lv run`: rows that come in batches, beside `lv recast` of the same stream, and then edits of one row
-each over 10,000 and over 1,000,000 live rows; and of writing views of these. Rows are of int64, utf8 of 10 bytes and int64."""
+each over 10,000 and over 1,000,000 live rows; and of writing views of these. Rows are of int64, utf8 of 10 bytes and int64. Where valgrind is
+there, the instructions of an edit and of an undo too, which other work on the machine doesn't change."""
 
 import os
+import re
+import shutil
 import struct
 import subprocess
 import sys
@@ -14,6 +17,7 @@ from streams import END_MARK, batch, field, schema
 LV = "crates/lv/out/lv"
 GNU_TIME = "/usr/bin/time"
 TURNS = 3
+UNDOS = 64
 CONFIG = """
 [main]
 key = "i"
@@ -71,10 +75,16 @@ class Bench:
         self.write("more", SCHEMA + b"".join(rows_from(live + it, 1) for it in range(edits)) + END_MARK)
         self.write("gone", schema([NUMBER]) + b"".join(keys_from(live + it, 1) for it in range(edits)) + END_MARK)
 
-    def run(self, feeds, views=()):
-        lines = [f"feed {it} {self.path(it)}" for it in feeds] + [f"write {it} {self.path('out')}" for it in views]
+    def command(self, feeds, views=(), undos=0):
+        lines = [f"feed {it} {self.path(it)}" for it in feeds] + ["undo"] * undos + [f"write {it} {self.path('out')}" for it in views]
         self.write("script", ("\n".join(lines) + "\n").encode())
-        return measured([LV, "run", self.path("config"), self.path("script")])
+        return [LV, "run", self.path("config"), self.path("script")]
+
+    def run(self, feeds, views=()):
+        return measured(self.command(feeds, views))
+
+    def instructions(self, feeds, undos=0):
+        return instructions(self.command(feeds, undos=undos))
 
 
 def measured(words):
@@ -87,6 +97,21 @@ def measured(words):
         user, system, kilobytes = ran.stderr.split()
         runs.append((float(user) + float(system), 1000 * int(kilobytes)))
     return min(runs)
+
+
+def instructions(words):
+    """The instructions of a run."""
+    counting = ["valgrind", "--tool=callgrind", "--callgrind-out-file=/dev/null"]
+    ran = subprocess.run([*counting, *words], stdout=subprocess.DEVNULL, stderr=subprocess.PIPE, text=True)
+    return int(re.search(r"Collected : (\d+)", ran.stderr).group(1))
+
+
+def count_instructions(bench, edits):
+    rows, more = bench.instructions(["rows"]), bench.instructions(["rows", "more"])
+    gone = bench.instructions(["rows", "more", "gone"])
+    undone = (bench.instructions(["rows", "more"], UNDOS) - more, bench.instructions(["rows", "more", "gone"], UNDOS) - gone)
+    each = [(more - rows) / edits, (gone - more) / edits, undone[0] / UNDOS, undone[1] / UNDOS]
+    print("  instructions of an append, a retract, and the undo of either: " + ", ".join(f"{it:,.0f}" for it in each))
 
 
 def main():
@@ -108,6 +133,9 @@ def main():
             print(f"  then {edits:,} retracts of one row: {1e6 * (gone[0] - more[0]) / edits:.1f} microseconds each")
             for view in ("all", "sorted", "groups"):
                 print(f"  view {view} written: {bench.run(['rows'], [view])[0] - rows[0]:.2f} s")
+            if shutil.which("valgrind"):
+                bench.streams(live, edits // 10)
+                count_instructions(bench, edits // 10)
 
 
 if __name__ == "__main__":
