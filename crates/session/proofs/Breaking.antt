@@ -5,8 +5,6 @@ use Rattle.std.proofs.Common.{
   inl,
   inr,
   ℕ,
-  zero,
-  suc,
   Bool,
   true,
   false,
@@ -26,27 +24,20 @@ use Rattle.std.proofs.Common.{
   subst,
   ◌∙◌,
 }
-use Rattle.std.specs.Prelude.{All, map, slice_get, slice_set}
+use Rattle.std.specs.Prelude.{slice_get, slice_set}
 use Rattle.std.proofs.lemmas.Option.{slice_get-map, same_Some, none-some}
 use Rattle.std.specs.Option.{option_map}
-use Rattle.values.specs.Reading.{Faults, Reading, Stands}
-use Rattle.values.specs.StreamCauses.{cause_of as cause_named}
-use Rattle.values.specs.declared.causes.Cause.TheVariants as cause
+use Rattle.values.specs.Reading.{Reading, Stands}
 use Rattle.values.specs.declared.faults.StreamFault.{StreamFault}
-use Rattle.values.specs.declared.faults.StreamFault.TheVariants as fault
 use Rattle.stream_writer.specs.Sinks.{Sunk}
-use Rattle.feed.specs.Events.{Event as Message, Given, given, batch, dictionary, ended, schema}
+use Rattle.feed.specs.Events.{Event as Message, Given, batch, dictionary, ended, schema}
 use Rattle.feed.specs.declared.condition.Condition.{Condition}
-use Rattle.feed.specs.declared.condition.Condition.TheVariants as condition
 use Rattle.feed.specs.States.{FeedState, after_finish, after_push, condition_after, is_broken}
 use Rattle.view_lang.specs.Config.{Config, FeedConfig, tables_of}
-use Rattle.session.specs.Refusals.{refused}
 use Rattle.session.specs.Steps.{
   Channel,
-  Ends,
   FinishBy,
   FinishTo,
-  Gets,
   Past,
   PushBy,
   PushTo,
@@ -80,9 +71,6 @@ use Rattle.session.specs.Cuts.{
   EndsWell,
   IsDone,
   IsFault,
-  IsOfferedWhole,
-  IsRunOn,
-  left_at_end,
   told_at,
 }
 use Rattle.session.proofs.Replaying.{

@@ -12,28 +12,25 @@ use Rattle.std.proofs.Common.{
   None,
   Some,
   Ok,
-  Err,
   length,
   pred,
   take,
   refl,
   ap,
-  sym,
   subst,
 }
-use Rattle.std.specs.Prelude.{slice_get, slice_set}
+use Rattle.std.specs.Prelude.{slice_set}
 use Rattle.std.proofs.Math.Seq.{take-length}
 use Rattle.std.specs.Io.KnownBytes.{Appends}
 use Rattle.stream_writer.specs.Sinks.{Sunk, Writes}
 use Rattle.view_lang.specs.Config.{Config, View, tables_of}
-use Rattle.view_lang.specs.World.{World, world}
+use Rattle.view_lang.specs.World.{world}
 use Rattle.session.specs.Readings.{WrittenIsRead, WroteView}
 use Rattle.session.specs.Steps.{Run, State, Steps, WriteTo, WritesView, start, stream_of, view_in}
 use Rattle.session.specs.declared.calls.Reply.{Reply}
 use Rattle.session.specs.declared.calls.Reply.TheVariants as reply
 use Rattle.session.specs.declared.calls.Step.{Step}
 use Rattle.session.specs.declared.calls.Step.TheVariants as step
-use Rattle.session.specs.declared.calls.ViewFault.{ViewFault}
 
 -- a run is the steps before one, this one, and those after it
 record Parted (conf : Config) (s : State) (ks : List Sunk) (steps : List Step) (replies : List Reply) (st : Step)

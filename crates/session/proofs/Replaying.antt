@@ -25,7 +25,6 @@ use Rattle.std.proofs.Common.{
   length,
   take,
   drop,
-  if◌then◌else◌,
   refl,
   ap,
   sym,

@@ -38,7 +38,7 @@ use Rattle.feed.specs.Events.{Event as Message, Given}
 use Rattle.feed.specs.States.{FeedState, Finishes, after_push, fresh, gives, is_broken}
 use Rattle.view_lang.specs.Config.{Config, FeedConfig, View, tables_of}
 use Rattle.view_lang.specs.ViewColumns.{feed_columns}
-use Rattle.view_lang.specs.World.{World, world}
+use Rattle.view_lang.specs.World.{world}
 use Rattle.view_lang.specs.declared.config.Role.{Role}
 use Rattle.view_lang.specs.declared.config.Role.TheVariants as role
 use Rattle.session.specs.Steps.{
