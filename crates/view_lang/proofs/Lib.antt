@@ -18,3 +18,6 @@ pub mod OrderLaws
 pub mod Tuples
 pub mod Keeping
 pub mod Multisets
+pub mod Imaging
+pub mod OneByOne
+pub mod LiveKeys

@@ -33,7 +33,7 @@ use Rattle.view_lang.specs.Cells.{cells_at}
 use Rattle.view_lang.specs.Sorted.{sorted}
 use Rattle.view_lang.specs.RowOrder.{tuple_cmp}
 use Rattle.view_lang.specs.Groups.{tuples_of, same_tuple}
-use Rattle.view_lang.specs.ViewLaws.{TuplesAreOfRows, TuplesAscend, TuplesCover}
+use Rattle.view_lang.specs.ViewLaws.{TuplesAreOfRows, TuplesAscend, TuplesAsk, TuplesCover}
 use Rattle.view_lang.proofs.Orders.{tuple_cmp_total}
 use Rattle.view_lang.proofs.Sorting.{IsPermutation-sorted, arranged-sorted, from_is_eq}
 
@@ -85,6 +85,15 @@ tuples-cover k ks rows row h =
     ∙ list_any-IsPermutation p _ _ (IsPermutation-sorted tuple_cmp (map (cells_at by) rows))
     ∙ any_at p (cells_at by) rows h.0 row h.1 h.2 (ap is_eq (tied_itself tuple_cmp_total t))
 
+pub tuples-ask : TuplesAsk
+unfolding tuples_of
+tuples-ask k ks rows t =
+    let p : List Datum → Bool = same_tuple t in
+    let alike : (x y : List Datum) → same_tuple x y ≡ true → p x ≡ p y =
+    λ x y e. ap is_eq (alike_right tuple_cmp_total x y t (from_is_eq tuple_cmp tuple_cmp_total (tuple_cmp x y) e)) in
+    list_any-dedup p same_tuple alike (sorted tuple_cmp (map (cells_at (k ∷ ks)) rows))
+    ∙ list_any-IsPermutation p _ _ (IsPermutation-sorted tuple_cmp (map (cells_at (k ∷ ks)) rows))
+
 pub tuples-ascend : TuplesAscend
 unfolding tuples_of IsStrictlySortedBy
 tuples-ascend [] rows = (tt, tt)
@@ -98,4 +107,4 @@ tuples-of_rows k ks rows t h =
     Contains-permutation _ _ t (IsPermutation-sorted tuple_cmp (map (cells_at (k ∷ ks)) rows))
     (Contains-from_dedup same_tuple (sorted tuple_cmp (map (cells_at (k ∷ ks)) rows)) t h)
 
-pub ruleset tuple_laws = (tuples-ascend, tuples-of_rows, tuples-cover)
+pub ruleset tuple_laws = (tuples-ascend, tuples-of_rows, tuples-cover, tuples-ask)

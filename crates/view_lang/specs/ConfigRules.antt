@@ -10,7 +10,7 @@ use Rattle.values.specs.Rose.{Rose, kids_of, roses_size}
 use Rattle.view_lang.specs.Config.{Config, FeedConfig, Table, View, tables_of}
 use Rattle.view_lang.specs.Edits.{table_of}
 use Rattle.view_lang.specs.Filter.{Filter, Filters, all_of, compare, negation, no_part, null_in, one_of, part}
-use Rattle.view_lang.specs.Limits.{max_columns, max_feeds, max_side_rows, max_sides, max_views}
+use Rattle.view_lang.specs.Limits.{max_columns, max_feeds, max_side_rows, max_sides, max_sum_precision, max_views}
 use Rattle.view_lang.specs.Outputs.{GroupOutput, Output, Outputs, columns, groups}
 use Rattle.view_lang.specs.TableRules.{IsName, IsTable, type_of}
 use Rattle.view_lang.specs.ViewColumns.{field_at, joined_columns, view_columns}
@@ -32,7 +32,7 @@ IsOrdered fields k = IsColumn fields k × IsSingle (type_of (field_at fields k))
 -- A sum is over whole numbers, or over decimals of at most 28 digits: then 2^24 of them stay below 10^38.
 abbrev pub IsAddable : ColType → Type 0
 IsAddable (col.Int w s) = Unit {0}
-IsAddable (col.Decimal p s) = p ≤ 28
+IsAddable (col.Decimal p s) = p ≤ max_sum_precision
 IsAddable _ = ⊥
 
 -- The columns of a side table come after those of the main table.

@@ -1,11 +1,14 @@
 -- What holds of the views of tables whose rows are as their columns say.
-use Rattle.std.specs.Prelude.{suc, ◌≤◌, All, IfSome, List, [], length, Option, None, Some}
+use Rattle.std.specs.Prelude.{◌≡◌, suc, ◌≤◌, false, All, IfSome, List, [], length, Option, None, Some}
 use Rattle.values.specs.Datum.{Datum}
 use Rattle.values.specs.Limits.{max_main_rows}
 use Rattle.values.specs.Logical.{NamedType}
 use Rattle.values.specs.Rose.{Rose}
+use Rattle.view_lang.specs.Causes.{cause_of, has_null, has_repeated}
 use Rattle.view_lang.specs.Config.{Table, View}
 use Rattle.view_lang.specs.ConfigRules.{IsView}
+use Rattle.view_lang.specs.Contents.{Contents, applied, keys_in, no_contents}
+use Rattle.view_lang.specs.Edits.{TableEdit}
 use Rattle.view_lang.specs.Joined.{Side, looked_up}
 use Rattle.view_lang.specs.Rows.{IsRow}
 use Rattle.view_lang.specs.Sums.{CanSum}
@@ -53,3 +56,16 @@ abbrev pub ViewsHaveFewRows : Type 0
 ViewsHaveFewRows =
     (tables : List Table) (v : View) (side : Side) (rows : List (List Datum)) → Viewed tables v side rows
     → length (view_rows v side rows) ≤ max_main_rows
+
+-- Each live row has a key of its own, and none is null.
+pub record AreKeyed (t : Table) (c : Contents) : Type 0 where
+  pub not_null : has_null (keys_in t c.live) ≡ false
+  pub distinct : has_repeated (keys_in t c.live) ≡ false
+
+-- It is so of a table without rows, and an edit that fits leaves it so.
+abbrev pub NoRowsAreKeyed : Type 0
+NoRowsAreKeyed = (t : Table) → AreKeyed t no_contents
+
+abbrev pub KeysStayDistinct : Type 0
+KeysStayDistinct =
+    (t : Table) (c : Contents) (e : TableEdit) → AreKeyed t c → cause_of t c e ≡ None → AreKeyed t (applied t e c)

@@ -14,6 +14,10 @@ pub mod Causes
 pub mod UnfitCauses
 pub mod Joined
 pub mod Sorted
+pub mod SortedEntries
+pub mod Shifts
+pub mod Counted
+pub mod Images
 pub mod RowOrder
 pub mod Groups
 pub mod Views

@@ -14,7 +14,7 @@ max_feeds = 16
 abbrev pub max_views : ℕ
 max_views = 32
 
--- rows of all accepted appends that aren't undone, retracted rows too
+-- rows of a table by all accepted appends and puts that aren't undone, those that went away too
 abbrev pub max_appended_rows : ℕ
 max_appended_rows = 2 ^ 62
 
@@ -24,3 +24,7 @@ max_sides = 4
 -- rows of a side table
 abbrev pub max_side_rows : ℕ
 max_side_rows = 2 ^ 20
+
+-- digits of a decimal that is summed
+abbrev pub max_sum_precision : ℕ
+max_sum_precision = 28

@@ -25,7 +25,8 @@ use Rattle.std.specs.Prelude.{
 use Rattle.std.specs.declared.cmp.Ordering.{Ordering}
 use Rattle.std.specs.declared.cmp.Ordering.TheVariants.{Equal}
 use Rattle.std.specs.Ordering.{nat_cmp, on, then_cmp}
-use Rattle.std.specs.List.{AllByRecursion, Contains, list_any}
+use Rattle.std.specs.List.{AllByRecursion, Contains, filter_map, list_any}
+use Rattle.std.specs.Option.{option_map}
 use Rattle.std.specs.List.Sorted.{IsPermutation, IsStrictlySortedBy}
 use Rattle.std.specs.Cmp.{IsTotalOrder}
 use Rattle.values.specs.Datum.{Datum, null}
@@ -34,10 +35,13 @@ use Rattle.values.specs.Order.{datum_cmp}
 use Rattle.view_lang.specs.Cells.{cell_at, cells_at, is_null}
 use Rattle.view_lang.specs.Filter.{Filter, Filters, all_of, compare, negation, no_part, null_in, one_of, part, parts_of}
 use Rattle.view_lang.specs.Groups.{first_in, group_rows, same_tuple, total, tuples_of}
-use Rattle.view_lang.specs.Outputs.{GroupOutput}
+use Rattle.view_lang.specs.Config.{View}
+use Rattle.view_lang.specs.Joined.{Side}
+use Rattle.view_lang.specs.Outputs.{GroupOutput, Output}
 use Rattle.view_lang.specs.RowOrder.{cell_cmp, row_cmp, tuple_cmp}
 use Rattle.view_lang.specs.Sorted.{IsArranged, placed, sorted}
 use Rattle.view_lang.specs.Truth.{Truth, holds, is_true, operand_of, truth}
+use Rattle.view_lang.specs.Views.{kept_row, shown_row, view_input}
 use Rattle.view_lang.specs.declared.filter.Comparison.{Comparison}
 use Rattle.view_lang.specs.declared.filter.Comparison.TheVariants as than
 use Rattle.view_lang.specs.declared.filter.Operand.{Operand}
@@ -177,6 +181,13 @@ TuplesCover =
     (k : ℕ) (ks : List ℕ) (rows : List (List Datum)) (row : List Datum)
     → Contains rows row → list_any (same_tuple (cells_at (k ∷ ks) row)) (tuples_of (k ∷ ks) rows) ≡ true
 
+-- Asked for tuples, the grouping tuples answer as those of the rows do.
+abbrev pub TuplesAsk : Type 0
+TuplesAsk =
+    (k : ℕ) (ks : List ℕ) (rows : List (List Datum)) (t : List Datum)
+    → list_any (same_tuple t) (tuples_of (k ∷ ks) rows)
+    ≡ list_any (same_tuple t) (map (cells_at (k ∷ ks)) rows)
+
 -- neither a list nor a struct
 abbrev pub IsKeyCell : Datum → Type 0
 IsKeyCell d = IsSome (key_of d)
@@ -236,3 +247,17 @@ RowInserted =
     → AllByRecursion (λ q. numbered_cmp os q r ≡ Equal → q ≡ r) rows
     → sorted (numbered_cmp os) (rows ++ r ∷ others)
     ≡ placed (numbered_cmp os) r (sorted (numbered_cmp os) (rows ++ others))
+
+-- Rows one by one.
+
+-- The rows that a view is made of are what it keeps of each row,
+abbrev pub KeptOneByOne : Type 0
+KeptOneByOne =
+    (v : View) (side : Side) (rows : List (List Datum)) → filter_map (kept_row v side) rows ≡ view_input v side rows
+
+-- and so are the rows that it shows of them.
+abbrev pub ShownOneByOne : Type 0
+ShownOneByOne =
+    (v : View) (outputs : List Output) (side : Side) (rows : List (List Datum))
+    → filter_map (λ row. option_map (shown_row outputs) (kept_row v side row)) rows
+    ≡ map (shown_row outputs) (view_input v side rows)

@@ -2,7 +2,14 @@
 
 ghost use Rattle.std.specs.Prelude.{◌≡◌, None, Some};
 ghost use Rattle.view_lang.specs.Causes.{cause_in};
-ghost use Rattle.view_lang.specs.Laws.{ViewsAreTables, ViewsCanSum, ViewsHaveFewRows, ViewsHaveRows};
+ghost use Rattle.view_lang.specs.Laws.{
+  KeysStayDistinct,
+  NoRowsAreKeyed,
+  ViewsAreTables,
+  ViewsCanSum,
+  ViewsHaveFewRows,
+  ViewsHaveRows,
+};
 ghost use Rattle.view_lang.specs.Limits.{
   max_appended_rows,
   max_column_name_len,
@@ -51,6 +58,12 @@ pub fn rows_law()
     ensures sums { ViewsCanSum }
     ensures views { ViewsHaveRows }
     ensures few { ViewsHaveFewRows }
+{}
+
+/// Each live row of a table has a key of its own, and none is null, after whatever edits that fit.
+pub fn key_law()
+    ensures none { NoRowsAreKeyed }
+    ensures edits { KeysStayDistinct }
 {}
 
 /// Each limit of the code is that of the definitions.

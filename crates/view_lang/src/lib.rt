@@ -10,6 +10,7 @@
 
 mod aggregates;
 mod cells;
+mod change;
 mod config;
 mod evaluation;
 mod filter;
@@ -21,15 +22,20 @@ mod schemas;
 #[cfg(test)]
 mod tests;
 mod unfit;
+mod upkeep;
 mod view;
 mod view_laws;
 
+pub use change::{Change, RowChange};
 pub use config::{Config, FeedConfig, Role, SideTable, Table};
 pub use filter::{Comparison, Filter, Operand, Test};
-pub use laws::{config_law, limits_law, rows_law, sample_law};
+pub use laws::{config_law, key_law, limits_law, rows_law, sample_law};
 pub use limits::MAX_COLUMN_NAME_LEN;
 pub use unfit::Unfit;
+pub use upkeep::Upkeep;
 pub use view::{
     Aggregate, Direction, GroupOutput, Lookup, Missing, OrderBy, Output, Outputs, View,
 };
-pub use view_laws::{group_law, keeping_law, order_law, truth_law, worked_law};
+pub use view_laws::{
+    group_law, image_law, keeping_law, one_by_one_law, order_law, truth_law, worked_law,
+};

@@ -6,8 +6,8 @@ ghost use Rattle.values.specs.Limits.{max_main_rows};
 ghost use Rattle.view_lang.specs.Sums.{CanSum};
 
 use crate::{
-    Aggregate, Comparison, Direction, Filter, GroupOutput, Lookup, Missing, Operand, OrderBy,
-    Output, Outputs, Test, View,
+    Aggregate, Change, Comparison, Direction, Filter, GroupOutput, Lookup, Missing, Operand,
+    OrderBy, Output, Outputs, RowChange, Test, View,
 };
 use std::alloc::{AllocError, Global};
 use std::cmp::Ordering;
@@ -229,5 +229,22 @@ fn shows_a_row_for_each_group(rt: HostRuntime) -> Result<(), Fail> {
     };
     assert!(rt; is_row(fives, &[5, 1, NULL]));
     assert!(rt; is_row(sevens, &[7, 2, 3]));
+    Ok(())
+}
+
+#[test]
+fn lists_what_changes(rt: HostRuntime) -> Result<(), Fail> {
+    let mut change = Change::new(rt.alloc());
+    change.push(RowChange::new(4, None, Some(row(rt.alloc(), &[1, NULL])?)))?;
+    change.push(RowChange::new(2, Some(row(rt.alloc(), &[3])?), None))?;
+    assert_eq!(rt; change.rows().len(), 2);
+    let came = &change.rows()[0];
+    assert_eq!(rt; came.number(), 4);
+    assert!(rt; came.before().is_none());
+    assert!(rt; is_row(came.after().unwrap_or(&[]), &[1, NULL]));
+    let went = &change.rows()[1];
+    assert_eq!(rt; went.number(), 2);
+    assert!(rt; is_row(went.before().unwrap_or(&[]), &[3]));
+    assert!(rt; went.after().is_none());
     Ok(())
 }

@@ -2,10 +2,12 @@
 
 ghost use Rattle.std.specs.Prelude.{◌≡◌, [], ◌∷◌, codes, None, Some};
 ghost use Rattle.values.specs.Datum.{null, text};
+ghost use Rattle.view_lang.specs.Images.{ImageFits, ImagePatched, ImageValues};
 ghost use Rattle.view_lang.specs.ViewLaws.{
   AllOfMeans,
   FirstOfSorted,
   GroupsOfMultiset,
+  KeptOneByOne,
   NeverBoth,
   NotOfAll,
   NotOfComparison,
@@ -15,10 +17,12 @@ ghost use Rattle.view_lang.specs.ViewLaws.{
   OrderByTuple,
   RowInserted,
   RowsAreRanked,
+  ShownOneByOne,
   SortedIsTheArrangement,
   TotalOfSorted,
   TuplesAreOfRows,
   TuplesAscend,
+  TuplesAsk,
   TuplesCover,
   TwoValuedWithoutNulls,
   UnknownStays,
@@ -68,6 +72,7 @@ pub fn group_law()
     ensures ascending { TuplesAscend }
     ensures of_rows { TuplesAreOfRows }
     ensures cover { TuplesCover }
+    ensures ask { TuplesAsk }
     ensures multiset { GroupsOfMultiset }
 {}
 
@@ -79,6 +84,21 @@ pub fn keeping_law()
     ensures number { OrderByNumber }
     ensures tuple { OrderByTuple }
     ensures inserted { RowInserted }
+{}
+
+/// What a view keeps and shows of rows is what it keeps and shows of each of them.
+#[tactic(auto, using(crate::proofs::OneByOne::one_by_one_laws))]
+pub fn one_by_one_law()
+    ensures kept { KeptOneByOne }
+    ensures shown { ShownOneByOne }
+{}
+
+/// A change of rows is a change of what is made of each row.
+#[tactic(auto, using(crate::proofs::Imaging::image_laws))]
+pub fn image_law()
+    ensures fits { ImageFits }
+    ensures patched { ImagePatched }
+    ensures values { ImageValues }
 {}
 
 /// What some views show of a few rows.
