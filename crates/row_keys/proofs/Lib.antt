@@ -14,8 +14,12 @@ mod Batching
 mod Appending
 mod BatchKeys
 mod Results
+mod LiveNumbers
 mod Listing
 mod Looking
 mod Finding
 mod Replacing
 mod BatchLaw
+mod Changing
+mod Numbering
+mod NumberLaw

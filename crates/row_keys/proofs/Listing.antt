@@ -26,11 +26,14 @@ use Rattle.std.proofs.Common.{
   arith,
   append-nil,
 }
+use Rattle.std.specs.Map.{keys_of}
 use Rattle.std.specs.Prelude.{if◌then◌else◌}
 use Rattle.std.proofs.Math.Seq.{take-suc}
 use Rattle.std.proofs.lemmas.List.{map-append}
 use Rattle.std.proofs.lemmas.List.Elements.{All-nil, All-push}
+use Rattle.row_keys.specs.Numbered.{numbered}
 use Rattle.row_keys.specs.Slots.{Slot, live, no_slot, row_of}
+use Rattle.row_keys.proofs.LiveNumbers.{number_more, number_same}
 
 live_joined : (xs ys : List Slot) → live (xs ++ ys) ≡ live xs ++ live ys
 unfolding live
@@ -55,6 +58,11 @@ one_more : (slots : List Slot) (n : ℕ) → n < length slots
 one_more slots n below = let e : n + 1 ≡ suc n = omega arith in
     ap (λ m. take m slots) e ∙ take-suc slots n no_slot below
 
+taken_length : (slots : List Slot) (n : ℕ) → n < length slots → length (take n slots) ≡ n
+taken_length [] n h = absurd (omega (arith, h))
+taken_length (s ∷ ss) zero h = refl
+taken_length (s ∷ ss) (suc n) h = ap suc (taken_length ss n (omega (arith, h)))
+
 taken_live : (slots : List Slot) (n : ℕ) → n < length slots → (get_or slots n no_slot).live ≡ true
     → live (take (n + 1) slots) ≡ live (take n slots) ++ row_of slots n ∷ []
 taken_live slots n below h =
@@ -70,6 +78,7 @@ taken_dead slots n below h =
 
 -- the numbers of the live rows below number n
 pub record Listed (slots : List Slot) (n : ℕ) (numbers : List ℕ) : Type 0 where
+  pub numbered_are : numbers ≡ keys_of (numbered (take n slots))
   pub are : map (row_of slots) numbers ≡ live (take n slots)
   pub there : All (λ m. m < length slots) numbers
 
@@ -78,13 +87,24 @@ unfolding live
 none_taken [] = refl
 none_taken (s ∷ ss) = refl
 
+no_numbers : (slots : List Slot) → keys_of (numbered (take 0 slots)) ≡ []
+no_numbers [] = refl
+no_numbers (s ∷ ss) = refl
+
 pub listed_none : (slots : List Slot) → Listed slots 0 []
-listed_none slots = record { are = sym (none_taken slots); there = All-nil (λ m. m < length slots) }
+listed_none slots = record {
+  numbered_are = sym (no_numbers slots);
+  are = sym (none_taken slots);
+  there = All-nil (λ m. m < length slots);
+}
 
 pub listed_more :
     (slots : List Slot) (n : ℕ) (numbers : List ℕ) → Listed slots n numbers → n < length slots
     → (get_or slots n no_slot).live ≡ true → Listed slots (n + 1) (numbers ++ n ∷ [])
 listed_more slots n numbers l below lives = record {
+  numbered_are = ap (λ ns. ns ++ n ∷ []) l.numbered_are
+      ∙ sym (ap (λ ss. keys_of (numbered ss)) (one_more slots n below)
+      ∙ number_more (take n slots) (get_or slots n no_slot) n (taken_length slots n below) lives);
   are = map-append (row_of slots) numbers (n ∷ []) ∙ ap (λ rs. rs ++ row_of slots n ∷ []) l.are
       ∙ sym (taken_live slots n below lives);
   there = All-push (λ m. m < length slots) numbers n l.there below;
@@ -94,6 +114,9 @@ pub listed_same :
     (slots : List Slot) (n : ℕ) (numbers : List ℕ) → Listed slots n numbers → n < length slots
     → (get_or slots n no_slot).live ≡ false → Listed slots (n + 1) numbers
 listed_same slots n numbers l below dead = record {
+  numbered_are = l.numbered_are
+      ∙ sym (ap (λ ss. keys_of (numbered ss)) (one_more slots n below)
+      ∙ number_same (take n slots) (get_or slots n no_slot) dead);
   are = l.are ∙ sym (taken_dead slots n below dead);
   there = l.there;
 }
@@ -109,4 +132,9 @@ pub listed_all :
     → map (row_of slots) numbers ≡ live slots
 listed_all slots n numbers l end = l.are ∙ ap live (all_taken slots n end)
 
-pub ruleset listing = (listed_none, listed_all)
+pub numbers_all :
+    (slots : List Slot) (n : ℕ) (numbers : List ℕ) → Listed slots n numbers → length slots ≤ n
+    → numbers ≡ keys_of (numbered slots)
+numbers_all slots n numbers l end = l.numbered_are ∙ ap (λ ss. keys_of (numbered ss)) (all_taken slots n end)
+
+pub ruleset listing = (listed_none, listed_all, numbers_all)

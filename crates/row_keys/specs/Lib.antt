@@ -1,5 +1,7 @@
 pub mod FaultCauses
 pub mod Slots
+pub mod Numbered
+pub mod NumberLaws
 pub mod Store
 pub mod Batches
 pub mod KeyTable

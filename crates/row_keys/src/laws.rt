@@ -1,8 +1,34 @@
-//! A law of the definitions: a function that does nothing, whose contract is a theorem.
+//! Laws of the definitions: functions that do nothing, whose contracts are theorems.
 
 ghost use Rattle.row_keys.specs.Batches.{KeysAreCells};
+ghost use Rattle.row_keys.specs.NumberLaws.{
+  AllCome,
+  ChangesAdd,
+  NewCome,
+  NumbersAscend,
+  PutBackCome,
+  RetractedGo,
+  RetractedWereLive,
+  RowsAreAtNumbers,
+  RowsAreLive,
+  TakenBackGo,
+};
 
 /// The keys of a batch with one column are its cells.
 pub fn batch_law()
     ensures keys { KeysAreCells }
+{}
+
+/// The live rows of a store under their numbers, and what each edit changes in them.
+pub fn numbers_law()
+    ensures ascend { NumbersAscend }
+    ensures live { RowsAreLive }
+    ensures at { RowsAreAtNumbers }
+    ensures were_live { RetractedWereLive }
+    ensures retracted { RetractedGo }
+    ensures put_back { PutBackCome }
+    ensures appended { NewCome }
+    ensures taken_back { TakenBackGo }
+    ensures all { AllCome }
+    ensures add { ChangesAdd }
 {}

@@ -1,8 +1,8 @@
 //! The rows of a table by number, and the numbers of the live rows by key.
 //!
-//! `specs/Slots.antt` says what the rows of a store are and what each call does to them, `specs/Store.antt` what
-//! contracts see, and `specs/Batches.antt` which batches may come. What an edit means, and why it isn't taken, is said
-//! in `view_lang`.
+//! `specs/Slots.antt` says what the rows of a store are and what each call does to them, `specs/Numbered.antt` which
+//! live rows have which numbers, `specs/NumberLaws.antt` how these change, `specs/Store.antt` what contracts see, and
+//! `specs/Batches.antt` which batches may come. What an edit means, and why it isn't taken, is said in `view_lang`.
 #![tactic(auto)]
 
 mod batches;
@@ -16,5 +16,5 @@ mod turning;
 mod weighing;
 
 pub use faults::EditFault;
-pub use laws::batch_law;
+pub use laws::{batch_law, numbers_law};
 pub use store::RowStore;

@@ -2,6 +2,7 @@
 
 ghost use Rattle.std.specs.Prelude.{
   ◌≡◌,
+  ◌++◌,
   ◌<◌,
   ◌≤◌,
   [],
@@ -17,6 +18,7 @@ ghost use Rattle.std.specs.Prelude.{
   length,
   map,
 };
+ghost use Rattle.std.specs.Map.{keys_of};
 ghost use Rattle.std.specs.Option.{option_map};
 ghost use Rattle.values.specs.Limits.{max_main_rows};
 ghost use Rattle.view_lang.specs.Causes.{cause_of};
@@ -26,12 +28,14 @@ ghost use Rattle.view_lang.specs.Joined.{side_of};
 ghost use Rattle.view_lang.specs.Rows.{IsRow};
 ghost use Rattle.view_lang.specs.TableRules.{IsTable};
 ghost use Rattle.row_keys.specs.Batches.{AreKeys, IsBatch, batch_rows};
+ghost use Rattle.row_keys.specs.Numbered.{numbered};
 ghost use Rattle.row_keys.specs.Slots.{
   CanPutBack,
   CanRetract,
   CanTakeBack,
   CanUndoPut,
   keys_at,
+  new_slot,
   no_slot,
   put_back,
   put_undone,
@@ -157,6 +161,8 @@ impl RowStore {
             (Refuses (cause_of self.old.table (contents_of self.old.slots) (append (batch_rows rows columns.items)))) }
         ensures can_go_back { OnOk result (CanTakeBack rows self.new.slots) }
         ensures back { OnOk result (taken_back rows self.new.slots ≡ self.old.slots) }
+        ensures slots { OnOk result
+            (self.new.slots ≡ self.old.slots ++ map new_slot (batch_rows rows columns.items)) }
         ensures rest { self.new ≡ with_slots self.old self.new.slots }
         ensures unchanged { OnErr result (self.new.slots ≡ self.old.slots) }
     {
@@ -240,6 +246,10 @@ impl RowStore {
         ensures can_go_back { IfOk result (λ replaced.
             CanUndoPut self.old.table rows replaced.items self.new.slots) }
         ensures back { IfOk result (λ replaced. put_undone rows replaced.items self.new.slots ≡ self.old.slots) }
+        ensures can_retract { IfOk result (λ replaced. CanRetract replaced.items self.old.slots) }
+        ensures slots { IfOk result (λ replaced.
+            self.new.slots ≡ retracted replaced.items self.old.slots
+            ++ map new_slot (batch_rows rows columns.items)) }
         ensures rest { self.new ≡ with_slots self.old self.new.slots }
         ensures unchanged { OnErr result (self.new.slots ≡ self.old.slots) }
     {
@@ -335,6 +345,7 @@ impl RowStore {
 
     /// The numbers of all live rows, in order.
     pub fn live_numbers(&self) -> Result<Vec<usize>, AllocError>
+        ensures numbers { IfOk result (λ numbers. numbers.items ≡ keys_of (numbered self.now.slots)) }
         ensures rows { IfOk result (λ numbers. map (row_of self.now.slots) numbers.items ≡ live_in self.now) }
         ensures there { IfOk result (λ numbers. All (λ n. n < length self.now.slots) numbers.items) }
         ensures few { length (live_in self.now) ≤ max_main_rows }

@@ -161,6 +161,29 @@ returns-in-Ok-keep_rows-clause-back c =
     c.args.columns.items c.args.rows slots).1
     ∙ ap (λ (s : Store). s.slots) c.self.view_is
 
+pub returns-in-Ok-keep_rows-clause-slots : goal.returns-in-Ok-keep_rows-clause-slots
+returns-in-Ok-keep_rows-clause-slots c =
+    let B : Store → Type 0 = λ s. IsBatch s.table c.args.rows c.args.columns.items in
+    let batch : IsBatch c.self.inside.table c.args.rows c.args.columns.items =
+    subst B (sym c.self.view_is) c.requires in
+    let K : List CheckedColumn → Type 0 =
+    λ cs. PushesKeys (keys_in c.self.inside.table (batch_rows c.args.rows cs)) c.self.inside.numbers
+    c.push_batch.new.numbers in
+    let pushed :
+    PushesKeys (keys_in c.self.inside.table (batch_rows c.args.rows c.args.columns.items)) c.self.inside.numbers
+    c.push_batch.new.numbers =
+    subst K c.deref.ensures.value c.in-Ok.ensures.pushed in
+    let slots : joined (rows_by c.keep_rows.new.batches.items c.keep_rows.new.places.items) c.push_batch.new.numbers
+    ≡ joined (rows_by c.self.inside.batches.items c.self.inside.places.items) c.self.inside.numbers
+    ++ map new_slot (batch_rows c.args.rows c.args.columns.items) =
+    ap (λ bs. joined (rows_by bs c.keep_rows.new.places.items) c.push_batch.new.numbers)
+    c.in-Ok-keep_rows.ensures.batches
+    ∙ ap (λ ps. joined (rows_by (c.self.inside.batches.items ++ c.args.columns.items ∷ []) ps) c.push_batch.new.numbers)
+    c.in-Ok-keep_rows.ensures.places
+    ∙ slots_appended c.self.inside.table c.self.inside.batches.items c.self.inside.places.items c.self.inside.numbers
+    c.push_batch.new.numbers c.args.columns.items c.args.rows c.self.invariant pushed in
+    slots ∙ ap (λ (s : Store). s.slots ++ map new_slot (batch_rows c.args.rows c.args.columns.items)) c.self.view_is
+
 pub returns-in-Err-keep_rows-clause-refused : goal.returns-in-Err-keep_rows-clause-refused
 returns-in-Err-keep_rows-clause-refused c =
     let B : Store → Type 0 = λ s. IsBatch s.table c.args.rows c.args.columns.items in

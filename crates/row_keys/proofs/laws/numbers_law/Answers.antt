@@ -1,0 +1,27 @@
+use Rattle.row_keys.proofs.Changing.{changes_add}
+use Rattle.row_keys.proofs.NumberLaw.{
+  all_come,
+  new_come,
+  numbers_ascend,
+  put_back_come,
+  retracted_go,
+  retracted_were_live,
+  rows_are_at_numbers,
+  rows_are_live,
+  taken_back_go,
+}
+use Rattle.row_keys.proofs.laws.numbers_law.Goals as goal
+
+pub returns : goal.returns
+returns c = record {
+  ascend = numbers_ascend;
+  live = rows_are_live;
+  at = rows_are_at_numbers;
+  were_live = retracted_were_live;
+  retracted = retracted_go;
+  put_back = put_back_come;
+  appended = new_come;
+  taken_back = taken_back_go;
+  all = all_come;
+  add = changes_add;
+}

@@ -1,0 +1,82 @@
+-- What each change of a store does to its live rows under their numbers.
+use Rattle.std.specs.Prelude.{◌≡◌, ℕ, ◌-◌, All, List, [], ◌++◌, Some, length, map}
+use Rattle.std.specs.List.{range_with_len}
+use Rattle.std.specs.List.Sorted.{IsStrictlySortedBy}
+use Rattle.std.specs.Map.{keys_of, values_of}
+use Rattle.std.specs.Ordering.{nat_cmp}
+use Rattle.values.specs.Datum.{Datum}
+use Rattle.view_lang.specs.Config.{Table}
+use Rattle.view_lang.specs.Shifts.{Fits, NumberedRows, Shift, patched, row_at}
+use Rattle.row_keys.specs.Numbered.{come, gone, live_at, numbered}
+use Rattle.row_keys.specs.Slots.{
+  CanPutBack,
+  CanRetract,
+  CanTakeBack,
+  Slot,
+  live,
+  new_slot,
+  put_back,
+  retracted,
+  row_of,
+  taken_back,
+}
+
+-- A change fits these rows, and leads to those.
+pub record Leads (old : NumberedRows) (change : List Shift) (new : NumberedRows) : Type 0 where
+  pub fits : Fits old change
+  pub patched_is : patched old change ≡ new
+
+-- One change after another is a change.
+abbrev pub ChangesAdd : Type 0
+ChangesAdd =
+    (old mid new : NumberedRows) (change next : List Shift) → Leads old change mid → Leads mid next new
+    → Leads old (change ++ next) new
+
+-- Numbers ascend,
+abbrev pub NumbersAscend : Type 0
+NumbersAscend = (slots : List Slot) → IsStrictlySortedBy nat_cmp (keys_of (numbered slots))
+
+-- the rows under them are the live ones, in order,
+abbrev pub RowsAreLive : Type 0
+RowsAreLive = (slots : List Slot) → values_of (numbered slots) ≡ live slots
+
+-- and each is under its own number.
+abbrev pub RowsAreAtNumbers : Type 0
+RowsAreAtNumbers = (slots : List Slot) (n : ℕ) → row_at n (numbered slots) ≡ live_at slots n
+
+-- Rows that can be retracted are live.
+abbrev pub RetractedWereLive : Type 0
+RetractedWereLive =
+    (ns : List ℕ) (slots : List Slot) → CanRetract ns slots → All (λ n. live_at slots n ≡ Some (row_of slots n)) ns
+
+-- Retracted rows go.
+abbrev pub RetractedGo : Type 0
+RetractedGo =
+    (ns : List ℕ) (slots : List Slot) → CanRetract ns slots
+    → Leads (numbered slots) (gone slots ns) (numbered (retracted ns slots))
+
+-- Rows that are put back come.
+abbrev pub PutBackCome : Type 0
+PutBackCome =
+    (t : Table) (ns : List ℕ) (slots : List Slot) → CanPutBack t ns slots
+    → Leads (numbered slots) (come slots ns) (numbered (put_back ns slots))
+
+abbrev pub with_new : List Slot → List (List Datum) → List Slot
+with_new slots rows = slots ++ map new_slot rows
+
+-- New rows come, under the numbers behind all others.
+abbrev pub NewCome : Type 0
+NewCome =
+    (slots : List Slot) (rows : List (List Datum))
+    → Leads (numbered slots) (come (with_new slots rows) (range_with_len (length slots) (length rows)))
+    (numbered (with_new slots rows))
+
+-- Rows that are taken back go: they have the last numbers.
+abbrev pub TakenBackGo : Type 0
+TakenBackGo =
+    (n : ℕ) (slots : List Slot) → CanTakeBack n slots
+    → Leads (numbered slots) (gone slots (range_with_len (length slots - n) n)) (numbered (taken_back n slots))
+
+-- All live rows come where there were none.
+abbrev pub AllCome : Type 0
+AllCome = (slots : List Slot) → Leads [] (come slots (keys_of (numbered slots))) (numbered slots)
