@@ -1,0 +1,77 @@
+-- Sums over multisets.
+use Rattle.std.proofs.Common.{◌≡◌, refl, ap, sym, ◌∙◌, arith, ℕ, ◌+◌, ◌-◌, ◌<◌, List, [], ◌∷◌, add-one, rules, subst}
+use Rattle.std.specs.Prelude.{ℤ, pos, ◌+ℤ◌, Bool, true, false, cond, Some, None, zero, suc, Option}
+use Rattle.std.specs.Option.{unwrap_or}
+use Rattle.std.specs.declared.cmp.Ordering.{Ordering}
+use Rattle.std.specs.declared.cmp.Ordering.TheVariants.{Less, Equal, Greater}
+use Rattle.std.specs.Ordering.{is_eq, match_ordering}
+use Rattle.std.specs.Map.{lookup, remove_entry, set_value, keys_of}
+use Rattle.std.specs.BTreeMap.{insert_entry, is_at}
+use Rattle.std.specs.List.Sorted.{IsStrictlySortedBy}
+use Rattle.std.proofs.lemmas.Int.{ints}
+use Rattle.std.proofs.lemmas.Map.{lookup-none}
+use Rattle.std.proofs.lemmas.Map.Keys.{sorted_tail}
+use Rattle.std.proofs.lemmas.Map.Entries.{none_below_head}
+use Rattle.values.specs.declared.key.Key.{Key}
+use Rattle.group_state.specs.Keys.{key_cmp, key_total}
+use Rattle.group_state.specs.Counts.{had, number_in, times, weighted}
+use Rattle.group_state.proofs.Exact.{key_exact}
+
+times-more : (n : ℕ) (x : ℤ) → times (n + 1) x ≡ x +ℤ times n x
+times-more n x = rw add-one refl
+
+module _ (k : Key) where
+  put_by : (e : Key × ℕ) (es : List (Key × ℕ)) → IsStrictlySortedBy key_cmp (keys_of (e ∷ es))
+      → weighted (insert_entry key_cmp es k (had es k + 1)) ≡ weighted es +ℤ number_in k → (r : Ordering)
+      → key_cmp k e.0 ≡ r → (n : ℕ) → n ≡ unwrap_or (cond (is_eq r) (Some e.1) (lookup (is_at (key_cmp k)) es)) 0
+      + 1
+      → weighted (match_ordering r ((k, n) ∷ e ∷ es) ((e.0, n) ∷ es) (e ∷ insert_entry key_cmp es k n))
+      ≡ weighted (e ∷ es) +ℤ number_in k
+  put_by e es s h Less q n m =
+      let none : lookup (is_at (key_cmp k)) (e ∷ es) ≡ None = lookup-none (is_at (key_cmp k)) (e ∷ es)
+      (none_below_head key_total k e es s q) in
+      let none-here = rw q at none in
+      let one : n ≡ 1 = rw none-here at m in
+      rw one (omega (arith, ints))
+  put_by e es s h Equal q n m =
+      rw (m, ← (key_exact k e.0 q)) (let t = times-more e.1 (number_in k) in omega (arith, ints, t))
+  put_by e es s h Greater q n m = rw m (omega (arith, ints, h))
+
+  pub weighted-put : (es : List (Key × ℕ)) → IsStrictlySortedBy key_cmp (keys_of es)
+      → weighted (insert_entry key_cmp es k (had es k + 1)) ≡ weighted es +ℤ number_in k
+  weighted-put [] s = omega (arith, ints)
+  weighted-put (e ∷ es) s = put_by e es s (weighted-put es (sorted_tail key_cmp e.0 (keys_of es) s)) (key_cmp k e.0)
+      refl _ refl
+
+  less_by : (e : Key × ℕ) (es : List (Key × ℕ)) (m : ℕ) → 0 < m
+      → (lookup (is_at (key_cmp k)) es ≡ Some m → weighted (set_value (is_at (key_cmp k)) es (m - 1)) +ℤ number_in k
+      ≡ weighted es) → (r : Ordering) → key_cmp k e.0 ≡ r
+      → cond (is_eq r) (Some e.1) (lookup (is_at (key_cmp k)) es) ≡ Some m
+      → weighted (cond (is_eq r) ((e.0, m - 1) ∷ es) (e ∷ set_value (is_at (key_cmp k)) es (m - 1))) +ℤ number_in k
+      ≡ weighted (e ∷ es)
+  less_by e es m p h Less q l = let i = h l in omega (arith, ints, i)
+  less_by e es m p h Equal q l =
+      let at : e.1 ≡ (m - 1) + 1 = let here : e.1 ≡ m = cc in omega arith in
+      rw (at, ← (key_exact k e.0 q)) (let t = times-more (m - 1) (number_in k) in omega (arith, ints, t))
+  less_by e es m p h Greater q l = let i = h l in omega (arith, ints, i)
+
+  pub weighted-less : (es : List (Key × ℕ)) (m : ℕ) → 0 < m → lookup (is_at (key_cmp k)) es ≡ Some m
+      → weighted (set_value (is_at (key_cmp k)) es (m - 1)) +ℤ number_in k ≡ weighted es
+  weighted-less [] m p l = absurd (cc)
+  weighted-less (e ∷ es) m p l = less_by e es m p (weighted-less es m p) (key_cmp k e.0) refl l
+
+  gone_by : (e : Key × ℕ) (es : List (Key × ℕ))
+      → (lookup (is_at (key_cmp k)) es ≡ Some 1 → weighted (remove_entry (is_at (key_cmp k)) es) +ℤ number_in k
+      ≡ weighted es) → (r : Ordering) → key_cmp k e.0 ≡ r
+      → cond (is_eq r) (Some e.1) (lookup (is_at (key_cmp k)) es) ≡ Some 1
+      → weighted (cond (is_eq r) es (e ∷ remove_entry (is_at (key_cmp k)) es)) +ℤ number_in k ≡ weighted (e ∷ es)
+  gone_by e es h Less q l = let i = h l in omega (arith, ints, i)
+  gone_by e es h Equal q l =
+      let here : e.1 ≡ 1 = cc in
+      rw (here, ← (key_exact k e.0 q)) (omega (arith, ints))
+  gone_by e es h Greater q l = let i = h l in omega (arith, ints, i)
+
+  pub weighted-gone : (es : List (Key × ℕ)) → lookup (is_at (key_cmp k)) es ≡ Some 1
+      → weighted (remove_entry (is_at (key_cmp k)) es) +ℤ number_in k ≡ weighted es
+  weighted-gone [] l = absurd (cc)
+  weighted-gone (e ∷ es) l = gone_by e es (weighted-gone es) (key_cmp k e.0) refl l

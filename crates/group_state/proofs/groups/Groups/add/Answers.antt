@@ -1,0 +1,27 @@
+use Rattle.std.proofs.Common.{rules, ◌≡◌, ap, sym, ◌∙◌, ℕ, refl, List, ◌∷◌, arith, subst, ◌<◌}
+use Rattle.std.specs.Prelude.{◌^◌, length, Ok, Err, OnOk}
+use Rattle.std.specs.Map.{lookup}
+use Rattle.std.specs.BTreeMap.{is_at}
+use Rattle.values.specs.Datum.{Datum}
+use Rattle.values.specs.declared.key.Key.{Key}
+use Rattle.group_state.specs.Keys.{tuple_cmp}
+use Rattle.group_state.specs.Grouped.{Grouped}
+use Rattle.group_state.specs.Groups.{Keeps, KeepsAt}
+use Rattle.group_state.proofs.Members.{keeps-put, put-needs}
+use Rattle.group_state.proofs.groups.Groups.add.Goals as goal
+
+pub put_row-requires : goal.put_row-requires
+put_row-requires c =
+    let k = subst (λ (g : Grouped). Keeps g c.requires.0) (sym c.self.view_is) c.requires.1.0 in
+    rw (c.as_slice-2.ensures.value, c.in_ok-tuple.ensures, c.as_slice.ensures.value)
+    (put-needs c.self.inside.keys.items c.self.inside.columns.items c.self.inside.groups.entries
+    c.self.inside.groups.entries c.args.row.now c.requires.0 k c.requires.1.1)
+
+pub returns-clause-kept : goal.returns-clause-kept
+returns-clause-kept c = λ rows k.
+    let v = subst (λ (g : Grouped). Keeps g rows) (sym c.self.view_is) k in
+    let here = rw (c.as_slice-2.ensures.value, c.in_ok-tuple.ensures, c.as_slice.ensures.value) at
+    c.in_ok-put_row.ensures.here in
+    let others = rw (c.in_ok-tuple.ensures, c.as_slice.ensures.value) at c.in_ok-put_row.ensures.others in
+    keeps-put c.self.inside.keys.items c.self.inside.columns.items c.self.inside.groups.entries
+    c.put_row.new.groups.entries c.args.row.now rows others here v

@@ -1,0 +1,27 @@
+use Rattle.std.proofs.Common.{rules, ◌≡◌, ap, sym, ◌∙◌, ℕ, refl, List, ◌∷◌, arith, subst, ◌<◌}
+use Rattle.std.specs.Prelude.{◌^◌, length, Ok, Err, OnOk}
+use Rattle.std.specs.Map.{lookup}
+use Rattle.std.specs.BTreeMap.{is_at}
+use Rattle.values.specs.Datum.{Datum}
+use Rattle.values.specs.declared.key.Key.{Key}
+use Rattle.group_state.specs.Keys.{tuple_cmp}
+use Rattle.group_state.specs.Grouped.{Grouped}
+use Rattle.group_state.specs.Groups.{Keeps, KeepsAt}
+use Rattle.group_state.proofs.Members.{keeps-take, take-needs}
+use Rattle.group_state.proofs.groups.Groups.remove.Goals as goal
+
+pub take_row-requires : goal.take_row-requires
+take_row-requires c =
+    let k = subst (λ (g : Grouped). Keeps g (c.args.row.now ∷ c.requires.0)) (sym c.self.view_is) c.requires.1 in
+    rw (c.as_slice-2.ensures.value, c.in_ok-tuple.ensures, c.as_slice.ensures.value)
+    (take-needs c.self.inside.keys.items c.self.inside.columns.items c.self.inside.groups.entries
+    c.self.inside.groups.entries c.args.row.now c.requires.0 k)
+
+pub returns-clause-kept : goal.returns-clause-kept
+returns-clause-kept c = λ rows k.
+    let v = subst (λ (g : Grouped). Keeps g (c.args.row.now ∷ rows)) (sym c.self.view_is) k in
+    let here = rw (c.as_slice-2.ensures.value, c.in_ok-tuple.ensures, c.as_slice.ensures.value) at
+    c.in_ok-take_row.ensures.here in
+    let others = rw (c.in_ok-tuple.ensures, c.as_slice.ensures.value) at c.in_ok-take_row.ensures.others in
+    keeps-take c.self.inside.keys.items c.self.inside.columns.items c.self.inside.groups.entries
+    c.take_row.new.groups.entries c.args.row.now rows others here v

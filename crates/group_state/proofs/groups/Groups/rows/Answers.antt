@@ -1,0 +1,26 @@
+use Rattle.std.proofs.Common.{◌≡◌, ap, sym, ◌∙◌, true≢false, List, [], ◌∷◌, ◌++◌}
+use Rattle.std.specs.Prelude.{Vec}
+use Rattle.std.specs.declared.alloc.Global.{Global}
+use Rattle.values.specs.Datum.{Datum}
+use Rattle.view_lang.specs.Cells.{rows_of}
+use Rattle.group_state.specs.Grouped.{Grouped}
+use Rattle.group_state.proofs.GroupLaw.{bare-read, all-read}
+use Rattle.group_state.proofs.groups.Groups.rows.Goals as goal
+
+pub returns-then-is_bare : goal.returns-then-is_bare
+returns-then-is_bare c = λ rows k r.
+    let own = ap (λ (s : Grouped). s.columns) c.self.view_is in
+    bare-read c.args.self.now c.args.outputs.now rows k r _ _ _ _ c.in_ok-read_row.field-0.items _
+    (c.as_slice.ensures.value ∙ own) (c.as_slice-then-is_bare.ensures.value ∙ own) c.none.ensures
+    c.in_ok-none.ensures c.in_ok-read_row.ensures
+    (c.is_bare.ensures.0 c.if-is_bare.true)
+    (ap rows_of c.in_ok-push.ensures.items
+    ∙ ap (λ (l : List (Vec Datum Global)). rows_of (l ++ c.in_ok-read_row.field-0 ∷ [])) c.new-made.ensures.items)
+
+pub returns : goal.returns
+returns c = λ rows k r.
+    all-read c.args.self.now c.args.outputs.now rows k r c.group_law.ensures.ask c.group_law.ensures.ascending
+    c.group_law.ensures.of_rows _ _ _
+    (c.as_slice-2.ensures.value ∙ ap (λ (s : Grouped). s.columns) c.self.view_is)
+    (ap (λ (s : Grouped). s.groups) c.self.view_is) c.in_ok-read_rows.ensures.ordered c.in_ok-read_rows.ensures.read
+    (λ n. true≢false (sym (c.is_bare.ensures.1 n) ∙ c.if-is_bare.false))

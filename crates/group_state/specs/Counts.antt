@@ -1,0 +1,73 @@
+-- Counts of values, as ascending entries.
+use Rattle.std.specs.Prelude.{
+  ℕ,
+  ℤ,
+  pos,
+  zero,
+  suc,
+  ◌+◌,
+  ◌-◌,
+  ◌<◌,
+  ◌==◌,
+  ◌+ℤ◌,
+  List,
+  [],
+  ◌∷◌,
+  if◌then◌else◌,
+  nat_lt,
+  ◌≡◌,
+  Option,
+  None,
+  Some,
+}
+use Rattle.std.specs.Option.{unwrap_or}
+use Rattle.std.specs.List.{All, sum}
+use Rattle.std.specs.Int.{int_wrap}
+use mir.Syntax.{w128}
+use Rattle.std.specs.Map.{lookup, remove_entry, set_value, values_of}
+use Rattle.std.specs.BTreeMap.{insert_entry, is_at}
+use Rattle.group_state.specs.Keys.{key_cmp}
+use Rattle.values.specs.declared.key.Key.{Key}
+use Rattle.values.specs.declared.key.Key.TheVariants as key
+
+abbrev pub keeps_none : List (Key × ℕ)
+keeps_none = []
+
+-- how often a value is there
+abbrev pub had : List (Key × ℕ) → Key → ℕ
+had es k = unwrap_or (lookup (is_at (key_cmp k)) es) 0
+
+-- whether two keys are one, as a number
+abbrev pub one : Key → Key → ℕ
+one k q = if is_at (key_cmp k) q then 1 else 0
+
+abbrev pub put_one : Key → List (Key × ℕ) → List (Key × ℕ)
+put_one k es = insert_entry key_cmp es k (had es k + 1)
+
+abbrev pub taken : Key → List (Key × ℕ) → Option ℕ → List (Key × ℕ)
+taken k es None = es
+taken k es (Some n) = if nat_lt 1 n then set_value (is_at (key_cmp k)) es (n - 1) else remove_entry (is_at (key_cmp k))
+    es
+
+abbrev pub take_one : Key → List (Key × ℕ) → List (Key × ℕ)
+take_one k es = taken k es (lookup (is_at (key_cmp k)) es)
+
+-- the number that a key is
+abbrev pub number_in : Key → ℤ
+number_in (key.Int n) = n
+number_in k = pos 0
+
+-- a number, added so many times
+abbrev pub times : ℕ → ℤ → ℤ
+times zero x = pos 0
+times (suc n) x = x +ℤ times n x
+
+-- the sum of the values, each as often as it is there
+abbrev pub weighted : List (Key × ℕ) → ℤ
+weighted [] = pos 0
+weighted (e ∷ es) = times e.1 (number_in e.0) +ℤ weighted es
+
+-- the counts are above 0, and the sum that is kept beside them is theirs, in 128 bits
+pub record IsTied (es : List (Key × ℕ)) (total : ℤ) : Type 0 where
+  pub present : All (λ n. 0 < n) (values_of es)
+  pub total_is : total ≡ int_wrap w128 (weighted es)

@@ -1,0 +1,10 @@
+-- What contracts see of groups.
+use Rattle.std.specs.Prelude.{ℕ, List}
+use Rattle.values.specs.declared.key.Key.{Key}
+use Rattle.group_state.specs.GroupCounts.{GroupCounts}
+
+-- the grouping columns, the columns of which something is kept, and the groups by their tuples
+pub record Grouped : Type 0 where
+  pub keys : List ℕ
+  pub columns : List ℕ
+  pub groups : List (List Key × GroupCounts)

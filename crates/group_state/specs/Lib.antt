@@ -1,0 +1,12 @@
+pub mod Keys
+pub mod Counts
+pub mod Cells
+pub mod GroupCounts
+pub mod Rows
+pub mod Tuples
+pub mod Grouped
+pub mod Groups
+pub mod Folds
+pub mod KeptColumns
+pub mod Reading
+pub mod Sample

@@ -1,0 +1,91 @@
+-- What is read out of groups.
+use Rattle.std.specs.Prelude.{
+  ◌≡◌,
+  ◌<◌,
+  ◌==◌,
+  ℕ,
+  Bool,
+  true,
+  false,
+  List,
+  [],
+  ◌∷◌,
+  map,
+  not,
+  filter,
+  length,
+  Option,
+  None,
+  Some,
+  FitsSigned,
+  All,
+  slice_index,
+}
+use mir.Syntax.{w128}
+use Rattle.std.specs.List.{list_any, AllByRecursion}
+use Rattle.values.specs.Datum.{Datum, null}
+use Rattle.values.specs.Keys.{datum_of_key}
+use Rattle.values.specs.declared.key.Key.{Key}
+use Rattle.view_lang.specs.Cells.{is_null}
+use Rattle.view_lang.specs.Groups.{total, values_at, group_row}
+use Rattle.view_lang.specs.ViewLaws.{ComparesKeys, UsesKeys}
+use Rattle.view_lang.specs.Sums.{AreSummable}
+use Rattle.view_lang.specs.Outputs.{GroupOutput}
+use Rattle.view_lang.specs.declared.view.Aggregate.{Aggregate}
+use Rattle.view_lang.specs.declared.view.Aggregate.TheVariants as aggregate
+use Rattle.group_state.specs.declared.tally.Tally.{Tally}
+use Rattle.group_state.specs.Cells.{KeepsCells}
+use Rattle.group_state.specs.KeptColumns.{IsKept, is_kept}
+use Rattle.group_state.specs.GroupCounts.{GroupCounts}
+use Rattle.group_state.specs.Rows.{KeepsRows}
+
+-- the tuple that keys are
+abbrev pub data_of : List Key → List Datum
+data_of t = map datum_of_key t
+
+abbrev pub datum_in : Option Key → Datum
+datum_in None = null
+datum_in (Some k) = datum_of_key k
+
+-- the cells that aren't null
+abbrev pub filled : List Datum → List Datum
+filled ds = filter (λ d. not (is_null d)) ds
+
+-- where a column is among others
+abbrev pub IsPlace : List ℕ → ℕ → Option ℕ → Type 0
+IsPlace columns k None = is_kept columns k ≡ false
+IsPlace columns k (Some i) = (i < length columns) × (slice_index columns i ≡ k)
+
+abbrev pub SumFits : Aggregate → List (List Datum) → Type 0
+SumFits (aggregate.Sum k) rows = FitsSigned w128 (total (values_at k rows))
+SumFits _ rows = Unit {0}
+
+-- a column of the output can be made of what is kept of these rows
+pub record CanRead (columns : List ℕ) (rows : List (List Datum)) (out : Aggregate) : Type 0 where
+  pub kept : IsKept columns out
+  pub sums : SumFits out rows
+  pub keys : AllByRecursion (ComparesKeys out) rows
+
+-- there is a tally, and it is that of these cells
+abbrev pub IsThat : Option Tally → List Datum → Type 0
+IsThat None cells = ⊥
+IsThat (Some t) cells = KeepsCells t cells
+
+-- cells are the group row of each rows that the group is kept for
+pub record IsRead (columns : List ℕ) (outs : List GroupOutput) (e : List Key × GroupCounts) (cells : List Datum) : Type
+    0 where
+  pub row_is : (rows : List (List Datum)) → KeepsRows columns e.1 rows
+      → All (λ o. CanRead columns rows o.aggregate) outs → cells ≡ group_row outs (data_of e.0) rows
+
+abbrev pub AreRead : List ℕ → List GroupOutput → List (List Key × GroupCounts) → List (List Datum) → Type 0
+AreRead columns outs [] [] = Unit {0}
+AreRead columns outs [] (r ∷ rs) = ⊥
+AreRead columns outs (e ∷ es) [] = ⊥
+AreRead columns outs (e ∷ es) (r ∷ rs) = IsRead columns outs e r × AreRead columns outs es rs
+
+-- these columns of the output can be made for the groups of these rows
+pub record CanReadAll (by : List ℕ) (columns : List ℕ) (outs : List GroupOutput) (rows : List (List Datum)) : Type 0
+  where
+    pub kept : All (λ o. IsKept columns o.aggregate) outs
+    pub sums : AreSummable outs rows
+    pub keys : AllByRecursion (UsesKeys by outs) rows

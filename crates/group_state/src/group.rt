@@ -1,0 +1,136 @@
+//! What is kept of a group.
+
+ghost use Rattle.std.specs.Prelude.{◌≡◌, ◌<◌, ◌^◌, ◌∷◌, List, OnOk, IfOk, length, []};
+ghost use Rattle.values.specs.Datum.{Datum};
+ghost use Rattle.std.specs.Prelude.{true};
+ghost use Rattle.std.proofs.Common.{option_map};
+ghost use Rattle.group_state.specs.Rows.{KeepsRows, KeepsEach, cells};
+ghost use Rattle.group_state.specs.KeptColumns.{is_kept};
+ghost use Rattle.group_state.specs.Reading.{IsThat, IsPlace};
+
+use crate::tally::Tally;
+use std::alloc::{AllocError, Global};
+use std::marker::Model;
+use values::Value;
+
+/// The number of rows of a group, and what is kept of each column that its outputs read.
+#[derive(Debug, Drop)]
+pub struct Group {
+    rows: u64,
+    tallies: Vec<Tally>,
+}
+
+impl Model for Group {
+    ghost use Rattle.group_state.specs.GroupCounts.{GroupCounts};
+
+    ghost Value = { GroupCounts };
+
+    ghost view = { λ g. record { rows = g.rows; tallies = g.tallies.items } };
+}
+
+impl Group {
+    /// A group without rows.
+    pub(crate) fn new(alloc: Global, columns: &[usize]) -> Result<Group, AllocError>
+        ensures { IfOk result (λ g. KeepsRows columns.now g []) }
+    {
+        let mut tallies = Vec::with_capacity(alloc, columns.len())?;
+        for _column in columns {
+            tallies.push(Tally::new(alloc))?;
+        }
+        Ok(Group { rows: 0, tallies })
+    }
+
+    /// How many rows it has.
+    pub(crate) fn rows(&self) -> u64
+        ensures { result ≡ self.now.rows }
+    {
+        self.rows
+    }
+
+    /// What it keeps of a column; none where it keeps nothing of it.
+    pub(crate) fn tally(&self, columns: &[usize], column: usize) -> Option<&Tally>
+        ensures { (rows : List (List Datum)) → KeepsRows columns.now self.now rows
+            → is_kept columns.now column ≡ true → IsThat (option_map (λ t. t.now) result) (cells column rows) }
+    {
+        match place(columns, column) {
+            Some(i) => self.tallies.get(i),
+            None => None,
+        }
+    }
+
+    /// Adds a row.
+    pub(crate) fn add(
+        &mut self,
+        alloc: Global,
+        columns: &[usize],
+        row: &[Value],
+    ) -> Result<(), AllocError>
+        requires { (rows : List (List Datum)) × (KeepsRows columns.now self.old rows × (length rows < 2 ^ 62)) }
+        ensures { OnOk result ((rows : List (List Datum)) → KeepsRows columns.now self.old rows
+            → KeepsRows columns.now self.new (row.now ∷ rows)) }
+    {
+        add_each(self.tallies.as_mut_slice(), alloc, columns, row)?;
+        self.rows += 1;
+        Ok(())
+    }
+
+    /// Takes a row away.
+    pub(crate) fn remove(
+        &mut self,
+        alloc: Global,
+        columns: &[usize],
+        row: &[Value],
+    ) -> Result<(), AllocError>
+        requires { (rows : List (List Datum)) × KeepsRows columns.now self.old (row.now ∷ rows) }
+        ensures { OnOk result ((rows : List (List Datum)) → KeepsRows columns.now self.old (row.now ∷ rows)
+            → KeepsRows columns.now self.new rows) }
+    {
+        remove_each(self.tallies.as_mut_slice(), alloc, columns, row)?;
+        self.rows -= 1;
+        Ok(())
+    }
+}
+
+fn add_each(
+    tallies: &mut [Tally],
+    alloc: Global,
+    columns: &[usize],
+    row: &[Value],
+) -> Result<(), AllocError>
+    requires { (rows : List (List Datum)) × (KeepsEach columns.now tallies.old rows × (length rows < 2 ^ 62)) }
+    ensures { OnOk result ((rows : List (List Datum)) → KeepsEach columns.now tallies.old rows
+        → KeepsEach columns.now tallies.new (row.now ∷ rows)) }
+{
+    for i in 0..columns.len() {
+        tallies[i].add(alloc, row, columns[i])?;
+    }
+    Ok(())
+}
+
+fn remove_each(
+    tallies: &mut [Tally],
+    alloc: Global,
+    columns: &[usize],
+    row: &[Value],
+) -> Result<(), AllocError>
+    requires { (rows : List (List Datum)) × KeepsEach columns.now tallies.old (row.now ∷ rows) }
+    ensures { OnOk result ((rows : List (List Datum)) → KeepsEach columns.now tallies.old (row.now ∷ rows)
+        → KeepsEach columns.now tallies.new rows) }
+{
+    for i in 0..columns.len() {
+        tallies[i].remove(alloc, row, columns[i])?;
+    }
+    Ok(())
+}
+
+/// Where a column is among others.
+fn place(columns: &[usize], column: usize) -> Option<usize>
+    ensures { IsPlace columns.now column result }
+{
+    for i in 0..columns.len() {
+        if columns[i] == column {
+            return Some(i);
+        }
+    }
+    None
+}

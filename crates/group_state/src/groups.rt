@@ -1,0 +1,290 @@
+//! Groups kept by differences.
+
+ghost use Rattle.group_state.specs.Groups.{Keeps, KeepsAt};
+ghost use Rattle.group_state.specs.Keys.{tuple_cmp};
+ghost use Rattle.group_state.specs.KeptColumns.{IsKept};
+ghost use Rattle.group_state.specs.Reading.{CanReadAll};
+ghost use Rattle.std.specs.BTreeMap.{is_at};
+ghost use Rattle.std.specs.Map.{lookup, values_of};
+ghost use Rattle.std.specs.Prelude.{
+  ◌≡◌,
+  ◌<◌,
+  ◌^◌,
+  ◌∷◌,
+  ◌+◌,
+  ◌↔◌,
+  All,
+  IfOk,
+  IsTrue,
+  List,
+  OnOk,
+  [],
+  false,
+  length,
+};
+ghost use Rattle.values.specs.Datum.{Datum};
+ghost use Rattle.values.specs.declared.key.Key.{Key};
+ghost use Rattle.view_lang.specs.Cells.{rows_of};
+ghost use Rattle.view_lang.specs.Groups.{group_rows};
+ghost use Rattle.view_lang.specs.Shifts.{
+  Fits,
+  IsFew,
+  NumberedRows,
+  patched,
+  push_some,
+  with_afters,
+  with_befores,
+};
+
+use crate::group::Group;
+use crate::kept_columns::kept_columns;
+use crate::reading::{read_row, read_rows};
+use crate::tuple::Tuple;
+use std::alloc::{AllocError, Global};
+use std::collections::BTreeMap;
+use std::marker::Model;
+use values::{Row, Value};
+use view_lang::{Change, GroupOutput, RowChange, Upkeep, group_law};
+
+/// The groups of rows that are alike in some columns, and what is kept of other columns of each. Without such columns
+/// all rows are one group.
+#[derive(Debug, Drop)]
+pub struct Groups {
+    alloc: Global,
+    keys: Vec<usize>,
+    columns: Vec<usize>,
+    groups: BTreeMap<Tuple, Group>,
+}
+
+impl Model for Groups {
+    ghost use Rattle.group_state.specs.Grouped.{Grouped};
+
+    ghost Value = { Grouped };
+
+    ghost view = { λ g. record { keys = g.keys.items; columns = g.columns.items; groups = g.groups.entries } };
+}
+
+impl Groups {
+    /// The groups of no rows.
+    pub fn new(alloc: Global, by: &[usize], columns: &[usize]) -> Result<Groups, AllocError>
+        ensures keys { IfOk result (λ groups. groups.keys ≡ by.now) }
+        ensures columns { IfOk result (λ groups. groups.columns ≡ columns.now) }
+        ensures kept { IfOk result (λ groups. Keeps groups []) }
+    {
+        Ok(Groups {
+            alloc,
+            keys: Vec::from_slice(alloc, by)?,
+            columns: Vec::from_slice(alloc, columns)?,
+            groups: BTreeMap::new(alloc),
+        })
+    }
+
+    /// The groups of no rows, of which these outputs can be read.
+    pub fn of(alloc: Global, by: &[usize], outputs: &[GroupOutput]) -> Result<Groups, AllocError>
+        ensures keys { IfOk result (λ groups. groups.keys ≡ by.now) }
+        ensures columns { IfOk result (λ groups. All (λ o. IsKept groups.columns o.aggregate) outputs.now) }
+        ensures kept { IfOk result (λ groups. Keeps groups []) }
+    {
+        let columns = kept_columns(alloc, outputs)?;
+        Ok(Groups::new(alloc, by, columns.as_slice())?)
+    }
+
+    /// The group rows of the rows, ascending by their tuples. Without grouping columns there is one, also of no rows.
+    pub fn rows(&self, alloc: Global, outputs: &[GroupOutput]) -> Result<Vec<Row>, AllocError>
+        ensures { IfOk result (λ made. (rows : List (List Datum)) → Keeps self.now rows
+            → CanReadAll self.now.keys self.now.columns outputs.now rows
+            → rows_of made.items ≡ group_rows self.now.keys outputs.now rows) }
+    {
+        group_law();
+        if self.is_bare() {
+            let none = Group::new(alloc, self.columns.as_slice())?;
+            let mut made = Vec::new(alloc);
+            made.push(read_row(
+                alloc,
+                outputs,
+                &Tuple::none(alloc),
+                &none,
+                self.columns.as_slice(),
+            )?)?;
+            return Ok(made);
+        }
+        Ok(read_rows(alloc, outputs, &self.groups, self.columns.as_slice())?)
+    }
+
+    /// Whether it has neither grouping columns nor groups.
+    fn is_bare(&self) -> bool
+        ensures { IsTrue result ↔ ((length self.now.keys ≡ 0) × (length self.now.groups ≡ 0)) }
+    {
+        self.keys.is_empty() && self.groups.is_empty()
+    }
+}
+
+impl Groups {
+    /// What `apply` does. Additions come before removals.
+    pub fn apply_change(&mut self, change: &Change) -> Result<(), AllocError>
+        requires { (rows : NumberedRows)
+            × (Keeps self.old (values_of rows) × (Fits rows change.now × IsFew rows change.now)) }
+        ensures kept { OnOk result ((rows : NumberedRows) → Fits rows change.now → Keeps self.old (values_of rows)
+            → Keeps self.new (values_of (patched rows change.now))) }
+        ensures keys { self.new.keys ≡ self.old.keys }
+        ensures columns { self.new.columns ≡ self.old.columns }
+    {
+        self.add_all(change.rows())?;
+        self.remove_all(change.rows())?;
+        Ok(())
+    }
+
+    fn add_all(&mut self, changes: &[RowChange]) -> Result<(), AllocError>
+        requires { (rows : List (List Datum)) × (Keeps self.old rows × (length rows + length changes.now < 2 ^ 62)) }
+        ensures kept { OnOk result ((rows : List (List Datum)) → Keeps self.old rows
+            → Keeps self.new (with_afters changes.now rows)) }
+        ensures keys { self.new.keys ≡ self.old.keys }
+        ensures columns { self.new.columns ≡ self.old.columns }
+    {
+        for changed in changes {
+            self.add_after(changed)?;
+        }
+        Ok(())
+    }
+
+    fn remove_all(&mut self, changes: &[RowChange]) -> Result<(), AllocError>
+        requires { (rows : List (List Datum)) × Keeps self.old (with_befores changes.now rows) }
+        ensures kept { OnOk result ((rows : List (List Datum)) → Keeps self.old (with_befores changes.now rows)
+            → Keeps self.new rows) }
+        ensures keys { self.new.keys ≡ self.old.keys }
+        ensures columns { self.new.columns ≡ self.old.columns }
+    {
+        for changed in changes {
+            self.remove_before(changed)?;
+        }
+        Ok(())
+    }
+
+    /// Adds the row after a change, if there is one.
+    fn add_after(&mut self, changed: &RowChange) -> Result<(), AllocError>
+        requires { (rows : List (List Datum)) × (Keeps self.old rows × (length rows < 2 ^ 62)) }
+        ensures kept { OnOk result ((rows : List (List Datum)) → Keeps self.old rows
+            → Keeps self.new (push_some changed.now.after rows)) }
+        ensures keys { self.new.keys ≡ self.old.keys }
+        ensures columns { self.new.columns ≡ self.old.columns }
+    {
+        if let Some(row) = changed.after() {
+            self.add(row)?;
+        }
+        Ok(())
+    }
+
+    /// Takes the row before a change away, if there was one.
+    fn remove_before(&mut self, changed: &RowChange) -> Result<(), AllocError>
+        requires { (rows : List (List Datum)) × Keeps self.old (push_some changed.now.before rows) }
+        ensures kept { OnOk result ((rows : List (List Datum)) → Keeps self.old (push_some changed.now.before rows)
+            → Keeps self.new rows) }
+        ensures keys { self.new.keys ≡ self.old.keys }
+        ensures columns { self.new.columns ≡ self.old.columns }
+    {
+        if let Some(row) = changed.before() {
+            self.remove(row)?;
+        }
+        Ok(())
+    }
+
+    /// Adds a row.
+    fn add(&mut self, row: &[Value]) -> Result<(), AllocError>
+        requires { (rows : List (List Datum)) × (Keeps self.old rows × (length rows < 2 ^ 62)) }
+        ensures kept { OnOk result ((rows : List (List Datum)) → Keeps self.old rows
+            → Keeps self.new (row.now ∷ rows)) }
+        ensures keys { self.new.keys ≡ self.old.keys }
+        ensures columns { self.new.columns ≡ self.old.columns }
+    {
+        let tuple = Tuple::of(self.alloc, self.keys.as_slice(), row)?;
+        put_row(
+            &mut self.groups,
+            self.alloc,
+            self.columns.as_slice(),
+            tuple,
+            row,
+        )?;
+        Ok(())
+    }
+
+    /// Takes a row away.
+    fn remove(&mut self, row: &[Value]) -> Result<(), AllocError>
+        requires { (rows : List (List Datum)) × Keeps self.old (row.now ∷ rows) }
+        ensures kept { OnOk result ((rows : List (List Datum)) → Keeps self.old (row.now ∷ rows)
+            → Keeps self.new rows) }
+        ensures keys { self.new.keys ≡ self.old.keys }
+        ensures columns { self.new.columns ≡ self.old.columns }
+    {
+        let tuple = Tuple::of(self.alloc, self.keys.as_slice(), row)?;
+        take_row(
+            &mut self.groups,
+            self.alloc,
+            self.columns.as_slice(),
+            &tuple,
+            row,
+        )?;
+        Ok(())
+    }
+}
+
+impl Upkeep for Groups {
+    ghost use Rattle.group_state.specs.Groups.{Keeps};
+    ghost use Rattle.std.specs.Map.{values_of};
+
+    ghost keeps = { λ s rows. Keeps s (values_of rows) };
+
+    fn apply(&mut self, change: &Change) -> Result<(), AllocError> {
+        self.apply_change(change)?;
+        Ok(())
+    }
+}
+
+/// Adds a row to the group of its tuple.
+fn put_row(
+    groups: &mut BTreeMap<Tuple, Group>,
+    alloc: Global,
+    columns: &[usize],
+    tuple: Tuple,
+    row: &[Value],
+) -> Result<(), AllocError>
+    requires { (rows : List (List Datum))
+        × (KeepsAt columns.now rows (lookup (is_at (tuple_cmp tuple)) groups.old.entries) × (length rows < 2 ^ 62)) }
+    ensures here { OnOk result ((rows : List (List Datum))
+        → KeepsAt columns.now rows (lookup (is_at (tuple_cmp tuple)) groups.old.entries)
+        → KeepsAt columns.now (row.now ∷ rows) (lookup (is_at (tuple_cmp tuple)) groups.new.entries)) }
+    ensures others { OnOk result ((t : List Key) → is_at (tuple_cmp tuple) t ≡ false
+        → lookup (is_at (tuple_cmp t)) groups.new.entries ≡ lookup (is_at (tuple_cmp t)) groups.old.entries) }
+{
+    if let Some(group) = groups.get_mut(&tuple) {
+        return group.add(alloc, columns, row);
+    }
+    let mut group = Group::new(alloc, columns)?;
+    group.add(alloc, columns, row)?;
+    groups.insert(tuple, group)?;
+    Ok(())
+}
+
+/// Takes a row away from the group of its tuple, and the group with its last row.
+fn take_row(
+    groups: &mut BTreeMap<Tuple, Group>,
+    alloc: Global,
+    columns: &[usize],
+    tuple: &Tuple,
+    row: &[Value],
+) -> Result<(), AllocError>
+    requires { (rows : List (List Datum))
+        × KeepsAt columns.now (row.now ∷ rows) (lookup (is_at (tuple_cmp tuple.now)) groups.old.entries) }
+    ensures here { OnOk result ((rows : List (List Datum))
+        → KeepsAt columns.now (row.now ∷ rows) (lookup (is_at (tuple_cmp tuple.now)) groups.old.entries)
+        → KeepsAt columns.now rows (lookup (is_at (tuple_cmp tuple.now)) groups.new.entries)) }
+    ensures others { OnOk result ((t : List Key) → is_at (tuple_cmp tuple.now) t ≡ false
+        → lookup (is_at (tuple_cmp t)) groups.new.entries ≡ lookup (is_at (tuple_cmp t)) groups.old.entries) }
+{
+    if let Some(group) = groups.get_mut(tuple) {
+        if group.rows() > 1 {
+            return group.remove(alloc, columns, row);
+        }
+    }
+    drop(groups.remove(tuple));
+    Ok(())
+}

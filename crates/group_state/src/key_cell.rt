@@ -1,0 +1,131 @@
+//! Cells by which rows are grouped and compared.
+
+ghost use Rattle.std.specs.Prelude.{◌≡◌, IfOk, is_some};
+ghost use Rattle.values.specs.Keys.{datum_of_key, key_of};
+ghost use Rattle.values.specs.declared.key.Key.TheVariants.{Null};
+ghost use Rattle.group_state.specs.Counts.{number_in};
+
+use crate::cells::no_value;
+use std::alloc::{AllocError, Global};
+use std::cmp::Ordering;
+use std::marker::Model;
+use values::{Kind, Value, cmp_values, key_law};
+
+/// A cell that is neither a list nor a struct. Contracts see the key that it is.
+#[derive(Debug, Drop)]
+pub struct KeyCell {
+    cell: Value,
+}
+
+impl Model for KeyCell {
+    ghost use Rattle.group_state.specs.Keys.{key_in};
+    ghost use Rattle.values.specs.declared.key.Key.{Key};
+    ghost use Rattle.view_lang.specs.ViewLaws.{IsKeyCell};
+
+    ghost Value = { Key };
+
+    ghost view = { λ c. key_in c.cell };
+
+    ghost invariant = { λ c. IsKeyCell c.cell };
+}
+
+impl PartialEq for KeyCell {
+    ghost use Rattle.group_state.specs.Keys.{key_cmp, key_total};
+    ghost use Rattle.std.specs.Cmp.{eq_by_cmp_equiv, partial_equiv_from_equiv};
+    ghost use Rattle.std.specs.Ordering.{eq_by_cmp};
+
+    ghost eq = { eq_by_cmp key_cmp };
+
+    ghost laws = { partial_equiv_from_equiv (eq_by_cmp_equiv key_total) };
+
+    fn eq(&self, other: &KeyCell) -> bool {
+        matches!(self.cmp(other), Ordering::Equal)
+    }
+}
+
+impl Eq for KeyCell {
+    ghost use Rattle.group_state.specs.Keys.{key_total};
+    ghost use Rattle.std.specs.Cmp.{eq_by_cmp_equiv};
+
+    ghost laws = { eq_by_cmp_equiv key_total };
+}
+
+impl PartialOrd for KeyCell {
+    ghost use Rattle.group_state.specs.Keys.{key_cmp, key_total};
+    ghost use Rattle.std.specs.Cmp.{partial_order_from_total};
+    ghost use Rattle.std.specs.Ordering.{as_partial_cmp};
+
+    ghost partial_cmp = { as_partial_cmp key_cmp };
+
+    ghost laws = { partial_order_from_total key_total };
+
+    fn partial_cmp(&self, other: &KeyCell) -> Option<Ordering> {
+        Some(self.cmp(other))
+    }
+}
+
+impl Ord for KeyCell {
+    ghost use Rattle.group_state.specs.Keys.{key_cmp, key_total};
+    ghost use Rattle.std.specs.Prelude.{refl};
+
+    ghost cmp = { key_cmp };
+
+    ghost total = { key_total };
+
+    ghost matches_partial_cmp = { λ x y. refl };
+
+    ghost matches_eq = { λ x y. refl };
+
+    fn cmp(&self, other: &KeyCell) -> Ordering {
+        key_law();
+        cmp_values(&self.cell, &other.cell)
+    }
+}
+
+impl KeyCell {
+    /// A copy of a value; none where it is a list or a struct.
+    pub(crate) fn of(alloc: Global, value: &Value) -> Result<Option<KeyCell>, AllocError>
+        ensures { IfOk result (λ key. key ≡ key_of value.now) }
+    {
+        if is_key(value) {
+            let cell = value.copy(alloc)?;
+            return Ok(Some(KeyCell { cell }));
+        }
+        Ok(None)
+    }
+
+    /// A null.
+    pub(crate) fn null() -> KeyCell
+        ensures { result ≡ Null }
+    {
+        KeyCell { cell: no_value() }
+    }
+
+    /// The value, with memory of its own.
+    pub(crate) fn value(&self, alloc: Global) -> Result<Value, AllocError>
+        ensures { IfOk result (λ value. value ≡ datum_of_key self.now) }
+    {
+        self.cell.copy(alloc)
+    }
+
+    /// The number that it is; 0 where it is none.
+    pub(crate) fn number(&self) -> i128
+        ensures { result ≡ number_in self.now }
+    {
+        match &self.cell.kind {
+            Kind::Int(number) => *number,
+            _ => 0,
+        }
+    }
+}
+
+/// Whether a value is neither a list nor a struct.
+fn is_key(value: &Value) -> bool
+    ensures { result ≡ is_some (key_of value.now) }
+{
+    match &value.kind {
+        Kind::List(_) => false,
+        Kind::Struct(_) => false,
+        _ => true,
+    }
+}

@@ -1,0 +1,20 @@
+//! Groups kept by differences: how many rows each has, and what is counted, summed and compared of its columns.
+//!
+//! `specs/Groups.antt` says when groups are those of some rows, over `Rows` (what is kept of one group) and `Cells` (of
+//! one column). `specs/Reading.antt` says what must hold so that group rows can be read; they are those of
+//! `view_lang`.
+#![tactic(auto)]
+
+mod cells;
+mod group;
+mod groups;
+mod kept_columns;
+mod key_cell;
+mod multiset;
+mod reading;
+mod tally;
+#[cfg(test)]
+mod tests;
+mod tuple;
+
+pub use groups::Groups;

@@ -1,0 +1,87 @@
+//! Group rows, read out of groups.
+
+ghost use Rattle.std.specs.Prelude.{◌≡◌, List, IfOk, All};
+ghost use Rattle.values.specs.Datum.{Datum};
+ghost use Rattle.view_lang.specs.Groups.{aggregate_of};
+ghost use Rattle.group_state.specs.Rows.{KeepsRows};
+ghost use Rattle.group_state.specs.Reading.{data_of, CanRead, IsRead, AreRead};
+ghost use Rattle.group_state.specs.Keys.{tuple_cmp};
+ghost use Rattle.std.specs.Map.{keys_of};
+ghost use Rattle.std.specs.List.Sorted.{IsStrictlySortedBy};
+ghost use Rattle.view_lang.specs.Cells.{rows_of};
+
+use crate::cells::{count, no_value};
+use crate::group::Group;
+use crate::tuple::Tuple;
+use std::alloc::{AllocError, Global};
+use std::collections::BTreeMap;
+use values::{Row, Value};
+use view_lang::{Aggregate, GroupOutput};
+
+/// What an output shows of a group.
+pub(crate) fn read_cell(
+    alloc: Global,
+    aggregate: Aggregate,
+    tuple: &Tuple,
+    group: &Group,
+    columns: &[usize],
+) -> Result<Value, AllocError>
+    ensures { IfOk result (λ cell. (rows : List (List Datum)) → KeepsRows columns.now group.now rows
+        → CanRead columns.now rows aggregate → cell ≡ aggregate_of aggregate (data_of tuple.now) rows) }
+{
+    match aggregate {
+        Aggregate::Key(k) => Ok(tuple.cell(alloc, k)?),
+        Aggregate::Count => Ok(count(group.rows())),
+        Aggregate::CountOf(k) => match group.tally(columns, k) {
+            Some(tally) => Ok(tally.count_cell()),
+            None => Ok(no_value()),
+        },
+        Aggregate::Sum(k) => match group.tally(columns, k) {
+            Some(tally) => Ok(tally.sum_cell()),
+            None => Ok(no_value()),
+        },
+        Aggregate::Least(k) => match group.tally(columns, k) {
+            Some(tally) => Ok(tally.least_cell(alloc)?),
+            None => Ok(no_value()),
+        },
+        Aggregate::Greatest(k) => match group.tally(columns, k) {
+            Some(tally) => Ok(tally.greatest_cell(alloc)?),
+            None => Ok(no_value()),
+        },
+    }
+}
+
+/// The row of a group.
+pub(crate) fn read_row(
+    alloc: Global,
+    outputs: &[GroupOutput],
+    tuple: &Tuple,
+    group: &Group,
+    columns: &[usize],
+) -> Result<Row, AllocError>
+    ensures { IfOk result (λ cells. IsRead columns.now outputs.now (tuple.now, group.now) cells.items) }
+{
+    let mut cells = Vec::new(alloc);
+    for output in outputs {
+        cells.push(read_cell(alloc, output.aggregate, tuple, group, columns)?)?;
+    }
+    Ok(cells)
+}
+
+/// The rows of all groups.
+pub(crate) fn read_rows(
+    alloc: Global,
+    outputs: &[GroupOutput],
+    groups: &BTreeMap<Tuple, Group>,
+    columns: &[usize],
+) -> Result<Vec<Row>, AllocError>
+    ensures read { IfOk result (λ made. AreRead columns.now outputs.now groups.now.entries (rows_of made.items)) }
+    ensures ordered { IsStrictlySortedBy tuple_cmp (keys_of groups.now.entries) }
+{
+    let _size = groups.len();
+    let mut made = Vec::new(alloc);
+    for (tuple, group) in groups.iter() {
+        made.push(read_row(alloc, outputs, tuple, group, columns)?)?;
+    }
+    Ok(made)
+}

@@ -1,0 +1,138 @@
+//! What is kept of one column of a group.
+
+ghost use Rattle.std.specs.Prelude.{◌≡◌, ◌<◌, ◌^◌, ◌∷◌, List, OnOk, IfOk, length, []};
+ghost use Rattle.std.proofs.Common.{option_map};
+ghost use Rattle.std.specs.List.{AllByRecursion};
+ghost use Rattle.values.specs.Datum.{Datum};
+ghost use Rattle.view_lang.specs.declared.view.Direction.TheVariants.{Ascending, Descending};
+ghost use Rattle.view_lang.specs.Groups.{total, sum_of as sum_by, count_of as count_by, first_in};
+ghost use Rattle.view_lang.specs.ViewLaws.{IsKeyCell};
+ghost use Rattle.group_state.specs.Reading.{filled, datum_in};
+ghost use Rattle.group_state.specs.Cells.{KeepsCells};
+ghost use Rattle.std.specs.Int.RustNames.{FitsSigned};
+ghost use mir.Syntax.{w128};
+ghost use Rattle.group_state.specs.Folds.{sum_of, keys_in};
+ghost use Rattle.group_state.specs.Rows.{cell};
+
+use crate::cells::{count, is_null, no_value, whole};
+use crate::key_cell::KeyCell;
+use crate::multiset::Multiset;
+use std::alloc::{AllocError, Global};
+use values::Value;
+
+/// How many cells of the column aren't null, and those that have an order.
+#[derive(Debug, Drop)]
+pub struct Tally {
+    pub(crate) filled: u64,
+    pub(crate) values: Multiset,
+}
+
+impl Tally {
+    pub(crate) fn new(alloc: Global) -> Tally
+        ensures { KeepsCells result [] }
+    {
+        Tally {
+            filled: 0,
+            values: Multiset::new(alloc),
+        }
+    }
+
+    /// The sum of the cells.
+    pub fn sum(&self) -> i128
+        ensures { (cells : List Datum) → KeepsCells self.now cells → FitsSigned w128 (sum_of (keys_in cells))
+            → result ≡ sum_of (keys_in cells) }
+    {
+        self.values.total()
+    }
+
+    /// How many cells aren't null.
+    pub(crate) fn count_cell(&self) -> Value
+        ensures { (cells : List Datum) → KeepsCells self.now cells → result ≡ count_by (filled cells) }
+    {
+        count(self.filled)
+    }
+
+    /// The sum of the cells; null where all are null.
+    pub(crate) fn sum_cell(&self) -> Value
+        ensures { (cells : List Datum) → KeepsCells self.now cells → FitsSigned w128 (total (filled cells))
+            → result ≡ sum_by (filled cells) }
+    {
+        if self.filled == 0 {
+            return no_value();
+        }
+        whole(self.sum())
+    }
+
+    /// The least of the cells; null where all are null.
+    pub(crate) fn least_cell(&self, alloc: Global) -> Result<Value, AllocError>
+        ensures { IfOk result (λ cell. (cells : List Datum) → KeepsCells self.now cells
+            → AllByRecursion IsKeyCell cells → cell ≡ first_in Ascending (filled cells)) }
+    {
+        Ok(key_cell(alloc, self.values.least())?)
+    }
+
+    /// The greatest of the cells; null where all are null.
+    pub(crate) fn greatest_cell(&self, alloc: Global) -> Result<Value, AllocError>
+        ensures { IfOk result (λ cell. (cells : List Datum) → KeepsCells self.now cells
+            → AllByRecursion IsKeyCell cells → cell ≡ first_in Descending (filled cells)) }
+    {
+        Ok(key_cell(alloc, self.values.greatest())?)
+    }
+
+    /// Adds a row's cell.
+    pub(crate) fn add(
+        &mut self,
+        alloc: Global,
+        row: &[Value],
+        column: usize,
+    ) -> Result<(), AllocError>
+        requires { (cells : List Datum) × (KeepsCells self.old cells × (length cells < 2 ^ 62)) }
+        ensures { OnOk result ((cells : List Datum) → KeepsCells self.old cells
+            → KeepsCells self.new (cell column row.now ∷ cells)) }
+    {
+        let Some(cell) = row.get(column) else {
+            return Ok(())
+        };
+        if is_null(cell) {
+            return Ok(());
+        }
+        if let Some(key) = KeyCell::of(alloc, cell)? {
+            self.values.add(key)?;
+        }
+        self.filled += 1;
+        Ok(())
+    }
+
+    /// Takes a row's cell away.
+    pub(crate) fn remove(
+        &mut self,
+        alloc: Global,
+        row: &[Value],
+        column: usize,
+    ) -> Result<(), AllocError>
+        ensures { OnOk result ((cells : List Datum) → KeepsCells self.old (cell column row.now ∷ cells)
+            → KeepsCells self.new cells) }
+    {
+        let Some(cell) = row.get(column) else {
+            return Ok(())
+        };
+        if is_null(cell) {
+            return Ok(());
+        }
+        if let Some(key) = KeyCell::of(alloc, cell)? {
+            self.values.remove(&key);
+        }
+        self.filled = self.filled.saturating_sub(1);
+        Ok(())
+    }
+}
+
+/// The value that a key is; null where there is none.
+fn key_cell(alloc: Global, key: Option<&KeyCell>) -> Result<Value, AllocError>
+    ensures { IfOk result (λ cell. cell ≡ datum_in (option_map (λ k. k.now) key.entry)) }
+{
+    match key {
+        Some(key) => key.value(alloc),
+        None => Ok(no_value()),
+    }
+}

@@ -1,0 +1,118 @@
+//! Groups of a few rows, kept through a change of them.
+
+ghost use Rattle.std.specs.Prelude.{◌≡◌, ◌++◌, ◌∷◌, [], IfOk, None, OnOk, Some};
+ghost use Rattle.view_lang.specs.Shifts.{shift};
+ghost use Rattle.group_state.specs.Sample.{cell_of, row_of, sample_change};
+
+use crate::Groups;
+use std::alloc::{AllocError, Global};
+use std::cmp::Ordering;
+use std::test::Fail;
+use values::{Kind, Row, Value, cmp_values};
+use view_lang::{Aggregate, Change, GroupOutput, RowChange, Upkeep};
+
+/// A number, or a null.
+fn cell(number: Option<i128>) -> Value
+    ensures { result ≡ cell_of number }
+{
+    match number {
+        Some(number) => Value {
+            kind: Kind::Int(number),
+        },
+        None => Value { kind: Kind::Null },
+    }
+}
+
+fn row(alloc: Global, first: i128, second: Option<i128>) -> Result<Row, AllocError>
+    ensures { IfOk result (λ row. row.items ≡ row_of first second) }
+{
+    let mut cells = Vec::new(alloc);
+    cells.push(cell(Some(first)))?;
+    cells.push(cell(second))?;
+    Ok(cells)
+}
+
+/// A row comes.
+fn add(
+    alloc: Global,
+    change: &mut Change,
+    number: usize,
+    first: i128,
+    second: Option<i128>,
+) -> Result<(), AllocError>
+    ensures { OnOk result (change.new ≡ change.old ++ shift number None (Some (row_of first second)) ∷ []) }
+{
+    let row = row(alloc, first, second)?;
+    change.push(RowChange::new(number, None, Some(row)))?;
+    Ok(())
+}
+
+/// A row goes.
+fn remove(
+    alloc: Global,
+    change: &mut Change,
+    number: usize,
+    first: i128,
+    second: Option<i128>,
+) -> Result<(), AllocError>
+    ensures { OnOk result (change.new ≡ change.old ++ shift number (Some (row_of first second)) None ∷ []) }
+{
+    let row = row(alloc, first, second)?;
+    change.push(RowChange::new(number, Some(row), None))?;
+    Ok(())
+}
+
+/// Three rows of 7 and one of 5 come, of which a 7 and the 5 go.
+fn sample(alloc: Global) -> Result<Change, AllocError>
+    ensures { IfOk result (λ change. change ≡ sample_change) }
+{
+    let mut change = Change::new(alloc);
+    add(alloc, &mut change, 0, 7, Some(3))?;
+    add(alloc, &mut change, 1, 7, None)?;
+    add(alloc, &mut change, 2, 5, Some(4))?;
+    add(alloc, &mut change, 3, 7, Some(9))?;
+    remove(alloc, &mut change, 2, 5, Some(4))?;
+    remove(alloc, &mut change, 3, 7, Some(9))?;
+    Ok(change)
+}
+
+fn output(alloc: Global, aggregate: Aggregate) -> Result<GroupOutput, AllocError> {
+    Ok(GroupOutput {
+        name: String::from_str(alloc, "shown")?,
+        aggregate,
+    })
+}
+
+/// The first column, how many rows, and what is counted, summed and compared of the second.
+fn outputs(alloc: Global) -> Result<Vec<GroupOutput>, AllocError> {
+    let mut outputs = Vec::new(alloc);
+    outputs.push(output(alloc, Aggregate::Key(0))?)?;
+    outputs.push(output(alloc, Aggregate::Count)?)?;
+    outputs.push(output(alloc, Aggregate::CountOf(1))?)?;
+    outputs.push(output(alloc, Aggregate::Sum(1))?)?;
+    outputs.push(output(alloc, Aggregate::Least(1))?)?;
+    outputs.push(output(alloc, Aggregate::Greatest(1))?)?;
+    Ok(outputs)
+}
+
+fn is_row(cells: &[Value], numbers: &[i128]) -> bool {
+    cells.len() == numbers.len()
+        && cells
+            .iter()
+            .zip(numbers)
+            .all(|(a, b)| cmp_values(a, &cell(Some(*b))) == Ordering::Equal)
+}
+
+#[test]
+fn keeps_groups_through_a_change(rt: HostRuntime) -> Result<(), Fail> {
+    let outputs = outputs(rt.alloc())?;
+    let mut groups = Groups::of(rt.alloc(), &[0], &outputs)?;
+    let change = sample(rt.alloc())?;
+    groups.apply(&change)?;
+    let shown = groups.rows(rt.alloc(), &outputs)?;
+    let [sevens] = shown.as_slice() else {
+        return Err(Fail::from("not one group"));
+    };
+    assert!(rt; is_row(sevens, &[7, 2, 1, 3, 3, 3]));
+    Ok(())
+}

@@ -1,0 +1,126 @@
+//! Grouping tuples.
+
+ghost use Rattle.std.specs.Prelude.{◌≡◌, IfOk, []};
+ghost use Rattle.view_lang.specs.Cells.{cell_at};
+ghost use Rattle.group_state.specs.Reading.{data_of};
+ghost use Rattle.group_state.specs.Rows.{cell};
+ghost use Rattle.group_state.specs.Tuples.{tuple_of};
+ghost use Rattle.group_state.specs.Keys.{key_in};
+
+use crate::cells::no_value;
+use crate::key_cell::KeyCell;
+use std::alloc::{AllocError, Global};
+use std::cmp::Ordering;
+use std::marker::Model;
+use values::Value;
+
+/// The keys of the grouping columns. Contracts see the list of them.
+#[derive(Debug, Drop)]
+pub struct Tuple {
+    keys: Vec<KeyCell>,
+}
+
+impl Model for Tuple {
+    ghost use Rattle.std.specs.Prelude.{List};
+    ghost use Rattle.values.specs.declared.key.Key.{Key};
+
+    ghost Value = { List Key };
+
+    ghost view = { λ t. t.keys.items };
+}
+
+impl PartialEq for Tuple {
+    ghost use Rattle.std.specs.Cmp.{eq_by_cmp_equiv, partial_equiv_from_equiv};
+    ghost use Rattle.std.specs.Ordering.{eq_by_cmp};
+    ghost use Rattle.group_state.specs.Keys.{tuple_cmp, tuple_total};
+
+    ghost eq = { eq_by_cmp tuple_cmp };
+
+    ghost laws = { partial_equiv_from_equiv (eq_by_cmp_equiv tuple_total) };
+
+    fn eq(&self, other: &Tuple) -> bool {
+        matches!(self.keys.cmp(&other.keys), Ordering::Equal)
+    }
+}
+
+impl Eq for Tuple {
+    ghost use Rattle.std.specs.Cmp.{eq_by_cmp_equiv};
+    ghost use Rattle.group_state.specs.Keys.{tuple_total};
+
+    ghost laws = { eq_by_cmp_equiv tuple_total };
+}
+
+impl PartialOrd for Tuple {
+    ghost use Rattle.std.specs.Cmp.{partial_order_from_total};
+    ghost use Rattle.std.specs.Ordering.{as_partial_cmp};
+    ghost use Rattle.group_state.specs.Keys.{tuple_cmp, tuple_total};
+
+    ghost partial_cmp = { as_partial_cmp tuple_cmp };
+
+    ghost laws = { partial_order_from_total tuple_total };
+
+    fn partial_cmp(&self, other: &Tuple) -> Option<Ordering> {
+        Some(self.cmp(other))
+    }
+}
+
+impl Ord for Tuple {
+    ghost use Rattle.std.specs.Prelude.{refl};
+    ghost use Rattle.std.proofs.Common.{rules};
+    ghost use Rattle.std.specs.Cmp.Rules.{comparing};
+    ghost use Rattle.group_state.specs.Keys.{tuple_cmp, tuple_total};
+
+    ghost cmp = { tuple_cmp };
+
+    ghost total = { tuple_total };
+
+    ghost matches_partial_cmp = { λ x y. refl };
+
+    ghost matches_eq = { λ x y. refl };
+
+    fn cmp(&self, other: &Tuple) -> Ordering {
+        self.keys.cmp(&other.keys)
+    }
+}
+
+impl Tuple {
+    /// The tuple of a row.
+    pub(crate) fn of(alloc: Global, columns: &[usize], row: &[Value]) -> Result<Tuple, AllocError>
+        ensures { IfOk result (λ t. t ≡ tuple_of columns.now row.now) }
+    {
+        let mut keys = Vec::with_capacity(alloc, columns.len())?;
+        for column in columns {
+            keys.push(key_at(alloc, row, *column)?)?;
+        }
+        Ok(Tuple { keys })
+    }
+
+    /// The tuple of no columns.
+    pub(crate) fn none(alloc: Global) -> Tuple
+        ensures { result ≡ [] }
+    {
+        Tuple {
+            keys: Vec::new(alloc),
+        }
+    }
+
+    /// The value of a key of it; null where it has no such key.
+    pub(crate) fn cell(&self, alloc: Global, k: usize) -> Result<Value, AllocError>
+        ensures { IfOk result (λ cell. cell ≡ cell_at (data_of self.now) k) }
+    {
+        match self.keys.get(k) {
+            Some(key) => Ok(key.value(alloc)?),
+            None => Ok(no_value()),
+        }
+    }
+}
+
+/// The key of a row's cell.
+fn key_at(alloc: Global, row: &[Value], column: usize) -> Result<KeyCell, AllocError>
+    ensures { IfOk result (λ k. k ≡ key_in (cell column row.now)) }
+{
+    let Some(cell) = row.get(column) else {
+        return Ok(KeyCell::null())
+    };
+    Ok(KeyCell::of(alloc, cell)?.unwrap_or(KeyCell::null()))
+}
