@@ -1,0 +1,7 @@
+pub mod Keeping
+pub mod OrderedPlaces
+pub mod Parts
+pub mod PlaceOrder
+pub mod Places
+pub mod SortedPlaces
+pub mod ViewOrder

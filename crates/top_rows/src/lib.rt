@@ -1,0 +1,12 @@
+//! Rows that are kept in an order by their changes.
+#![tactic(auto)]
+
+mod laws;
+mod ordered;
+mod part;
+mod place;
+#[cfg(test)]
+mod tests;
+
+pub use laws::order_law;
+pub use ordered::Ordered;

@@ -1,0 +1,160 @@
+//! Rows in order.
+
+ghost use Rattle.std.specs.Prelude.{◌≡◌, [], cond, false, IfOk, List, map, OnErr, OnOk, take, true, ℕ};
+ghost use Rattle.std.specs.List.Sorted.{IsStrictlySortedBy};
+ghost use Rattle.std.specs.Map.{keys_of};
+ghost use Rattle.std.specs.Ordering.{nat_cmp};
+ghost use Rattle.view_lang.specs.Shifts.{NumberedRows, row_at, with_at};
+ghost use Rattle.top_rows.specs.Keeping.{Keeps};
+ghost use Rattle.top_rows.specs.PlaceOrder.{RowPlace, place_cmp};
+ghost use Rattle.top_rows.specs.Places.{is_place, is_place_of, stands};
+ghost use Rattle.top_rows.specs.ViewOrder.{AreFirst, IsKeptFor};
+
+use crate::place::Place;
+use std::alloc::{AllocError, Global};
+use std::collections::BTreeSet;
+use std::marker::Model;
+use values::Value;
+use view_lang::{Change, OrderBy, RowChange, Upkeep, keeping_law};
+
+/// The numbers of rows in the order of some of their columns. Rows that tie are in the order of their numbers.
+#[derive(Debug, Drop)]
+pub struct Ordered {
+    alloc: Global,
+    order: Vec<OrderBy>,
+    places: BTreeSet<Place>,
+}
+
+impl Model for Ordered {
+    ghost use Rattle.top_rows.specs.OrderedPlaces.{OrderedPlaces};
+
+    ghost Value = { OrderedPlaces };
+
+    ghost view = { λ o. record { order = o.order.items; places = o.places.keys } };
+}
+
+impl Ordered {
+    /// No rows, for this order.
+    pub fn new(alloc: Global, order: &[OrderBy]) -> Result<Ordered, AllocError>
+        ensures order { IfOk result (λ ordered. ordered.order ≡ order.now) }
+        ensures none { IfOk result (λ ordered. ordered.places ≡ []) }
+        ensures kept { IfOk result (λ ordered. Keeps ordered []) }
+    {
+        let mut columns = Vec::new(alloc);
+        columns.extend_from_slice(order)?;
+        Ok(Ordered {
+            alloc,
+            order: columns,
+            places: BTreeSet::new(alloc),
+        })
+    }
+
+    /// Puts a row to its place. Where memory is refused, nothing has changed.
+    pub fn insert(&mut self, number: usize, row: &[Value]) -> Result<(), AllocError>
+        ensures order { self.new.order ≡ self.old.order }
+        ensures places { OnOk result ((p : RowPlace) → stands self.new.places p
+            ≡ cond (is_place self.old.order number row.now p) true (stands self.old.places p)) }
+        ensures err { OnErr result (self.new ≡ self.old) }
+    {
+        let place = Place::of(self.alloc, self.order.as_slice(), number, row)?;
+        self.places.insert(place)?;
+        Ok(())
+    }
+
+    /// Takes a row away, if it is there. Its place is made to look it up; where memory is refused, nothing has changed.
+    pub fn remove(&mut self, number: usize, row: &[Value]) -> Result<(), AllocError>
+        ensures order { self.new.order ≡ self.old.order }
+        ensures places { OnOk result ((p : RowPlace) → stands self.new.places p
+            ≡ cond (is_place self.old.order number row.now p) false (stands self.old.places p)) }
+        ensures err { OnErr result (self.new ≡ self.old) }
+    {
+        let place = Place::of(self.alloc, self.order.as_slice(), number, row)?;
+        let _there = self.places.remove(&place);
+        Ok(())
+    }
+
+    fn remove_before(&mut self, changed: &RowChange) -> Result<(), AllocError>
+        ensures order { self.new.order ≡ self.old.order }
+        ensures places { OnOk result ((p : RowPlace) → stands self.new.places p
+            ≡ cond (is_place_of self.old.order changed.now.number changed.now.before p) false
+            (stands self.old.places p)) }
+    {
+        match changed.before() {
+            Some(row) => self.remove(changed.number(), row),
+            None => Ok(()),
+        }
+    }
+
+    fn insert_after(&mut self, changed: &RowChange) -> Result<(), AllocError>
+        ensures order { self.new.order ≡ self.old.order }
+        ensures places { OnOk result ((p : RowPlace) → stands self.new.places p
+            ≡ cond (is_place_of self.old.order changed.now.number changed.now.after p) true
+            (stands self.old.places p)) }
+    {
+        match changed.after() {
+            Some(row) => self.insert(changed.number(), row),
+            None => Ok(()),
+        }
+    }
+
+    /// Brings one number's row to what it is after the change. It is removed first: a row whose place stays the same is
+    /// then there in the end.
+    fn change_row(&mut self, changed: &RowChange) -> Result<(), AllocError>
+        ensures order { self.new.order ≡ self.old.order }
+        ensures kept { OnOk result ((rows : NumberedRows) → IsStrictlySortedBy nat_cmp (keys_of rows)
+            → row_at changed.now.number rows ≡ changed.now.before → Keeps self.old rows
+            → Keeps self.new (with_at changed.now.number changed.now.after rows)) }
+    {
+        self.remove_before(changed)?;
+        self.insert_after(changed)?;
+        Ok(())
+    }
+
+    /// The numbers of the first rows, at most so many.
+    pub fn first(&self, alloc: Global, most: usize) -> Result<Vec<usize>, AllocError>
+        ensures ascending { IsStrictlySortedBy place_cmp self.now.places }
+        ensures numbers { IfOk result (λ numbers.
+            numbers.items ≡ map (λ (p : RowPlace). p.1) (take most self.now.places)) }
+    {
+        let _size = self.places.len();
+        let mut numbers = Vec::new(alloc);
+        for place in self.places.iter() {
+            if numbers.len() == most {
+                break;
+            }
+            numbers.push(place.number())?;
+        }
+        Ok(numbers)
+    }
+
+    /// The numbers of the first rows of a view in this order, at most so many. A view that shows all of its rows
+    /// asks for as many as there are.
+    pub fn first_of_view(&self, alloc: Global, most: usize) -> Result<Vec<usize>, AllocError>
+        ensures { IfOk result (λ numbers.
+            (rows : NumberedRows) → IsKeptFor self.now rows → AreFirst self.now.order most rows numbers.items) }
+    {
+        keeping_law();
+        let numbers = self.first(alloc, most)?;
+        Ok(numbers)
+    }
+}
+
+/// The order stays as it is, also where memory is refused.
+impl Upkeep for Ordered {
+    ghost use Rattle.std.specs.Prelude.{◌≡◌, OnOk};
+    ghost use Rattle.view_lang.specs.Shifts.{Fits, NumberedRows, patched};
+    ghost use Rattle.top_rows.specs.Keeping.{Keeps};
+
+    ghost keeps = { Keeps };
+
+    fn apply(&mut self, change: &Change) -> Result<(), AllocError>
+        ensures order { self.new.order ≡ self.old.order }
+        ensures kept { OnOk result ((rows : NumberedRows) → Fits rows change.now → Keeps self.old rows
+            → Keeps self.new (patched rows change.now)) }
+    {
+        for changed in change.rows() {
+            self.change_row(changed)?;
+        }
+        Ok(())
+    }
+}

@@ -1,0 +1,105 @@
+//! Places in an order.
+
+ghost use Rattle.std.specs.Prelude.{◌≡◌, IfOk};
+ghost use Rattle.top_rows.specs.Places.{place_of};
+
+use crate::part::Part;
+use std::alloc::{AllocError, Global};
+use std::cmp::Ordering;
+use std::marker::Model;
+use values::Value;
+use view_lang::OrderBy;
+
+/// What a row is ordered by, and its number. Contracts see the pair of them.
+#[derive(Debug, Drop)]
+pub(crate) struct Place {
+    parts: Vec<Part>,
+    number: usize,
+}
+
+impl Model for Place {
+    ghost use Rattle.top_rows.specs.PlaceOrder.{RowPlace};
+
+    ghost Value = { RowPlace };
+
+    ghost view = { λ p. (p.parts.items, p.number) };
+}
+
+impl PartialEq for Place {
+    ghost use Rattle.std.specs.Cmp.{eq_by_cmp_equiv, partial_equiv_from_equiv};
+    ghost use Rattle.std.specs.Ordering.{eq_by_cmp};
+    ghost use Rattle.top_rows.specs.PlaceOrder.{place_cmp, place_total};
+
+    ghost eq = { eq_by_cmp place_cmp };
+
+    ghost laws = { partial_equiv_from_equiv (eq_by_cmp_equiv place_total) };
+
+    fn eq(&self, other: &Place) -> bool {
+        matches!(self.cmp(other), Ordering::Equal)
+    }
+}
+
+impl Eq for Place {
+    ghost use Rattle.std.specs.Cmp.{eq_by_cmp_equiv};
+    ghost use Rattle.top_rows.specs.PlaceOrder.{place_total};
+
+    ghost laws = { eq_by_cmp_equiv place_total };
+}
+
+impl PartialOrd for Place {
+    ghost use Rattle.std.specs.Cmp.{partial_order_from_total};
+    ghost use Rattle.std.specs.Ordering.{as_partial_cmp};
+    ghost use Rattle.top_rows.specs.PlaceOrder.{place_cmp, place_total};
+
+    ghost partial_cmp = { as_partial_cmp place_cmp };
+
+    ghost laws = { partial_order_from_total place_total };
+
+    fn partial_cmp(&self, other: &Place) -> Option<Ordering> {
+        Some(self.cmp(other))
+    }
+}
+
+impl Ord for Place {
+    ghost use Rattle.std.specs.Prelude.{refl};
+    ghost use Rattle.top_rows.specs.PlaceOrder.{place_cmp, place_total};
+
+    ghost cmp = { place_cmp };
+
+    ghost total = { place_total };
+
+    ghost matches_partial_cmp = { λ x y. refl };
+
+    ghost matches_eq = { λ x y. refl };
+
+    fn cmp(&self, other: &Place) -> Ordering {
+        self.parts
+            .cmp(&other.parts)
+            .then(self.number.cmp(&other.number))
+    }
+}
+
+impl Place {
+    /// The place of a row.
+    pub(crate) fn of(
+        alloc: Global,
+        order: &[OrderBy],
+        number: usize,
+        row: &[Value],
+    ) -> Result<Place, AllocError>
+        ensures { IfOk result (λ place. place ≡ place_of order.now number row.now) }
+    {
+        let mut parts = Vec::with_capacity(alloc, order.len())?;
+        for by in order {
+            parts.push(Part::of(alloc, row, by)?)?;
+        }
+        Ok(Place { parts, number })
+    }
+
+    /// The row's number.
+    pub(crate) fn number(&self) -> usize
+        ensures { result ≡ self.now.1 }
+    {
+        self.number
+    }
+}

@@ -1,0 +1,39 @@
+//! Rows in an order with a tie and a null.
+
+use crate::Ordered;
+use std::alloc::{AllocError, Global};
+use std::test::Fail;
+use values::{Kind, Row, Value};
+use view_lang::{Direction, OrderBy};
+
+fn row(alloc: Global, kind: Kind) -> Result<Row, AllocError> {
+    let mut cells = Vec::new(alloc);
+    cells.push(Value { kind })?;
+    Ok(cells)
+}
+
+#[test]
+fn gives_the_first_rows(rt: HostRuntime) -> Result<(), Fail> {
+    let falling = OrderBy {
+        column: 0,
+        direction: Direction::Descending,
+    };
+    let mut ordered = Ordered::new(rt.alloc(), &[falling])?;
+    let nine = row(rt.alloc(), Kind::Int(9))?;
+    let seven = row(rt.alloc(), Kind::Int(7))?;
+    ordered.insert(1, &row(rt.alloc(), Kind::Null)?)?;
+    ordered.insert(4, &seven)?;
+    ordered.insert(3, &nine)?;
+    ordered.insert(2, &seven)?;
+    assert_eq!(rt; ordered.first(rt.alloc(), 2)?.as_slice(), [3, 2].as_slice());
+    ordered.remove(3, &nine)?;
+    assert_eq!(rt;
+        ordered.first_of_view(rt.alloc(), 2)?.as_slice(),
+        [2, 4].as_slice()
+    );
+    assert_eq!(rt;
+        ordered.first(rt.alloc(), 4)?.as_slice(),
+        [2, 4, 1].as_slice()
+    );
+    Ok(())
+}
