@@ -1,0 +1,4 @@
+pub mod Ascending
+pub mod Exactness
+pub mod Numbered
+pub mod SameEntries

@@ -1,0 +1,9 @@
+//! Laws: functions that do nothing, whose contracts are theorems.
+
+ghost use Rattle.lookups.specs.Refers.{RefersToAll};
+
+/// What is kept depends on which rows hold which keys, and not on the course by which they came and went.
+#[tactic(auto, using(crate::proofs::Exactness::referrers_law))]
+pub fn referrers_law()
+    ensures { RefersToAll }
+{}

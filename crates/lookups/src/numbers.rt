@@ -1,0 +1,70 @@
+//! Numbers of rows.
+
+ghost use Rattle.lookups.specs.Refers.{is_among};
+ghost use Rattle.std.specs.List.Sorted.{IsStrictlySortedBy};
+ghost use Rattle.std.specs.Ordering.{nat_cmp};
+ghost use Rattle.std.specs.Prelude.{◌≡◌, ◌==◌, ◌↔◌, [], ◌∷◌, cond, false, true, IfOk, IsTrue, OnErr, OnOk, ℕ};
+
+use std::alloc::{AllocError, Global};
+use std::collections::BTreeSet;
+use std::marker::Model;
+
+/// Numbers of rows, each once. Contracts see the list of them, which ascends.
+#[derive(Debug, Drop)]
+pub(crate) struct Numbers {
+    numbers: BTreeSet<usize>,
+}
+
+impl Model for Numbers {
+    ghost use Rattle.std.specs.Prelude.{List, ℕ};
+
+    ghost Value = { List ℕ };
+
+    ghost view = { λ n. n.numbers.keys };
+}
+
+impl Numbers {
+    pub(crate) fn one(alloc: Global, number: usize) -> Result<Numbers, AllocError>
+        ensures value { IfOk result (λ numbers. numbers ≡ number ∷ []) }
+        ensures ascending { IfOk result (λ numbers. IsStrictlySortedBy nat_cmp numbers) }
+    {
+        let mut numbers = BTreeSet::new(alloc);
+        numbers.insert(number)?;
+        Ok(Numbers { numbers })
+    }
+
+    /// Where memory is refused, nothing has changed.
+    pub(crate) fn insert(&mut self, number: usize) -> Result<(), AllocError>
+        ensures ok { OnOk result ((n : ℕ) → is_among self.new n ≡ cond (n == number) true (is_among self.old n)) }
+        ensures err { OnErr result (self.new ≡ self.old) }
+        ensures ascending { IsStrictlySortedBy nat_cmp self.new }
+    {
+        self.numbers.insert(number)?;
+        Ok(())
+    }
+
+    pub(crate) fn remove(&mut self, number: usize)
+        ensures gone { (n : ℕ) → is_among self.new n ≡ cond (n == number) false (is_among self.old n) }
+        ensures ascending { IsStrictlySortedBy nat_cmp self.new }
+    {
+        let _there = self.numbers.remove(&number);
+    }
+
+    pub(crate) fn is_empty(&self) -> bool
+        ensures { IsTrue result ↔ (self.now ≡ []) }
+    {
+        self.numbers.is_empty()
+    }
+
+    /// The numbers, in ascending order.
+    pub(crate) fn to_vec(&self, alloc: Global) -> Result<Vec<usize>, AllocError>
+        ensures numbers { IfOk result (λ numbers. numbers.items ≡ self.now) }
+        ensures ascending { IsStrictlySortedBy nat_cmp self.now }
+    {
+        let mut numbers = Vec::with_capacity(alloc, self.numbers.len())?;
+        for number in self.numbers.iter() {
+            numbers.push(*number)?;
+        }
+        Ok(numbers)
+    }
+}
