@@ -2,7 +2,6 @@ pub mod Declared
 pub mod Named
 pub mod Runs
 pub mod Typed
-pub mod Stores
 pub mod Pasts
 pub mod Channels
 pub mod Keys
@@ -11,7 +10,6 @@ pub mod Sessions
 pub mod Opening
 pub mod Refusing
 pub mod Sample
-pub mod Inputs
 pub mod Written
 pub mod Readings
 mod Telling

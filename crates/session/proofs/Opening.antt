@@ -39,6 +39,7 @@ use Rattle.view_lang.specs.World.{world}
 use Rattle.view_lang.specs.declared.config.Role.{Role}
 use Rattle.row_keys.specs.Slots.{live}
 use Rattle.row_keys.specs.Store.{Store, no_rows}
+use Rattle.upkeep.specs.Stores.{rows_in, tables_in, world_of}
 use Rattle.session.specs.Shows.{
   AreShown,
   IsSession,
@@ -48,9 +49,6 @@ use Rattle.session.specs.Shows.{
   ShowsEach,
   config_of,
   named_sides,
-  rows_in,
-  tables_in,
-  world_of,
 }
 use Rattle.session.specs.Steps.{Channel, opened, start}
 use Rattle.session.specs.declared.link.Link.{Link}

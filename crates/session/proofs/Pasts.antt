@@ -36,23 +36,11 @@ use Rattle.row_keys.specs.Store.{Refuses, Store, with_slots}
 use Rattle.row_keys.specs.declared.faults.EditFault.{EditFault}
 use Rattle.session.specs.Changes.{Makes}
 use Rattle.session.specs.Steps.{Past, UndoBy, Undoes, accepted, undone, undone_by, unfit_in}
-use Rattle.session.specs.Shows.{
-  AreWorld,
-  CanGoBack,
-  CanUndo,
-  HoldsBack,
-  Rows,
-  ShowsPast,
-  back,
-  before,
-  rows_at,
-  rows_in,
-  tables_in,
-  world_of,
-}
+use Rattle.upkeep.specs.Stores.{Rows, rows_at, rows_in, tables_in, world_of}
+use Rattle.session.specs.Shows.{AreWorld, CanGoBack, CanUndo, HoldsBack, ShowsPast, back, before}
 use Rattle.session.specs.declared.undo.Change.{Change}
 use Rattle.session.specs.declared.undo.UndoRecord.{UndoRecord}
-use Rattle.session.proofs.Stores.{length_placed, rows_kept, rows_length, rows_placed, rows_restored, rows_set, rows_there, set_mapped, table_there}
+use Rattle.upkeep.specs.StoreLaws.{length_placed, rows_kept, rows_length, rows_placed, rows_restored, rows_set, rows_there, set_mapped, table_there}
 
 pub holds_world :
     (tables : List Table) (rows : Rows) (rs : List UndoRecord) (es : List Edit) → HoldsBack tables rows rs es

@@ -54,7 +54,8 @@ use Rattle.row_keys.specs.declared.faults.EditFault.{EditFault}
 use Rattle.row_keys.specs.declared.faults.EditFault.TheVariants as edit_fault
 use Rattle.session.specs.Changes.{Ended, IsBatchEvent, Pushed, Takes, past_by, unfit_by}
 use Rattle.session.specs.Refusals.{refused}
-use Rattle.session.specs.Shows.{Rows, ShowsChannel, ShowsPast}
+use Rattle.upkeep.specs.Stores.{Rows}
+use Rattle.session.specs.Shows.{ShowsChannel, ShowsPast}
 use Rattle.session.specs.Steps.{
   Channel,
   Ends,

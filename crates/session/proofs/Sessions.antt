@@ -42,12 +42,12 @@ use Rattle.row_keys.specs.Store.{Store}
 use Rattle.session.specs.Names.{place_of}
 use Rattle.session.specs.Refusals.{refused}
 use Rattle.session.specs.Changes.{Ended, EndsTo, Pushed, PushesTo}
+use Rattle.upkeep.specs.Stores.{Rows, rows_at, rows_in, tables_in, world_of}
 use Rattle.session.specs.Shows.{
   AreShown,
   AreWorld,
   IsSession,
   IsStep,
-  Rows,
   SessionParts,
   Shows,
   ShowsChannel,
@@ -56,10 +56,6 @@ use Rattle.session.specs.Shows.{
   columns_of,
   config_of,
   named_sides,
-  rows_at,
-  rows_in,
-  tables_in,
-  world_of,
 }
 use Rattle.session.specs.Steps.{
   Channel,
@@ -86,7 +82,7 @@ use Rattle.session.specs.declared.link.Link.{Link}
 use Rattle.session.specs.declared.undo.UndoRecord.{UndoRecord}
 use Rattle.session.proofs.Channels.{each_get, each_none, each_set}
 use Rattle.session.proofs.Pasts.{contents_there, holds_world}
-use Rattle.session.proofs.Stores.{at_mapped, rows_length, rows_there, tables_length}
+use Rattle.upkeep.specs.StoreLaws.{at_mapped, rows_length, rows_there, tables_length}
 
 abbrev pub parts : List (List ℕ) → List FeedConfig → List View → List Link → List Store → List UndoRecord → SessionParts
 parts sides feeds views links stores records =

@@ -44,8 +44,8 @@ use Rattle.view_lang.specs.TableRules.{AreColumns, AreSlim, AreWithin, IsSlim, I
 use Rattle.view_lang.specs.ViewColumns.{view_columns}
 use Rattle.view_lang.specs.Views.{shown_rows, view_of, view_rows}
 use Rattle.row_keys.specs.Slots.{live}
-use Rattle.session.specs.Inputs.{AreInput, side_by}
-use Rattle.session.specs.Shows.{Rows, rows_at, world_of}
+use Rattle.upkeep.specs.Inputs.{AreInput, side_by}
+use Rattle.upkeep.specs.Stores.{Rows, rows_at, world_of}
 use Rattle.session.specs.Steps.{IsReadAsView, stream_of}
 use Rattle.session.proofs.Pasts.{contents_there}
 

@@ -19,7 +19,8 @@ use Rattle.row_keys.specs.Batches.{AreAlike}
 use Rattle.row_keys.specs.Slots.{Slot, contents_of}
 use Rattle.row_keys.specs.Store.{Refuses}
 use Rattle.row_keys.specs.declared.faults.EditFault.{EditFault}
-use Rattle.session.specs.Shows.{CanGoBack, Rows, ShowsChannel, ShowsPast, back}
+use Rattle.upkeep.specs.Stores.{Rows}
+use Rattle.session.specs.Shows.{CanGoBack, ShowsChannel, ShowsPast, back}
 use Rattle.session.specs.Steps.{Channel, FinishOf, Past, Pushes, accepted, edit_in, kind_of, unfit_in}
 use Rattle.session.specs.declared.calls.Event.{Event}
 use Rattle.session.specs.declared.calls.Fault.{Fault}

@@ -22,6 +22,7 @@ use Rattle.row_keys.specs.Slots.{
   taken_back,
 }
 use Rattle.row_keys.specs.Store.{Store, no_rows, store_code}
+use Rattle.upkeep.specs.Stores.{Rows, rows_at, rows_in, tables_in, world_of}
 use Rattle.session.specs.Steps.{Channel, Past, State}
 use Rattle.session.specs.contracts.link.Link as link_type
 use Rattle.session.specs.contracts.undo.UndoRecord as record_type
@@ -31,17 +32,6 @@ use Rattle.session.specs.declared.link.Link.{Link}
 use Rattle.session.specs.declared.undo.Change.{Change}
 use Rattle.session.specs.declared.undo.Change.TheVariants.{Appended, Put, Retracted}
 use Rattle.session.specs.declared.undo.UndoRecord.{UndoRecord}
-
--- the rows of each table, by number
-abbrev pub Rows : Type 0
-Rows = List (List Slot)
-
-abbrev pub rows_at : Rows → ℕ → List Slot
-rows_at rows n = get_or rows n []
-
--- the world that they are
-abbrev pub world_of : Rows → World
-world_of rows = map contents_of rows
 
 -- a table's rows once a change of it is taken back
 abbrev pub back : Change → List Slot → List Slot
@@ -99,12 +89,6 @@ pub record SessionParts : Type 0 where
   pub links : List Link
   pub stores : List Store
   pub records : List UndoRecord
-
-abbrev pub tables_in : List Store → List Table
-tables_in stores = map (λ s. s.table) stores
-
-abbrev pub rows_in : List Store → Rows
-rows_in stores = map (λ s. s.slots) stores
 
 abbrev pub named_sides : List (List ℕ) → List Table → List SideTable
 named_sides names [] = []

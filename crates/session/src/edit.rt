@@ -6,7 +6,7 @@ ghost use Rattle.view_lang.specs.Edits.{table_of};
 ghost use Rattle.view_lang.specs.ViewColumns.{columns_by, feed_columns, key_column};
 ghost use Rattle.view_lang.specs.declared.config.Role.TheVariants.{Append, Put, Retract};
 ghost use Rattle.session.specs.Changes.{Edits, IsBatch, IsBatchEvent, Makes, Takes, change_by, edit_by};
-ghost use Rattle.session.specs.Shows.{rows_in, tables_in};
+ghost use Rattle.upkeep.specs.Stores.{rows_in, tables_in};
 
 use crate::calls::Event;
 use crate::undo::{Change, UndoRecord};

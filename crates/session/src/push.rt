@@ -1,7 +1,8 @@
 //! What comes to a feed of a session.
 
 ghost use Rattle.std.specs.Prelude.{◌≡◌};
-ghost use Rattle.session.specs.Shows.{ShowsChannel, rows_in, tables_in};
+ghost use Rattle.upkeep.specs.Stores.{rows_in, tables_in};
+ghost use Rattle.session.specs.Shows.{ShowsChannel};
 ghost use Rattle.session.specs.Changes.{PushesTo};
 ghost use Rattle.session.specs.Steps.{Channel};
 

@@ -2,7 +2,8 @@
 
 ghost use Rattle.std.specs.Prelude.{◌≡◌, ◌<◌, length};
 ghost use Rattle.row_keys.specs.Store.{with_slots};
-ghost use Rattle.session.specs.Shows.{CanGoBack, CanUndo, ShowsPast, back, before, rows_in, tables_in};
+ghost use Rattle.upkeep.specs.Stores.{rows_in, tables_in};
+ghost use Rattle.session.specs.Shows.{CanGoBack, CanUndo, ShowsPast, back, before};
 ghost use Rattle.session.specs.Steps.{Past, Undoes};
 
 use crate::calls::Fault;

@@ -5,11 +5,12 @@ use Rattle.circular_buffer.specs.Buffer.{Buffer}
 use Rattle.view_lang.specs.Edits.{Edit}
 use Rattle.row_keys.specs.Store.{Refuses}
 use Rattle.session.specs.Changes.{edit_by}
-use Rattle.session.specs.Shows.{ShowsPast, rows_in, tables_in}
+use Rattle.upkeep.specs.Stores.{rows_in, tables_in}
+use Rattle.session.specs.Shows.{ShowsPast}
 use Rattle.session.specs.Steps.{accepted, unfit_in}
 use Rattle.session.specs.declared.undo.UndoRecord.{UndoRecord}
 use Rattle.session.proofs.Pasts.{store_edited, store_refused}
-use Rattle.session.proofs.Stores.{tables_set}
+use Rattle.upkeep.specs.StoreLaws.{tables_set}
 use Rattle.session.proofs.edit.edit.Goals as goal
 
 pub returns-in_err-change-clause-edits : goal.returns-in_err-change-clause-edits

@@ -2,7 +2,7 @@ use Rattle.std.proofs.Common.{◌<◌, Err, ap, arith, length, subst, sym, ◌�
 use Rattle.std.proofs.lemmas.Result.{err_from_is_err_and}
 use Rattle.view_lang.specs.Edits.{table_of}
 use Rattle.view_lang.specs.declared.config.Role.{Role}
-use Rattle.session.specs.Shows.{rows_in, tables_in}
+use Rattle.upkeep.specs.Stores.{rows_in, tables_in}
 use Rattle.session.proofs.Pushes.{
   event_typed,
   fault_shown,
@@ -12,7 +12,7 @@ use Rattle.session.proofs.Pushes.{
   some_bytes,
   unfit_shown,
 }
-use Rattle.session.proofs.Stores.{tables_length}
+use Rattle.upkeep.specs.StoreLaws.{tables_length}
 use Rattle.session.proofs.push.push_to.Goals as goal
 
 pub returns-in_err-fed-clause-pushes : goal.returns-in_err-fed-clause-pushes

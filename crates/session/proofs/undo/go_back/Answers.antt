@@ -1,8 +1,8 @@
 use Rattle.std.proofs.Common.{ap, arith, sym, ◌∙◌}
 use Rattle.std.specs.Option.{option_copied}
-use Rattle.session.specs.Shows.{rows_in, tables_in}
+use Rattle.upkeep.specs.Stores.{rows_in, tables_in}
 use Rattle.session.proofs.Pasts.{can_undo, undo_shown}
-use Rattle.session.proofs.Stores.{rows_length}
+use Rattle.upkeep.specs.StoreLaws.{rows_length}
 use Rattle.session.proofs.undo.go_back.Goals as goal
 
 pub restore_table-requires-clause-there : goal.restore_table-requires-clause-there

@@ -1,7 +1,7 @@
 use Rattle.std.proofs.Common.{ap}
 use Rattle.row_keys.specs.Store.{Store}
 use Rattle.session.proofs.Pasts.{store_before, store_can_undo}
-use Rattle.session.proofs.Stores.{tables_set}
+use Rattle.upkeep.specs.StoreLaws.{tables_set}
 use Rattle.session.proofs.undo.restore_table.Goals as goal
 
 pub restore-requires : goal.restore-requires

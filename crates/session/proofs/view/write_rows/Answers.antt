@@ -1,9 +1,9 @@
 use Rattle.std.proofs.Common.{◌<◌, ap, arith, length, subst, ◌∙◌}
 use Rattle.stream_writer.specs.Sinks.{Writes}
 use Rattle.view_lang.specs.Cells.{rows_of}
-use Rattle.session.specs.Shows.{rows_in, tables_in, world_of}
+use Rattle.upkeep.specs.Stores.{rows_in, tables_in, world_of}
 use Rattle.session.specs.Steps.{IsReadAsView}
-use Rattle.session.proofs.Stores.{rows_length}
+use Rattle.upkeep.specs.StoreLaws.{rows_length}
 use Rattle.session.proofs.Written.{on_ok, shown_fits, stream_is, view_read}
 use Rattle.session.proofs.view.write_rows.Goals as goal
 

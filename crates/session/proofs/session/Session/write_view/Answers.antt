@@ -5,7 +5,8 @@ use Rattle.std.proofs.lemmas.Result.{err_from_is_err_and}
 use Rattle.stream_writer.specs.Sinks.{Sunk}
 use Rattle.view_lang.specs.Config.{View}
 use Rattle.session.specs.Names.{place_of}
-use Rattle.session.specs.Shows.{IsStep, SessionParts, columns_of, config_of, rows_in, tables_in, world_of}
+use Rattle.upkeep.specs.Stores.{rows_in, tables_in, world_of}
+use Rattle.session.specs.Shows.{IsStep, SessionParts, columns_of, config_of}
 use Rattle.session.specs.Steps.{IsReadIfWhole, WriteAnswers, WriteStep, stream_of}
 use Rattle.session.specs.declared.calls.ViewFault.TheVariants.{Write}
 use Rattle.session.proofs.Sessions.{parts, refused_read, schema_there, session_kept, view_there, write_known}

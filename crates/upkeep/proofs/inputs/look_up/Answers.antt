@@ -1,6 +1,6 @@
 use Rattle.std.proofs.Common.{◌+◌, add-one}
-use Rattle.session.proofs.Inputs.{look_held, look_row}
-use Rattle.session.proofs.view.look_up.Goals as goal
+use Rattle.upkeep.proofs.InputRows.{look_held, look_row}
+use Rattle.upkeep.proofs.inputs.look_up.Goals as goal
 
 pub returns-clause-row : goal.returns-clause-row
 returns-clause-row c =

@@ -55,9 +55,9 @@ use Rattle.view_lang.specs.World.{contents_at, table_at}
 use Rattle.view_lang.specs.declared.view.Lookup.{Lookup}
 use Rattle.row_keys.specs.Slots.{Slot, contents_of, live, row_of}
 use Rattle.row_keys.specs.Store.{Store, visited}
-use Rattle.session.specs.Inputs.{AreInput, IsInput, listed, side_by}
-use Rattle.session.specs.Shows.{Rows, rows_at, rows_in, tables_in, world_of}
-use Rattle.session.proofs.Stores.{rows_there, set_same, table_there, tables_length, tables_set}
+use Rattle.upkeep.specs.Inputs.{AreInput, IsInput, listed, side_by}
+use Rattle.upkeep.specs.Stores.{Rows, rows_at, rows_in, tables_in, world_of}
+use Rattle.upkeep.specs.StoreLaws.{rows_there, set_same, table_there, tables_length, tables_set}
 
 -- a side table
 

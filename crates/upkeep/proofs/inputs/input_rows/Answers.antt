@@ -3,9 +3,9 @@ use Rattle.std.specs.Option.{option_map}
 use Rattle.view_lang.specs.Cells.{rows_of}
 use Rattle.view_lang.specs.ConfigRules.{IsView}
 use Rattle.row_keys.specs.Slots.{row_of}
-use Rattle.session.specs.Shows.{rows_at, rows_in, tables_in}
-use Rattle.session.proofs.Inputs.{gathered_all, gathered_more, gathered_none, number_there, same_read}
-use Rattle.session.proofs.view.input.Goals as goal
+use Rattle.upkeep.specs.Stores.{rows_at, rows_in, tables_in}
+use Rattle.upkeep.proofs.InputRows.{gathered_all, gathered_more, gathered_none, number_there, same_read}
+use Rattle.upkeep.proofs.inputs.input_rows.Goals as goal
 
 pub loop-number-init : goal.loop-number-init
 loop-number-init c = record {

@@ -7,7 +7,7 @@ use Rattle.view_lang.specs.Laws.{IsLookedUp}
 use Rattle.view_lang.specs.Rows.{IsRow}
 use Rattle.view_lang.specs.Views.{kept_row, side_in, view_input}
 use Rattle.view_lang.specs.World.{table_at}
-use Rattle.session.specs.Shows.{Rows, world_of}
+use Rattle.upkeep.specs.Stores.{Rows, world_of}
 
 abbrev pub side_by : List Table → Rows → View → Side
 side_by tables rows v = side_in tables (world_of rows) v.lookup

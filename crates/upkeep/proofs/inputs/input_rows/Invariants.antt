@@ -1,9 +1,9 @@
 use Rattle.std.proofs.Common.{◌≡◌, map, take}
 use Rattle.view_lang.specs.Cells.{rows_of}
 use Rattle.row_keys.specs.Slots.{row_of}
-use Rattle.session.specs.Inputs.{AreInput}
-use Rattle.session.specs.Shows.{rows_at, rows_in, tables_in}
-use Rattle.session.proofs.view.input.Given as goal
+use Rattle.upkeep.specs.Inputs.{AreInput}
+use Rattle.upkeep.specs.Stores.{rows_at, rows_in, tables_in}
+use Rattle.upkeep.proofs.inputs.input_rows.Given as goal
 
 abbrev pub invariant-loop-number : goal.invariant-loop-number
 invariant-loop-number l = record {

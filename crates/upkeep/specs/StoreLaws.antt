@@ -5,7 +5,7 @@ use Rattle.std.proofs.lemmas.List.{length-map}
 use Rattle.view_lang.specs.World.{table_at}
 use Rattle.row_keys.specs.Slots.{Slot}
 use Rattle.row_keys.specs.Store.{Store}
-use Rattle.session.specs.Shows.{Rows, rows_at, rows_in, tables_in}
+use Rattle.upkeep.specs.Stores.{Rows, rows_at, rows_in, tables_in}
 
 pub at_mapped : {X Y : Type 0} (f : X → Y) (xs : List X) (n : ℕ) (x : X) (d : Y) → x ≡ get_or xs n x → n < length xs
     → get_or (map f xs) n d ≡ f x

@@ -5,8 +5,8 @@ use Rattle.std.specs.declared.alloc.Global.{Global}
 use Rattle.values.specs.Datum.{Datum}
 use Rattle.view_lang.specs.Config.{View}
 use Rattle.view_lang.specs.Truth.{passes}
-use Rattle.session.proofs.Inputs.{row_dropped, row_input, row_kept, row_looked, row_typed}
-use Rattle.session.proofs.view.input_row.Goals as goal
+use Rattle.upkeep.proofs.InputRows.{row_dropped, row_input, row_kept, row_looked, row_typed}
+use Rattle.upkeep.proofs.inputs.input_row.Goals as goal
 
 pub returns-in_default-clause-row : goal.returns-in_default-clause-row
 returns-in_default-clause-row c =

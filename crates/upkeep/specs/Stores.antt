@@ -1,0 +1,23 @@
+-- The tables of stores, and the rows that they hold.
+use Rattle.std.specs.Prelude.{ℕ, List, [], get_or, map}
+use Rattle.view_lang.specs.Config.{Table}
+use Rattle.view_lang.specs.World.{World}
+use Rattle.row_keys.specs.Slots.{Slot, contents_of}
+use Rattle.row_keys.specs.Store.{Store}
+
+-- the rows of each table, by number
+abbrev pub Rows : Type 0
+Rows = List (List Slot)
+
+abbrev pub rows_at : Rows → ℕ → List Slot
+rows_at rows n = get_or rows n []
+
+-- the world that they are
+abbrev pub world_of : Rows → World
+world_of rows = map contents_of rows
+
+abbrev pub tables_in : List Store → List Table
+tables_in stores = map (λ s. s.table) stores
+
+abbrev pub rows_in : List Store → Rows
+rows_in stores = map (λ s. s.slots) stores
