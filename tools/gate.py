@@ -28,7 +28,15 @@ ROOT = os.path.dirname(os.path.dirname(os.path.abspath(__file__)))
 PROGRAM = "lv"
 # How the program is built, and how what comes of it is called.
 BACKENDS = {"llvm": "lv", "rattle": "lv.by-rattle"}
-RUNS = ("check-rows.py", "check-examples.sh", "check-outputs.sh", "refuse-memory.sh", "refuse-run.py", "check-cuts.py")
+RUNS = (
+    "check-rows.py",
+    "check-limits.py",
+    "check-examples.sh",
+    "check-outputs.sh",
+    "refuse-memory.sh",
+    "refuse-run.py",
+    "check-cuts.py",
+)
 # What the last line of a check may say of a proved crate: nothing of bounds, foreign functions or contracts that say nothing.
 PROVED = {"logic", "functions", "sum", "axioms", "target", "cpu", "native", "logic-built", "libraries-built", "statements", "incremental"}
 EMPTY = re.compile(r"^(warning: no call of `(?![^`]*::fn::)|note: the search for empty contracts did not end)", re.M)

@@ -16,13 +16,13 @@ use Rattle.values.specs.declared.col_type.ColType.{ColType}
 use Rattle.values.specs.declared.col_type.ColType.TheVariants as col
 use Rattle.view_lang.specs.ConfigRules.{AreOutputs, IsAddable, IsAggregate, IsColumn, IsGroupOutput, IsOrdered}
 use Rattle.view_lang.specs.ConfigRules.{IsOutput, IsText}
-use Rattle.view_lang.specs.Limits.{max_columns}
+use Rattle.view_lang.specs.Limits.{max_columns, max_sum_precision}
 use Rattle.view_lang.specs.Outputs.{GroupOutput, Output, Outputs, columns, groups}
 use Rattle.view_lang.specs.TableRules.{type_of}
 use Rattle.view_lang.specs.ViewColumns.{no_field, output_fields}
 use Rattle.view_lang.specs.declared.view.Aggregate.{Aggregate}
 use Rattle.view_lang.specs.declared.view.Aggregate.TheVariants as aggregate
-use Rattle.view_config.specs.Limits.{column_name, few_fields, max_sum_precision}
+use Rattle.view_config.specs.Limits.{column_name, few_fields}
 use Rattle.view_config.specs.Outputs.{aggregate_by, can_be_summed, count_by, distinct_numbers, group_of}
 use Rattle.view_config.specs.Outputs.{group_output_named, group_output_of, grouping_column, key_of_group, output_limits}
 use Rattle.view_config.specs.Outputs.{output_named, output_of, outputs_in, outputs_of, place_of, shown_by, sole_ordered}

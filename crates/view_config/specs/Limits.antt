@@ -27,10 +27,6 @@ max_filter_parts = 256
 abbrev pub max_filter_depth : ℕ
 max_filter_depth = 16
 
--- digits of a decimal that is summed
-abbrev pub max_sum_precision : ℕ
-max_sum_precision = 28
-
 -- rows of a view that has at most so many
 abbrev pub max_first : ℕ
 max_first = 2 ^ 24

@@ -8,6 +8,7 @@ use Rattle.values.specs.Reading.{◌>>=◌, mapped, must, one, refused_if}
 use Rattle.values.specs.Rose.{Rose}
 use Rattle.values.specs.declared.col_type.ColType.{ColType}
 use Rattle.values.specs.declared.col_type.ColType.TheVariants as col
+use Rattle.view_lang.specs.Limits.{max_sum_precision}
 use Rattle.view_lang.specs.Outputs.{GroupOutput, Output, Outputs, columns, groups}
 use Rattle.view_lang.specs.OutputsSeen.{outputs_of as outputs_seen}
 use Rattle.view_lang.specs.TableRules.{type_of}
@@ -15,7 +16,7 @@ use Rattle.view_lang.specs.ViewColumns.{output_fields}
 use Rattle.view_lang.specs.declared.view.Aggregate.{Aggregate}
 use Rattle.view_lang.specs.declared.view.Aggregate.TheVariants as aggregate
 use Rattle.view_lang.specs.declared.view.Outputs.{Outputs as Stored}
-use Rattle.view_config.specs.Limits.{column_name, distinct, few_fields, max_sum_precision}
+use Rattle.view_config.specs.Limits.{column_name, distinct, few_fields}
 use Rattle.view_config.specs.Reading.{Reading}
 use Rattle.view_config.specs.Scope.{Column, Scope, fields_of, ordered_reference, reference}
 use Rattle.view_config.specs.Tables.{few_columns}

@@ -158,7 +158,7 @@ zones =
     ∷ feed_named (codes "del") role.Retract ∷ feed_named (codes "put") (role.Put 0) ∷ [])
     (all_view ∷ sums_view ∷ top_view ∷ zone_view ∷ [])
 
--- a text in which this fault stands, and no other
+-- a text that is refused for this cause and for no other
 abbrev pub HasFault : List ℕ → ConfigFault → Type 0
 HasFault text c = text_means text ≡ Err (one c)
 
