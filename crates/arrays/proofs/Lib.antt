@@ -9,3 +9,4 @@ pub mod TypeLemmas
 pub mod WeightLemmas
 pub mod WeightLaw
 pub mod ReachLemmas
+pub mod HeldCells

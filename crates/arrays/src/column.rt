@@ -1,12 +1,13 @@
 //! A column of a record batch: validated once, then read cell by cell.
 
-ghost use Rattle.std.specs.Prelude.{◌≡◌, ◌<◌, length, slice_get, Some, IfOk, IfSome, Ok};
+ghost use Rattle.std.specs.Prelude.{◌≡◌, ◌<◌, All, length, slice_get, Some, IfOk, IfSome, Ok};
 ghost use Rattle.values.specs.Reading.{Judges, Passes, IsValid};
 ghost use Rattle.values.specs.Layouts.{Holds, weight};
 ghost use Rattle.array_layout.specs.Placing.{layout_of};
 ghost use Rattle.array_layout.specs.Sound.{IsPlaced, IsSound};
 ghost use Rattle.array_layout.specs.Cells.{cell, cells, column_of, len_of};
 ghost use Rattle.array_layout.specs.Typed.{IsTyped};
+ghost use Rattle.arrays.specs.Checked.{valid_of};
 ghost use Rattle.arrays.specs.Weights.{Says};
 
 use crate::read::read;
@@ -66,6 +67,14 @@ fn read_cell(alloc: Global, body: &[u8], array: &Array, i: usize) -> Result<Valu
     read(alloc, body, array, i)
 }
 
+/// The layouts hold each cell: a function that does nothing.
+fn cells_law(body: &[u8], array: &Array)
+    requires sound { IsSound body.now array.now }
+    requires valid { IsValid (cells body.now array.now) }
+    requires dictionary { IsTyped array.now }
+    ensures { All (λ d. Holds (layout_of array.now) d) (valid_of (cells body.now array.now)) }
+{}
+
 #[tactic(auto, using(crate::proofs::ColumnCells::column_laws))]
 impl Column {
     /// Checks the buffers and validates the cells of one column: 22 to 27.
@@ -85,6 +94,13 @@ impl Column {
         ensures { result ≡ length self.now.cells }
     {
         self.root.own.len
+    }
+
+    /// The layouts hold each cell: a function that does nothing.
+    pub fn law(&self)
+        ensures { All (λ d. Holds self.now.layouts d) self.now.cells }
+    {
+        cells_law(&self.body, &self.root);
     }
 
     /// Copies cell `i`.
