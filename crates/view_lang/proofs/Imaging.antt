@@ -18,7 +18,7 @@ use Rattle.values.specs.Datum.{Datum}
 use Rattle.view_lang.specs.Shifts.{NumberedRows, Shift, FitsInTurn, with_at, patched}
 use Rattle.view_lang.specs.SortedEntries.{sorted-insert_entry, sorted-remove_entry}
 use Rattle.view_lang.specs.Counted.{lookup-with_at}
-use Rattle.view_lang.specs.Images.{image_by, image, shift_image, ImageFits, ImagePatched, ImageValues}
+use Rattle.view_lang.specs.Images.{image_by, image, shift_image, ImageAt, ImageFits, ImagePatched, ImageValues}
 
 abbrev Up : NumberedRows → Type 0
 Up rows = IsStrictlySortedBy nat_cmp (keys_of rows)
@@ -166,4 +166,7 @@ pub image-values : ImageValues
 image-values f [] = refl
 image-values f (e ∷ es) = values_by e.0 (f e.1) (image f es) (filter_map f (values_of es)) (image-values f es)
 
-pub ruleset image_laws = (image-fits, image-patched, image-values)
+pub image-at : ImageAt
+image-at f rows n s = at-image f n rows s
+
+pub ruleset image_laws = (image-fits, image-patched, image-values, image-at)

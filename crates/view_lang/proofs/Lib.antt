@@ -5,6 +5,7 @@ mod CellFits
 mod InputRows
 mod GroupCells
 mod ViewRows
+mod KeyCells
 mod Sample
 pub mod Orders
 pub mod Sorting

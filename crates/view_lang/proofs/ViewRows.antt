@@ -38,18 +38,16 @@ use Rattle.values.specs.Limits.{max_main_rows}
 use Rattle.values.specs.Logical.{NamedType, tree_of}
 use Rattle.values.specs.Rose.{Rose}
 use Rattle.view_lang.specs.Cells.{cell_at, cells_at}
-use Rattle.view_lang.specs.Config.{Table, View}
 use Rattle.view_lang.specs.ConfigRules.{AreOutputs, IsAggregate, IsGroupOutput, IsOrdered, IsOutput}
 use Rattle.view_lang.specs.Groups.{group_row, group_rows, rows_with, same_tuple, tuples_of}
-use Rattle.view_lang.specs.Laws.{ViewsCanSum, ViewsHaveFewRows, ViewsHaveRows, Viewed}
+use Rattle.view_lang.specs.Laws.{ViewsCanSum, ViewsHaveFewRows, ViewsHaveRows}
 use Rattle.view_lang.specs.Outputs.{GroupOutput, Output, Outputs, columns, groups}
 use Rattle.view_lang.specs.RowOrder.{row_cmp, tuple_cmp}
 use Rattle.view_lang.specs.Rows.{IsRow}
 use Rattle.view_lang.specs.Sorted.{placed, sorted}
 use Rattle.view_lang.specs.Sums.{CanSum, IsSummable}
 use Rattle.view_lang.specs.ViewColumns.{aggregate_field, field_at, joined_columns, output_field, output_fields, view_columns}
-use Rattle.view_lang.specs.Views.{first_of, output_rows, shown_row, shown_rows, side_in, view_input, view_of, view_rows}
-use Rattle.view_lang.specs.World.{World, contents_at}
+use Rattle.view_lang.specs.Views.{first_of, output_rows, shown_row, shown_rows, view_input, view_rows}
 use Rattle.view_lang.specs.declared.view.Aggregate.{Aggregate}
 use Rattle.view_lang.specs.declared.view.Aggregate.TheVariants as aggregate
 use Rattle.view_lang.proofs.CellFits.{AreFit, Fits, cell_fits, fit_row, renamed_fits}
@@ -218,7 +216,7 @@ module _ (fs : List (Rose NamedType)) (such : AreSuch fs) (rows : List (List Dat
       group_fits fs by os tuple (filter p rows) such is held (All-filter p (AreFit fs) rows all)
       (omega (arith, few, few_filtered p rows))
 
-  outputs_fit : (os : Outputs) → AreOutputs fs os → All (AreFit (output_fields fs os)) (output_rows os rows)
+  pub outputs_fit : (os : Outputs) → AreOutputs fs os → All (AreFit (output_fields fs os)) (output_rows os rows)
   unfolding output_rows group_rows
   outputs_fit (columns os) is =
       All-map (AreFit (map (output_field fs) os)) (shown_row os) rows

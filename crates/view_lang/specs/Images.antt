@@ -1,10 +1,12 @@
 -- Changes of rows as changes of what is made of each of them.
 use Rattle.std.specs.Prelude.{◌≡◌, ℕ, List, [], ◌∷◌, map, Option, None, Some}
 use Rattle.std.specs.List.{filter_map}
-use Rattle.std.specs.Map.{values_of}
+use Rattle.std.specs.List.Sorted.{IsStrictlySortedBy}
+use Rattle.std.specs.Map.{keys_of, values_of}
 use Rattle.std.specs.Option.{option_and_then}
+use Rattle.std.specs.Ordering.{nat_cmp}
 use Rattle.values.specs.Datum.{Datum}
-use Rattle.view_lang.specs.Shifts.{Fits, NumberedRows, Shift, patched, shift}
+use Rattle.view_lang.specs.Shifts.{Fits, NumberedRows, Shift, patched, row_at, shift}
 
 abbrev pub image_by : ℕ → Option (List Datum) → NumberedRows → NumberedRows
 image_by n None rows = rows
@@ -35,3 +37,9 @@ abbrev pub ImageValues : Type 0
 ImageValues =
     (make : List Datum → Option (List Datum)) (rows : NumberedRows)
     → values_of (image make rows) ≡ filter_map make (values_of rows)
+
+-- Under a number stands what is made of the row under it.
+abbrev pub ImageAt : Type 0
+ImageAt =
+    (make : List Datum → Option (List Datum)) (rows : NumberedRows) (n : ℕ)
+    → IsStrictlySortedBy nat_cmp (keys_of rows) → row_at n (image make rows) ≡ option_and_then make (row_at n rows)

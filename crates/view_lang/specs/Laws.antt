@@ -1,20 +1,24 @@
 -- What holds of the views of tables whose rows are as their columns say.
-use Rattle.std.specs.Prelude.{◌≡◌, suc, ◌≤◌, false, All, IfSome, List, [], length, Option, None, Some}
+use Rattle.std.specs.Prelude.{◌≡◌, ℕ, suc, ◌≤◌, false, All, IfSome, List, [], length, Option, None, Some}
+use Rattle.std.specs.List.{AllByRecursion}
 use Rattle.values.specs.Datum.{Datum}
 use Rattle.values.specs.Limits.{max_main_rows}
 use Rattle.values.specs.Logical.{NamedType}
 use Rattle.values.specs.Rose.{Rose}
+use Rattle.view_lang.specs.Cells.{cell_at}
 use Rattle.view_lang.specs.Causes.{cause_of, has_null, has_repeated}
 use Rattle.view_lang.specs.Config.{Table, View}
 use Rattle.view_lang.specs.ConfigRules.{IsView}
 use Rattle.view_lang.specs.Contents.{Contents, applied, keys_in, no_contents}
 use Rattle.view_lang.specs.Edits.{TableEdit}
 use Rattle.view_lang.specs.Joined.{Side, looked_up}
+use Rattle.view_lang.specs.Outputs.{GroupOutput, groups}
 use Rattle.view_lang.specs.Rows.{IsRow}
 use Rattle.view_lang.specs.Sums.{CanSum}
 use Rattle.view_lang.specs.TableRules.{AreColumns, IsTable}
 use Rattle.view_lang.specs.ViewColumns.{view_columns}
-use Rattle.view_lang.specs.Views.{view_input, view_rows}
+use Rattle.view_lang.specs.ViewLaws.{IsKeyCell, UsesKeys}
+use Rattle.view_lang.specs.Views.{output_rows, view_input, view_rows}
 use Rattle.view_lang.specs.World.{table_at}
 use Rattle.view_lang.specs.declared.view.Lookup.{Lookup}
 
@@ -56,6 +60,20 @@ abbrev pub ViewsHaveFewRows : Type 0
 ViewsHaveFewRows =
     (tables : List Table) (v : View) (side : Side) (rows : List (List Datum)) → Viewed tables v side rows
     → length (view_rows v side rows) ≤ max_main_rows
+
+-- What it groups by, and what it shows the least or the greatest of, is neither a list nor a struct;
+abbrev pub ViewsUseKeys : Type 0
+ViewsUseKeys =
+    (tables : List Table) (v : View) (by : List ℕ) (outs : List GroupOutput) (side : Side) (rows : List (List Datum))
+    → Viewed tables v side rows → v.outputs ≡ groups by outs
+    → AllByRecursion (UsesKeys by outs) (view_input v side rows)
+
+-- nor is what its rows are ordered by.
+abbrev pub ViewsOrderKeys : Type 0
+ViewsOrderKeys =
+    (tables : List Table) (v : View) (side : Side) (rows : List (List Datum)) → Viewed tables v side rows
+    → AllByRecursion (λ row. AllByRecursion (λ o. IsKeyCell (cell_at row o.column)) v.order)
+    (output_rows v.outputs (view_input v side rows))
 
 -- Each live row has a key of its own, and none is null.
 pub record AreKeyed (t : Table) (c : Contents) : Type 0 where

@@ -6,6 +6,8 @@ ghost use Rattle.values.specs.Datum.{null};
 ghost use Rattle.view_lang.specs.Cells.{rows_of};
 ghost use Rattle.view_lang.specs.Joined.{joined_by};
 ghost use Rattle.view_lang.specs.OutputsSeen.{outputs_of};
+ghost use Rattle.view_lang.specs.RowOrder.{row_cmp};
+ghost use Rattle.view_lang.specs.Sorted.{sorted};
 ghost use Rattle.view_lang.specs.Sums.{CanSum};
 ghost use Rattle.view_lang.specs.Truth.{passes};
 ghost use Rattle.view_lang.specs.Views.{first_of, output_rows, shown_rows};
@@ -95,9 +97,17 @@ impl View {
         requires { CanSum self.now.outputs (rows_of rows.items) }
         ensures { IfOk result (λ shown. rows_of shown.items ≡ shown_rows self.now (rows_of rows.items)) }
     {
-        let mut shown = output(alloc, &self.outputs, rows)?;
-        sort_rows(&mut shown, &self.order)?;
-        cut(&mut shown, self.first);
-        Ok(shown)
+        let made = output(alloc, &self.outputs, rows)?;
+        self.arrange(made)
+    }
+
+    /// Output rows in the view's order, of which the first are left. Rows that tie stay in their order.
+    pub fn arrange(&self, mut rows: Vec<Row>) -> Result<Vec<Row>, AllocError>
+        ensures { IfOk result (λ shown.
+            rows_of shown.items ≡ first_of self.now.first (sorted (row_cmp self.now.order) (rows_of rows.items))) }
+    {
+        sort_rows(&mut rows, &self.order)?;
+        cut(&mut rows, self.first);
+        Ok(rows)
     }
 }

@@ -9,6 +9,8 @@ ghost use Rattle.view_lang.specs.Laws.{
   ViewsCanSum,
   ViewsHaveFewRows,
   ViewsHaveRows,
+  ViewsOrderKeys,
+  ViewsUseKeys,
 };
 ghost use Rattle.view_lang.specs.Limits.{
   max_appended_rows,
@@ -51,13 +53,15 @@ pub fn config_law()
     ensures views { ViewsAreTables }
 {}
 
-/// Rows that aren't too heavy keep the limit on rows. The sums of a view's groups can be made, and the rows of a view are
-/// rows of its columns, and not too many.
+/// Rows that aren't too heavy keep the limit on rows. The sums of a view's groups can be made, and the rows of a view
+/// are rows of its columns, and not too many. What a view groups by, compares or orders by has keys.
 pub fn rows_law()
     ensures light { RowsAreLight }
     ensures sums { ViewsCanSum }
     ensures views { ViewsHaveRows }
     ensures few { ViewsHaveFewRows }
+    ensures keys { ViewsUseKeys }
+    ensures ordered { ViewsOrderKeys }
 {}
 
 /// Each live row of a table has a key of its own, and none is null, after whatever edits that fit.

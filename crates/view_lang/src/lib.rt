@@ -31,6 +31,7 @@ pub use config::{Config, FeedConfig, Role, SideTable, Table};
 pub use filter::{Comparison, Filter, Operand, Test};
 pub use laws::{config_law, key_law, limits_law, rows_law, sample_law};
 pub use limits::MAX_COLUMN_NAME_LEN;
+pub use rows::project;
 pub use unfit::Unfit;
 pub use upkeep::Upkeep;
 pub use view::{

@@ -13,9 +13,9 @@ use std::alloc::{AllocError, Global};
 use std::cmp::Ordering;
 use values::{Row, Value, cmp_values};
 
-/// What a view with these outputs shows of a row.
+/// What a view with these outputs shows of a joined row.
 #[tactic(auto, using(crate::proofs::Projecting::cell_steps))]
-fn project(alloc: Global, outputs: &[Output], row: &[Value]) -> Result<Row, AllocError>
+pub fn project(alloc: Global, outputs: &[Output], row: &[Value]) -> Result<Row, AllocError>
     ensures { IfOk result (λ shown. shown.items ≡ shown_row outputs.now row.now) }
 {
     let absent = no_value();

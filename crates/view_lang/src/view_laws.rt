@@ -2,7 +2,7 @@
 
 ghost use Rattle.std.specs.Prelude.{◌≡◌, [], ◌∷◌, codes, None, Some};
 ghost use Rattle.values.specs.Datum.{null, text};
-ghost use Rattle.view_lang.specs.Images.{ImageFits, ImagePatched, ImageValues};
+ghost use Rattle.view_lang.specs.Images.{ImageAt, ImageFits, ImagePatched, ImageValues};
 ghost use Rattle.view_lang.specs.ViewLaws.{
   AllOfMeans,
   FirstOfSorted,
@@ -99,6 +99,7 @@ pub fn image_law()
     ensures fits { ImageFits }
     ensures patched { ImagePatched }
     ensures values { ImageValues }
+    ensures at { ImageAt }
 {}
 
 /// What some views show of a few rows.

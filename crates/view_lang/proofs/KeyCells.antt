@@ -1,0 +1,96 @@
+-- The cells that a view compares have keys.
+use Rattle.std.proofs.Common.{ℕ, All, List, refl, subst}
+use Rattle.std.specs.List.{AllByRecursion}
+use Rattle.std.proofs.lemmas.List.Elements.{All-weaker, recursion_from_All}
+use Rattle.values.specs.ColTypes.{IsSingle, layout_of}
+use Rattle.values.specs.Datum.{Datum, list, structure, Items}
+use Rattle.values.specs.Layouts.{Holds}
+use Rattle.values.specs.Logical.{NamedType, tree_of}
+use Rattle.values.specs.Rose.{Rose, Roses, node}
+use Rattle.values.specs.declared.col_type.ColType.{ColType}
+use Rattle.values.specs.declared.col_type.ColType.TheVariants as col
+use Rattle.values.specs.declared.layout.Layout.{Layout}
+use Rattle.view_lang.specs.Cells.{cell_at}
+use Rattle.view_lang.specs.ConfigRules.{AreOutputs, IsAggregate, IsGroupOutput, IsOrdered}
+use Rattle.view_lang.specs.Laws.{ViewsOrderKeys, ViewsUseKeys}
+use Rattle.view_lang.specs.Outputs.{GroupOutput, groups}
+use Rattle.view_lang.specs.TableRules.{type_of}
+use Rattle.view_lang.specs.ViewColumns.{field_at, joined_columns, view_columns}
+use Rattle.view_lang.specs.ViewLaws.{ComparesKeys, IsKeyCell, UsesKeys}
+use Rattle.view_lang.specs.Views.{output_rows, view_input}
+use Rattle.view_lang.specs.declared.view.Aggregate.{Aggregate}
+use Rattle.view_lang.specs.declared.view.Aggregate.TheVariants as aggregate
+use Rattle.view_lang.specs.declared.view.OrderBy.{OrderBy}
+use Rattle.view_lang.proofs.CellFits.{AreFit, cell_fits}
+use Rattle.view_lang.proofs.Columns.{joined_such}
+use Rattle.view_lang.proofs.InputRows.{input_few, input_fits}
+use Rattle.view_lang.proofs.ViewRows.{outputs_fit}
+
+-- Only a type with children holds a list or a struct.
+
+no_list : (t : ColType) (kids : Roses Layout) (es : Items) → IsSingle t → Holds (node (layout_of t) kids) (list es) → ⊥
+no_list (col.List o) kids es single held = single
+no_list col.Struct kids es single held = single
+no_list t kids es single held = held
+
+no_structure :
+    (t : ColType) (kids : Roses Layout) (es : Items) → IsSingle t → Holds (node (layout_of t) kids) (structure es) → ⊥
+no_structure (col.List o) kids es single held = single
+no_structure col.Struct kids es single held = single
+no_structure t kids es single held = held
+
+single_key :
+    (t : ColType) (kids : Roses Layout) (d : Datum) → IsSingle t → Holds (node (layout_of t) kids) d → IsKeyCell d
+single_key t kids (list es) single held = absurd (no_list t kids es single held)
+single_key t kids (structure es) single held = absurd (no_structure t kids es single held)
+single_key t kids d single held = refl
+
+held_key : (f : Rose NamedType) (d : Datum) → IsSingle (type_of f) → Holds (tree_of f) d → IsKeyCell d
+held_key (node f kids) d single held = single_key f.col_type _ d single held
+
+module _ (fs : List (Rose NamedType)) (row : List Datum) (fit : AreFit fs row) where
+  ordered_key : (k : ℕ) → IsOrdered fs k → IsKeyCell (cell_at row k)
+  ordered_key k is = held_key (field_at fs k) (cell_at row k) is.1 (cell_fits fs row k fit is.0).held
+
+  compared_keys : (by : List ℕ) (x : Aggregate) → IsAggregate fs by x → ComparesKeys x row
+  compared_keys by (aggregate.Least k) is = ordered_key k is
+  compared_keys by (aggregate.Greatest k) is = ordered_key k is
+  compared_keys by x is = tt
+
+  row_uses :
+      (by : List ℕ) (outs : List GroupOutput) → All (IsOrdered fs) by → All (IsGroupOutput fs by) outs
+      → UsesKeys by outs row
+  row_uses by outs ordered all = (
+    recursion_from_All (λ k. IsKeyCell (cell_at row k)) by
+        (All-weaker (IsOrdered fs) (λ k. IsKeyCell (cell_at row k)) ordered_key by ordered),
+    recursion_from_All (λ o. ComparesKeys o.aggregate row) outs
+        (All-weaker (IsGroupOutput fs by) (λ o. ComparesKeys o.aggregate row)
+        (λ o is. compared_keys by o.aggregate is.1) outs all),
+  )
+
+  row_orders :
+      (order : List OrderBy) → All (λ o. IsOrdered fs o.column) order
+      → AllByRecursion (λ o. IsKeyCell (cell_at row o.column)) order
+  row_orders order all =
+      recursion_from_All (λ o. IsKeyCell (cell_at row o.column)) order
+      (All-weaker (λ o. IsOrdered fs o.column) (λ o. IsKeyCell (cell_at row o.column)) (λ o is. ordered_key o.column is)
+      order all)
+
+pub views_use_keys : ViewsUseKeys
+views_use_keys tables v by outs side rows is same =
+    let fs : List (Rose NamedType) = joined_columns tables v.lookup in
+    let right : AreOutputs fs (groups by outs) = subst (AreOutputs fs) same is.view.outputs in
+    recursion_from_All (UsesKeys by outs) (view_input v side rows)
+    (All-weaker (AreFit fs) (UsesKeys by outs) (λ row fit. row_uses fs row fit by outs right.0 right.1)
+    (view_input v side rows) (input_fits tables v side rows is))
+
+pub views_order_keys : ViewsOrderKeys
+views_order_keys tables v side rows is =
+    let fs : List (Rose NamedType) = view_columns tables v in
+    let P : List Datum → Type 0 = λ row. AllByRecursion (λ o. IsKeyCell (cell_at row o.column)) v.order in
+    let made : List (List Datum) = output_rows v.outputs (view_input v side rows) in
+    recursion_from_All P made
+    (All-weaker (AreFit fs) P (λ row fit. row_orders fs row fit v.order is.view.order) made
+    (outputs_fit (joined_columns tables v.lookup) (joined_such tables v.lookup is.right is.view.lookup)
+    (view_input v side rows) (input_fits tables v side rows is) (input_few tables v side rows is) v.outputs
+    is.view.outputs))
