@@ -31,7 +31,7 @@ use Rattle.std.proofs.Common.{
 }
 use Rattle.std.specs.Prelude.{slice_get, IsSome, nat_lt, if◌then◌else◌}
 use Rattle.std.proofs.lemmas.List.{drop_more, drop_all, length-map}
-use Rattle.std.proofs.lemmas.List.Elements.{All-append, All-get_or}
+use Rattle.std.proofs.lemmas.List.Elements.{All-append, All-cons, All-get_or, All-nil}
 use Rattle.std.proofs.lemmas.Bool.{ltb-false}
 use Rattle.std.proofs.lemmas.Option.{none-some}
 use Rattle.values.specs.Datum.{Datum, null, truth, whole, text, bytes, list, structure, Items}
@@ -47,7 +47,7 @@ use Rattle.values.specs.declared.layout.Layout.{Layout}
 use Rattle.arrays.specs.Checked.{CheckedColumn}
 use Rattle.schema_meta.specs.Rows.{row_at, rows_from}
 use Rattle.view_lang.specs.Causes.{any_among, any_heavy, cause_of, has_null, has_repeated, layouts_of}
-use Rattle.view_lang.specs.Cells.{cell_at}
+use Rattle.view_lang.specs.Cells.{cell_at, is_null}
 use Rattle.view_lang.specs.Config.{Table}
 use Rattle.view_lang.specs.Contents.{Contents, key_in, keys_in}
 use Rattle.view_lang.specs.Edits.{append}
@@ -56,15 +56,26 @@ use Rattle.view_lang.specs.declared.unfit.Unfit.TheVariants as unfit
 use Rattle.row_keys.specs.declared.batches.Place.{Place}
 use Rattle.row_keys.specs.declared.faults.EditFault.{EditFault}
 use Rattle.row_keys.specs.declared.faults.EditFault.TheVariants as fault
-use Rattle.row_keys.specs.Batches.{AreAlike, IsAlike, IsBatch, batch_rows, cells_in, layouts_in}
+use Rattle.row_keys.specs.Batches.{AreAlike, HoldsCells, IsAlike, IsBatch, batch_rows, cells_in, layouts_in}
 use Rattle.row_keys.specs.Judged.{RefusesRows, are_many}
 use Rattle.row_keys.specs.KeyColumns.{HoldsKeys, PushesKeys, RefusesKeys, fresh}
 use Rattle.row_keys.specs.Numbers.{Numbered, live_count}
 use Rattle.row_keys.specs.Slots.{CanTakeBack, Slot, live, new_slot, taken_back, contents_of}
 use Rattle.row_keys.specs.Store.{Refuses}
-use Rattle.row_keys.specs.Stored.{AreKeyed, IsLightRow, IsStored, joined, live_keys, places_from, rows_by}
+use Rattle.row_keys.specs.Stored.{
+  AreKeyed,
+  HasKey,
+  HoldsRow,
+  IsLightRow,
+  IsStored,
+  joined,
+  live_keys,
+  places_from,
+  rows_by,
+}
 use Rattle.row_keys.proofs.Batching.{none_heavy, placed_joined, rows_joined}
 use Rattle.row_keys.proofs.HeavyRows.{alike_any}
+use Rattle.row_keys.proofs.HeldRows.{rows_held}
 use Rattle.row_keys.proofs.Joining.{
   can_take_added,
   joined_added,
@@ -222,16 +233,25 @@ count_added (x ∷ xs) ks = by x.live (count_added xs ks)
     by true h = omega (arith, h)
     by false h = h
 
+none_null : (t : Table) (rows : List (List Datum)) → has_null (keys_in t rows) ≡ false → All (HasKey t) rows
+unfolding has_null
+none_null t [] h = All-nil (HasKey t)
+none_null t (r ∷ rs) h =
+    let a = neither (is_null (key_in t r)) (has_null (keys_in t rs)) h in
+    All-cons (HasKey t) r rs a.0 (none_null t rs a.1)
+
 pub stored_appended :
     (t : Table) (bs : List (List CheckedColumn)) (ps : List Place) (xs new : List Numbered)
     (columns : List CheckedColumn) (n appended : ℕ)
     → IsStored t bs ps xs → IsBatch t n columns → PushesKeys (keys_in t (batch_rows n columns)) xs new
     → are_many t.max_rows (live_count xs) appended n ≡ false → any_heavy (layouts_in columns) (batch_rows n columns) ≡
-    false
+    false → All HoldsCells columns
     → IsStored t (bs ++ columns ∷ []) (ps ++ places_from (length bs) 0 n) new
-stored_appended t bs ps xs new columns n appended is batch p few light =
+stored_appended t bs ps xs new columns n appended is batch p few light holds =
     let rows = rows_joined t bs columns ps n is.placed in
     let P : List (List Datum) → Type 0 = λ rs. All (IsLightRow t) rs in
+    let G : List (List Datum) → Type 0 = λ rs. All (HasKey t) rs in
+    let H : List (List Datum) → Type 0 = λ rs. All (HoldsRow t) rs in
     let Q : List (List Datum) → Type 0 = λ rs. AreKeyed t rs new in
     let R : List Numbered → Type 0 = λ ys. AreKeyed t (rows_by bs ps ++ batch_rows n columns) ys in
     let parts = neither (nat_lt t.max_rows (live_count xs + n)) _ few in
@@ -243,9 +263,13 @@ stored_appended t bs ps xs new columns n appended is batch p few light =
     record {
       table = is.table;
       placed = placed_joined t bs columns ps n is.placed batch.alike batch.long;
+      held = subst H (sym rows) (All-append (HoldsRow t) (rows_by bs ps) (batch_rows n columns) is.held
+          (rows_held t columns n 0 n batch.alike holds batch.long (omega arith)));
       light = subst P (sym rows) (All-append (IsLightRow t) (rows_by bs ps) (batch_rows n columns) is.light
           (none_heavy t (batch_rows n columns)
           (alike_any (layouts_of t) (layouts_in columns) (batch_rows n columns) batch.alike ∙ light)));
+      given = subst G (sym rows) (All-append (HasKey t) (rows_by bs ps) (batch_rows n columns) is.given
+          (none_null t (batch_rows n columns) p.given));
       keyed = subst Q (sym rows) (subst R (sym p.pushed)
           (keyed_added t (rows_by bs ps) (batch_rows n columns) xs (map fresh p.keys) is.keyed
           (keyed_new t (batch_rows n columns) p.keys p.are)));

@@ -7,10 +7,15 @@ mod RowCells
 mod Joining
 mod Retracting
 mod TurnedRows
+mod PuttingBack
 mod Storing
+mod Hiding
+mod LastRows
+mod KeyedRows
 mod Keying
 mod HeavyRows
 mod Batching
+mod HeldRows
 mod Appending
 mod BatchKeys
 mod Results
@@ -23,3 +28,4 @@ mod BatchLaw
 mod Changing
 mod Numbering
 mod NumberLaw
+mod PutLaw

@@ -194,7 +194,7 @@ row_marked b (s ∷ ss) zero (suc m) = refl
 row_marked b (s ∷ ss) (suc n) zero = refl
 row_marked b (s ∷ ss) (suc n) (suc m) = row_marked b ss n m
 
-row_retracted : (ns : List ℕ) (slots : List Slot) (m : ℕ) → row_of (retracted ns slots) m ≡ row_of slots m
+pub row_retracted : (ns : List ℕ) (slots : List Slot) (m : ℕ) → row_of (retracted ns slots) m ≡ row_of slots m
 unfolding retracted
 row_retracted [] slots m = refl
 row_retracted (n ∷ ns) slots m = row_retracted ns (marked false slots n) m ∙ row_marked false slots n m
@@ -248,12 +248,12 @@ live_retracted t (n ∷ ns) slots can proper =
     ∙ ap (λ xs. without t (keys_at t ns slots) xs) (one_less t slots n can.0 proper.distinct (proper.reflects n can.0))
     ∙ without_twice t (key_in t (row_of slots n)) (keys_at t ns slots) (live slots)
 
-length_marked : (b : Bool) (slots : List Slot) (n : ℕ) → length (marked b slots n) ≡ length slots
+pub length_marked : (b : Bool) (slots : List Slot) (n : ℕ) → length (marked b slots n) ≡ length slots
 length_marked b [] n = refl
 length_marked b (s ∷ ss) zero = refl
 length_marked b (s ∷ ss) (suc n) = ap suc (length_marked b ss n)
 
-length_retracted : (ns : List ℕ) (slots : List Slot) → length (retracted ns slots) ≡ length slots
+pub length_retracted : (ns : List ℕ) (slots : List Slot) → length (retracted ns slots) ≡ length slots
 unfolding retracted
 length_retracted [] slots = refl
 length_retracted (n ∷ ns) slots = length_retracted ns (marked false slots n) ∙ length_marked false slots n

@@ -74,7 +74,18 @@ use Rattle.row_keys.specs.Slots.{
   contents_of,
 }
 use Rattle.row_keys.specs.Store.{IsAbsent, IsFound, Store}
-use Rattle.row_keys.specs.Stored.{AreKeyed, IsLightRow, IsPlaced, IsStored, columns_of, joined, row_by, rows_by}
+use Rattle.row_keys.specs.Stored.{
+  AreKeyed,
+  HasKey,
+  HoldsRow,
+  IsLightRow,
+  IsPlaced,
+  IsStored,
+  columns_of,
+  joined,
+  row_by,
+  rows_by,
+}
 use Rattle.row_keys.proofs.Joining.{
   joined_at,
   joined_taken,
@@ -84,6 +95,7 @@ use Rattle.row_keys.proofs.Joining.{
   live_counted,
   unused_among,
 }
+use Rattle.row_keys.proofs.PuttingBack.{can_retract_again, retracted_again}
 use Rattle.row_keys.proofs.Retracting.{can_put_back, put_back_undoes, world_retracted}
 use Rattle.row_keys.proofs.TurnedRows.{
   can_revive,
@@ -115,7 +127,9 @@ pub stored_off : (t : Table) (bs : Batches) (ps : List Place) (xs : List Numbere
 stored_off t bs ps xs ns is are = record {
   table = is.table;
   placed = is.placed;
+  held = is.held;
   light = is.light;
+  given = is.given;
   keyed = keyed_off t (rows_by bs ps) ns xs is.keyed;
   few = let few = fewer_off ns xs are in omega (arith, few, is.few);
 }
@@ -173,10 +187,32 @@ stored_revived t bs ps xs ns is can =
     record {
       table = is.table;
       placed = is.placed;
+      held = is.held;
       light = is.light;
+      given = is.given;
       keyed = keyed;
       few = omega (arith, same, counted, can.1);
     }
+
+pub revived_can :
+    (t : Table) (bs : Batches) (ps : List Place) (xs ys : List Numbered) (ns : List ℕ)
+    → CanPutBack t ns (joined (rows_by bs ps) xs) → ys ≡ revived ns xs → CanRetract ns (joined (rows_by bs ps) ys)
+unfolding CanPutBack
+revived_can t bs ps xs ys ns can same =
+    let slots : joined (rows_by bs ps) ys ≡ put_back ns (joined (rows_by bs ps) xs) =
+    ap (λ zs. joined (rows_by bs ps) zs) same ∙ joined_revived (rows_by bs ps) ns xs in
+    let P : List Slot → Type 0 = λ ss. CanRetract ns ss in
+    subst P (sym slots) (can_retract_again t ns (joined (rows_by bs ps) xs) can.0)
+
+pub revived_back :
+    (t : Table) (bs : Batches) (ps : List Place) (xs ys : List Numbered) (ns : List ℕ)
+    → CanPutBack t ns (joined (rows_by bs ps) xs) → ys ≡ revived ns xs
+    → retracted ns (joined (rows_by bs ps) ys) ≡ joined (rows_by bs ps) xs
+unfolding CanPutBack
+revived_back t bs ps xs ys ns can same =
+    ap (λ zs. retracted ns (joined (rows_by bs ps) zs)) same
+    ∙ ap (λ ss. retracted ns ss) (joined_revived (rows_by bs ps) ns xs)
+    ∙ retracted_again t ns (joined (rows_by bs ps) xs) can.0
 
 count_taken : (k : ℕ) (xs : List Numbered) → live_count (take k xs) ≤ live_count xs
 count_taken zero [] = omega arith
@@ -196,10 +232,14 @@ stored_taken t bs ps xs k is =
     let rows : take k (rows_by bs ps) ≡ rows_by bs (take k ps) = take-map (row_by bs) k ps in
     let P : List (List Datum) → Type 0 = λ rs. All (IsLightRow t) rs in
     let Q : List (List Datum) → Type 0 = λ rs. AreKeyed t rs (take k xs) in
+    let R : List (List Datum) → Type 0 = λ rs. All (HasKey t) rs in
+    let H : List (List Datum) → Type 0 = λ rs. All (HoldsRow t) rs in
     record {
       table = is.table;
       placed = All-take (IsPlaced t bs) k ps is.placed;
+      held = subst H rows (All-take (HoldsRow t) k (rows_by bs ps) is.held);
       light = subst P rows (All-take (IsLightRow t) k (rows_by bs ps) is.light);
+      given = subst R rows (All-take (HasKey t) k (rows_by bs ps) is.given);
       keyed = subst Q rows (keyed_taken t k (rows_by bs ps) xs is.keyed);
       few = let few = count_taken k xs in omega (arith, few, is.few);
     }

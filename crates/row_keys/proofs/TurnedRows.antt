@@ -152,7 +152,7 @@ pub keyed_revived : (t : Table) (rows : List (List Datum)) (ns : List ℕ) (xs :
 keyed_revived t rows [] xs keyed = keyed
 keyed_revived t rows (n ∷ ns) xs keyed = keyed_turned t rows (revived ns xs) true n (keyed_revived t rows ns xs keyed)
 
-row_put_back : (ns : List ℕ) (slots : List Slot) (m : ℕ) → row_of (put_back ns slots) m ≡ row_of slots m
+pub row_put_back : (ns : List ℕ) (slots : List Slot) (m : ℕ) → row_of (put_back ns slots) m ≡ row_of slots m
 unfolding put_back
 row_put_back [] slots m = refl
 row_put_back (n ∷ ns) slots m = row_marked true (put_back ns slots) n m ∙ row_put_back ns slots m

@@ -34,6 +34,10 @@ layouts_in columns = kids_of (map (λ c. c.layouts) columns)
 abbrev pub batch_rows : ℕ → List CheckedColumn → List (List Datum)
 batch_rows rows columns = rows_in rows (cells_in columns)
 
+-- the layouts hold each cell
+abbrev pub HoldsCells : CheckedColumn → Type 0
+HoldsCells c = All (λ d. Holds c.layouts d) c.cells
+
 -- columns of so many cells, each as the table's column holds them
 pub record IsBatch (t : Table) (rows : ℕ) (columns : List CheckedColumn) : Type 0 where
   pub alike : AreAlike (layouts_of t) (layouts_in columns)

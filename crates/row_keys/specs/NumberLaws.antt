@@ -1,5 +1,5 @@
 -- What each change of a store does to its live rows under their numbers.
-use Rattle.std.specs.Prelude.{◌≡◌, ℕ, ◌-◌, All, List, [], ◌++◌, Some, length, map}
+use Rattle.std.specs.Prelude.{◌≡◌, ℕ, ◌-◌, ◌≤◌, All, List, [], ◌++◌, Some, length, map}
 use Rattle.std.specs.List.{range_with_len}
 use Rattle.std.specs.List.Sorted.{IsStrictlySortedBy}
 use Rattle.std.specs.Map.{keys_of, values_of}
@@ -11,11 +11,16 @@ use Rattle.row_keys.specs.Numbered.{come, gone, live_at, numbered}
 use Rattle.row_keys.specs.Slots.{
   CanPutBack,
   CanRetract,
+  CanShowPut,
   CanTakeBack,
+  CanUndoPut,
   Slot,
+  last_numbers,
   live,
   new_slot,
   put_back,
+  put_hidden,
+  put_shown,
   retracted,
   row_of,
   taken_back,
@@ -76,6 +81,28 @@ abbrev pub TakenBackGo : Type 0
 TakenBackGo =
     (n : ℕ) (slots : List Slot) → CanTakeBack n slots
     → Leads (numbered slots) (gone slots (range_with_len (length slots - n) n)) (numbered (taken_back n slots))
+
+-- Rows that can be retracted are no more than the live ones,
+abbrev pub FewRetracted : Type 0
+FewRetracted = (ns : List ℕ) (slots : List Slot) → CanRetract ns slots → length ns ≤ length (live slots)
+
+-- and rows that are put back no more than those that are live then.
+abbrev pub FewPutBack : Type 0
+FewPutBack =
+    (t : Table) (ns : List ℕ) (slots : List Slot) → CanPutBack t ns slots
+    → length ns ≤ length (live (put_back ns slots))
+
+-- Where a put is hidden its rows go, and those come that they replaced.
+abbrev pub HiddenPutGoes : Type 0
+HiddenPutGoes =
+    (t : Table) (ns : List ℕ) (n : ℕ) (slots : List Slot) → CanUndoPut t n ns slots
+    → Leads (numbered slots) (gone slots (last_numbers n slots) ++ come slots ns) (numbered (put_hidden n ns slots))
+
+-- Where it is shown again those go, and its rows come.
+abbrev pub ShownPutComes : Type 0
+ShownPutComes =
+    (t : Table) (ns : List ℕ) (n : ℕ) (slots : List Slot) → CanShowPut t n ns slots
+    → Leads (numbered slots) (gone slots ns ++ come slots (last_numbers n slots)) (numbered (put_shown n ns slots))
 
 -- All live rows come where there were none.
 abbrev pub AllCome : Type 0

@@ -21,6 +21,7 @@ use Rattle.std.specs.Prelude.{
   slice_get,
   take,
 }
+use Rattle.std.specs.List.{range_with_len}
 use Rattle.values.specs.Datum.{Datum}
 use Rattle.view_lang.specs.Config.{Table}
 use Rattle.view_lang.specs.Contents.{Contents, is_among, key_in, keys_in}
@@ -99,5 +100,24 @@ taken_back n slots = take (length slots - n) slots
 abbrev pub put_undone : ℕ → List ℕ → List Slot → List Slot
 put_undone n replaced slots = put_back replaced (taken_back n slots)
 
+-- the numbers of the last n rows
+abbrev pub last_numbers : ℕ → List Slot → List ℕ
+last_numbers n slots = range_with_len (length slots - n) n
+
+-- The last n rows are live and can go, and then the rows that they replaced can come back.
 abbrev pub CanUndoPut : Table → ℕ → List ℕ → List Slot → Type 0
-CanUndoPut t n replaced slots = CanTakeBack n slots × CanPutBack t replaced (taken_back n slots)
+CanUndoPut t n replaced slots =
+    CanTakeBack n slots × CanPutBack t replaced (taken_back n slots) × CanRetract (last_numbers n slots) slots
+
+-- Rows that were put are retracted, and the rows come back that they replaced. No number is given free.
+abbrev pub put_hidden : ℕ → List ℕ → List Slot → List Slot
+put_hidden n replaced slots = put_back replaced (retracted (last_numbers n slots) slots)
+
+-- The rows that they replaced are retracted again, and they are put back.
+abbrev pub put_shown : ℕ → List ℕ → List Slot → List Slot
+put_shown n replaced slots = put_back (last_numbers n slots) (retracted replaced slots)
+
+-- The rows that they replaced can be retracted, and then the last n rows can be put back.
+abbrev pub CanShowPut : Table → ℕ → List ℕ → List Slot → Type 0
+CanShowPut t n replaced slots =
+    CanTakeBack n slots × CanRetract replaced slots × CanPutBack t (last_numbers n slots) (retracted replaced slots)

@@ -17,11 +17,13 @@ use Rattle.std.specs.Prelude.{
   length,
   map,
 }
-use Rattle.values.specs.Datum.{Datum}
+use Rattle.values.specs.Datum.{Datum, items_of}
 use Rattle.values.specs.Keys.{datum_of_key}
+use Rattle.values.specs.Layouts.{HoldsEach}
 use Rattle.arrays.specs.Checked.{CheckedColumn}
 use Rattle.schema_meta.specs.Rows.{row_at}
 use Rattle.view_lang.specs.Causes.{is_heavy, layouts_of}
+use Rattle.view_lang.specs.Cells.{is_null}
 use Rattle.view_lang.specs.Config.{Table}
 use Rattle.view_lang.specs.Contents.{key_in}
 use Rattle.view_lang.specs.TableRules.{IsTable}
@@ -66,11 +68,19 @@ AreKeyed t (r ∷ rs) (n ∷ ns) = (key_in t r ≡ datum_of_key n.key) × AreKey
 abbrev pub IsLightRow : Table → List Datum → Type 0
 IsLightRow t row = is_heavy (layouts_of t) row ≡ false
 
+abbrev pub HoldsRow : Table → List Datum → Type 0
+HoldsRow t row = HoldsEach (layouts_of t) (items_of row)
+
+abbrev pub HasKey : Table → List Datum → Type 0
+HasKey t row = is_null (key_in t row) ≡ false
+
 pub record IsStored (t : Table) (batches : List (List CheckedColumn)) (places : List Place) (numbers : List Numbered) :
     Type 0 where
   pub table : IsTable t
   pub placed : All (IsPlaced t batches) places
+  pub held : All (HoldsRow t) (rows_by batches places)
   pub light : All (IsLightRow t) (rows_by batches places)
+  pub given : All (HasKey t) (rows_by batches places)
   pub keyed : AreKeyed t (rows_by batches places) numbers
   pub few : live_count numbers ≤ t.max_rows
 

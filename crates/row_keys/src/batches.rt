@@ -5,7 +5,7 @@ ghost use Rattle.values.specs.Datum.{items_of};
 ghost use Rattle.values.specs.Layouts.{HoldsEach};
 ghost use Rattle.schema_meta.specs.Rows.{row_at};
 ghost use Rattle.view_lang.specs.Causes.{any_heavy};
-ghost use Rattle.row_keys.specs.Batches.{batch_rows, cells_in, layouts_in};
+ghost use Rattle.row_keys.specs.Batches.{HoldsCells, batch_rows, cells_in, layouts_in};
 ghost use Rattle.row_keys.specs.Judged.{RefusesRows, are_many};
 ghost use Rattle.row_keys.specs.Stored.{places_from};
 
@@ -41,6 +41,16 @@ impl Model for Batch {
 pub(crate) struct Place {
     pub batch: usize,
     pub index: usize,
+}
+
+/// The layouts of the columns hold their cells: a function that does nothing.
+#[tactic(auto, using(crate::proofs::HeldRows::holding))]
+fn columns_law(columns: &[Column])
+    ensures { All HoldsCells columns.now }
+{
+    for column in columns {
+        column.law();
+    }
 }
 
 /// Adds the places of the `rows` rows of a batch. Where memory runs out, the places are as they were.
@@ -92,6 +102,7 @@ pub(crate) fn keep_rows(
     requires { All (λ c. length c.cells ≡ rows) columns.items }
     ensures batches { OnOk result (batches.new.items ≡ batches.old.items ++ columns.items ∷ []) }
     ensures places { OnOk result (places.new.items ≡ places.old.items ++ places_from (length batches.old.items) 0 rows) }
+    ensures held { OnOk result (All HoldsCells columns.items) }
     ensures few { OnOk result (are_many table.now.max_rows live appended rows ≡ false) }
     ensures light { OnOk result (any_heavy (layouts_in columns.items) (batch_rows rows columns.items) ≡ false) }
     ensures refused { IfErr result (RefusesRows table.now.max_rows live appended rows columns.items) }
@@ -104,6 +115,7 @@ pub(crate) fn keep_rows(
     if has_heavy_row(&columns, rows) {
         return Err(EditFault::Unfit(Unfit::CellTooHeavy));
     }
+    columns_law(&columns);
     keep_batch(batches, places, columns, rows)?;
     Ok(())
 }

@@ -4,6 +4,9 @@ ghost use Rattle.row_keys.specs.Batches.{KeysAreCells};
 ghost use Rattle.row_keys.specs.NumberLaws.{
   AllCome,
   ChangesAdd,
+  FewPutBack,
+  FewRetracted,
+  HiddenPutGoes,
   NewCome,
   NumbersAscend,
   PutBackCome,
@@ -11,6 +14,7 @@ ghost use Rattle.row_keys.specs.NumberLaws.{
   RetractedWereLive,
   RowsAreAtNumbers,
   RowsAreLive,
+  ShownPutComes,
   TakenBackGo,
 };
 
@@ -31,4 +35,8 @@ pub fn numbers_law()
     ensures taken_back { TakenBackGo }
     ensures all { AllCome }
     ensures add { ChangesAdd }
+    ensures few_retracted { FewRetracted }
+    ensures few_put_back { FewPutBack }
+    ensures put_came { HiddenPutGoes }
+    ensures put_came_back { ShownPutComes }
 {}

@@ -25,6 +25,7 @@ ghost use Rattle.view_lang.specs.Causes.{cause_of};
 ghost use Rattle.view_lang.specs.Contents.{applied, keys_in, without};
 ghost use Rattle.view_lang.specs.Edits.{append, put, retract};
 ghost use Rattle.view_lang.specs.Joined.{side_of};
+ghost use Rattle.view_lang.specs.Laws.{AreKeyed};
 ghost use Rattle.view_lang.specs.Rows.{IsRow};
 ghost use Rattle.view_lang.specs.TableRules.{IsTable};
 ghost use Rattle.row_keys.specs.Batches.{AreKeys, IsBatch, batch_rows};
@@ -32,12 +33,17 @@ ghost use Rattle.row_keys.specs.Numbered.{numbered};
 ghost use Rattle.row_keys.specs.Slots.{
   CanPutBack,
   CanRetract,
+  CanShowPut,
   CanTakeBack,
   CanUndoPut,
   keys_at,
+  last_numbers,
+  live,
   new_slot,
   no_slot,
   put_back,
+  put_hidden,
+  put_shown,
   put_undone,
   retracted,
   row_of,
@@ -60,7 +66,7 @@ use crate::batches::{Batch, Place, keep_rows, read_row};
 use crate::faults::EditFault;
 use crate::key_columns::{find_batch, find_keys, is_null, push_batch, push_keys};
 use crate::numbers::Numbers;
-use crate::turning::{retract_all, revive_all};
+use crate::turning::{retract_all, retract_from, revive_all, revive_from};
 use arrays::Column;
 use std::alloc::{AllocError, Global};
 use std::marker::Model;
@@ -121,6 +127,17 @@ impl RowStore {
         ensures right { IsTable self.now.table }
     {
         &self.table
+    }
+
+    /// What holds of all rows, live or retracted, and of the live ones: a function that does nothing.
+    pub fn rows_law(&self)
+        ensures held { All (λ s. IsRow self.now.table.columns s.row) self.now.slots }
+        ensures table { IsTable self.now.table }
+        ensures few { length (live_in self.now) ≤ self.now.table.max_rows }
+        ensures keyed { AreKeyed self.now.table (contents_of self.now.slots) }
+    {
+        let _table = &self.table;
+        self.numbers.distinct();
     }
 
     /// The number of live rows, at most 2^24. It takes no memory.
@@ -273,6 +290,54 @@ impl RowStore {
         self.put_back(replaced);
     }
 
+    /// Retracts the last `rows` rows, and puts those back whose places they took. The rows keep their numbers, so that
+    /// they can be shown again. It takes no memory.
+    pub fn hide_put(&mut self, rows: usize, replaced: &[usize])
+        requires { CanUndoPut self.old.table rows replaced.now self.old.slots }
+        ensures slots { self.new ≡ with_slots self.old (put_hidden rows replaced.now self.old.slots) }
+        ensures live { live self.new.slots ≡ live (put_undone rows replaced.now self.old.slots) }
+        ensures can_show { CanShowPut self.old.table rows replaced.now self.new.slots }
+        ensures shown { put_shown rows replaced.now self.new.slots ≡ self.old.slots }
+        ensures can_take { CanTakeBack rows self.new.slots }
+        ensures taken { taken_back rows self.new.slots ≡ put_undone rows replaced.now self.old.slots }
+    {
+        self.retract_last(rows);
+        self.put_back(replaced);
+    }
+
+    /// Shows the last `rows` rows again, which were hidden, and retracts those whose places they take. It takes no
+    /// memory.
+    pub fn show_put(&mut self, rows: usize, replaced: &[usize])
+        requires { CanShowPut self.old.table rows replaced.now self.old.slots }
+        ensures { self.new ≡ with_slots self.old (put_shown rows replaced.now self.old.slots) }
+    {
+        self.retract(replaced);
+        self.put_back_last(rows);
+    }
+
+    /// Retracts the last `count` rows. It takes no memory.
+    fn retract_last(&mut self, count: usize)
+        requires few { CanTakeBack count self.old.slots }
+        requires live { CanRetract (last_numbers count self.old.slots) self.old.slots }
+        ensures slots { self.new ≡ with_slots self.old (retracted (last_numbers count self.old.slots) self.old.slots) }
+        ensures can_go_back { CanPutBack self.old.table (last_numbers count self.old.slots) self.new.slots }
+        ensures back { put_back (last_numbers count self.old.slots) self.new.slots ≡ self.old.slots }
+    {
+        self.numbers.distinct();
+        let first = self.numbers.len() - count;
+        retract_from(&mut self.numbers, first);
+    }
+
+    /// Puts the last `count` rows back into their places. It takes no memory.
+    fn put_back_last(&mut self, count: usize)
+        requires few { CanTakeBack count self.old.slots }
+        requires retracted { CanPutBack self.old.table (last_numbers count self.old.slots) self.old.slots }
+        ensures { self.new ≡ with_slots self.old (put_back (last_numbers count self.old.slots) self.old.slots) }
+    {
+        let first = self.numbers.len() - count;
+        revive_from(&mut self.numbers, first);
+    }
+
     /// Retracts the rows of these numbers. It takes no memory.
     pub fn retract(&mut self, numbers: &[usize])
         requires { CanRetract numbers.now self.old.slots }
@@ -289,7 +354,9 @@ impl RowStore {
     /// Puts retracted rows back into their places. It takes no memory.
     pub fn put_back(&mut self, numbers: &[usize])
         requires { CanPutBack self.old.table numbers.now self.old.slots }
-        ensures { self.new ≡ with_slots self.old (put_back numbers.now self.old.slots) }
+        ensures slots { self.new ≡ with_slots self.old (put_back numbers.now self.old.slots) }
+        ensures can_go_back { CanRetract numbers.now self.new.slots }
+        ensures back { retracted numbers.now self.new.slots ≡ self.old.slots }
     {
         revive_all(&mut self.numbers, numbers);
     }

@@ -1,6 +1,7 @@
 //! Rows that are retracted together, or live again.
 
-ghost use Rattle.std.specs.Prelude.{◌≡◌};
+ghost use Rattle.std.specs.Prelude.{◌≡◌, ◌-◌, ◌≤◌, length};
+ghost use Rattle.std.specs.List.{range_with_len};
 ghost use Rattle.row_keys.specs.Numbers.{AreLive, CanRevive, revived, turned_off};
 
 use crate::numbers::Numbers;
@@ -26,5 +27,30 @@ pub(crate) fn revive_all(rows: &mut Numbers, numbers: &[usize])
     while left > 0 {
         left -= 1;
         rows.revive(numbers[left]);
+    }
+}
+
+/// Retracts all rows from this one on. It takes no memory.
+#[tactic(auto, using(crate::proofs::TurnedRows::turning))]
+pub(crate) fn retract_from(rows: &mut Numbers, first: usize)
+    requires { AreLive (range_with_len first (length rows.old - first)) rows.old }
+    ensures { rows.new ≡ turned_off (range_with_len first (length rows.old - first)) rows.old }
+{
+    for number in first..rows.len() {
+        rows.retract(number);
+    }
+}
+
+/// Makes all rows from this one on live, which are retracted, the last one first. It takes no memory.
+#[tactic(auto, using(crate::proofs::TurnedRows::turning))]
+pub(crate) fn revive_from(rows: &mut Numbers, first: usize)
+    requires within { first ≤ length rows.old }
+    requires retracted { CanRevive (range_with_len first (length rows.old - first)) rows.old }
+    ensures { rows.new ≡ revived (range_with_len first (length rows.old - first)) rows.old }
+{
+    let mut left = rows.len();
+    while left > first {
+        left -= 1;
+        rows.revive(left);
     }
 }

@@ -10,6 +10,7 @@ use Rattle.row_keys.proofs.NumberLaw.{
   rows_are_live,
   taken_back_go,
 }
+use Rattle.row_keys.proofs.PutLaw.{few_put_back, few_retracted, hidden_put_goes, shown_put_comes}
 use Rattle.row_keys.proofs.laws.numbers_law.Goals as goal
 
 pub returns : goal.returns
@@ -24,4 +25,8 @@ returns c = record {
   taken_back = taken_back_go;
   all = all_come;
   add = changes_add;
+  few_retracted = few_retracted;
+  few_put_back = few_put_back;
+  put_came = hidden_put_goes;
+  put_came_back = shown_put_comes;
 }

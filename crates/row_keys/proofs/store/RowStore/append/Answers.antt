@@ -56,7 +56,8 @@ invariant_of-self-in-Ok-keep_rows c =
     rw (c.in-Ok-keep_rows.ensures.batches, c.in-Ok-keep_rows.ensures.places)
     (stored_appended c.self.inside.table c.self.inside.batches.items c.self.inside.places.items c.self.inside.numbers
     c.push_batch.new.numbers c.args.columns.items c.args.rows
-    (length c.self.inside.numbers) c.self.invariant batch pushed few c.in-Ok-keep_rows.ensures.light)
+    (length c.self.inside.numbers) c.self.invariant batch pushed few c.in-Ok-keep_rows.ensures.light
+    c.in-Ok-keep_rows.ensures.held)
 
 pub returns-in-Ok-keep_rows-clause-contents : goal.returns-in-Ok-keep_rows-clause-contents
 returns-in-Ok-keep_rows-clause-contents c =

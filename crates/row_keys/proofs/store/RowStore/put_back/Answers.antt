@@ -3,7 +3,7 @@ use Rattle.row_keys.specs.Numbers.{Numbered}
 use Rattle.row_keys.specs.Slots.{CanPutBack, put_back}
 use Rattle.row_keys.specs.Store.{Store, with_slots}
 use Rattle.row_keys.specs.Stored.{IsStored, joined, rows_by}
-use Rattle.row_keys.proofs.Storing.{revive_can, stored_revived}
+use Rattle.row_keys.proofs.Storing.{revived_back, revived_can, revive_can, stored_revived}
 use Rattle.row_keys.proofs.TurnedRows.{joined_revived}
 use Rattle.row_keys.proofs.store.RowStore.put_back.Goals as goal
 
@@ -22,8 +22,8 @@ invariant_of-self c =
     (stored_revived c.self.inside.table c.self.inside.batches.items c.self.inside.places.items c.self.inside.numbers
     c.args.numbers.now c.self.invariant (subst P (sym c.self.view_is) c.requires))
 
-pub returns : goal.returns
-returns c =
+pub returns-clause-slots : goal.returns-clause-slots
+returns-clause-slots c =
     ap (λ xs. record {
       table = c.self.inside.table;
       slots = joined (rows_by c.self.inside.batches.items c.self.inside.places.items) xs;
@@ -35,3 +35,16 @@ returns c =
     (joined_revived (rows_by c.self.inside.batches.items c.self.inside.places.items) c.args.numbers.now
     c.self.inside.numbers)
     ∙ ap (λ (s : Store). with_slots s (put_back c.args.numbers.now s.slots)) c.self.view_is
+
+pub returns-clause-can_go_back : goal.returns-clause-can_go_back
+returns-clause-can_go_back c =
+    let P : Store → Type 0 = λ s. CanPutBack s.table c.args.numbers.now s.slots in
+    revived_can c.self.inside.table c.self.inside.batches.items c.self.inside.places.items c.self.inside.numbers
+    c.revive_all.new.rows c.args.numbers.now (subst P (sym c.self.view_is) c.requires) c.revive_all.ensures
+
+pub returns-clause-back : goal.returns-clause-back
+returns-clause-back c =
+    let P : Store → Type 0 = λ s. CanPutBack s.table c.args.numbers.now s.slots in
+    revived_back c.self.inside.table c.self.inside.batches.items c.self.inside.places.items c.self.inside.numbers
+    c.revive_all.new.rows c.args.numbers.now (subst P (sym c.self.view_is) c.requires) c.revive_all.ensures
+    ∙ ap (λ (s : Store). s.slots) c.self.view_is
