@@ -4,7 +4,6 @@ pub mod Runs
 pub mod Typed
 pub mod Pasts
 pub mod Channels
-pub mod Keys
 pub mod Pushes
 pub mod Sessions
 pub mod Opening

@@ -1,6 +1,7 @@
 -- A session as it is opened.
 use Rattle.std.proofs.Common.{
   ◌≡◌,
+  Bool,
   ℕ,
   ◌+◌,
   ◌<◌,
@@ -39,7 +40,8 @@ use Rattle.view_lang.specs.World.{world}
 use Rattle.view_lang.specs.declared.config.Role.{Role}
 use Rattle.row_keys.specs.Slots.{live}
 use Rattle.row_keys.specs.Store.{Store, no_rows}
-use Rattle.upkeep.specs.Stores.{rows_in, tables_in, world_of}
+use Rattle.upkeep.specs.LiveParts.{AreOf, LiveParts}
+use Rattle.upkeep.specs.Stores.{rows_at, rows_in, tables_in, world_of}
 use Rattle.session.specs.Shows.{
   AreShown,
   IsSession,
@@ -127,24 +129,27 @@ names_given : (sides : List SideTable) → named_sides (map (λ s. s.name) sides
 names_given [] = refl
 names_given (s ∷ ss) = ap (λ xs. s ∷ xs) (names_given ss)
 
-abbrev pub opened_parts : Config → List (List ℕ) → List Link → List Store → List UndoRecord → SessionParts
-opened_parts conf names links stores records =
-    record {
-      sides = names;
-      feeds = conf.feeds;
-      views = conf.views;
-      links = links;
-      stores = stores;
-      records = records;
-    }
+abbrev pub opened_parts : Config → List (List ℕ) → List Link → LiveParts → List UndoRecord → SessionParts
+opened_parts conf names links tables records =
+    record { sides = names; feeds = conf.feeds; links = links; tables = tables; records = records }
+
+-- those tables, and the views of the configuration
+abbrev pub opened_tables : Config → List Bool → LiveParts
+opened_tables conf stale = record { stores = empty_stores conf; views = conf.views; stale = stale }
+
+tables_are : (conf : Config) (tables : LiveParts) → tables.stores ≡ empty_stores conf → tables.views ≡ conf.views
+    → tables ≡ opened_tables conf tables.stale
+tables_are conf tables stores views =
+    ap (λ ss. record { stores = ss; views = tables.views; stale = tables.stale }) stores
+    ∙ ap (λ vs. record { stores = empty_stores conf; views = vs; stale = tables.stale }) views
 
 pub opened_config :
-    (conf : Config) (names : List (List ℕ)) (links : List Link) (stores : List Store) (records : List UndoRecord)
-    → names ≡ map (λ s. s.name) conf.sides → stores ≡ empty_stores conf
-    → config_of (opened_parts conf names links stores records) ≡ conf
-opened_config conf names links stores records named empty =
-    ap (λ ss. config_of (opened_parts conf names links ss records)) empty
-    ∙ ap (λ ns. config_of (opened_parts conf ns links (empty_stores conf) records)) named
+    (conf : Config) (names : List (List ℕ)) (links : List Link) (tables : LiveParts) (records : List UndoRecord)
+    → names ≡ map (λ s. s.name) conf.sides → tables.stores ≡ empty_stores conf → tables.views ≡ conf.views
+    → config_of (opened_parts conf names links tables records) ≡ conf
+opened_config conf names links tables records named stores views =
+    ap (λ ts. config_of (opened_parts conf names links ts records)) (tables_are conf tables stores views)
+    ∙ ap (λ ns. config_of (opened_parts conf ns links (opened_tables conf tables.stale) records)) named
     ∙ ap (λ ts. record {
       main = conf.main;
       sides = named_sides (map (λ s. s.name) conf.sides) ts;
@@ -156,23 +161,24 @@ opened_config conf names links stores records named empty =
     (names_given conf.sides)
 
 pub opened_shown :
-    (conf : Config) (names : List (List ℕ)) (links : List Link) (stores : List Store) (records : List UndoRecord)
-    → stores ≡ empty_stores conf → records ≡ []
+    (conf : Config) (names : List (List ℕ)) (links : List Link) (tables : LiveParts) (records : List UndoRecord)
+    → tables.stores ≡ empty_stores conf → tables.views ≡ conf.views → records ≡ []
     → ShowsEach (tables_of conf) links (map (opened (tables_of conf)) conf.feeds)
-    → Shows (opened_parts conf names links stores records) (start conf)
-opened_shown conf names links stores records empty none each =
+    → Shows (opened_parts conf names links tables records) (start conf)
+opened_shown conf names links tables records stores views none each =
     let P : List Table → Type 0 = λ ts. ShowsEach ts links (map (opened (tables_of conf)) conf.feeds) in
     let Q : List Table → Type 0 = λ ts. world_of (rows_in (empty_stores conf)) ≡ world ts [] in
-    let begun : Shows (opened_parts conf names links (empty_stores conf) []) (start conf) =
+    let given : LiveParts = opened_tables conf tables.stale in
+    let begun : Shows (opened_parts conf names links given []) (start conf) =
     record {
       main = omega arith;
       past = record { holds = record { same = subst Q (sym (tables_empty conf)) (world_empty conf) }; depth = refl };
       channels = subst P (sym (tables_empty conf)) each;
     } in
-    let filled : Shows (opened_parts conf names links (empty_stores conf) records) (start conf) =
-    subst (λ (rs : List UndoRecord). Shows (opened_parts conf names links (empty_stores conf) rs) (start conf))
-    (sym none) begun in
-    subst (λ (ss : List Store). Shows (opened_parts conf names links ss records) (start conf)) (sym empty) filled
+    let filled : Shows (opened_parts conf names links given records) (start conf) =
+    subst (λ (rs : List UndoRecord). Shows (opened_parts conf names links given rs) (start conf)) (sym none) begun in
+    subst (λ (ts : LiveParts). Shows (opened_parts conf names links ts records) (start conf))
+    (sym (tables_are conf tables stores views)) filled
 
 sides_right : (sides : List SideTable) → All (λ s. IsTable s.table) sides → All IsTable (map (λ s. s.table) sides)
 sides_right sides right = All-map IsTable (λ (s : SideTable). s.table) sides (λ k d below. right k d below)
@@ -182,19 +188,33 @@ tables_right conf right =
     All-cons IsTable conf.main (map (λ s. s.table) conf.sides) right.main (sides_right conf.sides right.sides)
 
 pub opened_session :
-    (conf : Config) (names : List (List ℕ)) (links : List Link) (stores : List Store) (records : List UndoRecord)
+    (conf : Config) (names : List (List ℕ)) (links : List Link) (tables : LiveParts) (records : List UndoRecord)
     (capacity : ℕ) (columns : List (List (Rose NamedType))) → IsConfig conf → capacity ≡ 64
-    → stores ≡ empty_stores conf → records ≡ []
+    → tables.stores ≡ empty_stores conf → tables.views ≡ conf.views → records ≡ []
     → ShowsEach (tables_of conf) links (map (opened (tables_of conf)) conf.feeds)
     → columns ≡ map (view_columns (tables_of conf)) conf.views
-    → IsSession (opened_parts conf names links stores records) capacity columns
-opened_session conf names links stores records capacity columns right is empty none each shown =
+    → IsSession (opened_parts conf names links tables records) capacity columns
+opened_session conf names links tables records capacity columns right is stores views none each shown =
     let P : List Table → Type 0 = λ ts. AreShown ts conf.views columns in
+    let Q : List View → Type 0 = λ vs. AreShown (tables_in tables.stores) vs columns in
     record {
       capacity_is = is;
-      views = subst P (sym (ap tables_in empty ∙ tables_empty conf)) (tables_right conf right, right.views, shown);
-      some = (start conf, opened_shown conf names links stores records empty none each);
+      views = subst Q (sym views)
+          (subst P (sym (ap tables_in stores ∙ tables_empty conf)) (tables_right conf right, right.views, shown));
+      some = (start conf, opened_shown conf names links tables records stores views none each);
     }
+
+-- the tables and views of a configuration, without rows
+pub opened_right : (conf : Config) (stores : List Store) → IsConfig conf → stores ≡ empty_stores conf
+    → AreOf stores conf.views
+opened_right conf stores right empty =
+    let P : List Table → Type 0 = λ ts. All IsTable ts × All (IsView ts) conf.views in
+    let own = subst P (sym (ap tables_in empty ∙ tables_empty conf)) (tables_right conf right, right.views) in
+    let many = ap length empty in
+    record { main = omega (arith, many); right = own.0; of_these = own.1 }
+
+pub opened_none : (conf : Config) (stores : List Store) → stores ≡ empty_stores conf → rows_at (rows_in stores) 0 ≡ []
+opened_none conf stores empty = ap (λ ss. rows_at (rows_in ss) 0) empty
 
 -- what a feed or a view of a configuration names is there
 pub feed_there :

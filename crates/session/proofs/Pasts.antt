@@ -1,30 +1,5 @@
 -- Rows and undo records that hold what edits come to, before and after an edit.
-use Rattle.std.proofs.Common.{
-  ◌≡◌,
-  ℕ,
-  zero,
-  suc,
-  ◌<◌,
-  min,
-  None,
-  Ok,
-  Err,
-  List,
-  [],
-  ◌∷◌,
-  Some,
-  length,
-  length-take,
-  take,
-  drop,
-  get_or,
-  refl,
-  ap,
-  sym,
-  subst,
-  ◌∙◌,
-  arith,
-}
+use Rattle.std.proofs.Common.{◌≡◌, ℕ, zero, suc, ◌<◌, min, None, Ok, Err, List, [], ◌∷◌, Some, length, length-take, take, drop, refl, ap, sym, subst, ◌∙◌, arith}
 use Rattle.std.specs.Prelude.{slice_get, slice_set}
 use Rattle.view_lang.specs.Causes.{cause_in, cause_of}
 use Rattle.view_lang.specs.Config.{Table}
@@ -32,15 +7,17 @@ use Rattle.view_lang.specs.Contents.{applied}
 use Rattle.view_lang.specs.Edits.{Edit}
 use Rattle.view_lang.specs.World.{contents_at, edited, table_at, world}
 use Rattle.row_keys.specs.Slots.{Slot, contents_of}
-use Rattle.row_keys.specs.Store.{Refuses, Store, with_slots}
+use Rattle.row_keys.specs.Store.{Refuses}
 use Rattle.row_keys.specs.declared.faults.EditFault.{EditFault}
-use Rattle.session.specs.Changes.{Makes}
+use Rattle.values.specs.declared.causes.Cause.TheVariants as cause
+use Rattle.session.specs.Refusals.{refused}
 use Rattle.session.specs.Steps.{Past, UndoBy, Undoes, accepted, undone, undone_by, unfit_in}
-use Rattle.upkeep.specs.Stores.{Rows, rows_at, rows_in, tables_in, world_of}
-use Rattle.session.specs.Shows.{AreWorld, CanGoBack, CanUndo, HoldsBack, ShowsPast, back, before}
-use Rattle.session.specs.declared.undo.Change.{Change}
+use Rattle.upkeep.specs.Stores.{Rows, rows_at, world_of}
+use Rattle.upkeep.specs.TableChanges.{CanGoBack, IsChangeOf, Makes, back}
+use Rattle.upkeep.specs.declared.table_change.TableChange.{TableChange}
+use Rattle.session.specs.Shows.{AreWorld, CanUndo, HoldsBack, ShowsPast, before}
 use Rattle.session.specs.declared.undo.UndoRecord.{UndoRecord}
-use Rattle.upkeep.specs.StoreLaws.{length_placed, rows_kept, rows_length, rows_placed, rows_restored, rows_set, rows_there, set_mapped, table_there}
+use Rattle.upkeep.specs.StoreLaws.{length_placed, rows_kept, rows_placed, rows_restored, set_mapped}
 
 pub holds_world :
     (tables : List Table) (rows : Rows) (rs : List UndoRecord) (es : List Edit) → HoldsBack tables rows rs es
@@ -127,6 +104,25 @@ undo_shown tables old new rs r past front is shown = by_depth past.depth refl wh
         (record { holds = rest; depth = omega (arith, e, shown.depth, many) }),
   )
 
+-- where memory is refused, nothing is taken back
+pub undo_refused :
+    (tables : List Table) (old new : Rows) (rs : List UndoRecord) (r : UndoRecord) (past : Past) → slice_get rs 0 ≡
+    Some r
+    → new ≡ old → ShowsPast tables old rs past
+    → (next : Past) × Undoes past (Err (refused cause.Memory)) next × ShowsPast tables new rs next
+undo_refused tables old new rs r past front same shown = by_depth past.depth refl where
+  many : length rs ≡ suc (length (drop 1 rs))
+  many = ap length (front_is rs r front)
+
+  rest : ShowsPast tables new rs past
+  rest = subst (λ (rows : Rows). ShowsPast tables rows rs past) (sym same) shown
+
+  by_depth :
+      (d : ℕ) → past.depth ≡ d
+      → (next : Past) × UndoBy d past (Err (refused cause.Memory)) next × ShowsPast tables new rs next
+  by_depth zero e = absurd (omega (arith, e, shown.depth, many))
+  by_depth (suc d) e = (past, (refl, refl), rest)
+
 -- an edit that is refused, and one that is made
 
 pub contents_there : (rows : Rows) (n : ℕ) → n < length rows → contents_at (world_of rows) n ≡ contents_of (rows_at
@@ -171,14 +167,14 @@ world_edited tables e old new es held below made =
     }
 
 pub edit_made :
-    (tables : List Table) (e : Edit) (old : Rows) (new : List Slot) (rs : List UndoRecord) (past : Past) (c : Change)
+    (tables : List Table) (e : Edit) (old : Rows) (new : List Slot) (rs : List UndoRecord) (past : Past) (c : TableChange)
     → e.table < length old
-    → Makes (table_at tables e.table) e.change (rows_at old e.table) new (Ok c)
+    → Makes (table_at tables e.table) e.change (rows_at old e.table) new (Ok c) → IsChangeOf e.table c
     → ShowsPast tables old rs past
     → (unfit_in tables past e ≡ None)
     × ShowsPast tables (slice_set old e.table new) (take 64 (record { table = e.table; change = c } ∷ rs))
     (accepted past e)
-edit_made tables e old new rs past c below made shown =
+edit_made tables e old new rs past c below made kind shown =
     let held : AreWorld tables old past.edits = holds_world tables old rs past.edits shown.holds in
     let there : rows_at (slice_set old e.table new) e.table ≡ new = rows_placed old e.table new below in
     let many : length (slice_set old e.table new) ≡ length old = length_placed old e.table new in
@@ -187,66 +183,6 @@ edit_made tables e old new rs past c below made shown =
       sym (unfit_there tables e old past held below) ∙ made.0,
       edit_shown tables old (slice_set old e.table new) rs past (record { table = e.table; change = c }) e shown
           (world_edited tables e old new past.edits held below made.1)
-          (omega (arith, many, below), can)
+          (omega (arith, many, below), kind, can)
           (rows_restored old e.table new (back c) made.3),
     )
-
--- the same, of stores
-
-pub store_edited :
-    (tables : List Table) (e : Edit) (stores : List Store) (s t : Store) (rs : List UndoRecord) (past : Past)
-    (c : Change) → tables ≡ tables_in stores → s ≡ get_or stores e.table s → e.table < length stores
-    → Makes s.table e.change s.slots t.slots (Ok c) → ShowsPast tables (rows_in stores) rs past
-    → (unfit_in tables past e ≡ None)
-    × ShowsPast tables (rows_in (slice_set stores e.table t)) (take 64 (record { table = e.table; change = c } ∷ rs))
-    (accepted past e)
-store_edited tables e stores s t rs past c same is below made shown =
-    let table : table_at tables e.table ≡ s.table =
-    ap (λ ts. table_at ts e.table) same ∙ table_there stores e.table s is below in
-    let slots : rows_at (rows_in stores) e.table ≡ s.slots = rows_there stores e.table s is below in
-    let P : Table → Type 0 = λ u. Makes u e.change s.slots t.slots (Ok c) in
-    let Q : List Slot → Type 0 = λ ss. Makes (table_at tables e.table) e.change ss t.slots (Ok c) in
-    let R : Rows → Type 0 = λ rows.
-    ShowsPast tables rows (take 64 (record { table = e.table; change = c } ∷ rs)) (accepted past e) in
-    let many = rows_length stores in
-    let done = edit_made tables e (rows_in stores) t.slots rs past c (omega (arith, many, below))
-    (subst Q (sym slots) (subst P (sym table) made)) shown in
-    (done.0, subst R (sym (rows_set stores e.table t)) done.1)
-
-pub store_refused :
-    (tables : List Table) (e : Edit) (stores : List Store) (s t : Store) (rs : List UndoRecord) (past : Past)
-    (f : EditFault) → tables ≡ tables_in stores → s ≡ get_or stores e.table s → e.table < length stores
-    → Makes s.table e.change s.slots t.slots (Err f) → ShowsPast tables (rows_in stores) rs past
-    → Refuses (unfit_in tables past e) f × ShowsPast tables (rows_in (slice_set stores e.table t)) rs past
-store_refused tables e stores s t rs past f same is below made shown =
-    let table : table_at tables e.table ≡ s.table =
-    ap (λ ts. table_at ts e.table) same ∙ table_there stores e.table s is below in
-    let slots : rows_at (rows_in stores) e.table ≡ s.slots = rows_there stores e.table s is below in
-    let P : Table → Type 0 = λ u. Makes u e.change s.slots t.slots (Err f) in
-    let Q : List Slot → Type 0 = λ ss. Makes (table_at tables e.table) e.change ss t.slots (Err f) in
-    let R : Rows → Type 0 = λ rows. ShowsPast tables rows rs past in
-    let many = rows_length stores in
-    let done = edit_refused tables e (rows_in stores) t.slots rs past f (omega (arith, many, below))
-    (subst Q (sym slots) (subst P (sym table) made)) shown in
-    (done.0, subst R (sym (rows_set stores e.table t)) done.1)
-
--- and of the store that a record names
-
-pub store_can_undo :
-    (stores : List Store) (s : Store) (r : UndoRecord) → s ≡ get_or stores r.table s
-    → CanUndo (tables_in stores) r (rows_in stores) → CanGoBack s.table r.change s.slots
-store_can_undo stores s r is can =
-    let many = rows_length stores in
-    let below : r.table < length stores = omega (arith, many, can.0) in
-    let P : Table → Type 0 = λ t. CanGoBack t r.change (rows_at (rows_in stores) r.table) in
-    let Q : List Slot → Type 0 = λ ss. CanGoBack s.table r.change ss in
-    subst Q (rows_there stores r.table s is below) (subst P (table_there stores r.table s is below) can.1)
-
-pub store_before :
-    (stores : List Store) (s t : Store) (r : UndoRecord) → s ≡ get_or stores r.table s → r.table < length stores
-    → t ≡ with_slots s (back r.change s.slots)
-    → rows_in (slice_set stores r.table t) ≡ before r (rows_in stores)
-store_before stores s t r is below done =
-    rows_set stores r.table t
-    ∙ ap (slice_set (rows_in stores) r.table)
-    (ap (λ (x : Store). x.slots) done ∙ ap (back r.change) (sym (rows_there stores r.table s is below)))

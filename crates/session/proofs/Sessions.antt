@@ -2,6 +2,8 @@
 use Rattle.std.proofs.Common.{
   ◌≡◌,
   ℕ,
+  zero,
+  suc,
   ◌<◌,
   ◌≤◌,
   Option,
@@ -42,6 +44,7 @@ use Rattle.row_keys.specs.Store.{Store}
 use Rattle.session.specs.Names.{place_of}
 use Rattle.session.specs.Refusals.{refused}
 use Rattle.session.specs.Changes.{Ended, EndsTo, Pushed, PushesTo}
+use Rattle.upkeep.specs.LiveParts.{LiveParts, store_at, view_at}
 use Rattle.upkeep.specs.Stores.{Rows, rows_at, rows_in, tables_in, world_of}
 use Rattle.session.specs.Shows.{
   AreShown,
@@ -84,9 +87,9 @@ use Rattle.session.proofs.Channels.{each_get, each_none, each_set}
 use Rattle.session.proofs.Pasts.{contents_there, holds_world}
 use Rattle.upkeep.specs.StoreLaws.{at_mapped, rows_length, rows_there, tables_length}
 
-abbrev pub parts : List (List ℕ) → List FeedConfig → List View → List Link → List Store → List UndoRecord → SessionParts
-parts sides feeds views links stores records =
-    record { sides = sides; feeds = feeds; views = views; links = links; stores = stores; records = records }
+abbrev pub parts : List (List ℕ) → List FeedConfig → List Link → LiveParts → List UndoRecord → SessionParts
+parts sides feeds links tables records =
+    record { sides = sides; feeds = feeds; links = links; tables = tables; records = records }
 
 -- The tables of the configuration are those of the stores.
 
@@ -100,13 +103,13 @@ told : (names : List (List ℕ)) (ts : List Table) → 0 < length ts
 told names [] some = absurd (omega (arith, some))
 told names (t ∷ ts) some = ap (λ us. t ∷ us) (sides_named names ts)
 
-pub tables_told : (p : SessionParts) → 0 < length p.stores → tables_of (config_of p) ≡ tables_in p.stores
-tables_told p some = let many = tables_length p.stores in told p.sides (tables_in p.stores) (omega (arith, many, some))
+pub tables_told : (p : SessionParts) → 0 < length p.tables.stores → tables_of (config_of p) ≡ tables_in p.tables.stores
+tables_told p some = let many = tables_length p.tables.stores in told p.sides (tables_in p.tables.stores) (omega (arith, many, some))
 
-main_moved : (p q : SessionParts) → tables_in q.stores ≡ tables_in p.stores → 0 < length p.stores → 0 < length q.stores
+main_moved : (p q : SessionParts) → tables_in q.tables.stores ≡ tables_in p.tables.stores → 0 < length p.tables.stores → 0 < length q.tables.stores
 main_moved p q same some =
-    let one = tables_length p.stores in
-    let two = tables_length q.stores in
+    let one = tables_length p.tables.stores in
+    let two = tables_length q.tables.stores in
     let equal = ap length same in
     omega (arith, one, two, equal, some)
 
@@ -131,7 +134,7 @@ pub push_unknown :
     → length p.links ≤ k
     → e ≡ refused cause.UnknownFeed → IsStep p (λ s t. PushStep (config_of p) s name piece (Err e) t) p
 push_unknown p name piece k e at beyond saturated s shown =
-    let none : slice_get s.channels k ≡ None = each_none (tables_in p.stores) p.links s.channels k shown.channels
+    let none : slice_get s.channels k ≡ None = each_none (tables_in p.tables.stores) p.links s.channels k shown.channels
     beyond in (
       s,
       place_is (λ n o t. PushTo (tables_of (config_of p)) s n o piece (Err e) t) (feed_names p) name s s k None at none
@@ -144,7 +147,7 @@ pub finish_unknown :
     → length p.links ≤ k
     → e ≡ refused cause.UnknownFeed → IsStep p (λ s t. FinishStep (config_of p) s name (Err e) t) p
 finish_unknown p name k e at beyond saturated s shown =
-    let none : slice_get s.channels k ≡ None = each_none (tables_in p.stores) p.links s.channels k shown.channels
+    let none : slice_get s.channels k ≡ None = each_none (tables_in p.tables.stores) p.links s.channels k shown.channels
     beyond in (
       s,
       place_is (λ n o t. FinishTo s n o (Err e) t) (feed_names p) name s s k None at none (
@@ -156,16 +159,16 @@ finish_unknown p name k e at beyond saturated s shown =
 
 -- what is shown with another channel at that place
 channels_moved :
-    (p q : SessionParts) (cs : List Channel) (k : ℕ) (m : Link) (d : Channel) → (tables_in q.stores) ≡ (tables_in
-    p.stores)
+    (p q : SessionParts) (cs : List Channel) (k : ℕ) (m : Link) (d : Channel) → (tables_in q.tables.stores) ≡ (tables_in
+    p.tables.stores)
     → q.links ≡ slice_set p.links k m
-    → ShowsEach (tables_in p.stores) p.links cs → ShowsChannel (tables_in p.stores) m d
-    → ShowsEach (tables_in q.stores) q.links (slice_set cs k d)
+    → ShowsEach (tables_in p.tables.stores) p.links cs → ShowsChannel (tables_in p.tables.stores) m d
+    → ShowsEach (tables_in q.tables.stores) q.links (slice_set cs k d)
 channels_moved p q cs k m d table links shown feed =
-    let made : ShowsEach (tables_in p.stores) (slice_set p.links k m) (slice_set cs k d) =
-    each_set (tables_in p.stores) p.links cs k m d shown feed in
-    let placed : ShowsEach (tables_in p.stores) q.links (slice_set cs k d) =
-    subst (λ (ls : List Link). ShowsEach (tables_in p.stores) ls (slice_set cs k d)) (sym links) made in
+    let made : ShowsEach (tables_in p.tables.stores) (slice_set p.links k m) (slice_set cs k d) =
+    each_set (tables_in p.tables.stores) p.links cs k m d shown feed in
+    let placed : ShowsEach (tables_in p.tables.stores) q.links (slice_set cs k d) =
+    subst (λ (ls : List Link). ShowsEach (tables_in p.tables.stores) ls (slice_set cs k d)) (sym links) made in
     subst (λ (ts : List Table). ShowsEach ts q.links (slice_set cs k d)) (sym table) placed
 
 past_moved :
@@ -177,23 +180,23 @@ past_moved t u slots records past same shown = subst (λ (x : List Table). Shows
 -- the feed of that name shows a channel
 pub link_shown :
     (p : SessionParts) (k : ℕ) (l : Link) → (s : State) × Shows p s → k < length p.links → l ≡ get_or p.links k l
-    → (c : Channel) × ShowsChannel (tables_in p.stores) l c
+    → (c : Channel) × ShowsChannel (tables_in p.tables.stores) l c
 link_shown p k l some below is =
-    let here = each_get (tables_in p.stores) p.links some.0.channels k l some.1.channels below is in (here.0, here.2)
+    let here = each_get (tables_in p.tables.stores) p.links some.0.channels k l some.1.channels below is in (here.0, here.2)
 
 pub push_known :
     (p q : SessionParts) (name piece : List ℕ) (k : ℕ) (l m : Link) (answer : Result Came Fault)
     → k ≡ place_of name (map (λ f. f.name) p.feeds)
     → k < length p.links → l ≡ get_or p.links k l
-    → PushesTo (tables_in p.stores) l (rows_in p.stores) p.records piece answer m (rows_in q.stores) q.records
-    → (tables_in q.stores) ≡ (tables_in p.stores) → q.links ≡ slice_set p.links k m
+    → PushesTo (tables_in p.tables.stores) l (rows_in p.tables.stores) p.records piece answer m (rows_in q.tables.stores) q.records
+    → (tables_in q.tables.stores) ≡ (tables_in p.tables.stores) → q.links ≡ slice_set p.links k m
     → IsStep p (λ s t. PushStep (config_of p) s name piece answer t) q
 push_known p q name piece k l m answer at below is pushes table links s shown =
-    let here = each_get (tables_in p.stores) p.links s.channels k l shown.channels below is in
-    let made : Pushed (tables_in p.stores) s.past here.0 piece answer m (rows_in q.stores) q.records =
+    let here = each_get (tables_in p.tables.stores) p.links s.channels k l shown.channels below is in
+    let made : Pushed (tables_in p.tables.stores) s.past here.0 piece answer m (rows_in q.tables.stores) q.records =
     pushes s.past here.0 shown.past here.2 in
     let t : State = moved s k made.after made.channel in
-    let goes : PushTo (tables_in p.stores) s k (Some here.0) piece answer t =
+    let goes : PushTo (tables_in p.tables.stores) s k (Some here.0) piece answer t =
     record { past = made.after; channel = made.channel; pushes = made.pushes; leads = refl } in
     let step : PushTo (tables_of (config_of p)) s k (Some here.0) piece answer t =
     subst (λ ts. PushTo ts s k (Some here.0) piece answer t) (sym (tables_told p shown.main)) goes in (
@@ -203,7 +206,7 @@ push_known p q name piece k l m answer at below is pushes table links s shown =
           step,
       record {
         main = main_moved p q table shown.main;
-        past = past_moved (tables_in p.stores) (tables_in q.stores) (rows_in q.stores) q.records made.after table
+        past = past_moved (tables_in p.tables.stores) (tables_in q.tables.stores) (rows_in q.tables.stores) q.records made.after table
             made.shows;
         channels = channels_moved p q s.channels k m made.channel table links shown.channels made.feed;
       },
@@ -212,43 +215,43 @@ push_known p q name piece k l m answer at below is pushes table links s shown =
 pub finish_known :
     (p q : SessionParts) (name : List ℕ) (k : ℕ) (l m : Link) (answer : Result (Unit {0}) Fault)
     → k ≡ place_of name (map (λ f. f.name) p.feeds)
-    → k < length p.links → l ≡ get_or p.links k l → EndsTo l answer m → q.stores ≡ p.stores → q.records ≡ p.records
+    → k < length p.links → l ≡ get_or p.links k l → EndsTo l answer m → q.tables.stores ≡ p.tables.stores → q.records ≡ p.records
     → q.links ≡ slice_set p.links k m → IsStep p (λ s t. FinishStep (config_of p) s name answer t) q
 finish_known p q name k l m answer at below is ends stores records links s shown =
-    let here = each_get (tables_in p.stores) p.links s.channels k l shown.channels below is in
-    let made : Ended (tables_in p.stores) here.0 answer m = ends (tables_in p.stores) here.0 here.2 in
+    let here = each_get (tables_in p.tables.stores) p.links s.channels k l shown.channels below is in
+    let made : Ended (tables_in p.tables.stores) here.0 answer m = ends (tables_in p.tables.stores) here.0 here.2 in
     let t : State = moved s k s.past made.channel in
-    let table : tables_in q.stores ≡ tables_in p.stores = ap tables_in stores in
+    let table : tables_in q.tables.stores ≡ tables_in p.tables.stores = ap tables_in stores in
     let goes : FinishTo s k (Some here.0) answer t =
     record { channel = made.channel; finishes = made.finishes; leads = refl } in
-    let rows : ShowsPast (tables_in p.stores) (rows_in p.stores) q.records s.past =
-    subst (λ (rs : List UndoRecord). ShowsPast (tables_in p.stores) (rows_in p.stores) rs s.past) (sym records)
+    let rows : ShowsPast (tables_in p.tables.stores) (rows_in p.tables.stores) q.records s.past =
+    subst (λ (rs : List UndoRecord). ShowsPast (tables_in p.tables.stores) (rows_in p.tables.stores) rs s.past) (sym records)
     shown.past in
-    let slots : ShowsPast (tables_in p.stores) (rows_in q.stores) q.records s.past =
-    subst (λ (ss : Rows). ShowsPast (tables_in p.stores) ss q.records s.past) (sym (ap rows_in stores)) rows in (
+    let slots : ShowsPast (tables_in p.tables.stores) (rows_in q.tables.stores) q.records s.past =
+    subst (λ (ss : Rows). ShowsPast (tables_in p.tables.stores) ss q.records s.past) (sym (ap rows_in stores)) rows in (
       t,
       place_is (λ n o u. FinishTo s n o answer u) (feed_names p) name s t k (Some here.0) at here.1 goes,
       record {
         main = main_moved p q table shown.main;
-        past = past_moved (tables_in p.stores) (tables_in q.stores) (rows_in q.stores) q.records s.past table slots;
+        past = past_moved (tables_in p.tables.stores) (tables_in q.tables.stores) (rows_in q.tables.stores) q.records s.past table slots;
         channels = channels_moved p q s.channels k m made.channel table links shown.channels made.feed;
       },
     )
 
 pub undo_known :
     (p q : SessionParts) (answer : Result (Unit {0}) Fault)
-    → ((past : Past) → ShowsPast (tables_in p.stores) (rows_in p.stores) p.records past
-    → (next : Past) × Undoes past answer next × ShowsPast (tables_in p.stores) (rows_in q.stores) q.records next)
-    → (tables_in q.stores) ≡ (tables_in p.stores) → q.links ≡ p.links → IsStep p (λ s t. UndoTo s answer t) q
+    → ((past : Past) → ShowsPast (tables_in p.tables.stores) (rows_in p.tables.stores) p.records past
+    → (next : Past) × Undoes past answer next × ShowsPast (tables_in p.tables.stores) (rows_in q.tables.stores) q.records next)
+    → (tables_in q.tables.stores) ≡ (tables_in p.tables.stores) → q.links ≡ p.links → IsStep p (λ s t. UndoTo s answer t) q
 undo_known p q answer undoes table links s shown =
     let made = undoes s.past shown.past in
-    let placed : ShowsEach (tables_in p.stores) q.links s.channels =
-    subst (λ (ls : List Link). ShowsEach (tables_in p.stores) ls s.channels) (sym links) shown.channels in (
+    let placed : ShowsEach (tables_in p.tables.stores) q.links s.channels =
+    subst (λ (ls : List Link). ShowsEach (tables_in p.tables.stores) ls s.channels) (sym links) shown.channels in (
       record { past = made.0; channels = s.channels },
       (made.0, made.1, refl),
       record {
         main = main_moved p q table shown.main;
-        past = past_moved (tables_in p.stores) (tables_in q.stores) (rows_in q.stores) q.records made.0 table made.2;
+        past = past_moved (tables_in p.tables.stores) (tables_in q.tables.stores) (rows_in q.tables.stores) q.records made.0 table made.2;
         channels = subst (λ (ts : List Table). ShowsEach ts q.links s.channels) (sym table) placed;
       },
     )
@@ -256,20 +259,20 @@ undo_known p q answer undoes table links s shown =
 -- the rows are those of the edits
 pub rows_shown :
     (p : SessionParts) (s : State) → Shows p s
-    → world_of (rows_in p.stores) ≡ world (tables_in p.stores) s.past.edits
+    → world_of (rows_in p.tables.stores) ≡ world (tables_in p.tables.stores) s.past.edits
 rows_shown p s shown =
-    let held : AreWorld (tables_in p.stores) (rows_in p.stores) s.past.edits =
-    holds_world (tables_in p.stores) (rows_in p.stores) p.records s.past.edits shown.past.holds in
+    let held : AreWorld (tables_in p.tables.stores) (rows_in p.tables.stores) s.past.edits =
+    holds_world (tables_in p.tables.stores) (rows_in p.tables.stores) p.records s.past.edits shown.past.holds in
     held.same
 
 pub live_shown :
-    (p : SessionParts) (s : State) (x : Store) (n : ℕ) → Shows p s → x ≡ get_or p.stores 0 x → n ≡ length (live x.slots)
+    (p : SessionParts) (s : State) (x : Store) (n : ℕ) → Shows p s → x ≡ get_or p.tables.stores 0 x → n ≡ length (live x.slots)
     → n ≡ length (contents_at (world (tables_of (config_of p)) s.past.edits) 0).live
 live_shown p s x n shown is many =
-    let rows : rows_at (rows_in p.stores) 0 ≡ x.slots = rows_there p.stores 0 x is shown.main in
-    let have = rows_length p.stores in
+    let rows : rows_at (rows_in p.tables.stores) 0 ≡ x.slots = rows_there p.tables.stores 0 x is shown.main in
+    let have = rows_length p.tables.stores in
     many ∙ ap (λ (ss : List Slot). length (live ss)) (sym rows)
-    ∙ ap (λ (c : Contents). length c.live) (sym (contents_there (rows_in p.stores) 0 (omega (arith, have, shown.main))))
+    ∙ ap (λ (c : Contents). length c.live) (sym (contents_there (rows_in p.tables.stores) 0 (omega (arith, have, shown.main))))
     ∙ ap (λ (w : World). length (contents_at w 0).live)
     (rows_shown p s shown ∙ ap (λ ts. world ts s.past.edits) (sym (tables_told p shown.main)))
 
@@ -281,37 +284,37 @@ refused_read tables v w answer f is = subst (IsReadIfWhole tables v w) (sym is) 
 
 pub write_known :
     (p q : SessionParts) (name : List ℕ) (k : ℕ) (v : View) (old new : Sunk) (answer : Result ℕ ViewFault)
-    → k ≡ place_of name (map (λ x. x.name) p.views) → k < length p.views → v ≡ get_or p.views k v
-    → WriteAnswers old new answer (stream_of (tables_in p.stores) v (world_of (rows_in p.stores)))
-    → IsReadIfWhole (tables_in p.stores) v (world_of (rows_in p.stores)) answer
-    → (tables_in q.stores) ≡ (tables_in p.stores)
-    → (rows_in q.stores) ≡ (rows_in p.stores) → q.links ≡ p.links → q.records ≡ p.records
+    → k ≡ place_of name (map (λ x. x.name) p.tables.views) → k < length p.tables.views → v ≡ get_or p.tables.views k v
+    → WriteAnswers old new answer (stream_of (tables_in p.tables.stores) v (world_of (rows_in p.tables.stores)))
+    → IsReadIfWhole (tables_in p.tables.stores) v (world_of (rows_in p.tables.stores)) answer
+    → (tables_in q.tables.stores) ≡ (tables_in p.tables.stores)
+    → (rows_in q.tables.stores) ≡ (rows_in p.tables.stores) → q.links ≡ p.links → q.records ≡ p.records
     → IsStep p (λ s t. WriteStep (config_of p) s name old answer new × (t ≡ s)) q
 write_known p q name k v old new answer at below is writes read table slots links records s shown =
-    let found : slice_get p.views k ≡ Some v = slice_get-get_or p.views k v below ∙ ap (λ x. Some x) (sym is) in
+    let found : slice_get p.tables.views k ≡ Some v = slice_get-get_or p.tables.views k v below ∙ ap (λ x. Some x) (sym is) in
     let there : view_in (config_of p) name ≡ Some v =
-    subst (λ (n : ℕ). slice_get p.views n ≡ Some v) at found in
-    let rows : WriteAnswers old new answer (stream_of (tables_in p.stores) v (world (tables_in p.stores) s.past.edits))
-    × IsReadIfWhole (tables_in p.stores) v (world (tables_in p.stores) s.past.edits) answer =
-    subst (λ (w : World). WriteAnswers old new answer (stream_of (tables_in p.stores) v w)
-    × IsReadIfWhole (tables_in p.stores) v w answer) (rows_shown p s shown) (writes, read) in
-    let goes : WritesView (tables_in p.stores) s.past (view_in (config_of p) name) old answer new =
-    subst (λ (o : Option View). WritesView (tables_in p.stores) s.past o old answer new) (sym there) rows in
+    subst (λ (n : ℕ). slice_get p.tables.views n ≡ Some v) at found in
+    let rows : WriteAnswers old new answer (stream_of (tables_in p.tables.stores) v (world (tables_in p.tables.stores) s.past.edits))
+    × IsReadIfWhole (tables_in p.tables.stores) v (world (tables_in p.tables.stores) s.past.edits) answer =
+    subst (λ (w : World). WriteAnswers old new answer (stream_of (tables_in p.tables.stores) v w)
+    × IsReadIfWhole (tables_in p.tables.stores) v w answer) (rows_shown p s shown) (writes, read) in
+    let goes : WritesView (tables_in p.tables.stores) s.past (view_in (config_of p) name) old answer new =
+    subst (λ (o : Option View). WritesView (tables_in p.tables.stores) s.past o old answer new) (sym there) rows in
     let step : WriteStep (config_of p) s name old answer new =
     subst (λ ts. WritesView ts s.past (view_in (config_of p) name) old answer new) (sym (tables_told p shown.main))
     goes in
-    let past : ShowsPast (tables_in p.stores) (rows_in p.stores) q.records s.past =
-    subst (λ (rs : List UndoRecord). ShowsPast (tables_in p.stores) (rows_in p.stores) rs s.past) (sym records)
+    let past : ShowsPast (tables_in p.tables.stores) (rows_in p.tables.stores) q.records s.past =
+    subst (λ (rs : List UndoRecord). ShowsPast (tables_in p.tables.stores) (rows_in p.tables.stores) rs s.past) (sym records)
     shown.past in
-    let held : ShowsPast (tables_in p.stores) (rows_in q.stores) q.records s.past =
-    subst (λ (ss : Rows). ShowsPast (tables_in p.stores) ss q.records s.past) (sym slots) past in
-    let placed : ShowsEach (tables_in p.stores) q.links s.channels =
-    subst (λ (ls : List Link). ShowsEach (tables_in p.stores) ls s.channels) (sym links) shown.channels in (
+    let held : ShowsPast (tables_in p.tables.stores) (rows_in q.tables.stores) q.records s.past =
+    subst (λ (ss : Rows). ShowsPast (tables_in p.tables.stores) ss q.records s.past) (sym slots) past in
+    let placed : ShowsEach (tables_in p.tables.stores) q.links s.channels =
+    subst (λ (ls : List Link). ShowsEach (tables_in p.tables.stores) ls s.channels) (sym links) shown.channels in (
       s,
       (step, refl),
       record {
         main = main_moved p q table shown.main;
-        past = past_moved (tables_in p.stores) (tables_in q.stores) (rows_in q.stores) q.records s.past table held;
+        past = past_moved (tables_in p.tables.stores) (tables_in q.tables.stores) (rows_in q.tables.stores) q.records s.past table held;
         channels = subst (λ (ts : List Table). ShowsEach ts q.links s.channels) (sym table) placed;
       },
     )
@@ -340,14 +343,32 @@ schema_there tables views schemas k v x shown below is read =
 pub session_kept :
     (p q : SessionParts) (step : State → State → Type 0) (m n : ℕ) (columns : List (List (Rose NamedType)))
     → IsSession p m columns → IsStep p step q
-    → (tables_in q.stores) ≡ (tables_in p.stores)
-    → q.views ≡ p.views → n ≡ 64 → IsSession q n columns
+    → (tables_in q.tables.stores) ≡ (tables_in p.tables.stores)
+    → q.tables.views ≡ p.tables.views → n ≡ 64 → IsSession q n columns
 session_kept p q step m n columns was goes table views capacity =
     let made = goes was.some.0 was.some.1 in
-    let placed : AreShown (tables_in p.stores) q.views columns =
-    subst (λ (vs : List View). AreShown (tables_in p.stores) vs columns) (sym views) was.views in
+    let placed : AreShown (tables_in p.tables.stores) q.tables.views columns =
+    subst (λ (vs : List View). AreShown (tables_in p.tables.stores) vs columns) (sym views) was.views in
     record {
       capacity_is = capacity;
-      views = subst (λ (ts : List Table). AreShown ts q.views columns) (sym table) placed;
+      views = subst (λ (ts : List Table). AreShown ts q.tables.views columns) (sym table) placed;
       some = (made.0, made.2);
     }
+
+-- it is the store of that number, and the view
+pub store_is : (stores : List Store) (k : ℕ) → k < length stores → store_at stores k ≡ get_or stores k (store_at stores
+    k)
+store_is [] k below = absurd (omega (arith, below))
+store_is (s ∷ ss) zero below = refl
+store_is (s ∷ ss) (suc k) below = store_is ss k (omega (arith, below))
+
+pub view_is : (views : List View) (k : ℕ) → k < length views → view_at views k ≡ get_or views k (view_at views k)
+view_is [] k below = absurd (omega (arith, below))
+view_is (v ∷ vs) zero below = refl
+view_is (v ∷ vs) (suc k) below = view_is vs k (omega (arith, below))
+
+-- its configuration stays
+pub config_kept :
+    (p q : SessionParts) → q.sides ≡ p.sides → q.feeds ≡ p.feeds → tables_in q.tables.stores ≡ tables_in p.tables.stores
+    → q.tables.views ≡ p.tables.views → config_of q ≡ config_of p
+config_kept p q sides feeds tables views = cc

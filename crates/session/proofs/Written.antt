@@ -1,30 +1,9 @@
 -- The rows of a view can be written.
-use Rattle.std.proofs.Common.{
-  ◌≡◌,
-  ◌<◌,
-  ◌≤◌,
-  ◌&&◌,
-  true,
-  All,
-  Result,
-  Ok,
-  Err,
-  OnOk,
-  List,
-  length,
-  refl,
-  ap,
-  ap₂,
-  le-leb,
-  subst,
-  sym,
-  ◌∙◌,
-  arith,
-}
+use Rattle.std.proofs.Common.{◌≡◌, ◌<◌, ◌&&◌, true, Result, Ok, Err, OnOk, List, length, refl, ap, ap₂, le-leb, subst, sym, ◌∙◌, arith}
 use Rattle.std.proofs.lemmas.List.Elements.{All-weaker}
 use Rattle.values.specs.Datum.{Datum}
 use Rattle.values.specs.Layouts.{slot}
-use Rattle.values.specs.Limits.{max_main_rows, max_slot}
+use Rattle.values.specs.Limits.{max_slot}
 use Rattle.values.specs.Logical.{NamedType, trees_of}
 use Rattle.values.specs.Rose.{Rose, node, Roses, none, more, kids_of}
 use Rattle.values.specs.declared.layout.Layout.{Layout}
@@ -35,16 +14,14 @@ use Rattle.stream_writer.specs.RoundTrip.{MeansItsTable}
 use Rattle.stream_writer.specs.Stream.{canon}
 use Rattle.stream_writer.specs.Table as writer
 use Rattle.view_lang.specs.Config.{Table, View}
-use Rattle.view_lang.specs.ConfigRules.{IsView}
 use Rattle.view_lang.specs.Joined.{Side}
-use Rattle.view_lang.specs.Laws.{Viewed, ViewsAreTables, ViewsCanSum, ViewsHaveFewRows, ViewsHaveRows}
+use Rattle.view_lang.specs.Laws.{Viewed, ViewsAreTables, ViewsHaveFewRows, ViewsHaveRows}
 use Rattle.view_lang.specs.Rows.{IsRow, RowsAreLight}
-use Rattle.view_lang.specs.Sums.{CanSum}
-use Rattle.view_lang.specs.TableRules.{AreColumns, AreSlim, AreWithin, IsSlim, IsTable, IsWithin}
+use Rattle.view_lang.specs.TableRules.{AreColumns, AreSlim, AreWithin, IsSlim, IsWithin}
 use Rattle.view_lang.specs.ViewColumns.{view_columns}
-use Rattle.view_lang.specs.Views.{shown_rows, view_of, view_rows}
+use Rattle.view_lang.specs.Views.{view_of, view_rows}
 use Rattle.row_keys.specs.Slots.{live}
-use Rattle.upkeep.specs.Inputs.{AreInput, side_by}
+use Rattle.upkeep.specs.Inputs.{side_by}
 use Rattle.upkeep.specs.Stores.{Rows, rows_at, world_of}
 use Rattle.session.specs.Steps.{IsReadAsView, stream_of}
 use Rattle.session.proofs.Pasts.{contents_there}
@@ -61,45 +38,15 @@ mutual
 abbrev main_rows : Rows → List (List Datum)
 main_rows rows = live (rows_at rows 0)
 
-input_viewed :
-    (tables : List Table) (rows : Rows) (v : View) (input : List (List Datum)) → All IsTable tables → IsView tables v
-    → AreInput tables rows v (main_rows rows) input → length (main_rows rows) ≤ max_main_rows
-    → Viewed tables v (side_by tables rows v) (main_rows rows)
-input_viewed tables rows v input right is made few = record {
-  right = right;
-  view = is;
-  held = made.right;
-  few = few;
-  looked_up = made.looked_up;
-}
-
-pub input_sums :
-    (sums : ViewsCanSum) (tables : List Table) (rows : Rows) (v : View) (input : List (List Datum))
-    → All IsTable tables → IsView tables v
-    → AreInput tables rows v (main_rows rows) input → length (main_rows rows) ≤ max_main_rows → CanSum v.outputs input
-input_sums sums tables rows v input right is made few =
-    subst (CanSum v.outputs) (sym made.are)
-    (sums tables v (side_by tables rows v) (main_rows rows) (input_viewed tables rows v input right is made few))
-
--- what is shown of them
-pub shown_is :
-    (tables : List Table) (rows : Rows) (v : View) (input shown : List (List Datum))
-    → AreInput tables rows v (main_rows rows) input → shown ≡ shown_rows v input
-    → shown ≡ view_rows v (side_by tables rows v) (main_rows rows)
-unfolding view_rows
-shown_is tables rows v input shown made is = is ∙ ap (shown_rows v) made.are
-
 module _ (light : RowsAreLight) (have : ViewsHaveRows) (few_rows : ViewsHaveFewRows) (views : ViewsAreTables) where
   pub shown_fits :
-      (tables : List Table) (rows : Rows) (v : View) (fields : List (Rose NamedType))
-      (input shown : List (List Datum)) → All IsTable tables → IsView tables v
-      → AreInput tables rows v (main_rows rows) input → length (main_rows rows) ≤ max_main_rows
-      → fields ≡ view_columns tables v → shown ≡ shown_rows v input → writer.IsTable fields shown
-  shown_fits tables rows v fields input shown right is made few named same =
+      (tables : List Table) (rows : Rows) (v : View) (fields : List (Rose NamedType)) (shown : List (List Datum))
+      → Viewed tables v (side_by tables rows v) (main_rows rows) → fields ≡ view_columns tables v
+      → shown ≡ view_rows v (side_by tables rows v) (main_rows rows) → writer.IsTable fields shown
+  shown_fits tables rows v fields shown viewed named same =
       let columns : List (Rose NamedType) = view_columns tables v in
       let side : Side = side_by tables rows v in
-      let viewed = input_viewed tables rows v input right is made few in
-      let own : AreColumns columns = views tables v right is in
+      let own : AreColumns columns = views tables v viewed.right viewed.view in
       let whole : List (List Datum) = view_rows v side (main_rows rows) in
       let fit : writer.IsTable columns whole =
       record {
@@ -111,18 +58,18 @@ module _ (light : RowsAreLight) (have : ViewsHaveRows) (few_rows : ViewsHaveFewR
             (have tables v side (main_rows rows) viewed);
       } in
       let here : writer.IsTable columns shown =
-      subst (λ (xs : List (List Datum)). writer.IsTable columns xs)
-      (sym (shown_is tables rows v input shown made same)) fit in
+      subst (λ (xs : List (List Datum)). writer.IsTable columns xs) (sym same) fit in
       subst (λ (fs : List (Rose NamedType)). writer.IsTable fs shown) (sym named) here
 
 -- the stream that they are
 pub stream_is :
-    (tables : List Table) (rows : Rows) (v : View) (fields : List (Rose NamedType)) (input shown : List (List Datum))
-    → 0 < length rows → AreInput tables rows v (main_rows rows) input → fields ≡ view_columns tables v
-    → shown ≡ shown_rows v input → canon fields shown ≡ stream_of tables v (world_of rows)
-stream_is tables rows v fields input shown some made named same =
+    (tables : List Table) (rows : Rows) (v : View) (fields : List (Rose NamedType)) (shown : List (List Datum))
+    → 0 < length rows → fields ≡ view_columns tables v
+    → shown ≡ view_rows v (side_by tables rows v) (main_rows rows)
+    → canon fields shown ≡ stream_of tables v (world_of rows)
+stream_is tables rows v fields shown some named same =
     ap (λ fs. canon fs shown) named
-    ∙ ap (canon (view_columns tables v)) (shown_is tables rows v input shown made same)
+    ∙ ap (canon (view_columns tables v)) same
     ∙ ap (λ c. canon (view_columns tables v) (view_rows v (side_by tables rows v) c.live))
     (sym (contents_there rows 0 some))
 
@@ -150,16 +97,16 @@ on_ok (Err e) P p = tt
 -- That stream is read as the view's table.
 pub view_read :
     (means : MeansItsTable) (views : ViewsAreTables) (tables : List Table) (rows : Rows) (v : View)
-    (fields : List (Rose NamedType)) (input shown : List (List Datum)) → 0 < length rows → All IsTable tables
-    → IsView tables v → AreInput tables rows v (main_rows rows) input → fields ≡ view_columns tables v
-    → shown ≡ shown_rows v input → writer.IsTable fields shown → IsReadAsView tables v (world_of rows)
-view_read means views tables rows v fields input shown some right is made named same fits =
+    (fields : List (Rose NamedType)) (shown : List (List Datum)) → 0 < length rows
+    → Viewed tables v (side_by tables rows v) (main_rows rows) → fields ≡ view_columns tables v
+    → shown ≡ view_rows v (side_by tables rows v) (main_rows rows) → writer.IsTable fields shown
+    → IsReadAsView tables v (world_of rows)
+view_read means views tables rows v fields shown some viewed named same fits =
     let columns : List (Rose NamedType) = view_columns tables v in
     let whole : List (List Datum) = view_of tables v (world_of rows) in
     let cells : shown ≡ whole =
-    shown_is tables rows v input shown made same
-    ∙ ap (λ c. view_rows v (side_by tables rows v) c.live) (sym (contents_there rows 0 some)) in
+    same ∙ ap (λ c. view_rows v (side_by tables rows v) c.live) (sym (contents_there rows 0 some)) in
     let fit : writer.IsTable columns whole =
     subst (λ (fs : List (Rose NamedType)). writer.IsTable fs whole) named
     (subst (λ (xs : List (List Datum)). writer.IsTable fields xs) cells fits) in
-    means columns whole fit (columns_named columns (views tables v right is))
+    means columns whole fit (columns_named columns (views tables v viewed.right viewed.view))

@@ -1,52 +1,31 @@
 -- What the parts of a push do to the rows and the undo records.
-use Rattle.std.specs.Prelude.{◌≡◌, ℕ, All, List, Option, None, Some, Result, Ok, Err, length}
-use Rattle.values.specs.Logical.{NamedType, trees_of}
-use Rattle.values.specs.Rose.{Rose, kids_of}
+use Rattle.std.specs.Prelude.{◌≡◌, ℕ, List, Option, None, Some, Result, Ok, Err}
 use Rattle.arrays.specs.Checked.{CheckedColumn}
-use Rattle.feed.specs.Columns.{cells_in, layouts_in}
+use Rattle.feed.specs.Columns.{cells_in}
 use Rattle.feed.specs.Events.{Event as Message}
 use Rattle.feed.specs.declared.event.FeedEvent.{FeedEvent}
 use Rattle.feed.specs.declared.event.FeedEvent.TheVariants as feed_event
 use Rattle.schema_meta.specs.Rows.{rows_in}
-use Rattle.view_lang.specs.Causes.{cause_of}
 use Rattle.view_lang.specs.Config.{Table}
-use Rattle.view_lang.specs.Contents.{applied}
-use Rattle.view_lang.specs.Edits.{Edit, TableEdit, change_of, edit_of}
+use Rattle.view_lang.specs.Edits.{Edit, edit_of}
 use Rattle.view_lang.specs.ViewColumns.{feed_columns}
 use Rattle.view_lang.specs.declared.config.Role.{Role}
 use Rattle.view_lang.specs.declared.unfit.Unfit.{Unfit}
-use Rattle.row_keys.specs.Batches.{AreAlike}
-use Rattle.row_keys.specs.Slots.{Slot, contents_of}
 use Rattle.row_keys.specs.Store.{Refuses}
 use Rattle.row_keys.specs.declared.faults.EditFault.{EditFault}
 use Rattle.upkeep.specs.Stores.{Rows}
-use Rattle.session.specs.Shows.{CanGoBack, ShowsChannel, ShowsPast, back}
+use Rattle.upkeep.specs.TableChanges.{IsBatch}
+use Rattle.session.specs.Shows.{ShowsChannel, ShowsPast}
 use Rattle.session.specs.Steps.{Channel, FinishOf, Past, Pushes, accepted, edit_in, kind_of, unfit_in}
 use Rattle.session.specs.declared.calls.Event.{Event}
 use Rattle.session.specs.declared.calls.Fault.{Fault}
 use Rattle.session.specs.declared.calls.Pushed.{Pushed as Came}
 use Rattle.session.specs.declared.link.Link.{Link}
-use Rattle.session.specs.declared.undo.Change.{Change}
 use Rattle.session.specs.declared.undo.UndoRecord.{UndoRecord}
 
--- The columns of a batch: they hold what is declared, and have a cell a row.
-pub record IsBatch (fields : List (Rose NamedType)) (columns : List CheckedColumn) (rows : ℕ) : Type 0 where
-  pub alike : AreAlike (trees_of (kids_of fields)) (layouts_in columns)
-  pub lengths : All (λ c. length c.cells ≡ rows) columns
-
--- what a batch of these columns does to its table
-abbrev pub change_by : Role → List CheckedColumn → ℕ → TableEdit
-change_by role columns rows = change_of role (rows_in rows (cells_in columns))
-
+-- what a batch of these columns does
 abbrev pub edit_by : Role → List CheckedColumn → ℕ → Edit
 edit_by role columns rows = edit_of role (rows_in rows (cells_in columns))
-
--- A table was changed, and it is kept what takes the change back; or the edit is refused, and nothing is changed.
-abbrev pub Makes : Table → TableEdit → List Slot → List Slot → Result Change EditFault → Type 0
-Makes t e old new (Ok c) =
-    (cause_of t (contents_of old) e ≡ None) × (contents_of new ≡ applied t e (contents_of old)) × CanGoBack t c new
-    × (back c new ≡ old)
-Makes t e old new (Err f) = Refuses (cause_of t (contents_of old) e) f × (new ≡ old)
 
 -- An edit is accepted where no cause stands.
 abbrev pub Answers : {X : Type 0} → Option Unfit → Result X EditFault → Type 0

@@ -7,3 +7,4 @@ pub mod Laws
 pub mod Readings
 pub mod Sample
 pub mod Cuts
+pub mod Stale

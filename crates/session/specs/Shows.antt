@@ -1,55 +1,35 @@
 -- Which states a session in memory shows.
-use Rattle.std.specs.Prelude.{◌≡◌, ℕ, ◌<◌, All, List, [], ◌∷◌, Some, drop, get_or, length, map, refl, slice_set}
+use Rattle.std.specs.Prelude.{◌≡◌, ℕ, ◌<◌, All, List, [], ◌∷◌, Some, drop, length, map, refl, slice_set}
 use Rattle.std.specs.Coded.{Coded, code_by, coded×, coded_ℕ, coded_list}
 use Rattle.feed.specs.Shown.{Shows as FeedShows}
 use Rattle.values.specs.Logical.{NamedType}
 use Rattle.values.specs.Rose.{Rose}
 use Rattle.values.specs.declared.schema.Schema.{Schema}
-use Rattle.view_lang.specs.Config.{Config, FeedConfig, SideTable, Table, View, feed_code, view_code}
+use Rattle.view_lang.specs.Config.{Config, FeedConfig, SideTable, Table, View, feed_code}
 use Rattle.view_lang.specs.ConfigRules.{IsView}
 use Rattle.view_lang.specs.Edits.{Edit, table_of}
 use Rattle.view_lang.specs.TableRules.{IsTable}
 use Rattle.view_lang.specs.ViewColumns.{feed_columns, view_columns}
-use Rattle.view_lang.specs.World.{World, no_table, table_at, world}
-use Rattle.row_keys.specs.Slots.{
-  CanPutBack,
-  CanTakeBack,
-  CanUndoPut,
-  Slot,
-  contents_of,
-  put_back,
-  put_undone,
-  taken_back,
-}
-use Rattle.row_keys.specs.Store.{Store, no_rows, store_code}
+use Rattle.view_lang.specs.World.{table_at, world}
+use Rattle.upkeep.specs.LiveParts.{LiveParts, live_code}
 use Rattle.upkeep.specs.Stores.{Rows, rows_at, rows_in, tables_in, world_of}
+use Rattle.upkeep.specs.TableChanges.{CanGoBack, IsChangeOf, back}
 use Rattle.session.specs.Steps.{Channel, Past, State}
 use Rattle.session.specs.contracts.link.Link as link_type
 use Rattle.session.specs.contracts.undo.UndoRecord as record_type
 use Rattle.session.specs.declared.calls.Step.{Step}
 use Rattle.session.specs.declared.calls.Step.TheVariants as step
 use Rattle.session.specs.declared.link.Link.{Link}
-use Rattle.session.specs.declared.undo.Change.{Change}
-use Rattle.session.specs.declared.undo.Change.TheVariants.{Appended, Put, Retracted}
 use Rattle.session.specs.declared.undo.UndoRecord.{UndoRecord}
-
--- a table's rows once a change of it is taken back
-abbrev pub back : Change → List Slot → List Slot
-back (Appended n) slots = taken_back n slots
-back (Retracted ns) slots = put_back ns.items slots
-back (Put n replaced) slots = put_undone n replaced.items slots
-
-abbrev pub CanGoBack : Table → Change → List Slot → Type 0
-CanGoBack t (Appended n) slots = CanTakeBack n slots
-CanGoBack t (Retracted ns) slots = CanPutBack t ns.items slots
-CanGoBack t (Put n replaced) slots = CanUndoPut t n replaced.items slots
 
 -- the rows once an accepted edit is taken back
 abbrev pub before : UndoRecord → Rows → Rows
 before r rows = slice_set rows r.table (back r.change (rows_at rows r.table))
 
 abbrev pub CanUndo : List Table → UndoRecord → Rows → Type 0
-CanUndo tables r rows = (r.table < length rows) × CanGoBack (table_at tables r.table) r.change (rows_at rows r.table)
+CanUndo tables r rows =
+    (r.table < length rows) × IsChangeOf r.table r.change
+    × CanGoBack (table_at tables r.table) r.change (rows_at rows r.table)
 
 -- They hold the world that the edits leave.
 pub record AreWorld (tables : List Table) (rows : Rows) (edits : List Edit) : Type 0 where
@@ -80,14 +60,13 @@ ShowsEach tables [] (c ∷ cs) = ⊥
 ShowsEach tables (l ∷ ls) [] = ⊥
 ShowsEach tables (l ∷ ls) (c ∷ cs) = ShowsChannel tables l c × ShowsEach tables ls cs
 
--- What a session is made of: the names of its side tables, what is declared of its feeds and views, its feeds, the rows
--- of its tables, of which the first is the main table, and how to take the latest edits back.
+-- What a session is made of: the names of its side tables, what is declared of its feeds, its feeds, its tables and
+-- views, and how to take the latest edits back.
 pub record SessionParts : Type 0 where
   pub sides : List (List ℕ)
   pub feeds : List FeedConfig
-  pub views : List View
   pub links : List Link
-  pub stores : List Store
+  pub tables : LiveParts
   pub records : List UndoRecord
 
 abbrev pub named_sides : List (List ℕ) → List Table → List SideTable
@@ -95,47 +74,32 @@ named_sides names [] = []
 named_sides [] (t ∷ ts) = record { name = []; table = t } ∷ named_sides [] ts
 named_sides (n ∷ ns) (t ∷ ts) = record { name = n; table = t } ∷ named_sides ns ts
 
--- where there is no store of a number
-abbrev pub no_store : Store
-no_store = no_rows no_table
-
-abbrev pub store_at : List Store → ℕ → Store
-store_at stores n = get_or stores n no_store
-
 -- its configuration
 abbrev pub config_of : SessionParts → Config
 config_of p =
     record {
-      main = table_at (tables_in p.stores) 0;
-      sides = named_sides p.sides (drop 1 (tables_in p.stores));
+      main = table_at (tables_in p.tables.stores) 0;
+      sides = named_sides p.sides (drop 1 (tables_in p.tables.stores));
       feeds = p.feeds;
-      views = p.views;
+      views = p.tables.views;
     }
 
 abbrev pub parts_code : Coded SessionParts
 parts_code =
-    code_by (List (List ℕ) × (List FeedConfig × (List View × (List Link × (List Store × List UndoRecord)))))
+    code_by (List (List ℕ) × (List FeedConfig × (List Link × (LiveParts × List UndoRecord))))
     (coded× (coded_list (coded_list coded_ℕ))
     (coded× (coded_list feed_code)
-    (coded× (coded_list view_code)
     (coded× (coded_list link_type.the_row.coded)
-    (coded× (coded_list store_code) (coded_list record_type.the_row.coded))))))
-    (λ s. (s.sides, (s.feeds, (s.views, (s.links, (s.stores, s.records))))))
-    (λ p. record {
-      sides = p.0;
-      feeds = p.1.0;
-      views = p.1.1.0;
-      links = p.1.1.1.0;
-      stores = p.1.1.1.1.0;
-      records = p.1.1.1.1.1;
-    })
+    (coded× live_code (coded_list record_type.the_row.coded)))))
+    (λ s. (s.sides, (s.feeds, (s.links, (s.tables, s.records)))))
+    (λ p. record { sides = p.0; feeds = p.1.0; links = p.1.1.0; tables = p.1.1.1.0; records = p.1.1.1.1 })
     (λ _. refl)
 
 -- A session, which has a main table, shows a state. It stores neither the edits nor the bytes that came.
 pub record Shows (p : SessionParts) (s : State) : Type 0 where
-  pub main : 0 < length p.stores
-  pub past : ShowsPast (tables_in p.stores) (rows_in p.stores) p.records s.past
-  pub channels : ShowsEach (tables_in p.stores) p.links s.channels
+  pub main : 0 < length p.tables.stores
+  pub past : ShowsPast (tables_in p.tables.stores) (rows_in p.tables.stores) p.records s.past
+  pub channels : ShowsEach (tables_in p.tables.stores) p.links s.channels
 
 abbrev pub columns_of : List Schema → List (List (Rose NamedType))
 columns_of schemas = map (λ s. s.fields.items) schemas
@@ -148,7 +112,7 @@ AreShown tables views columns =
 -- What holds of each session: some state is shown, and the views are of its tables and have these columns.
 pub record IsSession (p : SessionParts) (capacity : ℕ) (columns : List (List (Rose NamedType))) : Type 0 where
   pub capacity_is : capacity ≡ 64
-  pub views : AreShown (tables_in p.stores) p.views columns
+  pub views : AreShown (tables_in p.tables.stores) p.tables.views columns
   pub some : (s : State) × Shows p s
 
 -- A call takes such a step from any state that is shown, and shows where it leads.

@@ -4,6 +4,7 @@ ghost use Rattle.std.specs.Prelude.{◌≡◌};
 ghost use Rattle.upkeep.specs.Stores.{rows_in, tables_in};
 ghost use Rattle.session.specs.Shows.{ShowsChannel};
 ghost use Rattle.session.specs.Changes.{PushesTo};
+ghost use Rattle.session.specs.Stale.{StaleByMemory};
 ghost use Rattle.session.specs.Steps.{Channel};
 
 use crate::calls::{Fault, Pushed};
@@ -12,24 +13,27 @@ use crate::link::Link;
 use crate::undo::UndoRecord;
 use circular_buffer::HeapCircularBuffer;
 use feed::Fed;
-use row_keys::{EditFault, RowStore};
+use row_keys::EditFault;
 use schema_meta::logical_law;
+use upkeep::LiveTables;
 use values::Cause;
 
 /// Consumes a piece up to the end of the first message that it completes, or all of it. The edit of a batch is made
 /// where it fits.
 pub(crate) fn push_to(
     link: &mut Link,
-    stores: &mut Vec<RowStore>,
+    tables: &mut LiveTables,
     records: &mut HeapCircularBuffer<UndoRecord>,
     piece: &[u8],
 ) -> Result<Pushed, Fault>
-    requires link { (c : Channel) × ShowsChannel (tables_in stores.old.items) link.old c }
+    requires link { (c : Channel) × ShowsChannel (tables_in tables.old.stores) link.old c }
     requires capacity { records.old.capacity ≡ 64 }
-    ensures pushes { PushesTo (tables_in stores.old.items) link.old (rows_in stores.old.items) records.old.items
-        piece.now result link.new (rows_in stores.new.items) records.new.items }
-    ensures tables { tables_in stores.new.items ≡ tables_in stores.old.items }
+    ensures pushes { PushesTo (tables_in tables.old.stores) link.old (rows_in tables.old.stores) records.old.items
+        piece.now result link.new (rows_in tables.new.stores) records.new.items }
+    ensures tables { tables_in tables.new.stores ≡ tables_in tables.old.stores }
+    ensures views { tables.new.views ≡ tables.old.views }
     ensures capacity { records.new.capacity ≡ 64 }
+    ensures stale { StaleByMemory tables.old.stale result tables.new.stale }
 {
     // It does nothing: the proof takes from it that a batch holds what was declared for its feed.
     logical_law();
@@ -48,7 +52,7 @@ pub(crate) fn push_to(
         link.feed.commit();
         return Ok(Pushed { used, event: None });
     };
-    match respond(link.role, stores, records, event) {
+    match respond(link.role, tables, records, event) {
         Ok(kind) => {
             link.feed.commit();
             Ok(Pushed {

@@ -1,13 +1,32 @@
 //! The session.
 
-ghost use Rattle.std.specs.Prelude.{◌≡◌, ◌<◌, ◌++◌, [], ◌∷◌, All, IfOk, OnErr, OnOk, length, map, string_bytes};
+ghost use Rattle.std.specs.Prelude.{
+  ◌≡◌,
+  ◌<◌,
+  ◌++◌,
+  [],
+  ◌∷◌,
+  All,
+  count_by,
+  false,
+  IfOk,
+  OnErr,
+  OnOk,
+  length,
+  map,
+  slice_set,
+  string_bytes,
+};
 ghost use Rattle.view_lang.specs.Config.{tables_of};
 ghost use Rattle.view_lang.specs.ConfigRules.{IsConfig};
 ghost use Rattle.view_lang.specs.TableRules.{IsTable};
 ghost use Rattle.view_lang.specs.ViewColumns.{view_columns};
 ghost use Rattle.view_lang.specs.World.{contents_at, world};
 ghost use Rattle.row_keys.specs.Store.{no_rows};
-ghost use Rattle.session.specs.Shows.{IsStep, IsWithin, Shows, ShowsEach, columns_of, config_of, store_at};
+ghost use Rattle.upkeep.specs.LiveParts.{store_at};
+ghost use Rattle.session.specs.Shows.{IsStep, IsWithin, Shows, ShowsEach, columns_of, config_of};
+ghost use Rattle.session.specs.Names.{place_of};
+ghost use Rattle.session.specs.Stale.{StaleByMemory};
 ghost use Rattle.session.specs.Steps.{FinishStep, PushStep, Run, State, Steps, UndoTo, WriteStep, opened, start};
 
 use crate::calls::{Fault, Pushed, Reply, Step, ViewFault};
@@ -23,9 +42,10 @@ use row_keys::RowStore;
 use std::alloc::{AllocError, Global};
 use std::marker::Model;
 use stream_writer::Sink;
+use upkeep::LiveTables;
 use values::limits::MAX_UNDO_DEPTH;
 use values::{Cause, Schema};
-use view_lang::{Config, FeedConfig, SideTable, Table, View};
+use view_lang::{Config, FeedConfig, SideTable, Table};
 
 /// The feeds of a configuration, of which nothing has come.
 fn open_feeds(alloc: Global, config: &Config) -> Result<Vec<Link>, AllocError>
@@ -105,12 +125,10 @@ pub struct Session {
     // Of the side tables.
     names: Vec<String>,
     feeds: Vec<FeedConfig>,
-    views: Vec<View>,
     // Of the views.
     schemas: Vec<Schema>,
     links: Vec<Link>,
-    // The main table's rows come first.
-    stores: Vec<RowStore>,
+    tables: LiveTables,
     records: HeapCircularBuffer<UndoRecord>,
 }
 
@@ -125,9 +143,8 @@ impl Model for Session {
     ghost view = { λ s. record {
       sides = map string_bytes s.names.items;
       feeds = s.feeds.items;
-      views = s.views.items;
       links = s.links.items;
-      stores = s.stores.items;
+      tables = s.tables;
       records = s.records.items;
     } };
 
@@ -135,9 +152,8 @@ impl Model for Session {
         (record {
           sides = map string_bytes s.names.items;
           feeds = s.feeds.items;
-          views = s.views.items;
           links = s.links.items;
-          stores = s.stores.items;
+          tables = s.tables;
           records = s.records.items;
         }) s.records.capacity (columns_of s.schemas.items) };
 }
@@ -148,6 +164,7 @@ impl Session {
         requires { IsConfig config }
         ensures shows { IfOk result (λ s. Shows s (start config)) }
         ensures config { IfOk result (λ s. config_of s ≡ config) }
+        ensures stale { IfOk result (λ s. s.tables.stale ≡ map (λ _. false) config.views) }
     {
         let records = HeapCircularBuffer::with_capacity(alloc, MAX_UNDO_DEPTH)?;
         let links = open_feeds(alloc, &config)?;
@@ -159,14 +176,14 @@ impl Session {
             views,
         } = config;
         let (names, stores) = open_tables(alloc, main, sides)?;
+        let tables = LiveTables::new(alloc, stores, views)?;
         Ok(Session {
             alloc,
             names,
             feeds,
-            views,
             schemas,
             links,
-            stores,
+            tables,
             records,
         })
     }
@@ -174,10 +191,12 @@ impl Session {
     /// Consumes a piece of the stream of a feed up to the end of the first message that it completes, or all of it. The
     /// edit of a record batch is made where it fits; one that doesn't is consumed all the same.
     ///
-    /// A fault of the stream breaks its feed, and changes nothing else. After `Memory` all is as it was.
+    /// A fault of the stream breaks its feed, and changes nothing else. After `Memory` all is as it was, but views may be
+    /// stale.
     pub fn push(&mut self, feed: &str, piece: &[u8]) -> Result<Pushed, Fault>
         ensures step { IsStep self.old (λ s t. PushStep (config_of self.old) s feed.now piece.now result t) self.new }
         ensures config { config_of self.new ≡ config_of self.old }
+        ensures stale { StaleByMemory self.old.tables.stale result self.new.tables.stale }
     {
         let place = feed_place(&self.feeds, feed);
         if place >= self.links.len() {
@@ -185,7 +204,7 @@ impl Session {
         }
         push_to(
             &mut self.links[place],
-            &mut self.stores,
+            &mut self.tables,
             &mut self.records,
             piece,
         )
@@ -196,6 +215,7 @@ impl Session {
     pub fn finish(&mut self, feed: &str) -> Result<(), Fault>
         ensures step { IsStep self.old (λ s t. FinishStep (config_of self.old) s feed.now result t) self.new }
         ensures config { config_of self.new ≡ config_of self.old }
+        ensures tables { self.new.tables ≡ self.old.tables }
     {
         let place = feed_place(&self.feeds, feed);
         if place >= self.links.len() {
@@ -204,30 +224,35 @@ impl Session {
         finish_of(&mut self.links[place])
     }
 
-    /// Takes the latest accepted edit of any feed away that isn't undone, of the last 64. Feeds don't change.
+    /// Takes the latest accepted edit of any feed away that isn't undone, of the last 64. Feeds don't change. After
+    /// `Memory` views may be stale.
     pub fn undo(&mut self) -> Result<(), Fault>
         ensures step { IsStep self.old (λ s t. UndoTo s result t) self.new }
         ensures config { config_of self.new ≡ config_of self.old }
+        ensures stale { StaleByMemory self.old.tables.stale result self.new.tables.stale }
     {
-        go_back(&mut self.stores, &mut self.records)
+        go_back(&mut self.tables, &mut self.records)
     }
 
     /// Writes the canonical stream of a view, and answers its length. On a fault the sink took a beginning of that
-    /// stream.
+    /// stream. A stale view is built anew first.
     pub fn write_view<S: Sink>(&mut self, view: &str, sink: &mut S) -> Result<u64, ViewFault>
         ensures step { IsStep self.old
             (λ s t. WriteStep (config_of self.old) s view.now (S.sunk sink.old) result (S.sunk sink.new)
             × (t ≡ s)) self.new }
         ensures config { config_of self.new ≡ config_of self.old }
+        ensures stale { OnOk result (self.new.tables.stale ≡ slice_set self.old.tables.stale
+            (place_of view.now (map (λ v. v.name) self.old.tables.views)) false) }
     {
-        let place = view_place(&self.views, view);
-        if place >= self.views.len() {
+        let views = self.tables.views();
+        let place = view_place(views, view);
+        if place >= views.len() {
             return Err(ViewFault::UnknownView);
         }
         let written = write_rows(
             self.alloc,
-            &mut self.stores,
-            &self.views[place],
+            &mut self.tables,
+            place,
             &self.schemas[place],
             sink,
         )?;
@@ -239,21 +264,22 @@ impl Session {
         ensures { (s : State) → Shows self.now s
             → result ≡ length (contents_at (world (tables_of (config_of self.now)) s.past.edits) 0).live }
     {
-        self.stores[0].len()
+        self.tables.len()
     }
 
-    /// The number of views that are stale: views are evaluated when they are written, so none is. It takes no memory.
+    /// How many views are stale: memory for keeping them current was refused since they were written last. It takes no
+    /// memory.
     pub fn stale(&self) -> usize
-        ensures { result ≡ 0 }
+        ensures { result ≡ count_by (λ b. b) self.now.tables.stale }
     {
-        0
+        self.tables.stale()
     }
 
     /// How often a stored row of the main table was opened; it rests at its greatest number. It takes no memory.
     pub fn visits(&self) -> u128
-        ensures { result ≡ (store_at self.now.stores 0).visits }
+        ensures { result ≡ (store_at self.now.tables.stores 0).visits }
     {
-        self.stores[0].visits()
+        self.tables.visits()
     }
 
     /// Does one step.

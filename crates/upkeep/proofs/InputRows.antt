@@ -40,7 +40,7 @@ use Rattle.std.specs.declared.alloc.Global.{Global}
 use Rattle.std.specs.List.{cons_option}
 use Rattle.std.specs.Option.{option_and_then, option_map}
 use Rattle.std.proofs.Math.Seq.{take-suc}
-use Rattle.std.proofs.lemmas.List.{map-append}
+use Rattle.std.proofs.lemmas.List.{length-map, map-append}
 use Rattle.std.proofs.lemmas.List.Elements.{All-get_or, All-nil, All-push, filter-append, filter_map-append}
 use Rattle.values.specs.Datum.{Datum}
 use Rattle.view_lang.specs.Cells.{cell_at, rows_of}
@@ -61,7 +61,7 @@ use Rattle.upkeep.specs.StoreLaws.{rows_there, set_same, table_there, tables_len
 
 -- a side table
 
-contents_stored : (stores : List Store) (n : ℕ) (s : Store) → s ≡ get_or stores n s → n < length stores
+pub contents_stored : (stores : List Store) (n : ℕ) (s : Store) → s ≡ get_or stores n s → n < length stores
     → contents_at (world_of (rows_in stores)) n ≡ contents_of s.slots
 contents_stored [] n s is below = absurd (omega (arith, below))
 contents_stored (t ∷ ts) zero s is below = ap (λ (x : Store). contents_of x.slots) (sym is)
@@ -312,6 +312,15 @@ number_there stores now s numbers given i n is some same all at below rows =
     let P : List Slot → Type 0 = λ ss. n < length ss in
     let Q : Rows → Type 0 = λ rs. n < length (rows_at rs 0) in
     subst Q (sym rows) (subst P (sym (rows_there stores 0 s is some)) here)
+
+-- as many as there are live rows
+pub numbers_counted :
+    (stores : List Store) (s : Store) (numbers given : List ℕ) → s ≡ get_or stores 0 s → 0 < length stores
+    → numbers ≡ given → map (row_of s.slots) given ≡ live s.slots
+    → length numbers ≡ length (live (rows_at (rows_in stores) 0))
+numbers_counted stores s numbers given is some same all =
+    ap length same ∙ sym (length-map given (row_of s.slots)) ∙ ap length all
+    ∙ ap (λ ss. length (live ss)) (sym (rows_there stores 0 s is some))
 
 pub same_read : {X : Type 0} (xs : List X) (n : ℕ) (d : X) → n < length xs → get_or xs n d ≡ get_or xs n (get_or xs n d)
 same_read [] n d below = absurd (omega (arith, below))

@@ -1,1 +1,16 @@
 pub mod InputRows
+pub mod Following
+pub mod Keys
+pub mod Editing
+pub mod Viewing
+pub mod MadeRows
+pub mod Mixtures
+pub mod LookedUpViews
+pub mod FollowedViews
+pub mod StaleViews
+pub mod LastRows
+pub mod MainTable
+pub mod MainEdits
+pub mod LiveSides
+pub mod SideEdits
+pub mod Refreshing

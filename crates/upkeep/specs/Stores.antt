@@ -1,9 +1,9 @@
 -- The tables of stores, and the rows that they hold.
 use Rattle.std.specs.Prelude.{ℕ, List, [], get_or, map}
 use Rattle.view_lang.specs.Config.{Table}
-use Rattle.view_lang.specs.World.{World}
+use Rattle.view_lang.specs.World.{World, no_table}
 use Rattle.row_keys.specs.Slots.{Slot, contents_of}
-use Rattle.row_keys.specs.Store.{Store}
+use Rattle.row_keys.specs.Store.{Store, no_rows}
 
 -- the rows of each table, by number
 abbrev pub Rows : Type 0
@@ -21,3 +21,7 @@ tables_in stores = map (λ s. s.table) stores
 
 abbrev pub rows_in : List Store → Rows
 rows_in stores = map (λ s. s.slots) stores
+
+-- how often a row of the main table was opened
+abbrev pub visits_in : List Store → ℕ
+visits_in stores = (get_or stores 0 (no_rows no_table)).visits

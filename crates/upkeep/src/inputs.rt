@@ -12,7 +12,7 @@ ghost use Rattle.view_lang.specs.Rows.{IsRow};
 ghost use Rattle.view_lang.specs.Views.{side_in};
 ghost use Rattle.row_keys.specs.Slots.{live, row_of};
 ghost use Rattle.upkeep.specs.Inputs.{AreInput, IsInput, listed};
-ghost use Rattle.upkeep.specs.Stores.{rows_at, rows_in, tables_in, world_of};
+ghost use Rattle.upkeep.specs.Stores.{rows_at, rows_in, tables_in, visits_in, world_of};
 
 use row_keys::RowStore;
 use std::alloc::{AllocError, Global};
@@ -64,6 +64,7 @@ pub(crate) fn input_row(
         (row_of (rows_at (rows_in stores.old.items) 0) number) (option_map (λ r. r.items) kept)) }
     ensures tables { tables_in stores.new.items ≡ tables_in stores.old.items }
     ensures rows { rows_in stores.new.items ≡ rows_in stores.old.items }
+    ensures visits { visits_in stores.new.items ≤ visits_in stores.old.items + 1 }
 {
     let row = stores[0].open_row(number)?;
     let side_row = look_up(stores, view.lookup, &row)?;
@@ -79,7 +80,7 @@ pub(crate) fn input_row(
 
 /// Adds a row, if there is one.
 #[tactic(auto, using(crate::proofs::InputRows::pushing))]
-fn push_some(rows: &mut Vec<Row>, row: Option<Row>) -> Result<(), AllocError>
+pub(crate) fn push_some(rows: &mut Vec<Row>, row: Option<Row>) -> Result<(), AllocError>
     ensures { OnOk result (rows_of rows.new.items ≡ rows_of rows.old.items ++ listed (option_map (λ r. r.items) row)) }
 {
     match row {
@@ -104,6 +105,8 @@ pub fn input_rows(
     ensures few { length (live (rows_at (rows_in stores.old.items) 0)) ≤ max_main_rows }
     ensures same_tables { tables_in stores.new.items ≡ tables_in stores.old.items }
     ensures same_rows { rows_in stores.new.items ≡ rows_in stores.old.items }
+    ensures visits { visits_in stores.new.items
+        ≤ visits_in stores.old.items + length (live (rows_at (rows_in stores.old.items) 0)) }
 {
     let numbers = stores[0].live_numbers()?;
     let mut input = Vec::new(alloc);

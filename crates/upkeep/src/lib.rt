@@ -1,8 +1,20 @@
-//! What views are made of, and what is kept of them.
+//! Tables, views of them, and what is kept of the views.
 //!
-//! `specs/Stores.antt` says which tables and rows stores hold, and `specs/Inputs.antt` what a view keeps of a row.
+//! `specs/Stores.antt` says which tables and rows stores hold, `specs/TableChanges.antt` what edits do to them,
+//! `specs/Inputs.antt` what a view keeps of a row, `specs/ViewStates.antt` what is kept of a view, `specs/Reading.antt`
+//! what is read out of it, and `specs/LiveEdits.antt` what edits do to tables and views together.
 #![tactic(auto)]
 
+mod all_views;
+mod edits;
+mod follow;
 mod inputs;
+mod live_tables;
+mod lookup_views;
+mod reading;
+mod table_change;
+mod view_state;
+mod viewed;
 
-pub use inputs::input_rows;
+pub use live_tables::LiveTables;
+pub use table_change::TableChange;

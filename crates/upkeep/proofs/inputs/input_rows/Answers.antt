@@ -4,7 +4,14 @@ use Rattle.view_lang.specs.Cells.{rows_of}
 use Rattle.view_lang.specs.ConfigRules.{IsView}
 use Rattle.row_keys.specs.Slots.{row_of}
 use Rattle.upkeep.specs.Stores.{rows_at, rows_in, tables_in}
-use Rattle.upkeep.proofs.InputRows.{gathered_all, gathered_more, gathered_none, number_there, same_read}
+use Rattle.upkeep.proofs.InputRows.{
+  gathered_all,
+  gathered_more,
+  gathered_none,
+  number_there,
+  numbers_counted,
+  same_read,
+}
 use Rattle.upkeep.proofs.inputs.input_rows.Goals as goal
 
 pub loop-number-init : goal.loop-number-init
@@ -15,6 +22,7 @@ loop-number-init c = record {
       c.new-input.ensures.items;
   tables = refl;
   rows = refl;
+  visits = omega arith;
 }
 
 pub input_row-requires-clause-view : goal.input_row-requires-clause-view
@@ -42,6 +50,7 @@ loop-number-preserved c = record {
       c.loop-number-test.true c.in_ok-kept.ensures.row c.in_ok-push_some.ensures;
   tables = c.input_row.ensures.tables ∙ c.loop-number.invariant.tables;
   rows = c.input_row.ensures.rows ∙ c.loop-number.invariant.rows;
+  visits = omega (arith, c.input_row.ensures.visits, c.loop-number.invariant.visits);
 }
 
 pub returns-clause-rows : goal.returns-clause-rows
@@ -68,3 +77,24 @@ returns-in_err-push_some-clause-same_tables c = c.input_row.ensures.tables ∙ c
 
 pub returns-in_err-push_some-clause-same_rows : goal.returns-in_err-push_some-clause-same_rows
 returns-in_err-push_some-clause-same_rows c = c.input_row.ensures.rows ∙ c.loop-number.invariant.rows
+
+pub returns-clause-visits : goal.returns-clause-visits
+returns-clause-visits c =
+    let counted = numbers_counted c.args.stores.now.items c.index.result.now c.deref-number-items.result.now
+    c.in_ok-numbers.numbers.items c.index.ensures c.requires.main c.deref-number-items.ensures.value
+    c.in_ok-numbers.ensures.rows in
+    omega (arith, counted, c.loop-number.invariant.visits)
+
+pub returns-in_err-kept-clause-visits : goal.returns-in_err-kept-clause-visits
+returns-in_err-kept-clause-visits c =
+    let counted = numbers_counted c.args.stores.now.items c.index.result.now c.deref-number-items.result.now
+    c.in_ok-numbers.numbers.items c.index.ensures c.requires.main c.deref-number-items.ensures.value
+    c.in_ok-numbers.ensures.rows in
+    omega (arith, counted, c.loop-number.invariant.visits, c.input_row.ensures.visits)
+
+pub returns-in_err-push_some-clause-visits : goal.returns-in_err-push_some-clause-visits
+returns-in_err-push_some-clause-visits c =
+    let counted = numbers_counted c.args.stores.now.items c.index.result.now c.deref-number-items.result.now
+    c.in_ok-numbers.numbers.items c.index.ensures c.requires.main c.deref-number-items.ensures.value
+    c.in_ok-numbers.ensures.rows in
+    omega (arith, counted, c.loop-number.invariant.visits, c.input_row.ensures.visits)

@@ -1,8 +1,8 @@
-use Rattle.std.proofs.Common.{◌≡◌, map, take}
+use Rattle.std.proofs.Common.{◌≡◌, ◌≤◌, ◌+◌, map, take}
 use Rattle.view_lang.specs.Cells.{rows_of}
 use Rattle.row_keys.specs.Slots.{row_of}
 use Rattle.upkeep.specs.Inputs.{AreInput}
-use Rattle.upkeep.specs.Stores.{rows_at, rows_in, tables_in}
+use Rattle.upkeep.specs.Stores.{rows_at, rows_in, tables_in, visits_in}
 use Rattle.upkeep.proofs.inputs.input_rows.Given as goal
 
 abbrev pub invariant-loop-number : goal.invariant-loop-number
@@ -13,4 +13,5 @@ invariant-loop-number l = record {
       l.input.items);
   tables : tables_in l.stores.items ≡ tables_in l.fn.stores.items;
   rows : rows_in l.stores.items ≡ rows_in l.fn.stores.items;
+  visits : visits_in l.stores.items ≤ visits_in l.fn.stores.items + l.number-index;
 }

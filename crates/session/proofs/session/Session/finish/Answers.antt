@@ -11,8 +11,7 @@ use Rattle.session.proofs.session.Session.finish.Goals as goal
 pub returns-then-place-len-clause-step : goal.returns-then-place-len-clause-step
 returns-then-place-len-clause-step c =
     let p : SessionParts = parts (map string_bytes c.self.inside.names.items) c.self.inside.feeds.items
-    c.self.inside.views.items
-    c.self.inside.links.items c.self.inside.stores.items c.self.inside.records.items in
+    c.self.inside.links.items c.self.inside.tables c.self.inside.records.items in
     let at :
     c.feed_place-place.result ≡ place_of c.args.feed.now
     (map (λ (f : FeedConfig). f.name) c.self.inside.feeds.items) =
@@ -26,11 +25,9 @@ returns-then-place-len-clause-step c =
 pub invariant_of-self : goal.invariant_of-self
 invariant_of-self c =
     let p : SessionParts = parts (map string_bytes c.self.inside.names.items) c.self.inside.feeds.items
-    c.self.inside.views.items
-    c.self.inside.links.items c.self.inside.stores.items c.self.inside.records.items in
+    c.self.inside.links.items c.self.inside.tables c.self.inside.records.items in
     let q : SessionParts = parts (map string_bytes c.self.inside.names.items) c.self.inside.feeds.items
-    c.self.inside.views.items
-    (slice_set c.self.inside.links.items c.feed_place-place.result c.finish_of.new.link) c.self.inside.stores.items
+    (slice_set c.self.inside.links.items c.feed_place-place.result c.finish_of.new.link) c.self.inside.tables
     c.self.inside.records.items in
     let at :
     c.feed_place-place.result ≡ place_of c.args.feed.now
@@ -49,11 +46,9 @@ invariant_of-self c =
 pub returns-clause-step : goal.returns-clause-step
 returns-clause-step c =
     let p : SessionParts = parts (map string_bytes c.self.inside.names.items) c.self.inside.feeds.items
-    c.self.inside.views.items
-    c.self.inside.links.items c.self.inside.stores.items c.self.inside.records.items in
+    c.self.inside.links.items c.self.inside.tables c.self.inside.records.items in
     let q : SessionParts = parts (map string_bytes c.self.inside.names.items) c.self.inside.feeds.items
-    c.self.inside.views.items
-    (slice_set c.self.inside.links.items c.feed_place-place.result c.finish_of.new.link) c.self.inside.stores.items
+    (slice_set c.self.inside.links.items c.feed_place-place.result c.finish_of.new.link) c.self.inside.tables
     c.self.inside.records.items in
     let at :
     c.feed_place-place.result ≡ place_of c.args.feed.now

@@ -7,7 +7,7 @@ use Rattle.view_lang.specs.ViewColumns.{view_columns}
 use Rattle.session.specs.Shows.{Shows, ShowsEach, columns_of}
 use Rattle.session.specs.Steps.{opened, start}
 use Rattle.session.specs.declared.undo.UndoRecord.{UndoRecord}
-use Rattle.session.proofs.Opening.{opened_config, opened_parts, opened_session, opened_shown}
+use Rattle.session.proofs.Opening.{opened_config, opened_none, opened_parts, opened_right, opened_session, opened_shown}
 use Rattle.session.proofs.session.Session.open.Goals as goal
 
 pub invariant_of-result : goal.invariant_of-result
@@ -20,10 +20,10 @@ invariant_of-result c =
       views = c.config.inside.views.items;
     } in
     opened_session conf (map string_bytes c.in_ok-names.names.items) c.in_ok-links.links.items
-    c.in_ok-names.stores.items c.in_ok-records.records.items c.in_ok-records.records.capacity
+    c.in_ok-tables.tables c.in_ok-records.records.items c.in_ok-records.records.capacity
     (columns_of c.in_ok-schemas.schemas.items)
     (subst IsConfig (sym c.config.view_is) c.requires)
-    (ap (λ (b : Buffer UndoRecord). b.capacity) c.in_ok-records.ensures) c.in_ok-names.ensures.stores
+    (ap (λ (b : Buffer UndoRecord). b.capacity) c.in_ok-records.ensures) (c.in_ok-tables.ensures.stores ∙ c.in_ok-names.ensures.stores) c.in_ok-tables.ensures.views
     (ap (λ (b : Buffer UndoRecord). b.items) c.in_ok-records.ensures)
     (subst (λ (x : Config). ShowsEach (tables_of x) c.in_ok-links.links.items (map (opened (tables_of x)) x.feeds))
     (sym c.config.view_is) c.in_ok-links.ensures)
@@ -41,10 +41,10 @@ returns-clause-shows c =
     } in
     subst (λ (x : Config).
     Shows (opened_parts conf (map string_bytes c.in_ok-names.names.items) c.in_ok-links.links.items
-    c.in_ok-names.stores.items c.in_ok-records.records.items) (start x))
+    c.in_ok-tables.tables c.in_ok-records.records.items) (start x))
     c.config.view_is
     (opened_shown conf (map string_bytes c.in_ok-names.names.items) c.in_ok-links.links.items
-    c.in_ok-names.stores.items c.in_ok-records.records.items c.in_ok-names.ensures.stores
+    c.in_ok-tables.tables c.in_ok-records.records.items (c.in_ok-tables.ensures.stores ∙ c.in_ok-names.ensures.stores) c.in_ok-tables.ensures.views
     (ap (λ (b : Buffer UndoRecord). b.items) c.in_ok-records.ensures)
     (subst (λ (x : Config). ShowsEach (tables_of x) c.in_ok-links.links.items (map (opened (tables_of x)) x.feeds))
     (sym c.config.view_is) c.in_ok-links.ensures))
@@ -59,5 +59,28 @@ returns-clause-config c =
       views = c.config.inside.views.items;
     } in
     opened_config conf (map string_bytes c.in_ok-names.names.items) c.in_ok-links.links.items
-    c.in_ok-names.stores.items c.in_ok-records.records.items c.in_ok-names.ensures.names c.in_ok-names.ensures.stores
+    c.in_ok-tables.tables c.in_ok-records.records.items c.in_ok-names.ensures.names (c.in_ok-tables.ensures.stores ∙ c.in_ok-names.ensures.stores) c.in_ok-tables.ensures.views
     ∙ c.config.view_is
+
+pub new-requires-clause-right : goal.new-requires-clause-right
+new-requires-clause-right c =
+    let conf : Config =
+    record {
+      main = c.config.inside.main;
+      sides = c.config.inside.sides.items;
+      feeds = c.config.inside.feeds.items;
+      views = c.config.inside.views.items;
+    } in
+    opened_right conf c.in_ok-names.stores.items (subst IsConfig (sym c.config.view_is) c.requires)
+    c.in_ok-names.ensures.stores
+
+pub new-requires-clause-none : goal.new-requires-clause-none
+new-requires-clause-none c =
+    let conf : Config =
+    record {
+      main = c.config.inside.main;
+      sides = c.config.inside.sides.items;
+      feeds = c.config.inside.feeds.items;
+      views = c.config.inside.views.items;
+    } in
+    opened_none conf c.in_ok-names.stores.items c.in_ok-names.ensures.stores

@@ -11,8 +11,7 @@ use Rattle.session.proofs.session.Session.push.Goals as goal
 pub returns-then-place-len-clause-step : goal.returns-then-place-len-clause-step
 returns-then-place-len-clause-step c =
     let p : SessionParts = parts (map string_bytes c.self.inside.names.items) c.self.inside.feeds.items
-    c.self.inside.views.items
-    c.self.inside.links.items c.self.inside.stores.items c.self.inside.records.items in
+    c.self.inside.links.items c.self.inside.tables c.self.inside.records.items in
     let at :
     c.feed_place-place.result ≡ place_of c.args.feed.now
     (map (λ (f : FeedConfig). f.name) c.self.inside.feeds.items) =
@@ -26,8 +25,7 @@ returns-then-place-len-clause-step c =
 pub push_to-requires-clause-link : goal.push_to-requires-clause-link
 push_to-requires-clause-link c =
     let p : SessionParts = parts (map string_bytes c.self.inside.names.items) c.self.inside.feeds.items
-    c.self.inside.views.items
-    c.self.inside.links.items c.self.inside.stores.items c.self.inside.records.items in
+    c.self.inside.links.items c.self.inside.tables c.self.inside.records.items in
     let below : c.feed_place-place.result < length c.self.inside.links.items =
     grind (arith, common_steps, c.len.ensures, c.if-place-len.false) in
     link_shown p c.feed_place-place.result c.index_mut.result.now c.self.invariant.some below c.index_mut.ensures.value
@@ -35,11 +33,9 @@ push_to-requires-clause-link c =
 pub invariant_of-self : goal.invariant_of-self
 invariant_of-self c =
     let p : SessionParts = parts (map string_bytes c.self.inside.names.items) c.self.inside.feeds.items
-    c.self.inside.views.items
-    c.self.inside.links.items c.self.inside.stores.items c.self.inside.records.items in
+    c.self.inside.links.items c.self.inside.tables c.self.inside.records.items in
     let q : SessionParts = parts (map string_bytes c.self.inside.names.items) c.self.inside.feeds.items
-    c.self.inside.views.items
-    (slice_set c.self.inside.links.items c.feed_place-place.result c.push_to.new.link) c.push_to.new.stores.items
+    (slice_set c.self.inside.links.items c.feed_place-place.result c.push_to.new.link) c.push_to.new.tables
     c.push_to.new.records.items in
     let at :
     c.feed_place-place.result ≡ place_of c.args.feed.now
@@ -53,16 +49,14 @@ invariant_of-self c =
     (push_known p q c.args.feed.now c.args.piece.now c.feed_place-place.result c.index_mut.result.now c.push_to.new.link
     c.push_to.result at below
     c.index_mut.ensures.value c.push_to.ensures.pushes c.push_to.ensures.tables refl)
-    c.push_to.ensures.tables refl c.push_to.ensures.capacity
+    c.push_to.ensures.tables c.push_to.ensures.views c.push_to.ensures.capacity
 
 pub returns-clause-step : goal.returns-clause-step
 returns-clause-step c =
     let p : SessionParts = parts (map string_bytes c.self.inside.names.items) c.self.inside.feeds.items
-    c.self.inside.views.items
-    c.self.inside.links.items c.self.inside.stores.items c.self.inside.records.items in
+    c.self.inside.links.items c.self.inside.tables c.self.inside.records.items in
     let q : SessionParts = parts (map string_bytes c.self.inside.names.items) c.self.inside.feeds.items
-    c.self.inside.views.items
-    (slice_set c.self.inside.links.items c.feed_place-place.result c.push_to.new.link) c.push_to.new.stores.items
+    (slice_set c.self.inside.links.items c.feed_place-place.result c.push_to.new.link) c.push_to.new.tables
     c.push_to.new.records.items in
     let at :
     c.feed_place-place.result ≡ place_of c.args.feed.now

@@ -1,0 +1,107 @@
+-- What is kept of a view through changes of the main table's rows.
+use Rattle.std.proofs.Common.{
+  ◌≡◌,
+  ℕ,
+  suc,
+  ◌+◌,
+  ◌<◌,
+  ◌≤◌,
+  false,
+  List,
+  [],
+  ◌∷◌,
+  ◌++◌,
+  Option,
+  None,
+  Some,
+  get_or,
+  length,
+  map,
+  take,
+  ap,
+  sym,
+  subst,
+  ◌∙◌,
+  arith,
+}
+use Rattle.std.proofs.lemmas.List.{length-map, map-append, map_push, take_more}
+use Rattle.values.specs.Datum.{Datum}
+use Rattle.view_lang.specs.Config.{View}
+use Rattle.view_lang.specs.Images.{ImageFits, image, image_by, shift_image}
+use Rattle.view_lang.specs.Joined.{Side}
+use Rattle.view_lang.specs.Outputs.{Outputs}
+use Rattle.view_lang.specs.Shifts.{Fits, IsFew, NumberedRows, Shift, shift}
+use Rattle.view_lang.specs.declared.view.OrderBy.{OrderBy}
+use Rattle.row_keys.specs.Numbered.{live_at}
+use Rattle.row_keys.specs.Slots.{Slot, row_of}
+use Rattle.row_keys.specs.Store.{Store}
+use Rattle.upkeep.specs.Inputs.{side_by}
+use Rattle.upkeep.specs.Stores.{rows_at, rows_in, tables_in}
+use Rattle.upkeep.specs.ViewStates.{IsCurrent, IsKept, made_change, made_row, turned}
+use Rattle.upkeep.specs.declared.view_state.Turn.{Turn}
+use Rattle.upkeep.specs.declared.view_state.Turn.TheVariants as turn
+use Rattle.upkeep.specs.declared.view_state.ViewState.{ViewState}
+
+-- the change of a number more
+
+pub turned_more : (t : Turn) (slots : List Slot) (ns : List ℕ) (i : ℕ) → i < length ns
+    → turned t slots (take (i + 1) ns) ≡ turned t slots (take i ns) ++ turned t slots (get_or ns i 0 ∷ [])
+turned_more turn.Come slots ns i below =
+    ap (turned turn.Come slots) (take_more ns i 0 below)
+    ∙ map_push (λ n. shift n None (Some (row_of slots n))) (take i ns) (get_or ns i 0)
+turned_more turn.Go slots ns i below =
+    ap (turned turn.Go slots) (take_more ns i 0 below)
+    ∙ map_push (λ n. shift n (live_at slots n) None) (take i ns) (get_or ns i 0)
+
+pub change_more :
+    (stores now : List Store) (v : View) (t : Turn) (ns : List ℕ) (i : ℕ) (done next : List Shift) (changed : Shift)
+    → tables_in now ≡ tables_in stores → rows_in now ≡ rows_in stores → i < length ns
+    → done ≡ made_change (tables_in stores) (rows_in stores) v t (take i ns)
+    → changed ∷ [] ≡ made_change (tables_in now) (rows_in now) v t (get_or ns i 0 ∷ []) → next ≡ done ++ changed ∷ []
+    → next ≡ made_change (tables_in stores) (rows_in stores) v t (take (i + 1) ns)
+change_more stores now v t ns i done next changed tables rows below so_far one pushed =
+    let slots : List Slot = rows_at (rows_in stores) 0 in
+    let f : Shift → Shift = shift_image (made_row v (side_by (tables_in stores) (rows_in stores) v)) in
+    let last : List ℕ = get_or ns i 0 ∷ [] in
+    let here : changed ∷ [] ≡ made_change (tables_in stores) (rows_in stores) v t last =
+    one ∙ ap (λ ts. made_change ts (rows_in now) v t last) tables
+    ∙ ap (λ rs. made_change (tables_in stores) rs v t last) rows in
+    pushed ∙ ap (λ l. l ++ changed ∷ []) so_far
+    ∙ ap (λ l. made_change (tables_in stores) (rows_in stores) v t (take i ns) ++ l) here
+    ∙ sym (map-append f (turned t slots (take i ns)) (turned t slots last))
+    ∙ ap (map f) (sym (turned_more t slots ns i below))
+
+-- what is kept of the rows that a view makes
+
+longer : (n k : ℕ) (o : Option (List Datum)) (rows : NumberedRows) → length rows ≤ k
+    → length (image_by n o rows) ≤ suc k
+longer n k None rows h = omega (arith, h)
+longer n k (Some r) rows h = omega (arith, h)
+
+image_length : (make : List Datum → Option (List Datum)) (rows : NumberedRows)
+    → length (image make rows) ≤ length rows
+image_length make [] = omega arith
+image_length make (e ∷ es) = longer e.0 (length es) (make e.1) (image make es) (image_length make es)
+
+image_few : (make : List Datum → Option (List Datum)) (rows : NumberedRows) (change : List Shift) → IsFew rows change
+    → IsFew (image make rows) (map (shift_image make) change)
+image_few make rows change few =
+    let shorter : length (image make rows) ≤ length rows = image_length make rows in
+    let same : length (map (shift_image make) change) ≡ length change = length-map change (shift_image make) in
+    omega (arith, few, shorter, same)
+
+-- a change fits what is kept of the rows that it fits
+pub follow_needs :
+    (law : ImageFits) (v : View) (side : Side) (s : ViewState) (change made : List Shift) (rows : NumberedRows)
+    → made ≡ map (shift_image (made_row v side)) change → IsCurrent v side s rows → Fits rows change
+    → IsFew rows change → s.stale ≡ false
+    → (outputs : Outputs) × (order : List OrderBy) × (kept : NumberedRows)
+    × (IsKept outputs order s.kept kept × (Fits kept made × IsFew kept made))
+follow_needs law v side s change made rows is current fits few fresh =
+    let f : List Datum → Option (List Datum) = made_row v side in
+    let P : List Shift → Type 0 = λ ss. Fits (image f rows) ss × IsFew (image f rows) ss in (
+      v.outputs,
+      v.order,
+      image f rows,
+      (current fresh, subst P (sym is) (law f rows change fits, image_few f rows change few)),
+    )

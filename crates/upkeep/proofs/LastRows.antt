@@ -1,0 +1,54 @@
+-- The last rows of the main table, by their numbers.
+use Rattle.std.proofs.Common.{
+  ◌≡◌,
+  ℕ,
+  ◌+◌,
+  ◌*◌,
+  ◌-◌,
+  ◌<◌,
+  ◌≤◌,
+  All,
+  List,
+  ap,
+  arith,
+  get_or,
+  length,
+  subst,
+  sym,
+  ◌∙◌,
+}
+use Rattle.std.specs.List.{range_with_len}
+use Rattle.std.proofs.lemmas.List.Elements.{All-from_get_or}
+use Rattle.std.proofs.lemmas.List.FromFn.{get_or-range_with_len, length-range_with_len}
+use Rattle.row_keys.specs.Slots.{Slot, last_numbers}
+use Rattle.row_keys.specs.Store.{Store}
+use Rattle.upkeep.specs.Stores.{rows_at, rows_in}
+use Rattle.upkeep.specs.StoreLaws.{rows_there}
+
+-- They are numbered from the first of them on.
+pub last_named :
+    (stores : List Store) (s : Store) (count : ℕ) (numbers : List ℕ) → s ≡ get_or stores 0 s → 0 < length stores
+    → numbers ≡ range_with_len (length s.slots - count) count
+    → numbers ≡ last_numbers count (rows_at (rows_in stores) 0)
+last_named stores s count numbers at main named =
+    named ∙ ap (λ (slots : List Slot). last_numbers count slots) (sym (rows_there stores 0 s at main))
+
+pub last_many : (count : ℕ) (slots : List Slot) (numbers : List ℕ) → numbers ≡ last_numbers count slots
+    → length numbers ≡ count
+last_many count slots numbers last = ap length last ∙ length-range_with_len (length slots - count) count
+
+there : (count : ℕ) (slots : List Slot) → count ≤ length slots
+    → All (λ n. n < length slots) (last_numbers count slots)
+there count slots few =
+    All-from_get_or (λ n. n < length slots) (last_numbers count slots) 0 (λ i below.
+    let long = length-range_with_len (length slots - count) count in
+    let at = get_or-range_with_len (length slots - count) count i 0 (omega (arith, below, long)) in
+    omega (arith, below, long, at, few))
+
+pub last_there : (count : ℕ) (slots : List Slot) (numbers : List ℕ) → count ≤ length slots
+    → numbers ≡ last_numbers count slots → All (λ n. n < length slots) numbers
+last_there count slots numbers few last =
+    subst (λ (ns : List ℕ). All (λ n. n < length slots) ns) (sym last) (there count slots few)
+
+pub last_opened : (old new views count many : ℕ) → many ≡ count → new ≤ old + views * many → new ≤ old + views * count
+last_opened old new views count many same opened = subst (λ n. new ≤ old + views * n) same opened

@@ -1,0 +1,333 @@
+-- What is kept of a view, and the rows that it shows.
+use Rattle.std.proofs.Common.{
+  ◌≡◌,
+  ℕ,
+  zero,
+  suc,
+  ◌<◌,
+  ◌≤◌,
+  Bool,
+  true,
+  false,
+  if◌then◌else◌,
+  List,
+  [],
+  ◌∷◌,
+  ◌++◌,
+  ◌+◌,
+  Option,
+  None,
+  Some,
+  All,
+  filter_map,
+  length,
+  get_or,
+  map,
+  take,
+  refl,
+  ap,
+  sym,
+  subst,
+  ◌∙◌,
+  arith,
+}
+use Rattle.std.specs.Prelude.{Vec}
+use Rattle.std.specs.declared.alloc.Global.{Global}
+use Rattle.std.specs.List.{AllByRecursion, cons_option}
+use Rattle.std.specs.Map.{values_of}
+use Rattle.std.specs.Option.{option_and_then, unwrap_or}
+use Rattle.std.proofs.lemmas.List.{length-map, take_all, take_more}
+use Rattle.std.proofs.lemmas.List.Elements.{All-cons, All-nil, filter_map-append}
+use Rattle.values.specs.Datum.{Datum}
+use Rattle.values.specs.Limits.{max_main_rows}
+use Rattle.view_lang.specs.Cells.{rows_of}
+use Rattle.view_lang.specs.Config.{Table, View}
+use Rattle.view_lang.specs.Groups.{group_rows}
+use Rattle.view_lang.specs.Images.{ImageAt, ImageFits, ImageValues, image}
+use Rattle.view_lang.specs.Joined.{Side}
+use Rattle.view_lang.specs.Laws.{Viewed, ViewsCanSum, ViewsHaveFewRows, ViewsOrderKeys, ViewsUseKeys}
+use Rattle.view_lang.specs.Outputs.{GroupOutput, Outputs, columns, groups}
+use Rattle.view_lang.specs.RowOrder.{row_cmp}
+use Rattle.view_lang.specs.Shifts.{NumberedRows, row_at}
+use Rattle.view_lang.specs.Sorted.{sorted}
+use Rattle.view_lang.specs.Sums.{CanSum}
+use Rattle.view_lang.specs.ViewLaws.{KeptOneByOne, ShownOneByOne}
+use Rattle.view_lang.specs.Views.{first_of, kept_row, output_rows, shown_row, shown_rows, view_input, view_rows}
+use Rattle.view_lang.specs.declared.view.OrderBy.{OrderBy}
+use Rattle.group_state.specs.Grouped.{Grouped}
+use Rattle.group_state.specs.Groups.{Keeps as KeepsGroups}
+use Rattle.group_state.specs.Reading.{CanReadAll}
+use Rattle.top_rows.specs.Keeping.{Keeps as KeepsOrder}
+use Rattle.top_rows.specs.OrderedPlaces.{OrderedPlaces}
+use Rattle.top_rows.specs.ViewOrder.{AreFirst, IsKeptFor, OrdersKeys}
+use Rattle.row_keys.specs.NumberLaws.{NumbersAscend, RowsAreAtNumbers, RowsAreLive}
+use Rattle.row_keys.specs.Numbered.{live_at, numbered}
+use Rattle.row_keys.specs.Slots.{Slot, live, no_slot, row_of}
+use Rattle.row_keys.specs.Store.{Store}
+use Rattle.upkeep.specs.Inputs.{listed, side_by}
+use Rattle.upkeep.specs.Stores.{rows_at, rows_in, tables_in}
+use Rattle.upkeep.specs.Reading.{
+  AreShown,
+  CanReadGroups,
+  FirstsAreShown,
+  GroupsAreOfInput,
+  IsReadable,
+  made_at,
+}
+use Rattle.upkeep.specs.ViewStates.{IsKept, made_by, made_row}
+use Rattle.upkeep.specs.declared.view_state.Kept.TheVariants as kept
+
+-- the laws of the crates below that are used
+pub record Laws : Type 0 where
+  pub fits : ImageFits
+  pub at : ImageAt
+  pub values : ImageValues
+  pub kept : KeptOneByOne
+  pub shown : ShownOneByOne
+  pub ascend : NumbersAscend
+  pub live : RowsAreLive
+  pub numbers : RowsAreAtNumbers
+  pub sums : ViewsCanSum
+  pub few : ViewsHaveFewRows
+  pub keys : ViewsUseKeys
+  pub ordered : ViewsOrderKeys
+
+-- Rows that are made of all live rows
+
+abbrev made_rows : Outputs → List (List Datum) → List (List Datum)
+made_rows (columns outputs) rows = map (shown_row outputs) rows
+made_rows (groups by outputs) rows = rows
+
+module _ (laws : Laws) where
+  made_each :
+      (os : Outputs) (v : View) (side : Side) (rows : List (List Datum))
+      → filter_map (λ row. made_by os (kept_row v side row)) rows ≡ made_rows os (view_input v side rows)
+  made_each (columns outputs) v side rows = laws.shown v outputs side rows
+  made_each (groups by outputs) v side rows = laws.kept v side rows
+
+  made_values :
+      (os : Outputs) (v : View) (side : Side) (slots : List Slot)
+      → values_of (image (λ row. made_by os (kept_row v side row)) (numbered slots))
+      ≡ made_rows os (view_input v side (live slots))
+  made_values os v side slots =
+      let make : List Datum → Option (List Datum) = λ row. made_by os (kept_row v side row) in
+      laws.values make (numbered slots) ∙ ap (filter_map make) (laws.live slots) ∙ made_each os v side (live slots)
+
+  -- Groups
+
+  readable_by :
+      (tables : List Table) (v : View) (side : Side) (slots : List Slot) (os : Outputs) (order : List OrderBy)
+      (g : Grouped) → v.outputs ≡ os → Viewed tables v side (live slots)
+      → IsKept os order (kept.Groups g) (image (λ row. made_by os (kept_row v side row)) (numbered slots))
+      → CanReadGroups os g (view_input v side (live slots))
+  readable_by tables v side slots (columns outputs) order g same is k = absurd k
+  readable_by tables v side slots (groups by outputs) order g same is k =
+      let rows : List (List Datum) = view_input v side (live slots) in (
+        k.0,
+        subst (KeepsGroups g) (made_values (groups by outputs) v side slots) k.2,
+        record {
+          kept = k.1;
+          sums = subst (λ o. CanSum o rows) same (laws.sums tables v side (live slots) is);
+          keys = laws.keys tables v by outputs side (live slots) is same;
+        },
+      )
+
+-- Rows by number
+
+-- Only a live row has something made of it.
+live_made :
+    (make : List Datum → Option (List Datum)) (b : Bool) (row r : List Datum)
+    → option_and_then make (if b then Some row else None) ≡ Some r → (make row ≡ Some r) × (b ≡ true)
+live_made make true row r is = (is, refl)
+live_made make false row r is = absurd (cc)
+
+live_there : (slots : List Slot) (n : ℕ) → (get_or slots n no_slot).live ≡ true → n < length slots
+live_there [] n is = absurd (cc)
+live_there (s ∷ ss) zero is = omega arith
+live_there (s ∷ ss) (suc n) is = omega (arith, live_there ss n is)
+
+abbrev tail_of : {X : Type 0} → List X → List X
+tail_of [] = []
+tail_of (x ∷ xs) = xs
+
+record Are (make : ℕ → Option (List Datum)) (P : ℕ → Type 0) (numbers : List ℕ) (rows : List (List Datum)) : Type 0
+  where
+    made : filter_map make numbers ≡ rows
+    all : All P numbers
+    many : length numbers ≡ length rows
+
+made_numbers :
+    (given make : ℕ → Option (List Datum)) (P : ℕ → Type 0)
+    → ((n : ℕ) (r : List Datum) → given n ≡ Some r → (make n ≡ Some r) × P n)
+    → (numbers : List ℕ) (rows : List (List Datum)) → map given numbers ≡ map Some rows → Are make P numbers rows
+made_numbers given make P each [] [] same = record { made = refl; all = All-nil P; many = refl }
+made_numbers given make P each [] (r ∷ rs) same = absurd (omega (arith, ap length same))
+made_numbers given make P each (n ∷ ns) [] same = absurd (omega (arith, ap length same))
+made_numbers given make P each (n ∷ ns) (r ∷ rs) same =
+    let here : given n ≡ Some r = ap (λ l. get_or l 0 None) same in
+    let rest : Are make P ns rs = made_numbers given make P each ns rs (ap tail_of same) in
+    let one = each n r here in
+    record {
+      made = ap (λ o. cons_option o (filter_map make ns)) one.0 ∙ ap (λ l. r ∷ l) rest.made;
+      all = All-cons P n ns one.1 rest.all;
+      many = ap suc rest.many;
+    }
+
+-- The first rows
+
+all_at : (P : List Datum → Type 0) (es : NumberedRows) → AllByRecursion P (values_of es)
+    → AllByRecursion (λ e. P e.1) es
+all_at P [] all = tt
+all_at P (e ∷ es) all = (all.0, all_at P es all.1)
+
+-- a view without a number asks for as many as there may be
+first_taken : {X : Type 0} (first : Option ℕ) (most : ℕ) (xs : List X) → most ≡ unwrap_or first max_main_rows
+    → length (first_of first xs) ≤ max_main_rows → take most xs ≡ first_of first xs
+first_taken None most xs is few = take_all most xs (omega (arith, is, few))
+first_taken (Some n) most xs is few = ap (λ m. take m xs) is
+
+record IsPlain (v : View) (side : Side) (slots : List Slot) (o : OrderedPlaces) (es : NumberedRows) : Type 0 where
+  order : o.order ≡ v.order
+  keeps : KeepsOrder o es
+  outputs : values_of es ≡ output_rows v.outputs (view_input v side (live slots))
+
+module _ (laws : Laws) where
+  plain_by :
+      (v : View) (side : Side) (slots : List Slot) (os : Outputs) (o : OrderedPlaces) → v.outputs ≡ os
+      → IsKept os v.order (kept.Order o) (image (λ row. made_by os (kept_row v side row)) (numbered slots))
+      → IsPlain v side slots o (image (λ row. made_by os (kept_row v side row)) (numbered slots))
+  unfolding output_rows
+  plain_by v side slots (columns outputs) o same k = record {
+    order = k.0;
+    keeps = k.1;
+    outputs = made_values laws (columns outputs) v side slots
+        ∙ ap (λ x. output_rows x (view_input v side (live slots))) (sym same);
+  }
+  plain_by v side slots (groups by outputs) o same k = absurd k
+
+  module _ (tables : List Table) (v : View) (side : Side) (slots : List Slot) (o : OrderedPlaces)
+      (is : Viewed tables v side (live slots))
+      (k : IsKept v.outputs v.order (kept.Order o) (image (made_row v side) (numbered slots))) where
+    plain : IsPlain v side slots o (image (made_row v side) (numbered slots))
+    plain = plain_by v side slots v.outputs o refl k
+
+    order_readable : IsKeptFor o (image (made_row v side) (numbered slots))
+    order_readable =
+        let es : NumberedRows = image (made_row v side) (numbered slots) in
+        let keys : AllByRecursion (OrdersKeys v.order) (values_of es) =
+        subst (AllByRecursion (OrdersKeys v.order)) (sym plain.outputs) (laws.ordered tables v side (live slots) is) in
+        record {
+          ascending = (laws.fits (made_row v side) (numbered slots) []
+              (record { ascending = laws.ascend slots; in_turn = tt })).ascending;
+          kept_rows = plain.keeps;
+          keys = all_at (OrdersKeys o.order) es
+              (subst (λ os. AllByRecursion (OrdersKeys os) (values_of es)) (sym plain.order) keys);
+        }
+
+    shown_first :
+        (most : ℕ) → most ≡ unwrap_or v.first max_main_rows
+        → take most (sorted (row_cmp o.order) (values_of (image (made_row v side) (numbered slots))))
+        ≡ view_rows v side (live slots)
+    unfolding view_rows shown_rows
+    shown_first most asked =
+        let made : List (List Datum) = output_rows v.outputs (view_input v side (live slots)) in
+        ap (λ os. take most (sorted (row_cmp os) (values_of (image (made_row v side) (numbered slots))))) plain.order
+        ∙ ap (λ xs. take most (sorted (row_cmp v.order) xs)) plain.outputs
+        ∙ first_taken v.first most (sorted (row_cmp v.order) made) asked (laws.few tables v side (live slots) is)
+
+    made_there :
+        (n : ℕ) (r : List Datum) → row_at n (image (made_row v side) (numbered slots)) ≡ Some r
+        → (made_row v side (row_of slots n) ≡ Some r) × (n < length slots)
+    made_there n r here =
+        let s : Slot = get_or slots n no_slot in
+        let made : option_and_then (made_row v side) (live_at slots n) ≡ Some r =
+        sym (laws.at (made_row v side) (numbered slots) n (laws.ascend slots)
+        ∙ ap (option_and_then (made_row v side)) (laws.numbers slots n)) ∙ here in
+        let both = live_made (made_row v side) s.live s.row r made in
+        (both.0, live_there slots n both.1)
+
+    firsts :
+        (most : ℕ) (numbers : List ℕ) → most ≡ unwrap_or v.first max_main_rows
+        → AreFirst o.order most (image (made_row v side) (numbered slots)) numbers
+        → Are (λ n. made_row v side (row_of slots n)) (λ n. n < length slots) numbers (view_rows v side (live slots))
+    firsts most numbers asked first =
+        made_numbers (λ n. row_at n (image (made_row v side) (numbered slots)))
+        (λ n. made_row v side (row_of slots n)) (λ n. n < length slots) made_there numbers
+        (view_rows v side (live slots)) (first ∙ ap (map Some) (shown_first most asked))
+
+pub groups_are_of_input : Laws → GroupsAreOfInput
+groups_are_of_input laws tables v side slots g is =
+    readable_by laws tables v side slots v.outputs v.order g refl is.viewed is.kept
+
+pub firsts_are_shown : Laws → FirstsAreShown
+firsts_are_shown laws tables v side slots o numbers is first =
+    let are = firsts laws tables v side slots o is.viewed is.kept (unwrap_or v.first max_main_rows) numbers refl
+    (first (order_readable laws tables v side slots o is.viewed is.kept)) in
+    record { there = are.all; rows = are.made; many = are.many }
+
+-- the first numbers, however the view's own was read
+pub firsts_asked :
+    (law : FirstsAreShown) (v : View) (o : OrderedPlaces) (most : ℕ) (numbers : List ℕ)
+    → most ≡ unwrap_or v.first max_main_rows
+    → ((rows : NumberedRows) → IsKeptFor o rows → AreFirst o.order most rows numbers)
+    → (tables : List Table) (side : Side) (slots : List Slot) → IsReadable tables v side slots (kept.Order o)
+    → AreShown v side slots numbers
+firsts_asked law v o most numbers asked first tables side slots is =
+    law tables v side slots o numbers is
+    (λ k. subst (λ m. AreFirst o.order m (image (made_row v side) (numbered slots)) numbers) asked
+    (first (image (made_row v side) (numbered slots)) k))
+
+pub rows_counted :
+    (made : List (Vec Datum Global)) (shown : List (List Datum)) (now old n : ℕ) → rows_of made ≡ shown
+    → n ≡ length shown → now ≤ old + n → now ≤ old + length made
+rows_counted made shown now old n is many opened =
+    omega (arith, opened, many, ap length is, length-map made (λ (r : Vec Datum Global). r.items))
+
+-- Rows made one after the other
+
+one_listed : (o : Option (List Datum)) → listed o ≡ cons_option o []
+one_listed None = refl
+one_listed (Some r) = refl
+
+pub made_more :
+    (stores now : List Store) (v : View) (numbers : List ℕ) (i : ℕ) (before after : List (List Datum))
+    (made : Option (List Datum)) → tables_in now ≡ tables_in stores → rows_in now ≡ rows_in stores
+    → i < length numbers
+    → before
+    ≡ made_at v (side_by (tables_in stores) (rows_in stores) v) (rows_at (rows_in stores) 0) (take i numbers)
+    → made
+    ≡ made_row v (side_by (tables_in now) (rows_in now) v) (row_of (rows_at (rows_in now) 0) (get_or numbers i 0))
+    → after ≡ before ++ listed made
+    → after
+    ≡ made_at v (side_by (tables_in stores) (rows_in stores) v) (rows_at (rows_in stores) 0) (take (i + 1) numbers)
+made_more stores now v numbers i before after made tables rows below so_far here pushed =
+    let make : ℕ → Option (List Datum) = λ n.
+    made_row v (side_by (tables_in stores) (rows_in stores) v) (row_of (rows_at (rows_in stores) 0) n) in
+    let n : ℕ = get_or numbers i 0 in
+    let one : made ≡ make n =
+    here ∙ ap (λ ts. made_row v (side_by ts (rows_in now) v) (row_of (rows_at (rows_in now) 0) n)) tables
+    ∙ ap (λ rs. made_row v (side_by (tables_in stores) rs v) (row_of (rows_at rs 0) n)) rows in
+    pushed ∙ ap (λ xs. xs ++ listed made) so_far
+    ∙ ap (λ xs. filter_map make (take i numbers) ++ xs) (one_listed made ∙ ap (λ o. cons_option o []) one)
+    ∙ sym (filter_map-append make (take i numbers) (n ∷ []))
+    ∙ ap (filter_map make) (sym (take_more numbers i 0 below))
+
+-- Group rows arranged
+
+pub groups_shown :
+    (law : GroupsAreOfInput) (v : View) (g : Grouped) (by : List ℕ) (outs : List GroupOutput)
+    (made : List (List Datum)) → v.outputs ≡ groups by outs
+    → ((rows : List (List Datum)) → KeepsGroups g rows → CanReadAll g.keys g.columns outs rows
+    → made ≡ group_rows g.keys outs rows)
+    → (tables : List Table) (side : Side) (slots : List Slot) → IsReadable tables v side slots (kept.Groups g)
+    → first_of v.first (sorted (row_cmp v.order) made) ≡ view_rows v side (live slots)
+unfolding view_rows shown_rows output_rows
+groups_shown law v g by outs made same read tables side slots is =
+    let rows : List (List Datum) = view_input v side (live slots) in
+    let can : CanReadGroups (groups by outs) g rows =
+    subst (λ o. CanReadGroups o g rows) same (law tables v side slots g is) in
+    let all : CanReadAll g.keys g.columns outs rows =
+    subst (λ ks. CanReadAll ks g.columns outs rows) (sym can.0) can.2 in
+    let arranged : List (List Datum) → List (List Datum) = λ xs. first_of v.first (sorted (row_cmp v.order) xs) in
+    ap arranged (read rows can.1 all ∙ ap (λ ks. group_rows ks outs rows) can.0)
+    ∙ ap (λ o. arranged (output_rows o rows)) (sym same)

@@ -1,0 +1,389 @@
+-- A change of the store of a side table, and views that are built anew after it.
+use Rattle.std.proofs.Common.{
+  ◌≡◌,
+  ℕ,
+  zero,
+  suc,
+  ◌<◌,
+  Bool,
+  List,
+  [],
+  ◌∷◌,
+  Err,
+  Result,
+  Ok,
+  ap,
+  arith,
+  get_or,
+  length,
+  refl,
+  subst,
+  sym,
+  ◌∙◌,
+}
+use Rattle.std.specs.Prelude.{IfOk, slice_set}
+use Rattle.view_lang.specs.Config.{Table, View}
+use Rattle.view_lang.specs.Edits.{TableEdit}
+use Rattle.view_lang.specs.Shifts.{NumberedRows}
+use Rattle.view_lang.specs.World.{table_at}
+use Rattle.row_keys.specs.Numbered.{numbered}
+use Rattle.row_keys.specs.Slots.{Slot, live}
+use Rattle.row_keys.specs.Store.{Store, with_slots}
+use Rattle.row_keys.specs.declared.faults.EditFault.{EditFault}
+use Rattle.row_keys.specs.declared.faults.EditFault.TheVariants as fault
+use Rattle.upkeep.specs.LiveEdits.{Edited, StaleByMemory, VisitsIfFit, WentBack}
+use Rattle.upkeep.specs.LiveParts.{AreLive, AreOf, LiveParts}
+use Rattle.upkeep.specs.Stores.{Rows, rows_at, rows_in, tables_in, visits_in}
+use Rattle.upkeep.specs.StoreLaws.{
+  rows_kept,
+  rows_restored,
+  rows_set,
+  rows_there,
+  table_there,
+  tables_length,
+  tables_set,
+}
+use Rattle.upkeep.specs.TableChanges.{CanGoBack, IsChangeOf, Makes}
+use Rattle.upkeep.specs.ViewStates.{AreCurrent, DiffersAt, EachIsCurrent, stale_in}
+use Rattle.upkeep.specs.declared.table_change.TableChange.{TableChange}
+use Rattle.upkeep.specs.declared.view_state.ViewState.{ViewState}
+use Rattle.upkeep.proofs.Editing.{others_same, rows_now, still_of, store_makes}
+use Rattle.upkeep.proofs.LiveSides.{each_same}
+
+abbrev pub parts : List Store → List View → List ViewState → LiveParts
+parts stores views states = record { stores = stores; views = views; stale = stale_in states }
+
+-- store n of these, s, is changed to t
+pub record Changed (ss : List Store) (n : ℕ) (s t : Store) : Type 0 where
+  pub is : s ≡ get_or ss n s
+  pub below : n < length ss
+  pub same : t.table ≡ s.table
+
+-- rows of these stores were opened
+pub record Opened (old new : List Store) : Type 0 where
+  pub tables : tables_in new ≡ tables_in old
+  pub rows : rows_in new ≡ rows_in old
+
+-- views that were current before a change are so after it
+abbrev pub MadeCurrent : ℕ → List Store → List View → List ViewState → List ViewState → Type 0
+MadeCurrent n ss views old new =
+    (rows : Rows) → DiffersAt n rows (rows_in ss) → AreCurrent (tables_in ss) rows views old
+    → AreCurrent (tables_in ss) (rows_in ss) views new
+
+-- they are so still
+abbrev pub LeftCurrent : ℕ → List Store → List View → List ViewState → List ViewState → Type 0
+LeftCurrent n ss views old new =
+    (rows : Rows) → DiffersAt n rows (rows_in ss) → AreCurrent (tables_in ss) rows views old
+    → AreCurrent (tables_in ss) rows views new
+
+pub states_many :
+    (tables : List Table) (rows : Rows) (main : NumberedRows) (views : List View) (states : List ViewState)
+    → EachIsCurrent tables rows main views states → length states ≡ length views
+states_many tables rows main [] [] current = refl
+states_many tables rows main [] (s ∷ ss) current = absurd current
+states_many tables rows main (v ∷ vs) [] current = absurd current
+states_many tables rows main (v ∷ vs) (s ∷ ss) current = ap suc (states_many tables rows main vs ss current.1)
+
+pub live_many : (ss : List Store) (views : List View) (states : List ViewState) → AreLive ss views states
+    → length states ≡ length views
+live_many ss views states are =
+    states_many (tables_in ss) (rows_in ss) (numbered (rows_at (rows_in ss) 0)) views states are.current
+
+pub changed_tables : (ss : List Store) (n : ℕ) (s t : Store) → Changed ss n s t
+    → tables_in (slice_set ss n t) ≡ tables_in ss
+changed_tables ss n s t changed = tables_set ss n s t changed.is changed.same
+
+pub changed_of : (ss : List Store) (views : List View) (n : ℕ) (s t : Store) → Changed ss n s t → AreOf ss views
+    → AreOf (slice_set ss n t) views
+changed_of ss views n s t changed these =
+    still_of ss (slice_set ss n t) views (changed_tables ss n s t changed) these
+
+changed_differs : (ss : List Store) (n : ℕ) (t : Store) → DiffersAt n (rows_in ss) (rows_in (slice_set ss n t))
+changed_differs ss n t =
+    let was : List Slot = rows_at (rows_in ss) n in
+    sym
+    (ap (λ (rs : Rows). slice_set rs n was) (rows_set ss n t)
+    ∙ rows_restored (rows_in ss) n t.slots (λ _. was) refl)
+
+-- views that are built anew
+pub opened_live :
+    (ss ss' : List Store) (views : List View) (states states' : List ViewState) (n : ℕ) (s t : Store)
+    → Changed ss n s t → Opened (slice_set ss n t) ss' → MadeCurrent n (slice_set ss n t) views states states'
+    → AreLive ss views states → AreLive ss' views states'
+opened_live ss ss' views states states' n s t changed opened made was =
+    let ts = changed_tables ss n s t changed in
+    let before : AreCurrent (tables_in (slice_set ss n t)) (rows_in ss) views states =
+    subst (λ (x : List Table). AreCurrent x (rows_in ss) views states) (sym ts) was.current in
+    let after : AreCurrent (tables_in (slice_set ss n t)) (rows_in (slice_set ss n t)) views states' =
+    made (rows_in ss) (changed_differs ss n t) before in
+    record {
+      these = still_of ss ss' views (opened.tables ∙ ts) was.these;
+      current =
+          subst (λ (rs : Rows). AreCurrent (tables_in ss') rs views states') (sym opened.rows)
+          (subst (λ (x : List Table). AreCurrent x (rows_in (slice_set ss n t)) views states') (sym opened.tables) after);
+    }
+
+pub opened_rows :
+    (ss ss' : List Store) (n : ℕ) (s t : Store) (f : List Slot → List Slot) → Changed ss n s t
+    → Opened (slice_set ss n t) ss' → t ≡ with_slots s (f s.slots)
+    → rows_in ss' ≡ slice_set (rows_in ss) n (f (rows_at (rows_in ss) n))
+opened_rows ss ss' n s t f changed opened done =
+    opened.rows ∙ rows_set ss n t
+    ∙ ap (slice_set (rows_in ss) n)
+    (ap (λ (x : Store). x.slots) done ∙ ap f (sym (rows_there ss n s changed.is changed.below)))
+
+pub opened_tables :
+    (ss ss' : List Store) (n : ℕ) (s t : Store) → Changed ss n s t → Opened (slice_set ss n t) ss'
+    → tables_in ss' ≡ tables_in ss
+opened_tables ss ss' n s t changed opened = opened.tables ∙ changed_tables ss n s t changed
+
+-- the changed store, as it is afterwards
+
+pub opened_below :
+    (ss ss' : List Store) (n : ℕ) (s t : Store) → Changed ss n s t → Opened (slice_set ss n t) ss' → n < length ss'
+opened_below ss ss' n s t changed opened =
+    let below = changed.below in
+    let one = tables_length ss in
+    let two = tables_length ss' in
+    let equal = ap length (opened_tables ss ss' n s t changed opened) in
+    omega (arith, below, one, two, equal)
+
+pub found_slots :
+    (ss ss' : List Store) (n : ℕ) (s t v : Store) → Changed ss n s t → Opened (slice_set ss n t) ss'
+    → v ≡ get_or ss' n v → v.slots ≡ t.slots
+found_slots ss ss' n s t v changed opened is =
+    sym (rows_there ss' n v is (opened_below ss ss' n s t changed opened))
+    ∙ ap (λ (rs : Rows). rows_at rs n) opened.rows ∙ rows_now ss n t changed.below
+
+pub found_table :
+    (ss ss' : List Store) (n : ℕ) (s t v : Store) → Changed ss n s t → Opened (slice_set ss n t) ss'
+    → v ≡ get_or ss' n v → v.table ≡ s.table
+found_table ss ss' n s t v changed opened is =
+    sym (table_there ss' n v is (opened_below ss ss' n s t changed opened))
+    ∙ ap (λ (ts : List Table). table_at ts n) (opened_tables ss ss' n s t changed opened)
+    ∙ table_there ss n s changed.is changed.below
+
+-- It is put back: u is what was changed, v, with the rows of s.
+
+pub restored_tables :
+    (ss ss' : List Store) (n : ℕ) (s t v u : Store) (g : List Slot → List Slot) → Changed ss n s t
+    → Opened (slice_set ss n t) ss' → v ≡ get_or ss' n v → u ≡ with_slots v (g v.slots)
+    → tables_in (slice_set ss' n u) ≡ tables_in ss
+restored_tables ss ss' n s t v u g changed opened is done =
+    tables_set ss' n v u is (ap (λ (x : Store). x.table) done) ∙ opened_tables ss ss' n s t changed opened
+
+pub restored_rows :
+    (ss ss' : List Store) (n : ℕ) (s t v u : Store) (g : List Slot → List Slot) → Changed ss n s t
+    → Opened (slice_set ss n t) ss' → v ≡ get_or ss' n v → u ≡ with_slots v (g v.slots) → g t.slots ≡ s.slots
+    → rows_in (slice_set ss' n u) ≡ rows_in ss
+restored_rows ss ss' n s t v u g changed opened is done undone =
+    let was : List Slot = rows_at (rows_in ss) n in
+    let slots : u.slots ≡ was =
+    ap (λ (x : Store). x.slots) done ∙ ap g (found_slots ss ss' n s t v changed opened is) ∙ undone
+    ∙ sym (rows_there ss n s changed.is changed.below) in
+    rows_set ss' n u
+    ∙ ap (λ (rs : Rows). slice_set rs n u.slots) (opened.rows ∙ rows_set ss n t)
+    ∙ ap (slice_set (slice_set (rows_in ss) n t.slots) n) slots
+    ∙ rows_restored (rows_in ss) n t.slots (λ _. was) refl
+
+pub restored_live :
+    (ss ss' : List Store) (views : List View) (states states' : List ViewState) (n : ℕ) (s t v u : Store)
+    (g : List Slot → List Slot) → Changed ss n s t → Opened (slice_set ss n t) ss'
+    → LeftCurrent n (slice_set ss n t) views states states' → v ≡ get_or ss' n v → u ≡ with_slots v (g v.slots)
+    → g t.slots ≡ s.slots → AreLive ss views states → AreLive (slice_set ss' n u) views states'
+restored_live ss ss' views states states' n s t v u g changed opened left is done undone was =
+    let ts = changed_tables ss n s t changed in
+    let before : AreCurrent (tables_in (slice_set ss n t)) (rows_in ss) views states =
+    subst (λ (x : List Table). AreCurrent x (rows_in ss) views states) (sym ts) was.current in
+    let after : AreCurrent (tables_in (slice_set ss n t)) (rows_in ss) views states' =
+    left (rows_in ss) (changed_differs ss n t) before in
+    let tables = restored_tables ss ss' n s t v u g changed opened is done in
+    let rows = restored_rows ss ss' n s t v u g changed opened is done undone in
+    record {
+      these = still_of ss (slice_set ss' n u) views tables was.these;
+      current =
+          subst (λ (rs : Rows). AreCurrent (tables_in (slice_set ss' n u)) rs views states') (sym rows)
+          (subst (λ (x : List Table). AreCurrent x (rows_in ss) views states') (ts ∙ sym tables) after);
+    }
+
+-- Rows go that weren't live.
+
+pub shrunk_live :
+    (ss : List Store) (views : List View) (states : List ViewState) (n : ℕ) (v u : Store) → 0 < n
+    → Changed ss n v u → live u.slots ≡ live v.slots → AreLive ss views states → AreLive (slice_set ss n u) views states
+shrunk_live ss views states n v u side changed same was =
+    let ts = changed_tables ss n v u changed in
+    let equal : live u.slots ≡ live (rows_at (rows_in ss) n) =
+    same ∙ ap live (sym (rows_there ss n v changed.is changed.below)) in
+    let after : AreCurrent (tables_in ss) (slice_set (rows_in ss) n u.slots) views states =
+    each_same (tables_in ss) (rows_in ss) n u.slots views states side equal was.current in
+    record {
+      these = changed_of ss views n v u changed was.these;
+      current =
+          subst (λ (rs : Rows). AreCurrent (tables_in (slice_set ss n u)) rs views states) (sym (rows_set ss n u))
+          (subst (λ (x : List Table). AreCurrent x (slice_set (rows_in ss) n u.slots) views states) (sym ts) after);
+    }
+
+set_twice : (rows : Rows) (n : ℕ) (a b : List Slot) → slice_set (slice_set rows n a) n b ≡ slice_set rows n b
+set_twice [] n a b = refl
+set_twice (r ∷ rs) zero a b = refl
+set_twice (r ∷ rs) (suc n) a b = ap (λ xs. r ∷ xs) (set_twice rs n a b)
+
+pub shrunk_rows :
+    (ss ss' : List Store) (n : ℕ) (s t v u : Store) (g f : List Slot → List Slot) → Changed ss n s t
+    → Opened (slice_set ss n t) ss' → v ≡ get_or ss' n v → u ≡ with_slots v (g v.slots) → g t.slots ≡ f s.slots
+    → rows_in (slice_set ss' n u) ≡ slice_set (rows_in ss) n (f (rows_at (rows_in ss) n))
+shrunk_rows ss ss' n s t v u g f changed opened is done taken =
+    rows_set ss' n u
+    ∙ ap (λ (rs : Rows). slice_set rs n u.slots) (opened.rows ∙ rows_set ss n t)
+    ∙ set_twice (rows_in ss) n t.slots u.slots
+    ∙ ap (slice_set (rows_in ss) n)
+    (ap (λ (x : Store). x.slots) done ∙ ap g (found_slots ss ss' n s t v changed opened is) ∙ taken
+    ∙ ap f (sym (rows_there ss n s changed.is changed.below)))
+
+-- what is said of it
+
+pub went_back :
+    {X E : Type 0} (x : X) (ss ss' : List Store) (views : List View) (states states' : List ViewState) (n : ℕ)
+    (slots : List Slot) → rows_in ss' ≡ slice_set (rows_in ss) n slots → tables_in ss' ≡ tables_in ss
+    → stale_in states' ≡ stale_in states
+    → WentBack {X = X} {E = E} n slots (parts ss views states) (parts ss' views states') (Ok x)
+went_back x ss ss' views states states' n slots rows tables stale = record {
+  rows = rows;
+  unchanged = tt;
+  tables = tables;
+  views = refl;
+  stale = stale;
+}
+
+pub stayed :
+    {X E : Type 0} (e : E) (ss ss' : List Store) (views : List View) (states states' : List ViewState) (n : ℕ)
+    (slots : List Slot) → rows_in ss' ≡ rows_in ss → tables_in ss' ≡ tables_in ss
+    → WentBack {X = X} {E = E} n slots (parts ss views states) (parts ss' views states') (Err e)
+stayed e ss ss' views states states' n slots rows tables = record {
+  rows = tt;
+  unchanged = rows;
+  tables = tables;
+  views = refl;
+  stale = tt;
+}
+
+-- An edit of a side table
+
+-- a store whose rows stay
+same_rows : (ss : List Store) (n : ℕ) (s t : Store) → Changed ss n s t → t.slots ≡ s.slots
+    → rows_in (slice_set ss n t) ≡ rows_in ss
+same_rows ss n s t changed same =
+    rows_set ss n t
+    ∙ rows_kept (rows_in ss) n t.slots (same ∙ sym (rows_there ss n s changed.is changed.below))
+
+pub same_live :
+    (ss : List Store) (views : List View) (states : List ViewState) (n : ℕ) (s t : Store) → Changed ss n s t
+    → t.slots ≡ s.slots → AreLive ss views states → AreLive (slice_set ss n t) views states
+same_live ss views states n s t changed same was =
+    let ts = changed_tables ss n s t changed in
+    record {
+      these = changed_of ss views n s t changed was.these;
+      current =
+          subst (λ (rs : Rows). AreCurrent (tables_in (slice_set ss n t)) rs views states)
+          (sym (same_rows ss n s t changed same))
+          (subst (λ (x : List Table). AreCurrent x (rows_in ss) views states) (sym ts) was.current);
+    }
+
+side_visits : (ss : List Store) (n : ℕ) (t : Store) → 0 < n → visits_in (slice_set ss n t) ≡ visits_in ss
+side_visits [] n t side = refl
+side_visits (s ∷ ss) zero t side = absurd (omega (arith, side))
+side_visits (s ∷ ss) (suc n) t side = refl
+
+stale_same : (stale : List Bool) (f : EditFault) → StaleByMemory {X = TableChange} stale (Err f) stale
+stale_same stale (fault.Unfit u) = refl
+stale_same stale fault.Memory = tt
+
+visits_same : (old new : ℕ) (f : EditFault) → new ≡ old → VisitsIfFit {X = TableChange} old (Err f) new
+visits_same old new (fault.Unfit u) same = same
+visits_same old new fault.Memory same = tt
+
+-- it doesn't fit, or there is no memory for it
+pub edit_refused :
+    (ss : List Store) (views : List View) (states : List ViewState) (n : ℕ) (s t : Store) (e : TableEdit)
+    (f : EditFault) → 0 < n → Changed ss n s t → Makes s.table e s.slots t.slots (Err f)
+    → Edited n e (parts ss views states) (parts (slice_set ss n t) views states) (Err f)
+edit_refused ss views states n s t e f side changed makes = record {
+  makes = store_makes ss n s t e (Err f) changed.is changed.below makes;
+  kind = tt;
+  within =
+      record {
+        others = others_same ss n t changed.below;
+        tables = changed_tables ss n s t changed;
+        views = refl;
+      };
+  stale = stale_same (stale_in states) f;
+  visits = visits_same (visits_in ss) (visits_in (slice_set ss n t)) f (side_visits ss n t side);
+}
+
+pub edit_made :
+    (ss ss' : List Store) (views : List View) (states states' : List ViewState) (n : ℕ) (s t : Store) (e : TableEdit)
+    (change : TableChange) → Changed ss n s t → Opened (slice_set ss n t) ss'
+    → Makes s.table e s.slots t.slots (Ok change) → IsChangeOf n change → stale_in states' ≡ stale_in states
+    → Edited n e (parts ss views states) (parts ss' views states') (Ok change)
+edit_made ss ss' views states states' n s t e change changed opened makes kind stale =
+    let P : Rows → Type 0 = λ rs.
+    Makes (table_at (tables_in ss) n) e (rows_at (rows_in ss) n) (rows_at rs n) (Ok change) in
+    let Q : Rows → Type 0 = λ rs. rs ≡ slice_set (rows_in ss) n (rows_at rs n) in
+    record {
+      makes = subst P (sym opened.rows) (store_makes ss n s t e (Ok change) changed.is changed.below makes);
+      kind = kind;
+      within =
+          record {
+            others = subst Q (sym opened.rows) (others_same ss n t changed.below);
+            tables = opened_tables ss ss' n s t changed opened;
+            views = refl;
+          };
+      stale = stale;
+      visits = tt;
+    }
+
+-- There is no memory for the views: the rows are as they were.
+pub edit_restored :
+    (ss ss' : List Store) (views : List View) (states states' : List ViewState) (n : ℕ) (e : TableEdit)
+    → rows_in ss' ≡ rows_in ss → tables_in ss' ≡ tables_in ss
+    → Edited n e (parts ss views states) (parts ss' views states') (Err fault.Memory)
+edit_restored ss ss' views states states' n e rows tables =
+    let same = ap (λ (rs : Rows). rows_at rs n) rows in
+    record {
+      makes = (tt, same);
+      kind = tt;
+      within =
+          record {
+            others =
+                rows ∙ sym (rows_kept (rows_in ss) n (rows_at (rows_in ss') n) same);
+            tables = tables;
+            views = refl;
+          };
+      stale = tt;
+      visits = tt;
+    }
+
+pub can_restore :
+    (ss ss' : List Store) (n : ℕ) (s t v : Store) (change : TableChange) → Changed ss n s t
+    → Opened (slice_set ss n t) ss' → v ≡ get_or ss' n v → CanGoBack s.table change t.slots
+    → CanGoBack v.table change v.slots
+can_restore ss ss' n s t v change changed opened is can =
+    let P : Table → Type 0 = λ x. CanGoBack x change t.slots in
+    let Q : List Slot → Type 0 = λ x. CanGoBack v.table change x in
+    subst Q (sym (found_slots ss ss' n s t v changed opened is))
+    (subst P (sym (found_table ss ss' n s t v changed opened is)) can)
+
+-- the kinds of changes that edits make
+
+pub kind_of_put : (r : Result TableChange EditFault) (side : ℕ) → IfOk r (λ c. (n : ℕ) → IsChangeOf (suc n) c)
+    → IfOk r (IsChangeOf (suc side))
+kind_of_put (Ok c) side kind = kind side
+kind_of_put (Err f) side kind = tt
+
+pub kind_of_retract :
+    (r : Result TableChange EditFault) (n : ℕ) → IfOk r (λ c. IsChangeOf 0 c × ((m : ℕ) → IsChangeOf (suc m) c))
+    → IfOk r (IsChangeOf n)
+kind_of_retract (Ok c) zero kind = kind.0
+kind_of_retract (Ok c) (suc n) kind = kind.1 n
+kind_of_retract (Err f) n kind = tt

@@ -1,0 +1,7 @@
+use Rattle.upkeep.proofs.StaleViews.{range_more}
+use Rattle.upkeep.proofs.all_views.numbers_from.Goals as goal
+
+pub loop-index-preserved : goal.loop-index-preserved
+loop-index-preserved c =
+    range_more c.args.first c.loop-index.index c.loop-index.numbers.items c.push.new.self.items c.loop-index.invariant
+    c.in_ok-push.ensures.items

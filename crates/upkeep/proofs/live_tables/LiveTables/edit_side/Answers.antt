@@ -1,0 +1,193 @@
+use Rattle.std.proofs.Common.{◌<◌, ℕ, List, ap, length, subst, sym, ◌∙◌}
+use Rattle.std.proofs.lemmas.Result.{err_from_is_err_and}
+use Rattle.std.specs.Prelude.{slice_set}
+use Rattle.row_keys.specs.Store.{Store}
+use Rattle.upkeep.specs.LiveParts.{AreOf}
+use Rattle.upkeep.specs.TableChanges.{IsChangeOf, back, change_by}
+use Rattle.upkeep.proofs.SideEdits.{
+  Changed,
+  Opened,
+  can_restore,
+  changed_of,
+  edit_made,
+  edit_refused,
+  edit_restored,
+  live_many,
+  opened_live,
+  restored_live,
+  restored_rows,
+  restored_tables,
+  same_live,
+}
+use Rattle.upkeep.proofs.live_tables.LiveTables.edit_side.Goals as goal
+use Rattle.upkeep.proofs.live_tables.LiveTables.edit_side.Goals.{in-Appended-1, in-Put-1, in-Retracted-1}
+
+pub invariant_of-self : goal.invariant_of-self
+invariant_of-self c =
+    let ss : List Store = c.self.inside.stores.items in
+    let changed : Changed ss c.args.table c.index_mut.result.now c.make_edit.new.store = record {
+      is = c.index_mut.ensures.value;
+      below =
+          subst (λ n. c.args.table < n) (ap (λ p. length p.stores) (sym c.self.view_is)) c.requires.there;
+      same = c.make_edit.ensures.table;
+    } in
+    same_live ss c.self.inside.views.items c.self.inside.states.items c.args.table c.index_mut.result.now c.make_edit.new.store changed
+    c.in_err-change.ensures.makes.1 c.self.invariant
+
+pub returns-in_err-change : goal.returns-in_err-change
+returns-in_err-change c =
+    let ss : List Store = c.self.inside.stores.items in
+    let changed : Changed ss c.args.table c.index_mut.result.now c.make_edit.new.store = record {
+      is = c.index_mut.ensures.value;
+      below =
+          subst (λ n. c.args.table < n) (ap (λ p. length p.stores) (sym c.self.view_is)) c.requires.there;
+      same = c.make_edit.ensures.table;
+    } in
+    let failed = err_from_is_err_and c.from_residual.result c.from_residual.ensures.1 in
+    rw (failed.1, failed.2, ← c.self.view_is)
+    (edit_refused ss c.self.inside.views.items c.self.inside.states.items c.args.table c.index_mut.result.now c.make_edit.new.store
+    (change_by c.args.role c.args.columns.items c.args.rows) c.in_err-change.field-0.0 c.requires.side changed
+    c.in_err-change.ensures.makes)
+
+pub rebuild_lookups-requires-clause-of : goal.rebuild_lookups-requires-clause-of
+rebuild_lookups-requires-clause-of c =
+    let ss : List Store = c.self.inside.stores.items in
+    let changed : Changed ss c.args.table c.index_mut.result.now c.make_edit.new.store = record {
+      is = c.index_mut.ensures.value;
+      below =
+          subst (λ n. c.args.table < n) (ap (λ p. length p.stores) (sym c.self.view_is)) c.requires.there;
+      same = c.make_edit.ensures.table;
+    } in
+    subst (AreOf (slice_set ss c.args.table c.make_edit.new.store)) (sym c.deref.ensures.value)
+    (changed_of ss c.self.inside.views.items c.args.table c.index_mut.result.now c.make_edit.new.store changed
+    c.self.invariant.these)
+
+pub rebuild_lookups-requires-clause-alike : goal.rebuild_lookups-requires-clause-alike
+rebuild_lookups-requires-clause-alike c =
+    live_many c.self.inside.stores.items c.self.inside.views.items c.self.inside.states.items c.self.invariant
+    ∙ ap length (sym c.deref.ensures.value)
+
+pub invariant_of-self-in-Ok : goal.invariant_of-self-in-Ok
+invariant_of-self-in-Ok c =
+    let ss : List Store = c.self.inside.stores.items in
+    let changed : Changed ss c.args.table c.index_mut.result.now c.make_edit.new.store = record {
+      is = c.index_mut.ensures.value;
+      below =
+          subst (λ n. c.args.table < n) (ap (λ p. length p.stores) (sym c.self.view_is)) c.requires.there;
+      same = c.make_edit.ensures.table;
+    } in
+    let opened : Opened (slice_set ss c.args.table c.make_edit.new.store) c.rebuild_lookups.new.stores.items =
+    record { tables = c.in-Ok.ensures.tables; rows = c.in-Ok.ensures.rows } in
+    opened_live ss c.rebuild_lookups.new.stores.items c.self.inside.views.items c.self.inside.states.items
+    c.rebuild_lookups.new.states.items c.args.table c.index_mut.result.now c.make_edit.new.store changed opened
+    (rw c.deref.ensures.value at c.in-Ok.ensures.kept) c.self.invariant
+
+pub restore-requires : goal.restore-requires
+restore-requires c =
+    let ss : List Store = c.self.inside.stores.items in
+    let changed : Changed ss c.args.table c.index_mut.result.now c.make_edit.new.store = record {
+      is = c.index_mut.ensures.value;
+      below =
+          subst (λ n. c.args.table < n) (ap (λ p. length p.stores) (sym c.self.view_is)) c.requires.there;
+      same = c.make_edit.ensures.table;
+    } in
+    let opened : Opened (slice_set ss c.args.table c.make_edit.new.store) c.rebuild_lookups.new.stores.items =
+    record { tables = c.in-Err.ensures.tables; rows = c.in-Err.ensures.rows } in
+    can_restore ss c.rebuild_lookups.new.stores.items c.args.table c.index_mut.result.now c.make_edit.new.store
+    c.index_mut-in-Err.result.now c.in_ok-change.change changed opened c.index_mut-in-Err.ensures.value
+    c.in_ok-change.ensures.makes.2
+
+pub invariant_of-self-in-Err : goal.invariant_of-self-in-Err
+invariant_of-self-in-Err c =
+    let ss : List Store = c.self.inside.stores.items in
+    let changed : Changed ss c.args.table c.index_mut.result.now c.make_edit.new.store = record {
+      is = c.index_mut.ensures.value;
+      below =
+          subst (λ n. c.args.table < n) (ap (λ p. length p.stores) (sym c.self.view_is)) c.requires.there;
+      same = c.make_edit.ensures.table;
+    } in
+    let opened : Opened (slice_set ss c.args.table c.make_edit.new.store) c.rebuild_lookups.new.stores.items =
+    record { tables = c.in-Err.ensures.tables; rows = c.in-Err.ensures.rows } in
+    restored_live ss c.rebuild_lookups.new.stores.items c.self.inside.views.items c.self.inside.states.items
+    c.rebuild_lookups.new.states.items c.args.table c.index_mut.result.now c.make_edit.new.store
+    c.index_mut-in-Err.result.now c.restore.new.store (back c.in_ok-change.change) changed opened
+    (rw c.deref.ensures.value at c.in-Err.ensures.err) c.index_mut-in-Err.ensures.value c.restore.ensures
+    c.in_ok-change.ensures.makes.3 c.self.invariant
+
+pub invariant_of-self-in-Err-2 : goal.invariant_of-self-in-Err-2
+invariant_of-self-in-Err-2 c =
+    let ss : List Store = c.self.inside.stores.items in
+    let changed : Changed ss c.args.table c.index_mut.result.now c.make_edit.new.store = record {
+      is = c.index_mut.ensures.value;
+      below =
+          subst (λ n. c.args.table < n) (ap (λ p. length p.stores) (sym c.self.view_is)) c.requires.there;
+      same = c.make_edit.ensures.table;
+    } in
+    let opened : Opened (slice_set ss c.args.table c.make_edit.new.store) c.rebuild_lookups.new.stores.items =
+    record { tables = c.in-Err.ensures.tables; rows = c.in-Err.ensures.rows } in
+    restored_live ss c.rebuild_lookups.new.stores.items c.self.inside.views.items c.self.inside.states.items
+    c.rebuild_lookups.new.states.items c.args.table c.index_mut.result.now c.make_edit.new.store
+    c.index_mut-in-Err.result.now c.restore.new.store (back c.in_ok-change.change) changed opened
+    (rw c.deref.ensures.value at c.in-Err.ensures.err) c.index_mut-in-Err.ensures.value c.restore.ensures
+    c.in_ok-change.ensures.makes.3 c.self.invariant
+
+pub invariant_of-self-in-Err-3 : goal.invariant_of-self-in-Err-3
+invariant_of-self-in-Err-3 c =
+    let ss : List Store = c.self.inside.stores.items in
+    let changed : Changed ss c.args.table c.index_mut.result.now c.make_edit.new.store = record {
+      is = c.index_mut.ensures.value;
+      below =
+          subst (λ n. c.args.table < n) (ap (λ p. length p.stores) (sym c.self.view_is)) c.requires.there;
+      same = c.make_edit.ensures.table;
+    } in
+    let opened : Opened (slice_set ss c.args.table c.make_edit.new.store) c.rebuild_lookups.new.stores.items =
+    record { tables = c.in-Err.ensures.tables; rows = c.in-Err.ensures.rows } in
+    restored_live ss c.rebuild_lookups.new.stores.items c.self.inside.views.items c.self.inside.states.items
+    c.rebuild_lookups.new.states.items c.args.table c.index_mut.result.now c.make_edit.new.store
+    c.index_mut-in-Err.result.now c.restore.new.store (back c.in_ok-change.change) changed opened
+    (rw c.deref.ensures.value at c.in-Err.ensures.err) c.index_mut-in-Err.ensures.value c.restore.ensures
+    c.in_ok-change.ensures.makes.3 c.self.invariant
+
+pub returns-in-Ok : goal.returns-in-Ok
+returns-in-Ok c =
+    let ss : List Store = c.self.inside.stores.items in
+    let changed : Changed ss c.args.table c.index_mut.result.now c.make_edit.new.store = record {
+      is = c.index_mut.ensures.value;
+      below =
+          subst (λ n. c.args.table < n) (ap (λ p. length p.stores) (sym c.self.view_is)) c.requires.there;
+      same = c.make_edit.ensures.table;
+    } in
+    let opened : Opened (slice_set ss c.args.table c.make_edit.new.store) c.rebuild_lookups.new.stores.items =
+    record { tables = c.in-Ok.ensures.tables; rows = c.in-Ok.ensures.rows } in
+    let P : ℕ → Type 0 = λ n. IsChangeOf n c.in_ok-change.change in
+    rw (← c.self.view_is)
+    (edit_made ss c.rebuild_lookups.new.stores.items c.self.inside.views.items c.self.inside.states.items
+    c.rebuild_lookups.new.states.items c.args.table c.index_mut.result.now c.make_edit.new.store
+    (change_by c.args.role c.args.columns.items c.args.rows) c.in_ok-change.change changed opened
+    c.in_ok-change.ensures.makes (subst P (sym c.requires.role) c.in_ok-change.ensures.kind) c.in-Ok.ensures.stale)
+
+pub returns-in-Err : goal.returns-in-Err
+returns-in-Err c =
+    let ss : List Store = c.self.inside.stores.items in
+    let changed : Changed ss c.args.table c.index_mut.result.now c.make_edit.new.store = record {
+      is = c.index_mut.ensures.value;
+      below =
+          subst (λ n. c.args.table < n) (ap (λ p. length p.stores) (sym c.self.view_is)) c.requires.there;
+      same = c.make_edit.ensures.table;
+    } in
+    let opened : Opened (slice_set ss c.args.table c.make_edit.new.store) c.rebuild_lookups.new.stores.items =
+    record { tables = c.in-Err.ensures.tables; rows = c.in-Err.ensures.rows } in
+    let made = edit_restored ss (slice_set c.rebuild_lookups.new.stores.items c.args.table c.restore.new.store)
+    c.self.inside.views.items c.self.inside.states.items
+    c.rebuild_lookups.new.states.items c.args.table (change_by c.args.role c.args.columns.items c.args.rows)
+    (restored_rows ss c.rebuild_lookups.new.stores.items c.args.table c.index_mut.result.now c.make_edit.new.store
+    c.index_mut-in-Err.result.now c.restore.new.store (back c.in_ok-change.change) changed opened
+    c.index_mut-in-Err.ensures.value c.restore.ensures c.in_ok-change.ensures.makes.3)
+    (restored_tables ss c.rebuild_lookups.new.stores.items c.args.table c.index_mut.result.now c.make_edit.new.store
+    c.index_mut-in-Err.result.now c.restore.new.store (back c.in_ok-change.change) changed opened
+    c.index_mut-in-Err.ensures.value c.restore.ensures) in
+    elim c.match-change.branch [
+      | in-Retracted-1 w ↦ rw (w.self-is, ← c.self.view_is) made
+      | in-Put-1 w ↦ rw (w.self-is, ← c.self.view_is) made
+      | in-Appended-1 w ↦ rw (w.self-is, ← c.self.view_is) made
+    ]

@@ -1,0 +1,58 @@
+use Rattle.std.proofs.Common.{◌<◌, ap, length, subst, sym}
+use Rattle.upkeep.proofs.Refreshing.{fresh_at, fresh_was, opened_stays, refreshed}
+use Rattle.upkeep.proofs.SideEdits.{live_many}
+use Rattle.upkeep.proofs.live_tables.LiveTables.refresh.Goals as goal
+use Rattle.upkeep.proofs.live_tables.LiveTables.refresh.Goals.{in-Groups-1, in-Order-1}
+
+pub index-requires : goal.index-requires
+index-requires c =
+    let below : c.args.place < length c.self.inside.views.items =
+    subst (λ n. c.args.place < n) (ap (λ p. length p.views) (sym c.self.view_is)) c.requires in
+    let there : c.args.place < length c.self.inside.states.items =
+    subst (λ n. c.args.place < n)
+    (sym (live_many c.self.inside.stores.items c.self.inside.views.items c.self.inside.states.items c.self.invariant)) below in
+    subst (λ n. c.args.place < n) (sym c.self.inside.states.ok.0) there
+
+pub invariant_of-self : goal.invariant_of-self
+invariant_of-self c =
+    opened_stays c.self.inside.stores.items c.rebuild.new.stores.items c.self.inside.views.items c.self.inside.states.items
+    (record { tables = c.in_err-state.ensures.tables; rows = c.in_err-state.ensures.rows }) c.self.invariant
+
+pub index_mut-requires : goal.index_mut-requires
+index_mut-requires c =
+    let below : c.args.place < length c.self.inside.views.items =
+    subst (λ n. c.args.place < n) (ap (λ p. length p.views) (sym c.self.view_is)) c.requires in
+    let there : c.args.place < length c.self.inside.states.items =
+    subst (λ n. c.args.place < n)
+    (sym (live_many c.self.inside.stores.items c.self.inside.views.items c.self.inside.states.items c.self.invariant)) below in
+    subst (λ n. c.args.place < n) (sym c.self.inside.states.ok.0) there
+
+pub invariant_of-self-in_ok-state : goal.invariant_of-self-in_ok-state
+invariant_of-self-in_ok-state c =
+    let below : c.args.place < length c.self.inside.views.items =
+    subst (λ n. c.args.place < n) (ap (λ p. length p.views) (sym c.self.view_is)) c.requires in
+    refreshed c.self.inside.stores.items c.rebuild.new.stores.items c.self.inside.views.items c.self.inside.states.items
+    c.args.place c.index-then-index.result.now c.in_ok-state.state
+    (record { tables = c.in_ok-state.ensures.tables; rows = c.in_ok-state.ensures.rows })
+    c.index-then-index.ensures below c.in_ok-state.ensures.current c.self.invariant
+
+pub invariant_of-self-in_ok-state-2 : goal.invariant_of-self-in_ok-state-2
+invariant_of-self-in_ok-state-2 c =
+    let below : c.args.place < length c.self.inside.views.items =
+    subst (λ n. c.args.place < n) (ap (λ p. length p.views) (sym c.self.view_is)) c.requires in
+    refreshed c.self.inside.stores.items c.rebuild.new.stores.items c.self.inside.views.items c.self.inside.states.items
+    c.args.place c.index-then-index.result.now c.in_ok-state.state
+    (record { tables = c.in_ok-state.ensures.tables; rows = c.in_ok-state.ensures.rows })
+    c.index-then-index.ensures below c.in_ok-state.ensures.current c.self.invariant
+
+pub returns-in_ok-state-clause-stale : goal.returns-in_ok-state-clause-stale
+returns-in_ok-state-clause-stale c =
+    let made = fresh_at c.self.inside.states.items c.args.place c.in_ok-state.state c.in_ok-state.ensures.fresh in
+    elim c.match-index_mut-state.branch [
+      | in-Order-1 w ↦ rw (w.self-is, ← c.self.view_is) made
+      | in-Groups-1 w ↦ rw (w.self-is, ← c.self.view_is) made
+    ]
+
+pub returns-else-index-clause-stale : goal.returns-else-index-clause-stale
+returns-else-index-clause-stale c =
+    rw (← c.self.view_is) (fresh_was c.self.inside.states.items c.args.place c.index.result.now c.index.ensures c.if-index.false)

@@ -1,0 +1,47 @@
+-- What edits, and taking them back, do to tables and views that are kept current.
+use Rattle.std.specs.Prelude.{◌≡◌, ℕ, Bool, List, IfOk, Result, Ok, Err, OnErr, OnOk, slice_set}
+use Rattle.view_lang.specs.Edits.{TableEdit}
+use Rattle.view_lang.specs.World.{table_at}
+use Rattle.row_keys.specs.Slots.{Slot}
+use Rattle.row_keys.specs.declared.faults.EditFault.{EditFault}
+use Rattle.row_keys.specs.declared.faults.EditFault.TheVariants as fault
+use Rattle.upkeep.specs.LiveParts.{LiveParts}
+use Rattle.upkeep.specs.Stores.{rows_at, rows_in, tables_in, visits_in}
+use Rattle.upkeep.specs.TableChanges.{IsChangeOf, Makes}
+use Rattle.upkeep.specs.declared.table_change.TableChange.{TableChange}
+
+-- Views become stale only where memory is refused.
+abbrev pub StaleByMemory : {X : Type 0} → List Bool → Result X EditFault → List Bool → Type 0
+StaleByMemory old (Ok x) new = new ≡ old
+StaleByMemory old (Err (fault.Unfit u)) new = new ≡ old
+StaleByMemory old (Err fault.Memory) new = Unit {0}
+
+-- No row is opened for an edit that doesn't fit.
+abbrev pub VisitsIfFit : {X : Type 0} → ℕ → Result X EditFault → ℕ → Type 0
+VisitsIfFit old (Err (fault.Unfit u)) new = new ≡ old
+VisitsIfFit old _ new = Unit {0}
+
+-- The rows of one table may have changed, and nothing else but what is stale and how often rows were opened.
+pub record ChangedIn (n : ℕ) (old new : LiveParts) : Type 0 where
+  pub others : rows_in new.stores ≡ slice_set (rows_in old.stores) n (rows_at (rows_in new.stores) n)
+  pub tables : tables_in new.stores ≡ tables_in old.stores
+  pub views : new.views ≡ old.views
+
+-- An edit of table n is made, or refused with a cause that stands.
+pub record Edited (n : ℕ) (e : TableEdit) (old new : LiveParts) (answer : Result TableChange EditFault) : Type 0 where
+  pub makes :
+      Makes (table_at (tables_in old.stores) n) e (rows_at (rows_in old.stores) n) (rows_at (rows_in new.stores) n)
+      answer
+  pub kind : IfOk answer (IsChangeOf n)
+  pub within : ChangedIn n old new
+  pub stale : StaleByMemory old.stale answer new.stale
+  pub visits : VisitsIfFit (visits_in old.stores) answer (visits_in new.stores)
+
+-- A change of table n is taken back, so that its rows are these; or memory is refused, and no row has changed.
+pub record WentBack {X E : Type 0} (n : ℕ) (slots : List Slot) (old new : LiveParts) (answer : Result X E) : Type 0
+  where
+    pub rows : OnOk answer (rows_in new.stores ≡ slice_set (rows_in old.stores) n slots)
+    pub unchanged : OnErr answer (rows_in new.stores ≡ rows_in old.stores)
+    pub tables : tables_in new.stores ≡ tables_in old.stores
+    pub views : new.views ≡ old.views
+    pub stale : OnOk answer (new.stale ≡ old.stale)

@@ -1,0 +1,63 @@
+-- What a view shows, read out of what is kept of it.
+use Rattle.std.specs.Prelude.{◌≡◌, ℕ, ◌<◌, All, List, length}
+use Rattle.std.specs.List.{filter_map}
+use Rattle.std.specs.Option.{unwrap_or}
+use Rattle.values.specs.Datum.{Datum}
+use Rattle.values.specs.Limits.{max_main_rows}
+use Rattle.view_lang.specs.Config.{Table, View}
+use Rattle.view_lang.specs.Images.{image}
+use Rattle.view_lang.specs.Joined.{Side}
+use Rattle.view_lang.specs.Laws.{Viewed}
+use Rattle.view_lang.specs.Outputs.{Outputs, columns, groups}
+use Rattle.view_lang.specs.Views.{view_input, view_rows}
+use Rattle.group_state.specs.Grouped.{Grouped}
+use Rattle.group_state.specs.Groups.{Keeps as KeepsGroups}
+use Rattle.group_state.specs.Reading.{CanReadAll}
+use Rattle.top_rows.specs.OrderedPlaces.{OrderedPlaces}
+use Rattle.top_rows.specs.ViewOrder.{AreFirst, IsKeptFor}
+use Rattle.row_keys.specs.Numbered.{numbered}
+use Rattle.row_keys.specs.Slots.{Slot, live, row_of}
+use Rattle.upkeep.specs.ViewStates.{IsKept, made_row}
+use Rattle.upkeep.specs.declared.view_state.Kept.{Kept}
+use Rattle.upkeep.specs.declared.view_state.Kept.TheVariants as kept
+
+-- what a view makes of the rows of these numbers
+abbrev pub made_at : View → Side → List Slot → List ℕ → List (List Datum)
+made_at v side slots numbers = filter_map (λ n. made_row v side (row_of slots n)) numbers
+
+-- What is kept of a view is made of the live rows of the main table, which can be viewed.
+pub record IsReadable (tables : List Table) (v : View) (side : Side) (slots : List Slot) (k : Kept) : Type 0 where
+  pub viewed : Viewed tables v side (live slots)
+  pub kept : IsKept v.outputs v.order k (image (made_row v side) (numbered slots))
+
+abbrev pub IsGrouped : Outputs → Type 0
+IsGrouped (columns outputs) = ⊥
+IsGrouped (groups by outputs) = Unit {0}
+
+-- These are the groups of rows, and the outputs can be read of them.
+abbrev pub CanReadGroups : Outputs → Grouped → List (List Datum) → Type 0
+CanReadGroups (columns outputs) g rows = ⊥
+CanReadGroups (groups by outputs) g rows =
+    (g.keys ≡ by) × KeepsGroups g rows × CanReadAll by g.columns outputs rows
+
+-- Groups that are kept of a view are those of the rows that it is made of.
+abbrev pub GroupsAreOfInput : Type 0
+GroupsAreOfInput =
+    (tables : List Table) (v : View) (side : Side) (slots : List Slot) (g : Grouped)
+    → IsReadable tables v side slots (kept.Groups g) → CanReadGroups v.outputs g (view_input v side (live slots))
+
+-- These are the numbers of the rows that a plain view shows, in their order.
+pub record AreShown (v : View) (side : Side) (slots : List Slot) (numbers : List ℕ) : Type 0 where
+  pub there : All (λ n. n < length slots) numbers
+  pub rows : made_at v side slots numbers ≡ view_rows v side (live slots)
+  pub many : length numbers ≡ length (view_rows v side (live slots))
+
+-- So are the first in an order that is kept of it, as many as it asks for. A view that shows all rows asks for as many
+-- as there may be.
+abbrev pub FirstsAreShown : Type 0
+FirstsAreShown =
+    (tables : List Table) (v : View) (side : Side) (slots : List Slot) (o : OrderedPlaces) (numbers : List ℕ)
+    → IsReadable tables v side slots (kept.Order o)
+    → (IsKeptFor o (image (made_row v side) (numbered slots))
+    → AreFirst o.order (unwrap_or v.first max_main_rows) (image (made_row v side) (numbered slots)) numbers)
+    → AreShown v side slots numbers

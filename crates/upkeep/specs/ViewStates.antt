@@ -1,0 +1,114 @@
+-- What is kept of a view.
+use Rattle.std.specs.Prelude.{
+  ◌≡◌,
+  ℕ,
+  suc,
+  false,
+  ◌||◌,
+  All,
+  Bool,
+  List,
+  [],
+  ◌∷◌,
+  Option,
+  None,
+  Some,
+  map,
+  nat_eq,
+  slice_set,
+}
+use Rattle.std.specs.Map.{values_of}
+use Rattle.std.specs.Option.{option_map}
+use Rattle.values.specs.Datum.{Datum}
+use Rattle.view_lang.specs.Config.{Table, View}
+use Rattle.view_lang.specs.Images.{image, shift_image}
+use Rattle.view_lang.specs.Joined.{Side}
+use Rattle.view_lang.specs.Outputs.{Outputs, columns, groups}
+use Rattle.view_lang.specs.Shifts.{NumberedRows, Shift}
+use Rattle.view_lang.specs.Views.{kept_row, shown_row}
+use Rattle.view_lang.specs.declared.view.Lookup.{Lookup}
+use Rattle.view_lang.specs.declared.view.OrderBy.{OrderBy}
+use Rattle.group_state.specs.Groups.{Keeps as KeepsGroups}
+use Rattle.group_state.specs.KeptColumns.{IsKept as IsKeptColumn}
+use Rattle.top_rows.specs.Keeping.{Keeps as KeepsOrder}
+use Rattle.row_keys.specs.Numbered.{come, gone, numbered}
+use Rattle.row_keys.specs.Slots.{Slot, last_numbers}
+use Rattle.upkeep.specs.Inputs.{side_by}
+use Rattle.upkeep.specs.Stores.{Rows, rows_at}
+use Rattle.upkeep.specs.declared.view_state.Kept.{Kept}
+use Rattle.upkeep.specs.declared.view_state.Kept.TheVariants as kept
+use Rattle.upkeep.specs.declared.view_state.Turn.{Turn}
+use Rattle.upkeep.specs.declared.view_state.Turn.TheVariants as turn
+use Rattle.upkeep.specs.declared.view_state.ViewState.{ViewState}
+
+-- What is kept of a row of the main table: the row that a plain view shows of it, or the joined row that is grouped.
+abbrev pub made_by : Outputs → Option (List Datum) → Option (List Datum)
+made_by (columns outputs) joined = option_map (shown_row outputs) joined
+made_by (groups by outputs) joined = joined
+
+abbrev pub made_row : View → Side → List Datum → Option (List Datum)
+made_row v side row = made_by v.outputs (kept_row v side row)
+
+-- It is what these numbered rows make: their places in the view's order, or their groups.
+abbrev pub IsKept : Outputs → List OrderBy → Kept → NumberedRows → Type 0
+IsKept (columns outputs) order (kept.Order o) rows = (o.order ≡ order) × KeepsOrder o rows
+IsKept (groups by outputs) order (kept.Groups g) rows =
+    (g.keys ≡ by) × All (λ o. IsKeptColumn g.columns o.aggregate) outputs × KeepsGroups g (values_of rows)
+IsKept (columns outputs) order (kept.Groups g) rows = ⊥
+IsKept (groups by outputs) order (kept.Order o) rows = ⊥
+
+-- A view is stale, or what is kept of it is made of these rows of the main table.
+abbrev pub IsCurrent : View → Side → ViewState → NumberedRows → Type 0
+IsCurrent v side s rows = s.stale ≡ false → IsKept v.outputs v.order s.kept (image (made_row v side) rows)
+
+abbrev pub EachIsCurrent : List Table → Rows → NumberedRows → List View → List ViewState → Type 0
+EachIsCurrent tables rows live [] [] = Unit {0}
+EachIsCurrent tables rows live [] (s ∷ ss) = ⊥
+EachIsCurrent tables rows live (v ∷ vs) [] = ⊥
+EachIsCurrent tables rows live (v ∷ vs) (s ∷ ss) =
+    IsCurrent v (side_by tables rows v) s live × EachIsCurrent tables rows live vs ss
+
+-- Each view is stale, or kept current with the live rows of the tables.
+abbrev pub AreCurrent : List Table → Rows → List View → List ViewState → Type 0
+AreCurrent tables rows views states = EachIsCurrent tables rows (numbered (rows_at rows 0)) views states
+
+-- the change in which rows of these numbers come, or go
+abbrev pub turned : Turn → List Slot → List ℕ → List Shift
+turned turn.Come slots ns = come slots ns
+turned turn.Go slots ns = gone slots ns
+
+-- the same of the last rows
+abbrev pub turned_last : Turn → List Slot → ℕ → List Shift
+turned_last t slots n = turned t slots (last_numbers n slots)
+
+-- and the change of what a view makes of them
+abbrev pub made_change : List Table → Rows → View → Turn → List ℕ → List Shift
+made_change tables rows v t ns = map (shift_image (made_row v (side_by tables rows v))) (turned t (rows_at rows 0) ns)
+
+-- Tables that are looked up
+
+-- A view is stale, or kept current with the live rows of the tables.
+abbrev pub IsCurrentWith : List Table → Rows → View → ViewState → Type 0
+IsCurrentWith tables rows v s = IsCurrent v (side_by tables rows v) s (numbered (rows_at rows 0))
+
+-- Only the rows of one table may differ.
+abbrev pub DiffersAt : ℕ → Rows → Rows → Type 0
+DiffersAt n old new = old ≡ slice_set new n (rows_at old n)
+
+-- whether the table of this number is looked up
+abbrev pub looks_up : Option Lookup → ℕ → Bool
+looks_up None n = false
+looks_up (Some l) n = nat_eq (suc l.side) n
+
+-- what is kept is stale if a test holds, or if it was
+abbrev pub stale_if : Bool → ViewState → ViewState
+stale_if b s = record { stale = s.stale || b; kept = s.kept }
+
+-- the states of which those of views that look up a table are stale
+abbrev pub lookups_stale : ℕ → List View → List ViewState → List ViewState
+lookups_stale n [] ss = ss
+lookups_stale n (v ∷ vs) [] = []
+lookups_stale n (v ∷ vs) (s ∷ ss) = stale_if (looks_up v.lookup n) s ∷ lookups_stale n vs ss
+
+abbrev pub stale_in : List ViewState → List Bool
+stale_in states = map (λ s. s.stale) states

@@ -1,0 +1,181 @@
+//! What is kept of all views when rows of the main table come or go.
+
+ghost use Rattle.std.specs.List.{range_with_len};
+ghost use Rattle.std.specs.Prelude.{◌≡◌, ◌<◌, ◌≤◌, ◌+◌, ◌*◌, ◌^◌, [], All, count_by, false, IfOk, List, OnErr, OnOk, length, map, true};
+ghost use Rattle.view_lang.specs.Config.{Table};
+ghost use Rattle.view_lang.specs.Shifts.{Fits, IsFew, NumberedRows, patched};
+ghost use Rattle.upkeep.specs.LiveParts.{AreOf};
+ghost use Rattle.upkeep.specs.Stores.{Rows, rows_at, rows_in, tables_in, visits_in};
+ghost use Rattle.upkeep.specs.ViewStates.{EachIsCurrent, stale_in, turned, turned_last};
+
+use crate::follow::follow;
+use crate::view_state::{Turn, ViewState};
+use row_keys::RowStore;
+use std::alloc::{AllocError, Global};
+use view_lang::View;
+
+/// What is kept of the views of no rows.
+pub(crate) fn fresh_states(alloc: Global, views: &[View]) -> Result<Vec<ViewState>, AllocError>
+    ensures current { IfOk result (λ states.
+        (tables : List Table) → (rows : Rows) → EachIsCurrent tables rows [] views.now states.items) }
+    ensures stale { IfOk result (λ states. stale_in states.items ≡ map (λ _. false) views.now) }
+{
+    let mut states = Vec::with_capacity(alloc, views.len())?;
+    for view in views {
+        let state = ViewState::new(alloc, view)?;
+        states.push(state)?;
+    }
+    Ok(states)
+}
+
+/// How many views are stale.
+pub(crate) fn count_stale(states: &[ViewState]) -> usize
+    ensures { result ≡ count_by (λ b. b) (stale_in states.now) }
+{
+    let mut count = 0;
+    for state in states {
+        if state.stale {
+            count += 1;
+        }
+    }
+    count
+}
+
+/// Marks all views stale.
+fn mark_all_stale(states: &mut Vec<ViewState>)
+    ensures stale { All (λ s. s.stale ≡ true) states.new.items }
+    ensures many { length states.new.items ≡ length states.old.items }
+{
+    for place in 0..states.len() {
+        states[place].stale = true;
+    }
+}
+
+/// Brings what is kept of each view up to rows of the main table that come or go. Where memory is refused, some of it
+/// is that of the rows before.
+fn follow_each(
+    alloc: Global,
+    stores: &mut Vec<RowStore>,
+    views: &[View],
+    states: &mut Vec<ViewState>,
+    turn: Turn,
+    numbers: &[usize],
+) -> Result<(), AllocError>
+    requires these { AreOf stores.old.items views.now }
+    requires alike { length states.old.items ≡ length views.now }
+    requires there { All (λ n. n < length (rows_at (rows_in stores.old.items) 0)) numbers.now }
+    requires fits { (rows : NumberedRows)
+        × (EachIsCurrent (tables_in stores.old.items) (rows_in stores.old.items) rows views.now states.old.items
+        × (Fits rows (turned turn (rows_at (rows_in stores.old.items) 0) numbers.now)
+        × IsFew rows (turned turn (rows_at (rows_in stores.old.items) 0) numbers.now))) }
+    ensures kept { OnOk result ((rows : NumberedRows)
+        → Fits rows (turned turn (rows_at (rows_in stores.old.items) 0) numbers.now)
+        → EachIsCurrent (tables_in stores.old.items) (rows_in stores.old.items) rows views.now states.old.items
+        → EachIsCurrent (tables_in stores.old.items) (rows_in stores.old.items)
+        (patched rows (turned turn (rows_at (rows_in stores.old.items) 0) numbers.now)) views.now states.new.items) }
+    ensures stale { OnOk result (stale_in states.new.items ≡ stale_in states.old.items) }
+    ensures many { length states.new.items ≡ length states.old.items }
+    ensures tables { tables_in stores.new.items ≡ tables_in stores.old.items }
+    ensures rows { rows_in stores.new.items ≡ rows_in stores.old.items }
+    ensures visits { visits_in stores.new.items
+        ≤ visits_in stores.old.items + length views.now * length numbers.now }
+{
+    for place in 0..views.len() {
+        follow(
+            alloc,
+            stores,
+            &views[place],
+            &mut states[place],
+            turn,
+            numbers,
+        )?;
+    }
+    Ok(())
+}
+
+/// Brings what is kept of the views up to rows of the main table that come or go. After an error all are stale.
+pub(crate) fn follow_all(
+    alloc: Global,
+    stores: &mut Vec<RowStore>,
+    views: &[View],
+    states: &mut Vec<ViewState>,
+    turn: Turn,
+    numbers: &[usize],
+) -> Result<(), AllocError>
+    requires these { AreOf stores.old.items views.now }
+    requires there { All (λ n. n < length (rows_at (rows_in stores.old.items) 0)) numbers.now }
+    requires fits { (rows : NumberedRows)
+        × (EachIsCurrent (tables_in stores.old.items) (rows_in stores.old.items) rows views.now states.old.items
+        × (Fits rows (turned turn (rows_at (rows_in stores.old.items) 0) numbers.now)
+        × IsFew rows (turned turn (rows_at (rows_in stores.old.items) 0) numbers.now))) }
+    ensures kept { OnOk result ((rows : NumberedRows)
+        → Fits rows (turned turn (rows_at (rows_in stores.old.items) 0) numbers.now)
+        → EachIsCurrent (tables_in stores.old.items) (rows_in stores.old.items) rows views.now states.old.items
+        → EachIsCurrent (tables_in stores.old.items) (rows_in stores.old.items)
+        (patched rows (turned turn (rows_at (rows_in stores.old.items) 0) numbers.now)) views.now states.new.items) }
+    ensures stale { OnOk result (stale_in states.new.items ≡ stale_in states.old.items) }
+    ensures err { OnErr result ((tables : List Table) → (rows : Rows) → (live : NumberedRows)
+        → EachIsCurrent tables rows live views.now states.new.items) }
+    ensures tables { tables_in stores.new.items ≡ tables_in stores.old.items }
+    ensures rows { rows_in stores.new.items ≡ rows_in stores.old.items }
+    ensures visits { visits_in stores.new.items
+        ≤ visits_in stores.old.items + length views.now * length numbers.now }
+{
+    match follow_each(alloc, stores, views, states, turn, numbers) {
+        Ok(()) => Ok(()),
+        Err(refused) => {
+            mark_all_stale(states);
+            Err(refused)
+        }
+    }
+}
+
+/// So many numbers from the first on.
+fn numbers_from(alloc: Global, first: usize, count: usize) -> Result<Vec<usize>, AllocError>
+    requires { first + count < 2 ^ 64 }
+    ensures { IfOk result (λ numbers. numbers.items ≡ range_with_len first count) }
+{
+    let mut numbers = Vec::with_capacity(alloc, count)?;
+    for index in 0..count {
+        numbers.push(first + index)?;
+    }
+    Ok(numbers)
+}
+
+/// Brings what is kept of the views up to the last rows of the main table, which come or go. After an error all are
+/// stale.
+pub(crate) fn follow_last(
+    alloc: Global,
+    stores: &mut Vec<RowStore>,
+    views: &[View],
+    states: &mut Vec<ViewState>,
+    turn: Turn,
+    count: usize,
+) -> Result<(), AllocError>
+    requires these { AreOf stores.old.items views.now }
+    requires there { count ≤ length (rows_at (rows_in stores.old.items) 0) }
+    requires fits { (rows : NumberedRows)
+        × (EachIsCurrent (tables_in stores.old.items) (rows_in stores.old.items) rows views.now states.old.items
+        × (Fits rows (turned_last turn (rows_at (rows_in stores.old.items) 0) count)
+        × IsFew rows (turned_last turn (rows_at (rows_in stores.old.items) 0) count))) }
+    ensures kept { OnOk result ((rows : NumberedRows)
+        → Fits rows (turned_last turn (rows_at (rows_in stores.old.items) 0) count)
+        → EachIsCurrent (tables_in stores.old.items) (rows_in stores.old.items) rows views.now states.old.items
+        → EachIsCurrent (tables_in stores.old.items) (rows_in stores.old.items)
+        (patched rows (turned_last turn (rows_at (rows_in stores.old.items) 0) count)) views.now states.new.items) }
+    ensures stale { OnOk result (stale_in states.new.items ≡ stale_in states.old.items) }
+    ensures err { OnErr result ((tables : List Table) → (rows : Rows) → (live : NumberedRows)
+        → EachIsCurrent tables rows live views.now states.new.items) }
+    ensures tables { tables_in stores.new.items ≡ tables_in stores.old.items }
+    ensures rows { rows_in stores.new.items ≡ rows_in stores.old.items }
+    ensures visits { visits_in stores.new.items ≤ visits_in stores.old.items + length views.now * count }
+{
+    let first = stores[0].appended() - count;
+    match numbers_from(alloc, first, count) {
+        Ok(numbers) => follow_all(alloc, stores, views, states, turn, &numbers),
+        Err(refused) => {
+            mark_all_stale(states);
+            Err(refused)
+        }
+    }
+}

@@ -1,0 +1,415 @@
+//! Tables, and views of them that are kept current.
+
+ghost use Rattle.std.specs.Prelude.{◌≡◌, ◌<◌, [], false, count_by, get_or, IfOk, OnErr, OnOk, length, map, slice_set, true};
+ghost use Rattle.view_lang.specs.Cells.{rows_of};
+ghost use Rattle.view_lang.specs.Edits.{table_of};
+ghost use Rattle.view_lang.specs.Laws.{Viewed};
+ghost use Rattle.view_lang.specs.ViewColumns.{columns_by, feed_columns, key_column};
+ghost use Rattle.view_lang.specs.Views.{view_rows};
+ghost use Rattle.view_lang.specs.World.{table_at};
+ghost use Rattle.view_lang.specs.declared.config.Role.TheVariants.{Append, Retract};
+ghost use Rattle.row_keys.specs.Slots.{
+  CanPutBack,
+  CanTakeBack,
+  CanUndoPut,
+  live,
+  put_back,
+  put_undone,
+  taken_back,
+};
+ghost use Rattle.row_keys.specs.Store.{live_in};
+ghost use Rattle.upkeep.specs.Inputs.{side_by};
+ghost use Rattle.upkeep.specs.LiveParts.{AreOf, store_at, view_at};
+ghost use Rattle.upkeep.specs.LiveEdits.{Edited, WentBack};
+ghost use Rattle.upkeep.specs.Stores.{rows_at, rows_in, tables_in, visits_in};
+ghost use Rattle.upkeep.specs.TableChanges.{CanGoBack, IsBatch, IsChangeOf, back, change_by};
+
+use crate::all_views::{count_stale, follow_all, follow_last, fresh_states};
+use crate::edits::{append_batch, find_rows, make_edit, restore};
+use crate::follow::rebuild;
+use crate::lookup_views::rebuild_lookups;
+use crate::reading::kept_rows;
+use crate::table_change::TableChange;
+use crate::view_state::{Turn, ViewState};
+use crate::viewed::viewed_law;
+use arrays::Column;
+use row_keys::{EditFault, RowStore, numbers_law};
+use std::alloc::{AllocError, Global};
+use std::marker::Model;
+use values::Row;
+use values::limits::MAX_MAIN_ROWS;
+use view_lang::{Role, View};
+
+fn table_of(role: Role, tables: usize) -> usize
+    requires { table_of role < tables }
+    ensures { result ≡ table_of role }
+{
+    match role {
+        Role::Append | Role::Retract => 0,
+        Role::Put(side) | Role::Drop(side) => side + 1,
+    }
+}
+
+/// The rows of a main table and of side tables, and views of them.
+///
+/// Contracts see `LiveParts` of `specs/LiveParts.antt`.
+#[derive(Drop)]
+pub struct LiveTables {
+    alloc: Global,
+    // The main table's rows come first.
+    stores: Vec<RowStore>,
+    views: Vec<View>,
+    // Of the views.
+    states: Vec<ViewState>,
+}
+
+impl Model for LiveTables {
+    ghost use Rattle.upkeep.specs.LiveParts.{AreLive, LiveParts, live_code};
+    ghost use Rattle.upkeep.specs.ViewStates.{stale_in};
+
+    ghost Value = { LiveParts };
+
+    ghost coded = { live_code };
+
+    ghost view = { λ t. record {
+      stores = t.stores.items;
+      views = t.views.items;
+      stale = stale_in t.states.items;
+    } };
+
+    ghost invariant = { λ t. AreLive t.stores.items t.views.items t.states.items };
+}
+
+impl LiveTables {
+    /// Tables without rows, and views of them.
+    pub fn new(
+        alloc: Global,
+        stores: Vec<RowStore>,
+        views: Vec<View>,
+    ) -> Result<LiveTables, AllocError>
+        requires right { AreOf stores.items views.items }
+        requires none { rows_at (rows_in stores.items) 0 ≡ [] }
+        ensures stores { IfOk result (λ tables. tables.stores ≡ stores.items) }
+        ensures views { IfOk result (λ tables. tables.views ≡ views.items) }
+        ensures stale { IfOk result (λ tables. tables.stale ≡ map (λ _. false) views.items) }
+    {
+        let states = fresh_states(alloc, &views)?;
+        Ok(LiveTables {
+            alloc,
+            stores,
+            views,
+            states,
+        })
+    }
+
+    /// The views, by number.
+    pub fn views(&self) -> &[View]
+        ensures { result.now ≡ self.now.views }
+    {
+        &self.views
+    }
+
+    /// The number of the table that a feed of this role changes.
+    pub fn table_of(&self, role: Role) -> usize
+        requires { table_of role < length self.now.stores }
+        ensures { result ≡ table_of role }
+    {
+        table_of(role, self.stores.len())
+    }
+
+    /// The number of live rows of the main table. It takes no memory.
+    pub fn len(&self) -> usize
+        ensures { result ≡ length (live_in (store_at self.now.stores 0)) }
+    {
+        self.stores[0].len()
+    }
+
+    /// How many views are stale. It takes no memory.
+    pub fn stale(&self) -> usize
+        ensures { result ≡ count_by (λ b. b) self.now.stale }
+    {
+        count_stale(&self.states)
+    }
+
+    /// How often a stored row of the main table was opened; it rests at its greatest number. It takes no memory.
+    pub fn visits(&self) -> u128
+        ensures { result ≡ (store_at self.now.stores 0).visits }
+    {
+        self.stores[0].visits()
+    }
+
+    /// Appends the rows of a batch to the main table.
+    fn append(&mut self, columns: Vec<Column>, rows: usize) -> Result<TableChange, EditFault>
+        requires { IsBatch (table_at (tables_in self.old.stores) 0).columns columns.items rows }
+        ensures { Edited 0 (change_by Append columns.items rows) self.old self.new result }
+    {
+        // It does nothing: the proof takes from it which rows come.
+        numbers_law();
+        let change = append_batch(&mut self.stores[0], columns, rows)?;
+        self.stores[0].rows_law();
+        match follow_last(
+            self.alloc,
+            &mut self.stores,
+            &self.views,
+            &mut self.states,
+            Turn::Come,
+            rows,
+        ) {
+            Ok(()) => Ok(change),
+            Err(_refused) => {
+                restore(&mut self.stores[0], &change);
+                Err(EditFault::Memory)
+            }
+        }
+    }
+
+    /// Takes the rows of the main table away whose keys a batch names.
+    fn retract(&mut self, columns: &[Column], rows: usize) -> Result<TableChange, EditFault>
+        requires { IsBatch (key_column (table_at (tables_in self.old.stores) 0)) columns.now rows }
+        ensures { Edited 0 (change_by Retract columns.now rows) self.old self.new result }
+    {
+        numbers_law();
+        let numbers = find_rows(&self.stores[0], columns, rows)?;
+        self.stores[0].rows_law();
+        follow_all(
+            self.alloc,
+            &mut self.stores,
+            &self.views,
+            &mut self.states,
+            Turn::Go,
+            &numbers,
+        )?;
+        self.stores[0].retract(&numbers);
+        Ok(TableChange::Retracted(numbers))
+    }
+
+    /// Makes an edit of a side table, and builds the views anew that look it up.
+    fn edit_side(
+        &mut self,
+        role: Role,
+        table: usize,
+        columns: Vec<Column>,
+        rows: usize,
+    ) -> Result<TableChange, EditFault>
+        requires side { 0 < table }
+        requires there { table < length self.old.stores }
+        requires role { table ≡ table_of role }
+        requires batch { IsBatch (columns_by role (table_at (tables_in self.old.stores) table)) columns.items rows }
+        ensures { Edited table (change_by role columns.items rows) self.old self.new result }
+    {
+        let change = make_edit(role, &mut self.stores[table], columns, rows)?;
+        match rebuild_lookups(
+            self.alloc,
+            &mut self.stores,
+            &self.views,
+            &mut self.states,
+            table,
+        ) {
+            Ok(()) => Ok(change),
+            Err(_refused) => {
+                restore(&mut self.stores[table], &change);
+                Err(EditFault::Memory)
+            }
+        }
+    }
+
+    /// Makes the edit that a batch is, by the role of its feed. On an error no row has changed. Views follow; where
+    /// memory for that is refused, those are stale that show rows of the table.
+    pub fn edit(
+        &mut self,
+        role: Role,
+        columns: Vec<Column>,
+        rows: usize,
+    ) -> Result<TableChange, EditFault>
+        requires there { table_of role < length self.old.stores }
+        requires batch { IsBatch (feed_columns (tables_in self.old.stores) role) columns.items rows }
+        ensures { Edited (table_of role) (change_by role columns.items rows) self.old self.new result }
+    {
+        let table = self.table_of(role);
+        match role {
+            Role::Append => self.append(columns, rows),
+            Role::Retract => self.retract(&columns, rows),
+            Role::Put(_) | Role::Drop(_) => self.edit_side(role, table, columns, rows),
+        }
+    }
+
+    /// Takes the last rows of the main table away.
+    fn take_back(&mut self, count: usize) -> Result<(), AllocError>
+        requires { CanTakeBack count (rows_at (rows_in self.old.stores) 0) }
+        ensures { WentBack 0 (taken_back count (rows_at (rows_in self.old.stores) 0)) self.old self.new result }
+    {
+        // No append has more rows.
+        if count > MAX_MAIN_ROWS {
+            return Err(AllocError);
+        }
+        numbers_law();
+        self.stores[0].rows_law();
+        follow_last(
+            self.alloc,
+            &mut self.stores,
+            &self.views,
+            &mut self.states,
+            Turn::Go,
+            count,
+        )?;
+        self.stores[0].take_back(count);
+        Ok(())
+    }
+
+    /// Puts retracted rows of the main table back.
+    fn put_back(&mut self, numbers: &[usize]) -> Result<(), AllocError>
+        requires { CanPutBack (table_at (tables_in self.old.stores) 0) numbers.now
+            (rows_at (rows_in self.old.stores) 0) }
+        ensures { WentBack 0 (put_back numbers.now (rows_at (rows_in self.old.stores) 0)) self.old self.new result }
+    {
+        numbers_law();
+        self.stores[0].rows_law();
+        follow_all(
+            self.alloc,
+            &mut self.stores,
+            &self.views,
+            &mut self.states,
+            Turn::Come,
+            numbers,
+        )?;
+        self.stores[0].put_back(numbers);
+        Ok(())
+    }
+
+    /// Puts retracted rows of a side table back, and builds the views anew that look it up.
+    fn put_back_side(&mut self, table: usize, numbers: &[usize]) -> Result<(), AllocError>
+        requires side { 0 < table }
+        requires there { table < length self.old.stores }
+        requires can { CanPutBack (table_at (tables_in self.old.stores) table) numbers.now
+            (rows_at (rows_in self.old.stores) table) }
+        ensures { WentBack table (put_back numbers.now (rows_at (rows_in self.old.stores) table)) self.old self.new
+            result }
+    {
+        self.stores[table].put_back(numbers);
+        match rebuild_lookups(
+            self.alloc,
+            &mut self.stores,
+            &self.views,
+            &mut self.states,
+            table,
+        ) {
+            Ok(()) => Ok(()),
+            Err(refused) => {
+                self.stores[table].retract(numbers);
+                Err(refused)
+            }
+        }
+    }
+
+    /// Takes the rows away that were put into a side table, and puts those back that they replaced. The views that look
+    /// it up are built anew before the rows are gone.
+    fn undo_put(&mut self, table: usize, rows: usize, replaced: &[usize]) -> Result<(), AllocError>
+        requires side { 0 < table }
+        requires there { table < length self.old.stores }
+        requires can { CanUndoPut (table_at (tables_in self.old.stores) table) rows replaced.now
+            (rows_at (rows_in self.old.stores) table) }
+        ensures { WentBack table (put_undone rows replaced.now (rows_at (rows_in self.old.stores) table)) self.old
+            self.new result }
+    {
+        self.stores[table].hide_put(rows, replaced);
+        match rebuild_lookups(
+            self.alloc,
+            &mut self.stores,
+            &self.views,
+            &mut self.states,
+            table,
+        ) {
+            Ok(()) => {
+                self.stores[table].take_back(rows);
+                Ok(())
+            }
+            Err(refused) => {
+                self.stores[table].show_put(rows, replaced);
+                Err(refused)
+            }
+        }
+    }
+
+    /// Takes a change of the main table back.
+    fn go_back_main(&mut self, change: &TableChange) -> Result<(), AllocError>
+        requires kind { IsChangeOf 0 change.now }
+        requires can { CanGoBack (table_at (tables_in self.old.stores) 0) change.now
+            (rows_at (rows_in self.old.stores) 0) }
+        ensures { WentBack 0 (back change.now (rows_at (rows_in self.old.stores) 0)) self.old self.new result }
+    {
+        match change {
+            TableChange::Appended(count) => self.take_back(*count),
+            TableChange::Retracted(numbers) => self.put_back(numbers),
+            TableChange::Put { .. } => unreachable!(),
+        }
+    }
+
+    /// Takes a change of a side table back.
+    fn go_back_side(&mut self, table: usize, change: &TableChange) -> Result<(), AllocError>
+        requires side { 0 < table }
+        requires there { table < length self.old.stores }
+        requires kind { IsChangeOf table change.now }
+        requires can { CanGoBack (table_at (tables_in self.old.stores) table) change.now
+            (rows_at (rows_in self.old.stores) table) }
+        ensures { WentBack table (back change.now (rows_at (rows_in self.old.stores) table)) self.old self.new result }
+    {
+        match change {
+            TableChange::Appended(_) => unreachable!(),
+            TableChange::Retracted(numbers) => self.put_back_side(table, numbers),
+            TableChange::Put { rows, replaced } => self.undo_put(table, *rows, replaced),
+        }
+    }
+
+    /// Takes a change of the rows of a table back. On an error no row has changed. Views follow as they do an edit.
+    pub fn go_back(&mut self, table: usize, change: &TableChange) -> Result<(), AllocError>
+        requires there { table < length self.old.stores }
+        requires kind { IsChangeOf table change.now }
+        requires can { CanGoBack (table_at (tables_in self.old.stores) table) change.now
+            (rows_at (rows_in self.old.stores) table) }
+        ensures { WentBack table (back change.now (rows_at (rows_in self.old.stores) table)) self.old self.new result }
+    {
+        if table == 0 {
+            self.go_back_main(change)
+        } else {
+            self.go_back_side(table, change)
+        }
+    }
+
+    /// Builds a view anew if it is stale.
+    fn refresh(&mut self, place: usize) -> Result<(), AllocError>
+        requires { place < length self.old.views }
+        ensures tables { tables_in self.new.stores ≡ tables_in self.old.stores }
+        ensures rows { rows_in self.new.stores ≡ rows_in self.old.stores }
+        ensures views { self.new.views ≡ self.old.views }
+        ensures stale { OnOk result (self.new.stale ≡ slice_set self.old.stale place false) }
+        ensures err { OnErr result (self.new.stale ≡ self.old.stale) }
+        ensures visits { get_or self.old.stale place true ≡ false
+            → visits_in self.new.stores ≡ visits_in self.old.stores }
+    {
+        if self.states[place].stale {
+            let state = rebuild(self.alloc, &mut self.stores, &self.views[place])?;
+            self.states[place] = state;
+        }
+        Ok(())
+    }
+
+    /// The rows that a view shows. A stale view is built anew; others are read out of what is kept of them.
+    pub fn view_rows(&mut self, place: usize) -> Result<Vec<Row>, AllocError>
+        requires { place < length self.old.views }
+        ensures rows { IfOk result (λ rows. rows_of rows.items ≡ view_rows (view_at self.old.views place)
+            (side_by (tables_in self.old.stores) (rows_in self.old.stores) (view_at self.old.views place))
+            (live (rows_at (rows_in self.old.stores) 0))) }
+        ensures viewed { IfOk result (λ rows. Viewed (tables_in self.old.stores) (view_at self.old.views place)
+            (side_by (tables_in self.old.stores) (rows_in self.old.stores) (view_at self.old.views place))
+            (live (rows_at (rows_in self.old.stores) 0))) }
+        ensures tables { tables_in self.new.stores ≡ tables_in self.old.stores }
+        ensures same_rows { rows_in self.new.stores ≡ rows_in self.old.stores }
+        ensures views { self.new.views ≡ self.old.views }
+        ensures stale { OnOk result (self.new.stale ≡ slice_set self.old.stale place false) }
+    {
+        self.refresh(place)?;
+        let view = &self.views[place];
+        viewed_law(&self.stores, view);
+        kept_rows(self.alloc, &mut self.stores, view, &self.states[place])
+    }
+}

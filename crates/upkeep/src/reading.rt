@@ -1,0 +1,151 @@
+//! The rows that a view shows, out of what is kept of it.
+
+ghost use Rattle.std.specs.Prelude.{◌≡◌, ◌<◌, ◌≤◌, ◌+◌, All, false, IfOk, length, List};
+ghost use Rattle.view_lang.specs.Cells.{rows_of};
+ghost use Rattle.view_lang.specs.Config.{Table};
+ghost use Rattle.view_lang.specs.ConfigRules.{IsView};
+ghost use Rattle.view_lang.specs.Joined.{Side};
+ghost use Rattle.view_lang.specs.Laws.{Viewed};
+ghost use Rattle.view_lang.specs.TableRules.{IsTable};
+ghost use Rattle.view_lang.specs.Views.{view_rows};
+ghost use Rattle.row_keys.specs.Numbered.{numbered};
+ghost use Rattle.row_keys.specs.Slots.{Slot, live};
+ghost use Rattle.upkeep.specs.Inputs.{side_by};
+ghost use Rattle.upkeep.specs.Reading.{
+  AreShown,
+  FirstsAreShown,
+  GroupsAreOfInput,
+  IsGrouped,
+  IsReadable,
+  made_at,
+};
+ghost use Rattle.upkeep.specs.Stores.{rows_at, rows_in, tables_in, visits_in};
+ghost use Rattle.upkeep.specs.ViewStates.{IsCurrent};
+ghost use Rattle.upkeep.specs.declared.view_state.Kept.TheVariants as kept;
+
+use crate::follow::make_row;
+use crate::inputs::push_some;
+use crate::view_state::{Kept, ViewState};
+use group_state::Groups;
+use row_keys::{RowStore, numbers_law};
+use std::alloc::{AllocError, Global};
+use top_rows::Ordered;
+use values::Row;
+use values::limits::MAX_MAIN_ROWS;
+use view_lang::{Outputs, View, image_law, one_by_one_law, rows_law};
+
+/// It does nothing: its contract says what can be read out of what is kept of a view.
+fn reading_law()
+    ensures groups { GroupsAreOfInput }
+    ensures first { FirstsAreShown }
+{
+    image_law();
+    numbers_law();
+    one_by_one_law();
+    rows_law();
+}
+
+/// What a view makes of the rows of these numbers. Each is opened once.
+fn make_rows(
+    alloc: Global,
+    stores: &mut Vec<RowStore>,
+    view: &View,
+    numbers: &[usize],
+) -> Result<Vec<Row>, AllocError>
+    requires view { IsView (tables_in stores.old.items) view.now }
+    requires main { 0 < length stores.old.items }
+    requires there { All (λ n. n < length (rows_at (rows_in stores.old.items) 0)) numbers.now }
+    ensures rows { IfOk result (λ made. rows_of made.items
+        ≡ made_at view.now (side_by (tables_in stores.old.items) (rows_in stores.old.items) view.now)
+        (rows_at (rows_in stores.old.items) 0) numbers.now) }
+    ensures tables { tables_in stores.new.items ≡ tables_in stores.old.items }
+    ensures same_rows { rows_in stores.new.items ≡ rows_in stores.old.items }
+    ensures visits { visits_in stores.new.items ≤ visits_in stores.old.items + length numbers.now }
+{
+    let mut made = Vec::with_capacity(alloc, numbers.len())?;
+    for number in numbers {
+        let row = make_row(alloc, stores, view, *number)?;
+        push_some(&mut made, row)?;
+    }
+    Ok(made)
+}
+
+/// The numbers of the rows that a plain view shows, in their order.
+fn first_numbers(alloc: Global, view: &View, order: &Ordered) -> Result<Vec<usize>, AllocError>
+    ensures { IfOk result (λ numbers. (tables : List Table) → (side : Side) → (slots : List Slot)
+        → IsReadable tables view.now side slots (kept.Order order.now)
+        → AreShown view.now side slots numbers.items) }
+{
+    reading_law();
+    order.first_of_view(alloc, view.first.unwrap_or(MAX_MAIN_ROWS))
+}
+
+/// The rows that a plain view shows. Only these are opened.
+fn first_rows(
+    alloc: Global,
+    stores: &mut Vec<RowStore>,
+    view: &View,
+    order: &Ordered,
+) -> Result<Vec<Row>, AllocError>
+    requires main { 0 < length stores.old.items }
+    requires kept { IsReadable (tables_in stores.old.items) view.now
+        (side_by (tables_in stores.old.items) (rows_in stores.old.items) view.now)
+        (rows_at (rows_in stores.old.items) 0) (kept.Order order.now) }
+    ensures rows { IfOk result (λ rows. rows_of rows.items
+        ≡ view_rows view.now (side_by (tables_in stores.old.items) (rows_in stores.old.items) view.now)
+        (live (rows_at (rows_in stores.old.items) 0))) }
+    ensures tables { tables_in stores.new.items ≡ tables_in stores.old.items }
+    ensures same_rows { rows_in stores.new.items ≡ rows_in stores.old.items }
+    ensures visits { IfOk result (λ rows.
+        visits_in stores.new.items ≤ visits_in stores.old.items + length rows.items) }
+{
+    let numbers = first_numbers(alloc, view, order)?;
+    make_rows(alloc, stores, view, &numbers)
+}
+
+/// The rows that a view of groups shows.
+fn group_rows(alloc: Global, view: &View, groups: &Groups) -> Result<Vec<Row>, AllocError>
+    requires { IsGrouped view.now.outputs }
+    ensures { IfOk result (λ rows. (tables : List Table) → (side : Side) → (slots : List Slot)
+        → IsReadable tables view.now side slots (kept.Groups groups.now)
+        → rows_of rows.items ≡ view_rows view.now side (live slots)) }
+{
+    reading_law();
+    let Outputs::Groups { columns, .. } = &view.outputs else {
+        unreachable!();
+    };
+    let made = groups.rows(alloc, columns)?;
+    view.arrange(made)
+}
+
+/// The rows that a view shows, out of what is kept of it, which isn't stale. A view of groups opens no row.
+pub(crate) fn kept_rows(
+    alloc: Global,
+    stores: &mut Vec<RowStore>,
+    view: &View,
+    state: &ViewState,
+) -> Result<Vec<Row>, AllocError>
+    requires right { All IsTable (tables_in stores.old.items) }
+    requires view { IsView (tables_in stores.old.items) view.now }
+    requires main { 0 < length stores.old.items }
+    requires viewed { Viewed (tables_in stores.old.items) view.now
+        (side_by (tables_in stores.old.items) (rows_in stores.old.items) view.now)
+        (live (rows_at (rows_in stores.old.items) 0)) }
+    requires fresh { state.now.stale ≡ false }
+    requires current { IsCurrent view.now
+        (side_by (tables_in stores.old.items) (rows_in stores.old.items) view.now) state.now
+        (numbered (rows_at (rows_in stores.old.items) 0)) }
+    ensures rows { IfOk result (λ rows. rows_of rows.items
+        ≡ view_rows view.now (side_by (tables_in stores.old.items) (rows_in stores.old.items) view.now)
+        (live (rows_at (rows_in stores.old.items) 0))) }
+    ensures tables { tables_in stores.new.items ≡ tables_in stores.old.items }
+    ensures same_rows { rows_in stores.new.items ≡ rows_in stores.old.items }
+    ensures visits { IfOk result (λ rows.
+        visits_in stores.new.items ≤ visits_in stores.old.items + length rows.items) }
+    ensures group_visits { IsGrouped view.now.outputs → visits_in stores.new.items ≡ visits_in stores.old.items }
+{
+    match &state.kept {
+        Kept::Order(order) => first_rows(alloc, stores, view, order),
+        Kept::Groups(groups) => group_rows(alloc, view, groups),
+    }
+}

@@ -1,0 +1,92 @@
+//! What is kept of a view.
+
+ghost use Rattle.std.specs.Prelude.{◌≡◌, [], false, IfOk, List, OnErr, OnOk, true};
+ghost use Rattle.view_lang.specs.Outputs as seen;
+ghost use Rattle.view_lang.specs.Shifts.{Fits, IsFew, NumberedRows, patched};
+ghost use Rattle.view_lang.specs.declared.view.OrderBy.{OrderBy};
+ghost use Rattle.upkeep.specs.ViewStates.{IsKept};
+
+use group_state::Groups;
+use std::alloc::{AllocError, Global};
+use top_rows::Ordered;
+use view_lang::{Change, Outputs, Upkeep, View};
+
+/// What is kept of the rows that a view is made of.
+#[derive(Debug, Drop)]
+pub(crate) enum Kept {
+    /// The places of the rows of a plain view in its order.
+    Order(Ordered),
+    Groups(Groups),
+}
+
+/// Whether rows of the main table come or go.
+#[derive(Clone, Copy, Debug, PartialEq, Eq)]
+pub(crate) enum Turn {
+    Come,
+    Go,
+}
+
+/// What is kept of a view, or that it is stale: what is kept may then be that of no rows, until the view is built anew.
+#[derive(Debug, Drop)]
+pub(crate) struct ViewState {
+    pub stale: bool,
+    pub kept: Kept,
+}
+
+/// What is kept of no rows.
+fn kept_of_none(alloc: Global, view: &View) -> Result<Kept, AllocError>
+    ensures { IfOk result (λ kept. IsKept view.now.outputs view.now.order kept []) }
+{
+    match &view.outputs {
+        Outputs::Columns(_) => Ok(Kept::Order(Ordered::new(alloc, &view.order)?)),
+        Outputs::Groups { by, columns } => Ok(Kept::Groups(Groups::of(alloc, by, columns)?)),
+    }
+}
+
+/// Brings what is kept to the rows after a change. After an error it may be that of no rows.
+fn apply_to(kept: &mut Kept, change: &Change) -> Result<(), AllocError>
+    requires { (outputs : seen.Outputs) × (order : List OrderBy) × (rows : NumberedRows)
+        × (IsKept outputs order kept.old rows × (Fits rows change.now × IsFew rows change.now)) }
+    ensures { OnOk result ((outputs : seen.Outputs) (order : List OrderBy) (rows : NumberedRows)
+        → Fits rows change.now → IsKept outputs order kept.old rows
+        → IsKept outputs order kept.new (patched rows change.now)) }
+{
+    match kept {
+        Kept::Order(order) => order.apply(change),
+        Kept::Groups(groups) => groups.apply_change(change),
+    }
+}
+
+impl ViewState {
+    /// What is kept of a view of no rows.
+    pub(crate) fn new(alloc: Global, view: &View) -> Result<ViewState, AllocError>
+        ensures fresh { IfOk result (λ s. s.stale ≡ false) }
+        ensures kept { IfOk result (λ s. IsKept view.now.outputs view.now.order s.kept []) }
+    {
+        Ok(ViewState {
+            stale: false,
+            kept: kept_of_none(alloc, view)?,
+        })
+    }
+
+    /// Brings what is kept to the rows after a change; a stale one stays as it is. After an error it is stale.
+    pub(crate) fn apply(&mut self, change: &Change) -> Result<(), AllocError>
+        requires { self.old.stale ≡ false → (outputs : seen.Outputs) × (order : List OrderBy) × (rows : NumberedRows)
+            × (IsKept outputs order self.old.kept rows × (Fits rows change.now × IsFew rows change.now)) }
+        ensures kept { OnOk result ((outputs : seen.Outputs) (order : List OrderBy) (rows : NumberedRows)
+            → Fits rows change.now → self.old.stale ≡ false → IsKept outputs order self.old.kept rows
+            → IsKept outputs order self.new.kept (patched rows change.now)) }
+        ensures stale { OnOk result (self.new.stale ≡ self.old.stale) }
+        ensures left { self.old.stale ≡ true → self.new ≡ self.old }
+        ensures err { OnErr result (self.new.stale ≡ true) }
+    {
+        if self.stale {
+            return Ok(());
+        }
+        let applied = apply_to(&mut self.kept, change);
+        if applied.is_err() {
+            self.stale = true;
+        }
+        applied
+    }
+}
