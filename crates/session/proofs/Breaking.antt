@@ -356,7 +356,7 @@ first-channel conf k plan is =
 pub breaks-in-both : FeedLaws → BreaksInBoth
 breaks-in-both laws conf streams steps others replies answers sinks after sinks_too after_too new other run run_too k plan c
     d is there there_too whole asks broke =
-    by_ending (told_at conf streams k).ending refl (l.fell refl (ap (λ x. broken x) (sym same) ∙ broke)) where
+    by_ending (told_at conf streams k).end refl (l.fell refl (ap (λ x. broken x) (sym same) ∙ broke)) where
       l : Leads conf steps replies new k (opened (tables_of conf) plan)
       l = leads conf steps replies sinks after (start conf) new k (opened (tables_of conf) plan)
           (first-channel conf k plan is)
@@ -380,7 +380,7 @@ breaks-in-both laws conf streams steps others replies answers sinks after sinks_
           (faults-are-told laws conf streams steps replies sinks new after run k f h))
       by_end f h (inr fallen) = ap (λ x. broken x) (sym same_too) ∙ fallen
 
-      by_ending : (e : Reading FeedState) → (told_at conf streams k).ending ≡ e
+      by_ending : (e : Reading FeedState) → (told_at conf streams k).end ≡ e
           → ((f : StreamFault) × BrokeByPush conf k f steps replies)
           ⊎ (AsksEnd conf k steps × ((f : StreamFault) × Broke conf k f steps replies))
           → broken d ≡ true

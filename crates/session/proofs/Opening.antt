@@ -11,6 +11,7 @@ use Rattle.std.proofs.Common.{
   [],
   ◌∷◌,
   ◌++◌,
+  drop,
   length,
   get_or,
   map,
@@ -24,7 +25,7 @@ use Rattle.std.proofs.Common.{
   arith,
 }
 use Rattle.std.proofs.Math.Seq.{take-suc}
-use Rattle.std.proofs.lemmas.List.{map-append}
+use Rattle.std.proofs.lemmas.List.{length-map, map-append}
 use Rattle.std.proofs.lemmas.List.Elements.{All-cons, All-get_or, All-map}
 use Rattle.values.specs.Logical.{NamedType}
 use Rattle.values.specs.Rose.{Rose}
@@ -160,18 +161,36 @@ opened_config conf names links tables records named stores views =
     ∙ ap (λ ss. record { main = conf.main; sides = ss; feeds = conf.feeds; views = conf.views })
     (names_given conf.sides)
 
+links_opened :
+    (tables : List Table) (links : List Link) (feeds : List FeedConfig)
+    → ShowsEach tables links (map (opened tables) feeds) → map (λ l. l.role) links ≡ map (λ f. f.role) feeds
+links_opened tables [] [] h = refl
+links_opened tables [] (f ∷ fs) h = absurd h
+links_opened tables (l ∷ ls) [] h = absurd h
+links_opened tables (l ∷ ls) (f ∷ fs) h =
+    ap (λ r. r ∷ map (λ (x : Link). x.role) ls) h.0.role ∙ ap (λ rs. f.role ∷ rs) (links_opened tables ls fs h.1)
+
+names_counted : (conf : Config) (names : List (List ℕ)) → names ≡ map (λ s. s.name) conf.sides
+    → length names ≡ length (drop 1 (tables_in (empty_stores conf)))
+names_counted conf names named =
+    ap length named ∙ length-map conf.sides (λ (s : SideTable). s.name)
+    ∙ sym (length-map conf.sides (λ (s : SideTable). s.table)) ∙ sym (ap length (sides_empty conf.sides))
+
 pub opened_shown :
     (conf : Config) (names : List (List ℕ)) (links : List Link) (tables : LiveParts) (records : List UndoRecord)
-    → tables.stores ≡ empty_stores conf → tables.views ≡ conf.views → records ≡ []
+    → names ≡ map (λ s. s.name) conf.sides → tables.stores ≡ empty_stores conf → tables.views ≡ conf.views
+    → records ≡ []
     → ShowsEach (tables_of conf) links (map (opened (tables_of conf)) conf.feeds)
     → Shows (opened_parts conf names links tables records) (start conf)
-opened_shown conf names links tables records stores views none each =
+opened_shown conf names links tables records named stores views none each =
     let P : List Table → Type 0 = λ ts. ShowsEach ts links (map (opened (tables_of conf)) conf.feeds) in
     let Q : List Table → Type 0 = λ ts. world_of (rows_in (empty_stores conf)) ≡ world ts [] in
     let given : LiveParts = opened_tables conf tables.stale in
     let begun : Shows (opened_parts conf names links given []) (start conf) =
     record {
       main = omega arith;
+      sides = names_counted conf names named;
+      links = links_opened (tables_of conf) links conf.feeds each;
       past = record { holds = record { same = subst Q (sym (tables_empty conf)) (world_empty conf) }; depth = refl };
       channels = subst P (sym (tables_empty conf)) each;
     } in
@@ -190,18 +209,18 @@ tables_right conf right =
 pub opened_session :
     (conf : Config) (names : List (List ℕ)) (links : List Link) (tables : LiveParts) (records : List UndoRecord)
     (capacity : ℕ) (columns : List (List (Rose NamedType))) → IsConfig conf → capacity ≡ 64
-    → tables.stores ≡ empty_stores conf → tables.views ≡ conf.views → records ≡ []
+    → names ≡ map (λ s. s.name) conf.sides → tables.stores ≡ empty_stores conf → tables.views ≡ conf.views → records ≡ []
     → ShowsEach (tables_of conf) links (map (opened (tables_of conf)) conf.feeds)
     → columns ≡ map (view_columns (tables_of conf)) conf.views
     → IsSession (opened_parts conf names links tables records) capacity columns
-opened_session conf names links tables records capacity columns right is stores views none each shown =
+opened_session conf names links tables records capacity columns right is named stores views none each shown =
     let P : List Table → Type 0 = λ ts. AreShown ts conf.views columns in
     let Q : List View → Type 0 = λ vs. AreShown (tables_in tables.stores) vs columns in
     record {
       capacity_is = is;
       views = subst Q (sym views)
           (subst P (sym (ap tables_in stores ∙ tables_empty conf)) (tables_right conf right, right.views, shown));
-      some = (start conf, opened_shown conf names links tables records stores views none each);
+      some = (start conf, opened_shown conf names links tables records named stores views none each);
     }
 
 -- the tables and views of a configuration, without rows

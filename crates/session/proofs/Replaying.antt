@@ -49,6 +49,7 @@ use Rattle.values.specs.declared.faults.StreamFault.TheVariants as fault
 use Rattle.stream_writer.specs.Sinks.{Sunk, Writes}
 use Rattle.feed.specs.Retained.{stream_in}
 use Rattle.feed.specs.Events.{Event as Message, Given, given}
+use Rattle.feed.specs.Transcript.{transcript}
 use Rattle.feed.specs.States.{
   finishing_when,
   retained_in,
@@ -163,7 +164,6 @@ use Rattle.session.specs.Cuts.{
   replayed,
   role_at,
   role_by,
-  tells,
   told_at,
   told_of,
   used_of,
@@ -302,12 +302,12 @@ after_given conf s k c piece gave =
 
 -- What may break a feed still may have broken it at first, if it isn't broken.
 abbrev pub Heir : Reading FeedState → FeedState → List ℕ → Type 0
-Heir end fed bytes = ((f : StreamFault) → MayBreak (tells fed bytes).ending f → MayBreak end f) ⊎
+Heir end fed bytes = ((f : StreamFault) → MayBreak (transcript fed bytes).end f → MayBreak end f) ⊎
     (is_broken fed.condition ≡ true)
 
 -- How a feed stands: it is told on, or it is broken with bytes left, or all its bytes were taken without a fault.
 pub data Stand (end : Reading FeedState) (fed : FeedState) (bytes : List ℕ) : Type 0 where
-  going : (tells fed bytes).ending ≡ end → Stand end fed bytes
+  going : (transcript fed bytes).end ≡ end → Stand end fed bytes
   stuck : is_broken fed.condition ≡ true → 0 < length bytes → Stand end fed bytes
   over : (s : FeedState) → end ≡ Ok s → bytes ≡ [] → (is_broken fed.condition ≡ true) ⊎
       ((f : StreamFault) → MayBreak end f → ⊥) → Stand end fed bytes
@@ -316,7 +316,7 @@ pub data Stand (end : Reading FeedState) (fed : FeedState) (bytes : List ℕ) : 
 abbrev pub Follows : (ℕ → Role) → (ℕ → Reading FeedState) → (ℕ → List Message) → (ℕ → List ℕ) → List Channel → Type 0
 Follows roles ends messages streams channels =
     (k : ℕ) (c : Channel) → slice_get channels k ≡ Some c
-    → (c.role ≡ roles k) × (messages k ≡ (tells c.fed (streams k)).messages) × Heir (ends k) c.fed (streams k) × Stand
+    → (c.role ≡ roles k) × (messages k ≡ (transcript c.fed (streams k)).events) × Heir (ends k) c.fed (streams k) × Stand
     (ends k) c.fed (streams k)
 
 -- where one feed goes on
@@ -324,31 +324,31 @@ follows-set :
     (roles : ℕ → Role) (ends : ℕ → Reading FeedState) (messages new : ℕ → List Message) (streams left : ℕ → List ℕ)
     (channels : List Channel) (k : ℕ) (c : Channel) (fed : FeedState)
     → Follows roles ends messages streams channels → slice_get channels k ≡ Some c
-    → new k ≡ (tells fed (left k)).messages → Heir (ends k) fed (left k) → Stand (ends k) fed (left k)
+    → new k ≡ (transcript fed (left k)).events → Heir (ends k) fed (left k) → Stand (ends k) fed (left k)
     → ((j : ℕ) → (j ≡ k → ⊥) → new j ≡ messages j) → ((j : ℕ) → (j ≡ k → ⊥) → left j ≡ streams j)
     → Follows roles ends new left (slice_set channels k (with_feed c fed))
 follows-set roles ends messages new streams left channels k c fed follows there at heir stand messages_stay streams_stay j d is = elim (same_by j k) [
   | inl e ↦ here e.1
   | inr e ↦ other e.1
 ] where
-  here : j ≡ k → (d.role ≡ roles j) × (new j ≡ (tells d.fed (left j)).messages) × Heir (ends j) d.fed (left j) × Stand
+  here : j ≡ k → (d.role ≡ roles j) × (new j ≡ (transcript d.fed (left j)).events) × Heir (ends j) d.fed (left j) × Stand
       (ends j) d.fed (left j)
   here e =
       let found : with_feed c fed ≡ d = same_Some (with_feed c fed) d
       (sym (get-set channels k (with_feed c fed) c there) ∙ ap
       (λ i. slice_get (slice_set channels k (with_feed c fed)) i) (sym e) ∙ is) in
-      subst (λ i. (d.role ≡ roles i) × (new i ≡ (tells d.fed (left i)).messages) × Heir (ends i) d.fed (left i) × Stand
+      subst (λ i. (d.role ≡ roles i) × (new i ≡ (transcript d.fed (left i)).events) × Heir (ends i) d.fed (left i) × Stand
       (ends i) d.fed (left i)) (sym e)
-      (subst (λ x. (x.role ≡ roles k) × (new k ≡ (tells x.fed (left k)).messages) × Heir (ends k) x.fed (left k) × Stand
+      (subst (λ x. (x.role ≡ roles k) × (new k ≡ (transcript x.fed (left k)).events) × Heir (ends k) x.fed (left k) × Stand
       (ends k) x.fed (left k)) found ((follows k c there).0, at, heir, stand))
 
-  other : (j ≡ k → ⊥) → (d.role ≡ roles j) × (new j ≡ (tells d.fed (left j)).messages) × Heir (ends j) d.fed (left j)
+  other : (j ≡ k → ⊥) → (d.role ≡ roles j) × (new j ≡ (transcript d.fed (left j)).events) × Heir (ends j) d.fed (left j)
       × Stand (ends j) d.fed (left j)
   other e =
       let found : slice_get channels j ≡ Some d = sym (get-other channels k j (with_feed c fed) e) ∙ is in
       let before = follows j d found in (
         before.0,
-        messages_stay j e ∙ before.1 ∙ ap (λ bs. (tells d.fed bs).messages) (sym (streams_stay j e)),
+        messages_stay j e ∙ before.1 ∙ ap (λ bs. (transcript d.fed bs).events) (sym (streams_stay j e)),
         subst (λ bs. Heir (ends j) d.fed bs) (sym (streams_stay j e)) before.2,
         subst (λ bs. Stand (ends j) d.fed bs) (sym (streams_stay j e)) before.3,
       )
@@ -361,7 +361,7 @@ follows-same :
     → Follows roles ends messages left channels
 follows-same roles ends messages streams left channels same follows j d is = (
   (follows j d is).0,
-  (follows j d is).1 ∙ ap (λ bs. (tells d.fed bs).messages) (sym (same j)),
+  (follows j d is).1 ∙ ap (λ bs. (transcript d.fed bs).events) (sym (same j)),
   subst (λ bs. Heir (ends j) d.fed bs) (sym (same j)) (follows j d is).2,
   subst (λ bs. Stand (ends j) d.fed bs) (sym (same j)) (follows j d is).3,
 )
@@ -445,7 +445,7 @@ breaks s piece _ ok = refl
 
 from-heir : (end : Reading FeedState) (fed : FeedState) (bytes : List ℕ) → is_broken fed.condition ≡ false
     → Heir end fed bytes
-    → (f : StreamFault) → MayBreak (tells fed bytes).ending f → MayBreak end f
+    → (f : StreamFault) → MayBreak (transcript fed bytes).end f → MayBreak end f
 from-heir end fed bytes whole (inl h) = h
 from-heir end fed bytes whole (inr broken) = absurd (true-false (is_broken fed.condition) broken whole)
 
@@ -458,12 +458,12 @@ finish-heir : (laws : FeedLaws) (end : Reading FeedState) (fed : FeedState) (gav
     → Heir end (after_finish fed gave) []
 unfolding after_finish Finishes
 finish-heir laws end fed (Ok u) =
-    inl (λ f m. absurd (subst (λ x. MayBreak x.ending f) (tells-none laws (after_finish fed (Ok u))) m))
+    inl (λ f m. absurd (subst (λ x. MayBreak x.end f) (tells-none laws (after_finish fed (Ok u))) m))
 finish-heir laws end fed (Err g) = inr refl
 
 over-end : (laws : FeedLaws) (end : Reading FeedState) (fed : FeedState) (bytes : List ℕ) → bytes ≡ [] →
-    (tells fed bytes).ending ≡ end → end ≡ Ok fed
-over-end laws end fed bytes none e = sym e ∙ ap (λ ys. (tells fed ys).ending) none ∙ ap (λ x. x.ending)
+    (transcript fed bytes).end ≡ end → end ≡ Ok fed
+over-end laws end fed bytes none e = sym e ∙ ap (λ ys. (transcript fed ys).end) none ∙ ap (λ x. x.end)
     (tells-none laws fed)
 
 valid-stands : {X : Type 0} (m : Reading X) (f : StreamFault) → IsValid m → Stands m f → ⊥
@@ -582,16 +582,16 @@ module _ (laws : FeedLaws) (conf : Config) (ends : ℕ → Reading FeedState) (m
       (there : slice_get s.channels (place conf name) ≡ Some c) (whole : is_broken c.fed.condition ≡ false)
       (still : ls ≡ sinks) where
     -- the feed isn't broken
-    heir : (f : StreamFault) → MayBreak (tells c.fed (streams (place conf name))).ending f → MayBreak
+    heir : (f : StreamFault) → MayBreak (transcript c.fed (streams (place conf name))).end f → MayBreak
         (ends (place conf name)) f
     heir = by_heir (follows (place conf name) c there).2 where
       by_heir : Heir (ends (place conf name)) c.fed (streams (place conf name)) → (f : StreamFault) → MayBreak
-          (tells c.fed (streams (place conf name))).ending f → MayBreak (ends (place conf name)) f
+          (transcript c.fed (streams (place conf name))).end f → MayBreak (ends (place conf name)) f
       by_heir (inl h) = h
       by_heir (inr broken) = absurd (true-false (is_broken c.fed.condition) broken whole)
 
     stand-on : (fed : FeedState) (left : List ℕ) → BeginsWith (b ∷ bs) (streams (place conf name)) →
-        (tells c.fed (streams (place conf name))).ending ≡ (tells fed left).ending → Stand
+        (transcript c.fed (streams (place conf name))).end ≡ (transcript fed left).end → Stand
         (ends (place conf name)) fed left
     stand-on fed left begins same = by_stand (follows (place conf name) c there).3 where
       by_stand : Stand (ends (place conf name)) c.fed (streams (place conf name)) → Stand
@@ -609,7 +609,7 @@ module _ (laws : FeedLaws) (conf : Config) (ends : ℕ → Reading FeedState) (m
         (faulty c.fed (b ∷ bs) f ok may) where
           none_left : (fs : Faults) → gives c.fed (b ∷ bs) ≡ Err fs → messages (place conf name) ≡ []
           none_left fs at =
-              (follows (place conf name) c there).1 ∙ ap (λ ys. (tells c.fed ys).messages) begins.1 ∙ ap (λ x. x.messages)
+              (follows (place conf name) c there).1 ∙ ap (λ ys. (transcript c.fed ys).events) begins.1 ∙ ap (λ x. x.events)
               (tells-fault laws c.fed b bs begins.0 fs at)
 
           some_left : 0 < length (put_at (place conf name) (drop (used_of answer) (streams (place conf name))) streams
@@ -625,7 +625,7 @@ module _ (laws : FeedLaws) (conf : Config) (ends : ℕ → Reading FeedState) (m
             by_stand : Stand (ends (place conf name)) c.fed (streams (place conf name)) → Stands (ends (place conf name)) f
             by_stand (going e) =
                 subst (λ x. Stands x f)
-                (sym (ap (λ ys. (tells c.fed ys).ending) begins.1 ∙ ap (λ x. x.ending)
+                (sym (ap (λ ys. (transcript c.fed ys).end) begins.1 ∙ ap (λ x. x.end)
                 (tells-fault laws c.fed b bs begins.0 fs at)) ∙ e) among
             by_stand (stuck broken some) = absurd (true-false (is_broken c.fed.condition) broken whole)
             by_stand (over d e none g) = absurd (none-there b (bs ++ begins.0) (sym none ∙ begins.1))
@@ -643,8 +643,8 @@ module _ (laws : FeedLaws) (conf : Config) (ends : ℕ → Reading FeedState) (m
                 ∙ ap (λ x. replay conf marks messages (record { past = x.past; bytes = bytes })) (sym state);
             now = λ j g h.
                 let same : f ≡ g = same-stream f g (subst (λ a. IsFault a g) answers h.1) in
-                let ending : (tells c.fed (streams (place conf name))).ending ≡ Err fs = ap
-                (λ ys. (tells c.fed ys).ending) begins.1 ∙ ap (λ x. x.ending)
+                let ending : (transcript c.fed (streams (place conf name))).end ≡ Err fs = ap
+                (λ ys. (transcript c.fed ys).end) begins.1 ∙ ap (λ x. x.end)
                 (tells-fault laws c.fed b bs begins.0 fs at) in
                 subst (λ i. MayBreak (ends i) g) h.0 (subst (λ x. MayBreak (ends (place conf name)) x) same
                 (heir f (subst (λ x. MayBreak x f) (sym ending) stands)));
@@ -705,22 +705,22 @@ module _ (laws : FeedLaws) (conf : Config) (ends : ℕ → Reading FeedState) (m
           ∙ ap (λ ys. drop (length (b ∷ bs)) ys) begins.1
           ∙ drop-append_seam (b ∷ bs) begins.0
 
-      here : messages (place conf name) ≡ (tells fed
+      here : messages (place conf name) ≡ (transcript fed
           (put_at (place conf name) (drop (used_of answer) (streams (place conf name))) streams
-          (place conf name))).messages
+          (place conf name))).events
       here =
           (follows (place conf name) c there).1
-          ∙ ap (λ ys. (tells c.fed ys).messages) begins.1
-          ∙ ap (λ x. x.messages) (tells-partial laws c.fed b bs begins.0 u at)
-          ∙ ap (λ ys. (tells fed ys).messages) (sym rest)
+          ∙ ap (λ ys. (transcript c.fed ys).events) begins.1
+          ∙ ap (λ x. x.events) (tells-partial laws c.fed b bs begins.0 u at)
+          ∙ ap (λ ys. (transcript fed ys).events) (sym rest)
 
-      same_ending : (tells c.fed (streams (place conf name))).ending ≡
-          (tells fed (put_at (place conf name) (drop (used_of answer) (streams (place conf name))) streams
-          (place conf name))).ending
+      same_ending : (transcript c.fed (streams (place conf name))).end ≡
+          (transcript fed (put_at (place conf name) (drop (used_of answer) (streams (place conf name))) streams
+          (place conf name))).end
       same_ending =
-          ap (λ ys. (tells c.fed ys).ending) begins.1
-          ∙ ap (λ x. x.ending) (tells-partial laws c.fed b bs begins.0 u at)
-          ∙ ap (λ ys. (tells fed ys).ending) (sym rest)
+          ap (λ ys. (transcript c.fed ys).end) begins.1
+          ∙ ap (λ x. x.end) (tells-partial laws c.fed b bs begins.0 u at)
+          ∙ ap (λ ys. (transcript fed ys).end) (sym rest)
 
     -- a message was completed
     push-whole : (u : ℕ) (e : Message) → gives c.fed (b ∷ bs) ≡ Ok (given u (Some e)) → BeginsWith (b ∷ bs)
@@ -759,7 +759,7 @@ module _ (laws : FeedLaws) (conf : Config) (ends : ℕ → Reading FeedState) (m
       fed = after_push c.fed (b ∷ bs) (Ok (given u (Some e)))
 
       es : List Message
-      es = (tells fed (drop u (streams (place conf name)))).messages
+      es = (transcript fed (drop u (streams (place conf name)))).events
 
       used : used_of answer ≡ u
       used = ap (λ a. used_of a) answers ∙ (event-completes (tables_of conf) s.past u (kind_of e) (edit_in c.role e)).1
@@ -767,28 +767,28 @@ module _ (laws : FeedLaws) (conf : Config) (ends : ℕ → Reading FeedState) (m
       next : messages (place conf name) ≡ e ∷ es
       next =
           (follows (place conf name) c there).1
-          ∙ ap (λ ys. (tells c.fed ys).messages) begins.1
-          ∙ ap (λ x. x.messages) (tells-whole laws c.fed b bs begins.0 u e at)
-          ∙ ap (λ ys. e ∷ (tells fed (drop u ys)).messages) (sym begins.1)
+          ∙ ap (λ ys. (transcript c.fed ys).events) begins.1
+          ∙ ap (λ x. x.events) (tells-whole laws c.fed b bs begins.0 u e at)
+          ∙ ap (λ ys. e ∷ (transcript fed (drop u ys)).events) (sym begins.1)
 
       here : put_at (place conf name) es messages (place conf name) ≡
-          (tells fed (put_at (place conf name) (drop (used_of answer) (streams (place conf name))) streams
-          (place conf name))).messages
+          (transcript fed (put_at (place conf name) (drop (used_of answer) (streams (place conf name))) streams
+          (place conf name))).events
       here =
           put_at-same (place conf name) es messages
-          ∙ ap (λ n. (tells fed (drop n (streams (place conf name)))).messages) (sym used)
-          ∙ ap (λ ys. (tells fed ys).messages) (sym
+          ∙ ap (λ n. (transcript fed (drop n (streams (place conf name)))).events) (sym used)
+          ∙ ap (λ ys. (transcript fed ys).events) (sym
           (put_at-same (place conf name) (drop (used_of answer) (streams (place conf name))) streams))
 
-      same_ending : (tells c.fed (streams (place conf name))).ending ≡
-          (tells fed (put_at (place conf name) (drop (used_of answer) (streams (place conf name))) streams
-          (place conf name))).ending
+      same_ending : (transcript c.fed (streams (place conf name))).end ≡
+          (transcript fed (put_at (place conf name) (drop (used_of answer) (streams (place conf name))) streams
+          (place conf name))).end
       same_ending =
-          ap (λ ys. (tells c.fed ys).ending) begins.1
-          ∙ ap (λ x. x.ending) (tells-whole laws c.fed b bs begins.0 u e at)
-          ∙ ap (λ ys. (tells fed (drop u ys)).ending) (sym begins.1)
-          ∙ ap (λ n. (tells fed (drop n (streams (place conf name)))).ending) (sym used)
-          ∙ ap (λ ys. (tells fed ys).ending) (sym (put_at-same (place conf name)
+          ap (λ ys. (transcript c.fed ys).end) begins.1
+          ∙ ap (λ x. x.end) (tells-whole laws c.fed b bs begins.0 u e at)
+          ∙ ap (λ ys. (transcript fed (drop u ys)).end) (sym begins.1)
+          ∙ ap (λ n. (transcript fed (drop n (streams (place conf name)))).end) (sym used)
+          ∙ ap (λ ys. (transcript fed ys).end) (sym (put_at-same (place conf name)
           (drop (used_of answer) (streams (place conf name))) streams))
 
       replays : (marks : List Mark) → replay conf (of_feed (place conf name) ∷ marks) messages
@@ -933,13 +933,13 @@ module _ (laws : FeedLaws) (conf : Config) (ends : ℕ → Reading FeedState) (m
             let none : streams (place conf name) ≡ [] = heard p.gave
             (subst (λ a. IfAnswered a (streams (place conf name) ≡ [])) p.answers offers) in
             let fed : FeedState = after_finish c.fed p.gave in
-            let none_told : (d : FeedState) → (tells d (streams (place conf name))).messages ≡ [] = λ d. ap
-            (λ ys. (tells d ys).messages) none ∙ ap (λ x. x.messages) (tells-none laws d) in
+            let none_told : (d : FeedState) → (transcript d (streams (place conf name))).events ≡ [] = λ d. ap
+            (λ ys. (transcript d ys).events) none ∙ ap (λ x. x.events) (tells-none laws d) in
             let may : (f : StreamFault) → Finishes c.fed (Err f) → MayBreak (ends (place conf name)) f =
             λ f m. from-heir (ends (place conf name)) c.fed (streams (place conf name)) whole
             (follows (place conf name) c there).2 f
-            (subst (λ ys. MayBreak (tells c.fed ys).ending f) (sym none)
-            (subst (λ x. MayBreak x.ending f) (sym (tells-none laws c.fed)) m)) in
+            (subst (λ ys. MayBreak (transcript c.fed ys).end f) (sym none)
+            (subst (λ x. MayBreak x.end f) (sym (tells-none laws c.fed)) m)) in
             goes (ap (λ x. x.past) state)
             (λ f h. may f (finish-fault c.fed p.gave f p.may (subst (λ a. IsFault a f) p.answers h)))
             (λ d. finish-well laws (ends (place conf name)) c.fed p.gave (streams (place conf name)) whole none p.may
@@ -1150,21 +1150,21 @@ run-goes laws conf []
 run-goes laws conf (st ∷ steps) [] ends messages streams bytes before sinks s new after follows took ample offers run = elim run [ ]
 
 -- at first
-follows-start : (conf : Config) (streams : ℕ → List ℕ) → Follows (role_at conf) (λ k. (told_at conf streams k).ending)
-    (λ k. (told_at conf streams k).messages) streams (start conf).channels
+follows-start : (conf : Config) (streams : ℕ → List ℕ) → Follows (role_at conf) (λ k. (told_at conf streams k).end)
+    (λ k. (told_at conf streams k).events) streams (start conf).channels
 follows-start conf streams k c is = by_plan (slice_get conf.feeds k) refl
     (sym (slice_get-map (opened (tables_of conf)) conf.feeds k) ∙ is) where
       by_plan : (o : Option FeedConfig) → slice_get conf.feeds k ≡ o → option_map (opened (tables_of conf)) o ≡ Some c
-          → (c.role ≡ role_by o) × ((told_of conf o (streams k)).messages ≡ (tells c.fed (streams k)).messages) × Heir
-          (told_of conf o (streams k)).ending c.fed (streams k)
-          × Stand (told_of conf o (streams k)).ending c.fed (streams k)
+          → (c.role ≡ role_by o) × ((told_of conf o (streams k)).events ≡ (transcript c.fed (streams k)).events) × Heir
+          (told_of conf o (streams k)).end c.fed (streams k)
+          × Stand (told_of conf o (streams k)).end c.fed (streams k)
       by_plan None there h = absurd (none-some c h)
       by_plan (Some plan) there h =
           let same : opened (tables_of conf) plan ≡ c = same_Some (opened (tables_of conf) plan) c h in (
             ap (λ x. x.role) (sym same),
-            ap (λ x. (tells x.fed (streams k)).messages) same,
-            inl (λ f m. subst (λ x. MayBreak (tells x.fed (streams k)).ending f) (sym same) m),
-            going (ap (λ x. (tells x.fed (streams k)).ending) (sym same)),
+            ap (λ x. (transcript x.fed (streams k)).events) same,
+            inl (λ f m. subst (λ x. MayBreak (transcript x.fed (streams k)).end f) (sym same) m),
+            going (ap (λ x. (transcript x.fed (streams k)).end) (sym same)),
           )
 
 took-nothing : (sinks : List Sunk) → Took (λ n. []) sinks sinks
@@ -1174,38 +1174,37 @@ run-replayed : (laws : FeedLaws) (conf : Config) (streams : ℕ → List ℕ) (s
     (sinks : List Sunk) (new : State) (after : List Sunk)
     → IsRunOn conf streams steps replies sinks new after
     → Replayed conf (replayed conf streams (order conf steps replies)) new sinks after
-    (λ k. (told_at conf streams k).ending) streams steps replies
+    (λ k. (told_at conf streams k).end) streams steps replies
 run-replayed laws conf streams steps replies sinks new after run =
-    run-goes laws conf steps replies (λ k. (told_at conf streams k).ending)
-    (λ k. (told_at conf streams k).messages) streams (λ n. []) sinks sinks (start conf) new after
+    run-goes laws conf steps replies (λ k. (told_at conf streams k).end)
+    (λ k. (told_at conf streams k).events) streams (λ n. []) sinks sinks (start conf) new after
     (follows-start conf streams) (took-nothing sinks) run.ample run.offers run.runs
 
 pub run-is-replayed : FeedLaws → RunIsReplayed
 run-is-replayed laws conf streams steps replies sinks new after run =
     let r : Replayed conf (replayed conf streams (order conf steps replies)) new sinks after
-    (λ k. (told_at conf streams k).ending) streams steps replies = run-replayed laws conf streams steps replies sinks new after run in
-    (r.past, r.took)
+    (λ k. (told_at conf streams k).end) streams steps replies = run-replayed laws conf streams steps replies sinks new after run in
+    record { past = r.past; took = r.took }
 
 pub same-runs : FeedLaws → SameRuns
 same-runs laws conf streams steps others replies answers sinks after sinks_too after_too new other run run_too same =
     let r : Replayed conf (replayed conf streams (order conf steps replies)) new sinks after
-    (λ k. (told_at conf streams k).ending) streams steps replies = run-replayed laws conf streams steps replies sinks new after run in
+    (λ k. (told_at conf streams k).end) streams steps replies = run-replayed laws conf streams steps replies sinks new after run in
     let r_too : Replayed conf (replayed conf streams (order conf steps replies)) other sinks_too after_too
-    (λ k. (told_at conf streams k).ending) streams others answers =
+    (λ k. (told_at conf streams k).end) streams others answers =
     subst (λ marks. Replayed conf (replayed conf streams marks) other sinks_too after_too
-    (λ k. (told_at conf streams k).ending) streams others answers) (sym same)
+    (λ k. (told_at conf streams k).end) streams others answers) (sym same)
     (run-replayed laws conf streams others answers sinks_too other after_too run_too) in
     record {
-      past = r.past ∙ sym r_too.past;
-      bytes = (replayed conf streams (order conf steps replies)).bytes;
-      took = r.took;
-      took_too = r_too.took;
+      left = replayed conf streams (order conf steps replies);
+      leaves = record { past = r.past; took = r.took };
+      leaves_too = record { past = r_too.past; took = r_too.took };
     }
 
 pub faults-are-told : FeedLaws → FaultsAreTold
 faults-are-told laws conf streams steps replies sinks new after run k f h =
     let r : Replayed conf (replayed conf streams (order conf steps replies)) new sinks after
-    (λ k. (told_at conf streams k).ending) streams steps replies =
+    (λ k. (told_at conf streams k).end) streams steps replies =
     run-replayed laws conf streams steps replies sinks new after run in
     r.faults k f h
 
@@ -1214,10 +1213,10 @@ ok-err s fs e = absurd (cc)
 
 pub faults-break : FeedLaws → FaultsBreak
 faults-break laws conf streams steps replies sinks new after run k c fs there is whole = by_offered whole where
-  never : Stand (told_at conf streams k).ending c.fed (left_at_end conf streams steps replies k)
+  never : Stand (told_at conf streams k).end c.fed (left_at_end conf streams steps replies k)
       → left_at_end conf streams steps replies k ≡ [] → is_broken c.fed.condition ≡ true
   never (going e) none =
-      absurd (ok-err c.fed fs (sym (ap (λ x. x.ending) (tells-none laws c.fed)) ∙ ap (λ ys. (tells c.fed ys).ending)
+      absurd (ok-err c.fed fs (sym (ap (λ x. x.end) (tells-none laws c.fed)) ∙ ap (λ ys. (transcript c.fed ys).end)
       (sym none) ∙ e ∙ is))
   never (stuck broken some) none = broken
   never (over d e n g) none = absurd (ok-err d fs (sym e ∙ is))
@@ -1225,7 +1224,7 @@ faults-break laws conf streams steps replies sinks new after run k c fs there is
   by_offered : IsOfferedWhole (left_at_end conf streams steps replies k) c → is_broken c.fed.condition ≡ true
   by_offered (inl none) =
       let r : Replayed conf (replayed conf streams (order conf steps replies)) new sinks after
-      (λ k. (told_at conf streams k).ending) streams steps replies =
+      (λ k. (told_at conf streams k).end) streams steps replies =
       run-replayed laws conf streams steps replies sinks new after run in
       never (r.stands k c there) none
   by_offered (inr broken) = broken
@@ -1233,13 +1232,13 @@ faults-break laws conf streams steps replies sinks new after run k c fs there is
 pub finish-is-told : FeedLaws → FinishIsTold
 finish-is-told laws conf streams steps replies sinks new after run k c h m =
     let r : Replayed conf (replayed conf streams (order conf steps replies)) new sinks after
-    (λ j. (told_at conf streams j).ending) streams steps replies =
+    (λ j. (told_at conf streams j).end) streams steps replies =
     run-replayed laws conf streams steps replies sinks new after run in
     r.well k h c m
 
 pub push-faults-are-told : FeedLaws → PushFaultsAreTold
 push-faults-are-told laws conf streams steps replies sinks new after run k c h =
     let r : Replayed conf (replayed conf streams (order conf steps replies)) new sinks after
-    (λ j. (told_at conf streams j).ending) streams steps replies =
+    (λ j. (told_at conf streams j).end) streams steps replies =
     run-replayed laws conf streams steps replies sinks new after run in
     r.pushes k c h

@@ -4,6 +4,9 @@ use Rattle.std.proofs.Common.{
   ℕ,
   zero,
   suc,
+  Bool,
+  true,
+  false,
   ◌<◌,
   ◌≤◌,
   Option,
@@ -39,6 +42,8 @@ use Rattle.values.specs.declared.schema.Schema.{Schema}
 use Rattle.view_lang.specs.ConfigRules.{IsView}
 use Rattle.view_lang.specs.Contents.{Contents}
 use Rattle.view_lang.specs.ViewColumns.{view_columns}
+use Rattle.view_lang.specs.declared.config.Role.{Role}
+use Rattle.feed.specs.States.{is_broken}
 use Rattle.row_keys.specs.Slots.{Slot, live}
 use Rattle.row_keys.specs.Store.{Store}
 use Rattle.session.specs.Names.{place_of}
@@ -62,9 +67,11 @@ use Rattle.session.specs.Shows.{
 }
 use Rattle.session.specs.Steps.{
   Channel,
+  FinishBy,
   FinishStep,
   FinishTo,
   Past,
+  PushBy,
   PushStep,
   PushTo,
   State,
@@ -112,6 +119,49 @@ main_moved p q same some =
     let two = tables_length q.tables.stores in
     let equal = ap length same in
     omega (arith, one, two, equal, some)
+
+-- The names of the side tables and what is declared of the feeds stay.
+abbrev pub Declares : SessionParts → SessionParts → Type 0
+Declares p q = (q.sides ≡ p.sides) × (q.feeds ≡ p.feeds)
+
+sides_moved :
+    (p q : SessionParts) → Declares p q → tables_in q.tables.stores ≡ tables_in p.tables.stores
+    → length p.sides ≡ length (drop 1 (tables_in p.tables.stores))
+    → length q.sides ≡ length (drop 1 (tables_in q.tables.stores))
+sides_moved p q same tables named = ap length same.0 ∙ named ∙ sym (ap (λ ts. length (drop 1 ts)) tables)
+
+abbrev roles_of : List Link → List Role
+roles_of links = map (λ l. l.role) links
+
+abbrev declared_roles : List FeedConfig → List Role
+declared_roles feeds = map (λ f. f.role) feeds
+
+links_moved :
+    (p q : SessionParts) → Declares p q → roles_of q.links ≡ roles_of p.links
+    → roles_of p.links ≡ declared_roles p.feeds → roles_of q.links ≡ declared_roles q.feeds
+links_moved p q same roles linked = roles ∙ linked ∙ sym (ap declared_roles same.1)
+
+-- a link in the place of one with its role
+roles_set :
+    (links : List Link) (k : ℕ) (l m : Link) → l ≡ get_or links k l → k < length links → m.role ≡ l.role
+    → roles_of (slice_set links k m) ≡ roles_of links
+roles_set [] k l m is below same = refl
+roles_set (x ∷ xs) zero l m is below same = ap (λ r. r ∷ roles_of xs) (same ∙ ap (λ (y : Link). y.role) is)
+roles_set (x ∷ xs) (suc k) l m is below same =
+    ap (λ rs. x.role ∷ rs) (roles_set xs k l m is (omega (arith, below)) same)
+
+-- Neither a push nor the end of an input changes the role of a channel.
+push_role :
+    (tables : List Table) (past next_past : Past) (c next : Channel) (b : Bool) (piece : List ℕ)
+    (answer : Result Came Fault) → PushBy tables past c b piece answer next_past next → next.role ≡ c.role
+push_role tables past next_past c next true piece answer h = ap (λ (x : Channel). x.role) h.2
+push_role tables past next_past c next false [] answer h = ap (λ (x : Channel). x.role) h.2
+push_role tables past next_past c next false (b ∷ bs) answer h = ap (λ (x : Channel). x.role) h.stream
+
+finish_role :
+    (c next : Channel) (b : Bool) (answer : Result (Unit {0}) Fault) → FinishBy c b answer next → next.role ≡ c.role
+finish_role c next true answer h = ap (λ (x : Channel). x.role) h.1
+finish_role c next false answer h = ap (λ (x : Channel). x.role) h.channel
 
 -- A step whose state is told at a feed's place.
 abbrev AtPlace : (ℕ → Option Channel → State → Type 0) → List (List ℕ) → List ℕ → State → State → Type 0
@@ -189,12 +239,17 @@ pub push_known :
     → k ≡ place_of name (map (λ f. f.name) p.feeds)
     → k < length p.links → l ≡ get_or p.links k l
     → PushesTo (tables_in p.tables.stores) l (rows_in p.tables.stores) p.records piece answer m (rows_in q.tables.stores) q.records
-    → (tables_in q.tables.stores) ≡ (tables_in p.tables.stores) → q.links ≡ slice_set p.links k m
+    → (tables_in q.tables.stores) ≡ (tables_in p.tables.stores) → q.links ≡ slice_set p.links k m → Declares p q
     → IsStep p (λ s t. PushStep (config_of p) s name piece answer t) q
-push_known p q name piece k l m answer at below is pushes table links s shown =
+push_known p q name piece k l m answer at below is pushes table links declares s shown =
     let here = each_get (tables_in p.tables.stores) p.links s.channels k l shown.channels below is in
     let made : Pushed (tables_in p.tables.stores) s.past here.0 piece answer m (rows_in q.tables.stores) q.records =
     pushes s.past here.0 shown.past here.2 in
+    let role : m.role ≡ l.role =
+    made.feed.role
+    ∙ push_role (tables_in p.tables.stores) s.past made.after here.0 made.channel (is_broken here.0.fed.condition) piece
+    answer made.pushes
+    ∙ sym here.2.role in
     let t : State = moved s k made.after made.channel in
     let goes : PushTo (tables_in p.tables.stores) s k (Some here.0) piece answer t =
     record { past = made.after; channel = made.channel; pushes = made.pushes; leads = refl } in
@@ -206,6 +261,8 @@ push_known p q name piece k l m answer at below is pushes table links s shown =
           step,
       record {
         main = main_moved p q table shown.main;
+        sides = sides_moved p q declares table shown.sides;
+        links = links_moved p q declares (ap roles_of links ∙ roles_set p.links k l m is below role) shown.links;
         past = past_moved (tables_in p.tables.stores) (tables_in q.tables.stores) (rows_in q.tables.stores) q.records made.after table
             made.shows;
         channels = channels_moved p q s.channels k m made.channel table links shown.channels made.feed;
@@ -216,10 +273,14 @@ pub finish_known :
     (p q : SessionParts) (name : List ℕ) (k : ℕ) (l m : Link) (answer : Result (Unit {0}) Fault)
     → k ≡ place_of name (map (λ f. f.name) p.feeds)
     → k < length p.links → l ≡ get_or p.links k l → EndsTo l answer m → q.tables.stores ≡ p.tables.stores → q.records ≡ p.records
-    → q.links ≡ slice_set p.links k m → IsStep p (λ s t. FinishStep (config_of p) s name answer t) q
-finish_known p q name k l m answer at below is ends stores records links s shown =
+    → q.links ≡ slice_set p.links k m → Declares p q
+    → IsStep p (λ s t. FinishStep (config_of p) s name answer t) q
+finish_known p q name k l m answer at below is ends stores records links declares s shown =
     let here = each_get (tables_in p.tables.stores) p.links s.channels k l shown.channels below is in
     let made : Ended (tables_in p.tables.stores) here.0 answer m = ends (tables_in p.tables.stores) here.0 here.2 in
+    let role : m.role ≡ l.role =
+    made.feed.role ∙ finish_role here.0 made.channel (is_broken here.0.fed.condition) answer made.finishes
+    ∙ sym here.2.role in
     let t : State = moved s k s.past made.channel in
     let table : tables_in q.tables.stores ≡ tables_in p.tables.stores = ap tables_in stores in
     let goes : FinishTo s k (Some here.0) answer t =
@@ -233,6 +294,8 @@ finish_known p q name k l m answer at below is ends stores records links s shown
       place_is (λ n o u. FinishTo s n o answer u) (feed_names p) name s t k (Some here.0) at here.1 goes,
       record {
         main = main_moved p q table shown.main;
+        sides = sides_moved p q declares table shown.sides;
+        links = links_moved p q declares (ap roles_of links ∙ roles_set p.links k l m is below role) shown.links;
         past = past_moved (tables_in p.tables.stores) (tables_in q.tables.stores) (rows_in q.tables.stores) q.records s.past table slots;
         channels = channels_moved p q s.channels k m made.channel table links shown.channels made.feed;
       },
@@ -242,8 +305,9 @@ pub undo_known :
     (p q : SessionParts) (answer : Result (Unit {0}) Fault)
     → ((past : Past) → ShowsPast (tables_in p.tables.stores) (rows_in p.tables.stores) p.records past
     → (next : Past) × Undoes past answer next × ShowsPast (tables_in p.tables.stores) (rows_in q.tables.stores) q.records next)
-    → (tables_in q.tables.stores) ≡ (tables_in p.tables.stores) → q.links ≡ p.links → IsStep p (λ s t. UndoTo s answer t) q
-undo_known p q answer undoes table links s shown =
+    → (tables_in q.tables.stores) ≡ (tables_in p.tables.stores) → q.links ≡ p.links → Declares p q
+    → IsStep p (λ s t. UndoTo s answer t) q
+undo_known p q answer undoes table links declares s shown =
     let made = undoes s.past shown.past in
     let placed : ShowsEach (tables_in p.tables.stores) q.links s.channels =
     subst (λ (ls : List Link). ShowsEach (tables_in p.tables.stores) ls s.channels) (sym links) shown.channels in (
@@ -251,6 +315,8 @@ undo_known p q answer undoes table links s shown =
       (made.0, made.1, refl),
       record {
         main = main_moved p q table shown.main;
+        sides = sides_moved p q declares table shown.sides;
+        links = links_moved p q declares (ap roles_of links) shown.links;
         past = past_moved (tables_in p.tables.stores) (tables_in q.tables.stores) (rows_in q.tables.stores) q.records made.0 table made.2;
         channels = subst (λ (ts : List Table). ShowsEach ts q.links s.channels) (sym table) placed;
       },
@@ -288,9 +354,9 @@ pub write_known :
     → WriteAnswers old new answer (stream_of (tables_in p.tables.stores) v (world_of (rows_in p.tables.stores)))
     → IsReadIfWhole (tables_in p.tables.stores) v (world_of (rows_in p.tables.stores)) answer
     → (tables_in q.tables.stores) ≡ (tables_in p.tables.stores)
-    → (rows_in q.tables.stores) ≡ (rows_in p.tables.stores) → q.links ≡ p.links → q.records ≡ p.records
+    → (rows_in q.tables.stores) ≡ (rows_in p.tables.stores) → q.links ≡ p.links → q.records ≡ p.records → Declares p q
     → IsStep p (λ s t. WriteStep (config_of p) s name old answer new × (t ≡ s)) q
-write_known p q name k v old new answer at below is writes read table slots links records s shown =
+write_known p q name k v old new answer at below is writes read table slots links records declares s shown =
     let found : slice_get p.tables.views k ≡ Some v = slice_get-get_or p.tables.views k v below ∙ ap (λ x. Some x) (sym is) in
     let there : view_in (config_of p) name ≡ Some v =
     subst (λ (n : ℕ). slice_get p.tables.views n ≡ Some v) at found in
@@ -314,6 +380,8 @@ write_known p q name k v old new answer at below is writes read table slots link
       (step, refl),
       record {
         main = main_moved p q table shown.main;
+        sides = sides_moved p q declares table shown.sides;
+        links = links_moved p q declares (ap roles_of links) shown.links;
         past = past_moved (tables_in p.tables.stores) (tables_in q.tables.stores) (rows_in q.tables.stores) q.records s.past table held;
         channels = subst (λ (ts : List Table). ShowsEach ts q.links s.channels) (sym table) placed;
       },

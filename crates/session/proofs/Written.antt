@@ -100,7 +100,7 @@ pub view_read :
     (fields : List (Rose NamedType)) (shown : List (List Datum)) → 0 < length rows
     → Viewed tables v (side_by tables rows v) (main_rows rows) → fields ≡ view_columns tables v
     → shown ≡ view_rows v (side_by tables rows v) (main_rows rows) → writer.IsTable fields shown
-    → IsReadAsView tables v (world_of rows)
+    → IsReadAsView tables v (world_of rows) (stream_of tables v (world_of rows))
 view_read means views tables rows v fields shown some viewed named same fits =
     let columns : List (Rose NamedType) = view_columns tables v in
     let whole : List (List Datum) = view_of tables v (world_of rows) in

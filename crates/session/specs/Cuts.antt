@@ -4,8 +4,6 @@ use Rattle.std.specs.Prelude.{
   ◌≡◌,
   ◌⊎◌,
   ℕ,
-  zero,
-  suc,
   ◌++◌,
   ◌==◌,
   All,
@@ -24,7 +22,6 @@ use Rattle.std.specs.Prelude.{
   drop,
   if◌then◌else◌,
   is_some,
-  length,
   slice_get,
 }
 use Rattle.std.specs.Io.KnownBytes.{Appends}
@@ -34,8 +31,9 @@ use Rattle.values.specs.declared.causes.Cause.{Cause}
 use Rattle.values.specs.declared.causes.Cause.TheVariants as cause
 use Rattle.values.specs.declared.faults.StreamFault.{StreamFault}
 use Rattle.stream_writer.specs.Sinks.{Sunk}
-use Rattle.feed.specs.Events.{Event as Message, Given}
-use Rattle.feed.specs.States.{FeedState, Finishes, after_push, fresh, gives, is_broken}
+use Rattle.feed.specs.Events.{Event as Message}
+use Rattle.feed.specs.States.{FeedState, Finishes, fresh, is_broken}
+use Rattle.feed.specs.Transcript.{Transcript, no_events, transcript}
 use Rattle.view_lang.specs.Config.{Config, FeedConfig, View, tables_of}
 use Rattle.view_lang.specs.ViewColumns.{feed_columns}
 use Rattle.view_lang.specs.World.{world}
@@ -66,41 +64,13 @@ use Rattle.session.specs.declared.calls.ViewFault.TheVariants as view_fault
 
 -- What bytes tell
 
--- the messages, and then the faults that stand, or where the feed is once all are consumed
-pub record Told : Type 0 where
-  pub messages : List Message
-  pub ending : Reading FeedState
+abbrev pub told_of : Config → Option FeedConfig → List ℕ → Transcript
+told_of conf None bytes = no_events (Ok (fresh None))
+told_of conf (Some plan) bytes = transcript (fresh (Some (feed_columns (tables_of conf) plan.role))) bytes
 
-abbrev pub ends : Reading FeedState → Told
-ends ending = record { messages = []; ending = ending }
-
-abbrev pub after_message : Message → Told → Told
-after_message m t = record { messages = m ∷ t.messages; ending = t.ending }
-
-abbrev pub told_message : (FeedState → List ℕ → Told) → FeedState → List ℕ → Given → Option Message → Told
-told_message next s bytes g None = ends (Ok (after_push s bytes (Ok g)))
-told_message next s bytes g (Some m) = after_message m (next (after_push s bytes (Ok g)) (drop g.used bytes))
-
-abbrev pub told_by : (FeedState → List ℕ → Told) → FeedState → List ℕ → Reading Given → Told
-told_by next s bytes (Ok g) = told_message next s bytes g g.event
-told_by next s bytes (Err fs) = ends (Err fs)
-
--- of which no more than n messages are looked at
-unfoldable pub told : ℕ → FeedState → List ℕ → Told
-told zero s bytes = ends (Ok s)
-told (suc n) s [] = ends (Ok s)
-told (suc n) s (b ∷ bs) = told_by (told n) s (b ∷ bs) (gives s (b ∷ bs))
-
--- Each message has a byte at least.
-unfoldable pub tells : FeedState → List ℕ → Told
-tells s bytes = told (length bytes) s bytes
-
-abbrev pub told_of : Config → Option FeedConfig → List ℕ → Told
-told_of conf None bytes = ends (Ok (fresh None))
-told_of conf (Some plan) bytes = tells (fresh (Some (feed_columns (tables_of conf) plan.role))) bytes
-
--- what the stream of a feed tells, from its beginning
-abbrev pub told_at : Config → (ℕ → List ℕ) → ℕ → Told
+-- what the stream of a feed tells, from its beginning: its messages, and then the faults that stand, or where the feed is
+-- once all is consumed
+abbrev pub told_at : Config → (ℕ → List ℕ) → ℕ → Transcript
 told_at conf streams k = told_of conf (slice_get conf.feeds k) (streams k)
 
 -- A feed of which so much is told may break by this fault: by a push, or by its finish where all its bytes are consumed.
@@ -264,6 +234,13 @@ Took bytes before after =
     (n : ℕ) (old : Sunk) → slice_get before n ≡ Some old
     → (new : Sunk) × (slice_get after n ≡ Some new) × Appends old.taken new.taken (bytes n)
 
+-- A run that ended in this state, and did this to its sinks, left so much: the edits that are accepted and not undone,
+-- how many of them can be undone, and of each sink that tells its bytes those that went into it. What was offered of a
+-- message that isn't complete is no part of it.
+pub record Leaves (left : Left) (new : State) (before after : List Sunk) : Type 0 where
+  pub past : new.past ≡ left.past
+  pub took : Took left.bytes before after
+
 -- a run from a fresh session, without want of memory and with sinks that didn't fail, that offers each feed its stream
 pub record IsRunOn (conf : Config) (streams : ℕ → List ℕ) (steps : List Step) (replies : List Reply)
     (sinks : List Sunk) (new : State) (after : List Sunk) : Type 0 where
@@ -272,7 +249,7 @@ pub record IsRunOn (conf : Config) (streams : ℕ → List ℕ) (steps : List St
   pub offers : Offers conf streams steps replies
 
 abbrev pub replayed : Config → (ℕ → List ℕ) → List Mark → Left
-replayed conf streams marks = replay conf marks (λ k. (told_at conf streams k).messages) nothing_left
+replayed conf streams marks = replay conf marks (λ k. (told_at conf streams k).events) nothing_left
 
 -- The laws
 
@@ -282,16 +259,16 @@ RunIsReplayed =
     (conf : Config) (streams : ℕ → List ℕ) (steps : List Step) (replies : List Reply) (sinks : List Sunk) (new : State)
     (after : List Sunk)
     → IsRunOn conf streams steps replies sinks new after
-    → (new.past ≡ (replayed conf streams (order conf steps replies)).past)
-    × Took (replayed conf streams (order conf steps replies)).bytes sinks after
+    → Leaves (replayed conf streams (order conf steps replies)) new sinks after
 
--- Two runs that offer the same bytes, in one order: they accept the same edits and write the same bytes.
+-- Two runs left the same.
 pub record SameLeft (new other : State) (sinks after sinks_too after_too : List Sunk) : Type 0 where
-  pub past : new.past ≡ other.past
-  pub bytes : ℕ → List ℕ
-  pub took : Took bytes sinks after
-  pub took_too : Took bytes sinks_too after_too
+  pub left : Left
+  pub leaves : Leaves left new sinks after
+  pub leaves_too : Leaves left other sinks_too after_too
 
+-- Two runs that offer each feed the same stream, with one order: they accept the same edits and write the same bytes.
+-- The beginnings of a run are runs, so they do at each mark of that order.
 abbrev pub SameRuns : Type 0
 SameRuns =
     (conf : Config) (streams : ℕ → List ℕ) (steps others : List Step) (replies answers : List Reply)
@@ -323,7 +300,7 @@ FaultsAreTold =
     (after : List Sunk)
     → IsRunOn conf streams steps replies sinks new after
     → (k : ℕ) (f : StreamFault) → Broke conf k f steps replies
-    → MayBreak (told_at conf streams k).ending f
+    → MayBreak (told_at conf streams k).end f
 
 -- what was never taken
 unfoldable pub left_at_end : Config → (ℕ → List ℕ) → List Step → List Reply → ℕ → List ℕ
@@ -342,7 +319,7 @@ FaultsBreak =
     (after : List Sunk)
     → IsRunOn conf streams steps replies sinks new after
     → (k : ℕ) (c : Channel) (fs : Faults) → slice_get new.channels k ≡ Some c
-    → (told_at conf streams k).ending ≡ Err fs
+    → (told_at conf streams k).end ≡ Err fs
     → IsOfferedWhole (left_at_end conf streams steps replies k) c
     → is_broken c.fed.condition ≡ true
 
@@ -367,7 +344,7 @@ FinishIsTold =
     (after : List Sunk)
     → IsRunOn conf streams steps replies sinks new after
     → (k : ℕ) (f : StreamFault) → EndedWell conf k steps replies
-    → MayBreak (told_at conf streams k).ending f → ⊥
+    → MayBreak (told_at conf streams k).end f → ⊥
 
 -- a push to the feed k answered this fault
 abbrev pub BreaksByPush : Config → ℕ → StreamFault → Step → Reply → Type 0
@@ -386,7 +363,7 @@ PushFaultsAreTold =
     (after : List Sunk)
     → IsRunOn conf streams steps replies sinks new after
     → (k : ℕ) (f : StreamFault) → BrokeByPush conf k f steps replies
-    → Stands (told_at conf streams k).ending f
+    → Stands (told_at conf streams k).end f
 
 -- the feed k is asked to finish
 abbrev pub AsksNow : Config → ℕ → Step → Type 0

@@ -8,3 +8,4 @@ pub mod Readings
 pub mod Sample
 pub mod Cuts
 pub mod Stale
+pub mod Visits

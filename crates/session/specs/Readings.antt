@@ -13,22 +13,17 @@ use Rattle.std.specs.Prelude.{
 }
 use denote.Ref.{Bor}
 use Rattle.std.specs.Io.KnownBytes.{Appends}
-use Rattle.schema_meta.specs.Means.{Means}
-use Rattle.schema_meta.specs.Story.{story_of}
 use Rattle.stream_writer.specs.Sinks.{Sunk}
 use Rattle.view_lang.specs.Config.{Config, View, tables_of}
-use Rattle.view_lang.specs.ViewColumns.{view_columns}
-use Rattle.view_lang.specs.Views.{view_of}
 use Rattle.view_lang.specs.World.{world}
-use Rattle.session.specs.Steps.{Run, State, start, view_in}
+use Rattle.session.specs.Steps.{IsReadAsView, Run, State, start, view_in}
 use Rattle.session.specs.declared.calls.Reply.{Reply}
 use Rattle.session.specs.declared.calls.Reply.TheVariants as reply
 use Rattle.session.specs.declared.calls.Step.{Step}
 use Rattle.session.specs.declared.calls.Step.TheVariants as step
 
 -- A view was written to the sink n after these steps of a fresh session. They are a run, which left some accepted edits
--- that aren't undone. The bytes that the sink gained are read as the table of the view: no fault stands in them, and
--- their columns and rows are those that the view's definition gives from scratch on what these edits leave.
+-- that aren't undone. The bytes that the sink gained are read as the table of the view over what these edits leave.
 pub record WroteView (conf : Config) (sinks : List Sunk) (steps : List Step) (replies : List Reply) (name : List ℕ)
     (n : ℕ) (later : List Step) (answers : List Reply) (new : State) (last : List Sunk) : Type 0 where
   pub left : State
@@ -41,9 +36,7 @@ pub record WroteView (conf : Config) (sinks : List Sunk) (steps : List Step) (re
   pub wrote : Sunk
   pub bytes : List ℕ
   pub gained : Appends old.taken wrote.taken bytes
-  pub read :
-      Means (story_of bytes) (view_columns (tables_of conf) view)
-      (view_of (tables_of conf) view (world (tables_of conf) left.past.edits))
+  pub read : IsReadAsView (tables_of conf) view (world (tables_of conf) left.past.edits) bytes
   pub rest : Run conf left (slice_set before n wrote) later answers new last
 
 -- It is so of each write of a run that was answered with a length.

@@ -95,9 +95,12 @@ parts_code =
     (λ p. record { sides = p.0; feeds = p.1.0; links = p.1.1.0; tables = p.1.1.1.0; records = p.1.1.1.1 })
     (λ _. refl)
 
--- A session, which has a main table, shows a state. It stores neither the edits nor the bytes that came.
+-- A session shows a state. It has a main table, a name for each side table, and for each feed that is declared, in order,
+-- a link with its role. It stores neither the edits nor the bytes that came.
 pub record Shows (p : SessionParts) (s : State) : Type 0 where
   pub main : 0 < length p.tables.stores
+  pub sides : length p.sides ≡ length (drop 1 (tables_in p.tables.stores))
+  pub links : map (λ l. l.role) p.links ≡ map (λ f. f.role) p.feeds
   pub past : ShowsPast (tables_in p.tables.stores) (rows_in p.tables.stores) p.records s.past
   pub channels : ShowsEach (tables_in p.tables.stores) p.links s.channels
 
@@ -109,7 +112,8 @@ abbrev pub AreShown : List Table → List View → List (List (Rose NamedType)) 
 AreShown tables views columns =
     All IsTable tables × All (IsView tables) views × (columns ≡ map (view_columns tables) views)
 
--- What holds of each session: some state is shown, and the views are of its tables and have these columns.
+-- What holds of each session: some state is shown, so each feed has its link, and the views are of its tables and have
+-- these columns.
 pub record IsSession (p : SessionParts) (capacity : ℕ) (columns : List (List (Rose NamedType))) : Type 0 where
   pub capacity_is : capacity ≡ 64
   pub views : AreShown (tables_in p.tables.stores) p.tables.views columns

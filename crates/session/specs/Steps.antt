@@ -246,14 +246,14 @@ WriteAnswers old new (Ok n) whole = Writes old new (Ok n) whole
 WriteAnswers old new (Err (view_fault.Write f)) whole = Writes old new (Err f) whole
 WriteAnswers old new (Err view_fault.UnknownView) whole = ⊥
 
--- Read by the format's rules, the stream of a view is the view's table: no fault stands in it, and its columns and rows
--- are the view's.
-abbrev pub IsReadAsView : List Table → View → World → Type 0
-IsReadAsView tables view w =
-    Means (story_of (stream_of tables view w)) (view_columns tables view) (view_of tables view w)
+-- Read by the format's rules, these bytes are the view's table: no fault stands in them, and their columns and rows are
+-- those that the view's definition gives from scratch on these tables.
+abbrev pub IsReadAsView : List Table → View → World → List ℕ → Type 0
+IsReadAsView tables view w bytes = Means (story_of bytes) (view_columns tables view) (view_of tables view w)
 
+-- So is what went out whole.
 abbrev pub IsReadIfWhole : List Table → View → World → Result ℕ ViewFault → Type 0
-IsReadIfWhole tables view w (Ok n) = IsReadAsView tables view w
+IsReadIfWhole tables view w (Ok n) = IsReadAsView tables view w (stream_of tables view w)
 IsReadIfWhole tables view w (Err f) = Unit {0}
 
 -- A write of a view answers so, and does this to its sink.

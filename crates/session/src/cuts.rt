@@ -10,7 +10,7 @@ ghost use Rattle.session.specs.Cuts.{
   SameRuns,
 };
 
-use feed::cut_law as feed_law;
+use feed::{cut_law as push_law, pieces_law};
 
 /// However each feed is cut into pieces, two runs that complete messages in one order, with the same undos and writes
 /// between, accept the same edits and write the same bytes. A feed that breaks in one of them breaks in the other, where
@@ -24,5 +24,6 @@ pub fn cut_law()
     ensures pushes { PushFaultsAreTold }
     ensures both { BreaksInBoth }
 {
-    feed_law();
+    push_law();
+    pieces_law();
 }

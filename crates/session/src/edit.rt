@@ -8,6 +8,7 @@ ghost use Rattle.upkeep.specs.LiveEdits.{StaleByMemory};
 ghost use Rattle.upkeep.specs.Stores.{rows_in, tables_in};
 ghost use Rattle.upkeep.specs.TableChanges.{IsBatch};
 ghost use Rattle.session.specs.Changes.{Edits, IsBatchEvent, Takes, edit_by};
+ghost use Rattle.session.specs.Visits.{EditOpens, MessageOpens};
 
 use crate::calls::Event;
 use crate::undo::UndoRecord;
@@ -35,6 +36,7 @@ fn edit(
     ensures views { tables.new.views ≡ tables.old.views }
     ensures capacity { records.new.capacity ≡ 64 }
     ensures stale { StaleByMemory tables.old.stale result tables.new.stale }
+    ensures visits { EditOpens tables.old result records.new.items tables.new }
 {
     let table = tables.table_of(role);
     let change = tables.edit(role, columns, rows)?;
@@ -58,6 +60,7 @@ pub(crate) fn respond(
     ensures views { tables.new.views ≡ tables.old.views }
     ensures capacity { records.new.capacity ≡ 64 }
     ensures stale { StaleByMemory tables.old.stale result tables.new.stale }
+    ensures visits { MessageOpens tables.old result records.new.items tables.new }
 {
     match event {
         FeedEvent::Schema(_) => Ok(Event::Schema),

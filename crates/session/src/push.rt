@@ -6,6 +6,7 @@ ghost use Rattle.session.specs.Shows.{ShowsChannel};
 ghost use Rattle.session.specs.Changes.{PushesTo};
 ghost use Rattle.session.specs.Stale.{StaleByMemory};
 ghost use Rattle.session.specs.Steps.{Channel};
+ghost use Rattle.session.specs.Visits.{PushOpens};
 
 use crate::calls::{Fault, Pushed};
 use crate::edit::respond;
@@ -34,6 +35,7 @@ pub(crate) fn push_to(
     ensures views { tables.new.views ≡ tables.old.views }
     ensures capacity { records.new.capacity ≡ 64 }
     ensures stale { StaleByMemory tables.old.stale result tables.new.stale }
+    ensures visits { PushOpens tables.old result records.new.items tables.new }
 {
     // It does nothing: the proof takes from it that a batch holds what was declared for its feed.
     logical_law();

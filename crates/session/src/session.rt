@@ -24,9 +24,11 @@ ghost use Rattle.view_lang.specs.ViewColumns.{view_columns};
 ghost use Rattle.view_lang.specs.World.{contents_at, world};
 ghost use Rattle.row_keys.specs.Store.{no_rows};
 ghost use Rattle.upkeep.specs.LiveParts.{store_at};
+ghost use Rattle.upkeep.specs.Touched.{OpensShown};
 ghost use Rattle.session.specs.Shows.{IsStep, IsWithin, Shows, ShowsEach, columns_of, config_of};
 ghost use Rattle.session.specs.Names.{place_of};
 ghost use Rattle.session.specs.Stale.{StaleByMemory};
+ghost use Rattle.session.specs.Visits.{PushOpens, UndoOpens};
 ghost use Rattle.session.specs.Steps.{FinishStep, PushStep, Run, State, Steps, UndoTo, WriteStep, opened, start};
 
 use crate::calls::{Fault, Pushed, Reply, Step, ViewFault};
@@ -197,6 +199,7 @@ impl Session {
         ensures step { IsStep self.old (λ s t. PushStep (config_of self.old) s feed.now piece.now result t) self.new }
         ensures config { config_of self.new ≡ config_of self.old }
         ensures stale { StaleByMemory self.old.tables.stale result self.new.tables.stale }
+        ensures visits { PushOpens self.old.tables result self.new.records self.new.tables }
     {
         let place = feed_place(&self.feeds, feed);
         if place >= self.links.len() {
@@ -230,6 +233,7 @@ impl Session {
         ensures step { IsStep self.old (λ s t. UndoTo s result t) self.new }
         ensures config { config_of self.new ≡ config_of self.old }
         ensures stale { StaleByMemory self.old.tables.stale result self.new.tables.stale }
+        ensures visits { UndoOpens self.old.tables self.old.records result self.new.tables }
     {
         go_back(&mut self.tables, &mut self.records)
     }
@@ -243,6 +247,8 @@ impl Session {
         ensures config { config_of self.new ≡ config_of self.old }
         ensures stale { OnOk result (self.new.tables.stale ≡ slice_set self.old.tables.stale
             (place_of view.now (map (λ v. v.name) self.old.tables.views)) false) }
+        ensures visits { OpensShown self.old.tables (place_of view.now (map (λ v. v.name) self.old.tables.views))
+            self.new.tables }
     {
         let views = self.tables.views();
         let place = view_place(views, view);

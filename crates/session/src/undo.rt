@@ -5,6 +5,7 @@ ghost use Rattle.upkeep.specs.Stores.{rows_in, tables_in};
 ghost use Rattle.session.specs.Shows.{ShowsPast};
 ghost use Rattle.session.specs.Stale.{StaleByMemory};
 ghost use Rattle.session.specs.Steps.{Past, Undoes};
+ghost use Rattle.session.specs.Visits.{UndoOpens};
 
 use crate::calls::Fault;
 use circular_buffer::HeapCircularBuffer;
@@ -33,6 +34,7 @@ pub(crate) fn go_back(
     ensures views { tables.new.views ≡ tables.old.views }
     ensures capacity { records.new.capacity ≡ records.old.capacity }
     ensures stale { StaleByMemory tables.old.stale result tables.new.stale }
+    ensures visits { UndoOpens tables.old records.old.items result tables.new }
 {
     let Some(latest) = records.front() else {
         return Err(Fault::of(Cause::NothingToUndo));

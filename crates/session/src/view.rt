@@ -5,6 +5,7 @@ ghost use Rattle.stream_writer.specs.Sinks.{Writes};
 ghost use Rattle.view_lang.specs.ViewColumns.{view_columns};
 ghost use Rattle.upkeep.specs.LiveParts.{view_at};
 ghost use Rattle.upkeep.specs.Stores.{rows_in, tables_in, world_of};
+ghost use Rattle.upkeep.specs.Touched.{OpensShown};
 ghost use Rattle.session.specs.Steps.{IsReadAsView, stream_of};
 
 use std::alloc::Global;
@@ -29,11 +30,14 @@ pub(crate) fn write_rows<S: Sink>(
         (stream_of (tables_in tables.old.stores) (view_at tables.old.views place)
         (world_of (rows_in tables.old.stores))) }
     ensures read { OnOk result (IsReadAsView (tables_in tables.old.stores) (view_at tables.old.views place)
-        (world_of (rows_in tables.old.stores))) }
+        (world_of (rows_in tables.old.stores))
+        (stream_of (tables_in tables.old.stores) (view_at tables.old.views place)
+        (world_of (rows_in tables.old.stores)))) }
     ensures tables { tables_in tables.new.stores ≡ tables_in tables.old.stores }
     ensures rows { rows_in tables.new.stores ≡ rows_in tables.old.stores }
     ensures views { tables.new.views ≡ tables.old.views }
     ensures stale { OnOk result (tables.new.stale ≡ slice_set tables.old.stale place false) }
+    ensures visits { OpensShown tables.old place tables.new }
 {
     // They do nothing: the proof takes from them that the rows of a view can be written, and are read as they were.
     config_law();

@@ -55,11 +55,12 @@ use Rattle.row_keys.specs.Slots.{
 use Rattle.row_keys.specs.Store.{Refuses, Store, live_in, with_slots}
 use Rattle.row_keys.specs.declared.faults.EditFault.{EditFault}
 use Rattle.row_keys.specs.declared.faults.EditFault.TheVariants as fault
-use Rattle.upkeep.specs.LiveEdits.{ChangedIn, Edited, StaleByMemory, VisitsIfFit, WentBack}
+use Rattle.upkeep.specs.LiveEdits.{ChangedIn, Edited, StaleByMemory, VisitsOf, WentBack}
 use Rattle.upkeep.specs.LiveParts.{AreLive, AreOf, LiveParts}
 use Rattle.upkeep.specs.Stores.{Rows, rows_at, rows_in, tables_in, visits_in}
 use Rattle.upkeep.specs.StoreLaws.{rows_kept, rows_set, rows_there, table_there, tables_set}
 use Rattle.upkeep.specs.TableChanges.{IsChangeOf, Makes}
+use Rattle.upkeep.specs.Touched.{OpensTwice, touched}
 use Rattle.upkeep.specs.ViewStates.{EachIsCurrent, turned, turned_last}
 use Rattle.upkeep.specs.declared.table_change.TableChange.{TableChange}
 use Rattle.upkeep.specs.declared.view_state.Turn.TheVariants as turn
@@ -69,6 +70,7 @@ use Rattle.upkeep.proofs.MainTable.{
   each_set,
   gives,
   last_there,
+  live_few,
   live_same,
   live_set,
   needs,
@@ -78,7 +80,6 @@ use Rattle.upkeep.proofs.MainTable.{
   put_back_few,
   retracted_few,
   retracted_there,
-  taken_few,
 }
 
 abbrev pub parts : List Store → List View → List Bool → LiveParts
@@ -116,8 +117,7 @@ pub new_needs :
     → now ≡ get_or (slice_set stores 0 t) 0 now → IsTable now.table → length (live_in now) ≤ now.table.max_rows
     → (x : NumberedRows)
     × (EachIsCurrent (tables_in (slice_set stores 0 t)) (rows_in (slice_set stores 0 t)) x vs states
-    × (Fits x (turned_last turn.Come (rows_at (rows_in (slice_set stores 0 t)) 0) n)
-    × IsFew x (turned_last turn.Come (rows_at (rows_in (slice_set stores 0 t)) 0) n)))
+    × (Fits x (turned_last turn.Come (rows_at (rows_in (slice_set stores 0 t)) 0) n) × (length x ≤ max_main_rows)))
 new_needs come_law live_law stores views vs states s t now rows n same are is table made long there right few =
     let slots : List Slot = rows_at (rows_in (slice_set stores 0 t)) 0 in
     let slots_are : slots ≡ with_new s.slots rows = rows_now stores 0 t are.these.main ∙ made in
@@ -126,10 +126,10 @@ new_needs come_law live_law stores views vs states s t now rows n same are is ta
     subst (λ (ss : List Slot). length (live ss) ≤ now.table.max_rows)
     (sym (rows_there (slice_set stores 0 t) 0 now there below)) few in
     needs (tables_in (slice_set stores 0 t)) (rows_in (slice_set stores 0 t)) views vs states (numbered s.slots)
-    (numbered slots) (turned_last turn.Come slots n) same
+    (numbered slots) (turned_last turn.Come slots n) (λ (x : NumberedRows). length x ≤ max_main_rows) same
     (each_set stores s t (numbered s.slots) views states is table (current_there stores views states s is are))
     (new_lead come_law s.slots slots rows n slots_are long)
-    (new_few live_law now.table s.slots slots rows n slots_are long right held)
+    (new_few live_law now.table s.slots slots rows slots_are right held)
 
 pub new_live :
     NewCome → (stores new : List Store) (views vs : List View) (states now : List ViewState) (s t : Store)
@@ -161,8 +161,10 @@ pub edit_made :
     → Makes s.table e s.slots t.slots (Ok change) → IsChangeOf 0 change → tables_in stores ≡ tables_in old
     → rows_in stores ≡ rows_in old → tables_in now ≡ tables_in (slice_set stores 0 t)
     → rows_in now ≡ rows_in (slice_set stores 0 t) → b ≡ a
+    → OpensTwice (parts old views a) (touched (tables_in old) views (rows_in now) 0 change) (parts now views b)
     → Edited 0 e (parts old views a) (parts now views b) (Ok change)
-edit_made old stores now views a b s t e change is table main made kind tables_old rows_old tables_now rows_is stale =
+edit_made old stores now views a b s t e change is table main made kind tables_old rows_old tables_now rows_is stale
+    opens =
     let answer : Makes (table_at (tables_in stores) 0) e (rows_at (rows_in stores) 0)
     (rows_at (rows_in (slice_set stores 0 t)) 0) (Ok change) = store_makes stores 0 s t e (Ok change) is main made in
     let P : Rows → Type 0 = λ rs. Makes (table_at (tables_in stores) 0) e (rows_at (rows_in stores) 0) (rows_at rs 0)
@@ -183,16 +185,17 @@ edit_made old stores now views a b s t e change is table main made kind tables_o
         views = refl;
       };
       stale = stale;
-      visits = tt;
+      visits = λ _. opens;
     }
 
 still_stale : (f : EditFault) (a b : List Bool) → b ≡ a → StaleByMemory {X = TableChange} a (Err f) b
 still_stale (fault.Unfit u) a b same = same
 still_stale fault.Memory a b same = tt
 
-still_visits : (f : EditFault) (a b : ℕ) → b ≡ a → VisitsIfFit {X = TableChange} a (Err f) b
-still_visits (fault.Unfit u) a b same = same
-still_visits fault.Memory a b same = tt
+still_visits : (f : EditFault) (n : ℕ) (a b : LiveParts) → visits_in b.stores ≡ visits_in a.stores
+    → VisitsOf n a (Err f) b
+still_visits (fault.Unfit u) n a b same = same
+still_visits fault.Memory n a b same = tt
 
 within_same :
     (old now : List Store) (views : List View) (a b : List Bool) → tables_in now ≡ tables_in old
@@ -214,7 +217,7 @@ edit_refused old now views a b e f tables rows stale visits refuses = record {
   kind = tt;
   within = within_same old now views a b tables rows;
   stale = still_stale f a b stale;
-  visits = still_visits f (visits_in old) (visits_in now) visits;
+  visits = still_visits f 0 (parts old views a) (parts now views b) visits;
 }
 
 pub edit_unremembered :
@@ -284,18 +287,19 @@ main_of stores mid views are tables = (still_of stores mid views tables are).mai
 
 pub there_needs :
     (stores : List Store) (views vs : List View) (states : List ViewState) (s : Store) (new : NumberedRows)
-    (change : List Slot → List Shift) → vs ≡ views → AreLive stores views states → s ≡ get_or stores 0 s
-    → Leads (numbered s.slots) (change s.slots) new → IsFew (numbered s.slots) (change s.slots)
+    (change : List Slot → List Shift) (Few : List Slot → NumberedRows → Type 0) → vs ≡ views
+    → AreLive stores views states → s ≡ get_or stores 0 s
+    → Leads (numbered s.slots) (change s.slots) new → Few s.slots (numbered s.slots)
     → (x : NumberedRows)
     × (EachIsCurrent (tables_in stores) (rows_in stores) x vs states
-    × (Fits x (change (rows_at (rows_in stores) 0)) × IsFew x (change (rows_at (rows_in stores) 0))))
-there_needs stores views vs states s new change same are is leads few =
+    × (Fits x (change (rows_at (rows_in stores) 0)) × Few (rows_at (rows_in stores) 0) x))
+there_needs stores views vs states s new change Few same are is leads few =
     let there : rows_at (rows_in stores) 0 ≡ s.slots = rows_there stores 0 s is are.these.main in
     let P : List Slot → Type 0 = λ ss. Leads (numbered s.slots) (change ss) new in
-    let Q : List Slot → Type 0 = λ ss. IsFew (numbered s.slots) (change ss) in
+    let Q : List Slot → Type 0 = λ ss. Few ss (numbered s.slots) in
     needs (tables_in stores) (rows_in stores) views vs states (numbered s.slots) new
-    (change (rows_at (rows_in stores) 0)) same (current_there stores views states s is are)
-    (subst P (sym there) leads) (subst Q (sym there) few)
+    (change (rows_at (rows_in stores) 0)) (Few (rows_at (rows_in stores) 0)) same
+    (current_there stores views states s is are) (subst P (sym there) leads) (subst Q (sym there) few)
 
 pub there_live :
     (stores mid : List Store) (views vs : List View) (states now : List ViewState) (s u v : Store)
@@ -326,11 +330,12 @@ there_live stores mid views vs states now s u v change after same are is leads k
 -- what went back, and what did not
 pub went_back :
     {X E : Type 0} (stores mid : List Store) (views : List View) (a b : List Bool) (u v : Store)
-    (after : List Slot → List Slot) (x : X) → 0 < length mid → tables_in mid ≡ tables_in stores
+    (after : List Slot → List Slot) (n : ℕ) (x : X) → 0 < length mid → tables_in mid ≡ tables_in stores
     → rows_in mid ≡ rows_in stores → u ≡ get_or mid 0 u → v ≡ with_slots u (after u.slots) → b ≡ a
-    → WentBack {X = X} {E = E} 0 (after (rows_at (rows_in stores) 0)) (parts stores views a)
+    → OpensTwice (parts stores views a) n (parts (slice_set mid 0 v) views b)
+    → WentBack {X = X} {E = E} 0 (after (rows_at (rows_in stores) 0)) n (parts stores views a)
     (parts (slice_set mid 0 v) views b) (Ok x)
-went_back stores mid views a b u v after x main tables rows there done stale =
+went_back stores mid views a b u v after n x main tables rows there done stale opens =
     let held : u.slots ≡ rows_at (rows_in stores) 0 =
     sym (rows_there mid 0 u there main) ∙ ap (λ (rs : Rows). rows_at rs 0) rows in
     record {
@@ -341,18 +346,20 @@ went_back stores mid views a b u v after x main tables rows there done stale =
       tables = tables_set mid 0 u v there (ap (λ (y : Store). y.table) done) ∙ tables;
       views = refl;
       stale = stale;
+      visits = λ _. opens;
     }
 
 pub stayed :
-    {X E : Type 0} (stores mid : List Store) (views : List View) (a b : List Bool) (slots : List Slot) (e : E)
+    {X E : Type 0} (stores mid : List Store) (views : List View) (a b : List Bool) (slots : List Slot) (n : ℕ) (e : E)
     → tables_in mid ≡ tables_in stores → rows_in mid ≡ rows_in stores
-    → WentBack {X = X} {E = E} 0 slots (parts stores views a) (parts mid views b) (Err e)
-stayed stores mid views a b slots e tables rows = record {
+    → WentBack {X = X} {E = E} 0 slots n (parts stores views a) (parts mid views b) (Err e)
+stayed stores mid views a b slots n e tables rows = record {
   rows = tt;
   unchanged = rows;
   tables = tables;
   views = refl;
   stale = tt;
+  visits = tt;
 }
 
 one_store : (stores : List Store) (s t : Store) → 0 < length stores → s ≡ get_or stores 0 s → t ≡ get_or stores 0 t
@@ -390,7 +397,9 @@ retract_needs live_law few_law go_law stores views vs states s t ns named same a
     let one : t ≡ s = one_store stores t s are.these.main there is in
     let can_named : CanRetract named s.slots = subst (λ (ms : List ℕ). CanRetract ms s.slots) (sym name) can in
     there_needs stores views vs states s (numbered (retracted named s.slots))
-    (λ (ss : List Slot). turned turn.Go ss named) same are is (go_law named s.slots can_named)
+    (λ (ss : List Slot). turned turn.Go ss named)
+    (λ (ss : List Slot) (x : NumberedRows). IsFew x (turned turn.Go ss named)) same are is
+    (go_law named s.slots can_named)
     (retracted_few live_law few_law s.table named s.slots (subst (λ (x : Store). IsTable x.table) one right)
     (subst (λ (x : Store). length (live_in x) ≤ x.table.max_rows) one few) can_named)
 
@@ -443,7 +452,9 @@ pub put_back_needs :
 put_back_needs live_law few_law come_law stores views vs states s ns same are is can right few =
     let can_here : CanPutBack s.table ns s.slots = can_put_there stores s ns is are.these.main can in
     there_needs stores views vs states s (numbered (put_back ns s.slots))
-    (λ (ss : List Slot). turned turn.Come ss ns) same are is (come_law s.table ns s.slots can_here)
+    (λ (ss : List Slot). turned turn.Come ss ns)
+    (λ (ss : List Slot) (x : NumberedRows). IsFew x (turned turn.Come ss ns)) same are is
+    (come_law s.table ns s.slots can_here)
     (put_back_few live_law few_law s.table ns s.slots right few can_here)
 
 pub put_back_live :
@@ -467,16 +478,14 @@ pub take_back_needs :
     RowsAreLive → TakenBackGo → (stores : List Store) (views vs : List View) (states : List ViewState)
     (s : Store) (n : ℕ) → vs ≡ views → AreLive stores views states → s ≡ get_or stores 0 s
     → CanTakeBack n (rows_at (rows_in stores) 0) → IsTable s.table → length (live_in s) ≤ s.table.max_rows
-    → n ≤ max_main_rows
     → (x : NumberedRows)
     × (EachIsCurrent (tables_in stores) (rows_in stores) x vs states
-    × (Fits x (turned_last turn.Go (rows_at (rows_in stores) 0) n)
-    × IsFew x (turned_last turn.Go (rows_at (rows_in stores) 0) n)))
-take_back_needs live_law go_law stores views vs states s n same are is can right few short =
+    × (Fits x (turned_last turn.Go (rows_at (rows_in stores) 0) n) × (length x ≤ max_main_rows)))
+take_back_needs live_law go_law stores views vs states s n same are is can right few =
     let can_here : CanTakeBack n s.slots = subst (CanTakeBack n) (rows_there stores 0 s is are.these.main) can in
     there_needs stores views vs states s (numbered (taken_back n s.slots))
-    (λ (ss : List Slot). turned_last turn.Go ss n) same are is (go_law n s.slots can_here)
-    (taken_few live_law s.table n s.slots right few short)
+    (λ (ss : List Slot). turned_last turn.Go ss n) (λ (ss : List Slot) (x : NumberedRows). length x ≤ max_main_rows)
+    same are is (go_law n s.slots can_here) (live_few live_law s.table s.slots right few)
 
 pub take_back_live :
     TakenBackGo → (stores mid : List Store) (views vs : List View) (states now : List ViewState) (s u v : Store)

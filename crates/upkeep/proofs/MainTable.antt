@@ -100,10 +100,10 @@ live_same stores new views states tables rows are =
 
 pub needs :
     (tables : List Table) (rows : Rows) (views vs : List View) (states : List ViewState) (old new : NumberedRows)
-    (change : List Shift) → vs ≡ views → EachIsCurrent tables rows old views states → Leads old change new
-    → IsFew old change
-    → (x : NumberedRows) × (EachIsCurrent tables rows x vs states × (Fits x change × IsFew x change))
-needs tables rows views vs states old new change same current leads few = (
+    (change : List Shift) (Few : NumberedRows → Type 0) → vs ≡ views → EachIsCurrent tables rows old views states
+    → Leads old change new → Few old
+    → (x : NumberedRows) × (EachIsCurrent tables rows x vs states × (Fits x change × Few x))
+needs tables rows views vs states old new change Few same current leads few = (
   old,
   (subst (λ (ws : List View). EachIsCurrent tables rows old ws states) (sym same) current, (leads.fits, few)),
 )
@@ -127,6 +127,14 @@ gives tables rows views vs states now old new change same current leads kept =
 numbered_length : RowsAreLive → (slots : List Slot) → length (numbered slots) ≡ length (live slots)
 numbered_length law slots =
     sym (length-map (numbered slots) (λ (e : ℕ × List Datum). e.1)) ∙ ap length (law slots)
+
+pub live_few :
+    RowsAreLive → (t : Table) (slots : List Slot) → IsTable t → length (live slots) ≤ t.max_rows
+    → length (numbered slots) ≤ max_main_rows
+live_few law t slots right few =
+    let same : length (numbered slots) ≡ length (live slots) = numbered_length law slots in
+    let most : t.max_rows ≤ max_main_rows = right.few in
+    omega (arith, same, most, few)
 
 pub few_rows :
     RowsAreLive → (t : Table) (slots : List Slot) (change : List Shift) → IsTable t → length (live slots) ≤ t.max_rows
@@ -188,17 +196,12 @@ new_lead law slots new rows n is long =
     subst R (sym is) (subst Q long (subst P (sym first) (law slots rows)))
 
 pub new_few :
-    RowsAreLive → (t : Table) (slots new : List Slot) (rows : List (List Datum)) (n : ℕ) → new ≡ with_new slots rows
-    → length rows ≡ n → IsTable t → length (live new) ≤ t.max_rows
-    → IsFew (numbered slots) (turned_last turn.Come new n)
-new_few law t slots new rows n is long right few =
+    RowsAreLive → (t : Table) (slots new : List Slot) (rows : List (List Datum)) → new ≡ with_new slots rows
+    → IsTable t → length (live new) ≤ t.max_rows → length (numbered slots) ≤ max_main_rows
+new_few law t slots new rows is right few =
     let after : length (live new) ≡ length (live slots) + length rows =
     ap (λ (ss : List Slot). length (live ss)) is ∙ live_new slots rows in
-    let change : length (turned_last turn.Come new n) ≡ n =
-    turned_length turn.Come new (last_numbers n new) ∙ length-range_with_len (length new - n) n in
-    let most : t.max_rows ≤ max_main_rows = right.few in
-    few_rows law t slots (turned_last turn.Come new n) right (omega (arith, after, few))
-    (omega (arith, after, few, change, most, long))
+    live_few law t slots right (omega (arith, after, few))
 
 -- the last rows of a table, of which there are so many
 pub last_there :
@@ -275,14 +278,6 @@ put_back_few law fewer t ns slots right few can =
     let same : length (turned turn.Come slots ns) ≡ length ns = turned_length turn.Come slots ns in
     let most : t.max_rows ≤ max_main_rows = right.few in
     few_rows law t slots (turned turn.Come slots ns) right few (omega (arith, short, same, most, room))
-
-pub taken_few :
-    RowsAreLive → (t : Table) (n : ℕ) (slots : List Slot) → IsTable t → length (live slots) ≤ t.max_rows
-    → n ≤ max_main_rows → IsFew (numbered slots) (turned_last turn.Go slots n)
-taken_few law t n slots right few short =
-    let same : length (turned_last turn.Go slots n) ≡ n =
-    turned_length turn.Go slots (last_numbers n slots) ∙ length-range_with_len (length slots - n) n in
-    few_rows law t slots (turned_last turn.Go slots n) right few (omega (arith, short, same))
 
 pub taken_there : (n : ℕ) (slots : List Slot) → CanTakeBack n slots → n ≤ length slots
 unfolding CanTakeBack

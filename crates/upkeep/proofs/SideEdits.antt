@@ -31,7 +31,7 @@ use Rattle.row_keys.specs.Slots.{Slot, live}
 use Rattle.row_keys.specs.Store.{Store, with_slots}
 use Rattle.row_keys.specs.declared.faults.EditFault.{EditFault}
 use Rattle.row_keys.specs.declared.faults.EditFault.TheVariants as fault
-use Rattle.upkeep.specs.LiveEdits.{Edited, StaleByMemory, VisitsIfFit, WentBack}
+use Rattle.upkeep.specs.LiveEdits.{Edited, StaleByMemory, VisitsOf, WentBack}
 use Rattle.upkeep.specs.LiveParts.{AreLive, AreOf, LiveParts}
 use Rattle.upkeep.specs.Stores.{Rows, rows_at, rows_in, tables_in, visits_in}
 use Rattle.upkeep.specs.StoreLaws.{
@@ -245,27 +245,29 @@ shrunk_rows ss ss' n s t v u g f changed opened is done taken =
 
 pub went_back :
     {X E : Type 0} (x : X) (ss ss' : List Store) (views : List View) (states states' : List ViewState) (n : ℕ)
-    (slots : List Slot) → rows_in ss' ≡ slice_set (rows_in ss) n slots → tables_in ss' ≡ tables_in ss
+    (slots : List Slot) (k : ℕ) → 0 < n → rows_in ss' ≡ slice_set (rows_in ss) n slots → tables_in ss' ≡ tables_in ss
     → stale_in states' ≡ stale_in states
-    → WentBack {X = X} {E = E} n slots (parts ss views states) (parts ss' views states') (Ok x)
-went_back x ss ss' views states states' n slots rows tables stale = record {
+    → WentBack {X = X} {E = E} n slots k (parts ss views states) (parts ss' views states') (Ok x)
+went_back x ss ss' views states states' n slots k side rows tables stale = record {
   rows = rows;
   unchanged = tt;
   tables = tables;
   views = refl;
   stale = stale;
+  visits = λ main. absurd (omega (arith, side, main));
 }
 
 pub stayed :
     {X E : Type 0} (e : E) (ss ss' : List Store) (views : List View) (states states' : List ViewState) (n : ℕ)
-    (slots : List Slot) → rows_in ss' ≡ rows_in ss → tables_in ss' ≡ tables_in ss
-    → WentBack {X = X} {E = E} n slots (parts ss views states) (parts ss' views states') (Err e)
-stayed e ss ss' views states states' n slots rows tables = record {
+    (slots : List Slot) (k : ℕ) → rows_in ss' ≡ rows_in ss → tables_in ss' ≡ tables_in ss
+    → WentBack {X = X} {E = E} n slots k (parts ss views states) (parts ss' views states') (Err e)
+stayed e ss ss' views states states' n slots k rows tables = record {
   rows = tt;
   unchanged = rows;
   tables = tables;
   views = refl;
   stale = tt;
+  visits = tt;
 }
 
 -- An edit of a side table
@@ -299,9 +301,10 @@ stale_same : (stale : List Bool) (f : EditFault) → StaleByMemory {X = TableCha
 stale_same stale (fault.Unfit u) = refl
 stale_same stale fault.Memory = tt
 
-visits_same : (old new : ℕ) (f : EditFault) → new ≡ old → VisitsIfFit {X = TableChange} old (Err f) new
-visits_same old new (fault.Unfit u) same = same
-visits_same old new fault.Memory same = tt
+visits_same : (n : ℕ) (old new : LiveParts) (f : EditFault) → visits_in new.stores ≡ visits_in old.stores
+    → VisitsOf n old (Err f) new
+visits_same n old new (fault.Unfit u) same = same
+visits_same n old new fault.Memory same = tt
 
 -- it doesn't fit, or there is no memory for it
 pub edit_refused :
@@ -318,15 +321,15 @@ edit_refused ss views states n s t e f side changed makes = record {
         views = refl;
       };
   stale = stale_same (stale_in states) f;
-  visits = visits_same (visits_in ss) (visits_in (slice_set ss n t)) f (side_visits ss n t side);
+  visits = visits_same n (parts ss views states) (parts (slice_set ss n t) views states) f (side_visits ss n t side);
 }
 
 pub edit_made :
     (ss ss' : List Store) (views : List View) (states states' : List ViewState) (n : ℕ) (s t : Store) (e : TableEdit)
-    (change : TableChange) → Changed ss n s t → Opened (slice_set ss n t) ss'
+    (change : TableChange) → 0 < n → Changed ss n s t → Opened (slice_set ss n t) ss'
     → Makes s.table e s.slots t.slots (Ok change) → IsChangeOf n change → stale_in states' ≡ stale_in states
     → Edited n e (parts ss views states) (parts ss' views states') (Ok change)
-edit_made ss ss' views states states' n s t e change changed opened makes kind stale =
+edit_made ss ss' views states states' n s t e change side changed opened makes kind stale =
     let P : Rows → Type 0 = λ rs.
     Makes (table_at (tables_in ss) n) e (rows_at (rows_in ss) n) (rows_at rs n) (Ok change) in
     let Q : Rows → Type 0 = λ rs. rs ≡ slice_set (rows_in ss) n (rows_at rs n) in
@@ -340,7 +343,7 @@ edit_made ss ss' views states states' n s t e change changed opened makes kind s
             views = refl;
           };
       stale = stale;
-      visits = tt;
+      visits = λ main. absurd (omega (arith, side, main));
     }
 
 -- There is no memory for the views: the rows are as they were.

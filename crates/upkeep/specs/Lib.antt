@@ -4,5 +4,6 @@ pub mod Inputs
 pub mod TableChanges
 pub mod ViewStates
 pub mod LiveParts
+pub mod Touched
 pub mod LiveEdits
 pub mod Reading

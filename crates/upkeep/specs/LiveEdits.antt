@@ -8,6 +8,7 @@ use Rattle.row_keys.specs.declared.faults.EditFault.TheVariants as fault
 use Rattle.upkeep.specs.LiveParts.{LiveParts}
 use Rattle.upkeep.specs.Stores.{rows_at, rows_in, tables_in, visits_in}
 use Rattle.upkeep.specs.TableChanges.{IsChangeOf, Makes}
+use Rattle.upkeep.specs.Touched.{OpensTwice, touched}
 use Rattle.upkeep.specs.declared.table_change.TableChange.{TableChange}
 
 -- Views become stale only where memory is refused.
@@ -16,10 +17,13 @@ StaleByMemory old (Ok x) new = new ≡ old
 StaleByMemory old (Err (fault.Unfit u)) new = new ≡ old
 StaleByMemory old (Err fault.Memory) new = Unit {0}
 
--- No row is opened for an edit that doesn't fit.
-abbrev pub VisitsIfFit : {X : Type 0} → ℕ → Result X EditFault → ℕ → Type 0
-VisitsIfFit old (Err (fault.Unfit u)) new = new ≡ old
-VisitsIfFit old _ new = Unit {0}
+-- An edit of table n that is made opens the rows that it touches, at most twice for each view; one that doesn't fit
+-- opens none.
+abbrev pub VisitsOf : ℕ → LiveParts → Result TableChange EditFault → LiveParts → Type 0
+VisitsOf n old (Ok change) new =
+    n ≡ 0 → OpensTwice old (touched (tables_in old.stores) old.views (rows_in new.stores) n change) new
+VisitsOf n old (Err (fault.Unfit u)) new = visits_in new.stores ≡ visits_in old.stores
+VisitsOf n old (Err fault.Memory) new = Unit {0}
 
 -- The rows of one table may have changed, and nothing else but what is stale and how often rows were opened.
 pub record ChangedIn (n : ℕ) (old new : LiveParts) : Type 0 where
@@ -35,13 +39,15 @@ pub record Edited (n : ℕ) (e : TableEdit) (old new : LiveParts) (answer : Resu
   pub kind : IfOk answer (IsChangeOf n)
   pub within : ChangedIn n old new
   pub stale : StaleByMemory old.stale answer new.stale
-  pub visits : VisitsIfFit (visits_in old.stores) answer (visits_in new.stores)
+  pub visits : VisitsOf n old answer new
 
--- A change of table n is taken back, so that its rows are these; or memory is refused, and no row has changed.
-pub record WentBack {X E : Type 0} (n : ℕ) (slots : List Slot) (old new : LiveParts) (answer : Result X E) : Type 0
-  where
-    pub rows : OnOk answer (rows_in new.stores ≡ slice_set (rows_in old.stores) n slots)
-    pub unchanged : OnErr answer (rows_in new.stores ≡ rows_in old.stores)
-    pub tables : tables_in new.stores ≡ tables_in old.stores
-    pub views : new.views ≡ old.views
-    pub stale : OnOk answer (new.stale ≡ old.stale)
+-- A change of table n that touched so many rows is taken back, so that the table's rows are these; or memory is
+-- refused, and no row has changed.
+pub record WentBack {X E : Type 0} (n : ℕ) (slots : List Slot) (rows_touched : ℕ) (old new : LiveParts)
+    (answer : Result X E) : Type 0 where
+  pub rows : OnOk answer (rows_in new.stores ≡ slice_set (rows_in old.stores) n slots)
+  pub unchanged : OnErr answer (rows_in new.stores ≡ rows_in old.stores)
+  pub tables : tables_in new.stores ≡ tables_in old.stores
+  pub views : new.views ≡ old.views
+  pub stale : OnOk answer (new.stale ≡ old.stale)
+  pub visits : OnOk answer (n ≡ 0 → OpensTwice old rows_touched new)

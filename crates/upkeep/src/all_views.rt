@@ -2,6 +2,7 @@
 
 ghost use Rattle.std.specs.List.{range_with_len};
 ghost use Rattle.std.specs.Prelude.{◌≡◌, ◌<◌, ◌≤◌, ◌+◌, ◌*◌, ◌^◌, [], All, count_by, false, IfOk, List, OnErr, OnOk, length, map, true};
+ghost use Rattle.values.specs.Limits.{max_main_rows};
 ghost use Rattle.view_lang.specs.Config.{Table};
 ghost use Rattle.view_lang.specs.Shifts.{Fits, IsFew, NumberedRows, patched};
 ghost use Rattle.upkeep.specs.LiveParts.{AreOf};
@@ -157,7 +158,7 @@ pub(crate) fn follow_last(
     requires fits { (rows : NumberedRows)
         × (EachIsCurrent (tables_in stores.old.items) (rows_in stores.old.items) rows views.now states.old.items
         × (Fits rows (turned_last turn (rows_at (rows_in stores.old.items) 0) count)
-        × IsFew rows (turned_last turn (rows_at (rows_in stores.old.items) 0) count))) }
+        × (length rows ≤ max_main_rows))) }
     ensures kept { OnOk result ((rows : NumberedRows)
         → Fits rows (turned_last turn (rows_at (rows_in stores.old.items) 0) count)
         → EachIsCurrent (tables_in stores.old.items) (rows_in stores.old.items) rows views.now states.old.items

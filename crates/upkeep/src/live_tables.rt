@@ -1,6 +1,6 @@
 //! Tables, and views of them that are kept current.
 
-ghost use Rattle.std.specs.Prelude.{◌≡◌, ◌<◌, [], false, count_by, get_or, IfOk, OnErr, OnOk, length, map, slice_set, true};
+ghost use Rattle.std.specs.Prelude.{◌≡◌, ℕ, ◌<◌, ◌≤◌, ◌+◌, [], false, count_by, get_or, IfOk, OnErr, OnOk, length, map, slice_set, true};
 ghost use Rattle.view_lang.specs.Cells.{rows_of};
 ghost use Rattle.view_lang.specs.Edits.{table_of};
 ghost use Rattle.view_lang.specs.Laws.{Viewed};
@@ -23,6 +23,7 @@ ghost use Rattle.upkeep.specs.LiveParts.{AreOf, store_at, view_at};
 ghost use Rattle.upkeep.specs.LiveEdits.{Edited, WentBack};
 ghost use Rattle.upkeep.specs.Stores.{rows_at, rows_in, tables_in, visits_in};
 ghost use Rattle.upkeep.specs.TableChanges.{CanGoBack, IsBatch, IsChangeOf, back, change_by};
+ghost use Rattle.upkeep.specs.Touched.{OpensShown, built_of, touched};
 
 use crate::all_views::{count_stale, follow_all, follow_last, fresh_states};
 use crate::edits::{append_batch, find_rows, make_edit, restore};
@@ -37,7 +38,6 @@ use row_keys::{EditFault, RowStore, numbers_law};
 use std::alloc::{AllocError, Global};
 use std::marker::Model;
 use values::Row;
-use values::limits::MAX_MAIN_ROWS;
 use view_lang::{Role, View};
 
 fn table_of(role: Role, tables: usize) -> usize
@@ -236,12 +236,8 @@ impl LiveTables {
     /// Takes the last rows of the main table away.
     fn take_back(&mut self, count: usize) -> Result<(), AllocError>
         requires { CanTakeBack count (rows_at (rows_in self.old.stores) 0) }
-        ensures { WentBack 0 (taken_back count (rows_at (rows_in self.old.stores) 0)) self.old self.new result }
+        ensures { WentBack 0 (taken_back count (rows_at (rows_in self.old.stores) 0)) count self.old self.new result }
     {
-        // No append has more rows.
-        if count > MAX_MAIN_ROWS {
-            return Err(AllocError);
-        }
         numbers_law();
         self.stores[0].rows_law();
         follow_last(
@@ -260,7 +256,8 @@ impl LiveTables {
     fn put_back(&mut self, numbers: &[usize]) -> Result<(), AllocError>
         requires { CanPutBack (table_at (tables_in self.old.stores) 0) numbers.now
             (rows_at (rows_in self.old.stores) 0) }
-        ensures { WentBack 0 (put_back numbers.now (rows_at (rows_in self.old.stores) 0)) self.old self.new result }
+        ensures { WentBack 0 (put_back numbers.now (rows_at (rows_in self.old.stores) 0)) (length numbers.now) self.old
+            self.new result }
     {
         numbers_law();
         self.stores[0].rows_law();
@@ -282,8 +279,8 @@ impl LiveTables {
         requires there { table < length self.old.stores }
         requires can { CanPutBack (table_at (tables_in self.old.stores) table) numbers.now
             (rows_at (rows_in self.old.stores) table) }
-        ensures { WentBack table (put_back numbers.now (rows_at (rows_in self.old.stores) table)) self.old self.new
-            result }
+        ensures { (rows_touched : ℕ) → WentBack table (put_back numbers.now (rows_at (rows_in self.old.stores) table))
+            rows_touched self.old self.new result }
     {
         self.stores[table].put_back(numbers);
         match rebuild_lookups(
@@ -308,8 +305,9 @@ impl LiveTables {
         requires there { table < length self.old.stores }
         requires can { CanUndoPut (table_at (tables_in self.old.stores) table) rows replaced.now
             (rows_at (rows_in self.old.stores) table) }
-        ensures { WentBack table (put_undone rows replaced.now (rows_at (rows_in self.old.stores) table)) self.old
-            self.new result }
+        ensures { (rows_touched : ℕ) → WentBack table
+            (put_undone rows replaced.now (rows_at (rows_in self.old.stores) table)) rows_touched self.old self.new
+            result }
     {
         self.stores[table].hide_put(rows, replaced);
         match rebuild_lookups(
@@ -335,7 +333,9 @@ impl LiveTables {
         requires kind { IsChangeOf 0 change.now }
         requires can { CanGoBack (table_at (tables_in self.old.stores) 0) change.now
             (rows_at (rows_in self.old.stores) 0) }
-        ensures { WentBack 0 (back change.now (rows_at (rows_in self.old.stores) 0)) self.old self.new result }
+        ensures { WentBack 0 (back change.now (rows_at (rows_in self.old.stores) 0))
+            (touched (tables_in self.old.stores) self.old.views (rows_in self.old.stores) 0 change.now) self.old
+            self.new result }
     {
         match change {
             TableChange::Appended(count) => self.take_back(*count),
@@ -351,7 +351,9 @@ impl LiveTables {
         requires kind { IsChangeOf table change.now }
         requires can { CanGoBack (table_at (tables_in self.old.stores) table) change.now
             (rows_at (rows_in self.old.stores) table) }
-        ensures { WentBack table (back change.now (rows_at (rows_in self.old.stores) table)) self.old self.new result }
+        ensures { WentBack table (back change.now (rows_at (rows_in self.old.stores) table))
+            (touched (tables_in self.old.stores) self.old.views (rows_in self.old.stores) table change.now) self.old
+            self.new result }
     {
         match change {
             TableChange::Appended(_) => unreachable!(),
@@ -366,7 +368,9 @@ impl LiveTables {
         requires kind { IsChangeOf table change.now }
         requires can { CanGoBack (table_at (tables_in self.old.stores) table) change.now
             (rows_at (rows_in self.old.stores) table) }
-        ensures { WentBack table (back change.now (rows_at (rows_in self.old.stores) table)) self.old self.new result }
+        ensures { WentBack table (back change.now (rows_at (rows_in self.old.stores) table))
+            (touched (tables_in self.old.stores) self.old.views (rows_in self.old.stores) table change.now) self.old
+            self.new result }
     {
         if table == 0 {
             self.go_back_main(change)
@@ -383,8 +387,8 @@ impl LiveTables {
         ensures views { self.new.views ≡ self.old.views }
         ensures stale { OnOk result (self.new.stale ≡ slice_set self.old.stale place false) }
         ensures err { OnErr result (self.new.stale ≡ self.old.stale) }
-        ensures visits { get_or self.old.stale place true ≡ false
-            → visits_in self.new.stores ≡ visits_in self.old.stores }
+        ensures visits { visits_in self.new.stores ≤ visits_in self.old.stores
+            + built_of (get_or self.old.stale place true) (rows_at (rows_in self.old.stores) 0) }
     {
         if self.states[place].stale {
             let state = rebuild(self.alloc, &mut self.stores, &self.views[place])?;
@@ -406,6 +410,7 @@ impl LiveTables {
         ensures same_rows { rows_in self.new.stores ≡ rows_in self.old.stores }
         ensures views { self.new.views ≡ self.old.views }
         ensures stale { OnOk result (self.new.stale ≡ slice_set self.old.stale place false) }
+        ensures visits { OpensShown self.old place self.new }
     {
         self.refresh(place)?;
         let view = &self.views[place];

@@ -20,6 +20,7 @@ ghost use Rattle.upkeep.specs.Reading.{
   made_at,
 };
 ghost use Rattle.upkeep.specs.Stores.{rows_at, rows_in, tables_in, visits_in};
+ghost use Rattle.upkeep.specs.Touched.{opened_of};
 ghost use Rattle.upkeep.specs.ViewStates.{IsCurrent};
 ghost use Rattle.upkeep.specs.declared.view_state.Kept.TheVariants as kept;
 
@@ -96,8 +97,9 @@ fn first_rows(
         (live (rows_at (rows_in stores.old.items) 0))) }
     ensures tables { tables_in stores.new.items ≡ tables_in stores.old.items }
     ensures same_rows { rows_in stores.new.items ≡ rows_in stores.old.items }
-    ensures visits { IfOk result (λ rows.
-        visits_in stores.new.items ≤ visits_in stores.old.items + length rows.items) }
+    ensures visits { visits_in stores.new.items ≤ visits_in stores.old.items + length (view_rows view.now
+        (side_by (tables_in stores.old.items) (rows_in stores.old.items) view.now)
+        (live (rows_at (rows_in stores.old.items) 0))) }
 {
     let numbers = first_numbers(alloc, view, order)?;
     make_rows(alloc, stores, view, &numbers)
@@ -140,9 +142,9 @@ pub(crate) fn kept_rows(
         (live (rows_at (rows_in stores.old.items) 0))) }
     ensures tables { tables_in stores.new.items ≡ tables_in stores.old.items }
     ensures same_rows { rows_in stores.new.items ≡ rows_in stores.old.items }
-    ensures visits { IfOk result (λ rows.
-        visits_in stores.new.items ≤ visits_in stores.old.items + length rows.items) }
-    ensures group_visits { IsGrouped view.now.outputs → visits_in stores.new.items ≡ visits_in stores.old.items }
+    ensures visits { visits_in stores.new.items ≤ visits_in stores.old.items + opened_of view.now
+        (side_by (tables_in stores.old.items) (rows_in stores.old.items) view.now)
+        (rows_at (rows_in stores.old.items) 0) }
 {
     match &state.kept {
         Kept::Order(order) => first_rows(alloc, stores, view, order),

@@ -53,17 +53,9 @@ abbrev pub some_digits : List ℕ → Option ℕ
 some_digits [] = None
 some_digits (c ∷ cs) = digits_after 0 (c ∷ cs)
 
--- What 128 bits hold of a number: of one that is too large the greatest that they can hold.
-
-abbrev pub greatest_held : ℕ
-greatest_held = 2 ^ 128 - 1
-
+-- what 128 bits hold of a number: of one that is too large the greatest that they can hold
 abbrev pub held : Option ℕ → Option ℕ
-held o = option_map (λ n. min n greatest_held) o
-
-abbrev pub held_after : ℕ → List ℕ → Option ℕ
-held_after m [] = Some m
-held_after m (c ∷ cs) = if is_digit c then held_after (min (10 * m + (c - 48)) greatest_held) cs else None
+held o = option_map (λ n. min n (2 ^ 128 - 1)) o
 
 -- those on both sides of a point that stands at this place
 unfoldable pub pointed : ℕ → List ℕ → Option ℕ

@@ -1,6 +1,8 @@
 //! Columns, by their names.
 
 ghost use Rattle.std.specs.Prelude.{◌≡◌, ◌<◌, IfSome, length, option_map, map};
+ghost use Rattle.std.specs.Bool.{Decides};
+ghost use Rattle.values.specs.ColTypes.{IsSingle};
 ghost use Rattle.values.specs.Reading.{Judges};
 ghost use Rattle.view_config.specs.Columns.{find, has_order, name_of, ordered};
 ghost use Rattle.view_config.specs.Tree.{is_one_of, repeats};
@@ -8,9 +10,10 @@ ghost use Rattle.view_config.specs.Tree.{is_one_of, repeats};
 use crate::faults::ConfigFault;
 use values::{ColType, LogicalField};
 
-/// Whether the values of a type have an order.
+/// Whether the values of a type have an order: `rule` ties it to what is asked of keys and of what is compared.
 pub(crate) fn has_order(col_type: &ColType) -> bool
-    ensures { result ≡ has_order col_type.now }
+    ensures value { result ≡ has_order col_type.now }
+    ensures rule { Decides result (IsSingle col_type.now) }
 {
     !matches!(col_type, ColType::List { .. } | ColType::Struct)
 }

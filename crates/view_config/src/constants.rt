@@ -5,7 +5,7 @@ ghost use Rattle.toml.specs.View.{view};
 ghost use Rattle.values.specs.Limits.{max_precision};
 ghost use Rattle.values.specs.Reading.{must};
 ghost use Rattle.view_config.specs.Constants.{and_then, binary_in, byte_of, bytes_in_pairs, constant_of, decimal};
-ghost use Rattle.view_config.specs.Constants.{decimal_in, fixed_in, greatest_of, held, held_after, least_of, magnitude};
+ghost use Rattle.view_config.specs.Constants.{decimal_in, digits_after, fixed_in, greatest_of, held, least_of, magnitude};
 ghost use Rattle.view_config.specs.Constants.{nibble, pairs, pointed, some_digits, text_constant, truth_in, unscaled};
 ghost use Rattle.view_config.specs.Constants.{whole_in, within};
 ghost use Rattle.view_config.specs.Reading.{Answers};
@@ -77,7 +77,7 @@ fn whole_in(width: IntWidth, signed: bool, value: &Value) -> Option<Constant>
 /// The number of these digits, which come after those of `start`. Above 128 bits it is the greatest that they hold.
 #[tactic(auto, using(crate::proofs::Digits::digits))]
 fn digits_after(start: u128, digits: &[u8]) -> Option<u128>
-    ensures { result ≡ held_after start digits.now }
+    ensures { result ≡ held (digits_after start digits.now) }
 {
     let mut number = start;
     for digit in digits {

@@ -1,8 +1,10 @@
 //! Groups: the columns that rows are grouped by, and what is shown of a group.
 
 ghost use Rattle.std.specs.Prelude.{◌≡◌};
+ghost use Rattle.std.specs.Bool.{Decides};
 ghost use Rattle.toml.specs.View.{items_view, view};
 ghost use Rattle.values.specs.Reading.{Judges};
+ghost use Rattle.view_lang.specs.ConfigRules.{IsAddable};
 ghost use Rattle.view_config.specs.Outputs.{aggregate_by, can_be_summed, count_by, distinct_numbers, group_of};
 ghost use Rattle.view_config.specs.Outputs.{grouping_column, is_number_in, key_of_group, place_of, repeats_number};
 ghost use Rattle.view_config.specs.Outputs.{sole_ordered, sole_reference, sum_of_column};
@@ -142,9 +144,10 @@ fn count_by(scope: &Scope, values: &[Value]) -> Result<Aggregate, ConfigFault>
     Ok(Aggregate::CountOf(number))
 }
 
-/// Whether the values of a type have a sum.
+/// Whether the values of a type have a sum: `rule` ties it to what is asked of the columns that views sum.
 fn can_be_summed(col_type: &ColType) -> bool
-    ensures { result ≡ can_be_summed col_type.now }
+    ensures value { result ≡ can_be_summed col_type.now }
+    ensures rule { Decides result (IsAddable col_type.now) }
 {
     match col_type {
         ColType::Int { .. } => true,

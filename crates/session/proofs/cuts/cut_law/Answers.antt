@@ -4,63 +4,63 @@ use Rattle.session.proofs.cuts.cut_law.Goals as goal
 
 pub returns-clause-replay : goal.returns-clause-replay
 returns-clause-replay c = run-is-replayed (record {
-  partial = c.cut_law.ensures.partial;
-  whole = c.cut_law.ensures.whole;
-  faults = c.cut_law.ensures.faults;
+  none = c.pieces_law.ensures.none;
+  push = c.pieces_law.ensures.push;
+  refusal = c.pieces_law.ensures.refusal;
   uses = c.cut_law.ensures.uses;
   all = c.cut_law.ensures.all;
 })
 
 pub returns-clause-same : goal.returns-clause-same
 returns-clause-same c = same-runs (record {
-  partial = c.cut_law.ensures.partial;
-  whole = c.cut_law.ensures.whole;
-  faults = c.cut_law.ensures.faults;
+  none = c.pieces_law.ensures.none;
+  push = c.pieces_law.ensures.push;
+  refusal = c.pieces_law.ensures.refusal;
   uses = c.cut_law.ensures.uses;
   all = c.cut_law.ensures.all;
 })
 
 pub returns-clause-faults : goal.returns-clause-faults
 returns-clause-faults c = faults-are-told (record {
-  partial = c.cut_law.ensures.partial;
-  whole = c.cut_law.ensures.whole;
-  faults = c.cut_law.ensures.faults;
+  none = c.pieces_law.ensures.none;
+  push = c.pieces_law.ensures.push;
+  refusal = c.pieces_law.ensures.refusal;
   uses = c.cut_law.ensures.uses;
   all = c.cut_law.ensures.all;
 })
 
 pub returns-clause-breaks : goal.returns-clause-breaks
 returns-clause-breaks c = faults-break (record {
-  partial = c.cut_law.ensures.partial;
-  whole = c.cut_law.ensures.whole;
-  faults = c.cut_law.ensures.faults;
+  none = c.pieces_law.ensures.none;
+  push = c.pieces_law.ensures.push;
+  refusal = c.pieces_law.ensures.refusal;
   uses = c.cut_law.ensures.uses;
   all = c.cut_law.ensures.all;
 })
 
 pub returns-clause-finish : goal.returns-clause-finish
 returns-clause-finish c = finish-is-told (record {
-  partial = c.cut_law.ensures.partial;
-  whole = c.cut_law.ensures.whole;
-  faults = c.cut_law.ensures.faults;
+  none = c.pieces_law.ensures.none;
+  push = c.pieces_law.ensures.push;
+  refusal = c.pieces_law.ensures.refusal;
   uses = c.cut_law.ensures.uses;
   all = c.cut_law.ensures.all;
 })
 
 pub returns-clause-pushes : goal.returns-clause-pushes
 returns-clause-pushes c = push-faults-are-told (record {
-  partial = c.cut_law.ensures.partial;
-  whole = c.cut_law.ensures.whole;
-  faults = c.cut_law.ensures.faults;
+  none = c.pieces_law.ensures.none;
+  push = c.pieces_law.ensures.push;
+  refusal = c.pieces_law.ensures.refusal;
   uses = c.cut_law.ensures.uses;
   all = c.cut_law.ensures.all;
 })
 
 pub returns-clause-both : goal.returns-clause-both
 returns-clause-both c = breaks-in-both (record {
-  partial = c.cut_law.ensures.partial;
-  whole = c.cut_law.ensures.whole;
-  faults = c.cut_law.ensures.faults;
+  none = c.pieces_law.ensures.none;
+  push = c.pieces_law.ensures.push;
+  refusal = c.pieces_law.ensures.refusal;
   uses = c.cut_law.ensures.uses;
   all = c.cut_law.ensures.all;
 })

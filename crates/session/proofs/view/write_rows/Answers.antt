@@ -5,7 +5,7 @@ use Rattle.view_lang.specs.Cells.{rows_of}
 use Rattle.view_lang.specs.Config.{View}
 use Rattle.upkeep.specs.LiveParts.{view_at}
 use Rattle.upkeep.specs.Stores.{Rows, rows_in, tables_in, world_of}
-use Rattle.session.specs.Steps.{IsReadAsView}
+use Rattle.session.specs.Steps.{IsReadAsView, stream_of}
 use Rattle.upkeep.specs.StoreLaws.{rows_length}
 use Rattle.session.proofs.Written.{on_ok, shown_fits, stream_is, view_read}
 use Rattle.session.proofs.view.write_rows.Goals as goal
@@ -39,6 +39,6 @@ returns-clause-read g c =
     shown_fits c.rows_law.ensures.light c.rows_law.ensures.views c.rows_law.ensures.few c.config_law.ensures.views
     tables rows v c.args.schema.now.fields.items (rows_of c.deref.result.now) c.in_ok-shown.ensures.viewed
     c.requires.schema same in
-    on_ok c.write_table.result (IsReadAsView tables v (world_of rows))
+    on_ok c.write_table.result (IsReadAsView tables v (world_of rows) (stream_of tables v (world_of rows)))
     (view_read c.canon_law.ensures.means c.config_law.ensures.views tables rows v c.args.schema.now.fields.items
     (rows_of c.deref.result.now) some c.in_ok-shown.ensures.viewed c.requires.schema same fits)

@@ -1,9 +1,8 @@
-use Rattle.std.proofs.Common.{◌<◌, All, ap, length, subst, sym, ◌∙◌}
+use Rattle.std.proofs.Common.{◌<◌, ◌≤◌, ◌+◌, All, ap, length, subst, sym, ◌∙◌}
 use Rattle.std.proofs.lemmas.Result.{IfOk-weaker}
 use Rattle.upkeep.specs.Inputs.{side_by}
 use Rattle.upkeep.specs.Reading.{made_at}
 use Rattle.upkeep.specs.Stores.{rows_at, rows_in, tables_in, visits_in}
-use Rattle.upkeep.proofs.MadeRows.{rows_counted}
 use Rattle.upkeep.proofs.reading.first_rows.Goals as goal
 
 pub make_rows-requires-clause-there : goal.make_rows-requires-clause-there
@@ -23,10 +22,5 @@ returns-clause-rows c =
 pub returns-clause-visits : goal.returns-clause-visits
 returns-clause-visits c =
     let shown = c.in_ok-numbers.ensures _ _ _ c.requires.kept in
-    IfOk-weaker c.make_rows.result _ _
-    (λ rows made. rows_counted rows.items _ _ (visits_in c.args.stores.now.items) (length c.deref.result.now)
-    (made
-    ∙ ap (made_at c.args.view.now (side_by (tables_in c.args.stores.now.items) (rows_in c.args.stores.now.items)
-    c.args.view.now) (rows_at (rows_in c.args.stores.now.items) 0)) c.deref.ensures.value ∙ shown.rows)
-    (ap length c.deref.ensures.value ∙ shown.many) c.make_rows.ensures.visits)
-    c.make_rows.ensures.rows
+    subst (λ n. visits_in c.make_rows.new.stores.items ≤ visits_in c.args.stores.now.items + n)
+    (ap length c.deref.ensures.value ∙ shown.many) c.make_rows.ensures.visits

@@ -40,7 +40,7 @@ invariant_of-self c =
     c.self.invariant
     (finish_known p q c.args.feed.now c.feed_place-place.result c.index_mut.result.now c.finish_of.new.link
     c.finish_of.result at below
-    c.index_mut.ensures.value c.finish_of.ensures refl refl refl)
+    c.index_mut.ensures.value c.finish_of.ensures refl refl refl (refl, refl))
     refl refl c.self.invariant.capacity_is
 
 pub returns-clause-step : goal.returns-clause-step
@@ -60,4 +60,4 @@ returns-clause-step c =
     c.self.view_is
     (finish_known p q c.args.feed.now c.feed_place-place.result c.index_mut.result.now c.finish_of.new.link
     c.finish_of.result at below
-    c.index_mut.ensures.value c.finish_of.ensures refl refl refl)
+    c.index_mut.ensures.value c.finish_of.ensures refl refl refl (refl, refl))

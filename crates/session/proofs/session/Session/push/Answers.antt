@@ -48,7 +48,7 @@ invariant_of-self c =
     c.self.invariant
     (push_known p q c.args.feed.now c.args.piece.now c.feed_place-place.result c.index_mut.result.now c.push_to.new.link
     c.push_to.result at below
-    c.index_mut.ensures.value c.push_to.ensures.pushes c.push_to.ensures.tables refl)
+    c.index_mut.ensures.value c.push_to.ensures.pushes c.push_to.ensures.tables refl (refl, refl))
     c.push_to.ensures.tables c.push_to.ensures.views c.push_to.ensures.capacity
 
 pub returns-clause-step : goal.returns-clause-step
@@ -68,4 +68,4 @@ returns-clause-step c =
     (λ s t. PushStep (config_of x) s c.args.feed.now c.args.piece.now c.push_to.result t) q) c.self.view_is
     (push_known p q c.args.feed.now c.args.piece.now c.feed_place-place.result c.index_mut.result.now c.push_to.new.link
     c.push_to.result at below
-    c.index_mut.ensures.value c.push_to.ensures.pushes c.push_to.ensures.tables refl)
+    c.index_mut.ensures.value c.push_to.ensures.pushes c.push_to.ensures.tables refl (refl, refl))

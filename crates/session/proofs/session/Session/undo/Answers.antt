@@ -13,7 +13,7 @@ invariant_of-self c =
     parts (map string_bytes c.self.inside.names.items) c.self.inside.feeds.items c.self.inside.links.items c.go_back.new.tables c.go_back.new.records.items in
     session_kept p q (λ s t. UndoTo s c.go_back.result t) c.self.inside.records.capacity c.go_back.new.records.capacity
     (columns_of c.self.inside.schemas.items) c.self.invariant
-    (undo_known p q c.go_back.result c.go_back.ensures.undoes c.go_back.ensures.tables refl)
+    (undo_known p q c.go_back.result c.go_back.ensures.undoes c.go_back.ensures.tables refl (refl, refl))
     c.go_back.ensures.tables c.go_back.ensures.views
     (c.go_back.ensures.capacity ∙ c.self.invariant.capacity_is)
 
@@ -24,4 +24,4 @@ returns-clause-step c =
     let q : SessionParts =
     parts (map string_bytes c.self.inside.names.items) c.self.inside.feeds.items c.self.inside.links.items c.go_back.new.tables c.go_back.new.records.items in
     subst (λ (x : SessionParts). IsStep x (λ s t. UndoTo s c.go_back.result t) q) c.self.view_is
-    (undo_known p q c.go_back.result c.go_back.ensures.undoes c.go_back.ensures.tables refl)
+    (undo_known p q c.go_back.result c.go_back.ensures.undoes c.go_back.ensures.tables refl (refl, refl))

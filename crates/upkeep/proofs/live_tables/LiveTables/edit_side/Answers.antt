@@ -163,7 +163,7 @@ returns-in-Ok c =
     rw (← c.self.view_is)
     (edit_made ss c.rebuild_lookups.new.stores.items c.self.inside.views.items c.self.inside.states.items
     c.rebuild_lookups.new.states.items c.args.table c.index_mut.result.now c.make_edit.new.store
-    (change_by c.args.role c.args.columns.items c.args.rows) c.in_ok-change.change changed opened
+    (change_by c.args.role c.args.columns.items c.args.rows) c.in_ok-change.change c.requires.side changed opened
     c.in_ok-change.ensures.makes (subst P (sym c.requires.role) c.in_ok-change.ensures.kind) c.in-Ok.ensures.stale)
 
 pub returns-in-Err : goal.returns-in-Err

@@ -83,9 +83,9 @@ returns-in-Ok c =
     } in
     let opened : Opened (slice_set ss c.args.table c.put_back.new.self) c.rebuild_lookups.new.stores.items =
     record { tables = c.in-Ok.ensures.tables; rows = c.in-Ok.ensures.rows } in
-    rw (← c.self.view_is)
+    λ touched. rw (← c.self.view_is)
     (went_back tt ss c.rebuild_lookups.new.stores.items c.self.inside.views.items c.self.inside.states.items
-    c.rebuild_lookups.new.states.items c.args.table (put_back c.args.numbers.now (rows_at (rows_in ss) c.args.table))
+    c.rebuild_lookups.new.states.items c.args.table (put_back c.args.numbers.now (rows_at (rows_in ss) c.args.table)) touched c.requires.side
     (opened_rows ss c.rebuild_lookups.new.stores.items c.args.table c.index_mut.result.now c.put_back.new.self
     (put_back c.args.numbers.now) changed opened c.put_back.ensures.slots)
     (opened_tables ss c.rebuild_lookups.new.stores.items c.args.table c.index_mut.result.now c.put_back.new.self changed
@@ -103,10 +103,10 @@ returns-in-Err c =
     } in
     let opened : Opened (slice_set ss c.args.table c.put_back.new.self) c.rebuild_lookups.new.stores.items =
     record { tables = c.in-Err.ensures.tables; rows = c.in-Err.ensures.rows } in
-    rw (← c.self.view_is)
+    λ touched. rw (← c.self.view_is)
     (stayed c.in-Err.refused ss (slice_set c.rebuild_lookups.new.stores.items c.args.table c.retract.new.self)
     c.self.inside.views.items c.self.inside.states.items
-    c.rebuild_lookups.new.states.items c.args.table (put_back c.args.numbers.now (rows_at (rows_in ss) c.args.table))
+    c.rebuild_lookups.new.states.items c.args.table (put_back c.args.numbers.now (rows_at (rows_in ss) c.args.table)) touched
     (restored_rows ss c.rebuild_lookups.new.stores.items c.args.table c.index_mut.result.now c.put_back.new.self
     c.index_mut-in-Err.result.now c.retract.new.self (retracted c.args.numbers.now) changed opened
     c.index_mut-in-Err.ensures.value c.retract.ensures.slots c.put_back.ensures.back)

@@ -1,5 +1,4 @@
-use Rattle.std.proofs.Common.{◌≤◌, arith, subst, sym}
-use Rattle.values.specs.Limits.{max_main_rows}
+use Rattle.std.proofs.Common.{subst, sym}
 use Rattle.row_keys.specs.Slots.{CanTakeBack}
 use Rattle.upkeep.specs.LiveParts.{LiveParts}
 use Rattle.upkeep.specs.Stores.{rows_at, rows_in}
@@ -14,12 +13,11 @@ follow_last-requires-clause-there c =
 
 pub follow_last-requires-clause-fits : goal.follow_last-requires-clause-fits
 follow_last-requires-clause-fits c =
-    let short : c.args.count ≤ max_main_rows = omega (arith, c.if-count-gt-MAX_MAIN_ROWS.false) in
     take_back_needs c.numbers_law.ensures.live c.numbers_law.ensures.taken_back c.self.inside.stores.items
     c.self.inside.views.items c.deref.result.now c.self.inside.states.items c.index.result.now c.args.count
     c.deref.ensures.value c.self.invariant c.index.ensures (subst
     (λ (p : LiveParts). CanTakeBack c.args.count (rows_at (rows_in p.stores) 0)) (sym c.self.view_is) c.requires) c.rows_law.ensures.table
-    c.rows_law.ensures.few short
+    c.rows_law.ensures.few
 
 pub invariant_of-self-2 : goal.invariant_of-self-2
 invariant_of-self-2 c =

@@ -121,11 +121,11 @@ returns-in-Ok c =
     } in
     let opened : Opened (slice_set ss c.args.table c.hide_put.new.self) c.rebuild_lookups.new.stores.items =
     record { tables = c.in-Ok.ensures.tables; rows = c.in-Ok.ensures.rows } in
-    rw (← c.self.view_is)
+    λ touched. rw (← c.self.view_is)
     (went_back tt ss (slice_set c.rebuild_lookups.new.stores.items c.args.table c.take_back.new.self)
     c.self.inside.views.items c.self.inside.states.items
     c.rebuild_lookups.new.states.items c.args.table
-    (put_undone c.args.rows c.args.replaced.now (rows_at (rows_in ss) c.args.table))
+    (put_undone c.args.rows c.args.replaced.now (rows_at (rows_in ss) c.args.table)) touched c.requires.side
     (shrunk_rows ss c.rebuild_lookups.new.stores.items c.args.table c.index_mut.result.now c.hide_put.new.self
     c.index_mut-in-Ok.result.now c.take_back.new.self (taken_back c.args.rows)
     (put_undone c.args.rows c.args.replaced.now) changed opened c.index_mut-in-Ok.ensures.value c.take_back.ensures
@@ -146,10 +146,10 @@ returns-in-Err c =
     } in
     let opened : Opened (slice_set ss c.args.table c.hide_put.new.self) c.rebuild_lookups.new.stores.items =
     record { tables = c.in-Err.ensures.tables; rows = c.in-Err.ensures.rows } in
-    rw (← c.self.view_is)
+    λ touched. rw (← c.self.view_is)
     (stayed c.in-Err.refused ss (slice_set c.rebuild_lookups.new.stores.items c.args.table c.show_put.new.self)
     c.self.inside.views.items c.self.inside.states.items
-    c.rebuild_lookups.new.states.items c.args.table (put_undone c.args.rows c.args.replaced.now (rows_at (rows_in ss) c.args.table))
+    c.rebuild_lookups.new.states.items c.args.table (put_undone c.args.rows c.args.replaced.now (rows_at (rows_in ss) c.args.table)) touched
     (restored_rows ss c.rebuild_lookups.new.stores.items c.args.table c.index_mut.result.now c.hide_put.new.self
     c.index_mut-in-Err.result.now c.show_put.new.self (put_shown c.args.rows c.args.replaced.now) changed opened
     c.index_mut-in-Err.ensures.value c.show_put.ensures c.hide_put.ensures.shown)

@@ -1,0 +1,88 @@
+-- The rows of the main table that a change touches, and how often rows may be opened.
+use Rattle.std.specs.Prelude.{
+  ◌≡◌,
+  ℕ,
+  zero,
+  suc,
+  ◌≤◌,
+  ◌+◌,
+  ◌*◌,
+  Bool,
+  false,
+  ◌&&◌,
+  List,
+  [],
+  Option,
+  None,
+  Some,
+  true,
+  count_by,
+  get_or,
+  if◌then◌else◌,
+  length,
+  nat_eq,
+}
+use Rattle.std.specs.List.{list_any}
+use Rattle.values.specs.Datum.{Datum}
+use Rattle.view_lang.specs.Cells.{cell_at}
+use Rattle.view_lang.specs.Config.{Table, View}
+use Rattle.view_lang.specs.Contents.{is_among}
+use Rattle.view_lang.specs.Joined.{Side}
+use Rattle.view_lang.specs.Outputs.{Outputs, columns, groups}
+use Rattle.view_lang.specs.Views.{view_rows}
+use Rattle.view_lang.specs.World.{table_at}
+use Rattle.view_lang.specs.declared.view.Lookup.{Lookup}
+use Rattle.row_keys.specs.Slots.{Slot, keys_at, last_numbers, live}
+use Rattle.upkeep.specs.Inputs.{side_by}
+use Rattle.upkeep.specs.LiveParts.{LiveParts, view_at}
+use Rattle.upkeep.specs.Stores.{Rows, rows_at, rows_in, tables_in, visits_in}
+use Rattle.upkeep.specs.declared.table_change.TableChange.{TableChange}
+use Rattle.upkeep.specs.declared.table_change.TableChange.TheVariants.{Appended, Put, Retracted}
+
+-- the keys of the rows of a side table that a change names
+abbrev pub named_keys : Table → TableChange → List Slot → List Datum
+named_keys t (Appended n) slots = []
+named_keys t (Retracted ns) slots = keys_at t ns.items slots
+named_keys t (Put n replaced) slots = keys_at t (last_numbers n slots) slots
+
+-- whether a row of the main table refers to one of these keys of a table
+abbrev pub refers_by : Option Lookup → ℕ → List Datum → List Datum → Bool
+refers_by None table keys row = false
+refers_by (Some l) table keys row = nat_eq (suc l.side) table && is_among (cell_at row l.on) keys
+
+-- and does so in one of the views
+abbrev pub refers : List View → ℕ → List Datum → List Datum → Bool
+refers views table keys row = list_any (λ v. refers_by v.lookup table keys row) views
+
+-- How many rows of the main table a change touches: those that it names, or those that refer to a row that it names.
+abbrev pub touched : List Table → List View → Rows → ℕ → TableChange → ℕ
+touched tables views rows zero (Appended n) = n
+touched tables views rows zero (Retracted ns) = length ns.items
+touched tables views rows zero (Put n replaced) = 0
+touched tables views rows (suc side) change =
+    count_by (refers views (suc side) (named_keys (table_at tables (suc side)) change (rows_at rows (suc side))))
+    (live (rows_at rows 0))
+
+-- Each view may open each row twice.
+abbrev pub OpensTwice : LiveParts → ℕ → LiveParts → Type 0
+OpensTwice old rows new = visits_in new.stores ≤ visits_in old.stores + 2 * (length old.views * rows)
+
+-- how many rows are opened for so many that a view shows: none of groups
+abbrev pub opened_by : Outputs → ℕ → ℕ
+opened_by (columns outputs) shown = shown
+opened_by (groups by outputs) shown = 0
+
+abbrev pub opened_of : View → Side → List Slot → ℕ
+opened_of v side slots = opened_by v.outputs (length (view_rows v side (live slots)))
+
+-- A view that is stale is built anew, of all live rows.
+abbrev pub built_of : Bool → List Slot → ℕ
+built_of stale slots = if stale then length (live slots) else 0
+
+-- The rows of a view are read: those that it shows are opened once, and once more all live ones if it is stale.
+abbrev pub OpensShown : LiveParts → ℕ → LiveParts → Type 0
+OpensShown old place new =
+    visits_in new.stores
+    ≤ visits_in old.stores + built_of (get_or old.stale place true) (rows_at (rows_in old.stores) 0)
+    + opened_of (view_at old.views place)
+    (side_by (tables_in old.stores) (rows_in old.stores) (view_at old.views place)) (rows_at (rows_in old.stores) 0)
