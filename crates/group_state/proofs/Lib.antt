@@ -16,3 +16,5 @@ pub mod Sums
 pub mod GroupLaw
 pub mod Keeping
 pub mod SampleFits
+pub mod Appended
+pub mod Taken

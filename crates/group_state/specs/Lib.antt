@@ -2,6 +2,7 @@ pub mod Keys
 pub mod Counts
 pub mod Cells
 pub mod GroupCounts
+pub mod GroupParts
 pub mod Rows
 pub mod Tuples
 pub mod Grouped

@@ -4,11 +4,14 @@ ghost use Rattle.std.specs.Prelude.{◌≡◌, ◌<◌, ◌^◌, ◌∷◌, List
 ghost use Rattle.values.specs.Datum.{Datum};
 ghost use Rattle.std.specs.Prelude.{true};
 ghost use Rattle.std.proofs.Common.{option_map};
+ghost use Rattle.group_state.specs.GroupParts.{IsGroup, group_with};
 ghost use Rattle.group_state.specs.Rows.{KeepsRows, KeepsEach, cells};
 ghost use Rattle.group_state.specs.KeptColumns.{is_kept};
 ghost use Rattle.group_state.specs.Reading.{IsThat, IsPlace};
 
+use crate::parts::GroupParts;
 use crate::tally::Tally;
+use crate::tuple::Tuple;
 use std::alloc::{AllocError, Global};
 use std::marker::Model;
 use values::Value;
@@ -38,6 +41,46 @@ impl Group {
             tallies.push(Tally::new(alloc))?;
         }
         Ok(Group { rows: 0, tallies })
+    }
+
+    /// With the tuple that its rows have.
+    pub(crate) fn into_parts(self, alloc: Global, tuple: Tuple) -> Result<GroupParts, AllocError>
+        ensures value { IfOk result (λ parts. group_with parts ≡ (tuple, self)) }
+        ensures kept { IfOk result (λ parts. IsGroup parts) }
+    {
+        let Group { rows, tallies } = self;
+        let tuple = tuple.into_row(alloc)?;
+        let mut taken = Vec::with_capacity(alloc, tallies.len())?;
+        for tally in tallies {
+            taken.push(tally.into_parts(alloc)?)?;
+        }
+        Ok(GroupParts {
+            tuple,
+            rows,
+            tallies: taken,
+        })
+    }
+
+    /// The tuple that its rows have, and the group.
+    pub(crate) fn from_parts(alloc: Global, parts: GroupParts) -> Result<(Tuple, Group), AllocError>
+        requires { IsGroup parts }
+        ensures { IfOk result (λ made. made ≡ group_with parts) }
+    {
+        let GroupParts {
+            tuple,
+            rows,
+            tallies,
+        } = parts;
+        let tuple = Tuple::of_row(alloc, tuple)?;
+        let mut made = Vec::with_capacity(alloc, tallies.len())?;
+        for tally in tallies {
+            made.push(Tally::from_parts(alloc, tally)?)?;
+        }
+        let group = Group {
+            rows,
+            tallies: made,
+        };
+        Ok((tuple, group))
     }
 
     /// How many rows it has.

@@ -1,5 +1,6 @@
 //! Groups kept by differences.
 
+ghost use Rattle.group_state.specs.GroupParts.{AreGroups, grouped_with};
 ghost use Rattle.group_state.specs.Groups.{Keeps, KeepsAt};
 ghost use Rattle.group_state.specs.Keys.{tuple_cmp};
 ghost use Rattle.group_state.specs.KeptColumns.{IsKept};
@@ -38,6 +39,7 @@ ghost use Rattle.view_lang.specs.Shifts.{
 
 use crate::group::Group;
 use crate::kept_columns::kept_columns;
+use crate::parts::GroupsParts;
 use crate::reading::{read_row, read_rows};
 use crate::tuple::Tuple;
 use std::alloc::{AllocError, Global};
@@ -76,6 +78,51 @@ impl Groups {
             keys: Vec::from_slice(alloc, by)?,
             columns: Vec::from_slice(alloc, columns)?,
             groups: BTreeMap::new(alloc),
+        })
+    }
+
+    /// What they are made of, and nothing else is kept. Where memory is refused, they are gone.
+    pub fn into_parts(self) -> Result<GroupsParts, AllocError>
+        ensures value { IfOk result (λ parts. grouped_with parts ≡ self) }
+        ensures kept { IfOk result (λ parts. AreGroups parts) }
+    {
+        let Groups {
+            alloc,
+            keys,
+            columns,
+            groups,
+        } = self;
+        let mut taken = Vec::with_capacity(alloc, groups.len())?;
+        for (tuple, group) in groups {
+            taken.push(group.into_parts(alloc, tuple)?)?;
+        }
+        Ok(GroupsParts {
+            keys,
+            columns,
+            groups: taken,
+        })
+    }
+
+    /// The groups that are made of these.
+    pub fn from_parts(alloc: Global, parts: GroupsParts) -> Result<Groups, AllocError>
+        requires { AreGroups parts }
+        ensures { IfOk result (λ groups. groups ≡ grouped_with parts) }
+    {
+        let GroupsParts {
+            keys,
+            columns,
+            groups,
+        } = parts;
+        let mut made = BTreeMap::new(alloc);
+        for group in groups {
+            let (tuple, group) = Group::from_parts(alloc, group)?;
+            made.insert(tuple, group)?;
+        }
+        Ok(Groups {
+            alloc,
+            keys,
+            columns,
+            groups: made,
         })
     }
 

@@ -4,6 +4,8 @@ ghost use Rattle.std.specs.Prelude.{◌≡◌, IfOk, is_some};
 ghost use Rattle.values.specs.Keys.{datum_of_key, key_of};
 ghost use Rattle.values.specs.declared.key.Key.TheVariants.{Null};
 ghost use Rattle.group_state.specs.Counts.{number_in};
+ghost use Rattle.group_state.specs.Keys.{key_in};
+ghost use Rattle.view_lang.specs.ViewLaws.{IsKeyCell};
 
 use crate::cells::no_value;
 use std::alloc::{AllocError, Global};
@@ -92,6 +94,22 @@ impl KeyCell {
             return Ok(Some(KeyCell { cell }));
         }
         Ok(None)
+    }
+
+    /// A value that is neither a list nor a struct.
+    pub(crate) fn of_cell(cell: Value) -> KeyCell
+        requires { IsKeyCell cell }
+        ensures { result ≡ key_in cell }
+    {
+        KeyCell { cell }
+    }
+
+    /// The value.
+    pub(crate) fn into_cell(self) -> Value
+        ensures key { IsKeyCell result }
+        ensures value { key_in result ≡ self }
+    {
+        self.cell
     }
 
     /// A null.

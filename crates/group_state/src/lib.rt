@@ -11,6 +11,7 @@ mod groups;
 mod kept_columns;
 mod key_cell;
 mod multiset;
+mod parts;
 mod reading;
 mod tally;
 #[cfg(test)]
@@ -18,3 +19,4 @@ mod tests;
 mod tuple;
 
 pub use groups::Groups;
+pub use parts::{GroupParts, GroupsParts, MultisetParts, TallyParts, ValueCount};

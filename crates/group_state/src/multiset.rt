@@ -8,6 +8,7 @@ ghost use Rattle.std.specs.Prelude.{
   ◌-◌,
   ◌+ℤ◌,
   ◌-ℤ◌,
+  IfOk,
   OnErr,
   OnOk,
   is_some,
@@ -15,6 +16,7 @@ ghost use Rattle.std.specs.Prelude.{
 };
 ghost use Rattle.std.proofs.Common.{option_map};
 ghost use Rattle.group_state.specs.Folds.{first_of, last_of};
+ghost use Rattle.group_state.specs.GroupParts.{IsMultiset, counts_with};
 ghost use Rattle.std.specs.BTreeMap.{is_at};
 ghost use Rattle.std.specs.List.Sorted.{IsStrictlySortedBy};
 ghost use Rattle.values.specs.declared.key.Key.{Key};
@@ -26,6 +28,7 @@ ghost use mir.Syntax.{w128};
 ghost use Rattle.group_state.specs.Counts.{put_one, take_one, had, one, keeps_none, weighted, number_in, IsTied};
 
 use crate::key_cell::KeyCell;
+use crate::parts::{MultisetParts, ValueCount};
 use std::alloc::{AllocError, Global};
 use std::collections::BTreeMap;
 use std::marker::Model;
@@ -60,6 +63,37 @@ impl Multiset {
             counts: BTreeMap::new(alloc),
             total: 0,
         }
+    }
+
+    pub(crate) fn into_parts(self, alloc: Global) -> Result<MultisetParts, AllocError>
+        ensures value { IfOk result (λ parts. counts_with parts ≡ self) }
+        ensures kept { IfOk result (λ parts. IsMultiset parts) }
+    {
+        let Multiset { counts, total } = self;
+        let mut taken = Vec::with_capacity(alloc, counts.len())?;
+        for (key, count) in counts {
+            let value = key.into_cell();
+            taken.push(ValueCount { value, count })?;
+        }
+        Ok(MultisetParts {
+            counts: taken,
+            total,
+        })
+    }
+
+    pub(crate) fn from_parts(alloc: Global, parts: MultisetParts) -> Result<Multiset, AllocError>
+        requires { IsMultiset parts }
+        ensures { IfOk result (λ made. made ≡ counts_with parts) }
+    {
+        let MultisetParts { counts, total } = parts;
+        let mut made = BTreeMap::new(alloc);
+        for ValueCount { value, count } in counts {
+            made.insert(KeyCell::of_cell(value), count)?;
+        }
+        Ok(Multiset {
+            counts: made,
+            total,
+        })
     }
 
     /// The sum of its whole numbers, in 128 bits.

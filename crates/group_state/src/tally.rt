@@ -9,6 +9,7 @@ ghost use Rattle.view_lang.specs.Groups.{total, sum_of as sum_by, count_of as co
 ghost use Rattle.view_lang.specs.ViewLaws.{IsKeyCell};
 ghost use Rattle.group_state.specs.Reading.{filled, datum_in};
 ghost use Rattle.group_state.specs.Cells.{KeepsCells};
+ghost use Rattle.group_state.specs.GroupParts.{IsMultiset, tally_with};
 ghost use Rattle.std.specs.Int.RustNames.{FitsSigned};
 ghost use mir.Syntax.{w128};
 ghost use Rattle.group_state.specs.Folds.{sum_of, keys_in};
@@ -17,6 +18,7 @@ ghost use Rattle.group_state.specs.Rows.{cell};
 use crate::cells::{count, is_null, no_value, whole};
 use crate::key_cell::KeyCell;
 use crate::multiset::Multiset;
+use crate::parts::TallyParts;
 use std::alloc::{AllocError, Global};
 use values::Value;
 
@@ -35,6 +37,24 @@ impl Tally {
             filled: 0,
             values: Multiset::new(alloc),
         }
+    }
+
+    pub(crate) fn into_parts(self, alloc: Global) -> Result<TallyParts, AllocError>
+        ensures value { IfOk result (λ parts. tally_with parts ≡ self) }
+        ensures kept { IfOk result (λ parts. IsMultiset parts.values) }
+    {
+        let Tally { filled, values } = self;
+        let values = values.into_parts(alloc)?;
+        Ok(TallyParts { filled, values })
+    }
+
+    pub(crate) fn from_parts(alloc: Global, parts: TallyParts) -> Result<Tally, AllocError>
+        requires { IsMultiset parts.values }
+        ensures { IfOk result (λ tally. tally ≡ tally_with parts) }
+    {
+        let TallyParts { filled, values } = parts;
+        let values = Multiset::from_parts(alloc, values)?;
+        Ok(Tally { filled, values })
     }
 
     /// The sum of the cells.

@@ -103,13 +103,33 @@ fn is_row(cells: &[Value], numbers: &[i128]) -> bool {
             .all(|(a, b)| cmp_values(a, &cell(Some(*b))) == Ordering::Equal)
 }
 
+/// The groups by the first column that the sample leads to.
+fn sample_groups(alloc: Global, outputs: &[GroupOutput]) -> Result<Groups, AllocError> {
+    let mut groups = Groups::of(alloc, &[0], outputs)?;
+    let change = sample(alloc)?;
+    groups.apply(&change)?;
+    Ok(groups)
+}
+
 #[test]
 fn keeps_groups_through_a_change(rt: HostRuntime) -> Result<(), Fail> {
     let outputs = outputs(rt.alloc())?;
-    let mut groups = Groups::of(rt.alloc(), &[0], &outputs)?;
-    let change = sample(rt.alloc())?;
-    groups.apply(&change)?;
+    let groups = sample_groups(rt.alloc(), &outputs)?;
     let shown = groups.rows(rt.alloc(), &outputs)?;
+    let [sevens] = shown.as_slice() else {
+        return Err(Fail::from("not one group"));
+    };
+    assert!(rt; is_row(sevens, &[7, 2, 1, 3, 3, 3]));
+    Ok(())
+}
+
+#[test]
+fn makes_groups_of_their_parts(rt: HostRuntime) -> Result<(), Fail> {
+    let outputs = outputs(rt.alloc())?;
+    let parts = sample_groups(rt.alloc(), &outputs)?.into_parts()?;
+    assert_eq!(rt; parts.groups.len(), 1);
+    let made = Groups::from_parts(rt.alloc(), parts)?;
+    let shown = made.rows(rt.alloc(), &outputs)?;
     let [sevens] = shown.as_slice() else {
         return Err(Fail::from("not one group"));
     };

@@ -1,6 +1,7 @@
 //! Grouping tuples.
 
-ghost use Rattle.std.specs.Prelude.{◌≡◌, IfOk, []};
+ghost use Rattle.std.specs.Prelude.{◌≡◌, All, IfOk, [], map};
+ghost use Rattle.view_lang.specs.ViewLaws.{IsKeyCell};
 ghost use Rattle.view_lang.specs.Cells.{cell_at};
 ghost use Rattle.group_state.specs.Reading.{data_of};
 ghost use Rattle.group_state.specs.Rows.{cell};
@@ -12,7 +13,7 @@ use crate::key_cell::KeyCell;
 use std::alloc::{AllocError, Global};
 use std::cmp::Ordering;
 use std::marker::Model;
-use values::Value;
+use values::{Row, Value};
 
 /// The keys of the grouping columns. Contracts see the list of them.
 #[derive(Debug, Drop)]
@@ -91,6 +92,28 @@ impl Tuple {
         let mut keys = Vec::with_capacity(alloc, columns.len())?;
         for column in columns {
             keys.push(key_at(alloc, row, *column)?)?;
+        }
+        Ok(Tuple { keys })
+    }
+
+    pub(crate) fn into_row(self, alloc: Global) -> Result<Row, AllocError>
+        ensures value { IfOk result (λ row. map key_in row.items ≡ self) }
+        ensures keys { IfOk result (λ row. All IsKeyCell row.items) }
+    {
+        let mut row = Vec::with_capacity(alloc, self.keys.len())?;
+        for key in self.keys {
+            row.push(key.into_cell())?;
+        }
+        Ok(row)
+    }
+
+    pub(crate) fn of_row(alloc: Global, row: Row) -> Result<Tuple, AllocError>
+        requires { All IsKeyCell row.items }
+        ensures { IfOk result (λ t. t ≡ map key_in row.items) }
+    {
+        let mut keys = Vec::with_capacity(alloc, row.len())?;
+        for cell in row {
+            keys.push(KeyCell::of_cell(cell))?;
         }
         Ok(Tuple { keys })
     }

@@ -54,7 +54,7 @@ same-found (Some []) b x y s t h = absurd (true≢false x)
 same-found (Some (n ∷ ns)) None x y s t h = absurd (true≢false (sym (first-among n ns) ∙ h n))
 same-found (Some (n ∷ ns)) (Some ms) x y s t h = ap Some (same-numbers (n ∷ ns) ms s t h)
 
-key_total : IsTotalOrder key_cmp
+pub key_total : IsTotalOrder key_cmp
 key_total = total-law
 
 pub refers-to-all : RefersToAll

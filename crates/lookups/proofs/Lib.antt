@@ -1,4 +1,8 @@
+pub mod Appended
 pub mod Ascending
+pub mod Changed
 pub mod Exactness
+pub mod Gathered
 pub mod Numbered
 pub mod SameEntries
+pub mod Taken

@@ -3,7 +3,7 @@
 ghost use Rattle.lookups.specs.Refers.{is_among};
 ghost use Rattle.std.specs.List.Sorted.{IsStrictlySortedBy};
 ghost use Rattle.std.specs.Ordering.{nat_cmp};
-ghost use Rattle.std.specs.Prelude.{◌≡◌, ◌==◌, ◌↔◌, [], ◌∷◌, cond, false, true, IfOk, IsTrue, OnErr, OnOk, ℕ};
+ghost use Rattle.std.specs.Prelude.{◌≡◌, ◌==◌, ◌↔◌, ◌||◌, [], ◌∷◌, cond, false, true, IfOk, IsTrue, OnErr, OnOk, ℕ};
 
 use std::alloc::{AllocError, Global};
 use std::collections::BTreeSet;
@@ -24,6 +24,14 @@ impl Model for Numbers {
 }
 
 impl Numbers {
+    pub(crate) fn none(alloc: Global) -> Numbers
+        ensures { result ≡ [] }
+    {
+        Numbers {
+            numbers: BTreeSet::new(alloc),
+        }
+    }
+
     pub(crate) fn one(alloc: Global, number: usize) -> Result<Numbers, AllocError>
         ensures value { IfOk result (λ numbers. numbers ≡ number ∷ []) }
         ensures ascending { IfOk result (λ numbers. IsStrictlySortedBy nat_cmp numbers) }
@@ -33,6 +41,18 @@ impl Numbers {
         Ok(Numbers { numbers })
     }
 
+    /// These numbers, which ascend.
+    pub(crate) fn of(alloc: Global, numbers: Vec<usize>) -> Result<Numbers, AllocError>
+        requires { IsStrictlySortedBy nat_cmp numbers.items }
+        ensures value { IfOk result (λ made. made ≡ numbers.items) }
+    {
+        let mut made = BTreeSet::new(alloc);
+        for number in numbers {
+            made.insert(number)?;
+        }
+        Ok(Numbers { numbers: made })
+    }
+
     /// Where memory is refused, nothing has changed.
     pub(crate) fn insert(&mut self, number: usize) -> Result<(), AllocError>
         ensures ok { OnOk result ((n : ℕ) → is_among self.new n ≡ cond (n == number) true (is_among self.old n)) }
@@ -40,6 +60,16 @@ impl Numbers {
         ensures ascending { IsStrictlySortedBy nat_cmp self.new }
     {
         self.numbers.insert(number)?;
+        Ok(())
+    }
+
+    /// Where memory is refused, some of them may be there.
+    pub(crate) fn add_all(&mut self, others: &Numbers) -> Result<(), AllocError>
+        ensures { OnOk result ((n : ℕ) → is_among self.new n ≡ (is_among self.old n || is_among others.now n)) }
+    {
+        for number in others.numbers.iter() {
+            self.insert(*number)?;
+        }
         Ok(())
     }
 

@@ -1,17 +1,34 @@
 //! Rows by the keys that they hold.
 
-ghost use Rattle.lookups.specs.Refers.{IsOrdered, RowsByKey, found_at, is_bare, key_cmp, numbers_of, refers};
+ghost use Rattle.lookups.specs.Keeping.{Keeps, holds};
+ghost use Rattle.lookups.specs.ReferrersParts.{rows_with};
+ghost use Rattle.lookups.specs.Refers.{
+  IsOrdered,
+  RowsByKey,
+  found_at,
+  is_among,
+  is_bare,
+  key_cmp,
+  numbers_of,
+  refers,
+};
 ghost use Rattle.std.specs.BTreeMap.{is_at};
+ghost use Rattle.std.specs.List.{list_any};
 ghost use Rattle.std.specs.List.Sorted.{IsStrictlySortedBy};
+ghost use Rattle.std.specs.Map.{keys_of};
 ghost use Rattle.std.specs.Ordering.{nat_cmp};
-ghost use Rattle.std.specs.Prelude.{◌≡◌, ◌==◌, [], cond, false, true, IfOk, OnErr, OnOk, ℕ};
+ghost use Rattle.std.specs.Prelude.{◌≡◌, ◌==◌, ◌&&◌, ◌||◌, [], cond, false, true, IfOk, OnErr, OnOk, ℕ};
 ghost use Rattle.values.specs.declared.key.Key.{Key};
+ghost use Rattle.view_lang.specs.Shifts.{NumberedRows, row_at, with_at};
 
+use crate::held::key_held;
 use crate::numbers::Numbers;
+use crate::parts::{KeyNumbers, ReferrersParts};
 use std::alloc::{AllocError, Global};
-use std::collections::BTreeMap;
+use std::collections::{BTreeMap, BTreeSet};
 use std::marker::Model;
 use values::Key;
+use view_lang::{Change, RowChange, Upkeep};
 
 /// The numbers of a table's rows by the key that each holds in a column. Contracts see the numbers under each key.
 ///
@@ -35,12 +52,39 @@ impl Model for Referrers {
 impl Referrers {
     /// Of no rows.
     pub fn new(alloc: Global) -> Referrers
-        ensures { result ≡ [] }
+        ensures none { result ≡ [] }
+        ensures kept { Keeps result [] }
     {
         Referrers {
             alloc,
             rows: BTreeMap::new(alloc),
         }
+    }
+
+    /// What it is made of, and nothing else is kept. Where memory is refused, it is gone.
+    pub fn into_parts(self) -> Result<ReferrersParts, AllocError>
+        ensures value { IfOk result (λ parts. rows_with parts ≡ self) }
+        ensures ordered { IfOk result (λ parts. IsOrdered (rows_with parts)) }
+    {
+        let Referrers { alloc, rows } = self;
+        let mut keys = Vec::with_capacity(alloc, rows.len())?;
+        for (key, numbers) in rows {
+            let numbers = numbers.to_vec(alloc)?;
+            keys.push(KeyNumbers { key, numbers })?;
+        }
+        Ok(ReferrersParts { keys })
+    }
+
+    /// The one that is made of these.
+    pub fn from_parts(alloc: Global, parts: ReferrersParts) -> Result<Referrers, AllocError>
+        requires { IsOrdered (rows_with parts) }
+        ensures { IfOk result (λ referrers. referrers ≡ rows_with parts) }
+    {
+        let mut rows = BTreeMap::new(alloc);
+        for KeyNumbers { key, numbers } in parts.keys {
+            rows.insert(key, Numbers::of(alloc, numbers)?)?;
+        }
+        Ok(Referrers { alloc, rows })
     }
 
     /// The row of this number holds the key from now on. Where memory is refused, nothing has changed.
@@ -74,6 +118,87 @@ impl Referrers {
             Some(numbers) => Ok(numbers.to_vec(alloc)?),
             None => Ok(Vec::new(alloc)),
         }
+    }
+
+    /// The numbers of the rows that hold one of the keys, in ascending order. A key that comes again is passed over, so
+    /// the time is bounded by the keys and the numbers.
+    pub fn of_keys(&self, alloc: Global, keys: &[Key]) -> Result<Vec<usize>, AllocError>
+        ensures numbers { IfOk result (λ numbers.
+            (n : ℕ) → is_among numbers.items n ≡ list_any (λ k. refers self.now k n) keys.now) }
+        ensures ascending { IfOk result (λ numbers. IsStrictlySortedBy nat_cmp numbers.items) }
+    {
+        let mut seen = BTreeSet::new(alloc);
+        let mut numbers = Numbers::none(alloc);
+        for key in keys {
+            if seen.insert(key)? {
+                self.gather(&mut numbers, key)?;
+            }
+        }
+        Ok(numbers.to_vec(alloc)?)
+    }
+
+    /// Adds the numbers of the rows that hold a key.
+    fn gather(&self, numbers: &mut Numbers, key: &Key) -> Result<(), AllocError>
+        ensures { OnOk result
+            ((n : ℕ) → is_among numbers.new n ≡ (is_among numbers.old n || refers self.now key.now n)) }
+    {
+        match self.rows.get(key) {
+            Some(found) => numbers.add_all(found),
+            None => Ok(()),
+        }
+    }
+
+    /// The row before the change is under its key no longer.
+    fn remove_before(&mut self, changed: &RowChange) -> Result<(), AllocError>
+        ensures { OnOk result ((k : Key) (n : ℕ) → refers self.new k n
+            ≡ cond (holds k changed.now.before && n == changed.now.number) false (refers self.old k n)) }
+    {
+        if let Some(key) = key_held(self.alloc, changed.before())? {
+            self.remove(&key, changed.number());
+        }
+        Ok(())
+    }
+
+    /// The row after the change comes under its key.
+    fn add_after(&mut self, changed: &RowChange) -> Result<(), AllocError>
+        ensures { OnOk result ((k : Key) (n : ℕ) → refers self.new k n
+            ≡ cond (holds k changed.now.after && n == changed.now.number) true (refers self.old k n)) }
+    {
+        if let Some(key) = key_held(self.alloc, changed.after())? {
+            self.add(key, changed.number())?;
+        }
+        Ok(())
+    }
+
+    /// Brings one number's row to what it is after the change. It is removed first: a row that keeps its key is then
+    /// there in the end.
+    fn change_row(&mut self, changed: &RowChange) -> Result<(), AllocError>
+        ensures { OnOk result ((rows : NumberedRows) → IsStrictlySortedBy nat_cmp (keys_of rows)
+            → row_at changed.now.number rows ≡ changed.now.before → Keeps self.old rows
+            → Keeps self.new (with_at changed.now.number changed.now.after rows)) }
+    {
+        self.remove_before(changed)?;
+        self.add_after(changed)?;
+        Ok(())
+    }
+}
+
+/// Rows come under the keys of their first cells. A row whose first cell is a list or a struct is under none.
+impl Upkeep for Referrers {
+    ghost use Rattle.lookups.specs.Keeping.{Keeps};
+    ghost use Rattle.std.specs.Prelude.{OnOk};
+    ghost use Rattle.view_lang.specs.Shifts.{Fits, NumberedRows, patched};
+
+    ghost keeps = { Keeps };
+
+    fn apply(&mut self, change: &Change) -> Result<(), AllocError>
+        ensures kept { OnOk result ((rows : NumberedRows) → Fits rows change.now → Keeps self.old rows
+            → Keeps self.new (patched rows change.now)) }
+    {
+        for changed in change.rows() {
+            self.change_row(changed)?;
+        }
+        Ok(())
     }
 }
 

@@ -1,9 +1,11 @@
 //! Rows that come under keys and go.
 
 use crate::Referrers;
+use std::alloc::{AllocError, Global};
 use std::process::Abort;
 use std::test::Fail;
-use values::Key;
+use values::{Key, Kind, Row, Value};
+use view_lang::{Change, RowChange, Upkeep};
 
 #[test]
 fn numbers_by_key(rt: HostRuntime) -> Result<(), Fail> {
@@ -24,5 +26,63 @@ fn numbers_by_key(rt: HostRuntime) -> Result<(), Fail> {
         [2, 9].as_slice()
     );
     assert_eq!(rt; referrers.of_key(alloc, &Key::Null)?.len(), 0);
+    Ok(())
+}
+
+/// A row that looks up a number.
+fn row(alloc: Global, number: i128) -> Result<Row, AllocError> {
+    let mut cells = Vec::new(alloc);
+    cells.push(Value {
+        kind: Kind::Int(number),
+    })?;
+    Ok(cells)
+}
+
+/// Rows 0 and 2 come with 7, row 1 with 5 and row 3 without a cell. Then row 0 changes to 5, and row 1 goes.
+fn change(alloc: Global) -> Result<Change, AllocError> {
+    let mut change = Change::new(alloc);
+    change.push(RowChange::new(0, None, Some(row(alloc, 7)?)))?;
+    change.push(RowChange::new(1, None, Some(row(alloc, 5)?)))?;
+    change.push(RowChange::new(2, None, Some(row(alloc, 7)?)))?;
+    change.push(RowChange::new(3, None, Some(Vec::new(alloc))))?;
+    change.push(RowChange::new(0, Some(row(alloc, 7)?), Some(row(alloc, 5)?)))?;
+    change.push(RowChange::new(1, Some(row(alloc, 5)?), None))?;
+    Ok(change)
+}
+
+#[test]
+fn numbers_through_a_change(rt: HostRuntime) -> Result<(), Fail> {
+    let alloc = rt.alloc();
+    let mut referrers = Referrers::new(alloc);
+    referrers.apply(&change(alloc)?)?;
+    assert_eq!(rt;
+        referrers.of_key(alloc, &Key::Int(5))?.as_slice(),
+        [0].as_slice()
+    );
+    assert_eq!(rt;
+        referrers.of_key(alloc, &Key::Int(7))?.as_slice(),
+        [2].as_slice()
+    );
+    let keys = [Key::Null, Key::Int(5), Key::Int(9), Key::Int(5)];
+    assert_eq!(rt;
+        referrers.of_keys(alloc, &keys)?.as_slice(),
+        [0, 3].as_slice()
+    );
+    Ok(())
+}
+
+#[test]
+fn makes_referrers_of_their_parts(rt: HostRuntime) -> Result<(), Fail> {
+    let alloc = rt.alloc();
+    let mut referrers = Referrers::new(alloc);
+    referrers.apply(&change(alloc)?)?;
+    let parts = referrers.into_parts()?;
+    assert_eq!(rt; parts.keys.len(), 3);
+    let made = Referrers::from_parts(alloc, parts)?;
+    let keys = [Key::Null, Key::Int(5), Key::Int(7)];
+    assert_eq!(rt;
+        made.of_keys(alloc, &keys)?.as_slice(),
+        [0, 2, 3].as_slice()
+    );
     Ok(())
 }

@@ -27,5 +27,7 @@ mod Replacing
 mod BatchLaw
 mod Changing
 mod Numbering
+mod ComingBack
+mod NumberedKeys
 mod NumberLaw
 mod PutLaw

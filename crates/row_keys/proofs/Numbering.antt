@@ -77,7 +77,7 @@ use Rattle.row_keys.proofs.Retracting.{row_marked}
 abbrev Free : List Slot → ℕ → Type 0
 Free slots n = live_at slots n ≡ None
 
-abbrev Lives : List Slot → ℕ → Type 0
+abbrev pub Lives : List Slot → ℕ → Type 0
 Lives slots n = live_at slots n ≡ Some (row_of slots n)
 
 split : (a b : ℕ) (t : Bool) → nat_lt a b ≡ t → (a < b) ⊎ (b ≤ a)
@@ -87,7 +87,7 @@ split a b false e = inr (ltb-false a b e)
 either : (a b : ℕ) → (a < b) ⊎ (b ≤ a)
 either a b = split a b (nat_lt a b) refl
 
-same_self : (n : ℕ) → is_same n n ≡ true
+pub same_self : (n : ℕ) → is_same n n ≡ true
 same_self n = ap is_eq (tied_itself nat_cmp_total n)
 
 same_if : (n m : ℕ) → n ≡ m → is_same n m ≡ true
@@ -188,7 +188,7 @@ at_numbered slots m = at_from slots 0 m m (omega arith)
 
 -- slots that are marked
 
-marked_off : (slots : List Slot) (n m : ℕ)
+pub marked_off : (slots : List Slot) (n m : ℕ)
     → live_at (marked false slots n) m ≡ cond (is_same n m) None (live_at slots m)
 marked_off [] n m = none_either (is_same n m)
 marked_off (s ∷ ss) zero zero = refl

@@ -21,6 +21,7 @@ use Rattle.row_keys.specs.Slots.{
   put_back,
   put_hidden,
   put_shown,
+  put_undone,
   retracted,
   row_of,
   taken_back,
@@ -60,6 +61,18 @@ RetractedGo =
     (ns : List ℕ) (slots : List Slot) → CanRetract ns slots
     → Leads (numbered slots) (gone slots ns) (numbered (retracted ns slots))
 
+-- Live rows can be retracted, each once,
+abbrev pub LiveCanGo : Type 0
+LiveCanGo =
+    (ns : List ℕ) (slots : List Slot) → IsStrictlySortedBy nat_cmp ns
+    → All (λ n. live_at slots n ≡ Some (row_of slots n)) ns → CanRetract ns slots
+
+-- and come back where they were.
+abbrev pub RetractedComeBack : Type 0
+RetractedComeBack =
+    (ns : List ℕ) (slots : List Slot) → CanRetract ns slots
+    → Leads (numbered (retracted ns slots)) (come slots ns) (numbered slots)
+
 -- Rows that are put back come.
 abbrev pub PutBackCome : Type 0
 PutBackCome =
@@ -97,6 +110,12 @@ abbrev pub HiddenPutGoes : Type 0
 HiddenPutGoes =
     (t : Table) (ns : List ℕ) (n : ℕ) (slots : List Slot) → CanUndoPut t n ns slots
     → Leads (numbered slots) (gone slots (last_numbers n slots) ++ come slots ns) (numbered (put_hidden n ns slots))
+
+-- Then those rows are live that are so where it is undone.
+abbrev pub HiddenIsUndone : Type 0
+HiddenIsUndone =
+    (t : Table) (ns : List ℕ) (n : ℕ) (slots : List Slot) → CanUndoPut t n ns slots
+    → live (put_hidden n ns slots) ≡ live (put_undone n ns slots)
 
 -- Where it is shown again those go, and its rows come.
 abbrev pub ShownPutComes : Type 0

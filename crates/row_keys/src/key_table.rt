@@ -1,6 +1,6 @@
 //! Keys by place.
 
-ghost use Rattle.std.specs.Prelude.{◌≡◌, [], IfOk, MatchOption, OnErr, Some, length, slice_get, take};
+ghost use Rattle.std.specs.Prelude.{◌≡◌, [], IfOk, MatchOption, OnErr, Some, length, option_copied, slice_get, take};
 ghost use Rattle.row_keys.specs.KeyTable.{AreApart, Inserts, IsNew};
 
 use indexmap::IndexSet;
@@ -51,6 +51,13 @@ impl KeyTable {
     {
         key_law();
         self.keys.get_index_of(key)
+    }
+
+    /// The key at a place.
+    pub(crate) fn get(&self, place: usize) -> Option<&Key>
+        ensures { option_copied result ≡ slice_get self.now place }
+    {
+        self.keys.get_index(place)
     }
 
     /// Puts a key last, unless it is there, and answers its place.

@@ -6,10 +6,13 @@ ghost use Rattle.row_keys.specs.NumberLaws.{
   ChangesAdd,
   FewPutBack,
   FewRetracted,
+  HiddenIsUndone,
   HiddenPutGoes,
+  LiveCanGo,
   NewCome,
   NumbersAscend,
   PutBackCome,
+  RetractedComeBack,
   RetractedGo,
   RetractedWereLive,
   RowsAreAtNumbers,
@@ -30,6 +33,8 @@ pub fn numbers_law()
     ensures at { RowsAreAtNumbers }
     ensures were_live { RetractedWereLive }
     ensures retracted { RetractedGo }
+    ensures can_go { LiveCanGo }
+    ensures come_back { RetractedComeBack }
     ensures put_back { PutBackCome }
     ensures appended { NewCome }
     ensures taken_back { TakenBackGo }
@@ -38,5 +43,6 @@ pub fn numbers_law()
     ensures few_retracted { FewRetracted }
     ensures few_put_back { FewPutBack }
     ensures put_came { HiddenPutGoes }
+    ensures hidden { HiddenIsUndone }
     ensures put_came_back { ShownPutComes }
 {}

@@ -138,6 +138,14 @@ impl Numbers {
         self.entries[number].is_live
     }
 
+    /// The key of a row.
+    pub(crate) fn key(&self, number: usize) -> &Key
+        requires { number < length self.now }
+        ensures { result.now ≡ (get_or self.now number no_row).key }
+    {
+        self.keys.get(self.entries[number].key).unwrap()
+    }
+
     /// The number of live rows.
     pub(crate) fn live(&self) -> usize
         ensures { result ≡ live_count self.now }

@@ -20,6 +20,7 @@ ghost use Rattle.std.specs.Prelude.{
 };
 ghost use Rattle.std.specs.Map.{keys_of};
 ghost use Rattle.std.specs.Option.{option_map};
+ghost use Rattle.values.specs.Keys.{datum_of_key};
 ghost use Rattle.values.specs.Limits.{max_main_rows};
 ghost use Rattle.view_lang.specs.Causes.{cause_of};
 ghost use Rattle.view_lang.specs.Contents.{applied, keys_in, without};
@@ -408,6 +409,20 @@ impl RowStore {
             Some(number) => Ok(Some(self.copy_row(number)?)),
             None => Ok(None),
         }
+    }
+
+    /// Copies of the keys of the rows of these numbers, live or retracted.
+    pub fn keys_of(&self, numbers: &[usize]) -> Result<Vec<Key>, AllocError>
+        requires { All (λ n. n < length self.now.slots) numbers.now }
+        ensures { IfOk result (λ keys.
+            map datum_of_key keys.items ≡ keys_at self.now.table numbers.now self.now.slots) }
+    {
+        let _table = &self.table;
+        let mut keys = Vec::with_capacity(self.alloc, numbers.len())?;
+        for number in numbers {
+            keys.push(self.numbers.key(*number).copy(self.alloc)?)?;
+        }
+        Ok(keys)
     }
 
     /// The numbers of all live rows, in order.

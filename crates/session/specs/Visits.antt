@@ -1,5 +1,5 @@
 -- How often rows of the main table are opened.
-use Rattle.std.specs.Prelude.{◌≡◌, zero, List, [], ◌∷◌, Option, None, Some, Result, Ok, Err}
+use Rattle.std.specs.Prelude.{◌≡◌, List, [], ◌∷◌, Option, None, Some, Result, Ok, Err}
 use Rattle.values.specs.declared.causes.Cause.{Cause}
 use Rattle.values.specs.declared.causes.Cause.TheVariants as cause
 use Rattle.row_keys.specs.declared.faults.EditFault.{EditFault}
@@ -20,7 +20,7 @@ OpensNone old new = visits_in new.stores ≡ visits_in old.stores
 abbrev pub OpensTouched : LiveParts → Rows → List UndoRecord → LiveParts → Type 0
 OpensTouched old rows [] new = OpensNone old new
 OpensTouched old rows (r ∷ rs) new =
-    r.table ≡ 0 → OpensTwice old (touched (tables_in old.stores) old.views rows r.table r.change) new
+    OpensTwice old (touched (tables_in old.stores) old.views rows r.table r.change) new
 
 -- An edit that is accepted opens the rows that it touches, at most twice for each view; one that doesn't fit opens none.
 abbrev pub EditOpens : {X : Type 0} → LiveParts → Result X EditFault → List UndoRecord → LiveParts → Type 0

@@ -1,3 +1,4 @@
+pub mod Appended
 pub mod Exact
 pub mod FirstRows
 pub mod InsertedKeys

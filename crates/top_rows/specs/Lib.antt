@@ -1,4 +1,5 @@
 pub mod Keeping
+pub mod OrderParts
 pub mod OrderedPlaces
 pub mod Parts
 pub mod PlaceOrder

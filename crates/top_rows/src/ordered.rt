@@ -6,10 +6,12 @@ ghost use Rattle.std.specs.Map.{keys_of};
 ghost use Rattle.std.specs.Ordering.{nat_cmp};
 ghost use Rattle.view_lang.specs.Shifts.{NumberedRows, row_at, with_at};
 ghost use Rattle.top_rows.specs.Keeping.{Keeps};
+ghost use Rattle.top_rows.specs.OrderParts.{AreAscending, ordered_with};
 ghost use Rattle.top_rows.specs.PlaceOrder.{RowPlace, place_cmp};
 ghost use Rattle.top_rows.specs.Places.{is_place, is_place_of, stands};
 ghost use Rattle.top_rows.specs.ViewOrder.{AreFirst, IsKeptFor};
 
+use crate::parts::OrderedParts;
 use crate::place::Place;
 use std::alloc::{AllocError, Global};
 use std::collections::BTreeSet;
@@ -46,6 +48,43 @@ impl Ordered {
             alloc,
             order: columns,
             places: BTreeSet::new(alloc),
+        })
+    }
+
+    /// What it is made of, and nothing else is kept. Where memory is refused, it is gone.
+    pub fn into_parts(self) -> Result<OrderedParts, AllocError>
+        ensures value { IfOk result (λ parts. ordered_with parts ≡ self) }
+        ensures ascending { IfOk result (λ parts. AreAscending parts) }
+    {
+        let Ordered {
+            alloc,
+            order,
+            places,
+        } = self;
+        let mut taken = Vec::with_capacity(alloc, places.len())?;
+        for place in places {
+            taken.push(place.into_parts())?;
+        }
+        Ok(OrderedParts {
+            order,
+            places: taken,
+        })
+    }
+
+    /// The one that is made of these.
+    pub fn from_parts(alloc: Global, parts: OrderedParts) -> Result<Ordered, AllocError>
+        requires { AreAscending parts }
+        ensures { IfOk result (λ ordered. ordered ≡ ordered_with parts) }
+    {
+        let OrderedParts { order, places } = parts;
+        let mut placed = BTreeSet::new(alloc);
+        for place in places {
+            placed.insert(Place::from_parts(place))?;
+        }
+        Ok(Ordered {
+            alloc,
+            order,
+            places: placed,
         })
     }
 

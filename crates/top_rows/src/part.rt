@@ -11,7 +11,7 @@ use view_lang::{Direction, OrderBy};
 
 /// A cell that a row is ordered by. Where there is no value it comes last in both directions.
 #[derive(Debug, Drop, PartialEq, Eq, PartialOrd, Ord)]
-pub(crate) enum Part {
+pub enum Part {
     Ascending(Key),
     Descending(Reverse<Key>),
     /// Null, a list or a struct.

@@ -1,9 +1,11 @@
 //! Places in an order.
 
 ghost use Rattle.std.specs.Prelude.{◌≡◌, IfOk};
+ghost use Rattle.top_rows.specs.OrderParts.{place_with};
 ghost use Rattle.top_rows.specs.Places.{place_of};
 
 use crate::part::Part;
+use crate::parts::PlaceParts;
 use std::alloc::{AllocError, Global};
 use std::cmp::Ordering;
 use std::marker::Model;
@@ -94,6 +96,24 @@ impl Place {
             parts.push(Part::of(alloc, row, by)?)?;
         }
         Ok(Place { parts, number })
+    }
+
+    pub(crate) fn from_parts(parts: PlaceParts) -> Place
+        ensures { result ≡ place_with parts }
+    {
+        Place {
+            parts: parts.values,
+            number: parts.number,
+        }
+    }
+
+    pub(crate) fn into_parts(self) -> PlaceParts
+        ensures { place_with result ≡ self }
+    {
+        PlaceParts {
+            values: self.parts,
+            number: self.number,
+        }
     }
 
     /// The row's number.

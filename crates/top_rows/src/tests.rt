@@ -37,3 +37,20 @@ fn gives_the_first_rows(rt: HostRuntime) -> Result<(), Fail> {
     );
     Ok(())
 }
+
+#[test]
+fn makes_an_order_of_its_parts(rt: HostRuntime) -> Result<(), Fail> {
+    let rising = OrderBy {
+        column: 0,
+        direction: Direction::Ascending,
+    };
+    let mut ordered = Ordered::new(rt.alloc(), &[rising])?;
+    ordered.insert(1, &row(rt.alloc(), Kind::Null)?)?;
+    ordered.insert(2, &row(rt.alloc(), Kind::Int(9))?)?;
+    ordered.insert(3, &row(rt.alloc(), Kind::Int(7))?)?;
+    let parts = ordered.into_parts()?;
+    assert_eq!(rt; parts.places.len(), 3);
+    let made = Ordered::from_parts(rt.alloc(), parts)?;
+    assert_eq!(rt; made.first(rt.alloc(), 3)?.as_slice(), [3, 2, 1].as_slice());
+    Ok(())
+}

@@ -11,6 +11,10 @@ pub mod StaleViews
 pub mod LastRows
 pub mod MainTable
 pub mod MainEdits
+pub mod SwappedRows
+pub mod Swapping
+pub mod FollowedLookups
+pub mod Referring
 pub mod LiveSides
 pub mod SideEdits
 pub mod Refreshing

@@ -56,12 +56,14 @@ image_same f g same (e ∷ es) =
     ap (λ (m : Option (List Datum)). image_by e.0 m (image f es)) (same e.1)
     ∙ ap (image_by e.0 (g e.1)) (image_same f g same es)
 
-current_same :
+pub current_same :
     (v : View) (a b : Side) (s : ViewState) (rows : NumberedRows) → ((d : Datum) → a d ≡ b d) → IsCurrent v a s rows
     → IsCurrent v b s rows
-current_same v a b s rows same current = λ fresh.
-    subst (λ (made : NumberedRows). IsKept v.outputs v.order s.kept made)
-    (image_same (made_row v a) (made_row v b) (made_same v a b same) rows) (current fresh)
+current_same v a b s rows same current = λ fresh. (
+  subst (λ (made : NumberedRows). IsKept v.outputs v.order s.kept made)
+      (image_same (made_row v a) (made_row v b) (made_same v a b same) rows) (current fresh).0,
+  (current fresh).1,
+)
 
 -- a side table whose live rows stay
 
@@ -79,12 +81,12 @@ set_live (r ∷ rs) zero slots (suc m) same = refl
 set_live (r ∷ rs) (suc n) slots zero same = refl
 set_live (r ∷ rs) (suc n) slots (suc m) same = set_live rs n slots m same
 
-set_main : (rows : Rows) (n : ℕ) (slots : List Slot) → 0 < n → rows_at (slice_set rows n slots) 0 ≡ rows_at rows 0
+pub set_main : (rows : Rows) (n : ℕ) (slots : List Slot) → 0 < n → rows_at (slice_set rows n slots) 0 ≡ rows_at rows 0
 set_main [] n slots side = refl
 set_main (r ∷ rs) zero slots side = absurd (omega (arith, side))
 set_main (r ∷ rs) (suc n) slots side = refl
 
-sides_same :
+pub sides_same :
     (tables : List Table) (lookup : Option Lookup) (rows : Rows) (n : ℕ) (slots : List Slot)
     → live slots ≡ live (rows_at rows n) → (d : Datum)
     → side_in tables (world_of rows) lookup d ≡ side_in tables (world_of (slice_set rows n slots)) lookup d

@@ -185,7 +185,7 @@ edit_made old stores now views a b s t e change is table main made kind tables_o
         views = refl;
       };
       stale = stale;
-      visits = λ _. opens;
+      visits = opens;
     }
 
 still_stale : (f : EditFault) (a b : List Bool) → b ≡ a → StaleByMemory {X = TableChange} a (Err f) b
@@ -346,7 +346,7 @@ went_back stores mid views a b u v after n x main tables rows there done stale o
       tables = tables_set mid 0 u v there (ap (λ (y : Store). y.table) done) ∙ tables;
       views = refl;
       stale = stale;
-      visits = λ _. opens;
+      visits = opens;
     }
 
 pub stayed :

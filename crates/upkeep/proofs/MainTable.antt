@@ -124,7 +124,7 @@ gives tables rows views vs states now old new change same current leads kept =
 
 -- Few rows.
 
-numbered_length : RowsAreLive → (slots : List Slot) → length (numbered slots) ≡ length (live slots)
+pub numbered_length : RowsAreLive → (slots : List Slot) → length (numbered slots) ≡ length (live slots)
 numbered_length law slots =
     sym (length-map (numbered slots) (λ (e : ℕ × List Datum). e.1)) ∙ ap length (law slots)
 

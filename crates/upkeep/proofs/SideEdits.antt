@@ -1,10 +1,13 @@
--- A change of the store of a side table, and views that are built anew after it.
+-- A change of the store of a side table, and views that follow it.
 use Rattle.std.proofs.Common.{
   ◌≡◌,
   ℕ,
   zero,
   suc,
+  ◌+◌,
+  ◌*◌,
   ◌<◌,
+  ◌≤◌,
   Bool,
   List,
   [],
@@ -21,13 +24,15 @@ use Rattle.std.proofs.Common.{
   sym,
   ◌∙◌,
 }
-use Rattle.std.specs.Prelude.{IfOk, slice_set}
+use Rattle.std.specs.Prelude.{IfOk, count_by, slice_set}
+use Rattle.values.specs.Datum.{Datum}
 use Rattle.view_lang.specs.Config.{Table, View}
 use Rattle.view_lang.specs.Edits.{TableEdit}
 use Rattle.view_lang.specs.Shifts.{NumberedRows}
 use Rattle.view_lang.specs.World.{table_at}
 use Rattle.row_keys.specs.Numbered.{numbered}
 use Rattle.row_keys.specs.Slots.{Slot, live}
+use Rattle.row_keys.specs.NumberLaws.{HiddenIsUndone}
 use Rattle.row_keys.specs.Store.{Store, with_slots}
 use Rattle.row_keys.specs.declared.faults.EditFault.{EditFault}
 use Rattle.row_keys.specs.declared.faults.EditFault.TheVariants as fault
@@ -43,12 +48,17 @@ use Rattle.upkeep.specs.StoreLaws.{
   tables_length,
   tables_set,
 }
-use Rattle.upkeep.specs.TableChanges.{CanGoBack, IsChangeOf, Makes}
-use Rattle.upkeep.specs.ViewStates.{AreCurrent, DiffersAt, EachIsCurrent, stale_in}
+use Rattle.upkeep.specs.Swaps.{CanSwap, IsHidden, forgotten, hidden, named_keys, shown, swapped}
+use Rattle.upkeep.specs.TableChanges.{CanGoBack, IsChangeOf, Makes, back}
+use Rattle.upkeep.specs.Touched.{OpensTwice, refers, touched}
+use Rattle.upkeep.specs.ViewStates.{AreCurrent, DiffersAt, EachIsCurrent, IsBefore, stale_in}
 use Rattle.upkeep.specs.declared.table_change.TableChange.{TableChange}
+use Rattle.upkeep.specs.declared.view_state.Turn.{Turn}
+use Rattle.upkeep.specs.declared.view_state.Turn.TheVariants as turn
 use Rattle.upkeep.specs.declared.view_state.ViewState.{ViewState}
 use Rattle.upkeep.proofs.Editing.{others_same, rows_now, still_of, store_makes}
-use Rattle.upkeep.proofs.LiveSides.{each_same}
+use Rattle.upkeep.proofs.LiveSides.{each_same, set_main}
+use Rattle.upkeep.proofs.SwappedRows.{hidden_live, keys_hidden, side_change}
 
 abbrev pub parts : List Store → List View → List ViewState → LiveParts
 parts stores views states = record { stores = stores; views = views; stale = stale_in states }
@@ -64,16 +74,16 @@ pub record Opened (old new : List Store) : Type 0 where
   pub tables : tables_in new ≡ tables_in old
   pub rows : rows_in new ≡ rows_in old
 
--- views that were current before a change are so after it
-abbrev pub MadeCurrent : ℕ → List Store → List View → List ViewState → List ViewState → Type 0
-MadeCurrent n ss views old new =
-    (rows : Rows) → DiffersAt n rows (rows_in ss) → AreCurrent (tables_in ss) rows views old
+-- views that were current before a change was turned are so after it
+abbrev pub MadeCurrent : ℕ → Turn → TableChange → List Store → List View → List ViewState → List ViewState → Type 0
+MadeCurrent n u c ss views old new =
+    (rows : Rows) → IsBefore n u c rows (rows_in ss) → AreCurrent (tables_in ss) rows views old
     → AreCurrent (tables_in ss) (rows_in ss) views new
 
 -- they are so still
-abbrev pub LeftCurrent : ℕ → List Store → List View → List ViewState → List ViewState → Type 0
-LeftCurrent n ss views old new =
-    (rows : Rows) → DiffersAt n rows (rows_in ss) → AreCurrent (tables_in ss) rows views old
+abbrev pub LeftCurrent : ℕ → Turn → TableChange → List Store → List View → List ViewState → List ViewState → Type 0
+LeftCurrent n u c ss views old new =
+    (rows : Rows) → IsBefore n u c rows (rows_in ss) → AreCurrent (tables_in ss) rows views old
     → AreCurrent (tables_in ss) rows views new
 
 pub states_many :
@@ -105,17 +115,45 @@ changed_differs ss n t =
     (ap (λ (rs : Rows). slice_set rs n was) (rows_set ss n t)
     ∙ rows_restored (rows_in ss) n t.slots (λ _. was) refl)
 
--- views that are built anew
+pub is_before : (ss : List Store) (n : ℕ) (s t : Store) (u : Turn) (c : TableChange) → Changed ss n s t
+    → live s.slots ≡ live (swapped u c t.slots) → IsBefore n u c (rows_in ss) (rows_in (slice_set ss n t))
+is_before ss n s t u c changed same = record {
+  differs = changed_differs ss n t;
+  live_same =
+      ap live (rows_there ss n s changed.is changed.below) ∙ same
+      ∙ ap (λ (slots : List Slot). live (swapped u c slots)) (sym (rows_now ss n t changed.below));
+}
+
+-- The change can be turned, where the store's can.
+pub swaps_there : (ss : List Store) (n : ℕ) (s t : Store) (u : Turn) (c : TableChange) → Changed ss n s t
+    → CanSwap u s.table c t.slots
+    → CanSwap u (table_at (tables_in (slice_set ss n t)) n) c (rows_at (rows_in (slice_set ss n t)) n)
+swaps_there ss n s t u c changed can =
+    let table : table_at (tables_in (slice_set ss n t)) n ≡ s.table =
+    ap (λ (ts : List Table). table_at ts n) (changed_tables ss n s t changed)
+    ∙ table_there ss n s changed.is changed.below in
+    subst (λ (slots : List Slot). CanSwap u (table_at (tables_in (slice_set ss n t)) n) c slots)
+    (sym (rows_now ss n t changed.below))
+    (subst (λ (x : Table). CanSwap u x c t.slots) (sym table) can)
+
+pub current_before : (ss : List Store) (views : List View) (states : List ViewState) (n : ℕ) (s t : Store)
+    → Changed ss n s t → AreLive ss views states → AreCurrent (tables_in (slice_set ss n t)) (rows_in ss) views states
+current_before ss views states n s t changed was =
+    subst (λ (x : List Table). AreCurrent x (rows_in ss) views states) (sym (changed_tables ss n s t changed))
+    was.current
+
+-- views that followed
 pub opened_live :
     (ss ss' : List Store) (views : List View) (states states' : List ViewState) (n : ℕ) (s t : Store)
-    → Changed ss n s t → Opened (slice_set ss n t) ss' → MadeCurrent n (slice_set ss n t) views states states'
+    (u : Turn) (c : TableChange) → Changed ss n s t → Opened (slice_set ss n t) ss'
+    → live s.slots ≡ live (swapped u c t.slots) → MadeCurrent n u c (slice_set ss n t) views states states'
     → AreLive ss views states → AreLive ss' views states'
-opened_live ss ss' views states states' n s t changed opened made was =
+opened_live ss ss' views states states' n s t u c changed opened same made was =
     let ts = changed_tables ss n s t changed in
     let before : AreCurrent (tables_in (slice_set ss n t)) (rows_in ss) views states =
     subst (λ (x : List Table). AreCurrent x (rows_in ss) views states) (sym ts) was.current in
     let after : AreCurrent (tables_in (slice_set ss n t)) (rows_in (slice_set ss n t)) views states' =
-    made (rows_in ss) (changed_differs ss n t) before in
+    made (rows_in ss) (is_before ss n s t u c changed same) before in
     record {
       these = still_of ss ss' views (opened.tables ∙ ts) was.these;
       current =
@@ -163,6 +201,28 @@ found_table ss ss' n s t v changed opened is =
     ∙ ap (λ (ts : List Table). table_at ts n) (opened_tables ss ss' n s t changed opened)
     ∙ table_there ss n s changed.is changed.below
 
+-- its change can be turned again
+pub swaps_found : (ss ss' : List Store) (n : ℕ) (s t v : Store) (u : Turn) (c : TableChange) → Changed ss n s t
+    → Opened (slice_set ss n t) ss' → v ≡ get_or ss' n v → CanSwap u t.table c t.slots → CanSwap u v.table c v.slots
+swaps_found ss ss' n s t v u c changed opened is can =
+    subst (λ (slots : List Slot). CanSwap u v.table c slots) (sym (found_slots ss ss' n s t v changed opened is))
+    (subst (λ (x : Table). CanSwap u x c t.slots) (changed.same ∙ sym (found_table ss ss' n s t v changed opened is)) can)
+
+-- what is live where an edit is taken back for a while
+pub made_same : HiddenIsUndone → (s t : Store) (n : ℕ) (c : TableChange) → 0 < n → IsChangeOf n c
+    → CanGoBack s.table c t.slots → back c t.slots ≡ s.slots → live s.slots ≡ live (swapped turn.Come c t.slots)
+made_same law s t n c side kind can undone =
+    ap live (sym undone) ∙ sym (hidden_live law s.table c t.slots (side_change n c side kind) can)
+
+-- what is left where hidden rows are forgotten
+pub forgotten_is : (s t : Store) (c : TableChange) → CanSwap turn.Go t.table c t.slots → shown c t.slots ≡ s.slots
+    → forgotten c t.slots ≡ back c s.slots
+forgotten_is s t c can again = can.1.forgets ∙ ap (back c) (sym can.1.again ∙ again)
+
+pub forgotten_live : (t : Store) (c : TableChange) → CanSwap turn.Go t.table c t.slots
+    → live (forgotten c t.slots) ≡ live t.slots
+forgotten_live t c can = ap live can.1.forgets ∙ sym can.1.live_same
+
 -- It is put back: u is what was changed, v, with the rows of s.
 
 pub restored_tables :
@@ -188,15 +248,16 @@ restored_rows ss ss' n s t v u g changed opened is done undone =
 
 pub restored_live :
     (ss ss' : List Store) (views : List View) (states states' : List ViewState) (n : ℕ) (s t v u : Store)
-    (g : List Slot → List Slot) → Changed ss n s t → Opened (slice_set ss n t) ss'
-    → LeftCurrent n (slice_set ss n t) views states states' → v ≡ get_or ss' n v → u ≡ with_slots v (g v.slots)
+    (g : List Slot → List Slot) (w : Turn) (c : TableChange) → Changed ss n s t → Opened (slice_set ss n t) ss'
+    → live s.slots ≡ live (swapped w c t.slots) → LeftCurrent n w c (slice_set ss n t) views states states'
+    → v ≡ get_or ss' n v → u ≡ with_slots v (g v.slots)
     → g t.slots ≡ s.slots → AreLive ss views states → AreLive (slice_set ss' n u) views states'
-restored_live ss ss' views states states' n s t v u g changed opened left is done undone was =
+restored_live ss ss' views states states' n s t v u g w c changed opened same left is done undone was =
     let ts = changed_tables ss n s t changed in
     let before : AreCurrent (tables_in (slice_set ss n t)) (rows_in ss) views states =
     subst (λ (x : List Table). AreCurrent x (rows_in ss) views states) (sym ts) was.current in
     let after : AreCurrent (tables_in (slice_set ss n t)) (rows_in ss) views states' =
-    left (rows_in ss) (changed_differs ss n t) before in
+    left (rows_in ss) (is_before ss n s t w c changed same) before in
     let tables = restored_tables ss ss' n s t v u g changed opened is done in
     let rows = restored_rows ss ss' n s t v u g changed opened is done undone in
     record {
@@ -241,20 +302,86 @@ shrunk_rows ss ss' n s t v u g f changed opened is done taken =
     (ap (λ (x : Store). x.slots) done ∙ ap g (found_slots ss ss' n s t v changed opened is) ∙ taken
     ∙ ap f (sym (rows_there ss n s changed.is changed.below)))
 
+-- how many rows of the main table were opened
+
+side_visits : (ss : List Store) (n : ℕ) (t : Store) → 0 < n → visits_in (slice_set ss n t) ≡ visits_in ss
+side_visits [] n t side = refl
+side_visits (s ∷ ss) zero t side = absurd (omega (arith, side))
+side_visits (s ∷ ss) (suc n) t side = refl
+
+touched_side : (tables : List Table) (views : List View) (rows : Rows) (n : ℕ) (c : TableChange) → 0 < n
+    → touched tables views rows n c
+    ≡ count_by (refers views n (named_keys (table_at tables n) c (rows_at rows n))) (live (rows_at rows 0))
+touched_side tables views rows zero c side = absurd (omega (arith, side))
+touched_side tables views rows (suc n) c side = refl
+
+-- those that refer to keys of a table whose change was made
+pub opened_after :
+    (ss ss' : List Store) (views : List View) (states states' : List ViewState) (n : ℕ) (s t : Store) (c : TableChange)
+    → 0 < n → Changed ss n s t → Opened (slice_set ss n t) ss'
+    → visits_in ss' ≤ visits_in (slice_set ss n t) + 2 * (length views
+    * count_by (refers views n (named_keys (table_at (tables_in (slice_set ss n t)) n) c
+    (rows_at (rows_in (slice_set ss n t)) n))) (live (rows_at (rows_in (slice_set ss n t)) 0)))
+    → OpensTwice (parts ss views states) (touched (tables_in ss) views (rows_in ss') n c) (parts ss' views states')
+opened_after ss ss' views states states' n s t c side changed opened few =
+    let P : ℕ → ℕ → Type 0 = λ old k. visits_in ss' ≤ old + 2 * (length views * k) in
+    let count : List Table → Rows → ℕ = λ ts rs.
+    count_by (refers views n (named_keys (table_at ts n) c (rows_at rs n))) (live (rows_at rs 0)) in
+    subst (P (visits_in ss)) (sym (touched_side (tables_in ss) views (rows_in ss') n c side))
+    (subst (λ (rs : Rows). P (visits_in ss) (count (tables_in ss) rs)) (sym opened.rows)
+    (subst (λ (ts : List Table). P (visits_in ss) (count ts (rows_in (slice_set ss n t))))
+    (changed_tables ss n s t changed)
+    (subst (λ old. P old (count (tables_in (slice_set ss n t)) (rows_in (slice_set ss n t))))
+    (side_visits ss n t side) few)))
+
+-- and to those of one whose change is taken back, which is hidden
+pub opened_before :
+    (ss ss' : List Store) (views : List View) (states states' : List ViewState) (n : ℕ) (s t v u : Store)
+    (c : TableChange) → 0 < n → Changed ss n s t → t.slots ≡ hidden c s.slots
+    → visits_in ss' ≤ visits_in (slice_set ss n t) + 2 * (length views
+    * count_by (refers views n (named_keys (table_at (tables_in (slice_set ss n t)) n) c
+    (rows_at (rows_in (slice_set ss n t)) n))) (live (rows_at (rows_in (slice_set ss n t)) 0)))
+    → OpensTwice (parts ss views states) (touched (tables_in ss) views (rows_in ss) n c)
+    (parts (slice_set ss' n u) views states')
+opened_before ss ss' views states states' n s t v u c side changed is few =
+    let P : ℕ → ℕ → ℕ → Type 0 = λ new old k. new ≤ old + 2 * (length views * k) in
+    let count : List Table → List Slot → List Slot → ℕ = λ ts rows main.
+    count_by (refers views n (named_keys (table_at ts n) c rows)) (live main) in
+    let rows : List Slot = rows_at (rows_in ss) n in
+    let keys : (ts : List Table) → named_keys (table_at ts n) c (rows_at (rows_in (slice_set ss n t)) n)
+    ≡ named_keys (table_at ts n) c rows = λ ts.
+    ap (named_keys (table_at ts n) c)
+    (rows_now ss n t changed.below ∙ is ∙ ap (hidden c) (sym (rows_there ss n s changed.is changed.below)))
+    ∙ keys_hidden (table_at ts n) c rows in
+    let main : rows_at (rows_in (slice_set ss n t)) 0 ≡ rows_at (rows_in ss) 0 =
+    ap (λ (rs : Rows). rows_at rs 0) (rows_set ss n t) ∙ set_main (rows_in ss) n t.slots side in
+    subst (P (visits_in (slice_set ss' n u)) (visits_in ss)) (sym (touched_side (tables_in ss) views (rows_in ss) n c side))
+    (subst (λ new. P new (visits_in ss) (count (tables_in ss) rows (rows_at (rows_in ss) 0)))
+    (sym (side_visits ss' n u side))
+    (subst (λ (ms : List Slot). P (visits_in ss') (visits_in ss) (count (tables_in ss) rows ms)) main
+    (subst (λ (ks : List Datum). P (visits_in ss') (visits_in ss)
+    (count_by (refers views n ks) (live (rows_at (rows_in (slice_set ss n t)) 0)))) (keys (tables_in ss))
+    (subst (λ (ts : List Table). P (visits_in ss') (visits_in ss)
+    (count ts (rows_at (rows_in (slice_set ss n t)) n) (rows_at (rows_in (slice_set ss n t)) 0)))
+    (changed_tables ss n s t changed)
+    (subst (λ old. P (visits_in ss') old
+    (count (tables_in (slice_set ss n t)) (rows_at (rows_in (slice_set ss n t)) n)
+    (rows_at (rows_in (slice_set ss n t)) 0))) (side_visits ss n t side) few)))))
+
 -- what is said of it
 
 pub went_back :
     {X E : Type 0} (x : X) (ss ss' : List Store) (views : List View) (states states' : List ViewState) (n : ℕ)
-    (slots : List Slot) (k : ℕ) → 0 < n → rows_in ss' ≡ slice_set (rows_in ss) n slots → tables_in ss' ≡ tables_in ss
-    → stale_in states' ≡ stale_in states
+    (slots : List Slot) (k : ℕ) → rows_in ss' ≡ slice_set (rows_in ss) n slots → tables_in ss' ≡ tables_in ss
+    → stale_in states' ≡ stale_in states → OpensTwice (parts ss views states) k (parts ss' views states')
     → WentBack {X = X} {E = E} n slots k (parts ss views states) (parts ss' views states') (Ok x)
-went_back x ss ss' views states states' n slots k side rows tables stale = record {
+went_back x ss ss' views states states' n slots k rows tables stale opens = record {
   rows = rows;
   unchanged = tt;
   tables = tables;
   views = refl;
   stale = stale;
-  visits = λ main. absurd (omega (arith, side, main));
+  visits = opens;
 }
 
 pub stayed :
@@ -292,11 +419,6 @@ same_live ss views states n s t changed same was =
           (subst (λ (x : List Table). AreCurrent x (rows_in ss) views states) (sym ts) was.current);
     }
 
-side_visits : (ss : List Store) (n : ℕ) (t : Store) → 0 < n → visits_in (slice_set ss n t) ≡ visits_in ss
-side_visits [] n t side = refl
-side_visits (s ∷ ss) zero t side = absurd (omega (arith, side))
-side_visits (s ∷ ss) (suc n) t side = refl
-
 stale_same : (stale : List Bool) (f : EditFault) → StaleByMemory {X = TableChange} stale (Err f) stale
 stale_same stale (fault.Unfit u) = refl
 stale_same stale fault.Memory = tt
@@ -326,10 +448,11 @@ edit_refused ss views states n s t e f side changed makes = record {
 
 pub edit_made :
     (ss ss' : List Store) (views : List View) (states states' : List ViewState) (n : ℕ) (s t : Store) (e : TableEdit)
-    (change : TableChange) → 0 < n → Changed ss n s t → Opened (slice_set ss n t) ss'
+    (change : TableChange) → Changed ss n s t → Opened (slice_set ss n t) ss'
     → Makes s.table e s.slots t.slots (Ok change) → IsChangeOf n change → stale_in states' ≡ stale_in states
+    → OpensTwice (parts ss views states) (touched (tables_in ss) views (rows_in ss') n change) (parts ss' views states')
     → Edited n e (parts ss views states) (parts ss' views states') (Ok change)
-edit_made ss ss' views states states' n s t e change side changed opened makes kind stale =
+edit_made ss ss' views states states' n s t e change changed opened makes kind stale opens =
     let P : Rows → Type 0 = λ rs.
     Makes (table_at (tables_in ss) n) e (rows_at (rows_in ss) n) (rows_at rs n) (Ok change) in
     let Q : Rows → Type 0 = λ rs. rs ≡ slice_set (rows_in ss) n (rows_at rs n) in
@@ -343,7 +466,7 @@ edit_made ss ss' views states states' n s t e change side changed opened makes k
             views = refl;
           };
       stale = stale;
-      visits = λ main. absurd (omega (arith, side, main));
+      visits = opens;
     }
 
 -- There is no memory for the views: the rows are as they were.

@@ -2,6 +2,7 @@ pub mod Stores
 pub mod StoreLaws
 pub mod Inputs
 pub mod TableChanges
+pub mod Swaps
 pub mod ViewStates
 pub mod LiveParts
 pub mod Touched

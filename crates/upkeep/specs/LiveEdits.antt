@@ -21,7 +21,7 @@ StaleByMemory old (Err fault.Memory) new = Unit {0}
 -- opens none.
 abbrev pub VisitsOf : ℕ → LiveParts → Result TableChange EditFault → LiveParts → Type 0
 VisitsOf n old (Ok change) new =
-    n ≡ 0 → OpensTwice old (touched (tables_in old.stores) old.views (rows_in new.stores) n change) new
+    OpensTwice old (touched (tables_in old.stores) old.views (rows_in new.stores) n change) new
 VisitsOf n old (Err (fault.Unfit u)) new = visits_in new.stores ≡ visits_in old.stores
 VisitsOf n old (Err fault.Memory) new = Unit {0}
 
@@ -50,4 +50,4 @@ pub record WentBack {X E : Type 0} (n : ℕ) (slots : List Slot) (rows_touched :
   pub tables : tables_in new.stores ≡ tables_in old.stores
   pub views : new.views ≡ old.views
   pub stale : OnOk answer (new.stale ≡ old.stale)
-  pub visits : OnOk answer (n ≡ 0 → OpensTwice old rows_touched new)
+  pub visits : OnOk answer (OpensTwice old rows_touched new)

@@ -32,18 +32,13 @@ use Rattle.view_lang.specs.Outputs.{Outputs, columns, groups}
 use Rattle.view_lang.specs.Views.{view_rows}
 use Rattle.view_lang.specs.World.{table_at}
 use Rattle.view_lang.specs.declared.view.Lookup.{Lookup}
-use Rattle.row_keys.specs.Slots.{Slot, keys_at, last_numbers, live}
+use Rattle.row_keys.specs.Slots.{Slot, live}
 use Rattle.upkeep.specs.Inputs.{side_by}
 use Rattle.upkeep.specs.LiveParts.{LiveParts, view_at}
 use Rattle.upkeep.specs.Stores.{Rows, rows_at, rows_in, tables_in, visits_in}
+use Rattle.upkeep.specs.Swaps.{named_keys}
 use Rattle.upkeep.specs.declared.table_change.TableChange.{TableChange}
 use Rattle.upkeep.specs.declared.table_change.TableChange.TheVariants.{Appended, Put, Retracted}
-
--- the keys of the rows of a side table that a change names
-abbrev pub named_keys : Table → TableChange → List Slot → List Datum
-named_keys t (Appended n) slots = []
-named_keys t (Retracted ns) slots = keys_at t ns.items slots
-named_keys t (Put n replaced) slots = keys_at t (last_numbers n slots) slots
 
 -- whether a row of the main table refers to one of these keys of a table
 abbrev pub refers_by : Option Lookup → ℕ → List Datum → List Datum → Bool

@@ -20,21 +20,25 @@ use Rattle.std.specs.Prelude.{
 use Rattle.std.specs.Map.{values_of}
 use Rattle.std.specs.Option.{option_map}
 use Rattle.values.specs.Datum.{Datum}
+use Rattle.view_lang.specs.Cells.{cell_at}
 use Rattle.view_lang.specs.Config.{Table, View}
 use Rattle.view_lang.specs.Images.{image, shift_image}
 use Rattle.view_lang.specs.Joined.{Side}
 use Rattle.view_lang.specs.Outputs.{Outputs, columns, groups}
-use Rattle.view_lang.specs.Shifts.{NumberedRows, Shift}
+use Rattle.view_lang.specs.Shifts.{NumberedRows, Shift, shift}
 use Rattle.view_lang.specs.Views.{kept_row, shown_row}
 use Rattle.view_lang.specs.declared.view.Lookup.{Lookup}
 use Rattle.view_lang.specs.declared.view.OrderBy.{OrderBy}
 use Rattle.group_state.specs.Groups.{Keeps as KeepsGroups}
 use Rattle.group_state.specs.KeptColumns.{IsKept as IsKeptColumn}
+use Rattle.lookups.specs.Keeping.{Keeps as KeepsReferrers}
 use Rattle.top_rows.specs.Keeping.{Keeps as KeepsOrder}
 use Rattle.row_keys.specs.Numbered.{come, gone, numbered}
-use Rattle.row_keys.specs.Slots.{Slot, last_numbers}
+use Rattle.row_keys.specs.Slots.{Slot, last_numbers, live}
 use Rattle.upkeep.specs.Inputs.{side_by}
 use Rattle.upkeep.specs.Stores.{Rows, rows_at}
+use Rattle.upkeep.specs.Swaps.{swapped}
+use Rattle.upkeep.specs.declared.table_change.TableChange.{TableChange}
 use Rattle.upkeep.specs.declared.view_state.Kept.{Kept}
 use Rattle.upkeep.specs.declared.view_state.Kept.TheVariants as kept
 use Rattle.upkeep.specs.declared.view_state.Turn.{Turn}
@@ -57,9 +61,20 @@ IsKept (groups by outputs) order (kept.Groups g) rows =
 IsKept (columns outputs) order (kept.Groups g) rows = ⊥
 IsKept (groups by outputs) order (kept.Order o) rows = ⊥
 
--- A view is stale, or what is kept of it is made of these rows of the main table.
+-- what a row of the main table refers by: the cell that is looked up, if the view looks up a table
+abbrev pub referring_by : Option Lookup → List Datum → Option (List Datum)
+referring_by None row = None
+referring_by (Some l) row = Some (cell_at row l.on ∷ [])
+
+abbrev pub referring_row : View → List Datum → Option (List Datum)
+referring_row v row = referring_by v.lookup row
+
+-- A view is stale, or what is kept of it is made of these rows of the main table, and so are its referrers.
 abbrev pub IsCurrent : View → Side → ViewState → NumberedRows → Type 0
-IsCurrent v side s rows = s.stale ≡ false → IsKept v.outputs v.order s.kept (image (made_row v side) rows)
+IsCurrent v side s rows =
+    s.stale ≡ false
+    → IsKept v.outputs v.order s.kept (image (made_row v side) rows)
+    × KeepsReferrers s.referrers (image (referring_row v) rows)
 
 abbrev pub EachIsCurrent : List Table → Rows → NumberedRows → List View → List ViewState → Type 0
 EachIsCurrent tables rows live [] [] = Unit {0}
@@ -71,6 +86,11 @@ EachIsCurrent tables rows live (v ∷ vs) (s ∷ ss) =
 -- Each view is stale, or kept current with the live rows of the tables.
 abbrev pub AreCurrent : List Table → Rows → List View → List ViewState → Type 0
 AreCurrent tables rows views states = EachIsCurrent tables rows (numbered (rows_at rows 0)) views states
+
+-- the change at a number where a row comes, or goes
+abbrev pub turned_by : Turn → ℕ → Option (List Datum) → Shift
+turned_by turn.Come n row = shift n None row
+turned_by turn.Go n row = shift n row None
 
 -- the change in which rows of these numbers come, or go
 abbrev pub turned : Turn → List Slot → List ℕ → List Shift
@@ -85,6 +105,10 @@ turned_last t slots n = turned t slots (last_numbers n slots)
 abbrev pub made_change : List Table → Rows → View → Turn → List ℕ → List Shift
 made_change tables rows v t ns = map (shift_image (made_row v (side_by tables rows v))) (turned t (rows_at rows 0) ns)
 
+-- and of what they refer by
+abbrev pub referring_change : List Slot → View → Turn → List ℕ → List Shift
+referring_change slots v t ns = map (shift_image (referring_row v)) (turned t slots ns)
+
 -- Tables that are looked up
 
 -- A view is stale, or kept current with the live rows of the tables.
@@ -95,6 +119,16 @@ IsCurrentWith tables rows v s = IsCurrent v (side_by tables rows v) s (numbered 
 abbrev pub DiffersAt : ℕ → Rows → Rows → Type 0
 DiffersAt n old new = old ≡ slice_set new n (rows_at old n)
 
+-- the rows of the tables where the change of one of them is turned: taken back, or there again
+abbrev pub swapped_at : ℕ → Turn → TableChange → Rows → Rows
+swapped_at n t c rows = slice_set rows n (swapped t c (rows_at rows n))
+
+-- The rows before the change of a table was turned: the other tables' are the same, and of the table those are live
+-- that are live where the change is turned back.
+pub record IsBefore (n : ℕ) (t : Turn) (c : TableChange) (old new : Rows) : Type 0 where
+  pub differs : DiffersAt n old new
+  pub live_same : live (rows_at old n) ≡ live (swapped t c (rows_at new n))
+
 -- whether the table of this number is looked up
 abbrev pub looks_up : Option Lookup → ℕ → Bool
 looks_up None n = false
@@ -102,7 +136,7 @@ looks_up (Some l) n = nat_eq (suc l.side) n
 
 -- what is kept is stale if a test holds, or if it was
 abbrev pub stale_if : Bool → ViewState → ViewState
-stale_if b s = record { stale = s.stale || b; kept = s.kept }
+stale_if b s = record { stale = s.stale || b; kept = s.kept; referrers = s.referrers }
 
 -- the states of which those of views that look up a table are stale
 abbrev pub lookups_stale : ℕ → List View → List ViewState → List ViewState

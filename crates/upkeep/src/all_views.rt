@@ -132,7 +132,11 @@ pub(crate) fn follow_all(
 }
 
 /// So many numbers from the first on.
-fn numbers_from(alloc: Global, first: usize, count: usize) -> Result<Vec<usize>, AllocError>
+pub(crate) fn numbers_from(
+    alloc: Global,
+    first: usize,
+    count: usize,
+) -> Result<Vec<usize>, AllocError>
     requires { first + count < 2 ^ 64 }
     ensures { IfOk result (λ numbers. numbers.items ≡ range_with_len first count) }
 {

@@ -1,6 +1,6 @@
 //! What is kept of a view when rows of the main table come or go.
 
-ghost use Rattle.std.specs.Prelude.{◌≡◌, ◌<◌, ◌≤◌, ◌+◌, [], ◌∷◌, All, false, IfOk, OnErr, OnOk, length, true};
+ghost use Rattle.std.specs.Prelude.{◌≡◌, ◌<◌, ◌≤◌, ◌+◌, ◌++◌, [], ◌∷◌, All, false, IfOk, OnErr, OnOk, length, true};
 ghost use Rattle.std.specs.Option.{option_map};
 ghost use Rattle.view_lang.specs.ConfigRules.{IsView};
 ghost use Rattle.view_lang.specs.Shifts.{Fits, IsFew, NumberedRows, patched};
@@ -8,9 +8,18 @@ ghost use Rattle.row_keys.specs.Numbered.{numbered};
 ghost use Rattle.row_keys.specs.Slots.{live, row_of};
 ghost use Rattle.upkeep.specs.Inputs.{side_by};
 ghost use Rattle.upkeep.specs.Stores.{rows_at, rows_in, tables_in, visits_in};
-ghost use Rattle.upkeep.specs.ViewStates.{IsCurrent, made_by, made_change, made_row, turned};
+ghost use Rattle.upkeep.specs.ViewStates.{
+  IsCurrent,
+  made_by,
+  made_change,
+  made_row,
+  referring_change,
+  referring_row,
+  turned,
+  turned_by,
+};
 
-use crate::inputs::input_row;
+use crate::inputs::{join_row, referring_by};
 use crate::view_state::{Turn, ViewState};
 use row_keys::{RowStore, numbers_law};
 use std::alloc::{AllocError, Global};
@@ -31,7 +40,22 @@ fn make_of(alloc: Global, view: &View, kept: Option<Row>) -> Result<Option<Row>,
     }
 }
 
-/// What a view makes of a row of the main table.
+/// What a view makes of a row of the main table with what is looked up for it.
+fn make_from(
+    alloc: Global,
+    stores: &[RowStore],
+    view: &View,
+    row: Row,
+) -> Result<Option<Row>, AllocError>
+    requires { IsView (tables_in stores.now) view.now }
+    ensures { IfOk result (λ made. option_map (λ r. r.items) made
+        ≡ made_row view.now (side_by (tables_in stores.now) (rows_in stores.now) view.now) row.items) }
+{
+    let kept = join_row(alloc, stores, view, row)?;
+    make_of(alloc, view, kept)
+}
+
+/// What a view makes of the row of the main table of this number.
 pub(crate) fn make_row(
     alloc: Global,
     stores: &mut Vec<RowStore>,
@@ -48,8 +72,82 @@ pub(crate) fn make_row(
     ensures rows { rows_in stores.new.items ≡ rows_in stores.old.items }
     ensures visits { visits_in stores.new.items ≤ visits_in stores.old.items + 1 }
 {
-    let kept = input_row(alloc, stores, view, number)?;
-    make_of(alloc, view, kept)
+    let row = stores[0].open_row(number)?;
+    make_from(alloc, stores, view, row)
+}
+
+/// What a view takes from a row of the main table: the row that it makes of it, and what the row refers by.
+#[derive(Drop)]
+struct Taken {
+    made: Option<Row>,
+    referring: Option<Row>,
+}
+
+/// Opens a row of the main table once.
+fn take_row(
+    alloc: Global,
+    stores: &mut Vec<RowStore>,
+    view: &View,
+    number: usize,
+) -> Result<Taken, AllocError>
+    requires view { IsView (tables_in stores.old.items) view.now }
+    requires main { 0 < length stores.old.items }
+    requires there { number < length (rows_at (rows_in stores.old.items) 0) }
+    ensures made { IfOk result (λ taken. option_map (λ r. r.items) taken.made
+        ≡ made_row view.now (side_by (tables_in stores.old.items) (rows_in stores.old.items) view.now)
+        (row_of (rows_at (rows_in stores.old.items) 0) number)) }
+    ensures referring { IfOk result (λ taken. option_map (λ r. r.items) taken.referring
+        ≡ referring_row view.now (row_of (rows_at (rows_in stores.old.items) 0) number)) }
+    ensures tables { tables_in stores.new.items ≡ tables_in stores.old.items }
+    ensures rows { rows_in stores.new.items ≡ rows_in stores.old.items }
+    ensures visits { visits_in stores.new.items ≤ visits_in stores.old.items + 1 }
+{
+    let row = stores[0].open_row(number)?;
+    let referring = referring_by(alloc, view.lookup, &row)?;
+    let made = make_from(alloc, stores, view, row)?;
+    Ok(Taken { made, referring })
+}
+
+/// What rows of the main table that come or go change: what a view makes of them, and what they refer by.
+#[derive(Drop)]
+pub(crate) struct TurnedRows {
+    pub made: Change,
+    pub referring: Change,
+}
+
+impl TurnedRows {
+    pub(crate) fn none(alloc: Global) -> TurnedRows
+        ensures made { result.made ≡ [] }
+        ensures referring { result.referring ≡ [] }
+    {
+        TurnedRows {
+            made: Change::new(alloc),
+            referring: Change::new(alloc),
+        }
+    }
+
+    /// A row comes, or goes, with what a view takes from it.
+    fn push(&mut self, turn: Turn, number: usize, taken: Taken) -> Result<(), AllocError>
+        ensures made { OnOk result (self.new.made ≡ self.old.made
+            ++ turned_by turn number (option_map (λ r. r.items) taken.made) ∷ []) }
+        ensures referring { OnOk result (self.new.referring ≡ self.old.referring
+            ++ turned_by turn number (option_map (λ r. r.items) taken.referring) ∷ []) }
+    {
+        self.made.push(turn_one(turn, number, taken.made))?;
+        self.referring
+            .push(turn_one(turn, number, taken.referring))?;
+        Ok(())
+    }
+}
+
+/// The change at a number where a row comes, or goes.
+fn turn_one(turn: Turn, number: usize, row: Option<Row>) -> RowChange
+    ensures { result ≡ turned_by turn number (option_map (λ r. r.items) row) }
+{
+    match turn {
+        Turn::Come => RowChange::new(number, None, row),
+        Turn::Go => RowChange::new(number, row, None),
+    }
 }
 
 /// What changes at the number of a row that comes or goes. A row goes that is live.
@@ -59,54 +157,54 @@ fn turn_row(
     view: &View,
     turn: Turn,
     number: usize,
-) -> Result<RowChange, AllocError>
+    turned_rows: &mut TurnedRows,
+) -> Result<(), AllocError>
     requires view { IsView (tables_in stores.old.items) view.now }
     requires main { 0 < length stores.old.items }
     requires there { number < length (rows_at (rows_in stores.old.items) 0) }
-    ensures change { IfOk result (λ changed. changed ∷ []
-        ≡ made_change (tables_in stores.old.items) (rows_in stores.old.items) view.now turn (number ∷ [])) }
+    ensures made { OnOk result (turned_rows.new.made ≡ turned_rows.old.made
+        ++ made_change (tables_in stores.old.items) (rows_in stores.old.items) view.now turn (number ∷ [])) }
+    ensures referring { OnOk result (turned_rows.new.referring ≡ turned_rows.old.referring
+        ++ referring_change (rows_at (rows_in stores.old.items) 0) view.now turn (number ∷ [])) }
     ensures tables { tables_in stores.new.items ≡ tables_in stores.old.items }
     ensures rows { rows_in stores.new.items ≡ rows_in stores.old.items }
     ensures visits { visits_in stores.new.items ≤ visits_in stores.old.items + 1 }
 {
-    match turn {
-        Turn::Come => {
-            let made = make_row(alloc, stores, view, number)?;
-            Ok(RowChange::new(number, None, made))
+    let taken = if turn == Turn::Go && !stores[0].is_live(number) {
+        Taken {
+            made: None,
+            referring: None,
         }
-        Turn::Go => {
-            if !stores[0].is_live(number) {
-                return Ok(RowChange::new(number, None, None));
-            }
-            let made = make_row(alloc, stores, view, number)?;
-            Ok(RowChange::new(number, made, None))
-        }
-    }
+    } else {
+        take_row(alloc, stores, view, number)?
+    };
+    turned_rows.push(turn, number, taken)
 }
 
-/// The change of what a view is made of when rows of these numbers come or go.
-fn turn_rows(
+/// The changes where rows of these numbers come or go, after those that are there.
+pub(crate) fn turn_rows(
     alloc: Global,
     stores: &mut Vec<RowStore>,
     view: &View,
     turn: Turn,
     numbers: &[usize],
-) -> Result<Change, AllocError>
+    turned_rows: &mut TurnedRows,
+) -> Result<(), AllocError>
     requires view { IsView (tables_in stores.old.items) view.now }
     requires main { 0 < length stores.old.items }
     requires there { All (λ n. n < length (rows_at (rows_in stores.old.items) 0)) numbers.now }
-    ensures change { IfOk result (λ change.
-        change ≡ made_change (tables_in stores.old.items) (rows_in stores.old.items) view.now turn numbers.now) }
+    ensures made { OnOk result (turned_rows.new.made ≡ turned_rows.old.made
+        ++ made_change (tables_in stores.old.items) (rows_in stores.old.items) view.now turn numbers.now) }
+    ensures referring { OnOk result (turned_rows.new.referring ≡ turned_rows.old.referring
+        ++ referring_change (rows_at (rows_in stores.old.items) 0) view.now turn numbers.now) }
     ensures tables { tables_in stores.new.items ≡ tables_in stores.old.items }
     ensures rows { rows_in stores.new.items ≡ rows_in stores.old.items }
     ensures visits { visits_in stores.new.items ≤ visits_in stores.old.items + length numbers.now }
 {
-    let mut change = Change::new(alloc);
     for number in numbers {
-        let changed = turn_row(alloc, stores, view, turn, *number)?;
-        change.push(changed)?;
+        turn_row(alloc, stores, view, turn, *number, turned_rows)?;
     }
-    Ok(change)
+    Ok(())
 }
 
 /// Brings what is kept of a view up to rows of the main table that come or go. A stale view is left as it is; after an
@@ -143,8 +241,12 @@ pub(crate) fn follow(
     if state.stale {
         return Ok(());
     }
-    match turn_rows(alloc, stores, view, turn, numbers) {
-        Ok(change) => state.apply(&change),
+    let mut turned_rows = TurnedRows::none(alloc);
+    match turn_rows(alloc, stores, view, turn, numbers, &mut turned_rows) {
+        Ok(()) => {
+            state.apply(&turned_rows.made)?;
+            state.refer(&turned_rows.referring)
+        }
         Err(refused) => {
             state.stale = true;
             Err(refused)

@@ -12,6 +12,7 @@ mod inputs;
 mod live_tables;
 mod lookup_views;
 mod reading;
+mod swaps;
 mod table_change;
 mod view_state;
 mod viewed;

@@ -11,10 +11,8 @@ ghost use Rattle.view_lang.specs.declared.config.Role.TheVariants.{Append, Retra
 ghost use Rattle.row_keys.specs.Slots.{
   CanPutBack,
   CanTakeBack,
-  CanUndoPut,
   live,
   put_back,
-  put_undone,
   taken_back,
 };
 ghost use Rattle.row_keys.specs.Store.{live_in};
@@ -28,8 +26,9 @@ ghost use Rattle.upkeep.specs.Touched.{OpensShown, built_of, touched};
 use crate::all_views::{count_stale, follow_all, follow_last, fresh_states};
 use crate::edits::{append_batch, find_rows, make_edit, restore};
 use crate::follow::rebuild;
-use crate::lookup_views::rebuild_lookups;
+use crate::lookup_views::follow_lookups;
 use crate::reading::kept_rows;
+use crate::swaps::{forget, swap};
 use crate::table_change::TableChange;
 use crate::view_state::{Turn, ViewState};
 use crate::viewed::viewed_law;
@@ -183,7 +182,7 @@ impl LiveTables {
         Ok(TableChange::Retracted(numbers))
     }
 
-    /// Makes an edit of a side table, and builds the views anew that look it up.
+    /// Makes an edit of a side table. The views that look it up follow.
     fn edit_side(
         &mut self,
         role: Role,
@@ -197,13 +196,16 @@ impl LiveTables {
         requires batch { IsBatch (columns_by role (table_at (tables_in self.old.stores) table)) columns.items rows }
         ensures { Edited table (change_by role columns.items rows) self.old self.new result }
     {
+        numbers_law();
         let change = make_edit(role, &mut self.stores[table], columns, rows)?;
-        match rebuild_lookups(
+        match follow_lookups(
             self.alloc,
             &mut self.stores,
             &self.views,
             &mut self.states,
             table,
+            &change,
+            Turn::Come,
         ) {
             Ok(()) => Ok(change),
             Err(_refused) => {
@@ -273,61 +275,6 @@ impl LiveTables {
         Ok(())
     }
 
-    /// Puts retracted rows of a side table back, and builds the views anew that look it up.
-    fn put_back_side(&mut self, table: usize, numbers: &[usize]) -> Result<(), AllocError>
-        requires side { 0 < table }
-        requires there { table < length self.old.stores }
-        requires can { CanPutBack (table_at (tables_in self.old.stores) table) numbers.now
-            (rows_at (rows_in self.old.stores) table) }
-        ensures { (rows_touched : ℕ) → WentBack table (put_back numbers.now (rows_at (rows_in self.old.stores) table))
-            rows_touched self.old self.new result }
-    {
-        self.stores[table].put_back(numbers);
-        match rebuild_lookups(
-            self.alloc,
-            &mut self.stores,
-            &self.views,
-            &mut self.states,
-            table,
-        ) {
-            Ok(()) => Ok(()),
-            Err(refused) => {
-                self.stores[table].retract(numbers);
-                Err(refused)
-            }
-        }
-    }
-
-    /// Takes the rows away that were put into a side table, and puts those back that they replaced. The views that look
-    /// it up are built anew before the rows are gone.
-    fn undo_put(&mut self, table: usize, rows: usize, replaced: &[usize]) -> Result<(), AllocError>
-        requires side { 0 < table }
-        requires there { table < length self.old.stores }
-        requires can { CanUndoPut (table_at (tables_in self.old.stores) table) rows replaced.now
-            (rows_at (rows_in self.old.stores) table) }
-        ensures { (rows_touched : ℕ) → WentBack table
-            (put_undone rows replaced.now (rows_at (rows_in self.old.stores) table)) rows_touched self.old self.new
-            result }
-    {
-        self.stores[table].hide_put(rows, replaced);
-        match rebuild_lookups(
-            self.alloc,
-            &mut self.stores,
-            &self.views,
-            &mut self.states,
-            table,
-        ) {
-            Ok(()) => {
-                self.stores[table].take_back(rows);
-                Ok(())
-            }
-            Err(refused) => {
-                self.stores[table].show_put(rows, replaced);
-                Err(refused)
-            }
-        }
-    }
-
     /// Takes a change of the main table back.
     fn go_back_main(&mut self, change: &TableChange) -> Result<(), AllocError>
         requires kind { IsChangeOf 0 change.now }
@@ -344,7 +291,7 @@ impl LiveTables {
         }
     }
 
-    /// Takes a change of a side table back.
+    /// Takes a change of a side table back. The views that look it up follow before its rows are forgotten.
     fn go_back_side(&mut self, table: usize, change: &TableChange) -> Result<(), AllocError>
         requires side { 0 < table }
         requires there { table < length self.old.stores }
@@ -355,10 +302,24 @@ impl LiveTables {
             (touched (tables_in self.old.stores) self.old.views (rows_in self.old.stores) table change.now) self.old
             self.new result }
     {
-        match change {
-            TableChange::Appended(_) => unreachable!(),
-            TableChange::Retracted(numbers) => self.put_back_side(table, numbers),
-            TableChange::Put { rows, replaced } => self.undo_put(table, *rows, replaced),
+        swap(&mut self.stores[table], change, Turn::Come);
+        match follow_lookups(
+            self.alloc,
+            &mut self.stores,
+            &self.views,
+            &mut self.states,
+            table,
+            change,
+            Turn::Go,
+        ) {
+            Ok(()) => {
+                forget(&mut self.stores[table], change);
+                Ok(())
+            }
+            Err(refused) => {
+                swap(&mut self.stores[table], change, Turn::Go);
+                Err(refused)
+            }
         }
     }
 

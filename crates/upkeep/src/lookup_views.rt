@@ -1,16 +1,34 @@
 //! Views that look up a table whose rows change.
 
-ghost use Rattle.std.specs.Prelude.{◌≡◌, ◌<◌, OnErr, OnOk, length};
+ghost use Rattle.std.specs.Prelude.{◌≡◌, ◌<◌, ◌≤◌, ◌+◌, ◌*◌, ◌++◌, All, count_by, length, map, true, IfOk, OnErr, OnOk};
+ghost use Rattle.values.specs.Keys.{datum_of_key};
 ghost use Rattle.view_lang.specs.ConfigRules.{IsView};
+ghost use Rattle.view_lang.specs.World.{table_at};
+ghost use Rattle.row_keys.specs.Slots.{live};
 ghost use Rattle.upkeep.specs.LiveParts.{AreOf};
-ghost use Rattle.upkeep.specs.Stores.{Rows, rows_in, tables_in};
-ghost use Rattle.upkeep.specs.ViewStates.{AreCurrent, DiffersAt, IsCurrentWith, looks_up, lookups_stale, stale_in};
+ghost use Rattle.upkeep.specs.Stores.{Rows, rows_at, rows_in, tables_in, visits_in};
+ghost use Rattle.upkeep.specs.Swaps.{CanSwap, named_keys, swapped};
+ghost use Rattle.upkeep.specs.Touched.{refers, refers_by};
+ghost use Rattle.upkeep.specs.ViewStates.{
+  AreCurrent,
+  IsBefore,
+  IsCurrentWith,
+  looks_up,
+  lookups_stale,
+  made_change,
+  stale_in,
+  swapped_at,
+};
+ghost use Rattle.upkeep.specs.declared.view_state.Turn.TheVariants as turn_is;
 
-use crate::follow::rebuild;
-use crate::view_state::ViewState;
-use row_keys::RowStore;
+use crate::follow::{TurnedRows, turn_rows};
+use crate::swaps::{named_keys, swap};
+use crate::table_change::TableChange;
+use crate::view_state::{Turn, ViewState};
+use row_keys::{RowStore, numbers_law};
 use std::alloc::{AllocError, Global};
-use view_lang::View;
+use values::{Key, key_law};
+use view_lang::{View, image_law};
 
 /// Whether a view looks up the table of this number.
 fn looks_up(view: &View, table: usize) -> bool
@@ -32,48 +50,115 @@ fn mark_lookups_stale(views: &[View], states: &mut Vec<ViewState>, table: usize)
     }
 }
 
-/// Builds what is kept of a view anew if the view looks up a table. A stale view is left as it is.
-fn rebuild_lookup(
+/// What changes in what a view makes of the rows of the main table that refer to keys whose rows change: the rows that
+/// it makes of them without the change go, and those with it come, or the other way round.
+fn remake_rows(
+    alloc: Global,
+    stores: &mut Vec<RowStore>,
+    view: &View,
+    table: usize,
+    change: &TableChange,
+    turn: Turn,
+    numbers: &[usize],
+) -> Result<TurnedRows, AllocError>
+    requires view { IsView (tables_in stores.old.items) view.now }
+    requires main { 0 < length stores.old.items }
+    requires side { 0 < table }
+    requires there { table < length stores.old.items }
+    requires swaps { CanSwap turn (table_at (tables_in stores.old.items) table) change.now
+        (rows_at (rows_in stores.old.items) table) }
+    requires numbers { All (λ n. n < length (rows_at (rows_in stores.old.items) 0)) numbers.now }
+    ensures made { IfOk result (λ remade. remade.made
+        ≡ made_change (tables_in stores.old.items) (swapped_at table turn change.now (rows_in stores.old.items))
+        view.now turn_is.Go numbers.now
+        ++ made_change (tables_in stores.old.items) (rows_in stores.old.items) view.now turn_is.Come numbers.now) }
+    ensures tables { tables_in stores.new.items ≡ tables_in stores.old.items }
+    ensures rows { rows_in stores.new.items ≡ rows_in stores.old.items }
+    ensures visits { visits_in stores.new.items ≤ visits_in stores.old.items + 2 * length numbers.now }
+{
+    let mut remade = TurnedRows::none(alloc);
+    swap(&mut stores[table], change, turn);
+    let gone = turn_rows(alloc, stores, view, Turn::Go, numbers, &mut remade);
+    swap(&mut stores[table], change, turn.opposite());
+    gone?;
+    turn_rows(alloc, stores, view, Turn::Come, numbers, &mut remade)?;
+    Ok(remade)
+}
+
+/// Brings what is kept of a view up to a change of a table that it looks up, of which these are the keys; only rows of
+/// the main table are opened that refer to one of them. A stale view is left as it is. After an error the state is as it
+/// was, or stale.
+fn follow_lookup(
     alloc: Global,
     stores: &mut Vec<RowStore>,
     view: &View,
     state: &mut ViewState,
     table: usize,
+    change: &TableChange,
+    turn: Turn,
+    keys: &[Key],
 ) -> Result<(), AllocError>
     requires view { IsView (tables_in stores.old.items) view.now }
     requires main { 0 < length stores.old.items }
     requires side { 0 < table }
-    ensures kept { OnOk result ((old : Rows) → DiffersAt table old (rows_in stores.old.items)
+    requires there { table < length stores.old.items }
+    requires swaps { CanSwap turn (table_at (tables_in stores.old.items) table) change.now
+        (rows_at (rows_in stores.old.items) table) }
+    requires keys { map datum_of_key keys.now ≡ named_keys (table_at (tables_in stores.old.items) table) change.now
+        (rows_at (rows_in stores.old.items) table) }
+    requires current { (old : Rows) × IsBefore table turn change.now old (rows_in stores.old.items)
+        × IsCurrentWith (tables_in stores.old.items) old view.now state.old }
+    ensures kept { OnOk result ((old : Rows) → IsBefore table turn change.now old (rows_in stores.old.items)
         → IsCurrentWith (tables_in stores.old.items) old view.now state.old
         → IsCurrentWith (tables_in stores.old.items) (rows_in stores.old.items) view.now state.new) }
     ensures stale { OnOk result (state.new.stale ≡ state.old.stale) }
-    ensures err { OnErr result (state.new ≡ state.old) }
+    ensures err { OnErr result (looks_up view.now.lookup table ≡ true) }
     ensures tables { tables_in stores.new.items ≡ tables_in stores.old.items }
     ensures rows { rows_in stores.new.items ≡ rows_in stores.old.items }
+    ensures visits { visits_in stores.new.items ≤ visits_in stores.old.items
+        + 2 * count_by (refers_by view.now.lookup table
+        (named_keys (table_at (tables_in stores.old.items) table) change.now (rows_at (rows_in stores.old.items) table)))
+        (live (rows_at (rows_in stores.old.items) 0)) }
 {
-    if !state.stale & looks_up(view, table) {
-        *state = rebuild(alloc, stores, view)?;
+    // They do nothing: the proof takes from them what a view makes of the rows that refer to the keys.
+    image_law();
+    key_law();
+    numbers_law();
+    stores[0].rows_law();
+    if state.stale | !looks_up(view, table) {
+        return Ok(());
     }
-    Ok(())
+    let numbers = state.referrers.of_keys(alloc, keys)?;
+    let remade = remake_rows(alloc, stores, view, table, change, turn, &numbers)?;
+    state.apply(&remade.made)
 }
 
-/// Builds what is kept of the views anew that look up a table whose rows have changed; stale views are left as they
-/// are. After an error all views that look it up are stale.
-pub(crate) fn rebuild_lookups(
+/// Brings what is kept of the views up to a change of a table of which these are the keys. After an error all views that
+/// look the table up are stale.
+fn follow_lookups_of(
     alloc: Global,
     stores: &mut Vec<RowStore>,
     views: &[View],
     states: &mut Vec<ViewState>,
     table: usize,
+    change: &TableChange,
+    turn: Turn,
+    keys: &[Key],
 ) -> Result<(), AllocError>
     requires of { AreOf stores.old.items views.now }
     requires side { 0 < table }
-    requires alike { length states.old.items ≡ length views.now }
-    ensures kept { OnOk result ((old : Rows) → DiffersAt table old (rows_in stores.old.items)
+    requires there { table < length stores.old.items }
+    requires swaps { CanSwap turn (table_at (tables_in stores.old.items) table) change.now
+        (rows_at (rows_in stores.old.items) table) }
+    requires keys { map datum_of_key keys.now ≡ named_keys (table_at (tables_in stores.old.items) table) change.now
+        (rows_at (rows_in stores.old.items) table) }
+    requires current { (old : Rows) × IsBefore table turn change.now old (rows_in stores.old.items)
+        × AreCurrent (tables_in stores.old.items) old views.now states.old.items }
+    ensures kept { OnOk result ((old : Rows) → IsBefore table turn change.now old (rows_in stores.old.items)
         → AreCurrent (tables_in stores.old.items) old views.now states.old.items
         → AreCurrent (tables_in stores.old.items) (rows_in stores.old.items) views.now states.new.items) }
     ensures stale { OnOk result (stale_in states.new.items ≡ stale_in states.old.items) }
-    ensures err { OnErr result ((old : Rows) → DiffersAt table old (rows_in stores.old.items)
+    ensures err { OnErr result ((old : Rows) → IsBefore table turn change.now old (rows_in stores.old.items)
         → AreCurrent (tables_in stores.old.items) old views.now states.old.items
         → AreCurrent (tables_in stores.old.items) old views.now states.new.items) }
     ensures err_stale { OnErr result (stale_in states.new.items
@@ -81,13 +166,71 @@ pub(crate) fn rebuild_lookups(
     ensures many { length states.new.items ≡ length states.old.items }
     ensures tables { tables_in stores.new.items ≡ tables_in stores.old.items }
     ensures rows { rows_in stores.new.items ≡ rows_in stores.old.items }
+    ensures visits { visits_in stores.new.items ≤ visits_in stores.old.items + 2 * (length views.now
+        * count_by (refers views.now table
+        (named_keys (table_at (tables_in stores.old.items) table) change.now (rows_at (rows_in stores.old.items) table)))
+        (live (rows_at (rows_in stores.old.items) 0))) }
 {
     for place in 0..views.len() {
         let view = &views[place];
-        if let Err(refused) = rebuild_lookup(alloc, stores, view, &mut states[place], table) {
+        if let Err(refused) = follow_lookup(
+            alloc,
+            stores,
+            view,
+            &mut states[place],
+            table,
+            change,
+            turn,
+            keys,
+        ) {
             mark_lookups_stale(views, states, table);
             return Err(refused);
         }
     }
     Ok(())
+}
+
+/// Brings what is kept of the views up to a change of a table, which is there or is taken back, as `turn` says; stale
+/// views are left as they are. After an error all views that look the table up are stale.
+pub(crate) fn follow_lookups(
+    alloc: Global,
+    stores: &mut Vec<RowStore>,
+    views: &[View],
+    states: &mut Vec<ViewState>,
+    table: usize,
+    change: &TableChange,
+    turn: Turn,
+) -> Result<(), AllocError>
+    requires of { AreOf stores.old.items views.now }
+    requires side { 0 < table }
+    requires there { table < length stores.old.items }
+    requires swaps { CanSwap turn (table_at (tables_in stores.old.items) table) change.now
+        (rows_at (rows_in stores.old.items) table) }
+    requires current { (old : Rows) × IsBefore table turn change.now old (rows_in stores.old.items)
+        × AreCurrent (tables_in stores.old.items) old views.now states.old.items }
+    ensures kept { OnOk result ((old : Rows) → IsBefore table turn change.now old (rows_in stores.old.items)
+        → AreCurrent (tables_in stores.old.items) old views.now states.old.items
+        → AreCurrent (tables_in stores.old.items) (rows_in stores.old.items) views.now states.new.items) }
+    ensures stale { OnOk result (stale_in states.new.items ≡ stale_in states.old.items) }
+    ensures err { OnErr result ((old : Rows) → IsBefore table turn change.now old (rows_in stores.old.items)
+        → AreCurrent (tables_in stores.old.items) old views.now states.old.items
+        → AreCurrent (tables_in stores.old.items) old views.now states.new.items) }
+    ensures err_stale { OnErr result (stale_in states.new.items
+        ≡ stale_in (lookups_stale table views.now states.old.items)) }
+    ensures many { length states.new.items ≡ length states.old.items }
+    ensures tables { tables_in stores.new.items ≡ tables_in stores.old.items }
+    ensures rows { rows_in stores.new.items ≡ rows_in stores.old.items }
+    ensures visits { visits_in stores.new.items ≤ visits_in stores.old.items + 2 * (length views.now
+        * count_by (refers views.now table
+        (named_keys (table_at (tables_in stores.old.items) table) change.now (rows_at (rows_in stores.old.items) table)))
+        (live (rows_at (rows_in stores.old.items) 0))) }
+{
+    let keys = match named_keys(alloc, &stores[table], change, turn) {
+        Ok(keys) => keys,
+        Err(refused) => {
+            mark_lookups_stale(views, states, table);
+            return Err(refused);
+        }
+    };
+    follow_lookups_of(alloc, stores, views, states, table, change, turn, &keys)
 }

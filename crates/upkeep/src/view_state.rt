@@ -4,9 +4,11 @@ ghost use Rattle.std.specs.Prelude.{◌≡◌, [], false, IfOk, List, OnErr, OnO
 ghost use Rattle.view_lang.specs.Outputs as seen;
 ghost use Rattle.view_lang.specs.Shifts.{Fits, IsFew, NumberedRows, patched};
 ghost use Rattle.view_lang.specs.declared.view.OrderBy.{OrderBy};
+ghost use Rattle.lookups.specs.Keeping.{Keeps as KeepsReferrers};
 ghost use Rattle.upkeep.specs.ViewStates.{IsKept};
 
 use group_state::Groups;
+use lookups::Referrers;
 use std::alloc::{AllocError, Global};
 use top_rows::Ordered;
 use view_lang::{Change, Outputs, Upkeep, View};
@@ -31,6 +33,8 @@ pub(crate) enum Turn {
 pub(crate) struct ViewState {
     pub stale: bool,
     pub kept: Kept,
+    /// The numbers of the rows of the main table by what they look up; none where the view looks up no table.
+    pub referrers: Referrers,
 }
 
 /// What is kept of no rows.
@@ -62,14 +66,17 @@ impl ViewState {
     pub(crate) fn new(alloc: Global, view: &View) -> Result<ViewState, AllocError>
         ensures fresh { IfOk result (λ s. s.stale ≡ false) }
         ensures kept { IfOk result (λ s. IsKept view.now.outputs view.now.order s.kept []) }
+        ensures referrers { IfOk result (λ s. KeepsReferrers s.referrers []) }
     {
         Ok(ViewState {
             stale: false,
             kept: kept_of_none(alloc, view)?,
+            referrers: Referrers::new(alloc),
         })
     }
 
-    /// Brings what is kept to the rows after a change; a stale one stays as it is. After an error it is stale.
+    /// Brings what is kept of a view's rows to those after a change; a stale one stays as it is. After an error it is
+    /// stale.
     pub(crate) fn apply(&mut self, change: &Change) -> Result<(), AllocError>
         requires { self.old.stale ≡ false → (outputs : seen.Outputs) × (order : List OrderBy) × (rows : NumberedRows)
             × (IsKept outputs order self.old.kept rows × (Fits rows change.now × IsFew rows change.now)) }
@@ -79,11 +86,27 @@ impl ViewState {
         ensures stale { OnOk result (self.new.stale ≡ self.old.stale) }
         ensures left { self.old.stale ≡ true → self.new ≡ self.old }
         ensures err { OnErr result (self.new.stale ≡ true) }
+        ensures referrers { self.new.referrers ≡ self.old.referrers }
     {
         if self.stale {
             return Ok(());
         }
         let applied = apply_to(&mut self.kept, change);
+        if applied.is_err() {
+            self.stale = true;
+        }
+        applied
+    }
+
+    /// Brings the referrers to the rows after a change of what they refer by. After an error the state is stale.
+    pub(crate) fn refer(&mut self, change: &Change) -> Result<(), AllocError>
+        ensures referrers { OnOk result ((rows : NumberedRows) → Fits rows change.now
+            → KeepsReferrers self.old.referrers rows → KeepsReferrers self.new.referrers (patched rows change.now)) }
+        ensures kept { self.new.kept ≡ self.old.kept }
+        ensures stale { OnOk result (self.new.stale ≡ self.old.stale) }
+        ensures err { OnErr result (self.new.stale ≡ true) }
+    {
+        let applied = self.referrers.apply(change);
         if applied.is_err() {
             self.stale = true;
         }

@@ -1,4 +1,6 @@
 use Rattle.row_keys.proofs.Changing.{changes_add}
+use Rattle.row_keys.proofs.ComingBack.{live_can_go, retracted_come_back}
+use Rattle.row_keys.proofs.Hiding.{hidden_live}
 use Rattle.row_keys.proofs.NumberLaw.{
   all_come,
   new_come,
@@ -20,6 +22,8 @@ returns c = record {
   at = rows_are_at_numbers;
   were_live = retracted_were_live;
   retracted = retracted_go;
+  can_go = live_can_go;
+  come_back = retracted_come_back;
   put_back = put_back_come;
   appended = new_come;
   taken_back = taken_back_go;
@@ -28,5 +32,6 @@ returns c = record {
   few_retracted = few_retracted;
   few_put_back = few_put_back;
   put_came = hidden_put_goes;
+  hidden = λ t ns n slots can. hidden_live t n ns slots can;
   put_came_back = shown_put_comes;
 }

@@ -1,9 +1,15 @@
-use Rattle.std.proofs.Common.{◌<◌, ℕ, List, ap, length, subst, sym, ◌∙◌}
+use Rattle.std.proofs.Common.{◌<◌, ℕ, List, ap, arith, length, subst, sym, ◌∙◌}
+use Rattle.std.proofs.lemmas.List.{length-set}
 use Rattle.std.proofs.lemmas.Result.{err_from_is_err_and}
 use Rattle.std.specs.Prelude.{slice_set}
 use Rattle.row_keys.specs.Store.{Store}
 use Rattle.upkeep.specs.LiveParts.{AreOf}
+use Rattle.upkeep.specs.Stores.{rows_in, tables_in}
 use Rattle.upkeep.specs.TableChanges.{IsChangeOf, back, change_by}
+use Rattle.upkeep.specs.ViewStates.{AreCurrent}
+use Rattle.upkeep.specs.declared.view_state.Turn.TheVariants as turn
+use Rattle.view_lang.specs.Config.{View}
+use Rattle.upkeep.proofs.SwappedRows.{side_change}
 use Rattle.upkeep.proofs.SideEdits.{
   Changed,
   Opened,
@@ -11,13 +17,17 @@ use Rattle.upkeep.proofs.SideEdits.{
   changed_of,
   edit_made,
   edit_refused,
+  current_before,
   edit_restored,
-  live_many,
+  is_before,
+  made_same,
+  opened_after,
   opened_live,
   restored_live,
   restored_rows,
   restored_tables,
   same_live,
+  swaps_there,
 }
 use Rattle.upkeep.proofs.live_tables.LiveTables.edit_side.Goals as goal
 use Rattle.upkeep.proofs.live_tables.LiveTables.edit_side.Goals.{in-Appended-1, in-Put-1, in-Retracted-1}
@@ -49,8 +59,8 @@ returns-in_err-change c =
     (change_by c.args.role c.args.columns.items c.args.rows) c.in_err-change.field-0.0 c.requires.side changed
     c.in_err-change.ensures.makes)
 
-pub rebuild_lookups-requires-clause-of : goal.rebuild_lookups-requires-clause-of
-rebuild_lookups-requires-clause-of c =
+pub follow_lookups-requires-clause-of : goal.follow_lookups-requires-clause-of
+follow_lookups-requires-clause-of c =
     let ss : List Store = c.self.inside.stores.items in
     let changed : Changed ss c.args.table c.index_mut.result.now c.make_edit.new.store = record {
       is = c.index_mut.ensures.value;
@@ -62,10 +72,49 @@ rebuild_lookups-requires-clause-of c =
     (changed_of ss c.self.inside.views.items c.args.table c.index_mut.result.now c.make_edit.new.store changed
     c.self.invariant.these)
 
-pub rebuild_lookups-requires-clause-alike : goal.rebuild_lookups-requires-clause-alike
-rebuild_lookups-requires-clause-alike c =
-    live_many c.self.inside.stores.items c.self.inside.views.items c.self.inside.states.items c.self.invariant
-    ∙ ap length (sym c.deref.ensures.value)
+pub follow_lookups-requires-clause-there : goal.follow_lookups-requires-clause-there
+follow_lookups-requires-clause-there c =
+    let below : c.args.table < length c.self.inside.stores.items =
+    subst (λ n. c.args.table < n) (ap (λ p. length p.stores) (sym c.self.view_is)) c.requires.there in
+    let many = length-set c.self.inside.stores.items c.args.table c.make_edit.new.store in
+    omega (arith, below, many)
+
+pub follow_lookups-requires-clause-swaps : goal.follow_lookups-requires-clause-swaps
+follow_lookups-requires-clause-swaps c =
+    let ss : List Store = c.self.inside.stores.items in
+    let changed : Changed ss c.args.table c.index_mut.result.now c.make_edit.new.store = record {
+      is = c.index_mut.ensures.value;
+      below =
+          subst (λ n. c.args.table < n) (ap (λ p. length p.stores) (sym c.self.view_is)) c.requires.there;
+      same = c.make_edit.ensures.table;
+    } in
+    let P : ℕ → Type 0 = λ n. IsChangeOf n c.in_ok-change.change in
+    swaps_there ss c.args.table c.index_mut.result.now c.make_edit.new.store turn.Come c.in_ok-change.change changed (
+      side_change c.args.table c.in_ok-change.change c.requires.side
+          (subst P (sym c.requires.role) c.in_ok-change.ensures.kind),
+      c.in_ok-change.ensures.makes.2,
+    )
+
+pub follow_lookups-requires-clause-current : goal.follow_lookups-requires-clause-current
+follow_lookups-requires-clause-current c =
+    let ss : List Store = c.self.inside.stores.items in
+    let changed : Changed ss c.args.table c.index_mut.result.now c.make_edit.new.store = record {
+      is = c.index_mut.ensures.value;
+      below =
+          subst (λ n. c.args.table < n) (ap (λ p. length p.stores) (sym c.self.view_is)) c.requires.there;
+      same = c.make_edit.ensures.table;
+    } in
+    let P : ℕ → Type 0 = λ n. IsChangeOf n c.in_ok-change.change in (
+      rows_in ss,
+      is_before ss c.args.table c.index_mut.result.now c.make_edit.new.store turn.Come c.in_ok-change.change changed
+          (made_same c.numbers_law.ensures.hidden c.index_mut.result.now c.make_edit.new.store c.args.table
+          c.in_ok-change.change c.requires.side (subst P (sym c.requires.role) c.in_ok-change.ensures.kind)
+          c.in_ok-change.ensures.makes.2 c.in_ok-change.ensures.makes.3),
+      subst (λ (vs : List View). AreCurrent (tables_in (slice_set ss c.args.table c.make_edit.new.store)) (rows_in ss)
+          vs c.self.inside.states.items) (sym c.deref.ensures.value)
+          (current_before ss c.self.inside.views.items c.self.inside.states.items c.args.table c.index_mut.result.now
+          c.make_edit.new.store changed c.self.invariant),
+    )
 
 pub invariant_of-self-in-Ok : goal.invariant_of-self-in-Ok
 invariant_of-self-in-Ok c =
@@ -76,10 +125,15 @@ invariant_of-self-in-Ok c =
           subst (λ n. c.args.table < n) (ap (λ p. length p.stores) (sym c.self.view_is)) c.requires.there;
       same = c.make_edit.ensures.table;
     } in
-    let opened : Opened (slice_set ss c.args.table c.make_edit.new.store) c.rebuild_lookups.new.stores.items =
+    let opened : Opened (slice_set ss c.args.table c.make_edit.new.store) c.follow_lookups.new.stores.items =
     record { tables = c.in-Ok.ensures.tables; rows = c.in-Ok.ensures.rows } in
-    opened_live ss c.rebuild_lookups.new.stores.items c.self.inside.views.items c.self.inside.states.items
-    c.rebuild_lookups.new.states.items c.args.table c.index_mut.result.now c.make_edit.new.store changed opened
+    opened_live ss c.follow_lookups.new.stores.items c.self.inside.views.items c.self.inside.states.items
+    c.follow_lookups.new.states.items c.args.table c.index_mut.result.now c.make_edit.new.store turn.Come
+    c.in_ok-change.change changed opened
+    (made_same c.numbers_law.ensures.hidden c.index_mut.result.now c.make_edit.new.store c.args.table
+    c.in_ok-change.change c.requires.side
+    (subst (λ n. IsChangeOf n c.in_ok-change.change) (sym c.requires.role) c.in_ok-change.ensures.kind)
+    c.in_ok-change.ensures.makes.2 c.in_ok-change.ensures.makes.3)
     (rw c.deref.ensures.value at c.in-Ok.ensures.kept) c.self.invariant
 
 pub restore-requires : goal.restore-requires
@@ -91,9 +145,9 @@ restore-requires c =
           subst (λ n. c.args.table < n) (ap (λ p. length p.stores) (sym c.self.view_is)) c.requires.there;
       same = c.make_edit.ensures.table;
     } in
-    let opened : Opened (slice_set ss c.args.table c.make_edit.new.store) c.rebuild_lookups.new.stores.items =
+    let opened : Opened (slice_set ss c.args.table c.make_edit.new.store) c.follow_lookups.new.stores.items =
     record { tables = c.in-Err.ensures.tables; rows = c.in-Err.ensures.rows } in
-    can_restore ss c.rebuild_lookups.new.stores.items c.args.table c.index_mut.result.now c.make_edit.new.store
+    can_restore ss c.follow_lookups.new.stores.items c.args.table c.index_mut.result.now c.make_edit.new.store
     c.index_mut-in-Err.result.now c.in_ok-change.change changed opened c.index_mut-in-Err.ensures.value
     c.in_ok-change.ensures.makes.2
 
@@ -106,11 +160,16 @@ invariant_of-self-in-Err c =
           subst (λ n. c.args.table < n) (ap (λ p. length p.stores) (sym c.self.view_is)) c.requires.there;
       same = c.make_edit.ensures.table;
     } in
-    let opened : Opened (slice_set ss c.args.table c.make_edit.new.store) c.rebuild_lookups.new.stores.items =
+    let opened : Opened (slice_set ss c.args.table c.make_edit.new.store) c.follow_lookups.new.stores.items =
     record { tables = c.in-Err.ensures.tables; rows = c.in-Err.ensures.rows } in
-    restored_live ss c.rebuild_lookups.new.stores.items c.self.inside.views.items c.self.inside.states.items
-    c.rebuild_lookups.new.states.items c.args.table c.index_mut.result.now c.make_edit.new.store
-    c.index_mut-in-Err.result.now c.restore.new.store (back c.in_ok-change.change) changed opened
+    restored_live ss c.follow_lookups.new.stores.items c.self.inside.views.items c.self.inside.states.items
+    c.follow_lookups.new.states.items c.args.table c.index_mut.result.now c.make_edit.new.store
+    c.index_mut-in-Err.result.now c.restore.new.store (back c.in_ok-change.change) turn.Come c.in_ok-change.change
+    changed opened
+    (made_same c.numbers_law.ensures.hidden c.index_mut.result.now c.make_edit.new.store c.args.table
+    c.in_ok-change.change c.requires.side
+    (subst (λ n. IsChangeOf n c.in_ok-change.change) (sym c.requires.role) c.in_ok-change.ensures.kind)
+    c.in_ok-change.ensures.makes.2 c.in_ok-change.ensures.makes.3)
     (rw c.deref.ensures.value at c.in-Err.ensures.err) c.index_mut-in-Err.ensures.value c.restore.ensures
     c.in_ok-change.ensures.makes.3 c.self.invariant
 
@@ -123,11 +182,16 @@ invariant_of-self-in-Err-2 c =
           subst (λ n. c.args.table < n) (ap (λ p. length p.stores) (sym c.self.view_is)) c.requires.there;
       same = c.make_edit.ensures.table;
     } in
-    let opened : Opened (slice_set ss c.args.table c.make_edit.new.store) c.rebuild_lookups.new.stores.items =
+    let opened : Opened (slice_set ss c.args.table c.make_edit.new.store) c.follow_lookups.new.stores.items =
     record { tables = c.in-Err.ensures.tables; rows = c.in-Err.ensures.rows } in
-    restored_live ss c.rebuild_lookups.new.stores.items c.self.inside.views.items c.self.inside.states.items
-    c.rebuild_lookups.new.states.items c.args.table c.index_mut.result.now c.make_edit.new.store
-    c.index_mut-in-Err.result.now c.restore.new.store (back c.in_ok-change.change) changed opened
+    restored_live ss c.follow_lookups.new.stores.items c.self.inside.views.items c.self.inside.states.items
+    c.follow_lookups.new.states.items c.args.table c.index_mut.result.now c.make_edit.new.store
+    c.index_mut-in-Err.result.now c.restore.new.store (back c.in_ok-change.change) turn.Come c.in_ok-change.change
+    changed opened
+    (made_same c.numbers_law.ensures.hidden c.index_mut.result.now c.make_edit.new.store c.args.table
+    c.in_ok-change.change c.requires.side
+    (subst (λ n. IsChangeOf n c.in_ok-change.change) (sym c.requires.role) c.in_ok-change.ensures.kind)
+    c.in_ok-change.ensures.makes.2 c.in_ok-change.ensures.makes.3)
     (rw c.deref.ensures.value at c.in-Err.ensures.err) c.index_mut-in-Err.ensures.value c.restore.ensures
     c.in_ok-change.ensures.makes.3 c.self.invariant
 
@@ -140,11 +204,16 @@ invariant_of-self-in-Err-3 c =
           subst (λ n. c.args.table < n) (ap (λ p. length p.stores) (sym c.self.view_is)) c.requires.there;
       same = c.make_edit.ensures.table;
     } in
-    let opened : Opened (slice_set ss c.args.table c.make_edit.new.store) c.rebuild_lookups.new.stores.items =
+    let opened : Opened (slice_set ss c.args.table c.make_edit.new.store) c.follow_lookups.new.stores.items =
     record { tables = c.in-Err.ensures.tables; rows = c.in-Err.ensures.rows } in
-    restored_live ss c.rebuild_lookups.new.stores.items c.self.inside.views.items c.self.inside.states.items
-    c.rebuild_lookups.new.states.items c.args.table c.index_mut.result.now c.make_edit.new.store
-    c.index_mut-in-Err.result.now c.restore.new.store (back c.in_ok-change.change) changed opened
+    restored_live ss c.follow_lookups.new.stores.items c.self.inside.views.items c.self.inside.states.items
+    c.follow_lookups.new.states.items c.args.table c.index_mut.result.now c.make_edit.new.store
+    c.index_mut-in-Err.result.now c.restore.new.store (back c.in_ok-change.change) turn.Come c.in_ok-change.change
+    changed opened
+    (made_same c.numbers_law.ensures.hidden c.index_mut.result.now c.make_edit.new.store c.args.table
+    c.in_ok-change.change c.requires.side
+    (subst (λ n. IsChangeOf n c.in_ok-change.change) (sym c.requires.role) c.in_ok-change.ensures.kind)
+    c.in_ok-change.ensures.makes.2 c.in_ok-change.ensures.makes.3)
     (rw c.deref.ensures.value at c.in-Err.ensures.err) c.index_mut-in-Err.ensures.value c.restore.ensures
     c.in_ok-change.ensures.makes.3 c.self.invariant
 
@@ -157,14 +226,17 @@ returns-in-Ok c =
           subst (λ n. c.args.table < n) (ap (λ p. length p.stores) (sym c.self.view_is)) c.requires.there;
       same = c.make_edit.ensures.table;
     } in
-    let opened : Opened (slice_set ss c.args.table c.make_edit.new.store) c.rebuild_lookups.new.stores.items =
+    let opened : Opened (slice_set ss c.args.table c.make_edit.new.store) c.follow_lookups.new.stores.items =
     record { tables = c.in-Ok.ensures.tables; rows = c.in-Ok.ensures.rows } in
     let P : ℕ → Type 0 = λ n. IsChangeOf n c.in_ok-change.change in
     rw (← c.self.view_is)
-    (edit_made ss c.rebuild_lookups.new.stores.items c.self.inside.views.items c.self.inside.states.items
-    c.rebuild_lookups.new.states.items c.args.table c.index_mut.result.now c.make_edit.new.store
-    (change_by c.args.role c.args.columns.items c.args.rows) c.in_ok-change.change c.requires.side changed opened
-    c.in_ok-change.ensures.makes (subst P (sym c.requires.role) c.in_ok-change.ensures.kind) c.in-Ok.ensures.stale)
+    (edit_made ss c.follow_lookups.new.stores.items c.self.inside.views.items c.self.inside.states.items
+    c.follow_lookups.new.states.items c.args.table c.index_mut.result.now c.make_edit.new.store
+    (change_by c.args.role c.args.columns.items c.args.rows) c.in_ok-change.change changed opened
+    c.in_ok-change.ensures.makes (subst P (sym c.requires.role) c.in_ok-change.ensures.kind) c.in-Ok.ensures.stale
+    (opened_after ss c.follow_lookups.new.stores.items c.self.inside.views.items c.self.inside.states.items
+    c.follow_lookups.new.states.items c.args.table c.index_mut.result.now c.make_edit.new.store c.in_ok-change.change
+    c.requires.side changed opened (rw c.deref.ensures.value at c.in-Ok.ensures.visits)))
 
 pub returns-in-Err : goal.returns-in-Err
 returns-in-Err c =
@@ -175,15 +247,15 @@ returns-in-Err c =
           subst (λ n. c.args.table < n) (ap (λ p. length p.stores) (sym c.self.view_is)) c.requires.there;
       same = c.make_edit.ensures.table;
     } in
-    let opened : Opened (slice_set ss c.args.table c.make_edit.new.store) c.rebuild_lookups.new.stores.items =
+    let opened : Opened (slice_set ss c.args.table c.make_edit.new.store) c.follow_lookups.new.stores.items =
     record { tables = c.in-Err.ensures.tables; rows = c.in-Err.ensures.rows } in
-    let made = edit_restored ss (slice_set c.rebuild_lookups.new.stores.items c.args.table c.restore.new.store)
+    let made = edit_restored ss (slice_set c.follow_lookups.new.stores.items c.args.table c.restore.new.store)
     c.self.inside.views.items c.self.inside.states.items
-    c.rebuild_lookups.new.states.items c.args.table (change_by c.args.role c.args.columns.items c.args.rows)
-    (restored_rows ss c.rebuild_lookups.new.stores.items c.args.table c.index_mut.result.now c.make_edit.new.store
+    c.follow_lookups.new.states.items c.args.table (change_by c.args.role c.args.columns.items c.args.rows)
+    (restored_rows ss c.follow_lookups.new.stores.items c.args.table c.index_mut.result.now c.make_edit.new.store
     c.index_mut-in-Err.result.now c.restore.new.store (back c.in_ok-change.change) changed opened
     c.index_mut-in-Err.ensures.value c.restore.ensures c.in_ok-change.ensures.makes.3)
-    (restored_tables ss c.rebuild_lookups.new.stores.items c.args.table c.index_mut.result.now c.make_edit.new.store
+    (restored_tables ss c.follow_lookups.new.stores.items c.args.table c.index_mut.result.now c.make_edit.new.store
     c.index_mut-in-Err.result.now c.restore.new.store (back c.in_ok-change.change) changed opened
     c.index_mut-in-Err.ensures.value c.restore.ensures) in
     elim c.match-change.branch [

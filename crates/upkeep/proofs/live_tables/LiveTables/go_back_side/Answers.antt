@@ -1,28 +1,237 @@
-use Rattle.std.proofs.Common.{ℕ, List, subst, sym}
-use Rattle.row_keys.specs.Slots.{put_back, put_undone}
-use Rattle.upkeep.specs.LiveEdits.{WentBack}
+use Rattle.std.proofs.Common.{◌≡◌, ◌<◌, List, ap, arith, length, subst, sym, ◌∙◌}
+use Rattle.std.specs.Prelude.{slice_set}
+use Rattle.std.proofs.lemmas.List.{length-set}
+use Rattle.view_lang.specs.Config.{Table, View}
+use Rattle.view_lang.specs.World.{table_at}
+use Rattle.row_keys.specs.Slots.{live}
+use Rattle.row_keys.specs.Store.{Store}
+use Rattle.upkeep.specs.LiveParts.{AreOf, LiveParts}
 use Rattle.upkeep.specs.Stores.{rows_at, rows_in, tables_in}
-use Rattle.upkeep.specs.TableChanges.{back}
+use Rattle.upkeep.specs.Swaps.{CanSwap, forgotten, shown}
+use Rattle.upkeep.specs.TableChanges.{CanGoBack, back}
 use Rattle.upkeep.specs.Touched.{touched}
-use Rattle.upkeep.specs.declared.table_change.TableChange.{TableChange}
+use Rattle.upkeep.specs.ViewStates.{AreCurrent}
+use Rattle.upkeep.specs.declared.view_state.Turn.TheVariants as turn
+use Rattle.upkeep.proofs.Editing.{store_can_go_back}
+use Rattle.upkeep.proofs.SwappedRows.{side_change}
+use Rattle.upkeep.proofs.SideEdits.{
+  Changed,
+  Opened,
+  changed_of,
+  current_before,
+  forgotten_is,
+  forgotten_live,
+  found_slots,
+  is_before,
+  opened_before,
+  opened_below,
+  opened_live,
+  restored_live,
+  restored_rows,
+  restored_tables,
+  shrunk_live,
+  shrunk_rows,
+  stayed,
+  swaps_found,
+  swaps_there,
+  went_back,
+}
 use Rattle.upkeep.proofs.live_tables.LiveTables.go_back_side.Goals as goal
 
-pub returns-in-Retracted : goal.returns-in-Retracted
-returns-in-Retracted c =
-    let P : TableChange → Type 0 = λ change.
-    WentBack c.args.table (back change (rows_at (rows_in c.args.self.now.stores) c.args.table))
-    (touched (tables_in c.args.self.now.stores) c.args.self.now.views (rows_in c.args.self.now.stores) c.args.table change)
-    c.args.self.now c.put_back_side.new.self c.put_back_side.result in
-    let Q : List ℕ → Type 0 = λ ns. (rows_touched : ℕ)
-    → WentBack c.args.table (put_back ns (rows_at (rows_in c.args.self.now.stores) c.args.table)) rows_touched c.args.self.now c.put_back_side.new.self c.put_back_side.result in
-    subst P (sym c.in-Retracted.is) (subst Q c.deref.ensures.value c.put_back_side.ensures _)
+pub swap-requires : goal.swap-requires
+swap-requires c =
+    let below : c.args.table < length c.self.inside.stores.items =
+    subst (λ n. c.args.table < n) (ap (λ p. length p.stores) (sym c.self.view_is)) c.requires.there in (
+      side_change c.args.table c.args.change.now c.requires.side c.requires.kind,
+      store_can_go_back c.self.inside.stores.items c.args.table c.index_mut.result.now c.args.change.now
+          c.index_mut.ensures.value below
+          (subst (λ (p : LiveParts). CanGoBack (table_at (tables_in p.stores) c.args.table) c.args.change.now
+          (rows_at (rows_in p.stores) c.args.table)) (sym c.self.view_is) c.requires.can),
+    )
 
-pub returns-in-Put : goal.returns-in-Put
-returns-in-Put c =
-    let P : TableChange → Type 0 = λ change.
-    WentBack c.args.table (back change (rows_at (rows_in c.args.self.now.stores) c.args.table))
-    (touched (tables_in c.args.self.now.stores) c.args.self.now.views (rows_in c.args.self.now.stores) c.args.table change)
-    c.args.self.now c.undo_put.new.self c.undo_put.result in
-    let Q : List ℕ → Type 0 = λ ns. (rows_touched : ℕ)
-    → WentBack c.args.table (put_undone c.in-Put.rows ns (rows_at (rows_in c.args.self.now.stores) c.args.table)) rows_touched c.args.self.now c.undo_put.new.self c.undo_put.result in
-    subst P (sym c.in-Put.is) (subst Q c.deref-in-Put.ensures.value c.undo_put.ensures _)
+pub follow_lookups-requires-clause-of : goal.follow_lookups-requires-clause-of
+follow_lookups-requires-clause-of c =
+    let ss : List Store = c.self.inside.stores.items in
+    let changed : Changed ss c.args.table c.index_mut.result.now c.swap.new.store = record {
+      is = c.index_mut.ensures.value;
+      below =
+          subst (λ n. c.args.table < n) (ap (λ p. length p.stores) (sym c.self.view_is)) c.requires.there;
+      same = ap (λ (s : Store). s.table) c.swap.ensures.slots;
+    } in
+    subst (AreOf (slice_set ss c.args.table c.swap.new.store)) (sym c.deref.ensures.value)
+    (changed_of ss c.self.inside.views.items c.args.table c.index_mut.result.now c.swap.new.store changed
+    c.self.invariant.these)
+
+pub follow_lookups-requires-clause-there : goal.follow_lookups-requires-clause-there
+follow_lookups-requires-clause-there c =
+    let below : c.args.table < length c.self.inside.stores.items =
+    subst (λ n. c.args.table < n) (ap (λ p. length p.stores) (sym c.self.view_is)) c.requires.there in
+    let many = length-set c.self.inside.stores.items c.args.table c.swap.new.store in
+    omega (arith, below, many)
+
+pub follow_lookups-requires-clause-swaps : goal.follow_lookups-requires-clause-swaps
+follow_lookups-requires-clause-swaps c =
+    let ss : List Store = c.self.inside.stores.items in
+    let changed : Changed ss c.args.table c.index_mut.result.now c.swap.new.store = record {
+      is = c.index_mut.ensures.value;
+      below =
+          subst (λ n. c.args.table < n) (ap (λ p. length p.stores) (sym c.self.view_is)) c.requires.there;
+      same = ap (λ (s : Store). s.table) c.swap.ensures.slots;
+    } in
+    swaps_there ss c.args.table c.index_mut.result.now c.swap.new.store turn.Go c.args.change.now changed
+    c.swap.ensures.again
+
+pub follow_lookups-requires-clause-current : goal.follow_lookups-requires-clause-current
+follow_lookups-requires-clause-current c =
+    let ss : List Store = c.self.inside.stores.items in
+    let changed : Changed ss c.args.table c.index_mut.result.now c.swap.new.store = record {
+      is = c.index_mut.ensures.value;
+      below =
+          subst (λ n. c.args.table < n) (ap (λ p. length p.stores) (sym c.self.view_is)) c.requires.there;
+      same = ap (λ (s : Store). s.table) c.swap.ensures.slots;
+    } in (
+      rows_in ss,
+      is_before ss c.args.table c.index_mut.result.now c.swap.new.store turn.Go c.args.change.now changed
+          (ap live (sym c.swap.ensures.back)),
+      subst (λ (vs : List View). AreCurrent (tables_in (slice_set ss c.args.table c.swap.new.store)) (rows_in ss) vs
+          c.self.inside.states.items) (sym c.deref.ensures.value)
+          (current_before ss c.self.inside.views.items c.self.inside.states.items c.args.table c.index_mut.result.now
+          c.swap.new.store changed c.self.invariant),
+    )
+
+pub forget-requires : goal.forget-requires
+forget-requires c =
+    let ss : List Store = c.self.inside.stores.items in
+    let changed : Changed ss c.args.table c.index_mut.result.now c.swap.new.store = record {
+      is = c.index_mut.ensures.value;
+      below =
+          subst (λ n. c.args.table < n) (ap (λ p. length p.stores) (sym c.self.view_is)) c.requires.there;
+      same = ap (λ (s : Store). s.table) c.swap.ensures.slots;
+    } in
+    let opened : Opened (slice_set ss c.args.table c.swap.new.store) c.follow_lookups.new.stores.items =
+    record { tables = c.in-Ok.ensures.tables; rows = c.in-Ok.ensures.rows } in
+    let can : CanSwap turn.Go c.swap.new.store.table c.args.change.now c.swap.new.store.slots =
+    subst (λ (t : Table). CanSwap turn.Go t c.args.change.now c.swap.new.store.slots) (sym changed.same)
+    c.swap.ensures.again in
+    swaps_found ss c.follow_lookups.new.stores.items c.args.table c.index_mut.result.now c.swap.new.store
+    c.index_mut-in-Ok.result.now turn.Go c.args.change.now changed opened c.index_mut-in-Ok.ensures.value can
+
+pub invariant_of-self : goal.invariant_of-self
+invariant_of-self c =
+    let ss : List Store = c.self.inside.stores.items in
+    let changed : Changed ss c.args.table c.index_mut.result.now c.swap.new.store = record {
+      is = c.index_mut.ensures.value;
+      below =
+          subst (λ n. c.args.table < n) (ap (λ p. length p.stores) (sym c.self.view_is)) c.requires.there;
+      same = ap (λ (s : Store). s.table) c.swap.ensures.slots;
+    } in
+    let opened : Opened (slice_set ss c.args.table c.swap.new.store) c.follow_lookups.new.stores.items =
+    record { tables = c.in-Ok.ensures.tables; rows = c.in-Ok.ensures.rows } in
+    let can : CanSwap turn.Go c.swap.new.store.table c.args.change.now c.swap.new.store.slots =
+    subst (λ (t : Table). CanSwap turn.Go t c.args.change.now c.swap.new.store.slots) (sym changed.same)
+    c.swap.ensures.again in
+    let found : c.index_mut-in-Ok.result.now.slots ≡ c.swap.new.store.slots =
+    found_slots ss c.follow_lookups.new.stores.items c.args.table c.index_mut.result.now c.swap.new.store
+    c.index_mut-in-Ok.result.now changed opened c.index_mut-in-Ok.ensures.value in
+    shrunk_live c.follow_lookups.new.stores.items c.self.inside.views.items c.follow_lookups.new.states.items
+    c.args.table c.index_mut-in-Ok.result.now c.forget.new.store c.requires.side
+    (record {
+      is = c.index_mut-in-Ok.ensures.value;
+      below = opened_below ss c.follow_lookups.new.stores.items c.args.table c.index_mut.result.now c.swap.new.store
+          changed opened;
+      same = ap (λ (s : Store). s.table) c.forget.ensures;
+    })
+    (ap (λ (s : Store). live s.slots) c.forget.ensures ∙ ap (λ slots. live (forgotten c.args.change.now slots)) found
+    ∙ forgotten_live c.swap.new.store c.args.change.now can ∙ ap live (sym found))
+    (opened_live ss c.follow_lookups.new.stores.items c.self.inside.views.items c.self.inside.states.items
+    c.follow_lookups.new.states.items c.args.table c.index_mut.result.now c.swap.new.store turn.Go c.args.change.now
+    changed opened (ap live (sym c.swap.ensures.back)) (rw c.deref.ensures.value at c.in-Ok.ensures.kept) c.self.invariant)
+
+pub swap-requires-in-Err : goal.swap-requires-in-Err
+swap-requires-in-Err c =
+    let ss : List Store = c.self.inside.stores.items in
+    let changed : Changed ss c.args.table c.index_mut.result.now c.swap.new.store = record {
+      is = c.index_mut.ensures.value;
+      below =
+          subst (λ n. c.args.table < n) (ap (λ p. length p.stores) (sym c.self.view_is)) c.requires.there;
+      same = ap (λ (s : Store). s.table) c.swap.ensures.slots;
+    } in
+    let opened : Opened (slice_set ss c.args.table c.swap.new.store) c.follow_lookups.new.stores.items =
+    record { tables = c.in-Err.ensures.tables; rows = c.in-Err.ensures.rows } in
+    let can : CanSwap turn.Go c.swap.new.store.table c.args.change.now c.swap.new.store.slots =
+    subst (λ (t : Table). CanSwap turn.Go t c.args.change.now c.swap.new.store.slots) (sym changed.same)
+    c.swap.ensures.again in
+    swaps_found ss c.follow_lookups.new.stores.items c.args.table c.index_mut.result.now c.swap.new.store
+    c.index_mut-in-Err.result.now turn.Go c.args.change.now changed opened c.index_mut-in-Err.ensures.value can
+
+pub invariant_of-self-in-Err : goal.invariant_of-self-in-Err
+invariant_of-self-in-Err c =
+    let ss : List Store = c.self.inside.stores.items in
+    let changed : Changed ss c.args.table c.index_mut.result.now c.swap.new.store = record {
+      is = c.index_mut.ensures.value;
+      below =
+          subst (λ n. c.args.table < n) (ap (λ p. length p.stores) (sym c.self.view_is)) c.requires.there;
+      same = ap (λ (s : Store). s.table) c.swap.ensures.slots;
+    } in
+    let opened : Opened (slice_set ss c.args.table c.swap.new.store) c.follow_lookups.new.stores.items =
+    record { tables = c.in-Err.ensures.tables; rows = c.in-Err.ensures.rows } in
+    restored_live ss c.follow_lookups.new.stores.items c.self.inside.views.items c.self.inside.states.items
+    c.follow_lookups.new.states.items c.args.table c.index_mut.result.now c.swap.new.store
+    c.index_mut-in-Err.result.now c.swap-in-Err.new.store (shown c.args.change.now) turn.Go c.args.change.now changed
+    opened (ap live (sym c.swap.ensures.back)) (rw c.deref.ensures.value at c.in-Err.ensures.err) c.index_mut-in-Err.ensures.value
+    c.swap-in-Err.ensures.slots c.swap.ensures.back c.self.invariant
+
+pub returns-in-Ok : goal.returns-in-Ok
+returns-in-Ok c =
+    let ss : List Store = c.self.inside.stores.items in
+    let changed : Changed ss c.args.table c.index_mut.result.now c.swap.new.store = record {
+      is = c.index_mut.ensures.value;
+      below =
+          subst (λ n. c.args.table < n) (ap (λ p. length p.stores) (sym c.self.view_is)) c.requires.there;
+      same = ap (λ (s : Store). s.table) c.swap.ensures.slots;
+    } in
+    let opened : Opened (slice_set ss c.args.table c.swap.new.store) c.follow_lookups.new.stores.items =
+    record { tables = c.in-Ok.ensures.tables; rows = c.in-Ok.ensures.rows } in
+    let can : CanSwap turn.Go c.swap.new.store.table c.args.change.now c.swap.new.store.slots =
+    subst (λ (t : Table). CanSwap turn.Go t c.args.change.now c.swap.new.store.slots) (sym changed.same)
+    c.swap.ensures.again in
+    rw (← c.self.view_is)
+    (went_back tt ss (slice_set c.follow_lookups.new.stores.items c.args.table c.forget.new.store)
+    c.self.inside.views.items c.self.inside.states.items c.follow_lookups.new.states.items c.args.table
+    (back c.args.change.now (rows_at (rows_in ss) c.args.table))
+    (touched (tables_in ss) c.self.inside.views.items (rows_in ss) c.args.table c.args.change.now)
+    (shrunk_rows ss c.follow_lookups.new.stores.items c.args.table c.index_mut.result.now c.swap.new.store
+    c.index_mut-in-Ok.result.now c.forget.new.store (forgotten c.args.change.now) (back c.args.change.now) changed
+    opened c.index_mut-in-Ok.ensures.value c.forget.ensures
+    (forgotten_is c.index_mut.result.now c.swap.new.store c.args.change.now can c.swap.ensures.back))
+    (restored_tables ss c.follow_lookups.new.stores.items c.args.table c.index_mut.result.now c.swap.new.store
+    c.index_mut-in-Ok.result.now c.forget.new.store (forgotten c.args.change.now) changed opened
+    c.index_mut-in-Ok.ensures.value c.forget.ensures)
+    c.in-Ok.ensures.stale
+    (opened_before ss c.follow_lookups.new.stores.items c.self.inside.views.items c.self.inside.states.items
+    c.follow_lookups.new.states.items c.args.table c.index_mut.result.now c.swap.new.store
+    c.index_mut-in-Ok.result.now c.forget.new.store c.args.change.now c.requires.side changed
+    (ap (λ (s : Store). s.slots) c.swap.ensures.slots) (rw c.deref.ensures.value at c.in-Ok.ensures.visits)))
+
+pub returns-in-Err : goal.returns-in-Err
+returns-in-Err c =
+    let ss : List Store = c.self.inside.stores.items in
+    let changed : Changed ss c.args.table c.index_mut.result.now c.swap.new.store = record {
+      is = c.index_mut.ensures.value;
+      below =
+          subst (λ n. c.args.table < n) (ap (λ p. length p.stores) (sym c.self.view_is)) c.requires.there;
+      same = ap (λ (s : Store). s.table) c.swap.ensures.slots;
+    } in
+    let opened : Opened (slice_set ss c.args.table c.swap.new.store) c.follow_lookups.new.stores.items =
+    record { tables = c.in-Err.ensures.tables; rows = c.in-Err.ensures.rows } in
+    rw (← c.self.view_is)
+    (stayed c.in-Err.refused ss (slice_set c.follow_lookups.new.stores.items c.args.table c.swap-in-Err.new.store)
+    c.self.inside.views.items c.self.inside.states.items c.follow_lookups.new.states.items c.args.table
+    (back c.args.change.now (rows_at (rows_in ss) c.args.table))
+    (touched (tables_in ss) c.self.inside.views.items (rows_in ss) c.args.table c.args.change.now)
+    (restored_rows ss c.follow_lookups.new.stores.items c.args.table c.index_mut.result.now c.swap.new.store
+    c.index_mut-in-Err.result.now c.swap-in-Err.new.store (shown c.args.change.now) changed opened
+    c.index_mut-in-Err.ensures.value c.swap-in-Err.ensures.slots c.swap.ensures.back)
+    (restored_tables ss c.follow_lookups.new.stores.items c.args.table c.index_mut.result.now c.swap.new.store
+    c.index_mut-in-Err.result.now c.swap-in-Err.new.store (shown c.args.change.now) changed opened
+    c.index_mut-in-Err.ensures.value c.swap-in-Err.ensures.slots))

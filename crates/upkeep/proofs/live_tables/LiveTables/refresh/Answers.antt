@@ -2,7 +2,6 @@ use Rattle.std.proofs.Common.{◌<◌, ap, length, subst, sym}
 use Rattle.upkeep.proofs.Refreshing.{fresh_at, fresh_was, opened_stays, refreshed}
 use Rattle.upkeep.proofs.SideEdits.{live_many}
 use Rattle.upkeep.proofs.live_tables.LiveTables.refresh.Goals as goal
-use Rattle.upkeep.proofs.live_tables.LiveTables.refresh.Goals.{in-Groups-1, in-Order-1}
 
 pub index-requires : goal.index-requires
 index-requires c =
@@ -27,17 +26,8 @@ index_mut-requires c =
     (sym (live_many c.self.inside.stores.items c.self.inside.views.items c.self.inside.states.items c.self.invariant)) below in
     subst (λ n. c.args.place < n) (sym c.self.inside.states.ok.0) there
 
-pub invariant_of-self-in_ok-state : goal.invariant_of-self-in_ok-state
-invariant_of-self-in_ok-state c =
-    let below : c.args.place < length c.self.inside.views.items =
-    subst (λ n. c.args.place < n) (ap (λ p. length p.views) (sym c.self.view_is)) c.requires in
-    refreshed c.self.inside.stores.items c.rebuild.new.stores.items c.self.inside.views.items c.self.inside.states.items
-    c.args.place c.index-then-index.result.now c.in_ok-state.state
-    (record { tables = c.in_ok-state.ensures.tables; rows = c.in_ok-state.ensures.rows })
-    c.index-then-index.ensures below c.in_ok-state.ensures.current c.self.invariant
-
-pub invariant_of-self-in_ok-state-2 : goal.invariant_of-self-in_ok-state-2
-invariant_of-self-in_ok-state-2 c =
+pub invariant_of-self-then-index : goal.invariant_of-self-then-index
+invariant_of-self-then-index c =
     let below : c.args.place < length c.self.inside.views.items =
     subst (λ n. c.args.place < n) (ap (λ p. length p.views) (sym c.self.view_is)) c.requires in
     refreshed c.self.inside.stores.items c.rebuild.new.stores.items c.self.inside.views.items c.self.inside.states.items
@@ -47,11 +37,8 @@ invariant_of-self-in_ok-state-2 c =
 
 pub returns-in_ok-state-clause-stale : goal.returns-in_ok-state-clause-stale
 returns-in_ok-state-clause-stale c =
-    let made = fresh_at c.self.inside.states.items c.args.place c.in_ok-state.state c.in_ok-state.ensures.fresh in
-    elim c.match-index_mut-state.branch [
-      | in-Order-1 w ↦ rw (w.self-is, ← c.self.view_is) made
-      | in-Groups-1 w ↦ rw (w.self-is, ← c.self.view_is) made
-    ]
+    rw (← c.self.view_is)
+    (fresh_at c.self.inside.states.items c.args.place c.in_ok-state.state c.in_ok-state.ensures.fresh)
 
 pub returns-else-index-clause-stale : goal.returns-else-index-clause-stale
 returns-else-index-clause-stale c =

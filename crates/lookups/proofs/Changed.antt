@@ -1,0 +1,92 @@
+-- What is kept when one row changes.
+use Rattle.lookups.proofs.Numbered.{key_exact}
+use Rattle.lookups.specs.Keeping.{Keeps, holds, is_key, key_held}
+use Rattle.lookups.specs.Refers.{RowsByKey, found_at, is_among, key_cmp, numbers_in, refers}
+use Rattle.std.proofs.Common.{◌≡◌, refl, ap, sym, ◌∙◌, subst}
+use Rattle.std.proofs.lemmas.Bool.{eq-eqb, eqb-true}
+use Rattle.std.proofs.lemmas.Map.Lookups.{exact_unsigned}
+use Rattle.std.specs.BTreeMap.{is_at}
+use Rattle.std.specs.Cmp.{Equal-is, tied_itself, nat_cmp_total}
+use Rattle.std.specs.List.Sorted.{IsStrictlySortedBy}
+use Rattle.std.specs.Map.{keys_of}
+use Rattle.std.specs.Ordering.{is_eq, nat_cmp}
+use Rattle.std.specs.Prelude.{◌==◌, ◌&&◌, ℕ, Bool, true, false, cond, List, Option, Some}
+use Rattle.values.specs.Datum.{Datum}
+use Rattle.values.specs.declared.key.Key.{Key}
+use Rattle.view_lang.specs.Counted.{lookup-with_at}
+use Rattle.view_lang.specs.Shifts.{NumberedRows, row_at, with_at}
+
+-- where one number comes or goes under one key
+module _ (old new : RowsByKey) (held : Key) (m : ℕ) (b : Bool)
+    (here : (n : ℕ) → refers new held n ≡ cond (n == m) b (refers old held n))
+    (others : (k : Key) → is_at (key_cmp held) k ≡ false → found_at new k ≡ found_at old k) where
+  at-by : (k : Key) (n : ℕ) (at : Bool) → is_at (key_cmp held) k ≡ at
+      → refers new k n ≡ cond (at && n == m) b (refers old k n)
+  at-by k n true e =
+      subst (λ (x : Key). refers new x n ≡ cond (n == m) b (refers old x n))
+      (key_exact held k ((Equal-is (key_cmp held k)).0 e)) (here n)
+  at-by k n false e = ap (λ (found : Option (List ℕ)). is_among (numbers_in found) n) (others k e)
+
+  pub refers-at : (row : Option (List Datum)) → key_held row ≡ Some held → (k : Key) (n : ℕ)
+      → refers new k n ≡ cond (holds k row && n == m) b (refers old k n)
+  refers-at row h k n =
+      at-by k n (is_at (key_cmp held) k) refl
+      ∙ ap (λ (o : Option Key). cond (is_key k o && n == m) b (refers old k n)) (sym h)
+
+-- first the row before goes, then that after it comes
+abbrev pub moved : Bool → Bool → Bool → Bool → Bool
+moved before after at there = cond (after && at) true (cond (before && at) false there)
+
+own : (x y : Bool) → moved x y true x ≡ y
+own true true = refl
+own true false = refl
+own false true = refl
+own false false = refl
+
+other : (x y z : Bool) → moved x y false z ≡ z
+other true true z = refl
+other true false z = refl
+other false true z = refl
+other false false z = refl
+
+module _ (n : ℕ) (before after : Option (List Datum)) (rows : NumberedRows)
+    (s : IsStrictlySortedBy nat_cmp (keys_of rows)) (is : row_at n rows ≡ before) (k : Key) (m : ℕ) where
+  one-by : (b : Bool) → (m == n) ≡ b
+      → moved (holds k before) (holds k after) b (holds k (row_at m rows)) ≡ holds k (row_at m (with_at n after rows))
+  one-by true h =
+      let same : m ≡ n = eqb-true m n h in
+      let there : row_at m rows ≡ before = subst (λ (x : ℕ). row_at x rows ≡ before) (sym same) is in
+      let at : is_at (nat_cmp n) m ≡ true =
+      subst (λ (x : ℕ). is_at (nat_cmp n) x ≡ true) (sym same) (ap is_eq (tied_itself nat_cmp_total n)) in
+      ap (λ (r : Option (List Datum)). moved (holds k before) (holds k after) true (holds k r)) there
+      ∙ own (holds k before) (holds k after)
+      ∙ sym (ap (holds k) (lookup-with_at n m after rows s
+      ∙ ap (λ (b : Bool). cond b after (row_at m rows)) at))
+  one-by false h =
+      other (holds k before) (holds k after) (holds k (row_at m rows))
+      ∙ sym (ap (holds k) (lookup-with_at n m after rows s
+      ∙ ap (λ (b : Bool). cond b after (row_at m rows)) (apart (is_at (nat_cmp n) m) refl)))
+    where
+      apart : (b : Bool) → is_at (nat_cmp n) m ≡ b → is_at (nat_cmp n) m ≡ false
+      apart true e =
+          let same : n ≡ m = exact_unsigned n m ((Equal-is (nat_cmp n m)).0 e) in
+          let yes : (m == n) ≡ true = eq-eqb m n (sym same) in
+          absurd (cc)
+      apart false e = e
+
+  pub one : moved (holds k before) (holds k after) (m == n) (holds k (row_at m rows))
+      ≡ holds k (row_at m (with_at n after rows))
+  one = one-by (m == n) refl
+
+pub keeps-one : (old mid new : RowsByKey) (n : ℕ) (before after : Option (List Datum)) (rows : NumberedRows)
+    → ((k : Key) (m : ℕ) → refers mid k m ≡ cond (holds k before && m == n) false (refers old k m))
+    → ((k : Key) (m : ℕ) → refers new k m ≡ cond (holds k after && m == n) true (refers mid k m))
+    → IsStrictlySortedBy nat_cmp (keys_of rows) → row_at n rows ≡ before → Keeps old rows
+    → Keeps new (with_at n after rows)
+keeps-one old mid new n before after rows gone come s is kept = record {
+  rows_are = λ k m.
+      come k m
+      ∙ ap (λ (b : Bool). cond (holds k after && m == n) true b)
+      (gone k m ∙ ap (λ (b : Bool). cond (holds k before && m == n) false b) (kept.rows_are k m))
+      ∙ one n before after rows s is k m;
+}

@@ -1,0 +1,16 @@
+//! What is kept of rows by keys, taken apart.
+
+use values::Key;
+
+/// What a `Referrers` is made of: keys, ascending, each with the numbers of the rows that hold it.
+#[derive(Debug, Drop)]
+pub struct ReferrersParts {
+    pub keys: Vec<KeyNumbers>,
+}
+
+/// A key with numbers of rows, at least one, ascending.
+#[derive(Debug, Drop)]
+pub struct KeyNumbers {
+    pub key: Key,
+    pub numbers: Vec<usize>,
+}

@@ -1,0 +1,290 @@
+-- A view that looks up a table whose rows change, brought up to the change by the rows that refer to its keys.
+use Rattle.std.proofs.Common.{
+  ◌≡◌,
+  ◌≤◌,
+  ◌||◌,
+  All,
+  Err,
+  Ok,
+  Result,
+  length-append,
+  not,
+  ℕ,
+  zero,
+  suc,
+  ◌<◌,
+  length,
+  Bool,
+  true,
+  false,
+  List,
+  [],
+  ◌∷◌,
+  ◌++◌,
+  Option,
+  None,
+  Some,
+  ap,
+  arith,
+  map,
+  refl,
+  subst,
+  sym,
+  ◌∙◌,
+}
+use Rattle.std.specs.List.{list_any}
+use Rattle.std.specs.List.Sorted.{IsStrictlySortedBy}
+use Rattle.std.specs.Ordering.{nat_cmp}
+use Rattle.std.specs.Prelude.{OnOk, count_by, slice_set}
+use Rattle.std.proofs.lemmas.List.{length-map}
+use Rattle.values.specs.KeyOrder.{KeysStandInOrder}
+use Rattle.values.specs.Keys.{datum_of_key}
+use Rattle.values.specs.declared.key.Key.{Key}
+use Rattle.std.proofs.lemmas.Bool.{eqb-true, true≢false}
+use Rattle.values.specs.Datum.{Datum}
+use Rattle.view_lang.specs.Config.{Table, View}
+use Rattle.view_lang.specs.Contents.{is_among}
+use Rattle.view_lang.specs.Images.{ImageAt, ImageFits, ImagePatched, image, shift_image}
+use Rattle.view_lang.specs.Joined.{Side, side_of}
+use Rattle.view_lang.specs.Outputs.{Outputs}
+use Rattle.view_lang.specs.Shifts.{Fits, IsFew, NumberedRows, Shift, patched}
+use Rattle.view_lang.specs.TableRules.{IsTable}
+use Rattle.view_lang.specs.declared.view.OrderBy.{OrderBy}
+use Rattle.lookups.specs.Keeping.{Keeps as KeepsReferrers}
+use Rattle.lookups.specs.Refers.{RowsByKey, is_among as is_numbered, refers as refers_to}
+use Rattle.view_lang.specs.Views.{side_in}
+use Rattle.view_lang.specs.World.{contents_at, table_at}
+use Rattle.view_lang.specs.declared.view.Lookup.{Lookup}
+use Rattle.row_keys.specs.NumberLaws.{
+  ChangesAdd,
+  FewRetracted,
+  Leads,
+  LiveCanGo,
+  NumbersAscend,
+  RetractedComeBack,
+  RetractedGo,
+  RowsAreAtNumbers,
+  RowsAreLive,
+}
+use Rattle.row_keys.specs.Numbered.{come, gone, numbered}
+use Rattle.row_keys.specs.Slots.{CanRetract, Slot, contents_of, live}
+use Rattle.upkeep.specs.Inputs.{side_by}
+use Rattle.upkeep.specs.Stores.{Rows, rows_at, world_of}
+use Rattle.upkeep.specs.Swaps.{named_keys, swapped}
+use Rattle.upkeep.specs.Touched.{refers_by}
+use Rattle.upkeep.specs.ViewStates.{
+  IsBefore,
+  IsCurrent,
+  IsCurrentWith,
+  IsKept,
+  looks_up,
+  made_change,
+  made_row,
+  referring_row,
+  swapped_at,
+}
+use Rattle.upkeep.specs.declared.table_change.TableChange.{TableChange}
+use Rattle.upkeep.specs.declared.view_state.Turn.{Turn}
+use Rattle.upkeep.specs.declared.view_state.Turn.TheVariants as turn
+use Rattle.upkeep.specs.declared.view_state.ViewState.{ViewState}
+use Rattle.upkeep.proofs.Following.{image_length}
+use Rattle.upkeep.proofs.LiveSides.{current_same, set_main, sides_same}
+use Rattle.upkeep.proofs.LookedUpViews.{current_after, main_same}
+use Rattle.upkeep.proofs.MainTable.{live_few, numbered_length, turned_length}
+use Rattle.upkeep.proofs.Referring.{
+  AreReferring,
+  are_referring,
+  can_retract,
+  left_alike,
+  referring_below,
+  referring_counted,
+  remade,
+}
+use Rattle.upkeep.proofs.SwappedRows.{side_swapped}
+
+set_twice : {X : Type 0} (xs : List X) (n : ℕ) (x y : X) → slice_set (slice_set xs n x) n y ≡ slice_set xs n y
+set_twice [] n x y = refl
+set_twice (z ∷ zs) zero x y = refl
+set_twice (z ∷ zs) (suc n) x y = ap (λ ws. z ∷ ws) (set_twice zs n x y)
+
+-- What was kept before the change is what is kept of the rows without it.
+pub current_without :
+    (tables : List Table) (n : ℕ) (u : Turn) (c : TableChange) (old new : Rows) (v : View) (s : ViewState) → 0 < n
+    → IsBefore n u c old new → IsCurrentWith tables old v s
+    → IsCurrent v (side_by tables (swapped_at n u c new) v) s (numbered (rows_at new 0))
+current_without tables n u c old new v s side before current =
+    let slots : List Slot = swapped u c (rows_at new n) in
+    let set : slice_set old n slots ≡ slice_set new n slots =
+    ap (λ (rs : Rows). slice_set rs n slots) before.differs ∙ set_twice new n (rows_at old n) slots in
+    subst (λ (rows : NumberedRows). IsCurrent v (side_by tables (swapped_at n u c new) v) s rows)
+    (main_same n old new side before.differs)
+    (subst (λ (rs : Rows). IsCurrent v (side_by tables rs v) s (numbered (rows_at old 0))) set
+    (current_same v (side_by tables old v) (side_by tables (slice_set old n slots) v) s (numbered (rows_at old 0))
+    (sides_same tables v.lookup old n slots (sym before.live_same)) current))
+
+world_placed : (rows : Rows) (n : ℕ) (slots : List Slot) → n < length rows
+    → contents_at (world_of (slice_set rows n slots)) n ≡ contents_of slots
+world_placed [] n slots below = absurd (omega (arith, below))
+world_placed (r ∷ rs) zero slots below = refl
+world_placed (r ∷ rs) (suc n) slots below = world_placed rs n slots (omega (arith, below))
+
+world_here : (rows : Rows) (n : ℕ) → n < length rows → contents_at (world_of rows) n ≡ contents_of (rows_at rows n)
+world_here [] n below = absurd (omega (arith, below))
+world_here (r ∷ rs) zero below = refl
+world_here (r ∷ rs) (suc n) below = world_here rs n (omega (arith, below))
+
+-- A key that the change doesn't name is looked up alike without it and with it.
+pub sides_swapped :
+    (tables : List Table) (o : Option Lookup) (n : ℕ) (u : Turn) (c : TableChange) (rows : Rows) → n < length rows
+    → looks_up o n ≡ true → (d : Datum) → is_among d (named_keys (table_at tables n) c (rows_at rows n)) ≡ false
+    → side_in tables (world_of (swapped_at n u c rows)) o d ≡ side_in tables (world_of rows) o d
+sides_swapped tables None n u c rows below look d other = absurd (true≢false (sym look))
+sides_swapped tables (Some l) n u c rows below look d other =
+    let slots : List Slot = rows_at rows n in
+    let P : ℕ → Type 0 = λ m. side_of (table_at tables m) (contents_at (world_of (swapped_at n u c rows)) m) d
+    ≡ side_of (table_at tables m) (contents_at (world_of rows) m) d in
+    subst P (sym (eqb-true (suc l.side) n look))
+    (ap (λ w. side_of (table_at tables n) w d) (world_placed rows n (swapped u c slots) below)
+    ∙ side_swapped u (table_at tables n) c d slots other
+    ∙ ap (λ w. side_of (table_at tables n) w d) (sym (world_here rows n below)))
+
+-- A view that looks the table up
+
+pub record Laws : Type 0 where
+  pub fits : ImageFits
+  pub patched : ImagePatched
+  pub at : ImageAt
+  pub keys : KeysStandInOrder
+  pub ascend : NumbersAscend
+  pub live : RowsAreLive
+  pub numbers : RowsAreAtNumbers
+  pub can_go : LiveCanGo
+  pub retracted : RetractedGo
+  pub come_back : RetractedComeBack
+  pub add : ChangesAdd
+  pub few : FewRetracted
+
+pub look_some : (o : Option Lookup) (n : ℕ) → looks_up o n ≡ true → (l : Lookup) × (o ≡ Some l)
+look_some None n look = absurd (true≢false (sym look))
+look_some (Some l) n look = (l, refl)
+
+pub neither_one : (a b : Bool) → (a || not b) ≡ false → (a ≡ false) × (b ≡ true)
+neither_one true b h = absurd (true≢false h)
+neither_one false true h = (refl, refl)
+neither_one false false h = absurd (true≢false h)
+
+not_seen : (a b : Bool) → (a || not b) ≡ true → a ≡ false → b ≡ false
+not_seen true b h fresh = absurd (true≢false fresh)
+not_seen false true h fresh = absurd (true≢false (sym h))
+not_seen false false h fresh = refl
+
+-- one that is stale, or doesn't look the table up
+pub left_as_was :
+    (tables : List Table) (n : ℕ) (u : Turn) (c : TableChange) (old new : Rows) (v : View) (s : ViewState) → 0 < n
+    → (s.stale || not (looks_up v.lookup n)) ≡ true → IsBefore n u c old new → IsCurrentWith tables old v s
+    → IsCurrentWith tables new v s
+left_as_was tables n u c old new v s side apart before current = λ fresh.
+    current_after tables n old new v s side before.differs (not_seen s.stale (looks_up v.lookup n) apart fresh) current
+    fresh
+
+module _ (laws : Laws) (tables : List Table) (n : ℕ) (u : Turn) (c : TableChange) (rows : Rows) (v : View)
+    (s : ViewState) (keys : List Key) (ns : List ℕ) (side : 0 < n) (below : n < length rows)
+    (looks : looks_up v.lookup n ≡ true) (fresh : s.stale ≡ false)
+    (named : map datum_of_key keys ≡ named_keys (table_at tables n) c (rows_at rows n))
+    (are : (m : ℕ) → is_numbered ns m ≡ list_any (λ k. refers_to s.referrers k m) keys)
+    (ascending : IsStrictlySortedBy nat_cmp ns) where
+  abbrev pub main : List Slot
+  main = rows_at rows 0
+
+  abbrev pub made_without : List Datum → Option (List Datum)
+  made_without = made_row v (side_by tables (swapped_at n u c rows) v)
+
+  abbrev pub made_with : List Datum → Option (List Datum)
+  made_with = made_row v (side_by tables rows v)
+
+  pub look : (l : Lookup) × (v.lookup ≡ Some l)
+  look = look_some v.lookup n looks
+
+  module _ (old : Rows) (before : IsBefore n u c old rows) (current : IsCurrentWith tables old v s) where
+    was : IsCurrent v (side_by tables (swapped_at n u c rows) v) s (numbered main)
+    was = current_without tables n u c old rows v s side before current
+
+    pub refer : AreReferring look.0 (named_keys (table_at tables n) c (rows_at rows n)) main ns
+    refer =
+        subst (λ (ks : List Datum). AreReferring look.0 ks main ns) named
+        (are_referring laws.keys laws.at laws.ascend laws.numbers v look.0 s.referrers main keys ns look.1 (was fresh).1
+        are)
+
+    pub there : All (λ m. m < length main) ns
+    there = referring_below look.0 (named_keys (table_at tables n) c (rows_at rows n)) main ns refer
+
+    can : CanRetract ns main
+    can = can_retract laws.can_go look.0 (named_keys (table_at tables n) c (rows_at rows n)) main ns refer ascending
+
+    pub counted : length ns
+        ≤ count_by (refers_by v.lookup n (named_keys (table_at tables n) c (rows_at rows n))) (live main)
+    counted =
+        referring_counted laws.can_go v.lookup look.0 n (named_keys (table_at tables n) c (rows_at rows n)) main ns look.1
+        looks refer ascending
+
+    change_leads : Leads (image made_without (numbered main))
+        (made_change tables (swapped_at n u c rows) v turn.Go ns ++ made_change tables rows v turn.Come ns)
+        (image made_with (numbered main))
+    change_leads =
+        subst (λ (slots : List Slot). Leads (image made_without (numbered main))
+        (map (shift_image made_without) (gone slots ns) ++ map (shift_image made_with) (come main ns))
+        (image made_with (numbered main))) (sym (set_main rows n (swapped u c (rows_at rows n)) side))
+        (remade laws.fits laws.patched laws.add laws.retracted laws.come_back made_without made_with main ns can
+        (left_alike v look.0 (side_by tables (swapped_at n u c rows) v) (side_by tables rows v)
+        (named_keys (table_at tables n) c (rows_at rows n)) main ns look.1
+        (sides_swapped tables v.lookup n u c rows below looks) refer))
+
+    change_few : (t : Table) → IsTable t → length (live main) ≤ t.max_rows
+        → IsFew (image made_without (numbered main))
+        (made_change tables (swapped_at n u c rows) v turn.Go ns ++ made_change tables rows v turn.Come ns)
+    change_few t right held =
+        let swapped_main : List Slot = rows_at (swapped_at n u c rows) 0 in
+        let shorter = image_length made_without (numbered main) in
+        let few = live_few laws.live t main right held in
+        let less = laws.few ns main can in
+        let many = numbered_length laws.live main in
+        let go = length-map (gone swapped_main ns) (shift_image made_without) ∙ turned_length turn.Go swapped_main ns in
+        let back = length-map (come main ns) (shift_image made_with) ∙ turned_length turn.Come main ns in
+        let both = length-append (map (shift_image made_without) (gone swapped_main ns))
+        (map (shift_image made_with) (come main ns)) in
+        omega (arith, shorter, few, less, many, go, back, both)
+
+    -- what is asked where the change is applied
+    pub apply_needs : (change : List Shift) (t : Table)
+        → change ≡ made_change tables (swapped_at n u c rows) v turn.Go ns ++ made_change tables rows v turn.Come ns
+        → IsTable t → length (live main) ≤ t.max_rows
+        → (outputs : Outputs) × (order : List OrderBy) × (kept : NumberedRows)
+        × (IsKept outputs order s.kept kept × (Fits kept change × IsFew kept change))
+    apply_needs change t is right held =
+        let P : List Shift → Type 0 = λ ch. Fits (image made_without (numbered main)) ch
+        × IsFew (image made_without (numbered main)) ch in (
+          v.outputs,
+          v.order,
+          image made_without (numbered main),
+          ((was fresh).0, subst P (sym is) (change_leads.fits, change_few t right held)),
+        )
+
+    -- and what is kept then
+    pub applied : (change : List Shift) (new : ViewState)
+        → change ≡ made_change tables (swapped_at n u c rows) v turn.Go ns ++ made_change tables rows v turn.Come ns
+        → new.referrers ≡ s.referrers
+        → ((outputs : Outputs) (order : List OrderBy) (kept : NumberedRows) → Fits kept change → s.stale ≡ false
+        → IsKept outputs order s.kept kept → IsKept outputs order new.kept (patched kept change))
+        → IsCurrentWith tables rows v new
+    applied change new is same kept = λ still. (
+      subst (λ (made : NumberedRows). IsKept v.outputs v.order new.kept made)
+          (ap (patched (image made_without (numbered main))) is ∙ change_leads.patched_is)
+          (kept v.outputs v.order (image made_without (numbered main))
+          (subst (λ (ch : List Shift). Fits (image made_without (numbered main)) ch) (sym is) change_leads.fits) fresh
+          (was fresh).0),
+      subst (λ (r : RowsByKey). KeepsReferrers r (image (referring_row v) (numbered main))) (sym same) (was fresh).1,
+    )
+
+pub on_ok : {X E : Type 0} (P Q : Type 0) (r : Result X E) → (P → Q) → OnOk r P → OnOk r Q
+on_ok P Q (Ok x) f h = f h
+on_ok P Q (Err e) f h = tt

@@ -1,0 +1,357 @@
+-- The rows that refer to keys, and a view of them where those keys' rows change.
+use Rattle.std.proofs.Common.{
+  ◌≡◌,
+  ℕ,
+  zero,
+  suc,
+  ◌+◌,
+  ◌*◌,
+  ◌<◌,
+  ◌≤◌,
+  ◌||◌,
+  ◌&&◌,
+  All,
+  Bool,
+  true,
+  false,
+  cond,
+  List,
+  [],
+  ◌∷◌,
+  ◌++◌,
+  Option,
+  None,
+  Some,
+  count_by,
+  get_or,
+  length,
+  map,
+  refl,
+  ap,
+  sym,
+  subst,
+  ◌∙◌,
+  arith,
+  true≢false,
+}
+use Rattle.std.specs.BTreeMap.{is_at}
+use Rattle.std.specs.List.{list_any}
+use Rattle.std.specs.List.Sorted.{IsStrictlySortedBy}
+use Rattle.std.specs.Ordering.{is_eq, nat_cmp}
+use Rattle.std.specs.Option.{option_and_then}
+use Rattle.std.proofs.lemmas.Map.Views.{exact_unsigned_eq}
+use Rattle.std.proofs.lemmas.Option.{none-some}
+use Rattle.std.specs.Cmp.{nat_cmp_total, tied_itself, unsigned_tied}
+use Rattle.std.specs.Prelude.{if◌then◌else◌, nat_eq, slice_index_or}
+use Rattle.std.proofs.lemmas.List.Elements.{All-cons, All-head, All-nil, All-tail}
+use Rattle.std.proofs.lemmas.List.Sums.{sum_by-cons}
+use Rattle.values.specs.Datum.{Datum, null, truth, whole, text, bytes, list, structure}
+use Rattle.values.specs.KeyOrder.{KeysStandInOrder}
+use Rattle.values.specs.Keys.{datum_of_key, key_of}
+use Rattle.values.specs.Order.{datum_cmp}
+use Rattle.values.specs.declared.key.Key.{Key}
+use Rattle.values.specs.declared.key.Key.TheVariants as key
+use Rattle.view_lang.specs.Cells.{cell_at}
+use Rattle.view_lang.specs.Config.{View}
+use Rattle.view_lang.specs.Contents.{is_among, same_key}
+use Rattle.view_lang.specs.Images.{ImageAt, ImageFits, ImagePatched, image, image_by, shift_image}
+use Rattle.view_lang.specs.Joined.{Side, joined_by, joined_row, looked_up}
+use Rattle.view_lang.specs.Shifts.{NumberedRows, Shift, row_at}
+use Rattle.view_lang.specs.Truth.{passes}
+use Rattle.view_lang.specs.declared.view.Lookup.{Lookup}
+use Rattle.lookups.specs.Keeping.{Keeps as KeepsReferrers, holds, is_key}
+use Rattle.lookups.specs.Refers.{RowsByKey, is_among as is_numbered, key_cmp, refers as refers_to}
+use Rattle.row_keys.specs.NumberLaws.{
+  ChangesAdd,
+  Leads,
+  LiveCanGo,
+  NumbersAscend,
+  RetractedComeBack,
+  RetractedGo,
+  RowsAreAtNumbers,
+}
+use Rattle.row_keys.specs.Numbered.{come, gone, live_at, numbered, numbered_from}
+use Rattle.row_keys.specs.Slots.{CanRetract, IsThere, Slot, live, marked, no_slot, retracted, row_of, slot}
+use Rattle.upkeep.specs.Touched.{refers_by}
+use Rattle.upkeep.specs.ViewStates.{looks_up, made_by, made_row, referring_by, referring_row}
+use Rattle.upkeep.proofs.SwappedRows.{row_marked}
+
+-- keys as values
+
+some_is : {X : Type 0} (x y : X) → Some x ≡ Some y → x ≡ y
+some_is x y h = cc h
+
+key_datum : (d : Datum) (k : Key) → key_of d ≡ Some k → datum_of_key k ≡ d
+key_datum null k h = subst (λ x. datum_of_key x ≡ null) (some_is key.Null k h) refl
+key_datum (truth b) k h = subst (λ x. datum_of_key x ≡ truth b) (some_is (key.Bool b) k h) refl
+key_datum (whole n) k h = subst (λ x. datum_of_key x ≡ whole n) (some_is (key.Int n) k h) refl
+key_datum (text s) k h = subst (λ x. datum_of_key x ≡ text s) (some_is (key.Utf8 s) k h) refl
+key_datum (bytes b) k h = subst (λ x. datum_of_key x ≡ bytes b) (some_is (key.Binary b) k h) refl
+key_datum (list es) k h = absurd (none-some k h)
+key_datum (structure es) k h = absurd (none-some k h)
+
+keyless : (d : Datum) (k : Key) → key_of d ≡ None → same_key d (datum_of_key k) ≡ false
+keyless null k h = absurd (none-some key.Null (sym h))
+keyless (truth b) k h = absurd (none-some (key.Bool b) (sym h))
+keyless (whole n) k h = absurd (none-some (key.Int n) (sym h))
+keyless (text s) k h = absurd (none-some (key.Utf8 s) (sym h))
+keyless (bytes b) k h = absurd (none-some (key.Binary b) (sym h))
+keyless (list es) (key.Bool b) h = refl
+keyless (list es) (key.Int n) h = refl
+keyless (list es) (key.Utf8 s) h = refl
+keyless (list es) (key.Binary b) h = refl
+keyless (list es) key.Null h = refl
+keyless (structure es) (key.Bool b) h = refl
+keyless (structure es) (key.Int n) h = refl
+keyless (structure es) (key.Utf8 s) h = refl
+keyless (structure es) (key.Binary b) h = refl
+keyless (structure es) key.Null h = refl
+
+is_key_same : KeysStandInOrder → (d : Datum) (k : Key) (o : Option Key) → key_of d ≡ o
+    → is_key k o ≡ same_key d (datum_of_key k)
+is_key_same law d k None h = sym (keyless d k h)
+is_key_same law d k (Some held) h =
+    ap is_eq (law held k) ∙ ap (λ x. same_key x (datum_of_key k)) (key_datum d held h)
+
+-- A row refers to one of some keys where its cell is among them.
+any_among : KeysStandInOrder → (d : Datum) (keys : List Key)
+    → list_any (λ k. is_key k (key_of d)) keys ≡ is_among d (map datum_of_key keys)
+unfolding is_among
+any_among law d [] = refl
+any_among law d (k ∷ ks) =
+    ap (λ b. b || list_any (λ x. is_key x (key_of d)) ks) (is_key_same law d k (key_of d) refl)
+    ∙ ap (λ b. same_key d (datum_of_key k) || b) (any_among law d ks)
+
+any_none : {X : Type 0} (f : X → Bool) (xs : List X) → ((x : X) → f x ≡ false) → list_any f xs ≡ false
+any_none f [] h = refl
+any_none f (x ∷ xs) h = ap (λ b. b || list_any f xs) (h x) ∙ any_none f xs h
+
+any_same : {X : Type 0} (f g : X → Bool) (xs : List X) → ((x : X) → f x ≡ g x) → list_any f xs ≡ list_any g xs
+any_same f g [] h = refl
+any_same f g (x ∷ xs) h = ap (λ b. b || list_any f xs) (h x) ∙ ap (λ b. g x || b) (any_same f g xs h)
+
+-- whether a row refers to one of some keys, if it is live
+abbrev pub refers_live : Lookup → List Datum → Option (List Datum) → Bool
+refers_live l keys None = false
+refers_live l keys (Some row) = is_among (cell_at row l.on) keys
+
+cell_refers : KeysStandInOrder → (l : Lookup) (keys : List Key) (o : Option (List Datum))
+    → list_any (λ k. holds k (option_and_then (referring_by (Some l)) o)) keys
+    ≡ refers_live l (map datum_of_key keys) o
+cell_refers law l keys None = any_none (λ k. false) keys (λ k. refl)
+cell_refers law l keys (Some row) = any_among law (cell_at row l.on) keys
+
+-- Numbers are those of the live rows that refer to one of the keys.
+abbrev pub AreReferring : Lookup → List Datum → List Slot → List ℕ → Type 0
+AreReferring l keys slots ns = (n : ℕ) → is_numbered ns n ≡ refers_live l keys (live_at slots n)
+
+pub are_referring :
+    KeysStandInOrder → ImageAt → NumbersAscend → RowsAreAtNumbers → (v : View) (l : Lookup) (kept : RowsByKey)
+    (slots : List Slot) (keys : List Key) (ns : List ℕ) → v.lookup ≡ Some l
+    → KeepsReferrers kept (image (referring_row v) (numbered slots))
+    → ((n : ℕ) → is_numbered ns n ≡ list_any (λ k. refers_to kept k n) keys)
+    → AreReferring l (map datum_of_key keys) slots ns
+are_referring law at ascend numbers v l kept slots keys ns look keeps are = λ n.
+    are n
+    ∙ any_same (λ k. refers_to kept k n) (λ k. holds k (option_and_then (referring_by (Some l)) (live_at slots n))) keys
+    (λ k. keeps.rows_are k n
+    ∙ ap (holds k) (at (referring_row v) (numbered slots) n (ascend slots)
+    ∙ ap (λ o. option_and_then (referring_by o) (row_at n (numbered slots))) look
+    ∙ ap (option_and_then (referring_by (Some l))) (numbers slots n)))
+    ∙ cell_refers law l keys (live_at slots n)
+
+-- Rows that are left where numbered ones are retracted
+
+marked_none : (slots : List Slot) (n : ℕ) → live_at (marked false slots n) n ≡ None
+marked_none [] n = refl
+marked_none (s ∷ ss) zero = refl
+marked_none (s ∷ ss) (suc n) = marked_none ss n
+
+marked_some : (slots : List Slot) (n m : ℕ) (r : List Datum) → live_at (marked false slots n) m ≡ Some r
+    → live_at slots m ≡ Some r
+marked_some [] n m r h = h
+marked_some (s ∷ ss) zero zero r h = absurd (none-some r h)
+marked_some (s ∷ ss) zero (suc m) r h = h
+marked_some (s ∷ ss) (suc n) zero r h = h
+marked_some (s ∷ ss) (suc n) (suc m) r h = marked_some ss n m r h
+
+apart : (slots : List Slot) (n m : ℕ) (r : List Datum) → live_at (marked false slots n) m ≡ Some r → (b : Bool)
+    → is_at (nat_cmp m) n ≡ b → is_at (nat_cmp m) n ≡ false
+apart slots n m r h true e =
+    let same : m ≡ n = exact_unsigned_eq m n (sym (unsigned_tied m n) ∙ e) in
+    absurd (none-some r (sym (ap (λ k. live_at (marked false slots n) k) same ∙ marked_none slots n) ∙ h))
+apart slots n m r h false e = e
+
+not_gone : (ns : List ℕ) (slots : List Slot) (m : ℕ) (r : List Datum) → live_at (retracted ns slots) m ≡ Some r
+    → (live_at slots m ≡ Some r) × (is_numbered ns m ≡ false)
+unfolding retracted
+not_gone [] slots m r h = (h, refl)
+not_gone (n ∷ ns) slots m r h =
+    let rest = not_gone ns (marked false slots n) m r h in
+    let here = apart slots n m r rest.0 (is_at (nat_cmp m) n) refl in
+    (marked_some slots n m r rest.0, ap (λ b. b || is_numbered ns m) here ∙ rest.1)
+
+image_agree : (f g : List Datum → Option (List Datum)) (slots : List Slot) (n : ℕ)
+    → ((m : ℕ) (r : List Datum) → live_at slots m ≡ Some r → f r ≡ g r)
+    → image f (numbered_from n slots) ≡ image g (numbered_from n slots)
+image_agree f g [] n h = refl
+image_agree f g (s ∷ ss) n h = by s.live refl (image_agree f g ss (suc n) (λ m r e. h (suc m) r e))
+  where
+    by : (b : Bool) → s.live ≡ b → image f (numbered_from (suc n) ss) ≡ image g (numbered_from (suc n) ss)
+        → image f (if b then (n, s.row) ∷ numbered_from (suc n) ss else numbered_from (suc n) ss)
+        ≡ image g (if b then (n, s.row) ∷ numbered_from (suc n) ss else numbered_from (suc n) ss)
+    by true e rest =
+        ap (λ o. image_by n o (image f (numbered_from (suc n) ss)))
+        (h zero s.row (ap (λ x. if x then Some s.row else None) e))
+        ∙ ap (image_by n (g s.row)) rest
+    by false e rest = rest
+
+image_leads : ImageFits → ImagePatched → (f : List Datum → Option (List Datum)) (old new : NumberedRows)
+    (change : List Shift) → Leads old change new → Leads (image f old) (map (shift_image f) change) (image f new)
+image_leads fits_law patched_law f old new change leads = record {
+  fits = fits_law f old change leads.fits;
+  patched_is = sym (patched_law f old change leads.fits) ∙ ap (image f) leads.patched_is;
+}
+
+pub remade : ImageFits → ImagePatched → ChangesAdd → RetractedGo → RetractedComeBack
+    → (f g : List Datum → Option (List Datum)) (slots : List Slot) (ns : List ℕ) → CanRetract ns slots
+    → ((m : ℕ) (r : List Datum) → live_at (retracted ns slots) m ≡ Some r → f r ≡ g r)
+    → Leads (image f (numbered slots)) (map (shift_image f) (gone slots ns) ++ map (shift_image g) (come slots ns))
+    (image g (numbered slots))
+remade fits_law patched_law add_law go_law back_law f g slots ns can agree =
+    let mid : NumberedRows = numbered (retracted ns slots) in
+    let same : image f mid ≡ image g mid = image_agree f g (retracted ns slots) 0 agree in
+    add_law (image f (numbered slots)) (image f mid) (image g (numbered slots))
+    (map (shift_image f) (gone slots ns)) (map (shift_image g) (come slots ns))
+    (image_leads fits_law patched_law f (numbered slots) mid (gone slots ns) (go_law ns slots can))
+    (subst (λ (x : NumberedRows). Leads x (map (shift_image g) (come slots ns)) (image g (numbered slots))) (sym same)
+    (image_leads fits_law patched_law g mid (numbered slots) (come slots ns) (back_law ns slots can)))
+
+-- The numbered rows can be retracted: they are live.
+
+itself : (n : ℕ) → is_at (nat_cmp n) n ≡ true
+itself n = ap is_eq (tied_itself nat_cmp_total n)
+
+or_true : (a b : Bool) → b ≡ true → (a || b) ≡ true
+or_true true b h = refl
+or_true false b h = h
+
+all_listed : (ms ns : List ℕ) → ((m : ℕ) → is_numbered ms m ≡ true → is_numbered ns m ≡ true)
+    → All (λ m. is_numbered ns m ≡ true) ms
+all_listed [] ns f = All-nil (λ m. is_numbered ns m ≡ true)
+all_listed (m ∷ ms) ns f =
+    All-cons (λ k. is_numbered ns k ≡ true) m ms (f m (ap (λ b. b || is_numbered ms m) (itself m)))
+    (all_listed ms ns (λ k h. f k (or_true (is_at (nat_cmp k) m) (is_numbered ms k) h)))
+
+lives : (l : Lookup) (keys : List Datum) (slots : List Slot) (n : ℕ)
+    → refers_live l keys (live_at slots n) ≡ true → live_at slots n ≡ Some (row_of slots n)
+lives l keys slots n h = by (get_or slots n no_slot).live h
+  where
+    by : (b : Bool) → refers_live l keys (if b then Some (row_of slots n) else None) ≡ true
+        → (if b then Some (row_of slots n) else None) ≡ Some (row_of slots n)
+    by true k = refl
+    by false k = absurd (true≢false (sym k))
+
+referring_live : (l : Lookup) (keys : List Datum) (slots : List Slot) (ns : List ℕ) → AreReferring l keys slots ns
+    → All (λ n. live_at slots n ≡ Some (row_of slots n)) ns
+referring_live l keys slots ns are = λ k d below.
+    let n : ℕ = slice_index_or ns k d in
+    lives l keys slots n (sym (are n) ∙ all_listed ns ns (λ m h. h) k d below)
+
+below_live : (slots : List Slot) (n : ℕ) (r : List Datum) → live_at slots n ≡ Some r → n < length slots
+below_live [] n r h = absurd (none-some r h)
+below_live (s ∷ ss) zero r h = omega arith
+below_live (s ∷ ss) (suc n) r h = let below = below_live ss n r h in omega (arith, below)
+
+pub referring_below : (l : Lookup) (keys : List Datum) (slots : List Slot) (ns : List ℕ) → AreReferring l keys slots ns
+    → All (λ n. n < length slots) ns
+referring_below l keys slots ns are = λ k d below.
+    let n : ℕ = slice_index_or ns k d in
+    below_live slots n (row_of slots n) (referring_live l keys slots ns are k d below)
+
+pub can_retract : LiveCanGo → (l : Lookup) (keys : List Datum) (slots : List Slot) (ns : List ℕ)
+    → AreReferring l keys slots ns → IsStrictlySortedBy nat_cmp ns → CanRetract ns slots
+can_retract law l keys slots ns are ascending = law ns slots ascending (referring_live l keys slots ns are)
+
+-- They are no more than the rows that refer to one of the keys.
+
+count_marked : (p : List Datum → Bool) (slots : List Slot) (n : ℕ) → IsThere slots n true
+    → p (row_of slots n) ≡ true → count_by p (live slots) ≡ suc (count_by p (live (marked false slots n)))
+unfolding live
+count_marked p [] n there is = absurd (none-some (slot there.0 true) there.1)
+count_marked p (s ∷ ss) zero there is =
+    let P : Slot → Type 0 = λ x. p x.row ≡ true
+    → count_by p (if x.live then x.row ∷ live ss else live ss) ≡ suc (count_by p (live ss)) in
+    subst P (sym (some_is s (slot there.0 true) there.1))
+    (λ (h : p there.0 ≡ true). sum_by-cons (λ r. cond (p r) 1 0) there.0 (live ss)
+    ∙ ap (λ b. cond b 1 0 + count_by p (live ss)) h ∙ omega arith) is
+count_marked p (s ∷ ss) (suc n) there is = by s.live (count_marked p ss n there is)
+  where
+    by : (b : Bool) → count_by p (live ss) ≡ suc (count_by p (live (marked false ss n)))
+        → count_by p (if b then s.row ∷ live ss else live ss)
+        ≡ suc (count_by p (if b then s.row ∷ live (marked false ss n) else live (marked false ss n)))
+    by true rest =
+        let one = sum_by-cons (λ r. cond (p r) 1 0) s.row (live ss) in
+        let two = sum_by-cons (λ r. cond (p r) 1 0) s.row (live (marked false ss n)) in
+        omega (arith, one, two, rest)
+    by false rest = rest
+
+rows_after : (p : List Datum → Bool) (slots : List Slot) (n : ℕ) (ms : List ℕ)
+    → All (λ m. p (row_of slots m) ≡ true) ms → All (λ m. p (row_of (marked false slots n) m) ≡ true) ms
+rows_after p slots n ms h = λ k d below. ap p (row_marked false slots n (slice_index_or ms k d)) ∙ h k d below
+
+pub retracted_counted : (p : List Datum → Bool) (ns : List ℕ) (slots : List Slot) → CanRetract ns slots
+    → All (λ n. p (row_of slots n) ≡ true) ns → length ns ≤ count_by p (live slots)
+unfolding CanRetract
+retracted_counted p [] slots can h = omega arith
+retracted_counted p (n ∷ ns) slots can h =
+    let rest = retracted_counted p ns (marked false slots n) can.1
+    (rows_after p slots n ns (All-tail (λ m. p (row_of slots m) ≡ true) n ns h)) in
+    let one = count_marked p slots n can.0 (All-head (λ m. p (row_of slots m) ≡ true) n ns h) in
+    omega (arith, rest, one)
+
+refers_true : (o : Option Lookup) (l : Lookup) (table : ℕ) (keys row : List Datum) → o ≡ Some l
+    → looks_up o table ≡ true → is_among (cell_at row l.on) keys ≡ true → refers_by o table keys row ≡ true
+refers_true o l table keys row is look among =
+    let P : Option Lookup → Type 0 = λ x. looks_up x table ≡ true → refers_by x table keys row ≡ true in
+    subst P (sym is) (λ (h : nat_eq (suc l.side) table ≡ true).
+    ap (λ b. b && is_among (cell_at row l.on) keys) h ∙ among) look
+
+referring_rows : (o : Option Lookup) (l : Lookup) (table : ℕ) (keys : List Datum) (slots : List Slot) (ns : List ℕ)
+    → o ≡ Some l → looks_up o table ≡ true → AreReferring l keys slots ns
+    → All (λ n. refers_by o table keys (row_of slots n) ≡ true) ns
+referring_rows o l table keys slots ns is look are = λ k d below.
+    let n : ℕ = slice_index_or ns k d in
+    refers_true o l table keys (row_of slots n) is look
+    (sym (ap (refers_live l keys) (referring_live l keys slots ns are k d below))
+    ∙ sym (are n) ∙ all_listed ns ns (λ m h. h) k d below)
+
+pub referring_counted : LiveCanGo → (o : Option Lookup) (l : Lookup) (table : ℕ) (keys : List Datum)
+    (slots : List Slot) (ns : List ℕ) → o ≡ Some l → looks_up o table ≡ true → AreReferring l keys slots ns
+    → IsStrictlySortedBy nat_cmp ns → length ns ≤ count_by (refers_by o table keys) (live slots)
+referring_counted law o l table keys slots ns is look are ascending =
+    retracted_counted (refers_by o table keys) ns slots (can_retract law l keys slots ns are ascending)
+    (referring_rows o l table keys slots ns is look are)
+
+-- A view makes the same of a row whose cell isn't among the keys.
+
+looked_alike : (o : Option Lookup) (l : Lookup) (a b : Side) (row : List Datum) → o ≡ Some l
+    → a (cell_at row l.on) ≡ b (cell_at row l.on) → looked_up o a row ≡ looked_up o b row
+looked_alike o l a b row is same =
+    subst (λ (x : Option Lookup). looked_up x a row ≡ looked_up x b row) (sym is) same
+
+made_alike : (v : View) (a b : Side) (row : List Datum) → looked_up v.lookup a row ≡ looked_up v.lookup b row
+    → made_row v a row ≡ made_row v b row
+unfolding joined_row
+made_alike v a b row same =
+    ap (λ (found : Option (List Datum)). made_by v.outputs
+    (option_and_then (λ (r : List Datum). cond (passes v.filter r) (Some r) None) (joined_by v.lookup row found))) same
+
+pub left_alike : (v : View) (l : Lookup) (a b : Side) (keys : List Datum) (slots : List Slot) (ns : List ℕ)
+    → v.lookup ≡ Some l → ((d : Datum) → is_among d keys ≡ false → a d ≡ b d) → AreReferring l keys slots ns
+    → (m : ℕ) (r : List Datum) → live_at (retracted ns slots) m ≡ Some r → made_row v a r ≡ made_row v b r
+left_alike v l a b keys slots ns is same are m r live =
+    let stays = not_gone ns slots m r live in
+    made_alike v a b r
+    (looked_alike v.lookup l a b r is
+    (same (cell_at r l.on) (sym (ap (refers_live l keys) stays.0) ∙ sym (are m) ∙ stays.1)))

@@ -1,0 +1,122 @@
+-- Stores of which one is turned to its rows with a change, or without it.
+use Rattle.std.proofs.Common.{
+  ◌≡◌,
+  ℕ,
+  ◌<◌,
+  List,
+  [],
+  ◌∷◌,
+  ◌++◌,
+  ap,
+  arith,
+  get_or,
+  length,
+  subst,
+  sym,
+  ◌∙◌,
+}
+use Rattle.std.specs.Prelude.{slice_set}
+use Rattle.view_lang.specs.Config.{Table, View}
+use Rattle.view_lang.specs.ConfigRules.{IsView}
+use Rattle.view_lang.specs.Shifts.{Shift}
+use Rattle.view_lang.specs.World.{table_at}
+use Rattle.row_keys.specs.Slots.{Slot}
+use Rattle.row_keys.specs.Store.{Store, with_slots}
+use Rattle.upkeep.specs.Stores.{Rows, rows_at, rows_in, tables_in}
+use Rattle.upkeep.specs.StoreLaws.{rows_placed, rows_length, rows_restored, rows_set, rows_there, table_there, tables_length, tables_set}
+use Rattle.upkeep.specs.Swaps.{CanSwap, opposite, swapped}
+use Rattle.upkeep.specs.ViewStates.{made_change, swapped_at}
+use Rattle.upkeep.specs.declared.table_change.TableChange.{TableChange}
+use Rattle.upkeep.specs.declared.view_state.Turn.{Turn}
+use Rattle.upkeep.specs.declared.view_state.Turn.TheVariants as turn
+
+-- store n of these, s, is turned to t
+pub record Turned (ss : List Store) (n : ℕ) (u : Turn) (c : TableChange) (s t : Store) : Type 0 where
+  pub is : s ≡ get_or ss n s
+  pub below : n < length ss
+  pub slots : t ≡ with_slots s (swapped u c s.slots)
+
+pub turned_tables : (ss : List Store) (n : ℕ) (u : Turn) (c : TableChange) (s t : Store) → Turned ss n u c s t
+    → tables_in (slice_set ss n t) ≡ tables_in ss
+turned_tables ss n u c s t turned = tables_set ss n s t turned.is (ap (λ (x : Store). x.table) turned.slots)
+
+pub turned_rows : (ss : List Store) (n : ℕ) (u : Turn) (c : TableChange) (s t : Store) → Turned ss n u c s t
+    → rows_in (slice_set ss n t) ≡ swapped_at n u c (rows_in ss)
+turned_rows ss n u c s t turned =
+    rows_set ss n t
+    ∙ ap (slice_set (rows_in ss) n)
+    (ap (λ (x : Store). x.slots) turned.slots
+    ∙ ap (swapped u c) (sym (rows_there ss n s turned.is turned.below)))
+
+-- stores that were opened since then
+pub record Since (ss ss' : List Store) (n : ℕ) (t : Store) : Type 0 where
+  pub tables : tables_in ss' ≡ tables_in (slice_set ss n t)
+  pub rows : rows_in ss' ≡ rows_in (slice_set ss n t)
+
+pub still_below : (ss ss' : List Store) (n : ℕ) → tables_in ss' ≡ tables_in ss → n < length ss → n < length ss'
+still_below ss ss' n same below =
+    let a = tables_length ss in
+    let b = tables_length ss' in
+    let e = ap length same in
+    omega (arith, a, b, e, below)
+
+-- The store can be turned back,
+pub can_turn_back :
+    (ss ss' : List Store) (n : ℕ) (u w : Turn) (c : TableChange) (s t s' : Store) → Turned ss n u c s t
+    → Since ss ss' n t → s' ≡ get_or ss' n s' → w ≡ opposite u → CanSwap (opposite u) s.table c t.slots
+    → CanSwap w s'.table c s'.slots
+can_turn_back ss ss' n u w c s t s' turned since is other can =
+    let same = since.tables ∙ turned_tables ss n u c s t turned in
+    let below = still_below ss ss' n same turned.below in
+    let table : s'.table ≡ s.table =
+    sym (table_there ss' n s' is below) ∙ ap (λ ts. table_at ts n) same ∙ table_there ss n s turned.is turned.below in
+    let placed : rows_at (slice_set (rows_in ss) n t.slots) n ≡ t.slots =
+    rows_placed (rows_in ss) n t.slots (let long = rows_length ss in let there = turned.below in omega (arith, long, there)) in
+    let slots : s'.slots ≡ t.slots =
+    sym (rows_there ss' n s' is below)
+    ∙ ap (λ (rs : Rows). rows_at rs n) (since.rows ∙ rows_set ss n t) ∙ placed in
+    subst (λ (x : Table). CanSwap w x c s'.slots) (sym table)
+    (subst (λ (x : List Slot). CanSwap w s.table c x) (sym slots)
+    (subst (λ (x : Turn). CanSwap x s.table c t.slots) (sym other) can))
+
+-- and its rows are then those that were there.
+pub back_tables :
+    (ss ss' : List Store) (n : ℕ) (u w : Turn) (c : TableChange) (s t s' t' : Store) → Turned ss n u c s t
+    → Since ss ss' n t → s' ≡ get_or ss' n s' → t' ≡ with_slots s' (swapped w c s'.slots)
+    → tables_in (slice_set ss' n t') ≡ tables_in ss
+back_tables ss ss' n u w c s t s' t' turned since is slots =
+    tables_set ss' n s' t' is (ap (λ (x : Store). x.table) slots)
+    ∙ since.tables ∙ turned_tables ss n u c s t turned
+
+pub back_rows :
+    (ss ss' : List Store) (n : ℕ) (u w : Turn) (c : TableChange) (s t s' t' : Store) → Turned ss n u c s t
+    → Since ss ss' n t → s' ≡ get_or ss' n s' → t' ≡ with_slots s' (swapped w c s'.slots)
+    → w ≡ opposite u → swapped (opposite u) c t.slots ≡ s.slots → rows_in (slice_set ss' n t') ≡ rows_in ss
+back_rows ss ss' n u w c s t s' t' turned since is slots other back =
+    let same = since.tables ∙ turned_tables ss n u c s t turned in
+    let below = still_below ss ss' n same turned.below in
+    let f : List Slot → List Slot = swapped w c in
+    rows_set ss' n t'
+    ∙ ap (slice_set (rows_in ss') n)
+    (ap (λ (x : Store). x.slots) slots ∙ ap f (sym (rows_there ss' n s' is below)))
+    ∙ ap (λ (rs : Rows). slice_set rs n (f (rows_at rs n))) (since.rows ∙ rows_set ss n t)
+    ∙ rows_restored (rows_in ss) n t.slots f
+    (ap (λ (x : Turn). swapped x c t.slots) other ∙ back ∙ sym (rows_there ss n s turned.is turned.below))
+
+pub same_view : (v : View) (a b : List Table) → b ≡ a → IsView a v → IsView b v
+same_view v a b same is = subst (λ (ts : List Table). IsView ts v) (sym same) is
+
+-- what a view makes of rows without the change goes, and what it makes of them with it comes
+pub both_made :
+    (v : View) (ts ts1 ts3 : List Table) (rs rs0 rs1 rs3 : Rows) (ns : List ℕ) (none made made' : List Shift)
+    → none ≡ [] → ts1 ≡ ts → rs1 ≡ rs0 → ts3 ≡ ts → rs3 ≡ rs → made ≡ none ++ made_change ts1 rs1 v turn.Go ns
+    → made' ≡ made ++ made_change ts3 rs3 v turn.Come ns
+    → made' ≡ made_change ts rs0 v turn.Go ns ++ made_change ts rs v turn.Come ns
+both_made v ts ts1 ts3 rs rs0 rs1 rs3 ns none made made' empty tables rows tables' rows' goes comes =
+    comes
+    ∙ ap (λ l. l ++ made_change ts3 rs3 v turn.Come ns)
+    (goes ∙ ap (λ l. l ++ made_change ts1 rs1 v turn.Go ns) empty
+    ∙ ap (λ (x : List Table). made_change x rs1 v turn.Go ns) tables
+    ∙ ap (λ (x : Rows). made_change ts x v turn.Go ns) rows)
+    ∙ ap (λ (x : List Table). made_change ts rs0 v turn.Go ns ++ made_change x rs3 v turn.Come ns) tables'
+    ∙ ap (λ (x : Rows). made_change ts rs0 v turn.Go ns ++ made_change ts x v turn.Come ns) rows'

@@ -1,0 +1,26 @@
+use Rattle.std.proofs.Common.{List, ap, length, subst, sym, ◌∙◌}
+use Rattle.row_keys.specs.Numbered.{numbered}
+use Rattle.upkeep.specs.Stores.{rows_at, tables_in}
+use Rattle.upkeep.specs.ViewStates.{AreCurrent}
+use Rattle.upkeep.specs.declared.view_state.ViewState.{ViewState}
+use Rattle.upkeep.proofs.FollowedViews.{current_alike}
+use Rattle.upkeep.proofs.LookedUpViews.{lookups_length, marked_kept}
+use Rattle.upkeep.proofs.lookup_views.follow_lookups.Goals as goal
+
+pub mark_lookups_stale-requires : goal.mark_lookups_stale-requires
+mark_lookups_stale-requires c = record {
+  alike =
+      current_alike (tables_in c.args.stores.now.items) c.requires.current.0
+      (numbered (rows_at c.requires.current.0 0)) c.args.views.now c.args.states.now.items c.requires.current.2;
+}
+
+pub returns-in-Err-clause-err : goal.returns-in-Err-clause-err
+returns-in-Err-clause-err c = λ old before current.
+    subst (λ (ss : List ViewState). AreCurrent (tables_in c.args.stores.now.items) old c.args.views.now ss)
+    (sym c.mark_lookups_stale.ensures)
+    (marked_kept (tables_in c.args.stores.now.items) c.args.table old c.args.views.now c.args.states.now.items current)
+
+pub returns-in-Err-clause-many : goal.returns-in-Err-clause-many
+returns-in-Err-clause-many c =
+    ap length c.mark_lookups_stale.ensures
+    ∙ lookups_length c.args.table c.args.views.now c.args.states.now.items
