@@ -117,6 +117,18 @@ cell-copied {E = E} r b a t ds i same are valid below is =
     let within : i < len_of t = omega (arith, below, all, many) in
     subst Q are (cell-read r b t i valid within (subst P same is))
 
+-- the same by names of the body and of the array
+
+pub parts-sound : (b a : List ℕ) (t u : Rose ArrayData) → a ≡ b → u ≡ t → IsSound b t → IsSound a u
+parts-sound b a t u same is sound =
+    let P : List ℕ → Type 0 = λ x. IsSound x u in
+    subst P (sym same) (subst (IsSound b) (sym is) sound)
+
+pub parts-cells : (b a : List ℕ) (t u : Rose ArrayData) (ds : List Datum) → a ≡ b → u ≡ t → valid_of (cells b t) ≡ ds
+    → IsValid (cells b t) → cells a u ≡ Ok ds
+parts-cells b a t u ds same is are valid =
+    ap (λ x. cells x u) same ∙ ap (cells b) is ∙ valid_is (cells b t) valid ∙ ap (λ xs. Ok xs) are
+
 pub ruleset column_laws = (cells-length, cell-valid, column-layout, column-valid, column-faults)
 
 capped_says : (r w : ℕ) → r ≡ capped w → Says r w

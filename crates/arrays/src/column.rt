@@ -3,6 +3,7 @@
 ghost use Rattle.std.specs.Prelude.{◌≡◌, ◌<◌, All, length, slice_get, Some, IfOk, IfSome, Ok};
 ghost use Rattle.values.specs.Reading.{Judges, Passes, IsValid};
 ghost use Rattle.values.specs.Layouts.{Holds, weight};
+ghost use Rattle.values.specs.Rose.{node, kids_of};
 ghost use Rattle.array_layout.specs.Placing.{layout_of};
 ghost use Rattle.array_layout.specs.Sound.{IsPlaced, IsSound};
 ghost use Rattle.array_layout.specs.Cells.{cell, cells, column_of, len_of};
@@ -13,7 +14,7 @@ ghost use Rattle.arrays.specs.Weights.{Says};
 use crate::read::read;
 use crate::validate::validate_items;
 use crate::weigh::weigh;
-use array_layout::{Array, check_layout};
+use array_layout::{Array, ArrayData, check_layout};
 use std::alloc::{AllocError, Global};
 use std::marker::Model;
 use std::rc::Rc;
@@ -43,6 +44,25 @@ impl Model for Column {
     ghost view = { λ c. record { layouts = layout_of c.root; cells = valid_of (cells c.body.value.items c.root) } };
 
     ghost invariant = { λ c. IsSound c.body.value.items c.root × IsValid (cells c.body.value.items c.root) × IsTyped c.root };
+}
+
+/// Where the cells of a column lie: its array, and the body that the array's buffers lie in.
+#[derive(Clone, Copy)]
+pub struct ColumnParts<'a> {
+    pub body: &'a [u8],
+    pub own: &'a ArrayData,
+    pub children: &'a [Array],
+}
+
+fn parts_of<'a>(body: &'a [u8], array: &'a Array) -> ColumnParts<'a>
+    ensures body { result.body.now ≡ body.now }
+    ensures array { node result.own.now (kids_of result.children.now) ≡ array.now }
+{
+    ColumnParts {
+        body,
+        own: &array.own,
+        children: &array.children,
+    }
 }
 
 /// Validates all cells of an array.
@@ -111,6 +131,15 @@ impl Column {
     {
         read_cell(alloc, &self.body, &self.root, i)
     }
+
+    /// Where its cells lie.
+    pub fn parts(&self) -> ColumnParts<'_>
+        ensures sound { IsSound result.body.now (node result.own.now (kids_of result.children.now)) }
+        ensures cells { cells result.body.now (node result.own.now (kids_of result.children.now)) ≡ Ok self.now.cells }
+    {
+        parts_of(&self.body, &self.root)
+    }
+
     /// The weight of cell `i`, without copying it: exact up to the limit of a cell, and the limit plus 1 above it.
     pub fn weight(&self, i: usize) -> u64
         requires { i < length self.now.cells }

@@ -14,5 +14,5 @@ mod tests;
 mod validate;
 mod weigh;
 
-pub use column::Column;
+pub use column::{Column, ColumnParts};
 pub use laws::{reached_law, weight_law};

@@ -33,7 +33,7 @@ impl Body {
 
     /// Appends a buffer, and zeros up to a multiple of 8.
     #[tactic(auto, using(crate::proofs::GrowthLemmas::lengths))]
-    pub(crate) fn append(&mut self, buffer: &[u8]) -> Result<(), AllocError>
+    pub fn append(&mut self, buffer: &[u8]) -> Result<(), AllocError>
         ensures { OnOk result (Appends self.old self.new (buffer.now ∷ [])) }
     {
         let zeros = [0u8; 8];

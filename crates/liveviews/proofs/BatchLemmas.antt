@@ -37,7 +37,7 @@ use Rattle.liveviews.specs.Heavy.{IsHeavy}
 use Rattle.liveviews.specs.Taken.{AreFit, AreTaken, IsTakenRow, HasHeavyRow, RefusesRows}
 use Rattle.liveviews.specs.Refused.{RefusesBatch}
 
-rows_from-length : (columns : List (List Datum)) (i n : ℕ) → length (rows_from columns i n) ≡ n
+pub rows_from-length : (columns : List (List Datum)) (i n : ℕ) → length (rows_from columns i n) ≡ n
 unfolding rows_from
 rows_from-length columns i zero = refl
 rows_from-length columns i (suc n) = ap suc (rows_from-length columns (i + 1) n)

@@ -11,3 +11,5 @@ pub mod LineTexts
 pub mod Accounts
 pub mod Alike
 pub mod EndLemmas
+pub mod Counted
+pub mod KeptLemmas

@@ -61,6 +61,9 @@ use Rattle.feed.specs.StoryLaw.{
 }
 use Rattle.liveviews.specs.Heavy.{IsHeavy}
 use Rattle.liveviews.specs.Refused.{RefusesBatch}
+use Rattle.liveviews.specs.Kept.{IsKept, IsKeptSo}
+use Rattle.liveviews.specs.declared.taken.Taken.{Taken}
+use Rattle.liveviews.proofs.Counted.{as-many}
 use Rattle.liveviews.specs.Steps.{AreTakenSo, Ended, HasHeavyRow, IsOpen, Reached, Refuses, Tells}
 use Rattle.liveviews.specs.Taken.{AreTaken}
 
@@ -373,3 +376,23 @@ columns-refused law held knows st rows old new bytes used columns n body before 
     subst (λ (m : ℕ). RefusesBatch (layouts_in columns) got m k) size refused in
     batch-refused law held knows st rows old new bytes used (cells_in columns) n body t.0 k c t.1
     (subst (λ (ls : Roses Layout). RefusesBatch ls got (length rows) k) t.2 sized) r
+
+-- what is kept beside the rows
+pub columns-kept :
+    (law : EventTells) (held : NoneHeld) (knows : StoryKnowsSchema) (st : Story) (rows : List (List Datum)) (old new : FeedParts)
+    (bytes : List ℕ) (used : ℕ) (columns : List CheckedColumn) (n body : ℕ) (before after : Taken)
+    → Came old new bytes used (batch (cells_in columns) n body)
+    → IsSomeAnd new.framing.current.known.schema (λ fs. HasColumns fs columns n)
+    → (IsKept (length columns) (layouts_in columns) before → IsKept (length columns) (layouts_in columns) after)
+    → Reached st old rows bytes → IsKeptSo st.schema before → IsKeptSo st.schema after
+columns-kept law held knows st rows old new bytes used columns n body before after c typed keeps r kept =
+    let t = typed-fields new.framing.current.known.schema columns n typed in
+    let b = batch-tells law held knows st rows old new bytes used (cells_in columns) n body t.0 c t.1 r in
+    let schema : st.schema ≡ Some t.0 = ap (λ x. x.schema) b.tells ∙ b.schema in
+    let many : length columns ≡ length t.0 = as-many columns t.0 t.2 in
+    let P : Option (List (Rose Entry)) → Taken → Type 0 = IsKeptSo in
+    let goes : IsKept (length t.0) (layouts_of t.0) before → IsKept (length t.0) (layouts_of t.0) after =
+    subst (λ (ls : Roses Layout). IsKept (length t.0) ls before → IsKept (length t.0) ls after) t.2
+    (subst (λ (m : ℕ). IsKept m (layouts_in columns) before → IsKept m (layouts_in columns) after) many keeps) in
+    subst (λ (o : Option (List (Rose Entry))). P o after) (sym schema)
+    (goes (subst (λ (o : Option (List (Rose Entry))). P o before) schema kept))

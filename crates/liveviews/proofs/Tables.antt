@@ -64,6 +64,8 @@ use Rattle.feed.specs.Shown.{FeedParts, Shows}
 use Rattle.feed.specs.States.{FeedState, fresh, retained_in}
 use Rattle.feed.specs.StoryLaw.{AllIsTold, IsBetween, rest_story}
 use Rattle.liveviews.specs.Taken.{AreTaken, IsTakenRow}
+use Rattle.liveviews.specs.Kept.{IsKept, IsKeptSo}
+use Rattle.liveviews.specs.declared.taken.Taken.{Taken}
 use Rattle.liveviews.specs.Steps.{AreTakenSo, Ended, IsOpen, Reached, Refuses, IsComplete}
 
 -- What is known of the logical columns is handed in: it is the contract of `logical_law`.
@@ -122,6 +124,14 @@ pub complete-taken :
 complete-taken s f rows fs shown complete =
     subst (λ (o : Option (List (Rose Entry))). AreTakenSo o rows) (complete-schema s f rows (Some fs) shown complete)
     complete.taken
+
+-- what is kept beside it
+pub complete-kept :
+    (s : Story) (f : FeedParts) (rows : List (List Datum)) (fs : List (Rose Entry)) (t : Taken)
+    → ((u : FeedState) → Shows f u → Some fs ≡ (retained_in u).known.schema)
+    → IsComplete s f rows → IsKeptSo s.schema t → IsKept (length fs) (layouts_of fs) t
+complete-kept s f rows fs t shown complete kept =
+    subst (λ (o : Option (List (Rose Entry))). IsKeptSo o t) (complete-schema s f rows (Some fs) shown complete) kept
 
 -- without a schema there is no table
 pub complete-lacks :

@@ -30,6 +30,7 @@ use Rattle.arrays.specs.Checked.{CheckedColumn}
 use Rattle.arrays.specs.Weights.{Says}
 use Rattle.schema_meta.specs.Rows.{row_at}
 use Rattle.feed.specs.Columns.{cells_in, layouts_in}
+use Rattle.liveviews.specs.Kept.{IsLightAs}
 use Rattle.liveviews.specs.Heavy.{row_weight, HasHeavyCell, AreLightCells, IsHeavy, IsLight}
 
 abbrev weight_left : List CheckedColumn → ℕ → ℕ
@@ -48,6 +49,7 @@ pub record Weighs (sum : ℕ) (rest columns : List CheckedColumn) (k : ℕ) : Ty
   pub light : light_left rest k → sum + weight_left rest k ≤ max_row_weight
       → IsLight (layouts_in columns) (row_at (cells_in columns) k)
   pub below : sum ≤ max_row_weight
+  pub exact : sum + weight_left rest k ≡ weight_left columns k
 
 pub weighs-all : (columns : List CheckedColumn) (k : ℕ) → Weighs 0 columns columns k
 weighs-all columns k = record {
@@ -55,6 +57,7 @@ weighs-all columns k = record {
   row = λ h. inr (omega (arith, h));
   light = λ cells whole. record { cells = cells; whole = omega (arith, whole) };
   below = omega arith;
+  exact = omega arith;
 }
 
 split_at :
@@ -117,14 +120,15 @@ weighs-more sum i k w columns whole c is below inside says light within left =
       row = λ h. here.row (omega (arith, h, same));
       light = λ cells whole. here.light (omega (arith, light, same), cells) (omega (arith, whole, same));
       below = within;
+      exact = omega (arith, here.exact, same);
     }
 
 pub weighs-end :
     (sum i k : ℕ) (columns whole : List CheckedColumn) → length columns ≤ i → Weighs sum (drop i columns) whole k
-    → IsLight (layouts_in whole) (row_at (cells_in whole) k)
+    → IsLightAs (layouts_in whole) (row_at (cells_in whole) k) sum
 weighs-end sum i k columns whole all left =
     let P : List CheckedColumn → Type 0 = λ cs. Weighs sum cs whole k in
     let here : Weighs sum [] whole k = subst P (drop_all i columns all) left in
-    here.light tt (omega (arith, here.below))
+    record { light = here.light tt (omega (arith, here.below)); exact = omega (arith, here.exact) }
 
 pub ruleset weighing = (weighs-all, weighs-heavy, weighs-over, weighs-more, weighs-end)

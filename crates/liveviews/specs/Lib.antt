@@ -10,3 +10,4 @@ pub mod Inspecting
 pub mod Files
 pub mod Check
 pub mod Program
+pub mod Kept

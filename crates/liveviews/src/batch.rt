@@ -1,17 +1,19 @@
-//! Appends the rows of a record batch to a table, within the limits of rows and weights.
+//! Weighs and copies the rows of a record batch.
 
-ghost use Rattle.std.specs.Prelude.{◌≡◌, ◌<◌, ◌++◌, All, IfOk, IfErr, OnOk, length, true, false};
+ghost use Rattle.std.specs.Prelude.{◌≡◌, ◌<◌, ◌++◌, All, IfOk, IfSome, OnOk, None, length};
 ghost use Rattle.values.specs.Datum.{items_of};
 ghost use Rattle.values.specs.Layouts.{HoldsEach};
 ghost use Rattle.schema_meta.specs.Rows.{row_at, rows_in};
 ghost use Rattle.feed.specs.Columns.{cells_in, layouts_in};
-ghost use Rattle.liveviews.specs.Heavy.{IsHeavy, IsLight};
-ghost use Rattle.liveviews.specs.Taken.{AreFit, RefusesRows, cells_of_rows};
+ghost use Rattle.liveviews.specs.Heavy.{IsHeavy};
+ghost use Rattle.liveviews.specs.Taken.{HasHeavyRow, cells_of_rows};
+ghost use Rattle.liveviews.specs.Kept.{AreLightUpTo, IsLightAs};
+ghost use Rattle.row_keys.specs.Batches.{HoldsCells};
 
 use arrays::Column;
 use std::alloc::{AllocError, Global};
+use values::Row;
 use values::limits::{MAX_CELL_WEIGHT, MAX_ROW_WEIGHT};
-use values::{Cause, Row};
 
 /// Row `index`.
 #[tactic(auto, using(crate::proofs::Batches::cells))]
@@ -27,47 +29,66 @@ pub(crate) fn read_row(alloc: Global, columns: &[Column], index: usize) -> Resul
     Ok(row)
 }
 
-/// Whether row `index` has a cell or is as a whole above the limit on weights. Nothing is copied for it.
+/// The weight of row `index`, or `None` if a cell of it or the row as a whole is above the limit. Nothing is copied for it.
 #[tactic(auto, using(crate::proofs::WeightLemmas::weighing))]
-fn is_heavy(columns: &[Column], index: usize) -> bool
+fn weigh_row(columns: &[Column], index: usize) -> Option<u64>
     requires { All (λ c. index < length c.cells) columns.now }
-    ensures heavy { result ≡ true → IsHeavy (layouts_in columns.now) (row_at (cells_in columns.now) index) }
-    ensures light { result ≡ false → IsLight (layouts_in columns.now) (row_at (cells_in columns.now) index) }
+    ensures heavy { result ≡ None → IsHeavy (layouts_in columns.now) (row_at (cells_in columns.now) index) }
+    ensures light { IfSome result (IsLightAs (layouts_in columns.now) (row_at (cells_in columns.now) index)) }
 {
     let mut sum = 0;
     for column in columns {
         let weight = column.weight(index);
         if weight > MAX_CELL_WEIGHT {
-            return true;
+            return None;
         }
         sum += weight;
         if sum > MAX_ROW_WEIGHT {
-            return true;
+            return None;
         }
     }
-    false
+    Some(sum)
 }
 
-/// Adds the first `count` rows of the columns: 45 where one of them is too heavy, and then some of them may stand in
-/// `rows`.
+/// A weight that none of the first `count` rows passes, or `None` if one of them is too heavy.
+pub(crate) fn heaviest_row(columns: &[Column], count: usize) -> Option<u64>
+    requires { All (λ c. length c.cells ≡ count) columns.now }
+    ensures heavy { result ≡ None → HasHeavyRow (layouts_in columns.now) (cells_in columns.now) count }
+    ensures light { IfSome result (AreLightUpTo (layouts_in columns.now) (cells_in columns.now) count) }
+{
+    let mut most = 0;
+    for index in 0..count {
+        let Some(weight) = weigh_row(columns, index) else {
+            return None;
+        };
+        most = most.max(weight);
+    }
+    Some(most)
+}
+
+/// Copies the first `count` rows of the columns.
 #[tactic(auto, using(crate::proofs::TakenLemmas::taking))]
-pub(crate) fn add_rows(
+pub(crate) fn copy_rows(
     alloc: Global,
     columns: &[Column],
     count: usize,
     rows: &mut Vec<Row>,
-) -> Result<(), Cause>
+) -> Result<(), AllocError>
     requires { All (λ c. length c.cells ≡ count) columns.now }
-    ensures rows { OnOk result (cells_of_rows rows.new.items ≡ cells_of_rows rows.old.items
-        ++ rows_in count (cells_in columns.now)) }
-    ensures fit { OnOk result (AreFit (layouts_in columns.now) (cells_in columns.now) count) }
-    ensures refused { IfErr result (λ c. RefusesRows (layouts_in columns.now) (cells_in columns.now) count c) }
+    ensures { OnOk result (cells_of_rows rows.new.items ≡ cells_of_rows rows.old.items ++ rows_in count (cells_in columns.now)) }
 {
     for index in 0..count {
-        if is_heavy(columns, index) {
-            return Err(Cause::CellTooHeavy);
-        }
         rows.push(read_row(alloc, columns, index)?)?;
     }
     Ok(())
+}
+
+/// The layouts of the columns hold their cells: a function that does nothing.
+#[tactic(auto, using(crate::proofs::KeptLemmas::holding))]
+pub(crate) fn columns_law(columns: &[Column])
+    ensures { All HoldsCells columns.now }
+{
+    for column in columns {
+        column.law();
+    }
 }

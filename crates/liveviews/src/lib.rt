@@ -13,6 +13,7 @@ mod recasting;
 mod running;
 mod script;
 mod table;
+mod taken;
 mod types;
 
 pub use files::{FileFault, Files};

@@ -8,7 +8,7 @@ ghost use Rattle.liveviews.specs.Steps.{AreTakenSo};
 use crate::laws::recast_law;
 use crate::table::Table;
 use std::alloc::Global;
-use stream_writer::{Sink, WriteFault, write_table};
+use stream_writer::{Sink, WriteFault};
 use thiserror::Error;
 use values::Cause;
 
@@ -64,6 +64,6 @@ pub fn recast<S: Sink>(alloc: Global, input: &[u8], sink: &mut S) -> Result<u64,
     // It does nothing: the proof takes from it that what is written is read back.
     recast_law();
     let table = Table::read(alloc, input)?;
-    let written = write_table(alloc, sink, &table.schema, table.rows.as_slice())?;
+    let written = table.rows.write(alloc, sink, &table.schema)?;
     Ok(written)
 }

@@ -236,33 +236,18 @@ batch-sound fs rows columns layouts sound =
       light = (batch_len-within (trees fs) rows).1;
     }
 
--- the slice behind the batch
+-- the rows that are left behind the batch
 
-pub left-is : (rows : List (Vec Datum Global)) (n : ℕ) → n ≤ length rows
-    → take (length rows - n) (drop n rows) ≡ drop n rows
-left-is rows n h = let left = length-drop n rows in take_all (length rows - n) (drop n rows) (omega (arith, left))
+pub taken_count : {A : Type 0} (n : ℕ) (xs : List A) → n ≤ length xs → length (take n xs) ≡ n
+taken_count n xs h = let cut = length-take n xs in omega (arith, cut, h)
 
-cells-take : (rows : List (Vec Datum Global)) (n : ℕ) → take n (cells_in rows) ≡ cells_in (take n rows)
-cells-take rows n = take-map (λ (r : Vec Datum Global). r.items) n rows
-
-cells-drop : (rows : List (Vec Datum Global)) (n : ℕ) → drop n (cells_in rows) ≡ cells_in (drop n rows)
-cells-drop rows n = drop-map (λ (r : Vec Datum Global). r.items) n rows
-
-pub cells-length : (rows : List (Vec Datum Global)) → length (cells_in rows) ≡ length rows
-cells-length rows = length-map rows (λ (r : Vec Datum Global). r.items)
-
-pub batch-of :
-    (fs : List (Rose NamedType)) (ls : Roses Layout) (rows : List (Vec Datum Global)) (n : ℕ) → ls ≡ trees fs
-    → AreColumns fs
-    → AreLayouts (trees fs) → All (IsRow fs) (cells_in rows) → n ≡ batch_len ls (cells_in rows)
-    → IsBatch ls (cells_in (take n rows))
+pub batch-of : (fs : List (Rose NamedType)) (ls : Roses Layout) (rows : List (List Datum)) (n : ℕ) → ls ≡ trees fs → AreColumns fs
+    → AreLayouts (trees fs) → All (IsRow fs) rows → n ≡ batch_len ls rows → IsBatch ls (take n rows)
 batch-of fs ls rows n same columns layouts sound e =
-    let P : List (List Datum) → Type 0 = λ cs. IsBatch (trees fs) cs in
-    let Q : Roses Layout → Type 0 = λ us. IsBatch us (cells_in (take n rows)) in
-    let there : n ≡ batch_len (trees fs) (cells_in rows) = e ∙ ap (λ us. batch_len us (cells_in rows)) same in
-    subst Q (sym same)
-    (subst P (ap (λ k. take k (cells_in rows)) (sym there)
-    ∙ cells-take rows n) (batch-sound fs (cells_in rows) columns layouts sound))
+    let Q : Roses Layout → Type 0 = λ us. IsBatch us (take n rows) in
+    let P : ℕ → Type 0 = λ k. IsBatch (trees fs) (take k rows) in
+    let there : n ≡ batch_len (trees fs) rows = e ∙ ap (λ us. batch_len us rows) same in
+    subst Q (sym same) (subst P (sym there) (batch-sound fs rows columns layouts sound))
 
 pub light-of :
     (fs : List (Rose NamedType)) (ls : Roses Layout) (rows : List (List Datum)) → ls ≡ trees fs → All (IsRow fs) rows
@@ -272,34 +257,32 @@ light-of fs ls rows same sound =
     subst Q (sym same)
     (All-weaker (IsRow fs) (λ row. row_weight (trees fs) row ≤ max_row_weight) (λ row h. h.light) rows sound)
 
-pub sound-left : (fs : List (Rose NamedType)) (rows : List (Vec Datum Global)) (n : ℕ) → n ≤ length rows
-    → All (IsRow fs) (cells_in rows) → All (IsRow fs) (cells_in (take (length rows - n) (drop n rows)))
-sound-left fs rows n h sound =
-    let P : List (List Datum) → Type 0 = λ cs. All (IsRow fs) cs in
-    subst P (cells-drop rows n ∙ sym (ap cells_in (left-is rows n h))) (All-drop (IsRow fs) n (cells_in rows) sound)
+pub sound-left : (fs : List (Rose NamedType)) (rows left : List (List Datum)) (n : ℕ) → left ≡ drop n rows → All (IsRow fs) rows
+    → All (IsRow fs) left
+sound-left fs rows left n is sound = subst (All (IsRow fs)) (sym is) (All-drop (IsRow fs) n rows sound)
 
 -- the next batch, and what is left behind it
-pub batches-left : (fs : List (Rose NamedType)) (rows : List (Vec Datum Global)) (n : ℕ) (tail : List ℕ)
-    → 0 < length rows → n ≤ length rows → All (IsRow fs) (cells_in rows) → n ≡ batch_len (trees fs) (cells_in rows)
-    → batches (trees fs) (length (cells_in rows)) (cells_in rows) ++ tail
-    ≡ batch_message (trees fs) (cells_in (take n rows))
-    ++ (batches (trees fs) (length (cells_in (take (length rows - n) (drop n rows))))
-    (cells_in (take (length rows - n) (drop n rows))) ++ tail)
-batches-left fs rows n tail some h sound e =
-    let same = cells-length rows in
-    let F : ℕ → List ℕ = λ k. batch_message (trees fs) (take k (cells_in rows))
-    ++ batches (trees fs) (length (drop k (cells_in rows))) (drop k (cells_in rows)) in
-    let G : List (List Datum) → List ℕ =
-    λ cs. batch_message (trees fs) (cells_in (take n rows)) ++ batches (trees fs) (length cs) cs in
-    let H : List (List Datum) → List ℕ =
-    λ cs. batch_message (trees fs) cs
-    ++ batches (trees fs) (length (drop n (cells_in rows))) (drop n (cells_in rows)) in
-    let cut :
-    batches (trees fs) (length (cells_in rows)) (cells_in rows) ≡ G
-    (cells_in (take (length rows - n) (drop n rows))) =
-    batches-next fs (cells_in rows) (omega (arith, some, same)) sound ∙ ap F (sym e) ∙ ap H (cells-take rows n)
-    ∙ ap G (cells-drop rows n ∙ sym (ap cells_in (left-is rows n h))) in
-    ap (λ bs. bs ++ tail) cut
-    ∙ append_assoc (batch_message (trees fs) (cells_in (take n rows)))
-    (batches (trees fs) (length (cells_in (take (length rows - n) (drop n rows))))
-    (cells_in (take (length rows - n) (drop n rows)))) tail
+pub batches-left : (fs : List (Rose NamedType)) (rows left : List (List Datum)) (n : ℕ) (tail : List ℕ) → 0 < length rows
+    → All (IsRow fs) rows → n ≡ batch_len (trees fs) rows → left ≡ drop n rows
+    → batches (trees fs) (length rows) rows ++ tail
+    ≡ batch_message (trees fs) (take n rows) ++ (batches (trees fs) (length left) left ++ tail)
+batches-left fs rows left n tail some sound e is =
+    let F : ℕ → List ℕ = λ k. batch_message (trees fs) (take k rows) ++ batches (trees fs) (length (drop k rows)) (drop k rows) in
+    let G : List (List Datum) → List ℕ = λ cs. batch_message (trees fs) (take n rows) ++ batches (trees fs) (length cs) cs in
+    ap (λ bs. bs ++ tail) (batches-next fs rows some sound ∙ ap F (sym e) ∙ ap G (sym is))
+    ∙ append_assoc (batch_message (trees fs) (take n rows)) (batches (trees fs) (length left) left) tail
+
+-- rows that are values
+
+left-is : (rows : List (Vec Datum Global)) (n : ℕ) → n ≤ length rows → take (length rows - n) (drop n rows) ≡ drop n rows
+left-is rows n h = let left = length-drop n rows in take_all (length rows - n) (drop n rows) (omega (arith, left))
+
+pub cells-take : (rows : List (Vec Datum Global)) (n : ℕ) → take n (cells_in rows) ≡ cells_in (take n rows)
+cells-take rows n = take-map (λ (r : Vec Datum Global). r.items) n rows
+
+pub cells-left : (rows : List (Vec Datum Global)) (n : ℕ) → n ≤ length rows
+    → cells_in (take (length rows - n) (drop n rows)) ≡ drop n (cells_in rows)
+cells-left rows n h = ap cells_in (left-is rows n h) ∙ sym (drop-map (λ (r : Vec Datum Global). r.items) n rows)
+
+pub cells-length : (rows : List (Vec Datum Global)) → length (cells_in rows) ≡ length rows
+cells-length rows = length-map rows (λ (r : Vec Datum Global). r.items)

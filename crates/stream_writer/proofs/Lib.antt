@@ -13,3 +13,4 @@ pub mod BatchRead
 pub mod RowsRead
 pub mod StreamRead
 mod Sample
+pub mod BatchRowLemmas

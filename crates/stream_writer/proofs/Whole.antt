@@ -1,40 +1,18 @@
 -- The parts of a table's stream, as its writer goes through them.
-use Rattle.std.proofs.Common.{
-  ◌≡◌,
-  ℕ,
-  ◌-◌,
-  ◌<◌,
-  ◌≤◌,
-  List,
-  [],
-  ◌++◌,
-  length,
-  take,
-  drop,
-  ap,
-  sym,
-  ◌∙◌,
-  arith,
-  subst,
-  Result,
-  Ok,
-  Err,
-}
-use Rattle.std.specs.Prelude.{All, Vec, MatchResult, Bool, true, false, ◌==◌}
+use Rattle.std.proofs.Common.{◌≡◌, ℕ, ◌<◌, List, [], ◌++◌, length, take, drop, ap, sym, ◌∙◌, arith, subst, Result, Ok, Err}
+use Rattle.std.specs.Prelude.{All, MatchResult, Bool, true, false, ◌==◌}
 use Rattle.std.proofs.lemmas.Bool.Decides.{nat_tests}
 use Rattle.std.specs.Result.{IsErrAnd}
-use Rattle.std.specs.declared.alloc.Global.{Global}
 use Rattle.values.specs.Datum.{Datum}
 use Rattle.values.specs.Rose.{Rose, Roses}
 use Rattle.values.specs.declared.layout.Layout.{Layout}
 use Rattle.values.specs.Logical.{NamedType}
-use Rattle.body_writer.proofs.Rows.{cells_in}
 use Rattle.stream_writer.specs.Sinks.{Sunk, Writes}
 use Rattle.stream_writer.specs.Stream.{schema_message, batch_message, batch_len, batches, end_mark, canon, trees}
 use Rattle.stream_writer.specs.Table.{IsRow}
 use Rattle.stream_writer.specs.WrittenSoFar.{WrittenSoFar}
 use Rattle.stream_writer.specs.declared.faults.WriteFault.{WriteFault}
-use Rattle.stream_writer.proofs.Cut.{batches-left, batches-none, cells-length}
+use Rattle.stream_writer.proofs.Cut.{batches-left, batches-none}
 use Rattle.stream_writer.proofs.WrittenLemmas.{WrittenSoFar-start, WrittenSoFar-end}
 
 pub from-err : (old new : Sunk) (answer : Result ℕ WriteFault) (fault : WriteFault) (whole : List ℕ)
@@ -56,28 +34,22 @@ first-comes start fs rows bytes e =
 
 -- a batch comes next
 pub batch-comes :
-    (start now : Sunk) (written : ℕ) (whole : List ℕ) (fs : List (Rose NamedType)) (rows : List (Vec Datum Global))
-    (n : ℕ) (bytes : List ℕ)
-    → WrittenSoFar start now written whole (batches (trees fs) (length (cells_in rows)) (cells_in rows) ++ end_mark) →
-    0 < length rows → n ≤ length rows → All (IsRow fs) (cells_in rows) → n ≡ batch_len (trees fs) (cells_in rows)
-    → bytes ≡ batch_message (trees fs) (cells_in (take n rows))
-    → WrittenSoFar start now written whole
-    (bytes ++ (batches (trees fs) (length (cells_in (take (length rows - n) (drop n rows))))
-    (cells_in (take (length rows - n) (drop n rows))) ++ end_mark))
-batch-comes start now written whole fs rows n bytes so_far some h sound e is =
+    (start now : Sunk) (written : ℕ) (whole : List ℕ) (fs : List (Rose NamedType)) (rows left : List (List Datum)) (n : ℕ)
+    (bytes : List ℕ) → WrittenSoFar start now written whole (batches (trees fs) (length rows) rows ++ end_mark) → 0 < length rows
+    → All (IsRow fs) rows → n ≡ batch_len (trees fs) rows → bytes ≡ batch_message (trees fs) (take n rows) → left ≡ drop n rows
+    → WrittenSoFar start now written whole (bytes ++ (batches (trees fs) (length left) left ++ end_mark))
+batch-comes start now written whole fs rows left n bytes so_far some sound e is behind =
     let P : List ℕ → Type 0 = λ rest. WrittenSoFar start now written whole rest in
-    let left = cells_in (take (length rows - n) (drop n rows)) in
-    subst P (batches-left fs rows n end_mark some h sound e
+    subst P (batches-left fs rows left n end_mark some sound e behind
     ∙ ap (λ bs. bs ++ (batches (trees fs) (length left) left ++ end_mark)) (sym is)) so_far
 
 -- the end mark comes next
-pub end-comes : (start now : Sunk) (written : ℕ) (whole : List ℕ) (ls : Roses Layout) (rows : List (Vec Datum Global)) →
-    WrittenSoFar start now written whole (batches ls (length (cells_in rows)) (cells_in rows) ++ end_mark)
-    → length rows ≡ 0 → WrittenSoFar start now written whole (end_mark ++ [])
+pub end-comes : (start now : Sunk) (written : ℕ) (whole : List ℕ) (ls : Roses Layout) (rows : List (List Datum))
+    → WrittenSoFar start now written whole (batches ls (length rows) rows ++ end_mark) → length rows ≡ 0
+    → WrittenSoFar start now written whole (end_mark ++ [])
 end-comes start now written whole ls rows so_far none =
     let P : List ℕ → Type 0 = λ rest. WrittenSoFar start now written whole rest in
-    let same = cells-length rows in
-    subst P (ap (λ bs. bs ++ end_mark) (batches-none ls (cells_in rows) (omega (arith, none, same)))) so_far
+    subst P (ap (λ bs. bs ++ end_mark) (batches-none ls rows none)) so_far
 
 -- what the last put answers is the writer's answer
 pub last-put : (start now : Sunk) (answer : Result ℕ WriteFault) (whole : List ℕ) →

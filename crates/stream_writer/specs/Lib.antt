@@ -9,3 +9,4 @@ pub mod BatchLaw
 pub mod FramingLaw
 pub mod RowsLaw
 pub mod RoundTrip
+pub mod BatchRows

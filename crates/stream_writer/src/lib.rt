@@ -4,11 +4,13 @@
 //! `specs/Table.antt` which tables can be written, `specs/CutLaw.antt` what the cut into batches keeps.
 #![tactic(auto)]
 
+mod batch_rows;
 mod faults;
 mod laws;
 mod layouts;
 mod memory;
 mod messages;
+mod rows;
 mod sink;
 mod table;
 
@@ -17,7 +19,7 @@ pub use laws::{batch_law, canon_law, cut_law, framing_law, rows_law};
 pub use layouts::layouts_of;
 pub use memory::MemorySink;
 pub use sink::{DeviceFault, Sink, put_all};
-pub use table::write_table;
+pub use table::{write_batches, write_table};
 
 #[cfg(test)]
 mod tests;

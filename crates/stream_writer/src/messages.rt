@@ -1,6 +1,6 @@
 //! Encodes the messages of a stream.
 
-ghost use Rattle.std.specs.Prelude.{◌≡◌, ◌+◌, ◌*◌, ◌^◌, ◌<◌, ◌≤◌, ◌++◌, IfOk, length, map};
+ghost use Rattle.std.specs.Prelude.{◌≡◌, ◌+◌, ◌*◌, ◌^◌, ◌<◌, ◌≤◌, ◌++◌, IfOk, length, take};
 ghost use Rattle.std.specs.Int.{w64};
 ghost use Rattle.byteorder.specs.Endian.{little_bytes, low_bytes};
 ghost use Rattle.flatbuf.specs.Built.{slots};
@@ -11,13 +11,14 @@ ghost use Rattle.body_writer.specs.Batch.{IsBatch};
 ghost use Rattle.stream_writer.specs.Batch.{node_bytes as nodes_as, range_bytes as ranges_as, batch_slots, batch_whole};
 ghost use Rattle.stream_writer.specs.Stream as stream;
 
+use crate::rows::RowSource;
 use array_layout::{BufferRange, FieldNode};
-use body_writer::{Body, write_body};
+use body_writer::Body;
 use byteorder::{ByteOrder, LittleEndian};
 use flatbuf::Builder;
 use schema_meta::{MessageKind, write_message, write_schema};
 use std::alloc::{AllocError, Global};
-use values::{LayoutTree, Row, Schema};
+use values::{LayoutTree, Schema};
 
 /// A message of this metadata and body.
 fn message(alloc: Global, metadata: &[u8], body: &[u8]) -> Result<Vec<u8>, AllocError>
@@ -88,20 +89,23 @@ fn range_pair(range: &BufferRange) -> [u8; 16]
     bytes
 }
 
-/// The record batch of these rows.
-#[tactic(auto, using(crate::proofs::BatchFits::batch_fits), unfolding(crate::specs::Stream::batch_message, crate::specs::Batch::batch_metadata))]
-pub fn batch_message(
+/// The record batch of the first `count` rows.
+#[tactic(auto, using(crate::proofs::BatchFits::batch_fits, crate::proofs::Cut::taken_count), unfolding(crate::specs::Stream::batch_message, crate::specs::Batch::batch_metadata))]
+pub(crate) fn batch_message<R: RowSource>(
     alloc: Global,
     layouts: &[LayoutTree],
-    rows: &[Row],
+    rows: &R,
+    count: usize,
 ) -> Result<Vec<u8>, AllocError>
-    requires { IsBatch (kids_of layouts.now) (map (λ row. row.items) rows.now) }
+    requires fits { R.fits rows.now layouts.now }
+    requires within { count ≤ length (R.rows rows.now) }
+    requires batch { IsBatch (kids_of layouts.now) (take count (R.rows rows.now)) }
     ensures bytes { IfOk result
-        (λ bytes. bytes.items ≡ stream.batch_message (kids_of layouts.now) (map (λ row. row.items) rows.now)) }
+        (λ bytes. bytes.items ≡ stream.batch_message (kids_of layouts.now) (take count (R.rows rows.now))) }
     ensures size { IfOk result (λ bytes. length bytes.items ≤ 2 ^ 39) }
 {
-    let body = write_body(alloc, layouts, rows)?;
-    let metadata = batch_metadata(alloc, rows.len() as u64, &body)?;
+    let body = rows.write_body(alloc, layouts, count)?;
+    let metadata = batch_metadata(alloc, count as u64, &body)?;
     let bytes = message(alloc, &metadata, &body.bytes)?;
     Ok(bytes)
 }

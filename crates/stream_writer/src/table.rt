@@ -6,16 +6,20 @@ ghost use Rattle.values.specs.Rose.{kids_of};
 ghost use Rattle.body_writer.specs.Batch.{row_weight};
 ghost use Rattle.stream_writer.specs.Sinks.{Sunk, Writes};
 ghost use Rattle.stream_writer.specs.Stream.{schema_message, batch_message, batch_len, trees, canon};
+ghost use Rattle.column_writer.specs.Batches.{IsSized, rows_of};
+ghost use Rattle.stream_writer.specs.BatchRows.{AreLightRows};
 ghost use Rattle.stream_writer.specs.Table.{IsTable};
 ghost use Rattle.stream_writer.specs.WrittenSoFar.{WrittenSoFar};
 
+use crate::batch_rows::BatchRows;
 use crate::faults::WriteFault;
 use crate::layouts::layouts_of;
 use crate::messages;
+use crate::rows::{RowSource, ValueRows};
 use crate::sink::{Sink, put_all};
+use column_writer::Batch;
 use std::alloc::Global;
-use values::limits::{MAX_BATCH_ROWS, MAX_BATCH_WEIGHT};
-use values::{LayoutTree, Row, Schema, row_weight};
+use values::{LayoutTree, Row, Schema};
 
 /// No more bytes follow.
 const END_MARK: [u8; 8] = [255, 255, 255, 255, 0, 0, 0, 0];
@@ -34,32 +38,58 @@ pub fn write_table<S: Sink>(
         (canon schema.now.fields.items (map (λ row. row.items) rows.now)) }
 {
     let layouts = layouts_of(alloc, schema)?;
-    write_messages(alloc, sink, schema, &layouts, rows)
+    write_messages(alloc, sink, schema, &layouts, ValueRows { rows })
+}
+
+/// Writes the canonical stream of a table whose rows lie in batches of checked columns, `rows` of them, and answers its
+/// length. None of the rows is so heavy that a batch would have fewer than 1,024 rows for it.
+///
+/// On a fault the sink took a beginning of that stream: `written` bytes.
+pub fn write_batches<S: Sink>(
+    alloc: Global,
+    sink: &mut S,
+    schema: &Schema,
+    batches: &[Batch],
+    rows: usize,
+) -> Result<u64, WriteFault>
+    requires table { IsTable schema.now.fields.items (rows_of batches.now) }
+    requires sized { All (IsSized (length schema.now.fields.items)) batches.now }
+    requires light { AreLightRows (trees schema.now.fields.items) (rows_of batches.now) }
+    requires rows { rows ≡ length (rows_of batches.now) }
+    ensures { Writes (S.sunk sink.old) (S.sunk sink.new) result (canon schema.now.fields.items (rows_of batches.now)) }
+{
+    let layouts = layouts_of(alloc, schema)?;
+    let left = BatchRows {
+        batches,
+        from: 0,
+        left: rows,
+    };
+    write_messages(alloc, sink, schema, &layouts, left)
 }
 
 /// Writes the messages of a table whose columns have these layouts.
-fn write_messages<S: Sink>(
+fn write_messages<S: Sink, R: RowSource + Drop>(
     alloc: Global,
     sink: &mut S,
     schema: &Schema,
     layouts: &[LayoutTree],
-    rows: &[Row],
+    rows: R,
 ) -> Result<u64, WriteFault>
     requires layouts { kids_of layouts.now ≡ trees schema.now.fields.items }
-    requires table { IsTable schema.now.fields.items (map (λ row. row.items) rows.now) }
-    ensures { Writes (S.sunk sink.old) (S.sunk sink.new) result
-        (canon schema.now.fields.items (map (λ row. row.items) rows.now)) }
+    requires table { IsTable schema.now.fields.items (R.rows rows) }
+    requires fits { R.fits rows layouts.now }
+    ensures { Writes (S.sunk sink.old) (S.sunk sink.new) result (canon schema.now.fields.items (R.rows rows)) }
 {
     let message = messages::schema_message(alloc, schema)?;
     let mut written = put_after(sink, &message, 0)?;
     let mut left = rows;
     while !left.is_empty() {
-        let count = len_of_batch(layouts, left);
-        let Ok(message) = messages::batch_message(alloc, layouts, &left[..count]) else {
+        let count = left.len_of_batch(layouts);
+        let Ok(message) = messages::batch_message(alloc, layouts, &left, count) else {
             return Err(WriteFault::Memory { written });
         };
         written = put_after(sink, &message, written)?;
-        left = &left[count..];
+        left.skip(count);
     }
     put_after(sink, &END_MARK, written)
 }
@@ -77,27 +107,4 @@ fn put_after<S: Sink>(sink: &mut S, bytes: &[u8], written: u64) -> Result<u64, W
         Ok(more) => Ok(written + more),
         Err(fault) => Err(fault.after(written)),
     }
-}
-
-/// How many rows the next batch has.
-#[tactic(auto, unfolding(crate::specs::Stream::batch_len))]
-fn len_of_batch(layouts: &[LayoutTree], rows: &[Row]) -> usize
-    requires { All (λ row. row_weight (kids_of layouts.now) row ≤ max_row_weight) (map (λ row. row.items) rows.now) }
-    ensures value { result ≡ batch_len (kids_of layouts.now) (map (λ row. row.items) rows.now) }
-    ensures bound { result ≤ length rows.now }
-{
-    let mut count = 0;
-    let mut room = MAX_BATCH_WEIGHT;
-    for row in rows {
-        if count == MAX_BATCH_ROWS {
-            return count;
-        }
-        let weight = row_weight(layouts, row);
-        if room < weight {
-            return count;
-        }
-        room -= weight;
-        count += 1;
-    }
-    count
 }

@@ -4,11 +4,12 @@ use Rattle.std.proofs.lemmas.List.{length-map}
 use Rattle.std.proofs.lemmas.Result.{err_from_is_err_and}
 use Rattle.values.specs.Datum.{Datum}
 use Rattle.feed.specs.Shown.{event_seen}
-use Rattle.liveviews.specs.Taken.{cells_of_rows}
+use Rattle.liveviews.specs.Kept.{taken_rows}
 use Rattle.liveviews.proofs.Stories.{
   came,
   came-open,
   came-uses,
+  columns-kept,
   columns-reached,
   columns-refused,
   end-reached,
@@ -23,13 +24,13 @@ pub returns-in_err-fed-clause-refused : goal.returns-in_err-fed-clause-refused
 returns-in_err-fed-clause-refused c =
     let failed = err_from_is_err_and c.from_residual.result c.from_residual.ensures.1 in
     rw (failed.1, failed.2)
-    (λ s. push-refused c.story_law.ensures.faults s (cells_of_rows c.args.rows.now.items) c.args.feed.now
+    (λ s. push-refused c.story_law.ensures.faults s (taken_rows c.args.rows.now) c.args.feed.now
     c.args.bytes.now
     c.in_err-fed.field-0.0 c.in_err-fed.ensures.answer)
 
 pub returns-in_default-clause-refused : goal.returns-in_default-clause-refused
 returns-in_default-clause-refused c = λ s.
-    push-partial c.story_law.ensures.partial s (cells_of_rows c.args.rows.now.items) c.args.feed.now c.args.bytes.now
+    push-partial c.story_law.ensures.partial s (taken_rows c.args.rows.now) c.args.feed.now c.args.bytes.now
     c.in_ok-fed.fed
     c.requires.some c.in_ok-fed.ensures.answer c.in_default.is
 
@@ -95,7 +96,7 @@ returns-in-Schema-clause-reached c =
     came c.args.feed.now c.push.new.self c.args.bytes.now c.in_ok-fed.fed c.in-Some.event _
     c.in_ok-fed.ensures.answer c.in_ok-fed.ensures.after
     c.in-Some.is (ap event_seen c.in-Schema.is) in
-    λ s. next-reached c.story_law.ensures.event c.story_law.ensures.held s (cells_of_rows c.args.rows.now.items) _ _ _ _
+    λ s. next-reached c.story_law.ensures.event c.story_law.ensures.held s (taken_rows c.args.rows.now) _ _ _ _
     _ (record { stays = refl }) (λ k rest. refl) event
 
 pub returns-in-Dictionary-clause-reached : goal.returns-in-Dictionary-clause-reached
@@ -104,7 +105,7 @@ returns-in-Dictionary-clause-reached c =
     came c.args.feed.now c.push.new.self c.args.bytes.now c.in_ok-fed.fed c.in-Some.event _
     c.in_ok-fed.ensures.answer c.in_ok-fed.ensures.after
     c.in-Some.is (ap event_seen c.in-Dictionary.is) in
-    λ s. next-reached c.story_law.ensures.event c.story_law.ensures.held s (cells_of_rows c.args.rows.now.items) _ _ _ _
+    λ s. next-reached c.story_law.ensures.event c.story_law.ensures.held s (taken_rows c.args.rows.now) _ _ _ _
     _ (record { stays = refl }) (λ k rest. refl) event
 
 pub returns-in-Batch-clause-reached : goal.returns-in-Batch-clause-reached
@@ -113,35 +114,48 @@ returns-in-Batch-clause-reached c =
     came c.args.feed.now c.push.new.self c.args.bytes.now c.in_ok-fed.fed c.in-Some.event _
     c.in_ok-fed.ensures.answer c.in_ok-fed.ensures.after
     c.in-Some.is (ap event_seen c.in-Batch.is) in
-    let rows = rw c.as_slice.ensures.value at c.in_ok-take_rows-in-Batch.ensures.rows in
-    let taken = rw c.as_slice.ensures.value at c.in_ok-take_rows-in-Batch.ensures.taken in
+    let rows = c.in_ok-take-in-Batch.ensures.rows in
+    let taken = c.in_ok-take-in-Batch.ensures.taken in
     let typed =
     typed-event c.push.new.self.framing.current.known.schema c.in_ok-fed.fed c.in-Some.event _
     c.in_ok-fed.ensures.typed c.in-Some.is c.in-Batch.is in
     λ s. columns-reached c.story_law.ensures.event c.story_law.ensures.held c.story_law.ensures.knows s
-    (cells_of_rows c.args.rows.now.items)
-    (cells_of_rows c.take_rows.new.rows.items) _ _ _ _ c.in-Batch.columns.items c.in-Batch.count c.in-Batch.body event
+    (taken_rows c.args.rows.now)
+    (taken_rows c.take.new.self) _ _ _ _ c.in-Batch.columns.items c.in-Batch.count c.in-Batch.body event
     typed rows taken
 
-pub returns-in_err-take_rows-in-Batch-clause-refused : goal.returns-in_err-take_rows-in-Batch-clause-refused
-returns-in_err-take_rows-in-Batch-clause-refused c =
-    let failed =
-    err_from_is_err_and c.from_residual-in_err-take_rows-in-Batch.result
-    c.from_residual-in_err-take_rows-in-Batch.ensures.1 in
+pub returns-in-Batch-clause-kept : goal.returns-in-Batch-clause-kept
+returns-in-Batch-clause-kept c =
     let event =
     came c.args.feed.now c.push.new.self c.args.bytes.now c.in_ok-fed.fed c.in-Some.event _
     c.in_ok-fed.ensures.answer c.in_ok-fed.ensures.after
     c.in-Some.is (ap event_seen c.in-Batch.is) in
-    let refused = rw c.as_slice.ensures.value at c.in_err-take_rows-in-Batch.ensures.refused in
+    let typed =
+    typed-event c.push.new.self.framing.current.known.schema c.in_ok-fed.fed c.in-Some.event _
+    c.in_ok-fed.ensures.typed c.in-Some.is c.in-Batch.is in
+    λ s. columns-kept c.story_law.ensures.event c.story_law.ensures.held c.story_law.ensures.knows s
+    (taken_rows c.args.rows.now) _ _ _ _ c.in-Batch.columns.items c.in-Batch.count c.in-Batch.body c.args.rows.now
+    c.take.new.self event typed c.in_ok-take-in-Batch.ensures.kept
+
+pub returns-in_err-take-in-Batch-clause-refused : goal.returns-in_err-take-in-Batch-clause-refused
+returns-in_err-take-in-Batch-clause-refused c =
+    let failed =
+    err_from_is_err_and c.from_residual-in_err-take-in-Batch.result
+    c.from_residual-in_err-take-in-Batch.ensures.1 in
+    let event =
+    came c.args.feed.now c.push.new.self c.args.bytes.now c.in_ok-fed.fed c.in-Some.event _
+    c.in_ok-fed.ensures.answer c.in_ok-fed.ensures.after
+    c.in-Some.is (ap event_seen c.in-Batch.is) in
+    let refused = c.in_err-take-in-Batch.ensures.refused in
     let typed =
     typed-event c.push.new.self.framing.current.known.schema c.in_ok-fed.fed c.in-Some.event _
     c.in_ok-fed.ensures.typed c.in-Some.is c.in-Batch.is in
     rw (failed.1, failed.2)
     (λ s. columns-refused c.story_law.ensures.event c.story_law.ensures.held c.story_law.ensures.knows s
-    (cells_of_rows c.args.rows.now.items) _ _ _ _ c.in-Batch.columns.items c.in-Batch.count c.in-Batch.body
-    (length c.args.rows.now.items)
-    c.in_err-take_rows-in-Batch.field-0.0 event typed
-    (sym (length-map c.args.rows.now.items (λ (row : Vec Datum Global). row.items))) refused)
+    (taken_rows c.args.rows.now) _ _ _ _ c.in-Batch.columns.items c.in-Batch.count c.in-Batch.body
+    c.args.rows.now.rows
+    c.in_err-take-in-Batch.field-0.0 event typed
+    c.requires.counted refused)
 
 pub returns-clause-reached : goal.returns-clause-reached
 returns-clause-reached c =
@@ -152,4 +166,4 @@ returns-clause-reached c =
     let typed =
     typed-event c.push.new.self.framing.current.known.schema c.in_ok-fed.fed c.in-Some.event _
     c.in_ok-fed.ensures.typed c.in-Some.is c.in-End.is in
-    λ s. end-reached c.story_law.ensures.event s (cells_of_rows c.args.rows.now.items) _ _ _ _ event typed
+    λ s. end-reached c.story_law.ensures.event s (taken_rows c.args.rows.now) _ _ _ _ event typed

@@ -1,6 +1,6 @@
 use Rattle.std.proofs.Common.{rules}
 use Rattle.std.proofs.lemmas.Result.{err_from_is_err_and}
-use Rattle.liveviews.specs.Taken.{cells_of_rows}
+use Rattle.liveviews.specs.Kept.{taken_rows}
 use Rattle.liveviews.proofs.Tables.{at-end, mark-before, mark-complete, reached-rest}
 use Rattle.liveviews.proofs.table.take_messages.Goals as goal
 
@@ -14,23 +14,26 @@ loop-rest-preserved c = (
   rw c.in-Next.is at c.in_ok-used.ensures.goes_on,
   λ s reached.
       let after = rw c.in-Next.is at (c.in_ok-used.ensures.reached s (c.loop-rest.invariant.1 s reached)) in
-      reached-rest s c.take_message.new.feed (cells_of_rows c.take_message.new.rows.items) c.loop-rest.rest.now
+      reached-rest s c.take_message.new.feed (taken_rows c.take_message.new.rows) c.loop-rest.rest.now
       c.in-Next.used after,
+  c.in_ok-used.ensures.counted,
+  λ s reached kept.
+      c.in_ok-used.ensures.kept s (c.loop-rest.invariant.1 s reached) (c.loop-rest.invariant.3 s reached kept),
 )
 
 pub returns-then-used-rest-clause-refused : goal.returns-then-used-rest-clause-refused
 returns-then-used-rest-clause-refused c = λ s reached.
     let after = rw c.in-End.is at (c.in_ok-used.ensures.reached s (c.loop-rest.invariant.1 s reached)) in
-    mark-before s c.take_message.new.feed (cells_of_rows c.take_message.new.rows.items) c.loop-rest.rest.now
+    mark-before s c.take_message.new.feed (taken_rows c.take_message.new.rows) c.loop-rest.rest.now
     c.in-End.used c.if-used-rest.true after
 
 pub returns-in-End-clause-complete : goal.returns-in-End-clause-complete
 returns-in-End-clause-complete c = λ s reached.
     let after = rw c.in-End.is at (c.in_ok-used.ensures.reached s (c.loop-rest.invariant.1 s reached)) in
-    mark-complete s c.take_message.new.feed (cells_of_rows c.take_message.new.rows.items) c.loop-rest.rest.now
+    mark-complete s c.take_message.new.feed (taken_rows c.take_message.new.rows) c.loop-rest.rest.now
     c.in-End.used c.if-used-rest.false after
 
 pub returns-clause-complete : goal.returns-clause-complete
 returns-clause-complete c = λ s reached.
-    at-end s c.loop-rest.feed (cells_of_rows c.loop-rest.rows.items) c.loop-rest.rest.now (search rules)
+    at-end s c.loop-rest.feed (taken_rows c.loop-rest.rows) c.loop-rest.rest.now (search rules)
     (c.loop-rest.invariant.1 s reached)

@@ -1,0 +1,8 @@
+pub mod RunLemmas
+pub mod FullBytes
+pub mod NumberLemmas
+pub mod SlotLemmas
+pub mod ByteLemmas
+pub mod BitLemmas
+pub mod PieceLemmas
+pub mod BatchLemmas

@@ -1,0 +1,18 @@
+use Rattle.std.proofs.Common.{◌≡◌, ◌+◌, ◌-◌, ◌≤◌}
+use Rattle.values.specs.Rose.{node, kids_of}
+use Rattle.array_layout.specs.Cells.{cell}
+use Rattle.body_writer.specs.Slots.{null_count}
+use Rattle.column_writer.specs.Runs.{slots}
+use Rattle.column_writer.proofs.bit_runs.nulls_in.Given as goal
+
+abbrev pub invariant-loop-at : goal.invariant-loop-at
+invariant-loop-at l = record {
+  past : l.piece.from ≤ l.at;
+  order : l.at ≤ l.piece.to;
+  few : l.nulls ≤ l.at - l.piece.from;
+  nulls : l.nulls + null_count (slots (cell l.piece.parts.body.now (node l.piece.parts.own.now (kids_of l.piece.parts.children.now))) l.at (l.piece.to - l.at))
+      ≡ null_count (slots (cell l.piece.parts.body.now (node l.piece.parts.own.now (kids_of l.piece.parts.children.now))) l.piece.from (l.piece.to - l.piece.from));
+}
+
+abbrev pub decreases-loop-at : goal.decreases-loop-at
+decreases-loop-at l = l.piece.to - l.at

@@ -1,0 +1,19 @@
+use Rattle.column_writer.specs.Runs.{slot_bytes}
+use Rattle.column_writer.specs.Pieces.{LiesAs}
+use Rattle.column_writer.proofs.PieceLemmas.{at-piece, slots-alike, flat-step, flat-over}
+use Rattle.column_writer.proofs.leaf.slots.Goals as goal
+
+pub loop-piece-preserved : goal.loop-piece-preserved
+loop-piece-preserved c =
+    let lies =
+    at-piece (LiesAs c.args.layout) c.args.pieces.now c.loop-piece.piece-index c.piece-item.result c.loop-piece-test.true c.piece-item.is
+    c.requires in
+    flat-step (slot_bytes c.args.layout) c.args.pieces.now c.loop-piece.piece-index c.piece-item.result c.loop-piece.buffer.items
+    c.push_slots.new.out.items _ c.loop-piece-test.true c.piece-item.is
+    (slots-alike c.args.layout c.piece-item.result c.loop-piece.buffer.items c.push_slots.new.out.items lies c.in_ok-push_slots.ensures)
+    c.loop-piece.invariant
+
+pub returns : goal.returns
+returns c =
+    flat-over (slot_bytes c.args.layout) c.args.pieces.now c.loop-piece.piece-index c.loop-piece.buffer.items _ c.loop-piece-test.false
+    c.loop-piece.invariant

@@ -1,0 +1,37 @@
+-- Slots one after the other, by what their cells are where no fault stands, and what they hold.
+use Rattle.std.specs.Prelude.{◌≡◌, ◌⊎◌, ℕ, zero, suc, ◌+◌, List, [], ◌∷◌, Ok, Err}
+use Rattle.byteorder.specs.Endian.{little_bytes}
+use Rattle.values.specs.Datum.{Datum, null}
+use Rattle.values.specs.Reading.{Reading}
+use Rattle.values.specs.declared.layout.OffsetWidth.{OffsetWidth}
+use Rattle.values.specs.declared.layout.Layout.{Layout}
+use Rattle.values.specs.declared.layout.Layout.TheVariants.{Int, Decimal, FixedSizeBinary, Utf8, Binary}
+use Rattle.values.specs.Layouts.{bytes_in as width_of}
+use Rattle.body_writer.specs.Slots.{number_in, fixed_in}
+
+abbrev pub cell_in : Reading Datum → Datum
+cell_in (Ok d) = d
+cell_in (Err fs) = null
+
+-- the cells of n slots, the first of them slot i
+unfoldable pub slots : (ℕ → Reading Datum) → ℕ → ℕ → List Datum
+slots cell i zero = []
+slots cell i (suc n) = cell_in (cell i) ∷ slots cell (i + 1) n
+
+-- how wide a slot is whose layout is of a fixed width in bytes, and what it holds
+
+abbrev pub slot_width : Layout → ℕ
+slot_width (Int w s) = width_of w
+slot_width (Decimal p) = 16
+slot_width (FixedSizeBinary w) = w
+slot_width l = 0
+
+abbrev pub slot_bytes : Layout → Datum → List ℕ
+slot_bytes (Int w s) c = little_bytes (width_of w) (number_in (width_of w) c)
+slot_bytes (Decimal p) c = little_bytes 16 (number_in 16 c)
+slot_bytes (FixedSizeBinary w) c = fixed_in w c
+slot_bytes l c = []
+
+-- texts or bytes, whose offsets have this width
+abbrev pub HasOffsets : Layout → OffsetWidth → Type 0
+HasOffsets l o = (l ≡ Utf8 o) ⊎ (l ≡ Binary o)

@@ -1,0 +1,73 @@
+//! Slots of one bit, and which slots are null.
+
+ghost use Rattle.std.specs.Prelude.{◌≡◌, ◌+◌, ◌<◌, ◌≤◌, ◌++◌, ◌^◌, ◌&&◌, OnOk, None, length, map, not};
+ghost use Rattle.bitmaps.specs.Bits.{HasBits, bit_at};
+ghost use Rattle.array_layout.specs.Buffers.{is_null};
+ghost use Rattle.values.specs.declared.layout.Layout.TheVariants.{Bool as Booleans};
+ghost use Rattle.body_writer.specs.Slots.{is_valid, null_count, truth_in};
+ghost use Rattle.column_writer.specs.Pieces.{IsPiece, piece_cells};
+
+use crate::piece::Piece;
+use crate::runs::run_end;
+use array_layout::{bit, buffer, is_null_at};
+use bitmaps::Bitmap;
+use std::alloc::AllocError;
+
+/// How many of its slots are null.
+pub(crate) fn nulls_in(piece: &Piece) -> usize
+    requires piece { IsPiece piece.now }
+    requires plain { piece.now.parts.own.now.dictionary ≡ None }
+    ensures value { result ≡ null_count (piece_cells piece.now) }
+    ensures bound { result ≤ length (piece_cells piece.now) }
+{
+    let bits = buffer(piece.parts.body, &piece.parts.own.validity);
+    let mut nulls = 0;
+    let mut at = piece.from;
+    while at < piece.to {
+        let end = run_end(bits, at, piece.to);
+        if is_null_at(bits, at) {
+            nulls += end - at;
+        }
+        at = end;
+    }
+    nulls
+}
+
+/// Appends a bit a slot: 1 where it is valid.
+pub(crate) fn push_validity(valid: &mut Bitmap, piece: &Piece) -> Result<(), AllocError>
+    requires piece { IsPiece piece.now }
+    requires plain { piece.now.parts.own.now.dictionary ≡ None }
+    requires room { length valid.old + length (piece_cells piece.now) < 2 ^ 32 }
+    ensures { OnOk result (valid.new ≡ valid.old ++ map is_valid (piece_cells piece.now)) }
+{
+    let bits = buffer(piece.parts.body, &piece.parts.own.validity);
+    for i in piece.from..piece.to {
+        valid.push(!is_null_at(bits, i))?;
+    }
+    Ok(())
+}
+
+/// Whether slot `i` holds 1, which a null doesn't.
+fn truth_at(bits: &[u8], values: &[u8], i: usize) -> bool
+    requires bits { 0 < length bits.now → HasBits bits.now (i + 1) }
+    requires room { HasBits values.now (i + 1) }
+    ensures { result ≡ (not (is_null bits.now i) && bit_at values.now i) }
+{
+    !is_null_at(bits, i) && bit(values, i)
+}
+
+/// Appends a bit a slot: a null gives 0.
+pub(crate) fn push_truths(truths: &mut Bitmap, piece: &Piece) -> Result<(), AllocError>
+    requires piece { IsPiece piece.now }
+    requires plain { piece.now.parts.own.now.dictionary ≡ None }
+    requires layout { piece.now.parts.own.now.layout ≡ Booleans }
+    requires room { length truths.old + length (piece_cells piece.now) < 2 ^ 32 }
+    ensures { OnOk result (truths.new ≡ truths.old ++ map truth_in (piece_cells piece.now)) }
+{
+    let bits = buffer(piece.parts.body, &piece.parts.own.validity);
+    let values = buffer(piece.parts.body, &piece.parts.own.values);
+    for i in piece.from..piece.to {
+        truths.push(truth_at(bits, values, i))?;
+    }
+    Ok(())
+}

@@ -1,0 +1,118 @@
+//! Texts and bytes: what the offsets of slots point to, and where they start.
+
+ghost use Rattle.std.specs.Prelude.{◌≡◌, ℕ, ◌+◌, ◌-◌, ◌*◌, ◌<◌, ◌≤◌, ◌++◌, ◌^◌, List, OnOk, IfOk, None, if◌then◌else◌, map, length, slice_range};
+ghost use Rattle.bitmaps.specs.Bits.{HasBits};
+ghost use Rattle.byteorder.specs.Endian.{little_bytes};
+ghost use Rattle.values.specs.Rose.{node, kids_of};
+ghost use Rattle.values.specs.Reading.{IsValid};
+ghost use Rattle.values.specs.declared.layout.Layout.TheVariants.{Utf8};
+ghost use Rattle.values.specs.Layouts.{offset_bytes};
+ghost use Rattle.array_layout.specs.Placing.{bytes_of};
+ghost use Rattle.array_layout.specs.Buffers.{is_null, offset_at};
+ghost use Rattle.array_layout.specs.Sound.{IsSound};
+ghost use Rattle.array_layout.specs.Cells.{cell};
+ghost use Rattle.column_writer.specs.Runs.{HasOffsets};
+ghost use Rattle.column_writer.specs.Pieces.{IsPiece, piece_cells};
+ghost use Rattle.body_writer.specs.Columns.{joined, offsets_from};
+ghost use Rattle.body_writer.specs.Slots.{length_in, total_length};
+
+use crate::piece::Piece;
+use crate::runs::run_end;
+use array_layout::{buffer, is_null_at, offset};
+use byteorder::{ByteOrder, LittleEndian};
+use std::alloc::AllocError;
+use values::OffsetWidth;
+
+/// The bytes from offset `from` to offset `to`.
+fn bytes_between<'a>(
+    offsets: &[u8],
+    bytes: &'a [u8],
+    width: OffsetWidth,
+    from: usize,
+    to: usize,
+) -> &'a [u8]
+    requires start { offset_bytes width * (from + 1) ≤ length offsets.now }
+    requires room { offset_bytes width * (to + 1) ≤ length offsets.now }
+    requires order { offset_at width offsets.now from ≤ offset_at width offsets.now to }
+    requires within { offset_at width offsets.now to ≤ length bytes.now }
+    ensures { result.now ≡ slice_range bytes.now (offset_at width offsets.now from) (offset_at width offsets.now to) }
+{
+    &bytes[offset(offsets, width, from)..offset(offsets, width, to)]
+}
+
+/// Appends the bytes of its slots, those of a run of valid slots at once.
+pub(crate) fn push_joined(out: &mut Vec<u8>, piece: &Piece) -> Result<(), AllocError>
+    requires piece { IsPiece piece.now }
+    requires plain { piece.now.parts.own.now.dictionary ≡ None }
+    requires layout { HasOffsets piece.now.parts.own.now.layout piece.now.offsets }
+    ensures { OnOk result (out.new.items ≡ out.old.items
+        ++ joined (piece_cells piece.now)) }
+{
+    let bits = buffer(piece.parts.body, &piece.parts.own.validity);
+    let values = buffer(piece.parts.body, &piece.parts.own.values);
+    let offsets = buffer(piece.parts.body, &piece.parts.own.offsets);
+    let mut at = piece.from;
+    while at < piece.to {
+        let end = run_end(bits, at, piece.to);
+        if !is_null_at(bits, at) {
+            out.extend_from_slice(bytes_between(offsets, values, piece.offsets, at, end))?;
+        }
+        at = end;
+    }
+    Ok(())
+}
+
+pub(crate) fn push_offset(
+    out: &mut Vec<u8>,
+    width: OffsetWidth,
+    offset: u64,
+) -> Result<(), AllocError>
+    requires { offset < 2 ^ 31 }
+    ensures { OnOk result (out.new.items ≡ out.old.items ++ little_bytes (offset_bytes width) offset) }
+{
+    let mut bytes = [0u8; 8];
+    LittleEndian::write_u64(&mut bytes, offset);
+    match width {
+        OffsetWidth::Bits32 => out.extend_from_slice(&bytes[..4]),
+        OffsetWidth::Bits64 => out.extend_from_slice(&bytes),
+    }
+}
+
+/// How many bytes slot `i` has, a null none.
+fn slot_len(bits: &[u8], offsets: &[u8], width: OffsetWidth, i: usize) -> usize
+    requires bits { 0 < length bits.now → HasBits bits.now (i + 1) }
+    requires room { offset_bytes width * (i + 2) ≤ length offsets.now }
+    requires rising { offset_at width offsets.now i ≤ offset_at width offsets.now (i + 1) }
+    ensures { result ≡ (if is_null bits.now i then 0 else offset_at width offsets.now (i + 1) - offset_at width offsets.now i) }
+{
+    if is_null_at(bits, i) {
+        0
+    } else {
+        offset(offsets, width, i + 1) - offset(offsets, width, i)
+    }
+}
+
+/// Appends where the bytes of its slots start, the first at `start`, and answers where the last ones end.
+pub(crate) fn push_starts(
+    out: &mut Vec<u8>,
+    piece: &Piece,
+    wanted: OffsetWidth,
+    start: u64,
+) -> Result<u64, AllocError>
+    requires piece { IsPiece piece.now }
+    requires plain { piece.now.parts.own.now.dictionary ≡ None }
+    requires layout { HasOffsets piece.now.parts.own.now.layout piece.now.offsets }
+    requires short { start + total_length (piece_cells piece.now) < 2 ^ 31 }
+    ensures end { IfOk result (λ n. n ≡ start + total_length (piece_cells piece.now)) }
+    ensures bytes { IfOk result (λ n. (rest : List ℕ) → out.new.items ++ offsets_from wanted n rest
+        ≡ out.old.items ++ offsets_from wanted start (map length_in (piece_cells piece.now) ++ rest)) }
+{
+    let bits = buffer(piece.parts.body, &piece.parts.own.validity);
+    let offsets = buffer(piece.parts.body, &piece.parts.own.offsets);
+    let mut end = start;
+    for i in piece.from..piece.to {
+        push_offset(out, wanted, end)?;
+        end += slot_len(bits, offsets, piece.offsets, i) as u64;
+    }
+    Ok(end)
+}

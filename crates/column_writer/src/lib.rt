@@ -1,0 +1,20 @@
+//! Batches of checked columns as they are written: no value is made of a cell where its bytes can be copied.
+//!
+//! Slots that lie one after the other and are all valid are copied at once (`specs/Runs.antt`). The cells of a column of
+//! a batch may lie in several arrays (`specs/Pieces.antt`), since its rows may come from several batches
+//! (`specs/Batches.antt`). Columns with children or with a dictionary are written from copies of their cells.
+#![tactic(auto)]
+
+mod batch;
+mod bit_runs;
+mod byte_runs;
+mod gather;
+mod kinds;
+mod leaf;
+mod piece;
+mod runs;
+mod slot_runs;
+mod write;
+
+pub use batch::{Batch, RowRange};
+pub use write::write_body;

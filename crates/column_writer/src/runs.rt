@@ -1,0 +1,32 @@
+//! Runs of slots that are all null, or all valid.
+
+ghost use Rattle.std.specs.Prelude.{◌≡◌, ℕ, ◌+◌, ◌<◌, ◌≤◌, length};
+ghost use Rattle.bitmaps.specs.Bits.{HasBits};
+ghost use Rattle.array_layout.specs.Buffers.{is_null};
+
+use array_layout::is_null_at;
+
+/// Where the run ends to which slot `from` belongs: behind it all slots are null as it is, or valid as it is.
+pub(crate) fn run_end(bits: &[u8], from: usize, to: usize) -> usize
+    requires some { from < to }
+    requires room { 0 < length bits.now → HasBits bits.now to }
+    ensures past { from < result }
+    ensures within { result ≤ to }
+    ensures same { (k : ℕ) → from ≤ k → k < result → is_null bits.now k ≡ is_null bits.now from }
+{
+    if bits.is_empty() {
+        return to;
+    }
+    let first = is_null_at(bits, from);
+    let mut end = from + 1;
+    while end < to {
+        if !first && end % 8 == 0 && to - end >= 8 && bits[end / 8] == 255 {
+            end += 8;
+        } else if is_null_at(bits, end) == first {
+            end += 1;
+        } else {
+            return end;
+        }
+    }
+    end
+}

@@ -1,0 +1,69 @@
+//! Slots of a fixed width in bytes.
+
+ghost use Rattle.std.specs.Prelude.{◌≡◌, ◌*◌, ◌≤◌, ◌++◌, OnOk, None, replicate, length, slice_range};
+ghost use Rattle.std.specs.List.{flat_map};
+ghost use Rattle.column_writer.specs.Runs.{slot_width, slot_bytes};
+ghost use Rattle.column_writer.specs.Pieces.{IsPiece, piece_cells};
+
+use crate::piece::Piece;
+use crate::runs::run_end;
+use array_layout::{buffer, is_null_at};
+use std::alloc::AllocError;
+use values::Layout;
+
+/// The width of a slot in bytes, or 0 where slots have no such width.
+pub(crate) fn slot_width(layout: Layout) -> usize
+    ensures { result ≡ slot_width layout }
+{
+    match layout {
+        Layout::Int { width, .. } => width.bytes(),
+        Layout::Decimal { .. } => 16,
+        Layout::FixedSizeBinary { width } => width as usize,
+        Layout::Bool
+        | Layout::Utf8 { .. }
+        | Layout::Binary { .. }
+        | Layout::List { .. }
+        | Layout::Struct => 0,
+    }
+}
+
+fn push_zeros(out: &mut Vec<u8>, count: usize) -> Result<(), AllocError>
+    ensures { OnOk result (out.new.items ≡ out.old.items ++ replicate count 0) }
+{
+    for _ in 0..count {
+        out.push(0)?;
+    }
+    Ok(())
+}
+
+/// The bytes of the slots from `from` to `to`, `width` bytes each.
+fn slot_range(bytes: &[u8], width: usize, from: usize, to: usize) -> &[u8]
+    requires order { from ≤ to }
+    requires room { width * to ≤ length bytes.now }
+    ensures { result.now ≡ slice_range bytes.now (width * from) (width * to) }
+{
+    &bytes[width * from..width * to]
+}
+
+/// Appends the bytes of its slots: a null gives zeros, a run of valid slots is copied at once.
+pub(crate) fn push_slots(out: &mut Vec<u8>, piece: &Piece) -> Result<(), AllocError>
+    requires piece { IsPiece piece.now }
+    requires plain { piece.now.parts.own.now.dictionary ≡ None }
+    ensures { OnOk result (out.new.items ≡ out.old.items
+        ++ flat_map (slot_bytes piece.now.parts.own.now.layout) (piece_cells piece.now)) }
+{
+    let bits = buffer(piece.parts.body, &piece.parts.own.validity);
+    let values = buffer(piece.parts.body, &piece.parts.own.values);
+    let width = slot_width(piece.parts.own.layout);
+    let mut at = piece.from;
+    while at < piece.to {
+        let end = run_end(bits, at, piece.to);
+        if is_null_at(bits, at) {
+            push_zeros(out, width * (end - at))?;
+        } else {
+            out.extend_from_slice(slot_range(values, width, at, end))?;
+        }
+        at = end;
+    }
+    Ok(())
+}

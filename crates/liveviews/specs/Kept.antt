@@ -1,0 +1,46 @@
+-- What is kept of a stream beside its rows.
+use Rattle.std.specs.Prelude.{◌≡◌, ℕ, ◌<◌, ◌≤◌, All, List, length, Option, None, Some}
+use Rattle.values.specs.Datum.{Datum}
+use Rattle.values.specs.Rose.{Rose, Roses}
+use Rattle.values.specs.Logical.{NamedType}
+use Rattle.values.specs.declared.layout.Layout.{Layout}
+use Rattle.arrays.specs.Checked.{CheckedColumn}
+use Rattle.schema_meta.specs.Entry.{Entry}
+use Rattle.schema_meta.specs.FieldLayouts.{layouts_of}
+use Rattle.schema_meta.specs.Rows.{row_at}
+use Rattle.column_writer.specs.declared.batch.Batch.{Batch}
+use Rattle.column_writer.specs.Batches.{IsSized, rows_of}
+use Rattle.stream_writer.specs.Stream.{trees}
+use Rattle.liveviews.specs.Heavy.{IsLight, row_weight}
+use Rattle.liveviews.specs.declared.taken.Taken.{Taken}
+
+abbrev pub taken_rows : Taken → List (List Datum)
+taken_rows t = rows_of t.batches.items
+
+abbrev pub IsCounted : Taken → Type 0
+IsCounted t = t.rows ≡ length (taken_rows t)
+
+-- a row that isn't too heavy, and its weight
+pub record IsLightAs (ls : Roses Layout) (row : List Datum) (weight : ℕ) : Type 0 where
+  pub light : IsLight ls row
+  pub exact : row_weight ls row ≡ weight
+
+-- the first n rows are not too heavy, and none is heavier than this
+abbrev pub AreLightUpTo : Roses Layout → List (List Datum) → ℕ → ℕ → Type 0
+AreLightUpTo ls columns n most = (k : ℕ) → k < n → IsLight ls (row_at columns k) × (row_weight ls (row_at columns k) ≤ most)
+
+-- each column has a cell a row
+abbrev pub HasSizes : Batch → Type 0
+HasSizes b = All (λ (c : CheckedColumn). length c.cells ≡ b.rows) b.columns.items
+
+-- each batch has so many columns, and no row is heavier than is said
+pub record IsKept (n : ℕ) (ls : Roses Layout) (t : Taken) : Type 0 where
+  pub sized : All (IsSized n) t.batches.items
+  pub light : All (λ (row : List Datum). row_weight ls row ≤ t.heaviest) (taken_rows t)
+
+abbrev pub IsKeptSo : Option (List (Rose Entry)) → Taken → Type 0
+IsKeptSo None t = Unit {0}
+IsKeptSo (Some fields) t = IsKept (length fields) (layouts_of fields) t
+
+abbrev pub IsWritable : List (Rose NamedType) → Taken → Type 0
+IsWritable fields t = IsKept (length fields) (trees fields) t

@@ -1,0 +1,24 @@
+-- Rows that lie in batches of checked columns, and are so light that each batch that is written has its 1,024 rows.
+use Rattle.std.specs.Prelude.{◌≡◌, ℕ, ◌+◌, ◌^◌, ◌<◌, ◌≤◌, All, List, length, drop}
+use Rattle.values.specs.Datum.{Datum}
+use Rattle.values.specs.Rose.{Rose, Roses, kids_of}
+use Rattle.values.specs.declared.layout.Layout.{Layout}
+use Rattle.body_writer.specs.Batch.{row_weight}
+use Rattle.column_writer.specs.Batches.{IsSized, rows_of}
+use Rattle.stream_writer.specs.declared.batch_rows.BatchRows.{BatchRows}
+
+-- so many of them weigh 2^27 together
+abbrev pub max_light_row : ℕ
+max_light_row = 2 ^ 17
+
+abbrev pub AreLightRows : Roses Layout → List (List Datum) → Type 0
+AreLightRows ls rows = All (λ (row : List Datum). row_weight ls row ≤ max_light_row) rows
+
+abbrev pub rows_left : BatchRows → List (List Datum)
+rows_left r = drop r.from (rows_of r.batches.now)
+
+pub record FitsBatches (ls : List (Rose Layout)) (r : BatchRows) : Type 0 where
+  pub sized : All (IsSized (length ls)) r.batches.now
+  pub light : AreLightRows (kids_of ls) (rows_left r)
+  pub left : r.left ≡ length (rows_left r)
+  pub small : r.from + r.left < 2 ^ 32

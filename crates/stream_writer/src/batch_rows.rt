@@ -1,0 +1,114 @@
+//! Rows that lie in batches of checked columns.
+
+ghost use Rattle.std.specs.Prelude.{◌≡◌, ℕ, ◌+◌, ◌^◌, ◌<◌, ◌≤◌, All, IfOk, length, take, drop};
+ghost use Rattle.column_writer.specs.Batches.{IsRange, IsSized, ranges_rows, rows_of};
+
+use crate::rows::RowSource;
+use body_writer::Body;
+use column_writer::{Batch, RowRange};
+use std::alloc::{AllocError, Global};
+use values::LayoutTree;
+use values::limits::MAX_BATCH_ROWS;
+
+/// The `left` rows of these batches from row `from` on, so light that each batch that is written has 1,024 of them.
+#[derive(Drop)]
+pub(crate) struct BatchRows<'a> {
+    pub batches: &'a [Batch],
+    pub from: usize,
+    pub left: usize,
+}
+
+/// A row of some batches.
+#[derive(Clone, Copy)]
+struct Place<'a> {
+    batches: &'a [Batch],
+    from: usize,
+}
+
+/// The same row, in the batch in which it lies.
+fn place_at<'a>(batches: &'a [Batch], from: usize) -> Place<'a>
+    ensures rows { drop result.from (rows_of result.batches.now) ≡ drop from (rows_of batches.now) }
+    ensures sized { (n : ℕ) → All (IsSized n) batches.now → All (IsSized n) result.batches.now }
+    ensures bound { result.from ≤ from }
+{
+    let mut start = from;
+    for i in 0..batches.len() {
+        let rows = batches[i].rows;
+        if start < rows {
+            return Place {
+                batches: &batches[i..],
+                from: start,
+            };
+        }
+        start -= rows;
+    }
+    Place {
+        batches: &batches[batches.len()..],
+        from: start,
+    }
+}
+
+/// Where `count` rows lie, the first of them row `from`.
+fn ranges_of<'a>(
+    alloc: Global,
+    batches: &'a [Batch],
+    from: usize,
+    count: usize,
+) -> Result<Vec<RowRange<'a>>, AllocError>
+    requires small { from + count < 2 ^ 32 }
+    ensures rows { IfOk result (λ ranges. ranges_rows ranges.items ≡ take count (drop from (rows_of batches.now))) }
+    ensures sized { IfOk result (λ ranges. (n : ℕ) → All (IsSized n) batches.now → All (IsRange n) ranges.items) }
+{
+    let mut ranges = Vec::new(alloc);
+    let mut start = from;
+    let mut left = count;
+    for batch in batches {
+        if left == 0 {
+            return Ok(ranges);
+        }
+        let to = batch.rows.min(start + left);
+        if start < to {
+            ranges.push(RowRange {
+                batch,
+                from: start,
+                to,
+            })?;
+            left -= to - start;
+        }
+        start = start.saturating_sub(batch.rows);
+    }
+    Ok(ranges)
+}
+
+impl<'a> RowSource for BatchRows<'a> {
+    ghost use Rattle.stream_writer.specs.BatchRows.{FitsBatches, rows_left};
+
+    ghost rows = { rows_left };
+
+    ghost fits = { λ r ls. FitsBatches ls r };
+
+    fn is_empty(&self) -> bool {
+        self.left == 0
+    }
+
+    fn len_of_batch(&self, _layouts: &[LayoutTree]) -> usize {
+        self.left.min(MAX_BATCH_ROWS)
+    }
+
+    fn write_body(
+        &self,
+        alloc: Global,
+        layouts: &[LayoutTree],
+        count: usize,
+    ) -> Result<Body, AllocError> {
+        let ranges = ranges_of(alloc, self.batches, self.from, count)?;
+        column_writer::write_body(alloc, layouts, &ranges, count)
+    }
+
+    fn skip(&mut self, count: usize) {
+        let place = place_at(self.batches, self.from + count);
+        self.batches = place.batches;
+        self.from = place.from;
+        self.left -= count;
+    }
+}
