@@ -100,7 +100,9 @@ pub record IsView (tables : List Table) (v : View) : Type 0 where
 abbrev pub IsFeed : List Table → FeedConfig → Type 0
 IsFeed tables f = table_of f.role < length tables
 
--- The main table has at most 2^24 rows, and a side table 2^20.
+-- A configuration that a session can keep: its tables are right, of which the main one has at most 2^24 rows and each
+-- side table 2^20, its feeds are of tables that are there, its views are right, and there are no more of these than the
+-- limits. Names may be there twice.
 pub record IsConfig (c : Config) : Type 0 where
   pub main : IsTable c.main
   pub main_rows : c.main.max_rows ≡ max_main_rows
