@@ -33,6 +33,10 @@ columns = [["i", "col", "i"], ["n", "col", "n"], ["a", "col", "a"]]
 [view.sorted]
 columns = [["i", "col", "i"], ["n", "col", "n"], ["a", "col", "a"]]
 order = [["n", "asc"], ["a", "desc"]]
+[view.first]
+columns = [["i", "col", "i"], ["n", "col", "n"], ["a", "col", "a"]]
+order = [["n", "asc"], ["a", "desc"]]
+first = 10
 [view.groups]
 group = ["n"]
 columns = [["n", "col", "n"], ["rows", "count"], ["sum", "sum", "a"], ["most", "greatest", "a"]]
@@ -131,7 +135,7 @@ def main():
             print(f"{live:,} rows in batches of 1,024: {rows[0]:.2f} s, {rows[1] / live:.0f} bytes a row; recast {recast[0]:.2f} s")
             print(f"  then {edits:,} appends of one row: {1e6 * (more[0] - rows[0]) / edits:.1f} microseconds each")
             print(f"  then {edits:,} retracts of one row: {1e6 * (gone[0] - more[0]) / edits:.1f} microseconds each")
-            for view in ("all", "sorted", "groups"):
+            for view in ("all", "sorted", "first", "groups"):
                 print(f"  view {view} written: {bench.run(['rows'], [view])[0] - rows[0]:.2f} s")
             if shutil.which("valgrind"):
                 bench.streams(live, edits // 10)
