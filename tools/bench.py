@@ -1,126 +1,139 @@
 #!/usr/bin/env python3
-"""Time and peak memory of `lv recast` over streams of about 100 MB, beside `cat` of the same file.
+"""Processor time and peak memory of `lv recast` and `lv inspect`, beside `cat` of the same file.
 
-Makes each stream, runs both three times in turn, prints the fastest of each, and removes what it made.
+  tools/bench.py [--sizes 25,100,400] [--turns 3] [SHAPE..]
+
+Makes a stream of each shape and size, runs the three in turn, prints the least time of each, and removes what it made. Times are of the
+processor, in user code and in the system, so other work on the machine bears on them less than on the clock.
 """
 
+import argparse
 import os
-import shutil
 import struct
 import subprocess
 import sys
 import tempfile
 
 sys.dont_write_bytecode = True
-from streams import END_MARK, INT64_SCHEMA, UTF8_SCHEMA, batch, dictionary_batch, field, int64_batch, schema, utf8_batch
+from streams import END_MARK, INT64_SCHEMA, batch, dictionary_batch, field, int64_batch, schema
 
-TARGET = 100_000_000
-TURNS = 3
 LV = "crates/lv/out/lv"
 GNU_TIME = "/usr/bin/time"
+ROWS = 1 << 16
+MEGABYTE = 1_000_000
 
-def int64_stream(file):
+
+def int64_stream(file, size):
     file.write(INT64_SCHEMA)
-    rows = 1 << 16
-    for first in range(0, TARGET // 8, rows):
-        file.write(int64_batch(rows, first))
+    for first in range(0, size // 8, ROWS):
+        file.write(int64_batch(ROWS, first))
     file.write(END_MARK)
 
 
-def utf8_stream(size):
-    def write(file):
-        file.write(UTF8_SCHEMA)
-        rows = (1 << 19) // (size + 4)
-        batch = utf8_batch(rows, size)
-        for _ in range(TARGET // len(batch)):
-            file.write(batch)
-        file.write(END_MARK)
+def stream_of(fields, rows, arrays, dictionaries=b""):
+    """One and the same batch again and again."""
 
-    return write
-
-
-def stream_of(fields, rows, columns, dictionaries=b""):
-    def write(file):
+    def write(file, size):
         file.write(schema(fields) + dictionaries)
-        whole = batch(rows, columns)
-        for _ in range(TARGET // len(whole)):
+        whole = batch(rows, arrays)
+        for _ in range(max(1, size // len(whole))):
             file.write(whole)
         file.write(END_MARK)
 
     return write
 
 
-ROWS = 1 << 16
+def integers(width, rows):
+    return b"".join((number % (1 << (8 * width - 1))).to_bytes(width, "little") for number in range(rows))
 
-FIXED_WIDTH = stream_of(
-    [field(2, 8, 1), field(2, 16, 0), field(8, 0), field(10, 2)],
-    ROWS,
-    [[bytes(width * ROWS)] for width in (1, 2, 4, 8)],
-)
 
-DECIMALS = [b"".join(number.to_bytes(16, "little") for number in range(ROWS))]
+def offsets(size, rows):
+    return struct.pack(f"<{rows + 1}i", *range(0, size * (rows + 1), size))
 
-DECIMALS_AND_BOOLS = stream_of([field(7, 38, 2), field(6)], ROWS, [DECIMALS, [b"\x55" * (ROWS // 8)]])
 
-TEXTS_BY_DICTIONARY = stream_of(
-    [field(5, dictionary=1), field(10, 2), field(7, 38, 2)],
-    ROWS,
-    [[struct.pack(f"<{ROWS}i", *(row % 1000 for row in range(ROWS)))], [bytes(8 * ROWS)], DECIMALS],
-    dictionary_batch(1, [b"%032d" % number for number in range(1000)]),
-)
+def texts(size, rows):
+    return [offsets(size, rows), b"t" * (size * rows)]
 
-SHAPES = [
-    ("int64", int64_stream),
-    ("utf8, texts of 32 bytes", utf8_stream(32)),
-    ("utf8, texts of 1,000 bytes", utf8_stream(1000)),
-    ("int8, uint16, date and timestamp, a column each", FIXED_WIDTH),
-    ("decimal and bool, a column each", DECIMALS_AND_BOOLS),
-    ("text of a dictionary of 1,000, timestamp and decimal, a column each", TEXTS_BY_DICTIONARY),
-]
+
+def with_nulls(buffers, rows):
+    """Every twentieth slot is null."""
+    bits = bytearray(b"\xff" * (rows // 8))
+    for slot in range(0, rows, 20):
+        bits[slot // 8] &= ~(1 << slot % 8)
+    return (rows, buffers, len(range(0, rows, 20)), bytes(bits))
+
+
+NUMBERS = [integers(8, ROWS)]
+DECIMALS = [integers(16, ROWS)]
+INDICES = [struct.pack(f"<{ROWS}i", *(row % 1000 for row in range(ROWS)))]
+LONG = ROWS // 32
+
+SHAPES = {
+    "int64": int64_stream,
+    "int64, a twentieth null": stream_of([field(2, 64, 1)], ROWS, [with_nulls(NUMBERS, ROWS)]),
+    "int8, uint16, date, timestamp": stream_of(
+        [field(2, 8, 1), field(2, 16, 0), field(8, 0), field(10, 2)], ROWS, [[integers(width, ROWS)] for width in (1, 2, 4, 8)]
+    ),
+    "decimal, bool": stream_of([field(7, 38, 2), field(6)], ROWS, [DECIMALS, [b"\x55" * (ROWS // 8)]]),
+    "texts of 32 bytes": stream_of([field(5)], ROWS, [texts(32, ROWS)]),
+    "texts of 32 bytes, a twentieth null": stream_of([field(5)], ROWS, [with_nulls(texts(32, ROWS), ROWS)]),
+    "texts of 1,000 bytes": stream_of([field(5)], LONG, [texts(1000, LONG)]),
+    "text of a dictionary of 1,000": stream_of(
+        [field(5, dictionary=1)], ROWS, [INDICES], dictionary_batch(1, [b"%032d" % number for number in range(1000)])
+    ),
+    "list of int64": stream_of(
+        [field(12, children=[field(2, 64, 1)])], ROWS // 8, [[offsets(8, ROWS // 8)], (ROWS, NUMBERS)]
+    ),
+    "struct of int64, text": stream_of(
+        [field(13, children=[field(2, 64, 1), field(5)])], ROWS, [[], NUMBERS, texts(32, ROWS)]
+    ),
+    "200 of int64": stream_of([field(2, 64, 1)] * 200, 4096, [[integers(8, 4096)]] * 200),
+}
 
 
 def measured(words, output):
-    """The seconds and the peak memory in MB of one run, whose standard output goes to a file."""
-    if os.path.exists(GNU_TIME):
-        words = [GNU_TIME, "-f", "%e %M"] + words
-        run = subprocess.run(words, stdout=output, stderr=subprocess.PIPE, check=True, text=True)
-        seconds, kilobytes = run.stderr.split()
-        return float(seconds), int(kilobytes) / 1000
-    start = os.times().elapsed
-    process = subprocess.Popen(words, stdout=output)
-    _, status, used = os.wait4(process.pid, 0)
-    if status != 0:
-        sys.exit(f"bench: {words} ended with {status}")
-    return os.times().elapsed - start, used.ru_maxrss / 1000
+    """The seconds of processor time and the peak memory in MB of one run, whose standard output goes to a file."""
+    run = subprocess.run([GNU_TIME, "-f", "%U %S %M", *words], stdout=output, stderr=subprocess.PIPE, check=True, text=True)
+    user, system, kilobytes = run.stderr.split()
+    return float(user) + float(system), int(kilobytes) / 1000
 
 
-def row(name, write, folder):
+def row(name, write, size, turns, folder):
     source, target = os.path.join(folder, "in"), os.path.join(folder, "out")
     with open(source, "wb") as file:
-        write(file)
-    runs = {"lv": [], "cat": []}
-    for _ in range(TURNS):
-        with open(os.path.join(folder, "line"), "wb") as line:
-            runs["lv"].append(measured([LV, "recast", source, target], line))
-        with open(target, "wb") as copy:
-            runs["cat"].append(measured(["cat", source], copy))
-    lv, cat = min(runs["lv"]), min(runs["cat"])
-    size = os.path.getsize(source) / 1e6
-    print(f"| {name} | {size:.0f} MB | {lv[0]:.2f} s | {lv[1]:.0f} MB | {cat[0]:.2f} s | {cat[1]:.0f} MB |", flush=True)
+        write(file, size * MEGABYTE)
+    programs = {"recast": [LV, "recast", source, target], "inspect": [LV, "inspect", source], "cat": ["cat", source]}
+    runs = {it: [] for it in programs}
+    for _ in range(turns):
+        for it, words in programs.items():
+            with open(target if it == "cat" else os.path.join(folder, "lines"), "wb") as output:
+                runs[it].append(measured(words, output))
+    seconds = {it: min(second for second, _ in of) for it, of in runs.items()}
+    peak = {it: min(most for _, most in of) for it, of in runs.items()}
+    whole = os.path.getsize(source) / MEGABYTE
+    print(
+        f"| {name} | {whole:.0f} MB | {seconds['recast']:.2f} s | {peak['recast'] / whole:.2f} | {seconds['inspect']:.2f} s"
+        f" | {peak['inspect'] / whole:.2f} | {seconds['cat']:.2f} s |",
+        flush=True,
+    )
 
 
 def main():
+    parser = argparse.ArgumentParser(description="Time and memory of lv recast and lv inspect, beside cat.")
+    parser.add_argument("--sizes", default="25,100,400", help="of the streams, in MB")
+    parser.add_argument("--turns", type=int, default=3, help="how often each program runs")
+    parser.add_argument("shapes", nargs="*", help=f"of {', '.join(SHAPES)}; all where none is named")
+    words = parser.parse_args()
     os.chdir(os.path.join(os.path.dirname(os.path.abspath(__file__)), ".."))
-    if not os.path.exists(LV):
-        sys.exit(f"bench: {LV} is not there; make lv builds it")
-    print("| columns of | size | lv recast | its peak | cat | its peak |")
-    print("|---|---|---|---|---|---|")
-    for name, write in SHAPES:
-        folder = tempfile.mkdtemp(prefix="lv-bench-")
-        try:
-            row(name, write, folder)
-        finally:
-            shutil.rmtree(folder)
+    for needed, how in ((LV, "make lv builds it"), (GNU_TIME, "GNU time measures peaks")):
+        if not os.path.exists(needed):
+            sys.exit(f"bench: {needed} is not there; {how}")
+    print("| columns of | size | recast | peak over size | inspect | peak over size | cat |")
+    print("|---|---|---|---|---|---|---|")
+    for name in words.shapes or SHAPES:
+        for size in map(int, words.sizes.split(",")):
+            with tempfile.TemporaryDirectory(prefix="lv-bench-") as folder:
+                row(name, SHAPES[name], size, words.turns, folder)
 
 
 if __name__ == "__main__":

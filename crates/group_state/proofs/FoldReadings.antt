@@ -63,7 +63,7 @@ use Rattle.group_state.specs.Folds.{
   multiset_of,
 }
 use Rattle.group_state.specs.Reading.{datum_in, filled}
-use Rattle.group_state.proofs.Exact.{key_exact}
+use Rattle.view_lang.proofs.ExactKeys.{key_exact}
 use Rattle.group_state.proofs.KeyData.{key-data}
 use Rattle.group_state.proofs.Folds.{multiset-sorted, multiset-least, kept-values}
 use Rattle.group_state.specs.declared.tally.Tally.{Tally}

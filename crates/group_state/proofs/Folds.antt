@@ -22,7 +22,7 @@ use Rattle.std.proofs.Common.{
 use Rattle.std.specs.Prelude.{ℤ, pos, ◌+ℤ◌, Bool, true, false, cond, Some, None, Option, count_by, sum, suc}
 use Rattle.std.specs.Option.{unwrap_or}
 use Rattle.std.specs.List.{All, sum_by}
-use Rattle.std.specs.Cmp.{eq_by_cmp_equiv}
+use Rattle.std.specs.Cmp.{eq_by_cmp_equiv, tied_itself}
 use Rattle.std.specs.Ordering.{is_eq, ordering_reverse}
 use Rattle.std.specs.declared.cmp.Ordering.{Ordering}
 use Rattle.std.specs.declared.cmp.Ordering.TheVariants.{Less, Equal, Greater}
@@ -51,7 +51,7 @@ use Rattle.group_state.specs.declared.tally.Tally.{Tally}
 use Rattle.group_state.specs.Cells.{KeepsCells, is_value, is_key}
 use Rattle.view_lang.specs.Cells.{is_null}
 use Rattle.group_state.specs.Folds.{multiset_of, sum_of, times_in, keys_in, push_key, least_of, lesser, first_of}
-use Rattle.group_state.proofs.Exact.{key_exact, key_same}
+use Rattle.view_lang.proofs.ExactKeys.{key_exact}
 use Rattle.group_state.proofs.Had.{had-put}
 use Rattle.group_state.proofs.Weights.{weighted-put}
 
@@ -97,7 +97,7 @@ multiset-sum (k ∷ ks) =
 
 -- entries that count alike are the same
 key_same_at : (a : Key) → is_at (key_cmp a) a ≡ true
-key_same_at a = ap is_eq (key_same a)
+key_same_at a = ap is_eq (tied_itself key_total a)
 
 head-had : (e : Key × ℕ) (es : List (Key × ℕ)) → had (e ∷ es) e.0 ≡ e.1
 head-had e es = rw (key_same_at e.0) refl

@@ -44,8 +44,8 @@ use Rattle.group_state.specs.Groups.{Keeps, KeepsAt}
 use Rattle.group_state.specs.Reading.{data_of, IsRead, AreRead, CanReadAll}
 use Rattle.group_state.proofs.KeyData.{HasKeys, tuple-data, cell-data, test-data, members-data}
 use Rattle.group_state.proofs.Members.{tuple_exact, tuple_itself}
-use Rattle.group_state.proofs.SameKeys.{same-keys}
-use Rattle.group_state.proofs.OwnEntries.{HasOwn, own-entries, any-lookup}
+use Rattle.view_lang.proofs.AscendingKeys.{same-keys}
+use Rattle.view_lang.proofs.OwnEntries.{HasOwn, own-entries, any-lookup}
 use Rattle.group_state.proofs.Sums.{can-read}
 
 weaker : {X : Type 0} (P Q : X → Type 0) → ((x : X) → P x → Q x) → (xs : List X) → AllByRecursion P xs

@@ -32,7 +32,7 @@ use Rattle.std.proofs.lemmas.Map.Views.{IfSome-lookup_from_All}
 use Rattle.values.specs.declared.key.Key.{Key}
 use Rattle.group_state.specs.Keys.{key_cmp, key_total}
 use Rattle.group_state.specs.Counts.{had, one, put_one, take_one, taken}
-use Rattle.group_state.proofs.Exact.{key_exact, key_same}
+use Rattle.view_lang.proofs.ExactKeys.{key_exact}
 
 pub same_at : (k q : Key) → is_at (key_cmp k) q ≡ true → k ≡ q
 same_at k q h = key_exact k q ((Equal-is (key_cmp k q)).0 h)

@@ -1,4 +1,3 @@
-pub mod Exact
 pub mod Weights
 pub mod Tied
 pub mod Had
@@ -9,12 +8,9 @@ pub mod Steps
 pub mod Folds
 pub mod KeyData
 pub mod FoldReadings
-pub mod SameKeys
 pub mod GroupReadings
-pub mod OwnEntries
 pub mod Sums
 pub mod GroupLaw
 pub mod Keeping
 pub mod SampleFits
-pub mod Appended
 pub mod Taken

@@ -15,7 +15,7 @@ use Rattle.group_state.specs.GroupCounts.{GroupCounts}
 use Rattle.group_state.specs.Grouped.{Grouped}
 use Rattle.group_state.specs.Tuples.{tuple_of, has_tuple, members}
 use Rattle.group_state.specs.Groups.{Keeps, KeepsAt}
-use Rattle.group_state.proofs.Exact.{key_exact}
+use Rattle.view_lang.proofs.ExactKeys.{key_exact}
 
 tuple_by : (a b : Key) (ks ls : List Key) → (tuple_cmp ks ls ≡ Equal → ks ≡ ls) → (r : Ordering) → key_cmp a b ≡ r
     → ordering_then r (tuple_cmp ks ls) ≡ Equal → a ∷ ks ≡ b ∷ ls

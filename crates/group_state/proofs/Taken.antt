@@ -1,5 +1,5 @@
 -- Lists taken apart and made again, one item after the other.
-use Rattle.group_state.proofs.Appended.{entry-next}
+use Rattle.view_lang.proofs.LastEntries.{entry-next}
 use Rattle.std.proofs.Common.{◌≡◌, ap, sym, ◌∙◌, subst}
 use Rattle.std.proofs.lemmas.List.Elements.{All-head, All-push, All-tail}
 use Rattle.std.proofs.lemmas.List.{append_assoc, map-append}

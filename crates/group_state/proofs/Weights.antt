@@ -15,7 +15,7 @@ use Rattle.std.proofs.lemmas.Map.Entries.{none_below_head}
 use Rattle.values.specs.declared.key.Key.{Key}
 use Rattle.group_state.specs.Keys.{key_cmp, key_total}
 use Rattle.group_state.specs.Counts.{had, number_in, times, weighted}
-use Rattle.group_state.proofs.Exact.{key_exact}
+use Rattle.view_lang.proofs.ExactKeys.{key_exact}
 
 times-more : (n : ℕ) (x : ℤ) → times (n + 1) x ≡ x +ℤ times n x
 times-more n x = rw add-one refl

@@ -1,4 +1,4 @@
-//! What is kept of a group.
+//! One group: the number of its rows, and a tally for each column that outputs read.
 
 ghost use Rattle.std.specs.Prelude.{◌≡◌, ◌<◌, ◌^◌, ◌∷◌, List, OnOk, IfOk, length, []};
 ghost use Rattle.values.specs.Datum.{Datum};
@@ -90,7 +90,7 @@ impl Group {
         self.rows
     }
 
-    /// What it keeps of a column; none where it keeps nothing of it.
+    /// The tally of a column; `None` if the group keeps none of it.
     pub(crate) fn tally(&self, columns: &[usize], column: usize) -> Option<&Tally>
         ensures { (rows : List (List Datum)) → KeepsRows columns.now self.now rows
             → is_kept columns.now column ≡ true → IsThat (option_map (λ t. t.now) result) (cells column rows) }

@@ -1,4 +1,4 @@
-//! Groups kept by differences.
+//! Groups of rows, kept current by changes of the rows.
 
 ghost use Rattle.group_state.specs.GroupParts.{AreGroups, grouped_with};
 ghost use Rattle.group_state.specs.Groups.{Keeps, KeepsAt};
@@ -81,7 +81,7 @@ impl Groups {
         })
     }
 
-    /// What they are made of, and nothing else is kept. Where memory is refused, they are gone.
+    /// Takes them apart. The parts are all that they keep. If memory is refused, they are lost.
     pub fn into_parts(self) -> Result<GroupsParts, AllocError>
         ensures value { IfOk result (λ parts. grouped_with parts ≡ self) }
         ensures kept { IfOk result (λ parts. AreGroups parts) }
@@ -103,7 +103,7 @@ impl Groups {
         })
     }
 
-    /// The groups that are made of these.
+    /// Makes the `Groups` that have these parts.
     pub fn from_parts(alloc: Global, parts: GroupsParts) -> Result<Groups, AllocError>
         requires { AreGroups parts }
         ensures { IfOk result (λ groups. groups ≡ grouped_with parts) }
@@ -167,7 +167,7 @@ impl Groups {
 }
 
 impl Groups {
-    /// What `apply` does. Additions come before removals.
+    /// Applies a change of rows: additions come before removals.
     pub fn apply_change(&mut self, change: &Change) -> Result<(), AllocError>
         requires { (rows : NumberedRows)
             × (Keeps self.old (values_of rows) × (Fits rows change.now × IsFew rows change.now)) }

@@ -1,4 +1,5 @@
-//! Groups kept by differences: how many rows each has, and what is counted, summed and compared of its columns.
+//! Groups of rows, kept current by changes of the rows: how many rows each has, and what is counted, summed and
+//! compared of its columns.
 //!
 //! `specs/Groups.antt` says when groups are those of some rows, over `Rows` (what is kept of one group) and `Cells` (of
 //! one column). `specs/Reading.antt` says what must hold so that group rows can be read; they are those of

@@ -157,7 +157,7 @@ impl Multiset {
     }
 }
 
-/// Lowers a value's count, and takes the value away where none is left. Whether it was there.
+/// Lowers a value's count by one, and removes the value with its last one. Answers whether it was there.
 fn take_from(counts: &mut BTreeMap<KeyCell, u64>, key: &KeyCell) -> bool
     ensures entries { counts.new.entries ≡ take_one key.now counts.old.entries }
     ensures ordered { IsStrictlySortedBy key_cmp (keys_of counts.old.entries) }

@@ -1,9 +1,9 @@
-//! What is kept of groups, taken apart.
+//! The parts of `Groups`, as plain lists.
 
 use values::{Row, Value};
 
-/// What `Groups` are made of: the grouping columns, the columns of which something is kept, and the groups, ascending
-/// by their tuples.
+/// All that `Groups` keep: the grouping columns, the columns of which values are kept, and the groups, ascending by
+/// their tuples.
 #[derive(Debug, Drop)]
 pub struct GroupsParts {
     pub keys: Vec<usize>,

@@ -1,4 +1,4 @@
-//! What is kept of one column of a group.
+//! The tally of one column of a group: how many cells aren't null, and the multiset of those that have an order.
 
 ghost use Rattle.std.specs.Prelude.{◌≡◌, ◌<◌, ◌^◌, ◌∷◌, List, OnOk, IfOk, length, []};
 ghost use Rattle.std.proofs.Common.{option_map};

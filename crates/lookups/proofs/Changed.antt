@@ -1,5 +1,5 @@
 -- What is kept when one row changes.
-use Rattle.lookups.proofs.Numbered.{key_exact}
+use Rattle.view_lang.proofs.ExactKeys.{key_exact}
 use Rattle.lookups.specs.Keeping.{Keeps, holds, is_key, key_held}
 use Rattle.lookups.specs.Refers.{RowsByKey, found_at, is_among, key_cmp, numbers_in, refers}
 use Rattle.std.proofs.Common.{◌≡◌, refl, ap, sym, ◌∙◌, subst}

@@ -1,5 +1,5 @@
 -- Which rows hold which keys says all that is kept.
-use Rattle.lookups.proofs.Numbered.{key_exact}
+use Rattle.view_lang.proofs.ExactKeys.{key_exact}
 use Rattle.lookups.proofs.SameEntries.{same-entries}
 use Rattle.lookups.specs.Refers.{RefersToAll, found_at, is_among, is_bare, key_cmp, numbers_in}
 use Rattle.std.proofs.Common.{◌≡◌, refl, ap, sym, ◌∙◌, subst, true≢false}

@@ -1,6 +1,6 @@
 -- Numbers that are gathered key by key.
 use Rattle.lookups.proofs.Exactness.{key_total}
-use Rattle.lookups.proofs.Numbered.{key_exact}
+use Rattle.view_lang.proofs.ExactKeys.{key_exact}
 use Rattle.lookups.specs.Refers.{key_cmp}
 use Rattle.std.proofs.Common.{◌≡◌, ◌<◌, ◌+◌, ℕ, Bor, refl, ap, sym, ◌∙◌, take, length, get_or, true≢false}
 use Rattle.std.proofs.lemmas.List.Folds.{list_any_more}

@@ -1,4 +1,3 @@
-pub mod Appended
 pub mod Ascending
 pub mod Changed
 pub mod Exactness

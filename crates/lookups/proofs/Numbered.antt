@@ -13,24 +13,14 @@ use Rattle.lookups.specs.Refers.{
 }
 use Rattle.std.proofs.Common.{◌≡◌, refl, ap, sym, ◌∙◌, subst, true≢false}
 use Rattle.std.proofs.lemmas.Bool.{eq-eqb}
-use Rattle.std.proofs.lemmas.Map.Lookups.{exact_bytes, exact_signed}
 use Rattle.std.specs.BTreeMap.{is_at}
 use Rattle.std.specs.Cmp.{Equal-is}
 use Rattle.std.specs.List.Sorted.{IsStrictlySortedBy}
 use Rattle.std.specs.Ordering.{nat_cmp}
 use Rattle.std.specs.Prelude.{◌==◌, ℕ, Bool, true, false, cond, List, [], ◌∷◌, Option, None, Some}
 use Rattle.std.specs.declared.cmp.Ordering.TheVariants.{Equal}
-use Rattle.values.specs.declared.key.Key.TheVariants as key
 use Rattle.values.specs.declared.key.Key.{Key}
-
-pub key_exact : (a b : Key) → key_cmp a b ≡ Equal → a ≡ b
-key_exact (key.Bool true) (key.Bool true) h = refl
-key_exact (key.Bool false) (key.Bool false) h = refl
-key_exact (key.Int x) (key.Int y) h = ap key.Int (exact_signed x y h)
-key_exact (key.Utf8 x) (key.Utf8 y) h = ap key.Utf8 (exact_bytes x y h)
-key_exact (key.Binary x) (key.Binary y) h = ap key.Binary (exact_bytes x y h)
-key_exact key.Null key.Null h = refl
-key_exact a b h = absurd (cc)
+use Rattle.view_lang.proofs.ExactKeys.{key_exact}
 
 module _ (old new : RowsByKey) (k : Key)
     (others : (q : Key) → is_at (key_cmp k) q ≡ false → found_at new q ≡ found_at old q)

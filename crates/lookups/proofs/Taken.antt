@@ -1,5 +1,5 @@
 -- Rows by key made again of what they were taken apart into.
-use Rattle.lookups.proofs.Appended.{entry-next, found-next}
+use Rattle.view_lang.proofs.LastEntries.{entry-next, found-next}
 use Rattle.lookups.proofs.Exactness.{key_total}
 use Rattle.lookups.specs.ReferrersParts.{entry_with}
 use Rattle.lookups.specs.Refers.{IsOrdered, RowsByKey, key_cmp, numbers_in}

@@ -1,8 +1,8 @@
-//! What is kept of rows by keys, taken apart.
+//! The parts of `Referrers`, as plain lists.
 
 use values::Key;
 
-/// What a `Referrers` is made of: keys, ascending, each with the numbers of the rows that hold it.
+/// All that a `Referrers` keeps: keys, ascending, each with the numbers of the rows that hold it.
 #[derive(Debug, Drop)]
 pub struct ReferrersParts {
     pub keys: Vec<KeyNumbers>,

@@ -50,7 +50,7 @@ impl Model for Referrers {
 }
 
 impl Referrers {
-    /// Of no rows.
+    /// The referrers of no rows.
     pub fn new(alloc: Global) -> Referrers
         ensures none { result ≡ [] }
         ensures kept { Keeps result [] }
@@ -61,7 +61,7 @@ impl Referrers {
         }
     }
 
-    /// What it is made of, and nothing else is kept. Where memory is refused, it is gone.
+    /// Takes it apart. The parts are all that it keeps. If memory is refused, it is lost.
     pub fn into_parts(self) -> Result<ReferrersParts, AllocError>
         ensures value { IfOk result (λ parts. rows_with parts ≡ self) }
         ensures ordered { IfOk result (λ parts. IsOrdered (rows_with parts)) }
@@ -75,7 +75,7 @@ impl Referrers {
         Ok(ReferrersParts { keys })
     }
 
-    /// The one that is made of these.
+    /// Makes the `Referrers` that has these parts.
     pub fn from_parts(alloc: Global, parts: ReferrersParts) -> Result<Referrers, AllocError>
         requires { IsOrdered (rows_with parts) }
         ensures { IfOk result (λ referrers. referrers ≡ rows_with parts) }
@@ -87,7 +87,7 @@ impl Referrers {
         Ok(Referrers { alloc, rows })
     }
 
-    /// The row of this number holds the key from now on. Where memory is refused, nothing has changed.
+    /// Adds a row's number under the key that the row holds. If memory is refused, nothing has changed.
     pub fn add(&mut self, key: Key, number: usize) -> Result<(), AllocError>
         ensures here { OnOk result ((n : ℕ) → refers self.new key n ≡ cond (n == number) true (refers self.old key n)) }
         ensures others { (k : Key) → is_at (key_cmp key) k ≡ false → found_at self.new k ≡ found_at self.old k }
@@ -97,7 +97,7 @@ impl Referrers {
         Ok(())
     }
 
-    /// The row of this number holds the key no longer. This takes no memory.
+    /// Removes a row's number from under a key. It takes no memory.
     pub fn remove(&mut self, key: &Key, number: usize)
         ensures here { (n : ℕ) → refers self.new key.now n ≡ cond (n == number) false (refers self.old key.now n) }
         ensures others { (k : Key) → is_at (key_cmp key.now) k ≡ false → found_at self.new k ≡ found_at self.old k }
@@ -120,8 +120,8 @@ impl Referrers {
         }
     }
 
-    /// The numbers of the rows that hold one of the keys, in ascending order. A key that comes again is passed over, so
-    /// the time is bounded by the keys and the numbers.
+    /// The numbers of the rows that hold one of the keys, in ascending order. A key that is given again is skipped, so
+    /// the time is bounded by the number of keys and of rows.
     pub fn of_keys(&self, alloc: Global, keys: &[Key]) -> Result<Vec<usize>, AllocError>
         ensures numbers { IfOk result (λ numbers.
             (n : ℕ) → is_among numbers.items n ≡ list_any (λ k. refers self.now k n) keys.now) }
@@ -170,8 +170,8 @@ impl Referrers {
         Ok(())
     }
 
-    /// Brings one number's row to what it is after the change. It is removed first: a row that keeps its key is then
-    /// there in the end.
+    /// Applies the change of one row. It is removed before it is added, so that a row that keeps its key is there in the
+    /// end.
     fn change_row(&mut self, changed: &RowChange) -> Result<(), AllocError>
         ensures { OnOk result ((rows : NumberedRows) → IsStrictlySortedBy nat_cmp (keys_of rows)
             → row_at changed.now.number rows ≡ changed.now.before → Keeps self.old rows

@@ -38,7 +38,18 @@ use Rattle.view_lang.specs.Config.{Table}
 use Rattle.view_lang.specs.Contents.{applied, is_among, key_in, keys_in, same_key}
 use Rattle.view_lang.specs.Edits.{append}
 use Rattle.row_keys.specs.Numbers.{AreDistinct, IsAt, IsUnused, Numbered, live_count, numbered, turned}
-use Rattle.row_keys.specs.Slots.{CanTakeBack, IsThere, Slot, live, marked, new_slot, row_of, slot, taken_back, contents_of}
+use Rattle.row_keys.specs.Slots.{
+  CanTakeBack,
+  IsThere,
+  Slot,
+  live,
+  marked,
+  new_slot,
+  row_of,
+  slot,
+  taken_back,
+  contents_of,
+}
 use Rattle.row_keys.specs.Stored.{AreKeyed, joined, live_keys}
 use Rattle.row_keys.proofs.KeyFacts.{or_none, or_right, same_exact, same_refl}
 use Rattle.row_keys.proofs.Places.{some_same, take_front}

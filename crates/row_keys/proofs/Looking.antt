@@ -1,5 +1,31 @@
 -- Live rows that are looked up by their keys.
-use Rattle.std.proofs.Common.{◌≡◌, ℕ, zero, suc, ◌<◌, Bool, true, false, cond, List, [], ◌∷◌, Option, None, Some, find, length, refl, ap, sym, subst, ◌∙◌, arith, true≢false}
+use Rattle.std.proofs.Common.{
+  ◌≡◌,
+  ℕ,
+  zero,
+  suc,
+  ◌<◌,
+  Bool,
+  true,
+  false,
+  cond,
+  All,
+  List,
+  [],
+  ◌∷◌,
+  Option,
+  None,
+  Some,
+  find,
+  length,
+  refl,
+  ap,
+  sym,
+  subst,
+  ◌∙◌,
+  arith,
+  true≢false,
+}
 use Rattle.std.specs.Prelude.{MatchOption, if◌then◌else◌}
 use Rattle.std.proofs.lemmas.Option.{none-some}
 use Rattle.values.specs.Datum.{Datum, null, truth, whole, text, bytes, list, structure}
@@ -11,10 +37,10 @@ use Rattle.view_lang.specs.Cells.{is_null}
 use Rattle.view_lang.specs.Config.{Table}
 use Rattle.view_lang.specs.Contents.{Contents, is_among, key_in, keys_in, same_key}
 use Rattle.view_lang.specs.Joined.{side_of}
-use Rattle.row_keys.specs.Numbers.{AreDistinct, IsAt, IsUnused, Numbered}
+use Rattle.row_keys.specs.Numbers.{AreDistinct, IsAt, IsUnused, Numbered, numbered}
 use Rattle.row_keys.specs.Slots.{IsThere, Slot, contents_of, live, row_of, slot}
 use Rattle.row_keys.specs.Store.{IsKnown, IsUnknown, Store}
-use Rattle.row_keys.specs.Stored.{AreKeyed, joined, live_keys}
+use Rattle.row_keys.specs.Stored.{AreKeyed, HasKey, joined, live_keys}
 use Rattle.row_keys.proofs.Joining.{joined_at, keys_live, unused_among}
 use Rattle.row_keys.proofs.KeyFacts.{key_datum, neither, or_none, same_refl, same_sym}
 use Rattle.row_keys.proofs.Places.{some_same}
@@ -111,11 +137,20 @@ none_live d (x ∷ xs) h = by x.live (none_live d xs h)
 abbrev store_of : Table → List (List Datum) → List Numbered → ℕ → Store
 store_of t rows xs v = record { table = t; slots = joined rows xs; visits = v }
 
+given_kind : (d : Datum) → key_of d ≡ None → is_null d ≡ false
+given_kind null h = absurd (none-some key.Null (sym h))
+given_kind (truth b) h = refl
+given_kind (whole n) h = refl
+given_kind (text s) h = refl
+given_kind (bytes b) h = refl
+given_kind (list es) h = refl
+given_kind (structure es) h = refl
+
 pub unknown_kind :
     (t : Table) (rows : List (List Datum)) (xs : List Numbered) (v : ℕ) (d : Datum) → AreKeyed t rows xs
-    → is_null d ≡ false → key_of d ≡ None → IsUnknown (store_of t rows xs v) d
-unknown_kind t rows xs v d keyed given none =
-    side_given t (contents_of (joined rows xs)) d given
+    → key_of d ≡ None → IsUnknown (store_of t rows xs v) d
+unknown_kind t rows xs v d keyed none =
+    side_given t (contents_of (joined rows xs)) d (given_kind d none)
     ∙ find_none t d (live (joined rows xs)) (ap (is_among d) (keys_live t rows xs keyed) ∙ none_live d xs none)
 
 there_below : (slots : List Slot) (n : ℕ) (b : Bool) → IsThere slots n b → n < length slots
@@ -123,7 +158,7 @@ there_below [] n b there = absurd (none-some (slot there.0 b) there.1)
 there_below (s ∷ ss) zero b there = omega arith
 there_below (s ∷ ss) (suc n) b there = let below = there_below ss n b there in omega (arith, below)
 
-pub known_by :
+known_by :
     (t : Table) (rows : List (List Datum)) (xs : List Numbered) (v : ℕ) (d : Datum) (k : Key) (found : Option ℕ)
     → AreKeyed t rows xs → AreDistinct xs → is_null d ≡ false → key_of d ≡ Some k
     → MatchOption found (IsUnused xs k) (λ n. IsAt xs n k true)
@@ -142,3 +177,34 @@ known_by t rows xs v d k (Some n) keyed distinct given is at =
           ∙ find_some t d (joined rows xs) n here.0 (here.1 ∙ exact) same
           (proper_joined t rows xs keyed distinct).distinct,
     )
+
+-- A stored key is no null, so null finds no row.
+
+no_null_key :
+    (t : Table) (rows : List (List Datum)) (xs : List Numbered) (n : ℕ) → AreKeyed t rows xs → All (HasKey t) rows
+    → IsAt xs n key.Null true → ⊥
+no_null_key t [] [] n keyed given at = none-some (numbered key.Null true) at
+no_null_key t [] (x ∷ xs) n keyed given at = keyed
+no_null_key t (r ∷ rs) [] n keyed given at = none-some (numbered key.Null true) at
+no_null_key t (r ∷ rs) (x ∷ xs) zero keyed given at =
+    let same : x ≡ numbered key.Null true = some_same x (numbered key.Null true) at in
+    true≢false (sym (ap is_null (keyed.0 ∙ ap (λ y. datum_of_key y.key) same)) ∙ given zero r (omega arith))
+no_null_key t (r ∷ rs) (x ∷ xs) (suc n) keyed given at = no_null_key t rs xs n keyed.1 (λ k d below. given (suc k) d (omega (arith, below))) at
+
+pub key_known :
+    (t : Table) (rows : List (List Datum)) (xs : List Numbered) (v : ℕ) (k : Key) (found : Option ℕ)
+    → AreKeyed t rows xs → AreDistinct xs → All (HasKey t) rows
+    → MatchOption found (IsUnused xs k) (λ n. IsAt xs n k true)
+    → MatchOption found (IsUnknown (store_of t rows xs v) (datum_of_key k)) (IsKnown (store_of t rows xs v)
+    (datum_of_key k))
+key_known t rows xs v (key.Bool b) found keyed distinct given at =
+    known_by t rows xs v (truth b) (key.Bool b) found keyed distinct refl refl at
+key_known t rows xs v (key.Int n) found keyed distinct given at =
+    known_by t rows xs v (whole n) (key.Int n) found keyed distinct refl refl at
+key_known t rows xs v (key.Utf8 s) found keyed distinct given at =
+    known_by t rows xs v (text s) (key.Utf8 s) found keyed distinct refl refl at
+key_known t rows xs v (key.Binary b) found keyed distinct given at =
+    known_by t rows xs v (bytes b) (key.Binary b) found keyed distinct refl refl at
+key_known t rows xs v key.Null None keyed distinct given at = side_null t (contents_of (joined rows xs)) null refl
+key_known t rows xs v key.Null (Some n) keyed distinct given at =
+    absurd (no_null_key t rows xs n keyed given at)

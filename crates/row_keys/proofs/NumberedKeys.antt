@@ -1,5 +1,5 @@
 -- The keys of rows by their numbers.
-use Rattle.std.proofs.Common.{◌≡◌, ℕ, zero, suc, ◌+◌, ◌<◌, List, [], ◌∷◌, ◌++◌, length, map, take, get_or, refl, ap, sym, ◌∙◌, arith}
+use Rattle.std.proofs.Common.{◌≡◌, ℕ, zero, suc, ◌+◌, ◌<◌, List, [], ◌∷◌, ◌++◌, length, map, take, get_or, ap, sym, ◌∙◌, arith}
 use Rattle.std.proofs.Math.Seq.{take-suc}
 use Rattle.std.proofs.lemmas.List.{map-append}
 use Rattle.values.specs.Datum.{Datum}
@@ -22,7 +22,8 @@ key_there t (r ∷ rs) (x ∷ xs) (suc n) keyed below = key_there t rs xs n keye
 pub key_more :
     (t : Table) (rows : List (List Datum)) (xs : List Numbered) (numbers : List ℕ) (i : ℕ) (keys after : List Key)
     (key : Key) → AreKeyed t rows xs → i < length numbers → get_or numbers i 0 < length xs
-    → map datum_of_key keys ≡ keys_at t (take i numbers) (joined rows xs) → key ≡ (get_or xs (get_or numbers i 0) no_row).key
+    → map datum_of_key keys ≡ keys_at t (take i numbers) (joined rows xs)
+    → key ≡ (get_or xs (get_or numbers i 0) no_row).key
     → after ≡ keys ++ key ∷ [] → map datum_of_key after ≡ keys_at t (take (i + 1) numbers) (joined rows xs)
 key_more t rows xs numbers i keys after key keyed below there so_far is pushed =
     let slots : List Slot = joined rows xs in

@@ -26,12 +26,10 @@ use Rattle.std.proofs.Common.{
   ◌∙◌,
   arith,
 }
-use Rattle.std.specs.Prelude.{Option, MatchOption, IfOk, Result, Ok, Err, if◌then◌else◌}
+use Rattle.std.specs.Prelude.{Option, MatchOption, if◌then◌else◌}
 use Rattle.std.proofs.lemmas.List.{length-map, take-map}
 use Rattle.std.proofs.lemmas.List.Elements.{All-get_or, All-take}
 use Rattle.std.proofs.lemmas.Option.{get_or_from_slice_get, slice_get-get_or}
-use Rattle.std.specs.Prelude.{Vec}
-use Rattle.std.specs.declared.alloc.Global.{Global}
 use Rattle.values.specs.Datum.{Datum, items_of}
 use Rattle.values.specs.Keys.{datum_of_key}
 use Rattle.values.specs.Layouts.{HoldsEach}
@@ -40,13 +38,12 @@ use Rattle.values.specs.declared.layout.Layout.{Layout}
 use Rattle.values.specs.declared.key.Key.{Key}
 use Rattle.arrays.specs.Checked.{CheckedColumn}
 use Rattle.schema_meta.specs.Rows.{row_at}
-use Rattle.view_lang.specs.Causes.{layouts_of}
 use Rattle.view_lang.specs.Config.{Table}
 use Rattle.view_lang.specs.Contents.{applied, is_among}
 use Rattle.view_lang.specs.Edits.{retract}
 use Rattle.view_lang.specs.Rows.{IsRow}
 use Rattle.row_keys.specs.declared.batches.Place.{Place}
-use Rattle.row_keys.specs.Batches.{AreAlike, cells_in, layouts_in}
+use Rattle.row_keys.specs.Batches.{AreAlike, cells_in}
 use Rattle.row_keys.specs.Numbers.{
   AreDistinct,
   AreLive,
@@ -317,52 +314,35 @@ held_alike (more t ts) none ds alike held = absurd alike
 held_alike (more t ts) (more u us) [] alike held = held
 held_alike (more t ts) (more u us) (d ∷ ds) alike held = (alike.0.holds d held.0, held_alike ts us ds alike.1 held.1)
 
-pub row_known :
+row_held : (t : Table) (bs : Batches) (ps : List Place) (xs : List Numbered) (n : ℕ) (p : Place) → IsStored t bs ps xs
+    → n < length ps → p ≡ get_or ps n p → HoldsRow t (row_by bs p)
+row_held t bs ps xs n p is below read =
+    let rows : length (rows_by bs ps) ≡ length ps = length-map ps (row_by bs) in
+    let P : List Datum → Type 0 = λ r. HoldsRow t r in
+    subst P (get_map bs ps n p [] below ∙ ap (row_by bs) (sym read))
+    (All-get_or (HoldsRow t) (rows_by bs ps) n [] (omega (arith, rows, below)) is.held)
+
+-- a row where it lies
+pub row_lies :
     (t : Table) (bs : Batches) (ps : List Place) (xs : List Numbered) (n : ℕ) (p : Place) (columns : List CheckedColumn)
-    (row : List Datum)
     → IsStored t bs ps xs → n < length ps → p ≡ get_or ps n p → columns ≡ columns_of bs p
-    → row ≡ row_at (cells_in columns) p.index
-    → HoldsEach (layouts_in columns) (items_of row)
-    → (row ≡ row_of (joined (rows_by bs ps) xs) n) × IsRow t.columns row
-row_known t bs ps xs n p columns row is below read same made held =
-    let here : row ≡ row_by bs p = made ∙ ap (λ cs. row_at (cells_in cs) p.index) same in
-    let P : List Datum → Type 0 = λ r. IsLightRow t r in
-    let Q : List CheckedColumn → Type 0 = λ cs. HoldsEach (layouts_in cs) (items_of row) in (
-      here ∙ sym (row_at_place t bs ps xs n p is below read),
-      record {
-        held = held_alike (layouts_of t) (layouts_in (columns_of bs p)) row
-            (place_known t bs ps xs n p is below read).alike (subst Q same held);
-        light = subst P (sym here) (row_light t bs ps xs n p is below read);
-      },
-    )
+    → (row_at (cells_in columns) p.index ≡ row_of (joined (rows_by bs ps) xs) n)
+    × IsRow t.columns (row_at (cells_in columns) p.index)
+row_lies t bs ps xs n p columns is below read same =
+    let here : row_at (cells_in columns) p.index ≡ row_by bs p =
+    ap (λ cs. row_at (cells_in cs) p.index) same in
+    let P : List Datum → Type 0 = λ r. IsRow t.columns r in
+    let right : IsRow t.columns (row_by bs p) = record {
+      held = row_held t bs ps xs n p is below read;
+      light = row_light t bs ps xs n p is below read;
+    } in
+    (here ∙ sym (row_at_place t bs ps xs n p is below read), subst P (sym here) right)
 
 pub columns_read :
     (bs : Batches) (p : Place) (cs : List CheckedColumn) → p.batch < length bs → cs ≡ get_or bs p.batch cs
     → cs ≡ columns_of bs p
 columns_read bs p cs below read =
     read ∙ sym (get_or_from_slice_get bs p.batch (get_or bs p.batch cs) [] (slice_get-get_or bs p.batch cs below))
-
-pub opened :
-    {E : Type 0} (t : Table) (bs : Batches) (ps : List Place) (xs : List Numbered) (n : ℕ) (p : Place)
-    (columns : List CheckedColumn)
-    (r : Result (Vec Datum Global) E) → IsStored t bs ps xs → n < length ps → p ≡ get_or ps n p
-    → columns ≡ columns_of bs p
-    → IfOk r (λ row. row.items ≡ row_at (cells_in columns) p.index)
-    → IfOk r (λ row. HoldsEach (layouts_in columns) (items_of row.items))
-    → IfOk r (λ row. (row.items ≡ row_of (joined (rows_by bs ps) xs) n) × IsRow t.columns row.items)
-opened t bs ps xs n p columns (Ok row) is below read same made held =
-    row_known t bs ps xs n p columns row.items is below read same made held
-opened t bs ps xs n p columns (Err e) is below read same made held = tt
-
-pub first_of : {E : Type 0} (P Q : Vec Datum Global → Type 0) (r : Result (Vec Datum Global) E)
-    → IfOk r (λ row. P row × Q row) → IfOk r P
-first_of P Q (Ok row) h = h.0
-first_of P Q (Err e) h = tt
-
-pub second_of : {E : Type 0} (P Q : Vec Datum Global → Type 0) (r : Result (Vec Datum Global) E)
-    → IfOk r (λ row. P row × Q row) → IfOk r Q
-second_of P Q (Ok row) h = h.1
-second_of P Q (Err e) h = tt
 
 pub live_joined : (rows : List (List Datum)) (xs : List Numbered) (n : ℕ) → n < length (joined rows xs)
     → (get_or (joined rows xs) n no_slot).live ≡ (get_or xs n no_row).live

@@ -18,7 +18,7 @@ use std::alloc::{AllocError, Global};
 use values::{Key, Kind, Value};
 use view_lang::{Table, Unfit};
 
-pub(crate) fn is_null(value: &Value) -> bool
+fn is_null(value: &Value) -> bool
     ensures { result ≡ is_null_by value.now }
 {
     match &value.kind {

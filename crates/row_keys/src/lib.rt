@@ -12,9 +12,11 @@ mod key_table;
 mod laws;
 mod numbers;
 mod store;
+mod stored_row;
 mod turning;
 mod weighing;
 
 pub use faults::EditFault;
 pub use laws::{batch_law, numbers_law};
 pub use store::RowStore;
+pub use stored_row::StoredRow;

@@ -63,10 +63,11 @@ ghost use Rattle.row_keys.specs.Store.{
   with_slots,
 };
 
-use crate::batches::{Batch, Place, keep_rows, read_row};
+use crate::batches::{Batch, Place, keep_rows};
 use crate::faults::EditFault;
-use crate::key_columns::{find_batch, find_keys, is_null, push_batch, push_keys};
+use crate::key_columns::{find_batch, find_keys, push_batch, push_keys};
 use crate::numbers::Numbers;
+use crate::stored_row::StoredRow;
 use crate::turning::{retract_all, retract_from, revive_all, revive_from};
 use arrays::Column;
 use std::alloc::{AllocError, Global};
@@ -362,15 +363,15 @@ impl RowStore {
         revive_all(&mut self.numbers, numbers);
     }
 
-    /// A copy of the row of this number, live or retracted.
-    fn copy_row(&self, number: usize) -> Result<Row, AllocError>
+    /// The row of this number where it lies, live or retracted.
+    fn row_at(&self, number: usize) -> StoredRow<'_>
         requires { number < length self.now.slots }
-        ensures row { IfOk result (λ row. row.items ≡ row_of self.now.slots number) }
-        ensures held { IfOk result (λ row. IsRow self.now.table.columns row.items) }
+        ensures row { result ≡ row_of self.now.slots number }
+        ensures held { IsRow self.now.table.columns result }
     {
         let place = self.places[number];
         let batch = &self.batches[place.batch];
-        read_row(self.alloc, &batch.columns, place.index)
+        StoredRow::new(&batch.columns, place.index)
     }
 
     /// A copy of the row of this number, live or retracted. It is a visit.
@@ -381,22 +382,29 @@ impl RowStore {
         ensures visit { self.new ≡ visited 1 self.old }
     {
         self.visits = self.visits.saturating_add(1);
-        self.copy_row(number)
+        self.row_at(number).copy(self.alloc)
     }
 
-    /// The number of the live row whose key a cell is.
-    fn number_of(&self, cell: &Value) -> Result<Option<usize>, AllocError>
-        ensures { IfOk result (λ number. MatchOption number (IsUnknown self.now cell.now) (IsKnown self.now cell.now)) }
+    /// The number of the live row with this key: null is no row's key.
+    fn number_with(&self, key: &Key) -> Option<usize>
+        ensures { MatchOption result (IsUnknown self.now (datum_of_key key.now))
+            (IsKnown self.now (datum_of_key key.now)) }
     {
-        let _table = &self.table;
-        if is_null(cell) {
-            return Ok(None);
-        }
-        let Some(key) = Key::of(self.alloc, cell)? else {
-            return Ok(None);
+        let numbers = &self.numbers;
+        numbers.distinct();
+        numbers.find(key)
+    }
+
+    /// The live row with this key where it lies, if there is one: null is no row's key. It takes no memory, and isn't a
+    /// visit.
+    pub fn get(&self, key: &Key) -> Option<StoredRow<'_>>
+        ensures row { result ≡ side_of self.now.table (contents_of self.now.slots) (datum_of_key key.now) }
+        ensures held { IfSome result (IsRow self.now.table.columns) }
+    {
+        let Some(number) = self.number_with(key) else {
+            return None;
         };
-        self.numbers.distinct();
-        Ok(self.numbers.find(&key))
+        Some(self.row_at(number))
     }
 
     /// A copy of the live row whose key a cell is, if there is one: a null is no row's key. It isn't a visit.
@@ -405,8 +413,11 @@ impl RowStore {
             ≡ side_of self.now.table (contents_of self.now.slots) cell.now) }
         ensures held { IfOk result (λ row. IfSome row (λ r. IsRow self.now.table.columns r.items)) }
     {
-        match self.number_of(cell)? {
-            Some(number) => Ok(Some(self.copy_row(number)?)),
+        let Some(key) = Key::of(self.alloc, cell)? else {
+            return Ok(None);
+        };
+        match self.get(&key) {
+            Some(row) => Ok(Some(row.copy(self.alloc)?)),
             None => Ok(None),
         }
     }

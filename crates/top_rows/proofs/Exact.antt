@@ -1,29 +1,16 @@
 -- Places that compare as equal are the same.
 use Rattle.std.proofs.Common.{◌≡◌, refl, ap, sym}
-use Rattle.std.specs.Prelude.{List, [], ◌∷◌, true, false}
+use Rattle.std.specs.Prelude.{List, [], ◌∷◌}
 use Rattle.std.specs.declared.cmp.Ordering.{Ordering}
 use Rattle.std.specs.declared.cmp.Ordering.TheVariants.{Less, Equal, Greater}
 use Rattle.std.specs.Ordering.{ordering_then, nat_cmp}
 use Rattle.std.specs.Cmp.Lexicographic.{slice_cmp}
-use Rattle.std.proofs.lemmas.Map.Lookups.{CmpEqualImpliesEq, exact_signed, exact_bytes, exact_unsigned}
+use Rattle.std.proofs.lemmas.Map.Lookups.{CmpEqualImpliesEq, exact_unsigned}
 use Rattle.values.specs.declared.key.Key.{Key}
-use Rattle.values.specs.declared.key.Key.TheVariants as key
-use Rattle.values.specs.contracts.key.KeyOrd.TheImpl as order
+use Rattle.view_lang.proofs.ExactKeys.{key_exact}
 use Rattle.top_rows.specs.declared.part.Part.{Part}
 use Rattle.top_rows.specs.declared.part.Part.TheVariants as part
 use Rattle.top_rows.specs.PlaceOrder.{part_cmp, place_cmp}
-
-abbrev key_cmp : Key → Key → Ordering
-key_cmp = order.ghosts.cmp
-
-key_exact : (a b : Key) → key_cmp a b ≡ Equal → a ≡ b
-key_exact (key.Bool true) (key.Bool true) h = refl
-key_exact (key.Bool false) (key.Bool false) h = refl
-key_exact (key.Int x) (key.Int y) h = ap key.Int (exact_signed x y h)
-key_exact (key.Utf8 x) (key.Utf8 y) h = ap key.Utf8 (exact_bytes x y h)
-key_exact (key.Binary x) (key.Binary y) h = ap key.Binary (exact_bytes x y h)
-key_exact key.Null key.Null h = refl
-key_exact a b h = absurd (cc)
 
 part_exact : (a b : Part) → part_cmp a b ≡ Equal → a ≡ b
 part_exact (part.Ascending x) (part.Ascending y) h = ap part.Ascending (key_exact x y h)

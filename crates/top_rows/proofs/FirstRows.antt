@@ -25,7 +25,7 @@ use Rattle.top_rows.specs.PlaceOrder.{RowPlace, part_cmp, place_cmp}
 use Rattle.top_rows.specs.Places.{place_of}
 use Rattle.top_rows.specs.SortedPlaces.{sorted_places}
 use Rattle.top_rows.specs.ViewOrder.{AreFirst, IsKeptFor, OrdersKeys}
-use Rattle.top_rows.proofs.OwnEntries.{HasOwn, own-entries}
+use Rattle.view_lang.proofs.OwnEntries.{HasOwn, own-entries}
 use Rattle.top_rows.proofs.Sorting.{are_sorted}
 
 part-cmp : (d : Direction) (a b : Datum) → IsKeyCell a → IsKeyCell b

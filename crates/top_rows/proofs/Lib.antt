@@ -3,6 +3,4 @@ pub mod Exact
 pub mod FirstRows
 pub mod InsertedKeys
 pub mod OneRow
-pub mod OwnEntries
-pub mod SameKeys
 pub mod Sorting

@@ -19,7 +19,7 @@ use Rattle.top_rows.specs.SortedPlaces.{PlacesAreSorted, sorted_places}
 use Rattle.top_rows.proofs.Exact.{place_exact}
 use Rattle.top_rows.proofs.InsertedKeys.{any-insert_key, sorted-insert_key}
 use Rattle.top_rows.proofs.OneRow.{some-here, some-there}
-use Rattle.top_rows.proofs.SameKeys.{same-keys}
+use Rattle.view_lang.proofs.AscendingKeys.{same-keys}
 
 module _ (order : List OrderBy) where
   sorted-places : (rows : NumberedRows) → IsStrictlySortedBy place_cmp (sorted_places order rows)

@@ -51,7 +51,7 @@ impl Ordered {
         })
     }
 
-    /// What it is made of, and nothing else is kept. Where memory is refused, it is gone.
+    /// Takes it apart. The parts are all that it keeps. If memory is refused, it is lost.
     pub fn into_parts(self) -> Result<OrderedParts, AllocError>
         ensures value { IfOk result (λ parts. ordered_with parts ≡ self) }
         ensures ascending { IfOk result (λ parts. AreAscending parts) }
@@ -71,7 +71,7 @@ impl Ordered {
         })
     }
 
-    /// The one that is made of these.
+    /// Makes the `Ordered` that has these parts.
     pub fn from_parts(alloc: Global, parts: OrderedParts) -> Result<Ordered, AllocError>
         requires { AreAscending parts }
         ensures { IfOk result (λ ordered. ordered ≡ ordered_with parts) }
@@ -88,7 +88,7 @@ impl Ordered {
         })
     }
 
-    /// Puts a row to its place. Where memory is refused, nothing has changed.
+    /// Inserts a row under its number. If memory is refused, nothing has changed.
     pub fn insert(&mut self, number: usize, row: &[Value]) -> Result<(), AllocError>
         ensures order { self.new.order ≡ self.old.order }
         ensures places { OnOk result ((p : RowPlace) → stands self.new.places p
@@ -100,7 +100,7 @@ impl Ordered {
         Ok(())
     }
 
-    /// Takes a row away, if it is there. Its place is made to look it up; where memory is refused, nothing has changed.
+    /// Removes a row, if it is there. The look-up takes memory; if that is refused, nothing has changed.
     pub fn remove(&mut self, number: usize, row: &[Value]) -> Result<(), AllocError>
         ensures order { self.new.order ≡ self.old.order }
         ensures places { OnOk result ((p : RowPlace) → stands self.new.places p
@@ -136,8 +136,8 @@ impl Ordered {
         }
     }
 
-    /// Brings one number's row to what it is after the change. It is removed first: a row whose place stays the same is
-    /// then there in the end.
+    /// Applies the change of one row. It is removed before it is inserted, so that a row whose place stays the same is
+    /// there in the end.
     fn change_row(&mut self, changed: &RowChange) -> Result<(), AllocError>
         ensures order { self.new.order ≡ self.old.order }
         ensures kept { OnOk result ((rows : NumberedRows) → IsStrictlySortedBy nat_cmp (keys_of rows)
@@ -149,7 +149,7 @@ impl Ordered {
         Ok(())
     }
 
-    /// The numbers of the first rows, at most so many.
+    /// The numbers of the first rows, at most `most` of them.
     pub fn first(&self, alloc: Global, most: usize) -> Result<Vec<usize>, AllocError>
         ensures ascending { IsStrictlySortedBy place_cmp self.now.places }
         ensures numbers { IfOk result (λ numbers.
@@ -166,7 +166,7 @@ impl Ordered {
         Ok(numbers)
     }
 
-    /// The numbers of the first rows of a view in this order, at most so many. A view that shows all of its rows
+    /// The numbers of the first rows of a view in this order, at most `most` of them. A view that shows all of its rows
     /// asks for as many as there are.
     pub fn first_of_view(&self, alloc: Global, most: usize) -> Result<Vec<usize>, AllocError>
         ensures { IfOk result (λ numbers.

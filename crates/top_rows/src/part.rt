@@ -19,7 +19,7 @@ pub enum Part {
 }
 
 impl Part {
-    /// That of a row in a column of an order.
+    /// What a row has in a column of an order.
     pub(crate) fn of(alloc: Global, row: &[Value], by: &OrderBy) -> Result<Part, AllocError>
         ensures { IfOk result (λ part. part ≡ part_of by.now.direction (cell_at row.now by.now.column)) }
     {

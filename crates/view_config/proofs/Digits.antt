@@ -49,7 +49,8 @@ pub digits-more :
 digits-more m n cs i d h digit is = rw (digits-step m cs i d h) (rw digit (rw is refl))
 
 -- no digit is left of a number that 128 bits hold
-pub digits-none : (m : ℕ) (cs : List ℕ) (i : ℕ) → m < 2 ^ 128 → length cs ≤ i → held (digits_after m (drop i cs)) ≡ Some m
+pub digits-none : (m : ℕ) (cs : List ℕ) (i : ℕ) → m < 2 ^ 128 → length cs ≤ i
+    → held (digits_after m (drop i cs)) ≡ Some m
 digits-none m cs i h none =
     let e : min m top ≡ m = omega (arith, h) in rw (drop_all i cs none) (ap (λ n. Some n) e)
 

@@ -1,36 +1,14 @@
 -- The columns of a view are columns as a table's are.
-use Rattle.std.proofs.Common.{
-  ◌≡◌,
-  ℕ,
-  zero,
-  suc,
-  true,
-  List,
-  [],
-  ◌∷◌,
-  ◌++◌,
-  ◌<◌,
-  ◌≤◌,
-  All,
-  None,
-  Option,
-  Some,
-  get_or,
-  length,
-  map,
-  refl,
-  arith,
-}
+use Rattle.std.proofs.Common.{ℕ, zero, suc, List, [], ◌∷◌, ◌++◌, ◌<◌, ◌≤◌, All, None, Option, Some, get_or, length, map, refl, arith}
 use Rattle.std.proofs.lemmas.List.Elements.{All-get_or, All-head, All-tail}
-use Rattle.std.specs.Str.{is_utf8}
 use Rattle.values.specs.ColTypes.{IsType}
 use Rattle.values.specs.declared.col_type.ColType.{ColType}
 use Rattle.values.specs.declared.col_type.ColType.TheVariants as col
 use Rattle.values.specs.Layouts.{AreLayouts, IsLayout}
 use Rattle.values.specs.Limits.{max_depth}
 use Rattle.values.specs.Logical.{AreLogicalColumns, IsLogical, NamedType, tree_of, trees_of}
-use Rattle.values.specs.Rose.{Rose, node, none, kids_of, rose_depth, roses_depth}
-use Rattle.view_lang.specs.Config.{Table, View}
+use Rattle.values.specs.Rose.{Rose, node, kids_of, rose_depth, roses_depth}
+use Rattle.view_lang.specs.Config.{Table}
 use Rattle.view_lang.specs.ConfigRules.{
   AreOutputs,
   IsAddable,
@@ -43,20 +21,8 @@ use Rattle.view_lang.specs.ConfigRules.{
 }
 use Rattle.view_lang.specs.Laws.{ViewsAreTables}
 use Rattle.view_lang.specs.Outputs.{GroupOutput, Output, Outputs, columns, groups}
-use Rattle.view_lang.specs.TableRules.{AreColumns, AreSlim, AreWithin, IsName, IsSlim, IsTable, IsWithin, type_of}
-use Rattle.view_lang.specs.ViewColumns.{
-  aggregate_field,
-  count_type,
-  field_at,
-  joined_columns,
-  no_field,
-  output_field,
-  output_fields,
-  renamed,
-  simple_field,
-  sum_type,
-  view_columns,
-}
+use Rattle.view_lang.specs.TableRules.{AreColumns, AreSlim, AreWithin, IsSlim, IsTable, IsWithin, type_of}
+use Rattle.view_lang.specs.ViewColumns.{aggregate_field, count_type, field_at, joined_columns, output_field, output_fields, renamed, simple_field, sum_type, view_columns}
 use Rattle.view_lang.specs.World.{table_at}
 use Rattle.view_lang.specs.declared.view.Aggregate.{Aggregate}
 use Rattle.view_lang.specs.declared.view.Aggregate.TheVariants as aggregate
@@ -150,7 +116,8 @@ decimal_column name s text few = record {
 }
 
 -- What can be added has few digits after the point, as its column is right.
-sum_column : (name : List ℕ) (t : ColType) → IsText name → IsAddable t → IsType t → IsColumn (simple_field name (sum_type t))
+sum_column : (name : List ℕ) (t : ColType) → IsText name → IsAddable t → IsType t
+    → IsColumn (simple_field name (sum_type t))
 sum_column name (col.Int w s) text can is = decimal_column name 0 text (omega arith)
 sum_column name (col.Decimal p s) text can is = decimal_column name s text (omega (arith, can, is.2))
 sum_column name col.Bool text can is = absurd can
@@ -205,7 +172,8 @@ module _ (fs : List (Rose NamedType)) (a : AreSuch fs) where
   outputs_such (columns outputs) is = output_such outputs is
   outputs_such (groups by outputs) is = groups_such by outputs is.0 is.1
 
-table_such : (tables : List Table) (n : ℕ) → All IsTable tables → n < length tables → AreSuch (table_at tables n).columns
+table_such : (tables : List Table) (n : ℕ) → All IsTable tables → n < length tables
+    → AreSuch (table_at tables n).columns
 table_such tables n all there =
     such_table (table_at tables n).columns (All-get_or IsTable tables n _ there all).columns
 
@@ -214,7 +182,8 @@ first_table : (tables : List Table) → All IsTable tables → AreSuch (table_at
 first_table [] all = no_columns
 first_table (t ∷ ts) all = table_such (t ∷ ts) 0 all (omega arith)
 
-pub joined_such : (tables : List Table) (l : Option Lookup) → All IsTable tables → IsLookup tables l → AreSuch (joined_columns tables l)
+pub joined_such : (tables : List Table) (l : Option Lookup) → All IsTable tables → IsLookup tables l
+    → AreSuch (joined_columns tables l)
 joined_such tables None all is = first_table tables all
 joined_such tables (Some l) all is =
     such_append (table_at tables 0).columns (table_at tables (suc l.side)).columns (first_table tables all)

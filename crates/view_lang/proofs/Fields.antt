@@ -1,26 +1,5 @@
 -- Fields below a field, columns that are logical, and tables by number.
-use Rattle.std.proofs.Common.{
-  ◌≡◌,
-  ℕ,
-  zero,
-  suc,
-  Some,
-  List,
-  [],
-  ◌∷◌,
-  ◌<◌,
-  ◌≤◌,
-  All,
-  get_or,
-  length,
-  map,
-  refl,
-  ap,
-  arith,
-  sym,
-  subst,
-  ◌∙◌,
-}
+use Rattle.std.proofs.Common.{◌≡◌, ℕ, zero, suc, Some, List, [], ◌∷◌, ◌<◌, ◌≤◌, All, get_or, length, map, refl, ap, arith, ◌∙◌}
 use Rattle.std.proofs.lemmas.List.Elements.{All-cons, All-get_or, All-map}
 use Rattle.std.proofs.lemmas.Option.{none-some, slice_get_within}
 use Rattle.std.specs.Prelude.{slice_get}
@@ -33,7 +12,7 @@ use Rattle.view_lang.specs.Config.{Config, SideTable, Table, tables_of}
 use Rattle.view_lang.specs.ConfigRules.{IsConfig}
 use Rattle.view_lang.specs.Edits.{table_of}
 use Rattle.view_lang.specs.TableRules.{IsTable}
-use Rattle.view_lang.specs.ViewColumns.{columns_by, feed_columns, field_at, key_column, no_field}
+use Rattle.view_lang.specs.ViewColumns.{columns_by, feed_columns, no_field}
 use Rattle.view_lang.specs.World.{table_at}
 use Rattle.view_lang.specs.declared.config.Role.{Role}
 use Rattle.view_lang.specs.declared.config.Role.TheVariants as role
@@ -73,10 +52,12 @@ columns_logical t (role.Drop side) is = (logical_at t.columns t.key is.key.0 is.
 -- The tables of a configuration
 
 pub tables_right : (c : Config) → IsConfig c → All IsTable (tables_of c)
-tables_right c is = All-cons IsTable c.main (map (λ s. s.table) c.sides) is.main (All-map IsTable (λ s. s.table) c.sides is.sides)
+tables_right c is = All-cons IsTable c.main (map (λ s. s.table) c.sides) is.main (All-map IsTable (λ s. s.table)
+    c.sides is.sides)
 
 pub feed_logical :
-    (c : Config) (r : Role) → IsConfig c → table_of r < length (tables_of c) → AreLogicalColumns (feed_columns (tables_of c) r)
+    (c : Config) (r : Role) → IsConfig c → table_of r < length (tables_of c)
+    → AreLogicalColumns (feed_columns (tables_of c) r)
 feed_logical c r is there =
     columns_logical (table_at (tables_of c) (table_of r)) r
     (All-get_or IsTable (tables_of c) (table_of r) _ there (tables_right c is))

@@ -1,41 +1,8 @@
 -- What is shown of a group is held by its column.
-use Rattle.std.proofs.Common.{
-  ◌≡◌,
-  ℕ,
-  zero,
-  suc,
-  Bool,
-  true,
-  false,
-  not,
-  List,
-  [],
-  ◌∷◌,
-  ◌+◌,
-  ◌*◌,
-  ◌<◌,
-  ◌≤◌,
-  ◌^◌,
-  ℤ,
-  pos,
-  negsuc,
-  neg_ℤ,
-  nat_abs,
-  ◌+ℤ◌,
-  ◌≤ℤ◌,
-  ◌<ℤ◌,
-  All,
-  cond,
-  filter,
-  get_or,
-  length,
-  map,
-  refl,
-  arith,
-}
+use Rattle.std.proofs.Common.{ℕ, Bool, true, false, not, List, [], ◌∷◌, ◌*◌, ◌<◌, ◌≤◌, ◌^◌, ℤ, pos, negsuc, neg_ℤ, nat_abs, ◌≤ℤ◌, All, cond, get_or, length, map, arith}
 use Rattle.std.proofs.lemmas.Int.{ints}
 use Rattle.std.proofs.lemmas.List.{length-map}
-use Rattle.std.proofs.lemmas.List.Elements.{All-cons, All-filter, All-get_or, All-head, All-map, All-nil, All-tail, All-weaker}
+use Rattle.std.proofs.lemmas.List.Elements.{All-filter, All-head, All-map, All-tail, All-weaker}
 use Rattle.std.proofs.Math.Nat.{pow-le-pow_right}
 use Rattle.std.specs.Ordering.{is_gt}
 use Rattle.values.specs.ColTypes.{layout_of}
@@ -47,10 +14,10 @@ use Rattle.values.specs.declared.layout.IntWidth.TheVariants as int
 use Rattle.values.specs.Layouts.{FitsIn, Holds, IsDecimal, IsNumber, bytes_in}
 use Rattle.values.specs.Limits.{max_main_rows}
 use Rattle.values.specs.Logical.{NamedType, tree_of, trees_of}
-use Rattle.values.specs.Rose.{Rose, node, none}
-use Rattle.view_lang.specs.Cells.{cell_at, cells_at, is_null}
-use Rattle.view_lang.specs.ConfigRules.{IsAddable, IsAggregate, IsOrdered}
-use Rattle.view_lang.specs.Groups.{aggregate_of, earlier, first_in, number_in, sum_of, total, values_at}
+use Rattle.values.specs.Rose.{Rose, node}
+use Rattle.view_lang.specs.Cells.{cell_at, is_null}
+use Rattle.view_lang.specs.ConfigRules.{IsAddable, IsAggregate}
+use Rattle.view_lang.specs.Groups.{aggregate_of, first_in, number_in, sum_of, total, values_at}
 use Rattle.view_lang.specs.RowOrder.{cell_cmp}
 use Rattle.view_lang.specs.Sums.{IsSmall}
 use Rattle.view_lang.specs.TableRules.{type_of}
@@ -59,7 +26,7 @@ use Rattle.view_lang.specs.declared.view.Aggregate.{Aggregate}
 use Rattle.view_lang.specs.declared.view.Aggregate.TheVariants as aggregate
 use Rattle.view_lang.specs.declared.view.Direction.{Direction}
 use Rattle.view_lang.proofs.CellFits.{AreFit, Fits, cell_fits, null_fits, renamed_fits}
-use Rattle.view_lang.proofs.Columns.{AreSuch, IsColumn, column_at}
+use Rattle.view_lang.proofs.Columns.{AreSuch, column_at}
 use Rattle.view_lang.proofs.InputRows.{few_filtered}
 
 -- Numbers that are added are small.
@@ -90,8 +57,24 @@ digits : (p : ℕ) → p ≤ 28 → 10 ^ p ≤ 10 ^ 28
 digits p few = pow-le-pow_right (omega arith) few
 
 digits_small : (p : ℕ) (z : ℤ) → p ≤ 28 → nat_abs z < 10 ^ p → IsSmall z
-digits_small p (pos k) few is = let most = digits p few in (omega (arith, ints, most, is), omega (arith, ints, most, is))
-digits_small p (negsuc k) few is = let most = digits p few in (omega (arith, ints, most, is), omega (arith, ints, most, is))
+digits_small p (pos k) few is = let most = digits p few in (
+  omega (arith, ints, most, is),
+  omega (
+    arith,
+    ints,
+    most,
+    is,
+  ),
+)
+digits_small p (negsuc k) few is = let most = digits p few in (
+  omega (arith, ints, most, is),
+  omega (
+    arith,
+    ints,
+    most,
+    is,
+  ),
+)
 
 decimal_small : (p : ℕ) (d : Datum) → p ≤ 28 → IsDecimal p d → IsSmall (number_in d)
 decimal_small p null few is = zero_small
@@ -199,7 +182,8 @@ module _ (fs : List (Rose NamedType)) (such : AreSuch fs) (rows : List (List Dat
     few,
   )
 
-  added_fits : (k : ℕ) → k < length fs → IsAddable (type_of (field_at fs k)) → All (λ d. IsSmall (number_in d)) (values_at k rows)
+  added_fits : (k : ℕ) → k < length fs → IsAddable (type_of (field_at fs k))
+      → All (λ d. IsSmall (number_in d)) (values_at k rows)
   added_fits k below can =
       All-weaker (Fits (tree_of (field_at fs k))) (λ d. IsSmall (number_in d))
       (λ d fits. added_small (field_at fs k) d can fits) (values_at k rows) (column_fits k below)
@@ -217,7 +201,8 @@ module _ (fs : List (Rose NamedType)) (such : AreSuch fs) (rows : List (List Dat
   aggregate_fits by name (aggregate.Key k) tuple is held =
       renamed_fits name (field_at fs (get_or by k 0)) (cell_at tuple k) (held k is)
   aggregate_fits by name aggregate.Count tuple is held = count_fits name (length rows) few
-  aggregate_fits by name (aggregate.CountOf k) tuple is held = count_fits name (length (values_at k rows)) (few_values k)
+  aggregate_fits by name (aggregate.CountOf k) tuple is held = count_fits name (length (values_at k rows)) (few_values
+      k)
   aggregate_fits by name (aggregate.Sum k) tuple is held =
       sum_fits (type_of (field_at fs k)) name (values_at k rows) is.1 (few_values k) (added_fits k is.0 is.1)
   aggregate_fits by name (aggregate.Least k) tuple is held = first_of_column _ name k is.0

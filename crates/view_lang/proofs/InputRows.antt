@@ -1,54 +1,22 @@
 -- The rows that a view is made of hold the columns of joined rows, and are at most as many as the main table's.
-use Rattle.std.proofs.Common.{
-  ◌≡◌,
-  ℕ,
-  zero,
-  suc,
-  Bool,
-  true,
-  false,
-  List,
-  [],
-  ◌∷◌,
-  ◌++◌,
-  ◌<◌,
-  ◌≤◌,
-  All,
-  IfSome,
-  None,
-  Option,
-  Some,
-  filter,
-  filter_map,
-  find,
-  if◌then◌else◌,
-  get_or,
-  length,
-  replicate,
-  refl,
-  sym,
-  arith,
-  subst,
-}
-use Rattle.std.proofs.lemmas.List.Elements.{All-cons, All-filter, All-get_or, All-head, All-nil, All-tail, All-weaker}
+use Rattle.std.proofs.Common.{ℕ, suc, Bool, true, false, List, [], ◌∷◌, ◌++◌, ◌≤◌, All, IfSome, None, Option, Some, filter, filter_map, if◌then◌else◌, length, replicate, sym, arith, subst}
+use Rattle.std.proofs.lemmas.List.Elements.{All-cons, All-filter, All-get_or, All-head, All-nil, All-tail}
 use Rattle.std.specs.List.{cons_option}
 use Rattle.std.specs.Option.{option_map}
-use Rattle.values.specs.Datum.{Datum, null, truth, whole, text, bytes, list, structure}
+use Rattle.values.specs.Datum.{Datum, null}
 use Rattle.values.specs.Logical.{NamedType}
 use Rattle.values.specs.Rose.{Rose}
 use Rattle.values.specs.Limits.{max_main_rows}
-use Rattle.view_lang.specs.Cells.{cell_at}
 use Rattle.view_lang.specs.Config.{Table, View}
 use Rattle.view_lang.specs.ConfigRules.{IsLookup}
-use Rattle.view_lang.specs.Contents.{Contents, key_in, no_contents, same_key}
-use Rattle.view_lang.specs.Joined.{Side, joined, joined_by, joined_row, looked_up, or_missing, side_of}
+use Rattle.view_lang.specs.Joined.{Side, joined, joined_row, looked_up, or_missing}
 use Rattle.view_lang.specs.Laws.{IsLookedUp, Viewed}
 use Rattle.view_lang.specs.Rows.{IsRow}
 use Rattle.view_lang.specs.TableRules.{IsTable}
 use Rattle.view_lang.specs.Truth.{passes}
 use Rattle.view_lang.specs.ViewColumns.{joined_columns}
-use Rattle.view_lang.specs.Views.{side_in, view_input}
-use Rattle.view_lang.specs.World.{World, contents_at, no_table, table_at}
+use Rattle.view_lang.specs.Views.{view_input}
+use Rattle.view_lang.specs.World.{no_table, table_at}
 use Rattle.view_lang.specs.declared.view.Lookup.{Lookup}
 use Rattle.view_lang.specs.declared.view.Missing.{Missing}
 use Rattle.view_lang.specs.declared.view.Missing.TheVariants as missing

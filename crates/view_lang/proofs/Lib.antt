@@ -22,3 +22,7 @@ pub mod Multisets
 pub mod Imaging
 pub mod OneByOne
 pub mod LiveKeys
+pub mod AscendingKeys
+pub mod OwnEntries
+pub mod LastEntries
+pub mod ExactKeys

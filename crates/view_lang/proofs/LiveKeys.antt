@@ -1,34 +1,11 @@
 -- The keys of live rows stay distinct.
-use Rattle.std.proofs.Common.{
-  ◌≡◌,
-  Bool,
-  true,
-  false,
-  not,
-  cond,
-  ◌||◌,
-  List,
-  [],
-  ◌∷◌,
-  ◌++◌,
-  Option,
-  None,
-  Some,
-  filter,
-  map,
-  refl,
-  ap,
-  sym,
-  ◌∙◌,
-  subst,
-  true≢false,
-}
+use Rattle.std.proofs.Common.{◌≡◌, Bool, true, false, not, cond, ◌||◌, List, [], ◌∷◌, ◌++◌, None, Some, filter, refl, ap, sym, ◌∙◌, true≢false}
 use Rattle.std.specs.Prelude.{find}
 use Rattle.std.proofs.lemmas.List.{map-append}
 use Rattle.std.proofs.lemmas.Option.{none-some}
 use Rattle.std.specs.Cmp.{eq_by_cmp_equiv}
 use Rattle.values.specs.Datum.{Datum}
-use Rattle.view_lang.specs.Causes.{any_among, cause_of, causes, has_null, has_repeated, stands}
+use Rattle.view_lang.specs.Causes.{any_among, cause_of, has_null, has_repeated, stands}
 use Rattle.view_lang.specs.Config.{Table}
 use Rattle.view_lang.specs.Contents.{Contents, applied, is_among, key_in, keys_in, same_key, without}
 use Rattle.view_lang.specs.Edits.{TableEdit, append, put, retract}

@@ -28,7 +28,17 @@ use Rattle.std.proofs.Common.{
   subst,
 }
 use Rattle.std.proofs.lemmas.List.{length-map}
-use Rattle.std.proofs.lemmas.List.Elements.{All-cons, All-filter, All-get_or, All-head, All-map, All-nil, All-tail, All-take, All-weaker}
+use Rattle.std.proofs.lemmas.List.Elements.{
+  All-cons,
+  All-filter,
+  All-get_or,
+  All-head,
+  All-map,
+  All-nil,
+  All-tail,
+  All-take,
+  All-weaker,
+}
 use Rattle.std.proofs.lemmas.List.Filters.{All-dedup}
 use Rattle.std.specs.List.{dedup, dedup_from}
 use Rattle.std.specs.Ordering.{is_gt}
@@ -46,7 +56,14 @@ use Rattle.view_lang.specs.RowOrder.{row_cmp, tuple_cmp}
 use Rattle.view_lang.specs.Rows.{IsRow}
 use Rattle.view_lang.specs.Sorted.{placed, sorted}
 use Rattle.view_lang.specs.Sums.{CanSum, IsSummable}
-use Rattle.view_lang.specs.ViewColumns.{aggregate_field, field_at, joined_columns, output_field, output_fields, view_columns}
+use Rattle.view_lang.specs.ViewColumns.{
+  aggregate_field,
+  field_at,
+  joined_columns,
+  output_field,
+  output_fields,
+  view_columns,
+}
 use Rattle.view_lang.specs.Views.{first_of, output_rows, shown_row, shown_rows, view_input, view_rows}
 use Rattle.view_lang.specs.declared.view.Aggregate.{Aggregate}
 use Rattle.view_lang.specs.declared.view.Aggregate.TheVariants as aggregate
@@ -134,7 +151,8 @@ plain_fits fs (o ∷ os) row all fit =
 
 -- Rows of groups
 
-tuple_at : (by : List ℕ) (row : List Datum) (k : ℕ) → k < length by → cell_at (cells_at by row) k ≡ cell_at row (get_or by k 0)
+tuple_at : (by : List ℕ) (row : List Datum) (k : ℕ) → k < length by
+    → cell_at (cells_at by row) k ≡ cell_at row (get_or by k 0)
 tuple_at [] row k below = absurd (omega (arith, below))
 tuple_at (b ∷ bs) row zero below = refl
 tuple_at (b ∷ bs) row (suc k) below = tuple_at bs row k (omega (arith, below))
@@ -160,14 +178,23 @@ tuples_fit fs (k ∷ ks) rows ordered all =
     All-dedup same_tuple P (sorted tuple_cmp (map (cells_at (k ∷ ks)) rows))
     (All-sorted tuple_cmp P (map (cells_at (k ∷ ks)) rows)
     (All-map P (cells_at (k ∷ ks)) rows
-    (All-weaker (AreFit fs) (λ row. P (cells_at (k ∷ ks) row)) (λ row fit. row_tuple fs (k ∷ ks) row ordered fit) rows all)))
+    (All-weaker (AreFit fs) (λ row. P (cells_at (k ∷ ks) row)) (λ row fit. row_tuple fs (k ∷ ks) row ordered fit) rows
+    all)))
 
-few_tuples : (by : List ℕ) (rows : List (List Datum)) → length rows ≤ max_main_rows → length (tuples_of by rows) ≤ max_main_rows
+few_tuples : (by : List ℕ) (rows : List (List Datum)) → length rows ≤ max_main_rows
+    → length (tuples_of by rows) ≤ max_main_rows
 unfolding tuples_of
 few_tuples [] rows few = omega arith
 few_tuples (k ∷ ks) rows few =
     let tuples : List (List Datum) = map (cells_at (k ∷ ks)) rows in
-    omega (arith, few, fewer same_tuple (sorted tuple_cmp tuples), length-sorted tuple_cmp tuples, length-map rows (cells_at (k ∷ ks)))
+    omega (
+      arith,
+      few,
+      fewer same_tuple (sorted tuple_cmp tuples),
+      length-sorted tuple_cmp tuples,
+      length-map rows
+          (cells_at (k ∷ ks)),
+    )
 
 group_fits :
     (fs : List (Rose NamedType)) (by : List ℕ) (os : List GroupOutput) (tuple : List Datum) (rows : List (List Datum))
@@ -242,7 +269,8 @@ module _ (fs : List (Rose NamedType)) (such : AreSuch fs) (rows : List (List Dat
   outputs_summable (columns os) is = tt
   outputs_summable (groups by os) is = (
     few,
-    All-weaker (AreFit fs) (λ row. All (λ o. IsSummable o.aggregate row) os) (λ row fit. row_summable fs by os row is.1 fit)
+    All-weaker (AreFit fs) (λ row. All (λ o. IsSummable o.aggregate row) os) (λ row fit. row_summable fs by os row is.1
+        fit)
         rows all,
   )
 
@@ -251,7 +279,8 @@ module _ (fs : List (Rose NamedType)) (such : AreSuch fs) (rows : List (List Dat
 pub views_can_sum : ViewsCanSum
 views_can_sum tables v side input is =
     outputs_summable (joined_columns tables v.lookup) (joined_such tables v.lookup is.right is.view.lookup)
-    (view_input v side input) (input_fits tables v side input is) (input_few tables v side input is) v.outputs is.view.outputs
+    (view_input v side input) (input_fits tables v side input is) (input_few tables v side input is) v.outputs
+    is.view.outputs
 
 pub views_have_rows : ViewsHaveRows
 unfolding view_rows shown_rows

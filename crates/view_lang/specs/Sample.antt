@@ -1,4 +1,5 @@
--- Two tables with some edits. The main table has a key `k`, a whole number, and `b`, a list of values of 65,535 bytes; the
+-- Two tables with some edits. The main table has a key `k`, a whole number, and `b`, a list of values of 65,535 bytes;
+-- the
 -- side table has a key `k` and a whole number `z`.
 use Rattle.std.specs.Prelude.{ℕ, List, [], ◌∷◌, None, Some, pos, replicate, true}
 use Rattle.values.specs.Datum.{Datum, null, whole, list, items_of}
@@ -11,7 +12,6 @@ use Rattle.view_lang.specs.Config.{Table, View}
 use Rattle.view_lang.specs.Edits.{Edit, append, edit_at, put, retract}
 use Rattle.view_lang.specs.Outputs.{columns}
 use Rattle.view_lang.specs.World.{World}
-use Rattle.view_lang.specs.declared.view.Lookup.{Lookup}
 use Rattle.view_lang.specs.declared.view.Missing.TheVariants as missing
 
 abbrev pub key_field : Rose NamedType
@@ -74,7 +74,8 @@ sample_view =
 abbrev pub sample_shown : List (List Datum)
 sample_shown = (null ∷ number 20 ∷ []) ∷ (nulls 1 ∷ null ∷ []) ∷ []
 
--- An edit for each cause: a null key beside one that is live, a live key, a key twice, a key that isn't there, a row too
+-- An edit for each cause: a null key beside one that is live, a live key, a key twice, a key that isn't there, a row
+-- too
 -- many, and a list of 16 nulls.
 
 abbrev pub null_key : Edit

@@ -1,4 +1,4 @@
-use Rattle.lookups.proofs.Appended.{key-next}
+use Rattle.view_lang.proofs.LastEntries.{key-next}
 use Rattle.lookups.proofs.numbers.Numbers.of.Goals as goal
 use Rattle.std.proofs.Common.{◌≡◌, ◌++◌, ◌∷◌, rules, ap, sym, ◌∙◌, List, ℕ}
 use Rattle.std.specs.Cmp.{nat_cmp_total}

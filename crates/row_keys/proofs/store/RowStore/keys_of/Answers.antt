@@ -29,4 +29,5 @@ loop-number-preserved c =
     c.push.new.self.items c.in_ok-copy.field-0 c.self.invariant.keyed c.loop-number-test.true
     (number_within c.self.inside.table c.self.inside.batches.items c.self.inside.places.items c.self.inside.numbers
     (get_or c.args.numbers.now c.loop-number.number-index 0) c.self.invariant there).1
-    (rw (← c.self.view_is) at c.loop-number.invariant) (c.in_ok-copy.ensures ∙ c.key.ensures) c.in_ok-push.ensures.items)
+    (rw (← c.self.view_is) at c.loop-number.invariant) (c.in_ok-copy.ensures
+    ∙ c.key.ensures) c.in_ok-push.ensures.items)
