@@ -2,3 +2,4 @@ pub mod Sample
 pub mod Bits
 pub mod OffsetLemmas
 pub mod SoundLemmas
+pub mod FullBytes

@@ -21,15 +21,16 @@ use Rattle.std.proofs.Common.{
   ◌∙◌,
   arith,
 }
-use Rattle.std.specs.Prelude.{Option, None, Some, Ok, Err, Bool, slice_get}
-use Rattle.std.proofs.lemmas.Option.{slice_get_past, slice_get_within, get_or_from_slice_get}
+use Rattle.std.specs.Prelude.{Result, Option, None, Some, Ok, Err, Bool, slice_get, get_or}
+use Rattle.std.proofs.lemmas.Option.{slice_get_past, slice_get_within, slice_get-get_or, get_or_from_slice_get}
 use Rattle.std.proofs.lemmas.List.Elements.{All-get_or}
 use Rattle.std.proofs.Math.Nat.{mul-le-mul_left}
+use Rattle.values.specs.declared.faults.StreamFault.{StreamFault}
 use Rattle.values.specs.declared.faults.StreamFault.TheVariants as fault
-use Rattle.values.specs.Reading.{Reading, one, must, Stands, IsValid}
+use Rattle.values.specs.Reading.{Reading, one, must, Stands, IsValid, Passes}
 use Rattle.values.proofs.Readings.{must_Ok}
 use Rattle.values.specs.Rose.{node, Roses, none, more}
-use Rattle.values.specs.Datum.{Datum}
+use Rattle.values.specs.Datum.{Datum, null}
 use Rattle.values.specs.declared.layout.IntWidth.{IntWidth}
 use Rattle.values.specs.declared.layout.Layout.{Layout}
 use Rattle.values.specs.declared.layout.Layout.TheVariants.{
@@ -46,9 +47,11 @@ use Rattle.values.specs.Layouts.{bytes_in, IsNode, Holds, slot, weight}
 use Rattle.array_layout.specs.declared.array.DictionaryValues.{DictionaryValues}
 use Rattle.array_layout.specs.declared.array.ArrayData.{ArrayData}
 use Rattle.array_layout.specs.Buffers.{number_at}
+use Rattle.array_layout.specs.Placing.{bytes_of}
 use Rattle.array_layout.specs.Sound.{first_len, HasRoom, IsSound}
 use Rattle.array_layout.specs.Cells.{coded_by, indexed}
-use Rattle.arrays.specs.Encoded.{HasIndex}
+use Rattle.arrays.specs.Encoded.{HasIndex, HasIndices}
+use Rattle.arrays.proofs.RangeLemmas.{buffer_long}
 use Rattle.arrays.specs.Weights.{capped, encoded_weight}
 
 -- an index and its value
@@ -85,23 +88,79 @@ coded_number l ds indices i w s z m is same read =
 
 pub ruleset encoded_laws = (number_here, coded_number)
 
--- a slot has its value where the reading is good
-pub encoded_valid : (o : Option Datum) (m : Reading Datum) (d : Datum) → must fault.DictionaryIndex o ≡ m → o ≡ Some d
-    → IsValid m
-encoded_valid o m d is some =
-    let P : Option Datum → Type 0 = λ x. must fault.DictionaryIndex x ≡ m in
-    let read : Ok d ≡ m = subst P some is in
-    subst IsValid read tt
+-- an index is judged by the number of values
+pub bounded_valid : (ds : List Datum) (z : ℤ) → pos 0 ≤ℤ z → z <ℤ pos (length ds) → IsValid (indexed ds z)
+bounded_valid ds (pos n) low high =
+    let below : n < length ds = grind arith in
+    let read : must fault.DictionaryIndex (slice_get ds n) ≡ must fault.DictionaryIndex (Some (get_or ds n null)) =
+    ap (must fault.DictionaryIndex) (slice_get-get_or ds n null below) in
+    subst IsValid (sym read) tt
+bounded_valid ds (negsuc n) low high = absurd (grind arith)
 
-pub encoded_missing : (o : Option Datum) (m : Reading Datum) → must fault.DictionaryIndex o ≡ m → o ≡ None
-    → Stands m fault.DictionaryIndex
-encoded_missing o m is missing =
-    let P : Option Datum → Type 0 = λ x. must fault.DictionaryIndex x ≡ m in
-    let read : Err (one fault.DictionaryIndex) ≡ m = subst P missing is in
-    let Q : Reading Datum → Type 0 = λ x. Stands x fault.DictionaryIndex in
-    subst Q read refl
+pub negative_stands : (ds : List Datum) (z : ℤ) → z <ℤ pos 0 → Stands (indexed ds z) fault.DictionaryIndex
+negative_stands ds z h =
+    let P : Reading Datum → Type 0 = λ m. Stands m fault.DictionaryIndex in subst P (index_negative ds z h) refl
 
-pub ruleset validate_laws = (encoded_valid, encoded_missing)
+pub past_stands : (ds : List Datum) (z : ℤ) → pos (length ds) ≤ℤ z → Stands (indexed ds z) fault.DictionaryIndex
+past_stands ds z h =
+    let P : Reading Datum → Type 0 = λ m. Stands m fault.DictionaryIndex in subst P (index_past ds z h) refl
+
+pub ruleset bound_laws = (bounded_valid, negative_stands, past_stands)
+
+-- the index of a slot, by its buffer
+pub number_there :
+    (l : Layout) (indices : List ℕ) (w : IntWidth) (s : Bool) (i : ℕ) → HasIndices l indices (i + 1) → l ≡ Int w s
+    → bytes_in w * (i + 1) ≤ length indices
+number_there l indices w s i room is = let P : Layout → Type 0 = λ k. HasIndices k indices (i + 1) in subst P is room
+
+pub coded_passes :
+    (r : Result (Unit {0}) StreamFault) (l : Layout) (ds : List Datum) (indices : List ℕ) (i : ℕ) (w : IntWidth)
+    (s : Bool) (z : ℤ)
+    → l ≡ Int w s → z ≡ number_at s (bytes_in w) indices i → Passes r (indexed ds z)
+    → Passes r (coded_by l ds indices i)
+coded_passes r l ds indices i w s z is same passes =
+    let P : Layout → Type 0 = λ k. Passes r (coded_by k ds indices i) in
+    let Q : ℤ → Type 0 = λ x. Passes r (indexed ds x) in
+    subst P (sym is) (subst Q same passes)
+
+pub ruleset validate_laws = (number_there, coded_passes)
+
+indices_less : (l : Layout) (indices : List ℕ) (n m : ℕ) → HasIndices l indices n → m ≤ n → HasIndices l indices m
+indices_less Booleans indices n m room less = tt
+indices_less (Int w s) indices n m room less =
+    let most : bytes_in w * m ≤ bytes_in w * n = mul-le-mul_left (bytes_in w) less in omega (arith, room, most)
+indices_less (Decimal d) indices n m room less = tt
+indices_less (FixedSizeBinary w) indices n m room less = tt
+indices_less (Utf8 o) indices n m room less = tt
+indices_less (Binary o) indices n m room less = tt
+indices_less (Listed o) indices n m room less = tt
+indices_less Struct indices n m room less = tt
+
+pub indices_there : (l : Layout) (indices : List ℕ) (n i : ℕ) → HasIndices l indices n → i < n
+    → HasIndices l indices (i + 1)
+indices_there l indices n i room below = indices_less l indices n (i + 1) room (omega (arith, below))
+
+pub ruleset indices_until = (indices_there)
+
+rooms_by_layout :
+    (l : Layout) (b : List ℕ) (p : ArrayData) (indices : List ℕ) (n : ℕ) → HasRoom l b p n
+    → length indices ≡ p.values.len → HasIndices l indices p.len
+rooms_by_layout Booleans b p indices n room long = tt
+rooms_by_layout (Int w s) b p indices n room long = omega (arith, room, long)
+rooms_by_layout (Decimal d) b p indices n room long = tt
+rooms_by_layout (FixedSizeBinary w) b p indices n room long = tt
+rooms_by_layout (Utf8 o) b p indices n room long = tt
+rooms_by_layout (Binary o) b p indices n room long = tt
+rooms_by_layout (Listed o) b p indices n room long = tt
+rooms_by_layout Struct b p indices n room long = tt
+
+pub index_rooms :
+    (b : List ℕ) (p : ArrayData) (kids : Roses ArrayData) (indices : List ℕ) (n : ℕ) → IsSound b (node p kids)
+    → indices ≡ bytes_of b p.values → n ≤ p.len
+    → HasIndices p.layout indices n
+index_rooms b p kids indices n sound is less =
+    let long : length indices ≡ p.values.len = ap length is ∙ buffer_long b p.values sound.0.own.values in
+    indices_less p.layout indices p.len n (rooms_by_layout p.layout b p indices (first_len kids) sound.0.room long) less
 
 -- where there is an index for each slot
 room_by_layout :

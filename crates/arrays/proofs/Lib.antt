@@ -1,7 +1,9 @@
-pub mod Texts
+pub mod Utf8Tests
 pub mod Powers
 pub mod DictionaryLemmas
 pub mod AlwaysValidLemmas
+pub mod RangeLemmas
+pub mod TextLemmas
 pub mod ValidationLemmas
 pub mod CopyLemmas
 pub mod ColumnCells

@@ -1,15 +1,17 @@
 //! Dictionary-encoded slots: the dictionary value at the index that a slot holds. 26 DictionaryIndex.
 
-ghost use Rattle.std.specs.Prelude.{◌≡◌, IfOk, Ok};
+ghost use Rattle.std.specs.Prelude.{◌≡◌, ◌+◌, ◌-◌, ◌<◌, ◌≤◌, IfOk, Ok, length};
 ghost use Rattle.std.specs.Option.{option_copied};
 ghost use Rattle.values.specs.declared.faults.StreamFault.TheVariants as fault;
-ghost use Rattle.values.specs.Reading.{Passes, IsValid, must};
+ghost use Rattle.bitmaps.specs.Bits.{HasBits};
+ghost use Rattle.values.specs.Reading.{Passes, IsValid, must, each};
 ghost use Rattle.array_layout.specs.Placing.{bytes_of};
 ghost use Rattle.array_layout.specs.Sound.{LiesIn};
 ghost use Rattle.array_layout.specs.Cells.{coded_by, indexed};
-ghost use Rattle.arrays.specs.Encoded.{HasIndex};
+ghost use Rattle.arrays.specs.Encoded.{HasIndex, HasIndices};
+ghost use Rattle.arrays.specs.Ranges.{where_valid};
 
-use array_layout::{ArrayData, DictionaryValues, buffer, number};
+use array_layout::{ArrayData, DictionaryValues, buffer, is_null_at, number};
 use std::alloc::{AllocError, Global};
 use values::{Layout, StreamFault, Value};
 
@@ -52,22 +54,67 @@ pub(crate) fn find_value<'a>(
     }
 }
 
+/// Validates an index, by the number of values.
+#[tactic(auto, using(crate::proofs::DictionaryLemmas::bound_laws))]
+fn validate_index(dictionary: &DictionaryValues, index: i128) -> Result<(), StreamFault>
+    ensures { Passes result (indexed dictionary.now.values index) }
+{
+    let count = dictionary.values.len() as i128;
+    if 0 <= index && index < count {
+        Ok(())
+    } else {
+        Err(StreamFault::DictionaryIndex)
+    }
+}
+
 /// Validates the index of slot `i`.
 #[tactic(auto, using(crate::proofs::DictionaryLemmas::validate_laws))]
-pub(crate) fn validate_index(
-    body: &[u8],
-    own: &ArrayData,
+fn validate_slot(
+    indices: &[u8],
+    layout: Layout,
     dictionary: &DictionaryValues,
     i: usize,
 ) -> Result<(), StreamFault>
-    requires lies { LiesIn body.now own.now.values }
-    requires room { HasIndex own.now.layout own.now i }
-    ensures { Passes result (coded_by own.now.layout dictionary.now.values (bytes_of body.now own.now.values) i) }
+    requires { HasIndices layout indices.now (i + 1) }
+    ensures { Passes result (coded_by layout dictionary.now.values indices.now i) }
 {
-    match find_value(body, own, dictionary, i) {
-        Some(_) => Ok(()),
-        None => Err(StreamFault::DictionaryIndex),
+    match layout {
+        Layout::Int { width, signed } => validate_index(
+            dictionary,
+            number(indices, width, signed, i),
+        ),
+        Layout::Bool
+        | Layout::Decimal { .. }
+        | Layout::FixedSizeBinary { .. }
+        | Layout::Utf8 { .. }
+        | Layout::Binary { .. }
+        | Layout::List { .. }
+        | Layout::Struct => Err(StreamFault::DictionaryIndex),
     }
+}
+
+/// Validates the indices of the slots from `from` to `to`. No value is looked at.
+#[tactic(auto, using(values::proofs::Readings::judging, crate::proofs::RangeLemmas::slot_laws, crate::proofs::DictionaryLemmas::indices_until))]
+pub(crate) fn validate_indices(
+    bits: &[u8],
+    indices: &[u8],
+    layout: Layout,
+    dictionary: &DictionaryValues,
+    from: usize,
+    to: usize,
+) -> Result<(), StreamFault>
+    requires order { from ≤ to }
+    requires bits { 0 < length bits.now → HasBits bits.now to }
+    requires room { HasIndices layout indices.now to }
+    ensures { Passes result
+        (each (where_valid bits.now (coded_by layout dictionary.now.values indices.now)) from (to - from)) }
+{
+    for i in from..to {
+        if !is_null_at(bits, i) {
+            validate_slot(indices, layout, dictionary, i)?;
+        }
+    }
+    Ok(())
 }
 
 /// Copies the dictionary value that slot `i` refers to.

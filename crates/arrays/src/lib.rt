@@ -5,12 +5,14 @@
 
 mod always_valid;
 mod column;
+mod decimals;
 mod dictionary;
 mod laws;
 mod read;
 mod slots;
 #[cfg(test)]
 mod tests;
+mod texts;
 mod validate;
 mod weigh;
 

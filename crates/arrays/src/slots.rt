@@ -1,18 +1,15 @@
-//! Reads one slot from an array's own buffers.
+//! Reads slots of an array's own buffers.
 
 ghost use Rattle.std.specs.Prelude.{◌≡◌, ◌*◌, ◌<◌, ◌≤◌, string_bytes, IfOk, true};
 ghost use Rattle.std.specs.Str.{is_utf8};
-ghost use Rattle.values.specs.Limits.{max_precision};
-ghost use Rattle.values.specs.Reading.{Passes};
 ghost use Rattle.array_layout.specs.Placing.{bytes_of};
 ghost use Rattle.array_layout.specs.Buffers.{is_null, slice_at};
 ghost use Rattle.array_layout.specs.Sound.{LiesIn, AreFit};
-ghost use Rattle.array_layout.specs.Cells.{text_of, decimal_of};
 
-use array_layout::{ArrayData, buffer, decimal, is_null_at, slice};
+use array_layout::{ArrayData, buffer, is_null_at, slice};
 use simdutf8::basic::from_utf8;
 use std::alloc::{AllocError, Global};
-use values::{OffsetWidth, StreamFault};
+use values::OffsetWidth;
 
 /// Whether slot `i` is null.
 pub(crate) fn is_null_slot(body: &[u8], own: &ArrayData, i: usize) -> bool
@@ -45,40 +42,8 @@ pub(crate) fn bytes_slot<'a>(
     )
 }
 
-/// Whether bytes are UTF-8.
-#[tactic(auto, using(crate::proofs::Texts::text_tests))]
-fn is_text(bytes: &[u8]) -> bool
-    ensures { result ≡ is_utf8 bytes.now }
-{
-    from_utf8(bytes).is_ok()
-}
-
-/// Validates a text.
-pub(crate) fn validate_text(bytes: &[u8]) -> Result<(), StreamFault>
-    ensures { Passes result (text_of bytes.now) }
-{
-    if is_text(bytes) {
-        Ok(())
-    } else {
-        Err(StreamFault::NotUtf8)
-    }
-}
-
-/// Validates the digits of a decimal.
-#[tactic(auto, using(crate::proofs::Powers::powers))]
-pub(crate) fn validate_decimal(number: i128, precision: u8) -> Result<(), StreamFault>
-    requires { precision ≤ max_precision }
-    ensures { Passes result (decimal_of precision number) }
-{
-    if number.unsigned_abs() < 10u128.pow(u32::from(precision)) {
-        Ok(())
-    } else {
-        Err(StreamFault::DecimalRange)
-    }
-}
-
 /// Copies bytes that are known to be UTF-8.
-#[tactic(auto, using(crate::proofs::Texts::text_tests))]
+#[tactic(auto, using(crate::proofs::Utf8Tests::text_tests))]
 pub(crate) fn text_from(alloc: Global, bytes: &[u8]) -> Result<String, AllocError>
     requires { is_utf8 bytes.now ≡ true }
     ensures { IfOk result (λ t. string_bytes t ≡ bytes.now) }

@@ -291,3 +291,63 @@ fn the_index_of_a_null_is_not_read(rt: HostRuntime) -> Result<(), Fail> {
     assert_eq!(rt; weight_at(&column, 0), 5);
     Ok(())
 }
+
+/// Two texts in four bytes, the second of which begins at byte `cut`, and which of them are valid.
+fn two_texts(
+    alloc: Global,
+    valid: u8,
+    nulls: i64,
+    cut: u8,
+    bytes: [u8; 4],
+) -> Result<Result<Column, StreamFault>, Fail> {
+    let [a, b, c, d] = bytes;
+    let body = Rc::new(
+        alloc,
+        vec![in alloc; valid, 0, 0, 0, 0, cut, 0, 0, 0, 4, 0, 0, 0, a, b, c, d]?,
+    )?;
+    let own = ArrayData {
+        layout: Layout::Utf8 {
+            offsets: OffsetWidth::Bits32,
+        },
+        dictionary: None,
+        len: 2,
+        nulls,
+        validity: BufferRange { from: 0, len: 1 },
+        offsets: BufferRange { from: 1, len: 12 },
+        values: BufferRange { from: 13, len: 4 },
+    };
+    let root = Array {
+        own,
+        children: Vec::new(alloc),
+    };
+    Ok(Column::check(body, root))
+}
+
+/// The character of two bytes takes bytes 1 and 2.
+const WITH_ACCENT: [u8; 4] = [0x61, 0xC3, 0xA9, 0x62];
+
+#[test]
+fn texts_are_cut_between_characters(rt: HostRuntime) -> Result<(), Fail> {
+    let alloc = rt.alloc();
+    for cut in [0u8, 1, 3, 4] {
+        assert!(rt; two_texts(alloc, 3, 0, cut, WITH_ACCENT)?.is_ok());
+    }
+    let inside = two_texts(alloc, 3, 0, 2, WITH_ACCENT)?;
+    assert!(rt; matches!(inside, Err(StreamFault::NotUtf8)));
+    let first_half = two_texts(alloc, 1, 1, 2, WITH_ACCENT)?;
+    assert!(rt; matches!(first_half, Err(StreamFault::NotUtf8)));
+    let second_half = two_texts(alloc, 2, 1, 2, WITH_ACCENT)?;
+    assert!(rt; matches!(second_half, Err(StreamFault::NotUtf8)));
+    Ok(())
+}
+
+#[test]
+fn bytes_under_a_null_may_be_no_text(rt: HostRuntime) -> Result<(), Fail> {
+    let alloc = rt.alloc();
+    let bytes = [0xFF, 0xFF, 0x61, 0x62];
+    assert!(rt; two_texts(alloc, 2, 1, 2, bytes)?.is_ok());
+    assert!(rt; matches!(two_texts(alloc, 3, 0, 2, bytes)?, Err(StreamFault::NotUtf8)));
+    assert!(rt; matches!(two_texts(alloc, 1, 1, 2, bytes)?, Err(StreamFault::NotUtf8)));
+    assert!(rt; two_texts(alloc, 0, 2, 2, bytes)?.is_ok());
+    Ok(())
+}

@@ -3,3 +3,4 @@ pub mod PackLemmas
 pub mod PushLemmas
 pub mod KernelLemmas
 pub mod Sample
+pub mod ByteLemmas

@@ -1,6 +1,6 @@
 //! Borrowed views of bitmaps.
 
-ghost use Rattle.std.specs.Prelude.{◌≡◌, ◌+◌, ◌<◌, ◌^◌, length, false, get_or, nat_eq, slice_get};
+ghost use Rattle.std.specs.Prelude.{◌≡◌, ◌+◌, ◌<◌, ◌≤◌, ◌^◌, if◌then◌else◌, length, false, get_or, nat_eq, slice_get};
 ghost use Rattle.bitmaps.specs.Bits.{HasBits, bit_at, bits_at, ones};
 
 use std::marker::Model;
@@ -32,6 +32,36 @@ fn bit(bytes: &[u8], i: usize) -> bool
     ensures { result ≡ bit_at bytes.now i }
 {
     (bytes[i / 8] >> (i % 8)) % 2 == 1
+}
+
+/// Bit `i` as a number.
+fn bit_number(bytes: &[u8], i: usize) -> usize
+    requires { HasBits bytes.now (i + 1) }
+    ensures value { result ≡ if bit_at bytes.now i then 1 else 0 }
+    ensures bound { result ≤ 1 }
+{
+    if bit(bytes, i) { 1 } else { 0 }
+}
+
+/// How many of the `len` bits from bit `offset` on are 1: eight at a time where they fill a byte.
+fn count_ones(bytes: &[u8], offset: usize, len: usize) -> usize
+    requires within { HasBits bytes.now (offset + len) }
+    requires small { offset + len < 2 ^ 64 }
+    ensures { result ≡ ones (bits_at bytes.now offset len) }
+{
+    let mut count = 0;
+    let mut i = 0;
+    while i < len {
+        let place = offset + i;
+        if place % 8 == 0 && len - i >= 8 {
+            count += bytes[place / 8].count_ones() as usize;
+            i += 8;
+        } else {
+            count += bit_number(bytes, place);
+            i += 1;
+        }
+    }
+    count
 }
 
 #[tactic(auto, using(crate::proofs::Runs::runs))]
@@ -82,12 +112,6 @@ impl<'a> Bits<'a> {
     pub fn count_ones(&self) -> usize
         ensures { result ≡ ones self.now }
     {
-        let mut count = 0;
-        for i in 0..self.len {
-            if self.at(i) {
-                count += 1;
-            }
-        }
-        count
+        count_ones(self.bytes, self.offset, self.len)
     }
 }

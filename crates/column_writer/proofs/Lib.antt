@@ -1,5 +1,4 @@
 pub mod RunLemmas
-pub mod FullBytes
 pub mod NumberLemmas
 pub mod SlotLemmas
 pub mod ByteLemmas

@@ -8,8 +8,7 @@ ghost use Rattle.body_writer.specs.Slots.{is_valid, null_count, truth_in};
 ghost use Rattle.column_writer.specs.Pieces.{IsPiece, piece_cells};
 
 use crate::piece::Piece;
-use crate::runs::run_end;
-use array_layout::{bit, buffer, is_null_at};
+use array_layout::{bit, buffer, is_null_at, run_end};
 use bitmaps::Bitmap;
 use std::alloc::AllocError;
 

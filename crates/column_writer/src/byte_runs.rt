@@ -17,8 +17,7 @@ ghost use Rattle.body_writer.specs.Columns.{joined, offsets_from};
 ghost use Rattle.body_writer.specs.Slots.{length_in, total_length};
 
 use crate::piece::Piece;
-use crate::runs::run_end;
-use array_layout::{buffer, is_null_at, offset};
+use array_layout::{buffer, is_null_at, offset, run_end};
 use byteorder::{ByteOrder, LittleEndian};
 use std::alloc::AllocError;
 use values::OffsetWidth;

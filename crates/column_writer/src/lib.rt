@@ -12,7 +12,6 @@ mod gather;
 mod kinds;
 mod leaf;
 mod piece;
-mod runs;
 mod slot_runs;
 mod write;
 

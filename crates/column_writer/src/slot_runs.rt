@@ -6,8 +6,7 @@ ghost use Rattle.column_writer.specs.Runs.{slot_width, slot_bytes};
 ghost use Rattle.column_writer.specs.Pieces.{IsPiece, piece_cells};
 
 use crate::piece::Piece;
-use crate::runs::run_end;
-use array_layout::{buffer, is_null_at};
+use array_layout::{buffer, is_null_at, run_end};
 use std::alloc::AllocError;
 use values::Layout;
 

@@ -3,9 +3,11 @@
 ghost use Rattle.std.specs.Prelude.{
   ◌≡◌,
   ◌+◌,
+  ◌≤◌,
   ◌++◌,
   Ok,
   None,
+  Some,
   [],
   length,
   take,
@@ -19,7 +21,7 @@ ghost use Rattle.std.specs.Prelude.{
 ghost use Rattle.values.specs.Reading.{Answers, Fails};
 ghost use Rattle.schema_meta.specs.Framing.{first};
 ghost use Rattle.messages.specs.Gather.{Gathers, IsWaiting, Steps, first_with};
-ghost use Rattle.messages.specs.State.{IsRead, known_of, progress_seen};
+ghost use Rattle.messages.specs.State.{IsRead, known_of, progress_seen, whole_seen};
 ghost use Rattle.messages.specs.Wanted.{Awaits, Wants, followed};
 
 use crate::framing::{Found, Progress, first};
@@ -107,9 +109,24 @@ pub(crate) enum Step {
     },
 }
 
-/// Looks for a message in the held bytes and the piece. Afterwards all of the piece is held, or nothing if it completed
-/// a message.
-pub(crate) fn advance(
+/// The message with which the piece begins, where nothing is held: its body is copied from where it lies.
+fn take_whole(alloc: Global, state: &State, found: Found, piece: &[u8]) -> Result<Step, StreamFault>
+    requires found { first (known_of state.now) piece.now ≡ Ok (Some (whole_seen found)) }
+    requires within { found.front + found.metadata.body ≤ length piece.now }
+    ensures ok { IfOk result (λ s. Steps (known_of state.now) [] piece.now s []) }
+    ensures fault { IfErr result (λ e. Fails e (first (known_of state.now) piece.now)) }
+{
+    let end = found.front + found.metadata.body;
+    let body = Vec::from_slice(alloc, &piece[found.front..end])?;
+    Ok(Step::Whole {
+        used: end,
+        found,
+        body,
+    })
+}
+
+/// Looks for a message in the held bytes and the piece, which is copied behind them.
+fn advance_held(
     alloc: Global,
     state: &State,
     held: &mut Vec<u8>,
@@ -139,4 +156,30 @@ pub(crate) fn advance(
             })
         }
     }
+}
+
+/// Looks for a message in the held bytes and the piece. Afterwards all of the piece is held, or nothing if it completed
+/// a message. Where nothing is held, a message that the piece holds whole is read where it lies.
+#[tactic(auto, using(crate::proofs::Messages::first_within))]
+pub(crate) fn advance(
+    alloc: Global,
+    state: &State,
+    held: &mut Vec<u8>,
+    piece: &[u8],
+    wanted: usize,
+) -> Result<Step, StreamFault>
+    requires small { IsRead (known_of state.now).schema }
+    requires partial { first (known_of state.now) held.old.items ≡ Ok None }
+    requires wants { Wants (followed (known_of state.now) held.old.items) wanted }
+    ensures ok { IfOk result (λ s. Steps (known_of state.now) held.old.items piece.now s held.new.items) }
+    ensures fault { IfErr result (λ e. Fails e (first_with state.now held.old.items piece.now)) }
+    ensures unchanged { OnErr result (held.new.items ≡ held.old.items) }
+    ensures empty { piece.now ≡ [] → IsOkAnd result IsWaiting }
+{
+    if held.is_empty() && !piece.is_empty() {
+        if let Progress::Whole(found) = first(alloc, state, piece)? {
+            return take_whole(alloc, state, found, piece);
+        }
+    }
+    advance_held(alloc, state, held, piece, wanted)
 }

@@ -1,6 +1,6 @@
 use Rattle.std.proofs.Common.{◌≡◌, ℕ, ◌<◌, ◌≤◌, ◌-◌}
 use Rattle.array_layout.specs.Buffers.{is_null}
-use Rattle.column_writer.proofs.runs.run_end.Given as goal
+use Rattle.array_layout.proofs.runs.run_end.Given as goal
 
 abbrev pub invariant-loop-end : goal.invariant-loop-end
 invariant-loop-end l = record {

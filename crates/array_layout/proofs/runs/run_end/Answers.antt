@@ -1,6 +1,6 @@
 use Rattle.std.proofs.Common.{length, arith, sym, ◌∙◌}
-use Rattle.column_writer.proofs.FullBytes.{none-null, no-bytes, all-alike}
-use Rattle.column_writer.proofs.runs.run_end.Goals as goal
+use Rattle.array_layout.proofs.FullBytes.{none-null, no-bytes, all-alike}
+use Rattle.array_layout.proofs.runs.run_end.Goals as goal
 
 pub returns-then-is_empty-clause-same : goal.returns-then-is_empty-clause-same
 returns-then-is_empty-clause-same c =

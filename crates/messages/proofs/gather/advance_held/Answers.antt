@@ -5,7 +5,7 @@ use Rattle.schema_meta.specs.Framing.{first}
 use Rattle.messages.specs.State.{known_of, progress_seen, whole_seen}
 use Rattle.messages.proofs.Messages.{first_beyond}
 use Rattle.messages.proofs.GatherLemmas.{same_body, held_before}
-use Rattle.messages.proofs.gather.advance.Goals as goal
+use Rattle.messages.proofs.gather.advance_held.Goals as goal
 
 pub overflow_sub-result : goal.overflow_sub-result
 overflow_sub-result c =

@@ -4,10 +4,10 @@ ghost use Rattle.std.specs.Prelude.{◌≡◌, ℕ, ◌+◌, ◌<◌, ◌≤◌,
 ghost use Rattle.bitmaps.specs.Bits.{HasBits};
 ghost use Rattle.array_layout.specs.Buffers.{is_null};
 
-use array_layout::is_null_at;
+use crate::buffers::is_null_at;
 
-/// Where the run ends to which slot `from` belongs: behind it all slots are null as it is, or valid as it is.
-pub(crate) fn run_end(bits: &[u8], from: usize, to: usize) -> usize
+/// Where a run of slots ends that begins at slot `from`: up to there each slot is null as that one is, or valid as it is.
+pub fn run_end(bits: &[u8], from: usize, to: usize) -> usize
     requires some { from < to }
     requires room { 0 < length bits.now → HasBits bits.now to }
     ensures past { from < result }
