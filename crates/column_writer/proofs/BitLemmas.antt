@@ -23,8 +23,8 @@ use Rattle.array_layout.specs.Placing.{bytes_of}
 use Rattle.array_layout.specs.Buffers.{is_null, number_at, slice_at}
 use Rattle.array_layout.specs.Cells.{cell, value_by, first_cell, row, decimal_of, text_of, items_at}
 use Rattle.body_writer.specs.Slots.{is_valid, null_count, truth_in}
-use Rattle.column_writer.specs.Runs.{cell_in, slots}
-use Rattle.column_writer.proofs.RunLemmas.{null-cell, AreAlike, slots-split}
+use Rattle.column_writer.specs.Runs.{cell_in, slots, AreAlike}
+use Rattle.column_writer.proofs.RunLemmas.{null-cell, slots-split}
 use Rattle.column_writer.proofs.SlotLemmas.{AllValid, plain-cell}
 
 pub length-slots : (cell : ℕ → Reading Datum) (i n : ℕ) → length (slots cell i n) ≡ n
@@ -70,13 +70,13 @@ value-set Struct body p item others k h = mapped-set _ (others k) (λ x. refl) (
 
 -- a cell is null where its slot is
 pub cell-set : (body bits : List ℕ) (p : ArrayData) (kids : Roses ArrayData) (k : ℕ) → bits ≡ bytes_of body p.validity → p.dictionary ≡ None
-    → AllValid body p kids → k < p.len → not (is_null bits k) ≡ is_valid (cell_in (cell body (node p kids) k))
-cell-set body bits p kids k b n all h = by_null (is_null bits k) refl where
+    → IsValid (cell body (node p kids) k) → not (is_null bits k) ≡ is_valid (cell_in (cell body (node p kids) k))
+cell-set body bits p kids k b n good = by_null (is_null bits k) refl where
   by_null : (t : Bool) → is_null bits k ≡ t → not t ≡ is_valid (cell_in (cell body (node p kids) k))
   by_null true is = sym (ap (λ r. is_valid (cell_in r)) (null-cell body p kids k (ap (λ ys. is_null ys k) (sym b) ∙ is)))
   by_null false is =
       let read = plain-cell body p kids p.layout k refl n (ap (λ ys. is_null ys k) (sym b) ∙ is) in
-      let set = value-set p.layout body p (λ j. first_cell body kids j) (λ j. row body kids j) k (subst IsValid read (all k h)) in
+      let set = value-set p.layout body p (λ j. first_cell body kids j) (λ j. row body kids j) k (subst IsValid read good) in
       sym (ap (λ r. is_valid (cell_in r)) read ∙ set)
 
 -- the bit of a slot
@@ -142,11 +142,11 @@ run-nulls cell i (suc n) b h =
       by_test false here rest = rw (sym here, rest) (omega arith)
 
 pub nulls-step : (body bits : List ℕ) (p : ArrayData) (kids : Roses ArrayData) (at end to nulls more total : ℕ) (b : Bool)
-    → bits ≡ bytes_of body p.validity → p.dictionary ≡ None → AllValid body p kids → at ≤ end → end ≤ to → to ≤ p.len
+    → bits ≡ bytes_of body p.validity → p.dictionary ≡ None → AllValid body p kids at end → at ≤ end → end ≤ to
     → is_null bits at ≡ b → AreAlike bits at end → more ≡ (if b then end - at else 0)
     → nulls + null_count (slots (cell body (node p kids)) at (to - at)) ≡ total
     → nulls + more + null_count (slots (cell body (node p kids)) end (to - end)) ≡ total
-nulls-step body bits p kids at end to nulls more total b same plain all up inside within test alike is so_far =
+nulls-step body bits p kids at end to nulls more total b same plain all up inside test alike is so_far =
     let read : ℕ → Reading Datum = cell body (node p kids) in
     let e : to - at ≡ (end - at) + (to - end) = omega (arith, up, inside) in
     let a : at + (end - at) ≡ end = omega (arith, up) in
@@ -155,7 +155,7 @@ nulls-step body bits p kids at end to nulls more total b same plain all up insid
     let sum = ap null_count split ∙ nulls-append (slots read at (end - at)) (slots read end (to - end)) in
     let run = run-nulls read at (end - at) (not b)
     (λ k lo hi. ap not (sym test) ∙ ap not (sym (alike k lo (omega (arith, hi, up))))
-    ∙ cell-set body bits p kids k same plain all (omega (arith, hi, up, inside, within))) in
+    ∙ cell-set body bits p kids k same plain (all k lo (omega (arith, hi, up)))) in
     let ends = by_test b more (end - at) (null_count (slots read at (end - at))) is run in
     omega (arith, sum, so_far, ends)
   where

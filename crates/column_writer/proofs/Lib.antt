@@ -3,5 +3,8 @@ pub mod NumberLemmas
 pub mod SlotLemmas
 pub mod ByteLemmas
 pub mod BitLemmas
+pub mod NullLemmas
+pub mod LieLemmas
+pub mod ChildLemmas
 pub mod PieceLemmas
 pub mod BatchLemmas

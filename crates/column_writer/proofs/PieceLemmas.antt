@@ -21,7 +21,8 @@ use Rattle.column_writer.specs.Runs.{slot_bytes}
 use Rattle.body_writer.specs.Slots.{null_count, length_in, total_length}
 use Rattle.body_writer.specs.Columns.{offsets_from}
 use Rattle.column_writer.specs.declared.piece.Piece.{Piece}
-use Rattle.column_writer.specs.Pieces.{piece_cells, pieces_cells, with_offsets, LiesAs}
+use Rattle.column_writer.specs.declared.piece.SlotRange.{SlotRange}
+use Rattle.column_writer.specs.Pieces.{piece_cells, pieces_cells, range_cells, with_offsets, HasLayout}
 use Rattle.column_writer.proofs.RunLemmas.{flat-append}
 use Rattle.column_writer.proofs.BitLemmas.{nulls-append}
 
@@ -114,10 +115,10 @@ same-bytes (Binary x) o cs = refl
 same-bytes (Listed x) o cs = refl
 same-bytes Struct o cs = refl
 
-pub slots-alike : (l : Layout) (p : Piece) (made next : List ℕ) → LiesAs l p
-    → next ≡ made ++ flat_map (slot_bytes p.parts.own.now.layout) (piece_cells p) → next ≡ made ++ flat_map (slot_bytes l) (piece_cells p)
-slots-alike l p made next lies is =
-    is ∙ ap (λ xs. made ++ xs) (ap (λ y. flat_map (slot_bytes y) (piece_cells p)) lies.layout ∙ same-bytes l p.offsets (piece_cells p))
+pub slots-alike : (l : Layout) (r : SlotRange) (made next : List ℕ) → HasLayout l r
+    → next ≡ made ++ flat_map (slot_bytes r.parts.own.now.layout) (range_cells r) → next ≡ made ++ flat_map (slot_bytes l) (range_cells r)
+slots-alike l r made next lies is =
+    is ∙ ap (λ xs. made ++ xs) (ap (λ y. flat_map (slot_bytes y) (range_cells r)) lies.layout ∙ same-bytes l r.offsets (range_cells r))
 
 -- one piece, and those behind it
 pub all-before : (P : Piece → Type 0) (ps : List Piece) (i : ℕ) (p : Piece) → i < length ps → p ≡ get_or ps i p → P p → All P (drop (i + 1) ps)

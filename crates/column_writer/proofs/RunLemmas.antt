@@ -13,7 +13,7 @@ use Rattle.array_layout.specs.Placing.{bytes_of}
 use Rattle.array_layout.specs.Buffers.{is_null}
 use Rattle.array_layout.specs.Sound.{LiesIn}
 use Rattle.array_layout.specs.Cells.{cell, cell_by}
-use Rattle.column_writer.specs.Runs.{cell_in, slots}
+use Rattle.column_writer.specs.Runs.{cell_in, slots, AreAlike}
 
 -- m slots and then n more
 pub slots-split : (cell : ℕ → Reading Datum) (i m n : ℕ) → slots cell i (m + n) ≡ slots cell i m ++ slots cell (i + m) n
@@ -83,13 +83,9 @@ pub null-cell :
 unfolding cell_by
 null-cell body p kids k h = rw h refl
 
--- slots `at` to `end` are all null as the first, by these bits
-abbrev pub AreAlike : List ℕ → ℕ → ℕ → Type 0
-AreAlike bits at end = (k : ℕ) → at ≤ k → k < end → is_null bits k ≡ is_null bits at
-
 -- one run of slots and then the others, as the loop takes them
 pub run-next :
-    (f : Datum → List ℕ) (cell : ℕ → Reading Datum) (at end to : ℕ) → at ≤ end → end ≤ to
+    {A : Type 0} (f : Datum → List A) (cell : ℕ → Reading Datum) (at end to : ℕ) → at ≤ end → end ≤ to
     → flat_map f (slots cell at (to - at)) ≡ flat_map f (slots cell at (end - at)) ++ flat_map f (slots cell end (to - end))
 run-next f cell at end to h k =
     let e : to - at ≡ (end - at) + (to - end) = omega (arith, h, k) in
@@ -99,7 +95,7 @@ run-next f cell at end to h k =
     ∙ ap (λ i. flat_map f (slots cell at (end - at)) ++ flat_map f (slots cell i (to - end))) a
 
 pub run-step :
-    (f : Datum → List ℕ) (cell : ℕ → Reading Datum) (at end to : ℕ) (made next chunk total : List ℕ) → at ≤ end → end ≤ to
+    {A : Type 0} (f : Datum → List A) (cell : ℕ → Reading Datum) (at end to : ℕ) (made next chunk total : List A) → at ≤ end → end ≤ to
     → chunk ≡ flat_map f (slots cell at (end - at)) → next ≡ made ++ chunk → made ++ flat_map f (slots cell at (to - at)) ≡ total
     → next ++ flat_map f (slots cell end (to - end)) ≡ total
 run-step f cell at end to made next chunk total h k e n is =
@@ -108,7 +104,7 @@ run-step f cell at end to made next chunk total h k e n is =
     ∙ ap (λ xs. made ++ xs) (sym (run-next f cell at end to h k)) ∙ is
 
 pub run-over :
-    (f : Datum → List ℕ) (cell : ℕ → Reading Datum) (at to : ℕ) (made total : List ℕ) → to ≤ at
+    {A : Type 0} (f : Datum → List A) (cell : ℕ → Reading Datum) (at to : ℕ) (made total : List A) → to ≤ at
     → made ++ flat_map f (slots cell at (to - at)) ≡ total → made ≡ total
 unfolding slots
 run-over f cell at to made total h e =

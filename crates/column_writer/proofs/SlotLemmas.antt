@@ -26,12 +26,13 @@ use Rattle.array_layout.specs.Placing.{bytes_of}
 use Rattle.array_layout.specs.Buffers.{is_null, number_at, fixed_at}
 use Rattle.array_layout.specs.Sound.{IsSound, HasRoom, first_len}
 use Rattle.array_layout.specs.Cells.{cell, cell_by, slot_by, value_by, first_cell, row, decimal_of}
-use Rattle.column_writer.specs.Runs.{cell_in, slots, slot_width, slot_bytes}
-use Rattle.column_writer.proofs.RunLemmas.{flat-nulls, flat-valid, null-cell, AreAlike, range-long}
+use Rattle.column_writer.specs.Runs.{cell_in, slots, slot_width, slot_bytes, AreAlike}
+use Rattle.column_writer.proofs.RunLemmas.{flat-nulls, flat-valid, null-cell, range-long}
 use Rattle.column_writer.proofs.NumberLemmas.{int-bytes, decimal-bytes, next-place}
 
-abbrev pub AllValid : List ℕ → ArrayData → Roses ArrayData → Type 0
-AllValid body p kids = (k : ℕ) → k < p.len → IsValid (cell body (node p kids) k)
+-- no fault in the slots from `at` to `end`
+abbrev pub AllValid : List ℕ → ArrayData → Roses ArrayData → ℕ → ℕ → Type 0
+AllValid body p kids at end = (k : ℕ) → at ≤ k → k < end → IsValid (cell body (node p kids) k)
 
 valid-slot :
     (body : List ℕ) (p : ArrayData) (kids : Roses ArrayData) (k : ℕ) → is_null (bytes_of body p.validity) k ≡ false
@@ -86,7 +87,7 @@ null-int int.Bits16 s = refl
 null-int int.Bits32 s = refl
 null-int int.Bits64 s = refl
 
-slot-null : (l : Layout) → slot_bytes l null ≡ replicate (slot_width l) 0
+pub slot-null : (l : Layout) → slot_bytes l null ≡ replicate (slot_width l) 0
 slot-null Booleans = refl
 slot-null (Int w s) = null-int w s
 slot-null (Decimal d) = refl
@@ -107,10 +108,14 @@ slots-null body bits p kids m at end b e h is same =
     (λ k l u. null-cell body p kids k (ap (λ xs. is_null xs k) (sym b) ∙ same k l (omega (arith, u, h)) ∙ is)))
 
 -- a run of valid slots
+pub narrow : (body : List ℕ) (p : ArrayData) (kids : Roses ArrayData) (from to at end : ℕ) → AllValid body p kids from to → from ≤ at → end ≤ to
+    → AllValid body p kids at end
+narrow body p kids from to at end all lo hi = λ k l h. all k (omega (arith, lo, l)) (omega (arith, h, hi))
+
 pub slots-valid :
     (body bits xs : List ℕ) (p : ArrayData) (kids : Roses ArrayData) (m at end : ℕ) → bits ≡ bytes_of body p.validity
     → xs ≡ bytes_of body p.values → m ≡ slot_width p.layout → at ≤ end → end ≤ p.len → p.dictionary ≡ None
-    → AllValid body p kids → ((n : ℕ) → slice_index xs n < 256) → m * end ≤ length xs
+    → AllValid body p kids at end → ((n : ℕ) → slice_index xs n < 256) → m * end ≤ length xs
     → is_null bits at ≡ false → AreAlike bits at end
     → slice_range xs (m * at) (m * end) ≡ flat_map (slot_bytes p.layout) (slots (cell body (node p kids)) at (end - at))
 slots-valid body bits xs p kids m at end b v e h inside n valid small room is same =
@@ -119,12 +124,12 @@ slots-valid body bits xs p kids m at end b v e h inside n valid small room is sa
     let fits : w * end ≤ length xs = subst (λ k. k * end ≤ length xs) e room in
     ap (λ k. slice_range xs (k * at) (k * end)) e ∙ ap (λ k. slice_range xs (w * at) (w * k)) (sym past)
     ∙ sym (flat-valid (slot_bytes p.layout) (cell body (node p kids)) (λ k. w * k) xs at (end - at)
-    (λ k lo hi. slot-here k (same k lo (omega (arith, hi, h)) ∙ is) (omega (arith, hi, h)) fits)
+    (λ k lo hi. slot-here k (same k lo (omega (arith, hi, h)) ∙ is) (omega (arith, hi, h)) fits (valid k lo (omega (arith, hi, h))))
     (λ k lo hi. let up : k ≤ k + 1 = omega arith in mul-le-mul_left w up))
   where
     slot-here : (k : ℕ) → is_null bits k ≡ false → k + 1 ≤ end → slot_width p.layout * end ≤ length xs
-        → slot_bytes p.layout (cell_in (cell body (node p kids) k)) ≡ slice_range xs (slot_width p.layout * k) (slot_width p.layout * (k + 1))
-    slot-here k valid_here below fits =
+        → IsValid (cell body (node p kids) k) → slot_bytes p.layout (cell_in (cell body (node p kids) k)) ≡ slice_range xs (slot_width p.layout * k) (slot_width p.layout * (k + 1))
+    slot-here k valid_here below fits good =
         let w : ℕ = slot_width p.layout in
         let read = plain-cell body p kids p.layout k refl n (ap (λ ys. is_null ys k) (sym b) ∙ valid_here) in
         let within = mul-le-mul_left w below in
@@ -132,7 +137,7 @@ slots-valid body bits xs p kids m at end b v e h inside n valid small room is sa
         let bytes : (i : ℕ) → slice_index (bytes_of body p.values) i < 256 = subst (λ ys. (i : ℕ) → slice_index ys i < 256) v small in
         ap (λ r. slot_bytes p.layout (cell_in r)) read
         ∙ slot-value p.layout body p (λ j. first_cell body kids j) (λ j. row body kids j) k bytes (omega (arith, within, fits, long))
-        (subst IsValid read (valid k (omega (arith, below, inside))))
+        (subst IsValid read good)
         ∙ ap (λ ys. slice_range ys (w * k) (w * (k + 1))) (sym v)
 
 room-by : (l : Layout) (body : List ℕ) (p : ArrayData) (limit : ℕ) → HasRoom l body p limit

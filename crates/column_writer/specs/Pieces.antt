@@ -1,54 +1,111 @@
--- Cells that lie in several arrays.
-use Rattle.std.specs.Prelude.{◌≡◌, ℕ, ◌-◌, ◌<◌, ◌≤◌, List, None}
+-- Cells that lie in several arrays, or nowhere.
+use Rattle.std.specs.Prelude.{◌≡◌, ◌⊎◌, ℕ, ◌-◌, ◌<◌, ◌≤◌, List, None, get_or, length, replicate}
 use Rattle.std.specs.List.{flat_map}
-use Rattle.values.specs.Rose.{node, kids_of}
-use Rattle.values.specs.Datum.{Datum}
+use Rattle.values.specs.Rose.{Rose, node, Roses, none, more, kids_of}
+use Rattle.values.specs.Datum.{Datum, null}
 use Rattle.values.specs.Reading.{IsValid}
 use Rattle.values.specs.declared.layout.OffsetWidth.{OffsetWidth}
+use Rattle.values.specs.declared.layout.OffsetWidth.TheVariants as offset
 use Rattle.values.specs.declared.layout.Layout.{Layout}
 use Rattle.values.specs.declared.layout.Layout.TheVariants.{Utf8, Binary, List as Listed, Struct}
+use Rattle.array_layout.specs.declared.array.ArrayData.{ArrayData}
 use Rattle.array_layout.specs.Sound.{IsSound}
 use Rattle.array_layout.specs.Cells.{cell}
-use Rattle.column_writer.specs.Runs.{slots, HasOffsets}
+use Rattle.column_writer.specs.Runs.{slots, HasOffsets, HasBytes}
 use Rattle.column_writer.specs.declared.piece.Piece.{Piece}
+use Rattle.column_writer.specs.declared.piece.Piece.TheVariants.{Slots, Nulls}
+use Rattle.column_writer.specs.declared.piece.SlotRange.{SlotRange}
+
+abbrev pub range_cells : SlotRange → List Datum
+range_cells r = slots (cell r.parts.body.now (node r.parts.own.now (kids_of r.parts.children.now))) r.from (r.to - r.from)
 
 abbrev pub piece_cells : Piece → List Datum
-piece_cells p =
-    slots (cell p.parts.body.now (node p.parts.own.now (kids_of p.parts.children.now))) p.from (p.to - p.from)
+piece_cells (Slots r) = range_cells r
+piece_cells (Nulls n) = replicate n null
 
 abbrev pub pieces_cells : List Piece → List Datum
 pieces_cells ps = flat_map piece_cells ps
 
--- slots of an array without a fault
-pub record IsPiece (p : Piece) : Type 0 where
-  pub sound : IsSound p.parts.body.now (node p.parts.own.now (kids_of p.parts.children.now))
-  pub valid : (k : ℕ) → k < p.parts.own.now.len
-      → IsValid (cell p.parts.body.now (node p.parts.own.now (kids_of p.parts.children.now)) k)
-  pub order : p.from ≤ p.to
-  pub within : p.to ≤ p.parts.own.now.len
+-- slots without a fault, of an array whose buffers are sound
+pub record IsChecked (r : SlotRange) : Type 0 where
+  pub sound : IsSound r.parts.body.now (node r.parts.own.now (kids_of r.parts.children.now))
+  pub valid : (k : ℕ) → r.from ≤ k → k < r.to
+      → IsValid (cell r.parts.body.now (node r.parts.own.now (kids_of r.parts.children.now)) k)
+  pub order : r.from ≤ r.to
+  pub within : r.to ≤ r.parts.own.now.len
 
 abbrev pub with_offsets : OffsetWidth → Layout → Layout
 with_offsets o (Utf8 x) = Utf8 o
 with_offsets o (Binary x) = Binary o
+with_offsets o (Listed x) = Listed o
 with_offsets o l = l
 
--- the same of an array without a dictionary
-pub record IsPlain (p : Piece) : Type 0 where
-  pub piece : IsPiece p
-  pub plain : p.parts.own.now.dictionary ≡ None
+-- the width of an array's offsets, if it has any
+abbrev pub offset_width : Layout → OffsetWidth
+offset_width (Utf8 o) = o
+offset_width (Binary o) = o
+offset_width (Listed o) = o
+offset_width l = offset.Bits32
 
--- slots that lie as this layout wants, but for the width of offsets
-pub record LiesAs (l : Layout) (p : Piece) : Type 0 where
-  pub plain : IsPlain p
-  pub layout : p.parts.own.now.layout ≡ with_offsets p.offsets l
+-- the same layout, but for the width of offsets
+abbrev pub IsAlike : Layout → Layout → Type 0
+IsAlike l m = m ≡ with_offsets (offset_width m) l
 
--- slots of texts or of bytes
-pub record HasRuns (p : Piece) : Type 0 where
-  pub plain : IsPlain p
-  pub layout : HasOffsets p.parts.own.now.layout p.offsets
+-- an array of this layout, but for the width of offsets, without a dictionary; and so are those below it
+abbrev mutual
+  pub Lies : Rose Layout → Rose ArrayData → Type 0
+  Lies (node l kids) (node p arrays) = (p.dictionary ≡ None) × IsAlike l p.layout × AllLie kids arrays
 
--- a layout without children
-abbrev pub IsLeaf : Layout → Type 0
-IsLeaf (Listed o) = ⊥
-IsLeaf Struct = ⊥
-IsLeaf l = Unit {0}
+  pub AllLie : Roses Layout → Roses ArrayData → Type 0
+  AllLie none none = Unit {0}
+  AllLie none (more a rest) = ⊥
+  AllLie (more t ts) none = ⊥
+  AllLie (more t ts) (more a rest) = Lies t a × AllLie ts rest
+
+-- so it is with the slots, if a piece is of slots
+abbrev pub OfSlots : (SlotRange → Type 0) → Piece → Type 0
+OfSlots P (Slots r) = P r
+OfSlots P (Nulls n) = Unit {0}
+
+pub record HasWidth (r : SlotRange) : Type 0 where
+  pub checked : IsChecked r
+  pub offsets : r.offsets ≡ offset_width r.parts.own.now.layout
+
+-- slots that lie as this layout wants
+pub record RangeLies (t : Rose Layout) (r : SlotRange) : Type 0 where
+  pub width : HasWidth r
+  pub lies : Lies t (node r.parts.own.now (kids_of r.parts.children.now))
+
+abbrev pub LiesAs : Rose Layout → Piece → Type 0
+LiesAs t (Slots r) = RangeLies t r
+LiesAs t (Nulls n) = Unit {0}
+
+-- what is known of slots without a look below their array
+
+pub record IsPlain (r : SlotRange) : Type 0 where
+  pub checked : IsChecked r
+  pub plain : r.parts.own.now.dictionary ≡ None
+
+-- of this layout, but for the width of offsets
+pub record HasLayout (l : Layout) (r : SlotRange) : Type 0 where
+  pub plain : IsPlain r
+  pub layout : r.parts.own.now.layout ≡ with_offsets r.offsets l
+
+-- with offsets
+pub record HasStarts (r : SlotRange) : Type 0 where
+  pub plain : IsPlain r
+  pub layout : HasOffsets r.parts.own.now.layout r.offsets
+
+-- of texts or of bytes
+pub record HasRuns (r : SlotRange) : Type 0 where
+  pub plain : IsPlain r
+  pub layout : HasBytes r.parts.own.now.layout r.offsets
+
+-- of an array with so many children, and more
+pub record HasChild (l : Layout) (j : ℕ) (r : SlotRange) : Type 0 where
+  pub own : HasLayout l r
+  pub below : j < length r.parts.children.now
+
+-- child j of the array lies so
+abbrev pub ChildLies : Rose Layout → ℕ → SlotRange → Type 0
+ChildLies t j r = (a : Rose ArrayData) → a ≡ get_or r.parts.children.now j a → Lies t a

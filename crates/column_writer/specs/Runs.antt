@@ -1,11 +1,12 @@
 -- Slots one after the other, by what their cells are where no fault stands, and what they hold.
-use Rattle.std.specs.Prelude.{◌≡◌, ◌⊎◌, ℕ, zero, suc, ◌+◌, List, [], ◌∷◌, Ok, Err}
+use Rattle.std.specs.Prelude.{◌≡◌, ◌⊎◌, ℕ, zero, suc, ◌+◌, ◌<◌, ◌≤◌, List, [], ◌∷◌, Ok, Err}
+use Rattle.array_layout.specs.Buffers.{is_null}
 use Rattle.byteorder.specs.Endian.{little_bytes}
 use Rattle.values.specs.Datum.{Datum, null}
 use Rattle.values.specs.Reading.{Reading}
 use Rattle.values.specs.declared.layout.OffsetWidth.{OffsetWidth}
 use Rattle.values.specs.declared.layout.Layout.{Layout}
-use Rattle.values.specs.declared.layout.Layout.TheVariants.{Int, Decimal, FixedSizeBinary, Utf8, Binary}
+use Rattle.values.specs.declared.layout.Layout.TheVariants.{Int, Decimal, FixedSizeBinary, Utf8, Binary, List as Listed}
 use Rattle.values.specs.Layouts.{bytes_in as width_of}
 use Rattle.body_writer.specs.Slots.{number_in, fixed_in}
 
@@ -17,6 +18,10 @@ cell_in (Err fs) = null
 unfoldable pub slots : (ℕ → Reading Datum) → ℕ → ℕ → List Datum
 slots cell i zero = []
 slots cell i (suc n) = cell_in (cell i) ∷ slots cell (i + 1) n
+
+-- slots `at` to `end` are all null, or all valid, as the first is, by these bits
+abbrev pub AreAlike : List ℕ → ℕ → ℕ → Type 0
+AreAlike bits at end = (k : ℕ) → at ≤ k → k < end → is_null bits k ≡ is_null bits at
 
 -- how wide a slot is whose layout is of a fixed width in bytes, and what it holds
 
@@ -33,5 +38,9 @@ slot_bytes (FixedSizeBinary w) c = fixed_in w c
 slot_bytes l c = []
 
 -- texts or bytes, whose offsets have this width
+abbrev pub HasBytes : Layout → OffsetWidth → Type 0
+HasBytes l o = (l ≡ Utf8 o) ⊎ (l ≡ Binary o)
+
+-- or lists
 abbrev pub HasOffsets : Layout → OffsetWidth → Type 0
-HasOffsets l o = (l ≡ Utf8 o) ⊎ (l ≡ Binary o)
+HasOffsets l o = HasBytes l o ⊎ (l ≡ Listed o)

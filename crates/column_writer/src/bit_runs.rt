@@ -5,25 +5,25 @@ ghost use Rattle.bitmaps.specs.Bits.{HasBits, bit_at};
 ghost use Rattle.array_layout.specs.Buffers.{is_null};
 ghost use Rattle.values.specs.declared.layout.Layout.TheVariants.{Bool as Booleans};
 ghost use Rattle.body_writer.specs.Slots.{is_valid, null_count, truth_in};
-ghost use Rattle.column_writer.specs.Pieces.{IsPiece, piece_cells};
+ghost use Rattle.column_writer.specs.Pieces.{IsChecked, range_cells};
 
-use crate::piece::Piece;
+use crate::piece::SlotRange;
 use array_layout::{bit, buffer, is_null_at, run_end};
 use bitmaps::Bitmap;
 use std::alloc::AllocError;
 
 /// How many of its slots are null.
-pub(crate) fn nulls_in(piece: &Piece) -> usize
-    requires piece { IsPiece piece.now }
-    requires plain { piece.now.parts.own.now.dictionary ≡ None }
-    ensures value { result ≡ null_count (piece_cells piece.now) }
-    ensures bound { result ≤ length (piece_cells piece.now) }
+pub(crate) fn nulls_in(range: &SlotRange) -> usize
+    requires checked { IsChecked range.now }
+    requires plain { range.now.parts.own.now.dictionary ≡ None }
+    ensures value { result ≡ null_count (range_cells range.now) }
+    ensures bound { result ≤ length (range_cells range.now) }
 {
-    let bits = buffer(piece.parts.body, &piece.parts.own.validity);
+    let bits = buffer(range.parts.body, &range.parts.own.validity);
     let mut nulls = 0;
-    let mut at = piece.from;
-    while at < piece.to {
-        let end = run_end(bits, at, piece.to);
+    let mut at = range.from;
+    while at < range.to {
+        let end = run_end(bits, at, range.to);
         if is_null_at(bits, at) {
             nulls += end - at;
         }
@@ -33,14 +33,14 @@ pub(crate) fn nulls_in(piece: &Piece) -> usize
 }
 
 /// Appends a bit a slot: 1 where it is valid.
-pub(crate) fn push_validity(valid: &mut Bitmap, piece: &Piece) -> Result<(), AllocError>
-    requires piece { IsPiece piece.now }
-    requires plain { piece.now.parts.own.now.dictionary ≡ None }
-    requires room { length valid.old + length (piece_cells piece.now) < 2 ^ 32 }
-    ensures { OnOk result (valid.new ≡ valid.old ++ map is_valid (piece_cells piece.now)) }
+pub(crate) fn push_validity(valid: &mut Bitmap, range: &SlotRange) -> Result<(), AllocError>
+    requires checked { IsChecked range.now }
+    requires plain { range.now.parts.own.now.dictionary ≡ None }
+    requires room { length valid.old + length (range_cells range.now) < 2 ^ 32 }
+    ensures { OnOk result (valid.new ≡ valid.old ++ map is_valid (range_cells range.now)) }
 {
-    let bits = buffer(piece.parts.body, &piece.parts.own.validity);
-    for i in piece.from..piece.to {
+    let bits = buffer(range.parts.body, &range.parts.own.validity);
+    for i in range.from..range.to {
         valid.push(!is_null_at(bits, i))?;
     }
     Ok(())
@@ -56,16 +56,16 @@ fn truth_at(bits: &[u8], values: &[u8], i: usize) -> bool
 }
 
 /// Appends a bit a slot: a null gives 0.
-pub(crate) fn push_truths(truths: &mut Bitmap, piece: &Piece) -> Result<(), AllocError>
-    requires piece { IsPiece piece.now }
-    requires plain { piece.now.parts.own.now.dictionary ≡ None }
-    requires layout { piece.now.parts.own.now.layout ≡ Booleans }
-    requires room { length truths.old + length (piece_cells piece.now) < 2 ^ 32 }
-    ensures { OnOk result (truths.new ≡ truths.old ++ map truth_in (piece_cells piece.now)) }
+pub(crate) fn push_truths(truths: &mut Bitmap, range: &SlotRange) -> Result<(), AllocError>
+    requires checked { IsChecked range.now }
+    requires plain { range.now.parts.own.now.dictionary ≡ None }
+    requires layout { range.now.parts.own.now.layout ≡ Booleans }
+    requires room { length truths.old + length (range_cells range.now) < 2 ^ 32 }
+    ensures { OnOk result (truths.new ≡ truths.old ++ map truth_in (range_cells range.now)) }
 {
-    let bits = buffer(piece.parts.body, &piece.parts.own.validity);
-    let values = buffer(piece.parts.body, &piece.parts.own.values);
-    for i in piece.from..piece.to {
+    let bits = buffer(range.parts.body, &range.parts.own.validity);
+    let values = buffer(range.parts.body, &range.parts.own.values);
+    for i in range.from..range.to {
         truths.push(truth_at(bits, values, i))?;
     }
     Ok(())

@@ -1,4 +1,4 @@
-//! Texts and bytes: what the offsets of slots point to, and where they start.
+//! What the offsets of slots point to, and where it starts.
 
 ghost use Rattle.std.specs.Prelude.{◌≡◌, ℕ, ◌+◌, ◌-◌, ◌*◌, ◌<◌, ◌≤◌, ◌++◌, ◌^◌, List, OnOk, IfOk, None, if◌then◌else◌, map, length, slice_range};
 ghost use Rattle.bitmaps.specs.Bits.{HasBits};
@@ -11,12 +11,12 @@ ghost use Rattle.array_layout.specs.Placing.{bytes_of};
 ghost use Rattle.array_layout.specs.Buffers.{is_null, offset_at};
 ghost use Rattle.array_layout.specs.Sound.{IsSound};
 ghost use Rattle.array_layout.specs.Cells.{cell};
-ghost use Rattle.column_writer.specs.Runs.{HasOffsets};
-ghost use Rattle.column_writer.specs.Pieces.{IsPiece, piece_cells};
+ghost use Rattle.column_writer.specs.Runs.{HasBytes, HasOffsets};
+ghost use Rattle.column_writer.specs.Pieces.{IsChecked, range_cells};
 ghost use Rattle.body_writer.specs.Columns.{joined, offsets_from};
 ghost use Rattle.body_writer.specs.Slots.{length_in, total_length};
 
-use crate::piece::Piece;
+use crate::piece::SlotRange;
 use array_layout::{buffer, is_null_at, offset, run_end};
 use byteorder::{ByteOrder, LittleEndian};
 use std::alloc::AllocError;
@@ -40,21 +40,21 @@ fn bytes_between<'a>(
 }
 
 /// Appends the bytes of its slots, those of a run of valid slots at once.
-pub(crate) fn push_joined(out: &mut Vec<u8>, piece: &Piece) -> Result<(), AllocError>
-    requires piece { IsPiece piece.now }
-    requires plain { piece.now.parts.own.now.dictionary ≡ None }
-    requires layout { HasOffsets piece.now.parts.own.now.layout piece.now.offsets }
+pub(crate) fn push_joined(out: &mut Vec<u8>, range: &SlotRange) -> Result<(), AllocError>
+    requires checked { IsChecked range.now }
+    requires plain { range.now.parts.own.now.dictionary ≡ None }
+    requires layout { HasBytes range.now.parts.own.now.layout range.now.offsets }
     ensures { OnOk result (out.new.items ≡ out.old.items
-        ++ joined (piece_cells piece.now)) }
+        ++ joined (range_cells range.now)) }
 {
-    let bits = buffer(piece.parts.body, &piece.parts.own.validity);
-    let values = buffer(piece.parts.body, &piece.parts.own.values);
-    let offsets = buffer(piece.parts.body, &piece.parts.own.offsets);
-    let mut at = piece.from;
-    while at < piece.to {
-        let end = run_end(bits, at, piece.to);
+    let bits = buffer(range.parts.body, &range.parts.own.validity);
+    let values = buffer(range.parts.body, &range.parts.own.values);
+    let offsets = buffer(range.parts.body, &range.parts.own.offsets);
+    let mut at = range.from;
+    while at < range.to {
+        let end = run_end(bits, at, range.to);
         if !is_null_at(bits, at) {
-            out.extend_from_slice(bytes_between(offsets, values, piece.offsets, at, end))?;
+            out.extend_from_slice(bytes_between(offsets, values, range.offsets, at, end))?;
         }
         at = end;
     }
@@ -77,7 +77,7 @@ pub(crate) fn push_offset(
     }
 }
 
-/// How many bytes slot `i` has, a null none.
+/// How many bytes or items slot `i` has, a null none.
 fn slot_len(bits: &[u8], offsets: &[u8], width: OffsetWidth, i: usize) -> usize
     requires bits { 0 < length bits.now → HasBits bits.now (i + 1) }
     requires room { offset_bytes width * (i + 2) ≤ length offsets.now }
@@ -91,27 +91,27 @@ fn slot_len(bits: &[u8], offsets: &[u8], width: OffsetWidth, i: usize) -> usize
     }
 }
 
-/// Appends where the bytes of its slots start, the first at `start`, and answers where the last ones end.
+/// Appends where the bytes or the items of its slots start, the first at `start`, and answers where the last ones end.
 pub(crate) fn push_starts(
     out: &mut Vec<u8>,
-    piece: &Piece,
+    range: &SlotRange,
     wanted: OffsetWidth,
     start: u64,
 ) -> Result<u64, AllocError>
-    requires piece { IsPiece piece.now }
-    requires plain { piece.now.parts.own.now.dictionary ≡ None }
-    requires layout { HasOffsets piece.now.parts.own.now.layout piece.now.offsets }
-    requires short { start + total_length (piece_cells piece.now) < 2 ^ 31 }
-    ensures end { IfOk result (λ n. n ≡ start + total_length (piece_cells piece.now)) }
+    requires checked { IsChecked range.now }
+    requires plain { range.now.parts.own.now.dictionary ≡ None }
+    requires layout { HasOffsets range.now.parts.own.now.layout range.now.offsets }
+    requires short { start + total_length (range_cells range.now) < 2 ^ 31 }
+    ensures end { IfOk result (λ n. n ≡ start + total_length (range_cells range.now)) }
     ensures bytes { IfOk result (λ n. (rest : List ℕ) → out.new.items ++ offsets_from wanted n rest
-        ≡ out.old.items ++ offsets_from wanted start (map length_in (piece_cells piece.now) ++ rest)) }
+        ≡ out.old.items ++ offsets_from wanted start (map length_in (range_cells range.now) ++ rest)) }
 {
-    let bits = buffer(piece.parts.body, &piece.parts.own.validity);
-    let offsets = buffer(piece.parts.body, &piece.parts.own.offsets);
+    let bits = buffer(range.parts.body, &range.parts.own.validity);
+    let offsets = buffer(range.parts.body, &range.parts.own.offsets);
     let mut end = start;
-    for i in piece.from..piece.to {
+    for i in range.from..range.to {
         push_offset(out, wanted, end)?;
-        end += slot_len(bits, offsets, piece.offsets, i) as u64;
+        end += slot_len(bits, offsets, range.offsets, i) as u64;
     }
     Ok(end)
 }

@@ -3,35 +3,23 @@
 ghost use Rattle.std.specs.Prelude.{◌≡◌, ◌-◌, ◌<◌, ◌≤◌, ◌++◌, All, IfOk, OnOk, length, map, take, drop};
 ghost use Rattle.body_writer.specs.Slots.{part, cells_of};
 ghost use Rattle.body_writer.specs.Batch.{row_cells};
-ghost use Rattle.column_writer.specs.Pieces.{IsPiece, piece_cells, pieces_cells};
+ghost use Rattle.column_writer.specs.Pieces.{HasWidth, OfSlots, pieces_cells, range_cells};
 ghost use Rattle.column_writer.specs.Batches.{HasColumn, range_rows, column_in};
 
 use crate::batch::RowRange;
-use crate::piece::Piece;
+use crate::piece::{Piece, SlotRange, offset_width};
 use arrays::Column;
 use std::alloc::{AllocError, Global};
-use values::{Layout, OffsetWidth, Value};
-
-/// The width of an array's offsets, if it has any.
-fn offset_width(layout: Layout) -> OffsetWidth {
-    match layout {
-        Layout::Utf8 { offsets } | Layout::Binary { offsets } | Layout::List { offsets } => offsets,
-        Layout::Bool
-        | Layout::Int { .. }
-        | Layout::Decimal { .. }
-        | Layout::FixedSizeBinary { .. }
-        | Layout::Struct => OffsetWidth::Bits32,
-    }
-}
+use values::Value;
 
 /// Where the cells of column `j` lie.
-fn piece_of<'a>(range: &RowRange<'a>, j: usize) -> Piece<'a>
+fn slots_in<'a>(range: &RowRange<'a>, j: usize) -> SlotRange<'a>
     requires { HasColumn j range.now }
-    ensures piece { IsPiece result }
-    ensures cells { piece_cells result ≡ map (part j) (row_cells (range_rows range.now)) }
+    ensures piece { HasWidth result }
+    ensures cells { range_cells result ≡ map (part j) (row_cells (range_rows range.now)) }
 {
     let parts = range.batch.columns[j].parts();
-    Piece {
+    SlotRange {
         parts,
         offsets: offset_width(parts.own.layout),
         from: range.from,
@@ -46,12 +34,12 @@ pub(crate) fn pieces_of<'a>(
     j: usize,
 ) -> Result<Vec<Piece<'a>>, AllocError>
     requires { All (HasColumn j) ranges.now }
-    ensures pieces { IfOk result (λ pieces. All IsPiece pieces.items) }
+    ensures pieces { IfOk result (λ pieces. All (OfSlots HasWidth) pieces.items) }
     ensures cells { IfOk result (λ pieces. pieces_cells pieces.items ≡ column_in j ranges.now) }
 {
     let mut pieces = Vec::with_capacity(alloc, ranges.len())?;
     for range in ranges {
-        pieces.push(piece_of(range, j))?;
+        pieces.push(Piece::Slots(slots_in(range, j)))?;
     }
     Ok(pieces)
 }

@@ -1,10 +1,12 @@
 //! Which columns are written run by run.
 
 ghost use Rattle.std.specs.Prelude.{◌≡◌, true, All};
-ghost use Rattle.column_writer.specs.Pieces.{IsLeaf, IsPiece, LiesAs, with_offsets};
+ghost use Rattle.values.specs.Rose.{node, kids_of};
+ghost use Rattle.column_writer.specs.Pieces.{AllLie, HasWidth, IsAlike, Lies, LiesAs, OfSlots, with_offsets};
 
-use crate::piece::Piece;
-use values::{Layout, OffsetWidth};
+use crate::piece::{Piece, offset_width};
+use array_layout::{Array, ArrayData};
+use values::{Layout, LayoutTree, OffsetWidth};
 
 /// The same layout, with offsets of this width.
 fn with_offsets(layout: Layout, offsets: OffsetWidth) -> Layout
@@ -13,23 +15,60 @@ fn with_offsets(layout: Layout, offsets: OffsetWidth) -> Layout
     match layout {
         Layout::Utf8 { .. } => Layout::Utf8 { offsets },
         Layout::Binary { .. } => Layout::Binary { offsets },
+        Layout::List { .. } => Layout::List { offsets },
         other => other,
     }
 }
 
-/// Whether slots lie as this layout wants, but for the width of offsets.
-fn lies_as(piece: &Piece, layout: Layout) -> bool
-    requires { IsPiece piece.now }
-    ensures { result ≡ true → LiesAs layout piece.now }
+/// Whether two layouts are the same, but for the width of offsets.
+fn is_alike(layout: Layout, other: Layout) -> bool
+    ensures { result ≡ true → IsAlike layout other }
 {
-    piece.parts.own.dictionary.is_none()
-        && piece.parts.own.layout == with_offsets(layout, piece.offsets)
+    other == with_offsets(layout, offset_width(other))
 }
 
-/// Whether all of them do.
-pub(crate) fn all_lie_as(pieces: &[Piece], layout: Layout) -> bool
-    requires { All IsPiece pieces.now }
-    ensures { result ≡ true → All (LiesAs layout) pieces.now }
+/// Whether an array lies as this layout wants, but for the width of offsets.
+#[cycle(lies)]
+fn lies(layout: Layout, kids: &[LayoutTree], own: &ArrayData, children: &[Array]) -> bool
+    ensures { result ≡ true → Lies (node layout (kids_of kids.now)) (node own.now (kids_of children.now)) }
+{
+    own.dictionary.is_none() && is_alike(layout, own.layout) && all_lie(kids, children)
+}
+
+/// Whether all of these arrays do.
+#[cycle(lies)]
+fn all_lie(layouts: &[LayoutTree], arrays: &[Array]) -> bool
+    ensures { result ≡ true → AllLie (kids_of layouts.now) (kids_of arrays.now) }
+{
+    let [layout, layouts @ ..] = layouts else {
+        return arrays.is_empty();
+    };
+    let [array, arrays @ ..] = arrays else {
+        return false;
+    };
+    lies(layout.layout, &layout.children, &array.own, &array.children) && all_lie(layouts, arrays)
+}
+
+/// Whether a piece does.
+fn lies_as(piece: &Piece, layout: &LayoutTree) -> bool
+    requires { OfSlots HasWidth piece.now }
+    ensures { result ≡ true → LiesAs layout.now piece.now }
+{
+    match piece {
+        Piece::Slots(range) => lies(
+            layout.layout,
+            &layout.children,
+            range.parts.own,
+            range.parts.children,
+        ),
+        Piece::Nulls(_) => true,
+    }
+}
+
+/// Whether all of these pieces do.
+pub(crate) fn all_lie_as(pieces: &[Piece], layout: &LayoutTree) -> bool
+    requires { All (OfSlots HasWidth) pieces.now }
+    ensures { result ≡ true → All (LiesAs layout.now) pieces.now }
 {
     for piece in pieces {
         if !lies_as(piece, layout) {
@@ -37,20 +76,4 @@ pub(crate) fn all_lie_as(pieces: &[Piece], layout: Layout) -> bool
         }
     }
     true
-}
-
-/// Whether arrays of this layout have no children.
-pub(crate) fn is_leaf(layout: Layout) -> bool
-    ensures { result ≡ true → IsLeaf layout }
-{
-    match layout {
-        Layout::Bool => true,
-        Layout::Int { .. } => true,
-        Layout::Decimal { .. } => true,
-        Layout::FixedSizeBinary { .. } => true,
-        Layout::Utf8 { .. } => true,
-        Layout::Binary { .. } => true,
-        Layout::List { .. } => false,
-        Layout::Struct => false,
-    }
 }

@@ -2,16 +2,19 @@
 //!
 //! Slots that lie one after the other and are all valid are copied at once (`specs/Runs.antt`). The cells of a column of
 //! a batch may lie in several arrays (`specs/Pieces.antt`), since its rows may come from several batches
-//! (`specs/Batches.antt`). Columns with children or with a dictionary are written from copies of their cells.
+//! (`specs/Batches.antt`). Children have the pieces that the runs of the array above them give. Columns with a dictionary
+//! are written from copies of their cells.
 #![tactic(auto)]
 
 mod batch;
 mod bit_runs;
 mod byte_runs;
+mod children;
 mod gather;
 mod kinds;
-mod leaf;
+mod own;
 mod piece;
+mod pieces;
 mod slot_runs;
 mod write;
 

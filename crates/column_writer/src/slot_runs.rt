@@ -3,9 +3,9 @@
 ghost use Rattle.std.specs.Prelude.{◌≡◌, ◌*◌, ◌≤◌, ◌++◌, OnOk, None, replicate, length, slice_range};
 ghost use Rattle.std.specs.List.{flat_map};
 ghost use Rattle.column_writer.specs.Runs.{slot_width, slot_bytes};
-ghost use Rattle.column_writer.specs.Pieces.{IsPiece, piece_cells};
+ghost use Rattle.column_writer.specs.Pieces.{IsChecked, range_cells};
 
-use crate::piece::Piece;
+use crate::piece::SlotRange;
 use array_layout::{buffer, is_null_at, run_end};
 use std::alloc::AllocError;
 use values::Layout;
@@ -26,7 +26,7 @@ pub(crate) fn slot_width(layout: Layout) -> usize
     }
 }
 
-fn push_zeros(out: &mut Vec<u8>, count: usize) -> Result<(), AllocError>
+pub(crate) fn push_zeros(out: &mut Vec<u8>, count: usize) -> Result<(), AllocError>
     ensures { OnOk result (out.new.items ≡ out.old.items ++ replicate count 0) }
 {
     for _ in 0..count {
@@ -45,18 +45,18 @@ fn slot_range(bytes: &[u8], width: usize, from: usize, to: usize) -> &[u8]
 }
 
 /// Appends the bytes of its slots: a null gives zeros, a run of valid slots is copied at once.
-pub(crate) fn push_slots(out: &mut Vec<u8>, piece: &Piece) -> Result<(), AllocError>
-    requires piece { IsPiece piece.now }
-    requires plain { piece.now.parts.own.now.dictionary ≡ None }
+pub(crate) fn push_slots(out: &mut Vec<u8>, range: &SlotRange) -> Result<(), AllocError>
+    requires checked { IsChecked range.now }
+    requires plain { range.now.parts.own.now.dictionary ≡ None }
     ensures { OnOk result (out.new.items ≡ out.old.items
-        ++ flat_map (slot_bytes piece.now.parts.own.now.layout) (piece_cells piece.now)) }
+        ++ flat_map (slot_bytes range.now.parts.own.now.layout) (range_cells range.now)) }
 {
-    let bits = buffer(piece.parts.body, &piece.parts.own.validity);
-    let values = buffer(piece.parts.body, &piece.parts.own.values);
-    let width = slot_width(piece.parts.own.layout);
-    let mut at = piece.from;
-    while at < piece.to {
-        let end = run_end(bits, at, piece.to);
+    let bits = buffer(range.parts.body, &range.parts.own.validity);
+    let values = buffer(range.parts.body, &range.parts.own.values);
+    let width = slot_width(range.parts.own.layout);
+    let mut at = range.from;
+    while at < range.to {
+        let end = run_end(bits, at, range.to);
         if is_null_at(bits, at) {
             push_zeros(out, width * (end - at))?;
         } else {

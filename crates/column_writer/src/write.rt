@@ -2,21 +2,24 @@
 
 ghost use Rattle.std.specs.Prelude.{◌≡◌, ◌^◌, ◌<◌, ◌≤◌, All, IfOk, OnOk, length};
 ghost use Rattle.values.specs.Limits.{max_body_size};
-ghost use Rattle.values.specs.Rose.{kids_of};
-ghost use Rattle.values.specs.Layouts.{IsLayout, Holds};
+ghost use Rattle.values.specs.Rose.{node, kids_of};
+ghost use Rattle.values.specs.Layouts.{IsNode, IsLayout, AreLayouts, Holds};
 ghost use Rattle.values.specs.Weights.{weights};
-ghost use Rattle.body_writer.specs.Columns.{nodes, buffers};
+ghost use Rattle.body_writer.specs.Columns.{nodes, nodes_below, buffers, buffers_below};
 ghost use Rattle.body_writer.specs.Grows.{Grows};
 ghost use Rattle.body_writer.specs.Batch.{IsBatch, body_bytes, body_nodes, body_ranges};
+ghost use Rattle.column_writer.specs.Pieces.{LiesAs, pieces_cells};
 ghost use Rattle.column_writer.specs.Batches.{HasColumn, IsRange, column_in, ranges_rows};
 
 use crate::batch::RowRange;
+use crate::children::child_pieces;
 use crate::gather::{pieces_of, refs_of, values_of};
-use crate::kinds::{all_lie_as, is_leaf};
-use crate::leaf::write_leaf;
+use crate::kinds::all_lie_as;
+use crate::own::write_own;
+use crate::piece::Piece;
 use body_writer::Body;
 use std::alloc::{AllocError, Global};
-use values::LayoutTree;
+use values::{Layout, LayoutTree};
 
 /// Appends column `j` of these rows from copies of its cells.
 fn write_values(
@@ -38,17 +41,59 @@ fn write_values(
     body_writer::write_column(alloc, layout, &cells, body)
 }
 
-/// Appends column `j` of these rows, `len` of them.
+/// Appends the columns of the children of an array with this layout and these cells.
+#[cycle(column)]
+fn write_children(
+    alloc: Global,
+    layout: Layout,
+    children: &[LayoutTree],
+    pieces: &[Piece],
+    body: &mut Body,
+) -> Result<(), AllocError>
+    requires own { IsNode layout (kids_of children.now) }
+    requires layouts { AreLayouts (kids_of children.now) }
+    requires lie { All (LiesAs (node layout (kids_of children.now))) pieces.now }
+    requires held { All (Holds (node layout (kids_of children.now))) (pieces_cells pieces.now) }
+    requires light { weights (node layout (kids_of children.now)) (pieces_cells pieces.now) < 2 ^ 31 }
+    ensures { OnOk result (Grows body.old body.new (nodes_below layout 0 (kids_of children.now) (pieces_cells pieces.now))
+        (buffers_below layout 0 (kids_of children.now) (pieces_cells pieces.now))) }
+{
+    for j in 0..children.len() {
+        let child = &children[j];
+        let below = child_pieces(alloc, layout, pieces, j)?;
+        write_pieces(alloc, child, &below, body)?;
+    }
+    Ok(())
+}
+
+/// Appends the column whose cells lie in these pieces.
+#[cycle(column)]
+fn write_pieces(
+    alloc: Global,
+    layout: &LayoutTree,
+    pieces: &[Piece],
+    body: &mut Body,
+) -> Result<(), AllocError>
+    requires layouts { IsLayout layout.now }
+    requires lie { All (LiesAs layout.now) pieces.now }
+    requires held { All (Holds layout.now) (pieces_cells pieces.now) }
+    requires light { weights layout.now (pieces_cells pieces.now) < 2 ^ 31 }
+    ensures { OnOk result
+        (Grows body.old body.new (nodes layout.now (pieces_cells pieces.now)) (buffers layout.now (pieces_cells pieces.now))) }
+{
+    write_own(alloc, layout.layout, pieces, body)?;
+    write_children(alloc, layout.layout, &layout.children, pieces, body)
+}
+
+/// Appends column `j` of these rows.
 fn write_column(
     alloc: Global,
     layout: &LayoutTree,
     ranges: &[RowRange],
     j: usize,
-    len: usize,
     body: &mut Body,
 ) -> Result<(), AllocError>
     requires ranges { All (HasColumn j) ranges.now }
-    requires len { length (column_in j ranges.now) ≡ len }
     requires layouts { IsLayout layout.now }
     requires held { All (Holds layout.now) (column_in j ranges.now) }
     requires light { weights layout.now (column_in j ranges.now) < 2 ^ 31 }
@@ -56,22 +101,20 @@ fn write_column(
         (Grows body.old body.new (nodes layout.now (column_in j ranges.now)) (buffers layout.now (column_in j ranges.now))) }
 {
     let pieces = pieces_of(alloc, ranges, j)?;
-    if is_leaf(layout.layout) && all_lie_as(&pieces, layout.layout) {
-        return write_leaf(alloc, layout.layout, &pieces, len, body);
+    if all_lie_as(&pieces, layout) {
+        return write_pieces(alloc, layout, &pieces, body);
     }
     write_values(alloc, layout, ranges, j, body)
 }
 
-/// The body of the batch of these rows, `len` of them, in columns of these layouts.
+/// The body of the batch of these rows, in columns of these layouts.
 #[tactic(auto, using(body_writer::proofs::Rows::batch), unfolding(body_writer::specs::Batch::body_nodes, body_writer::specs::Batch::body_ranges, body_writer::specs::Batch::body_bytes))]
 pub fn write_body(
     alloc: Global,
     layouts: &[LayoutTree],
     ranges: &[RowRange],
-    len: usize,
 ) -> Result<Body, AllocError>
     requires ranges { All (IsRange (length layouts.now)) ranges.now }
-    requires len { length (ranges_rows ranges.now) ≡ len }
     requires batch { IsBatch (kids_of layouts.now) (ranges_rows ranges.now) }
     ensures nodes { IfOk result (λ body. body.nodes.items ≡ body_nodes (kids_of layouts.now) (ranges_rows ranges.now)) }
     ensures ranges { IfOk result (λ body. body.ranges.items ≡ body_ranges (kids_of layouts.now) (ranges_rows ranges.now)) }
@@ -80,7 +123,7 @@ pub fn write_body(
 {
     let mut body = Body::new(alloc);
     for j in 0..layouts.len() {
-        write_column(alloc, &layouts[j], ranges, j, len, &mut body)?;
+        write_column(alloc, &layouts[j], ranges, j, &mut body)?;
     }
     Ok(body)
 }

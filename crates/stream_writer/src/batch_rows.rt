@@ -102,7 +102,7 @@ impl<'a> RowSource for BatchRows<'a> {
         count: usize,
     ) -> Result<Body, AllocError> {
         let ranges = ranges_of(alloc, self.batches, self.from, count)?;
-        column_writer::write_body(alloc, layouts, &ranges, count)
+        column_writer::write_body(alloc, layouts, &ranges)
     }
 
     fn skip(&mut self, count: usize) {

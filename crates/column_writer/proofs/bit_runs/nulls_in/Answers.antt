@@ -8,26 +8,26 @@ pub loop-at-preserved-then-is_null_at : goal.loop-at-preserved-then-is_null_at
 loop-at-preserved-then-is_null_at c =
     let inv = c.loop-at.invariant in
     let run = c.run_end-end.ensures in
-    let parts = c.args.piece.now.parts in
+    let parts = c.args.range.now.parts in
     record {
       past = omega (arith, inv.past, run.past);
       order = run.within;
       few = omega (arith, inv.few, inv.past, run.past);
       nulls =
           nulls-step parts.body.now c.buffer-bits.result.now parts.own.now (kids_of parts.children.now) c.loop-at.at c.run_end-end.result
-          c.args.piece.now.to c.loop-at.nulls (c.run_end-end.result - c.loop-at.at) _ true c.buffer-bits.ensures c.requires.plain
-          c.requires.piece.valid (omega (arith, run.past)) run.within c.requires.piece.within (search rules) run.same refl inv.nulls;
+          c.args.range.now.to c.loop-at.nulls (c.run_end-end.result - c.loop-at.at) _ true c.buffer-bits.ensures c.requires.plain
+          (λ k lo hi. c.requires.checked.valid k (omega (arith, inv.past, lo)) (omega (arith, hi, run.within))) (omega (arith, run.past)) run.within (search rules) run.same refl inv.nulls;
     }
 
 pub loop-at-preserved : goal.loop-at-preserved
 loop-at-preserved c =
     let inv = c.loop-at.invariant in
     let run = c.run_end-end.ensures in
-    let parts = c.args.piece.now.parts in
+    let parts = c.args.range.now.parts in
     let next =
     nulls-step parts.body.now c.buffer-bits.result.now parts.own.now (kids_of parts.children.now) c.loop-at.at c.run_end-end.result
-    c.args.piece.now.to c.loop-at.nulls 0 _ false c.buffer-bits.ensures c.requires.plain c.requires.piece.valid
-    (omega (arith, run.past)) run.within c.requires.piece.within (search rules) run.same refl inv.nulls in
+    c.args.range.now.to c.loop-at.nulls 0 _ false c.buffer-bits.ensures c.requires.plain (λ k lo hi. c.requires.checked.valid k (omega (arith, inv.past, lo)) (omega (arith, hi, run.within)))
+    (omega (arith, run.past)) run.within (search rules) run.same refl inv.nulls in
     record {
       past = omega (arith, inv.past, run.past);
       order = run.within;
@@ -37,14 +37,14 @@ loop-at-preserved c =
 
 pub returns-clause-value : goal.returns-clause-value
 returns-clause-value c =
-    let parts = c.args.piece.now.parts in
-    nulls-over (cell parts.body.now (node parts.own.now (kids_of parts.children.now))) c.loop-at.at c.args.piece.now.to c.loop-at.nulls _
+    let parts = c.args.range.now.parts in
+    nulls-over (cell parts.body.now (node parts.own.now (kids_of parts.children.now))) c.loop-at.at c.args.range.now.to c.loop-at.nulls _
     c.loop-at-test.false c.loop-at.invariant.nulls
 
 pub returns-clause-bound : goal.returns-clause-bound
 returns-clause-bound c =
-    let parts = c.args.piece.now.parts in
+    let parts = c.args.range.now.parts in
     let size =
-    length-slots (cell parts.body.now (node parts.own.now (kids_of parts.children.now))) c.args.piece.now.from
-    (c.args.piece.now.to - c.args.piece.now.from) in
+    length-slots (cell parts.body.now (node parts.own.now (kids_of parts.children.now))) c.args.range.now.from
+    (c.args.range.now.to - c.args.range.now.from) in
     omega (arith, size, c.loop-at.invariant.few, c.loop-at.invariant.order)

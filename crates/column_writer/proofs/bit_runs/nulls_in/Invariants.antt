@@ -7,12 +7,12 @@ use Rattle.column_writer.proofs.bit_runs.nulls_in.Given as goal
 
 abbrev pub invariant-loop-at : goal.invariant-loop-at
 invariant-loop-at l = record {
-  past : l.piece.from ≤ l.at;
-  order : l.at ≤ l.piece.to;
-  few : l.nulls ≤ l.at - l.piece.from;
-  nulls : l.nulls + null_count (slots (cell l.piece.parts.body.now (node l.piece.parts.own.now (kids_of l.piece.parts.children.now))) l.at (l.piece.to - l.at))
-      ≡ null_count (slots (cell l.piece.parts.body.now (node l.piece.parts.own.now (kids_of l.piece.parts.children.now))) l.piece.from (l.piece.to - l.piece.from));
+  past : l.range.from ≤ l.at;
+  order : l.at ≤ l.range.to;
+  few : l.nulls ≤ l.at - l.range.from;
+  nulls : l.nulls + null_count (slots (cell l.range.parts.body.now (node l.range.parts.own.now (kids_of l.range.parts.children.now))) l.at (l.range.to - l.at))
+      ≡ null_count (slots (cell l.range.parts.body.now (node l.range.parts.own.now (kids_of l.range.parts.children.now))) l.range.from (l.range.to - l.range.from));
 }
 
 abbrev pub decreases-loop-at : goal.decreases-loop-at
-decreases-loop-at l = l.piece.to - l.at
+decreases-loop-at l = l.range.to - l.at

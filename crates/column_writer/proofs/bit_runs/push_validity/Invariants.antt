@@ -1,4 +1,4 @@
-use Rattle.std.proofs.Common.{◌≡◌, ◌++◌, ◌+◌, ◌-◌, length}
+use Rattle.std.proofs.Common.{◌≡◌, ◌++◌, ◌+◌, ◌-◌, ◌≤◌, length}
 use Rattle.std.specs.Prelude.{map}
 use Rattle.values.specs.Rose.{node, kids_of}
 use Rattle.array_layout.specs.Cells.{cell}
@@ -8,7 +8,8 @@ use Rattle.column_writer.proofs.bit_runs.push_validity.Given as goal
 
 abbrev pub invariant-loop-i : goal.invariant-loop-i
 invariant-loop-i l = record {
-  size : length l.valid + l.piece.from ≡ length l.fn.valid + l.i;
-  bits : l.valid ++ map is_valid (slots (cell l.piece.parts.body.now (node l.piece.parts.own.now (kids_of l.piece.parts.children.now))) l.i (l.piece.to - l.i))
-      ≡ l.fn.valid ++ map is_valid (slots (cell l.piece.parts.body.now (node l.piece.parts.own.now (kids_of l.piece.parts.children.now))) l.piece.from (l.piece.to - l.piece.from));
+  past : l.range.from ≤ l.i;
+  size : length l.valid + l.range.from ≡ length l.fn.valid + l.i;
+  bits : l.valid ++ map is_valid (slots (cell l.range.parts.body.now (node l.range.parts.own.now (kids_of l.range.parts.children.now))) l.i (l.range.to - l.i))
+      ≡ l.fn.valid ++ map is_valid (slots (cell l.range.parts.body.now (node l.range.parts.own.now (kids_of l.range.parts.children.now))) l.range.from (l.range.to - l.range.from));
 }

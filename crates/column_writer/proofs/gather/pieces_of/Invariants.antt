@@ -1,10 +1,10 @@
 use Rattle.std.proofs.Common.{◌≡◌, ◌++◌, drop, All}
-use Rattle.column_writer.specs.Pieces.{IsPiece, pieces_cells}
+use Rattle.column_writer.specs.Pieces.{HasWidth, OfSlots, pieces_cells}
 use Rattle.column_writer.specs.Batches.{column_in}
 use Rattle.column_writer.proofs.gather.pieces_of.Given as goal
 
 abbrev pub invariant-loop-range : goal.invariant-loop-range
 invariant-loop-range l = record {
-  pieces : All IsPiece l.pieces.items;
+  pieces : All (OfSlots HasWidth) l.pieces.items;
   cells : pieces_cells l.pieces.items ++ column_in l.j (drop l.range-index l.ranges) ≡ column_in l.j l.ranges;
 }

@@ -3,4 +3,4 @@ use Rattle.column_writer.specs.Pieces.{LiesAs}
 use Rattle.column_writer.proofs.kinds.all_lie_as.Given as goal
 
 abbrev pub invariant-loop-piece : goal.invariant-loop-piece
-invariant-loop-piece l = All (LiesAs l.fn.layout) (drop l.piece-index l.pieces) → All (LiesAs l.fn.layout) l.pieces
+invariant-loop-piece l = All (LiesAs l.layout) (drop l.piece-index l.pieces) → All (LiesAs l.layout) l.pieces

@@ -7,13 +7,13 @@ use Rattle.column_writer.proofs.slot_runs.push_slots.Given as goal
 
 abbrev pub invariant-loop-at : goal.invariant-loop-at
 invariant-loop-at l = record {
-  past : l.piece.from ≤ l.at;
-  order : l.at ≤ l.piece.to;
-  bytes : l.out.items ++ flat_map (slot_bytes l.piece.parts.own.now.layout)
-      (slots (cell l.piece.parts.body.now (node l.piece.parts.own.now (kids_of l.piece.parts.children.now))) l.at (l.piece.to - l.at))
-      ≡ l.fn.out.items ++ flat_map (slot_bytes l.piece.parts.own.now.layout)
-      (slots (cell l.piece.parts.body.now (node l.piece.parts.own.now (kids_of l.piece.parts.children.now))) l.piece.from (l.piece.to - l.piece.from));
+  past : l.range.from ≤ l.at;
+  order : l.at ≤ l.range.to;
+  bytes : l.out.items ++ flat_map (slot_bytes l.range.parts.own.now.layout)
+      (slots (cell l.range.parts.body.now (node l.range.parts.own.now (kids_of l.range.parts.children.now))) l.at (l.range.to - l.at))
+      ≡ l.fn.out.items ++ flat_map (slot_bytes l.range.parts.own.now.layout)
+      (slots (cell l.range.parts.body.now (node l.range.parts.own.now (kids_of l.range.parts.children.now))) l.range.from (l.range.to - l.range.from));
 }
 
 abbrev pub decreases-loop-at : goal.decreases-loop-at
-decreases-loop-at l = l.piece.to - l.at
+decreases-loop-at l = l.range.to - l.at

@@ -1,9 +1,7 @@
-use Rattle.std.proofs.Common.{◌+◌, ◌∙◌, drop, length, refl}
-use Rattle.std.proofs.lemmas.List.{length-map}
+use Rattle.std.proofs.Common.{◌+◌, drop, length, refl}
 use Rattle.values.specs.Rose.{kids_of}
 use Rattle.values.specs.declared.layout.Layout.TheVariants.{Struct}
-use Rattle.body_writer.specs.Slots.{part}
-use Rattle.body_writer.specs.Batch.{row_cell, row_cells}
+use Rattle.body_writer.specs.Batch.{row_cells}
 use Rattle.body_writer.proofs.Rows.{write-start}
 use Rattle.body_writer.proofs.Ahead.{ahead-first, ahead-call, ahead-next}
 use Rattle.column_writer.specs.Batches.{column_in, ranges_rows}
@@ -25,10 +23,8 @@ write_column-requires c =
     let call =
     ahead-call Struct c.loop-j.j child (kids_of (drop (c.loop-j.j + 1) layouts)) rows (column_in c.loop-j.j c.args.ranges.now) c.loop-j.body
     _ _ _ refl first in
-    let size = length-map rows (part c.loop-j.j) ∙ length-map (ranges_rows c.args.ranges.now) row_cell in
     record {
       ranges = all-columns (length layouts) c.loop-j.j c.args.ranges.now c.loop-j-test.true c.requires.ranges;
-      len = size ∙ c.requires.len;
       layouts = call.0;
       held = call.1;
       light = call.2;

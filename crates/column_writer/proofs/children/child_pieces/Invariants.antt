@@ -1,0 +1,13 @@
+use Rattle.std.proofs.Common.{◌≡◌, ◌++◌, drop, All}
+use Rattle.values.specs.Rose.{Rose}
+use Rattle.values.specs.declared.layout.Layout.{Layout}
+use Rattle.body_writer.specs.Columns.{child_cells}
+use Rattle.column_writer.specs.Pieces.{pieces_cells, ChildLies, LiesAs, OfSlots}
+use Rattle.column_writer.proofs.children.child_pieces.Given as goal
+
+abbrev pub invariant-loop-piece : goal.invariant-loop-piece
+invariant-loop-piece l = record {
+  cells : pieces_cells l.below.items ++ child_cells l.layout l.j (pieces_cells (drop l.piece-index l.pieces))
+      ≡ child_cells l.layout l.j (pieces_cells l.pieces);
+  lies : (t : Rose Layout) → All (OfSlots (ChildLies t l.j)) l.pieces → All (LiesAs t) l.below.items;
+}

@@ -1,0 +1,193 @@
+//! The node and the buffers that the array of a column has of its own, from the pieces that have the column's cells.
+
+ghost use Rattle.std.specs.Prelude.{◌≡◌, ◌<◌, ◌≤◌, ◌^◌, All, IfOk, OnOk, [], ◌∷◌, length};
+ghost use Rattle.std.specs.List.{flat_map};
+ghost use Rattle.bitmaps.specs.Packed.{bytes_of};
+ghost use Rattle.values.specs.declared.layout.Layout.TheVariants.{Bool as Booleans};
+ghost use Rattle.body_writer.specs.Slots.{null_count, total_length};
+ghost use Rattle.body_writer.specs.Columns.{
+  validity as validity_of,
+  truths as truths_of,
+  joined as joined_of,
+  offsets as offsets_of,
+  value_buffers,
+  own_node,
+  own_buffers,
+};
+ghost use Rattle.body_writer.specs.Grows.{Appends, Grows};
+ghost use Rattle.column_writer.specs.Runs.{slot_bytes};
+ghost use Rattle.column_writer.specs.Pieces.{HasLayout, HasRuns, HasStarts, IsPlain, OfSlots, pieces_cells};
+
+use crate::byte_runs::push_offset;
+use crate::piece::Piece;
+use crate::pieces::{
+    cells_in, piece_nulls, push_piece_bytes, push_piece_slots, push_piece_starts,
+    push_piece_truths, push_piece_validity,
+};
+use crate::slot_runs::slot_width;
+use array_layout::FieldNode;
+use bitmaps::Bitmap;
+use body_writer::Body;
+use std::alloc::{AllocError, Global};
+use values::{Layout, OffsetWidth};
+
+/// How many cells there are.
+fn count_cells(pieces: &[Piece]) -> usize
+    requires plain { All (OfSlots IsPlain) pieces.now }
+    requires few { length (pieces_cells pieces.now) < 2 ^ 31 }
+    ensures { result ≡ length (pieces_cells pieces.now) }
+{
+    let mut count = 0;
+    for piece in pieces {
+        count += cells_in(piece);
+    }
+    count
+}
+
+/// How many cells are null.
+fn count_nulls(pieces: &[Piece]) -> usize
+    requires plain { All (OfSlots IsPlain) pieces.now }
+    requires few { length (pieces_cells pieces.now) < 2 ^ 31 }
+    ensures value { result ≡ null_count (pieces_cells pieces.now) }
+    ensures bound { result < 2 ^ 31 }
+{
+    let mut nulls = 0;
+    for piece in pieces {
+        nulls += piece_nulls(piece);
+    }
+    nulls
+}
+
+/// A bit a cell, or none where no cell is null.
+fn validity(alloc: Global, pieces: &[Piece], nulls: usize) -> Result<Bitmap, AllocError>
+    requires plain { All (OfSlots IsPlain) pieces.now }
+    requires few { length (pieces_cells pieces.now) < 2 ^ 31 }
+    requires nulls { nulls ≡ null_count (pieces_cells pieces.now) }
+    ensures { IfOk result (λ bits. bytes_of bits ≡ validity_of (pieces_cells pieces.now)) }
+{
+    let mut bits = Bitmap::new(alloc);
+    if nulls == 0 {
+        return Ok(bits);
+    }
+    for piece in pieces {
+        push_piece_validity(&mut bits, piece)?;
+    }
+    Ok(bits)
+}
+
+fn truths(alloc: Global, pieces: &[Piece]) -> Result<Bitmap, AllocError>
+    requires layout { All (OfSlots (HasLayout Booleans)) pieces.now }
+    requires few { length (pieces_cells pieces.now) < 2 ^ 31 }
+    ensures { IfOk result (λ bits. bytes_of bits ≡ truths_of (pieces_cells pieces.now)) }
+{
+    let mut bits = Bitmap::new(alloc);
+    for piece in pieces {
+        push_piece_truths(&mut bits, piece)?;
+    }
+    Ok(bits)
+}
+
+/// The bytes of cells of a fixed width, `len` of them.
+fn slots(alloc: Global, layout: Layout, pieces: &[Piece], len: usize) -> Result<Vec<u8>, AllocError>
+    requires { All (OfSlots (HasLayout layout)) pieces.now }
+    ensures { IfOk result (λ buffer. buffer.items ≡ flat_map (slot_bytes layout) (pieces_cells pieces.now)) }
+{
+    let mut buffer = Vec::with_capacity(alloc, slot_width(layout).saturating_mul(len))?;
+    for piece in pieces {
+        push_piece_slots(&mut buffer, layout, piece)?;
+    }
+    Ok(buffer)
+}
+
+/// The bytes of all cells, one after the other.
+fn joined(alloc: Global, pieces: &[Piece]) -> Result<Vec<u8>, AllocError>
+    requires { All (OfSlots HasRuns) pieces.now }
+    ensures { IfOk result (λ buffer. buffer.items ≡ joined_of (pieces_cells pieces.now)) }
+{
+    let mut buffer = Vec::new(alloc);
+    for piece in pieces {
+        push_piece_bytes(&mut buffer, piece)?;
+    }
+    Ok(buffer)
+}
+
+/// Where the bytes or the items of each cell start, and where the last ones end.
+fn offsets(alloc: Global, pieces: &[Piece], width: OffsetWidth) -> Result<Vec<u8>, AllocError>
+    requires layout { All (OfSlots HasStarts) pieces.now }
+    requires short { total_length (pieces_cells pieces.now) < 2 ^ 31 }
+    ensures { IfOk result (λ buffer. buffer.items ≡ offsets_of width (pieces_cells pieces.now)) }
+{
+    let mut buffer = Vec::new(alloc);
+    let mut end = 0;
+    for piece in pieces {
+        end = push_piece_starts(&mut buffer, piece, width, end)?;
+    }
+    push_offset(&mut buffer, width, end)?;
+    Ok(buffer)
+}
+
+/// Texts or bytes: where each starts, and all of them.
+fn append_runs(
+    alloc: Global,
+    width: OffsetWidth,
+    pieces: &[Piece],
+    body: &mut Body,
+) -> Result<(), AllocError>
+    requires runs { All (OfSlots HasRuns) pieces.now }
+    requires starts { All (OfSlots HasStarts) pieces.now }
+    requires short { total_length (pieces_cells pieces.now) < 2 ^ 31 }
+    ensures { OnOk result
+        (Appends body.old body.new (offsets_of width (pieces_cells pieces.now) ∷ joined_of (pieces_cells pieces.now) ∷ [])) }
+{
+    body.append(&offsets(alloc, pieces, width)?)?;
+    body.append(&joined(alloc, pieces)?)
+}
+
+/// Appends the offsets and values of these cells, by layout.
+#[tactic(auto, unfolding(body_writer::specs::Columns::numbers, body_writer::specs::Columns::fixed))]
+fn append_values(
+    alloc: Global,
+    layout: Layout,
+    pieces: &[Piece],
+    len: usize,
+    body: &mut Body,
+) -> Result<(), AllocError>
+    requires layout { All (OfSlots (HasLayout layout)) pieces.now }
+    requires few { length (pieces_cells pieces.now) < 2 ^ 31 }
+    requires short { total_length (pieces_cells pieces.now) < 2 ^ 31 }
+    ensures { OnOk result (Appends body.old body.new (value_buffers layout (pieces_cells pieces.now))) }
+{
+    match layout {
+        Layout::Bool => body.append(truths(alloc, pieces)?.as_bytes()),
+        Layout::Int { .. } => body.append(&slots(alloc, layout, pieces, len)?),
+        Layout::Decimal { .. } => body.append(&slots(alloc, layout, pieces, len)?),
+        Layout::FixedSizeBinary { .. } => body.append(&slots(alloc, layout, pieces, len)?),
+        Layout::Utf8 { offsets } => append_runs(alloc, offsets, pieces, body),
+        Layout::Binary { offsets } => append_runs(alloc, offsets, pieces, body),
+        Layout::List { offsets: width } => body.append(&offsets(alloc, pieces, width)?),
+        Layout::Struct => Ok(()),
+    }
+}
+
+/// Appends the node and the buffers of these cells, without those of any children.
+pub(crate) fn write_own(
+    alloc: Global,
+    layout: Layout,
+    pieces: &[Piece],
+    body: &mut Body,
+) -> Result<(), AllocError>
+    requires layout { All (OfSlots (HasLayout layout)) pieces.now }
+    requires few { length (pieces_cells pieces.now) < 2 ^ 31 }
+    requires short { total_length (pieces_cells pieces.now) < 2 ^ 31 }
+    ensures { OnOk result
+        (Grows body.old body.new (own_node (pieces_cells pieces.now) ∷ []) (own_buffers layout (pieces_cells pieces.now))) }
+{
+    let len = count_cells(pieces);
+    let nulls = count_nulls(pieces);
+    body.nodes.push(FieldNode {
+        length: len,
+        nulls: nulls as i64,
+    })?;
+    body.append(validity(alloc, pieces, nulls)?.as_bytes())?;
+    append_values(alloc, layout, pieces, len, body)
+}
