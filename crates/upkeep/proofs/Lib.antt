@@ -18,3 +18,5 @@ pub mod Referring
 pub mod LiveSides
 pub mod SideEdits
 pub mod Refreshing
+pub mod Taken
+pub mod TakenApart

@@ -5,6 +5,8 @@ pub mod TableChanges
 pub mod Swaps
 pub mod ViewStates
 pub mod LiveParts
+pub mod ViewParts
+pub mod TablesParts
 pub mod Touched
 pub mod LiveEdits
 pub mod Reading

@@ -1,5 +1,5 @@
 -- What edits, and taking them back, do to tables and views that are kept current.
-use Rattle.std.specs.Prelude.{◌≡◌, ℕ, Bool, List, IfOk, Result, Ok, Err, OnErr, OnOk, slice_set}
+use Rattle.std.specs.Prelude.{◌≡◌, ℕ, Bool, false, List, IfOk, Result, Ok, Err, OnErr, OnOk, get_or, slice_set}
 use Rattle.view_lang.specs.Edits.{TableEdit}
 use Rattle.view_lang.specs.World.{table_at}
 use Rattle.row_keys.specs.Slots.{Slot}
@@ -16,6 +16,10 @@ abbrev pub StaleByMemory : {X : Type 0} → List Bool → Result X EditFault →
 StaleByMemory old (Ok x) new = new ≡ old
 StaleByMemory old (Err (fault.Unfit u)) new = new ≡ old
 StaleByMemory old (Err fault.Memory) new = Unit {0}
+
+-- A view that is stale was stale before.
+abbrev pub NoneBecomesStale : List Bool → List Bool → Type 0
+NoneBecomesStale old new = (n : ℕ) → get_or old n false ≡ false → get_or new n false ≡ false
 
 -- An edit of table n that is made opens the rows that it touches, at most twice for each view; one that doesn't fit
 -- opens none.

@@ -2,7 +2,8 @@
 //!
 //! `specs/Stores.antt` says which tables and rows stores hold, `specs/TableChanges.antt` what edits do to them,
 //! `specs/Inputs.antt` what a view keeps of a row, `specs/ViewStates.antt` what is kept of a view, `specs/Reading.antt`
-//! what is read out of it, and `specs/LiveEdits.antt` what edits do to tables and views together.
+//! what is read out of it, `specs/LiveEdits.antt` what edits do to tables and views together, and `specs/ViewParts.antt`
+//! and `specs/TablesParts.antt` of which parts it is all made.
 #![tactic(auto)]
 
 mod all_views;
@@ -11,11 +12,14 @@ mod follow;
 mod inputs;
 mod live_tables;
 mod lookup_views;
+mod parts;
 mod reading;
 mod swaps;
 mod table_change;
+mod view_parts;
 mod view_state;
 mod viewed;
 
 pub use live_tables::LiveTables;
+pub use parts::{KeptParts, LiveTablesParts, ViewParts};
 pub use table_change::TableChange;

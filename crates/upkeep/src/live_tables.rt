@@ -18,18 +18,21 @@ ghost use Rattle.row_keys.specs.Slots.{
 ghost use Rattle.row_keys.specs.Store.{live_in};
 ghost use Rattle.upkeep.specs.Inputs.{side_by};
 ghost use Rattle.upkeep.specs.LiveParts.{AreOf, store_at, view_at};
-ghost use Rattle.upkeep.specs.LiveEdits.{Edited, WentBack};
+ghost use Rattle.upkeep.specs.LiveEdits.{Edited, NoneBecomesStale, WentBack};
 ghost use Rattle.upkeep.specs.Stores.{rows_at, rows_in, tables_in, visits_in};
 ghost use Rattle.upkeep.specs.TableChanges.{CanGoBack, IsBatch, IsChangeOf, back, change_by};
+ghost use Rattle.upkeep.specs.TablesParts.{AreLiveParts, live_with};
 ghost use Rattle.upkeep.specs.Touched.{OpensShown, built_of, touched};
 
 use crate::all_views::{count_stale, follow_all, follow_last, fresh_states};
 use crate::edits::{append_batch, find_rows, make_edit, restore};
 use crate::follow::rebuild;
 use crate::lookup_views::follow_lookups;
+use crate::parts::LiveTablesParts;
 use crate::reading::kept_rows;
 use crate::swaps::{forget, swap};
 use crate::table_change::TableChange;
+use crate::view_parts::{make_states, take_states};
 use crate::view_state::{Turn, ViewState};
 use crate::viewed::viewed_law;
 use arrays::Column;
@@ -93,6 +96,44 @@ impl LiveTables {
         ensures stale { IfOk result (λ tables. tables.stale ≡ map (λ _. false) views.items) }
     {
         let states = fresh_states(alloc, &views)?;
+        Ok(LiveTables {
+            alloc,
+            stores,
+            views,
+            states,
+        })
+    }
+
+    /// What they are made of, and nothing else is kept. Where memory is refused, they are gone.
+    pub fn into_parts(self) -> Result<LiveTablesParts, AllocError>
+        ensures value { IfOk result (λ parts. live_with parts ≡ self) }
+        ensures live { IfOk result (λ parts. AreLiveParts parts) }
+    {
+        let LiveTables {
+            alloc,
+            stores,
+            views,
+            states,
+        } = self;
+        let states = take_states(alloc, states)?;
+        Ok(LiveTablesParts {
+            stores,
+            views,
+            states,
+        })
+    }
+
+    /// Those that are made of these. No row is opened, and those views are stale of which the parts say so.
+    pub fn from_parts(alloc: Global, parts: LiveTablesParts) -> Result<LiveTables, AllocError>
+        requires { AreLiveParts parts }
+        ensures { IfOk result (λ tables. tables ≡ live_with parts) }
+    {
+        let LiveTablesParts {
+            stores,
+            views,
+            states,
+        } = parts;
+        let states = make_states(alloc, states)?;
         Ok(LiveTables {
             alloc,
             stores,
@@ -371,6 +412,7 @@ impl LiveTables {
         ensures same_rows { rows_in self.new.stores ≡ rows_in self.old.stores }
         ensures views { self.new.views ≡ self.old.views }
         ensures stale { OnOk result (self.new.stale ≡ slice_set self.old.stale place false) }
+        ensures none_stale { NoneBecomesStale self.old.stale self.new.stale }
         ensures visits { OpensShown self.old place self.new }
     {
         self.refresh(place)?;

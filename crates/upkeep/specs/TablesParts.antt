@@ -1,0 +1,15 @@
+-- Tables, views of them and what is kept of the views, taken apart.
+use Rattle.std.specs.Prelude.{All, map}
+use Rattle.upkeep.specs.LiveParts.{AreLive, LiveParts}
+use Rattle.upkeep.specs.ViewParts.{IsState, state_with}
+use Rattle.upkeep.specs.declared.parts.LiveTablesParts.{LiveTablesParts}
+
+-- what contracts see of the tables that have these parts
+abbrev pub live_with : LiveTablesParts → LiveParts
+live_with p =
+    record { stores = p.stores.items; views = p.views.items; stale = map (λ s. s.stale) p.states.items }
+
+-- Each view is stale, or what has its parts is made of the rows that are live in the stores.
+pub record AreLiveParts (p : LiveTablesParts) : Type 0 where
+  pub states : All IsState p.states.items
+  pub live : AreLive p.stores.items p.views.items (map state_with p.states.items)

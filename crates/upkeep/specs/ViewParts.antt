@@ -1,0 +1,29 @@
+-- What is kept of views, taken apart.
+use Rattle.group_state.specs.GroupParts.{AreGroups, grouped_with}
+use Rattle.lookups.specs.ReferrersParts.{rows_with}
+use Rattle.lookups.specs.Refers.{IsOrdered}
+use Rattle.top_rows.specs.OrderParts.{AreAscending, ordered_with}
+use Rattle.upkeep.specs.declared.parts.KeptParts.{KeptParts}
+use Rattle.upkeep.specs.declared.parts.KeptParts.TheVariants as parts
+use Rattle.upkeep.specs.declared.parts.ViewParts.{ViewParts}
+use Rattle.upkeep.specs.declared.view_state.Kept.{Kept}
+use Rattle.upkeep.specs.declared.view_state.Kept.TheVariants as kept
+use Rattle.upkeep.specs.declared.view_state.ViewState.{ViewState}
+
+abbrev pub kept_with : KeptParts → Kept
+kept_with (parts.Order o) = kept.Order (ordered_with o)
+kept_with (parts.Groups g) = kept.Groups (grouped_with g)
+
+-- what is kept of a view that has these parts
+abbrev pub state_with : ViewParts → ViewState
+state_with p = record { stale = p.stale; kept = kept_with p.kept; referrers = rows_with p.referrers }
+
+-- Places ascend, and groups are such as are kept of rows.
+abbrev pub IsKeptParts : KeptParts → Type 0
+IsKeptParts (parts.Order o) = AreAscending o
+IsKeptParts (parts.Groups g) = AreGroups g
+
+-- Something can be kept that has these parts.
+pub record IsState (p : ViewParts) : Type 0 where
+  pub kept : IsKeptParts p.kept
+  pub referrers : IsOrdered (rows_with p.referrers)

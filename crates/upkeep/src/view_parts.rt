@@ -1,0 +1,105 @@
+//! What is kept of views, taken apart and made again.
+
+ghost use Rattle.std.specs.Prelude.{◌≡◌, All, IfOk, map};
+ghost use Rattle.upkeep.specs.ViewParts.{IsKeptParts, IsState, kept_with, state_with};
+
+use crate::parts::{KeptParts, ViewParts};
+use crate::view_state::{Kept, ViewState};
+use group_state::Groups;
+use lookups::Referrers;
+use std::alloc::{AllocError, Global};
+use top_rows::Ordered;
+
+impl Kept {
+    /// What it is made of. Where memory is refused, it is gone.
+    fn into_parts(self) -> Result<KeptParts, AllocError>
+        ensures value { IfOk result (λ parts. kept_with parts ≡ self) }
+        ensures kept { IfOk result (λ parts. IsKeptParts parts) }
+    {
+        match self {
+            Kept::Order(order) => Ok(KeptParts::Order(order.into_parts()?)),
+            Kept::Groups(groups) => Ok(KeptParts::Groups(groups.into_parts()?)),
+        }
+    }
+
+    /// What is made of these.
+    fn from_parts(alloc: Global, parts: KeptParts) -> Result<Kept, AllocError>
+        requires { IsKeptParts parts }
+        ensures { IfOk result (λ kept. kept ≡ kept_with parts) }
+    {
+        match parts {
+            KeptParts::Order(order) => Ok(Kept::Order(Ordered::from_parts(alloc, order)?)),
+            KeptParts::Groups(groups) => Ok(Kept::Groups(Groups::from_parts(alloc, groups)?)),
+        }
+    }
+}
+
+impl ViewState {
+    /// What it is made of. Where memory is refused, it is gone.
+    pub(crate) fn into_parts(self) -> Result<ViewParts, AllocError>
+        ensures value { IfOk result (λ parts. state_with parts ≡ self) }
+        ensures kept { IfOk result (λ parts. IsState parts) }
+    {
+        let ViewState {
+            stale,
+            kept,
+            referrers,
+        } = self;
+        let kept = kept.into_parts()?;
+        let referrers = referrers.into_parts()?;
+        Ok(ViewParts {
+            stale,
+            kept,
+            referrers,
+        })
+    }
+
+    /// The one that is made of these.
+    pub(crate) fn from_parts(alloc: Global, parts: ViewParts) -> Result<ViewState, AllocError>
+        requires { IsState parts }
+        ensures { IfOk result (λ state. state ≡ state_with parts) }
+    {
+        let ViewParts {
+            stale,
+            kept,
+            referrers,
+        } = parts;
+        let kept = Kept::from_parts(alloc, kept)?;
+        let referrers = Referrers::from_parts(alloc, referrers)?;
+        Ok(ViewState {
+            stale,
+            kept,
+            referrers,
+        })
+    }
+}
+
+/// What states are made of, each by itself.
+pub(crate) fn take_states(
+    alloc: Global,
+    states: Vec<ViewState>,
+) -> Result<Vec<ViewParts>, AllocError>
+    ensures value { IfOk result (λ taken. map state_with taken.items ≡ states.items) }
+    ensures kept { IfOk result (λ taken. All IsState taken.items) }
+{
+    let mut taken = Vec::with_capacity(alloc, states.len())?;
+    for state in states {
+        taken.push(state.into_parts()?)?;
+    }
+    Ok(taken)
+}
+
+/// The states that are made of these.
+pub(crate) fn make_states(
+    alloc: Global,
+    parts: Vec<ViewParts>,
+) -> Result<Vec<ViewState>, AllocError>
+    requires { All IsState parts.items }
+    ensures { IfOk result (λ states. states.items ≡ map state_with parts.items) }
+{
+    let mut states = Vec::with_capacity(alloc, parts.len())?;
+    for state in parts {
+        states.push(ViewState::from_parts(alloc, state)?)?;
+    }
+    Ok(states)
+}
