@@ -4,3 +4,4 @@ pub mod Weights
 pub mod Laws
 pub mod Reached
 pub mod Encoded
+pub mod Uniform

@@ -11,8 +11,10 @@ mod read;
 mod slots;
 #[cfg(test)]
 mod tests;
+mod uniform;
 mod validate;
 mod weigh;
 
 pub use column::{Column, ColumnParts};
+pub use dictionary::find_value;
 pub use laws::{reached_law, weight_law};
