@@ -10,5 +10,6 @@ pub mod ColumnCells
 pub mod TypeLemmas
 pub mod WeightLemmas
 pub mod WeightLaw
+pub mod UniformLemmas
 pub mod ReachLemmas
 pub mod HeldCells

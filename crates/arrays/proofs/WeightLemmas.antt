@@ -150,7 +150,7 @@ row_end b ts k i s w past bound left =
     let none_left : weight_beside b (kids_of (drop k ts)) i ≡ 0 = ap (λ r. weight_beside b r i) (kids_end ts k past) in
     sum_none s (weight_beside b (kids_of (drop k ts)) i) w bound none_left left
 
-pub ruleset row_laws = (items_start, row_step, row_end, kid_long, kid_sound, kid_smaller)
+pub ruleset row_laws = (items_start, row_step, row_end, sum_full, kid_long, kid_sound, kid_smaller)
 
 -- over the children's slots
 pub slots_step :

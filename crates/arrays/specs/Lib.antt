@@ -5,3 +5,4 @@ pub mod Laws
 pub mod Reached
 pub mod Encoded
 pub mod Ranges
+pub mod Uniform

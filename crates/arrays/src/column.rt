@@ -1,8 +1,8 @@
 //! A column of a record batch: validated once, then read cell by cell.
 
-ghost use Rattle.std.specs.Prelude.{◌≡◌, ◌<◌, All, length, slice_get, Some, IfOk, IfSome, Ok};
+ghost use Rattle.std.specs.Prelude.{◌≡◌, ◌<◌, All, length, slice_get, Some, IfOk, IfSome, Ok, true};
 ghost use Rattle.values.specs.Reading.{Judges, Passes, IsValid};
-ghost use Rattle.values.specs.Layouts.{Holds, weight};
+ghost use Rattle.values.specs.Layouts.{Holds, slot, weight};
 ghost use Rattle.values.specs.Rose.{node, kids_of};
 ghost use Rattle.array_layout.specs.Placing.{layout_of};
 ghost use Rattle.array_layout.specs.Sound.{IsPlaced, IsSound};
@@ -12,6 +12,7 @@ ghost use Rattle.arrays.specs.Checked.{valid_of};
 ghost use Rattle.arrays.specs.Weights.{Says};
 
 use crate::read::read;
+use crate::uniform::is_uniform;
 use crate::validate::validate_items;
 use crate::weigh::weigh;
 use array_layout::{Array, ArrayData, check_layout};
@@ -138,6 +139,13 @@ impl Column {
         ensures cells { cells result.body.now (node result.own.now (kids_of result.children.now)) ≡ Ok self.now.cells }
     {
         parts_of(&self.body, &self.root)
+    }
+
+    /// Whether all cells weigh the same, which is then what a null weighs.
+    pub fn is_uniform(&self) -> bool
+        ensures { result ≡ true → All (λ d. weight self.now.layouts d ≡ slot self.now.layouts) self.now.cells }
+    {
+        is_uniform(&self.root)
     }
 
     /// The weight of cell `i`, without copying it: exact up to the limit of a cell, and the limit plus 1 above it.

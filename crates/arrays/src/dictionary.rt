@@ -28,7 +28,7 @@ fn value_at(dictionary: &DictionaryValues, index: i128) -> Option<&Value>
 
 /// The dictionary value that slot `i` refers to; `None` if its index is out of range.
 #[tactic(auto, using(crate::proofs::DictionaryLemmas::encoded_laws))]
-pub(crate) fn find_value<'a>(
+pub fn find_value<'a>(
     body: &[u8],
     own: &ArrayData,
     dictionary: &'a DictionaryValues,

@@ -13,8 +13,10 @@ mod slots;
 #[cfg(test)]
 mod tests;
 mod texts;
+mod uniform;
 mod validate;
 mod weigh;
 
 pub use column::{Column, ColumnParts};
+pub use dictionary::find_value;
 pub use laws::{reached_law, weight_law};

@@ -1,6 +1,6 @@
 //! Weights of cells, computed in place without copying a cell.
 
-ghost use Rattle.std.specs.Prelude.{◌≡◌, ◌+◌, ◌-◌, ◌<◌, ◌≤◌};
+ghost use Rattle.std.specs.Prelude.{◌≡◌, ◌+◌, ◌-◌, ◌*◌, ◌<◌, ◌≤◌};
 ghost use Rattle.values.specs.Limits.{max_cell_weight};
 ghost use Rattle.values.specs.Rose.{node, kids_of};
 ghost use Rattle.values.specs.declared.layout.Layout.TheVariants.{List as Listed, Struct};
@@ -23,6 +23,7 @@ ghost use Rattle.arrays.specs.Weights.{
 
 use crate::dictionary::find_value;
 use crate::slots::is_null_slot;
+use crate::uniform::is_uniform;
 use crate::validate::items_array;
 use array_layout::{Array, ArrayData, DictionaryValues, buffer, offset};
 use values::limits::MAX_CELL_WEIGHT;
@@ -188,6 +189,14 @@ fn weigh_list(body: &[u8], own: &ArrayData, children: &[Array], width: OffsetWid
     )
 }
 
+/// The weight of a list slot with so many items, each of this weight.
+fn weigh_alike(weight: u64, count: usize) -> u64
+    ensures value { result ≡ capped (weight * count + 5) }
+    ensures bound { result ≤ max_cell_weight + 1 }
+{
+    cap(weight.saturating_mul(count as u64).saturating_add(5))
+}
+
 /// The weight of a list slot with the items `from` to `to`.
 #[cycle(weigh)]
 #[tactic(auto, using(crate::proofs::WeightLemmas::item_laws))]
@@ -198,6 +207,9 @@ fn weigh_items(body: &[u8], array: &Array, from: usize, to: usize) -> u64
     ensures value { result ≡ capped (5 + sum_from (weight_at body.now array.now) from (to - from)) }
     ensures bound { result ≤ max_cell_weight + 1 }
 {
+    if to - from > 1 && is_uniform(array) {
+        return weigh_alike(slot(array), to - from);
+    }
     let mut sum = cap(5);
     for i in from..to {
         if sum == TOO_HEAVY {
@@ -219,6 +231,9 @@ fn weigh_row(body: &[u8], children: &[Array], i: usize) -> u64
 {
     let mut sum = cap(1);
     for child in children {
+        if sum == TOO_HEAVY {
+            return sum;
+        }
         sum = cap(sum + weigh(body, child, i));
     }
     sum

@@ -8,3 +8,4 @@ pub mod LieLemmas
 pub mod ChildLemmas
 pub mod PieceLemmas
 pub mod BatchLemmas
+pub mod EncodedLemmas

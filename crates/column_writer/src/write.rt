@@ -13,6 +13,7 @@ ghost use Rattle.column_writer.specs.Batches.{HasColumn, IsRange, column_in, ran
 
 use crate::batch::RowRange;
 use crate::children::child_pieces;
+use crate::encoded::encoded_cells;
 use crate::gather::{pieces_of, refs_of, values_of};
 use crate::kinds::all_lie_as;
 use crate::own::write_own;
@@ -103,6 +104,9 @@ fn write_column(
     let pieces = pieces_of(alloc, ranges, j)?;
     if all_lie_as(&pieces, layout) {
         return write_pieces(alloc, layout, &pieces, body);
+    }
+    if let Some(cells) = encoded_cells(alloc, &pieces)? {
+        return body_writer::write_column(alloc, layout, &cells, body);
     }
     write_values(alloc, layout, ranges, j, body)
 }

@@ -1,0 +1,218 @@
+-- Cells that weigh the same, and the sum of their weights.
+use Rattle.std.proofs.Common.{
+  ◌≡◌,
+  ℕ,
+  List,
+  ◌+◌,
+  ◌*◌,
+  ◌-◌,
+  ◌<◌,
+  ◌≤◌,
+  Bool,
+  true,
+  false,
+  ◌&&◌,
+  length,
+  drop,
+  get_or,
+  refl,
+  ap,
+  sym,
+  subst,
+  arith,
+  ◌∙◌,
+  All,
+}
+use Rattle.std.specs.Prelude.{Option, None, Some, Ok, Err, zero, suc, min, if◌then◌else◌}
+use Rattle.std.proofs.lemmas.Option.{get_or_from_slice_get}
+use Rattle.values.specs.Limits.{max_cell_weight}
+use Rattle.values.specs.Reading.{Reading, IsValid}
+use Rattle.values.proofs.Readings.{each_length, each_get}
+use Rattle.values.specs.Datum.{Datum, null, truth, whole, text, bytes, list, structure}
+use Rattle.values.specs.declared.layout.Layout.{Layout}
+use Rattle.values.specs.declared.layout.Layout.TheVariants.{
+  Bool as Booleans,
+  Int,
+  Decimal,
+  FixedSizeBinary,
+  Utf8,
+  Binary,
+  List as Listed,
+  Struct,
+}
+use Rattle.values.specs.Layouts.{slot, slots, weight}
+use Rattle.values.specs.Rose.{Rose, node, Roses, none, more, kids_of}
+use Rattle.values.proofs.Roses.{kids_step, kids_end}
+use Rattle.array_layout.specs.declared.array.DictionaryValues.{DictionaryValues}
+use Rattle.array_layout.specs.declared.array.ArrayData.{ArrayData}
+use Rattle.array_layout.specs.Placing.{bytes_of, layout_by, layout_of, layouts_of}
+use Rattle.array_layout.specs.Buffers.{is_null}
+use Rattle.array_layout.specs.Sound.{IsSound}
+use Rattle.array_layout.specs.Cells.{cell, cells, coded_by, len_of}
+use Rattle.arrays.specs.Uniform.{is_fixed, is_uniform, are_uniform, is_uniform_layout, is_uniform_data}
+use Rattle.arrays.specs.Checked.{CheckedColumn, valid_of}
+use Rattle.arrays.specs.Weights.{
+  capped,
+  sum_from,
+  weight_at,
+  weight_in,
+  weight_by,
+  slot_weight,
+  encoded_weight,
+  first_weight,
+  weight_beside,
+}
+use Rattle.arrays.proofs.WeightLaw.{cell_weighs}
+
+and_true : (a b c : Bool) → a ≡ true → (a && b) ≡ c → b ≡ c
+and_true true b c h e = e
+and_true false b c h e = cc
+
+and_false : (a b c : Bool) → a ≡ false → (a && b) ≡ c → c ≡ false
+and_false true b c h e = cc
+and_false false b c h e = sym e
+
+pub uniform_step :
+    (ts : List (Rose ArrayData)) (k : ℕ) (e d : Rose ArrayData) (all : Bool) → e ≡ get_or ts k d → k < length ts
+    → is_uniform e ≡ true → are_uniform (kids_of (drop k ts)) ≡ all → are_uniform (kids_of (drop (k + 1) ts)) ≡ all
+uniform_step ts k e d all is below even left =
+    and_true (is_uniform e) (are_uniform (kids_of (drop (k + 1) ts))) all even
+    (sym (ap are_uniform (kids_step ts k e d is below)) ∙ left)
+
+pub uniform_stop :
+    (ts : List (Rose ArrayData)) (k : ℕ) (e d : Rose ArrayData) (all : Bool) → e ≡ get_or ts k d → k < length ts
+    → is_uniform e ≡ false → are_uniform (kids_of (drop k ts)) ≡ all → all ≡ false
+uniform_stop ts k e d all is below uneven left =
+    and_false (is_uniform e) (are_uniform (kids_of (drop (k + 1) ts))) all uneven
+    (sym (ap are_uniform (kids_step ts k e d is below)) ∙ left)
+
+pub uniform_end : (ts : List (Rose ArrayData)) (k : ℕ) (all : Bool) → length ts ≤ k → are_uniform (kids_of (drop k ts)) ≡ all
+    → all ≡ true
+uniform_end ts k all past left = sym (sym (ap are_uniform (kids_end ts k past)) ∙ left)
+
+pub ruleset uniform_rules = (uniform_step, uniform_stop, uniform_end)
+
+both_true : (a b : Bool) → (a && b) ≡ true → (a ≡ true) × (b ≡ true)
+both_true true b h = (refl, h)
+both_true false b h = cc
+
+-- what a value of a fixed width weighs
+fixed-weight : (l : Layout) (kids : Roses Layout) (d : Datum) → is_fixed l ≡ true → weight (node l none) d ≡ slot (node l kids)
+fixed-weight Booleans kids d h = refl
+fixed-weight (Int w s) kids d h = refl
+fixed-weight (Decimal p) kids d h = refl
+fixed-weight (FixedSizeBinary w) kids d h = refl
+fixed-weight (Utf8 o) kids d h = cc
+fixed-weight (Binary o) kids d h = cc
+fixed-weight (Listed o) kids d h = cc
+fixed-weight Struct kids d h = cc
+
+fixed-slot : (l : Layout) (kids : Roses Layout) → is_fixed l ≡ true → slot (node l none) ≡ slot (node l kids)
+fixed-slot Booleans kids h = refl
+fixed-slot (Int w s) kids h = refl
+fixed-slot (Decimal p) kids h = refl
+fixed-slot (FixedSizeBinary w) kids h = refl
+fixed-slot (Utf8 o) kids h = cc
+fixed-slot (Binary o) kids h = cc
+fixed-slot (Listed o) kids h = cc
+fixed-slot Struct kids h = cc
+
+encoded-fixed : (l : Layout) (kids : Roses Layout) (m : Reading Datum) → is_fixed l ≡ true → encoded_weight l m ≡ slot (node l kids)
+encoded-fixed l kids (Ok d) h = fixed-weight l kids d h
+encoded-fixed l kids (Err fs) h = fixed-slot l kids h
+
+plain-uniform :
+    (l : Layout) (b : List ℕ) (p : ArrayData) (kids : Roses Layout) (here beside : ℕ → ℕ) (i : ℕ) → is_uniform_layout l ≡ true
+    → beside i ≡ slots kids → weight_by l b p (slot (node l kids)) here beside i ≡ slot (node l kids)
+plain-uniform Booleans b p kids here beside i h e = refl
+plain-uniform (Int w s) b p kids here beside i h e = refl
+plain-uniform (Decimal d) b p kids here beside i h e = refl
+plain-uniform (FixedSizeBinary w) b p kids here beside i h e = refl
+plain-uniform (Utf8 o) b p kids here beside i h e = cc
+plain-uniform (Binary o) b p kids here beside i h e = cc
+plain-uniform (Listed o) b p kids here beside i h e = cc
+plain-uniform Struct b p kids here beside i h e = ap (λ n. 1 + n) e
+
+slot-uniform :
+    (d : Option DictionaryValues) (b : List ℕ) (p : ArrayData) (kids : Roses Layout) (here beside : ℕ → ℕ) (i : ℕ)
+    → is_uniform_data d p.layout ≡ true → beside i ≡ slots kids
+    → slot_weight d b p (slot (node (layout_by d p.layout) kids)) here beside i ≡ slot (node (layout_by d p.layout) kids)
+slot-uniform None b p kids here beside i h e = plain-uniform p.layout b p kids here beside i h e
+slot-uniform (Some w) b p kids here beside i h e = encoded-fixed w.layout kids (coded_by p.layout w.values (bytes_of b p.values) i) h
+
+either : (n : Bool) (x y : ℕ) → y ≡ x → (if n then x else y) ≡ x
+either true x y e = refl
+either false x y e = e
+
+mutual
+  unfolding weight_in
+
+  pub uniform-weight : (b : List ℕ) (t : Rose ArrayData) (i : ℕ) → is_uniform t ≡ true → weight_at b t i ≡ slot (layout_of t)
+  uniform-weight b (node p kids) i h =
+      let parts = both_true (is_uniform_data p.dictionary p.layout) (are_uniform kids) h in
+      either (is_null (bytes_of b p.validity) i) (slot (node (layout_by p.dictionary p.layout) (layouts_of kids))) _
+      (slot-uniform p.dictionary b p (layouts_of kids) (λ j. first_weight b kids j) (λ j. weight_beside b kids j) i parts.0
+      (uniform-beside b kids i parts.1))
+
+  uniform-beside : (b : List ℕ) (ts : Roses ArrayData) (i : ℕ) → are_uniform ts ≡ true → weight_beside b ts i ≡ slots (layouts_of ts)
+  uniform-beside b none i h = refl
+  uniform-beside b (more t ts) i h =
+      let parts = both_true (is_uniform t) (are_uniform ts) h in
+      let here = uniform-weight b t i parts.0 in
+      let there = uniform-beside b ts i parts.1 in
+      omega (arith, here, there)
+
+-- the sum of n weights that are the same
+sum-alike : (f : ℕ → ℕ) (w i n : ℕ) → ((k : ℕ) → f k ≡ w) → sum_from f i n ≡ w * n
+unfolding sum_from
+sum-alike f w i zero same = omega arith
+sum-alike f w i (suc n) same =
+    let here = same i in
+    let rest = sum-alike f w (i + 1) n same in
+    omega (arith, here, rest)
+
+capped-times : (w n : ℕ) → capped (capped w * n + 5) ≡ capped (5 + w * n)
+unfolding capped
+capped-times w zero = grind arith
+capped-times w (suc n) = grind arith
+
+-- items that weigh the same
+pub items-alike :
+    (b : List ℕ) (t : Rose ArrayData) (i n s r : ℕ) → is_uniform t ≡ true → s ≡ capped (slot (layout_of t)) → r ≡ capped (s * n + 5)
+    → r ≡ capped (5 + sum_from (weight_at b t) i n)
+items-alike b t i n s r even is e =
+    let w : ℕ = slot (layout_of t) in
+    e ∙ ap (λ k. capped (k * n + 5)) is ∙ capped-times w n
+    ∙ ap (λ k. capped (5 + k)) (sym (sum-alike (weight_at b t) w i n (λ k. uniform-weight b t k even)))
+
+-- all cells of a column
+pub uniform-cells :
+    (b : List ℕ) (t : Rose ArrayData) (ds : List Datum) → IsSound b t → cells b t ≡ Ok ds → is_uniform t ≡ true
+    → All (λ d. weight (layout_of t) d ≡ slot (layout_of t)) ds
+unfolding cells
+uniform-cells b t ds sound is even = λ i d l.
+    let size = each_length (cell b t) 0 (len_of t) ds is in
+    let within : i < len_of t = omega (arith, l, size) in
+    let got = each_get (cell b t) 0 (len_of t) ds is i within in
+    let same : 0 + i ≡ i = omega arith in
+    let read : cell b t i ≡ Ok got.0 = ap (cell b t) (sym same) ∙ got.2 in
+    let P : Datum → Type 0 = λ x. weight (layout_of t) x ≡ slot (layout_of t) in
+    subst P (sym (get_or_from_slice_get ds i got.0 d got.1))
+    (sym (cell_weighs b t i got.0 sound within read) ∙ uniform-weight b t i even)
+
+valid-is : (m : Reading (List Datum)) → IsValid m → m ≡ Ok (valid_of m)
+valid-is (Ok ds) valid = refl
+valid-is (Err fs) valid = absurd valid
+
+pub uniform-column :
+    (b : List ℕ) (t : Rose ArrayData) (c : CheckedColumn) → c.layouts ≡ layout_of t → c.cells ≡ valid_of (cells b t) → IsSound b t
+    → IsValid (cells b t) → is_uniform t ≡ true → All (λ d. weight c.layouts d ≡ slot c.layouts) c.cells
+uniform-column b t c typed are sound valid even =
+    let P : Rose Layout → List Datum → Type 0 = λ l ds. All (λ d. weight l d ≡ slot l) ds in
+    let there = uniform-cells b t (valid_of (cells b t)) sound (valid-is (cells b t) valid) even in
+    subst (λ l. P l c.cells) (sym typed) (subst (P (layout_of t)) (sym are) there)
+
+-- numbers of 64 bits that stop at the greatest
+pub saturated-sum : (x m s : ℕ) → m ≡ min x 18446744073709551615 → s ≡ min (m + 5) 18446744073709551615 → capped s ≡ capped (x + 5)
+unfolding capped
+saturated-sum x m s a b = grind (arith, a, b)
