@@ -9,3 +9,4 @@ pub mod Sample
 pub mod Cuts
 pub mod Stale
 pub mod Visits
+pub mod Parts

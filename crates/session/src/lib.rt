@@ -3,6 +3,7 @@
 //! A session is a machine. `specs/Steps.antt` says what each call may answer and where it leads, from the edits that
 //! are accepted and not undone and from the bytes that each feed consumed, none of which it stores. `specs/Shows.antt`
 //! says which states a session in memory shows; each call is a step from any of them, and `Session::run` a run.
+//! `specs/Parts.antt` says of which parts a session is made.
 #![tactic(auto)]
 
 mod calls;
@@ -12,7 +13,9 @@ mod finish;
 mod laws;
 mod link;
 mod names;
+mod parts;
 mod push;
+mod records;
 mod session;
 mod undo;
 mod view;
@@ -20,7 +23,10 @@ mod view;
 pub use calls::{Event, Fault, Pushed, Reply, Step, ViewFault};
 pub use cuts::cut_law;
 pub use laws::{reading_law, refusal_law, sample_law};
+pub use link::Link;
+pub use parts::SessionParts;
 pub use session::Session;
+pub use undo::UndoRecord;
 
 #[cfg(test)]
 mod tests;

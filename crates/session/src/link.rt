@@ -3,9 +3,9 @@
 use feed::Feed;
 use view_lang::Role;
 
-/// A feed, and what its batches do to a table.
+/// A feed of a session, and what its batches do to a table.
 #[derive(Drop)]
-pub(crate) struct Link {
+pub struct Link {
     pub role: Role,
     pub feed: Feed,
 }

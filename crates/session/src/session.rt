@@ -23,10 +23,12 @@ ghost use Rattle.view_lang.specs.TableRules.{IsTable};
 ghost use Rattle.view_lang.specs.ViewColumns.{view_columns};
 ghost use Rattle.view_lang.specs.World.{contents_at, world};
 ghost use Rattle.row_keys.specs.Store.{no_rows};
+ghost use Rattle.upkeep.specs.LiveEdits.{NoneBecomesStale};
 ghost use Rattle.upkeep.specs.LiveParts.{store_at};
 ghost use Rattle.upkeep.specs.Touched.{OpensShown};
 ghost use Rattle.session.specs.Shows.{IsStep, IsWithin, Shows, ShowsEach, columns_of, config_of};
 ghost use Rattle.session.specs.Names.{place_of};
+ghost use Rattle.session.specs.Parts.{AreParts, session_with};
 ghost use Rattle.session.specs.Stale.{StaleByMemory};
 ghost use Rattle.session.specs.Visits.{PushOpens, UndoOpens};
 ghost use Rattle.session.specs.Steps.{FinishStep, PushStep, Run, State, Steps, UndoTo, WriteStep, opened, start};
@@ -35,7 +37,9 @@ use crate::calls::{Fault, Pushed, Reply, Step, ViewFault};
 use crate::finish::finish_of;
 use crate::link::Link;
 use crate::names::{feed_place, view_place};
+use crate::parts::SessionParts;
 use crate::push::push_to;
+use crate::records::{make_records, take_records};
 use crate::undo::{UndoRecord, go_back};
 use crate::view::write_rows;
 use circular_buffer::HeapCircularBuffer;
@@ -190,6 +194,59 @@ impl Session {
         })
     }
 
+    /// What it is made of, and nothing else is kept. Where memory is refused, it is gone.
+    pub fn into_parts(self) -> Result<SessionParts, AllocError>
+        ensures value { IfOk result (λ parts. session_with parts ≡ self) }
+        ensures right { IfOk result (λ parts. AreParts parts) }
+    {
+        let Session {
+            alloc,
+            names,
+            feeds,
+            schemas,
+            links,
+            tables,
+            records,
+        } = self;
+        let tables = tables.into_parts()?;
+        let records = take_records(alloc, records)?;
+        Ok(SessionParts {
+            sides: names,
+            feeds,
+            schemas,
+            links,
+            tables,
+            records,
+        })
+    }
+
+    /// The one that is made of these: it shows the same states. No row is opened, and those views are stale of which
+    /// the parts say so.
+    pub fn from_parts(alloc: Global, parts: SessionParts) -> Result<Session, AllocError>
+        requires { AreParts parts }
+        ensures { IfOk result (λ session. session ≡ session_with parts) }
+    {
+        let SessionParts {
+            sides,
+            feeds,
+            schemas,
+            links,
+            tables,
+            records,
+        } = parts;
+        let tables = LiveTables::from_parts(alloc, tables)?;
+        let records = make_records(alloc, records)?;
+        Ok(Session {
+            alloc,
+            names: sides,
+            feeds,
+            schemas,
+            links,
+            tables,
+            records,
+        })
+    }
+
     /// Consumes a piece of the stream of a feed up to the end of the first message that it completes, or all of it. The
     /// edit of a record batch is made where it fits; one that doesn't is consumed all the same.
     ///
@@ -247,6 +304,7 @@ impl Session {
         ensures config { config_of self.new ≡ config_of self.old }
         ensures stale { OnOk result (self.new.tables.stale ≡ slice_set self.old.tables.stale
             (place_of view.now (map (λ v. v.name) self.old.tables.views)) false) }
+        ensures none_stale { NoneBecomesStale self.old.tables.stale self.new.tables.stale }
         ensures visits { OpensShown self.old.tables (place_of view.now (map (λ v. v.name) self.old.tables.views))
             self.new.tables }
     {

@@ -12,9 +12,9 @@ use circular_buffer::HeapCircularBuffer;
 use upkeep::{LiveTables, TableChange};
 use values::Cause;
 
-/// What takes an accepted edit back: the number of the table, and how it was changed.
+/// What takes an accepted edit back: the number of the table, and how it was changed. It holds no rows, but their numbers.
 #[derive(Drop)]
-pub(crate) struct UndoRecord {
+pub struct UndoRecord {
     pub table: usize,
     pub change: TableChange,
 }

@@ -3,6 +3,7 @@
 ghost use Rattle.std.specs.Prelude.{◌≡◌, ◌<◌, false, OnOk, length, slice_set};
 ghost use Rattle.stream_writer.specs.Sinks.{Writes};
 ghost use Rattle.view_lang.specs.ViewColumns.{view_columns};
+ghost use Rattle.upkeep.specs.LiveEdits.{NoneBecomesStale};
 ghost use Rattle.upkeep.specs.LiveParts.{view_at};
 ghost use Rattle.upkeep.specs.Stores.{rows_in, tables_in, world_of};
 ghost use Rattle.upkeep.specs.Touched.{OpensShown};
@@ -37,6 +38,7 @@ pub(crate) fn write_rows<S: Sink>(
     ensures rows { rows_in tables.new.stores ≡ rows_in tables.old.stores }
     ensures views { tables.new.views ≡ tables.old.views }
     ensures stale { OnOk result (tables.new.stale ≡ slice_set tables.old.stale place false) }
+    ensures none_stale { NoneBecomesStale tables.old.stale tables.new.stale }
     ensures visits { OpensShown tables.old place tables.new }
 {
     // They do nothing: the proof takes from them that the rows of a view can be written, and are read as they were.
