@@ -1,5 +1,34 @@
 -- The cells of one column of some rows.
-use Rattle.std.proofs.Common.{◌≡◌, ℕ, zero, suc, ◌+◌, ◌-◌, ◌<◌, ◌≤◌, List, [], ◌∷◌, ◌++◌, length, get_or, take, drop, Ok, Some, slice_get, refl, ap, sym, subst, ◌∙◌, arith, append_assoc, append-nil, All}
+use Rattle.std.proofs.Common.{
+  ◌≡◌,
+  ℕ,
+  zero,
+  suc,
+  ◌+◌,
+  ◌-◌,
+  ◌<◌,
+  ◌≤◌,
+  List,
+  [],
+  ◌∷◌,
+  ◌++◌,
+  length,
+  get_or,
+  take,
+  drop,
+  Ok,
+  Some,
+  slice_get,
+  refl,
+  ap,
+  sym,
+  subst,
+  ◌∙◌,
+  arith,
+  append_assoc,
+  append-nil,
+  All,
+}
 use Rattle.std.specs.Prelude.{map}
 use Rattle.std.proofs.lemmas.List.{drop_more, drop_all, get_or-map, length-map, map-append}
 use Rattle.std.proofs.lemmas.List.Elements.{All-get_or}
@@ -30,7 +59,8 @@ cells-good b t ds is = subst (λ (m : Reading (List Datum)). IsValid m) (sym is)
 pub cells-long : (b : List ℕ) (t : Rose ArrayData) (ds : List Datum) → cells b t ≡ Ok ds → length ds ≡ len_of t
 cells-long b t ds is = sym (ap (λ m. length (valid_of m)) is) ∙ cells-length b t (cells-good b t ds is)
 
-pub cell-good : (b : List ℕ) (t : Rose ArrayData) (ds : List Datum) (k : ℕ) → cells b t ≡ Ok ds → k < len_of t → IsValid (cell b t k)
+pub cell-good : (b : List ℕ) (t : Rose ArrayData) (ds : List Datum) (k : ℕ) → cells b t ≡ Ok ds → k < len_of t
+    → IsValid (cell b t k)
 cell-good b t ds k is below = cell-valid b t k (cells-good b t ds is) below
 
 -- a cell of a column is what its slot holds
@@ -44,7 +74,8 @@ cell-there b t ds k is below =
     let stands = ap (λ m. slice_get (valid_of m) k) (sym is) ∙ cell-stands b t k read.0 valid within read.1 in
     ap cell_in read.1 ∙ sym (get_or_from_slice_get ds k read.0 null stands)
 
-slots-are : (read : ℕ → Reading Datum) (ds : List Datum) (i n : ℕ) → ((k : ℕ) → k < length ds → cell_in (read k) ≡ get_or ds k null)
+slots-are : (read : ℕ → Reading Datum) (ds : List Datum) (i n : ℕ) → ((k : ℕ) → k < length ds
+    → cell_in (read k) ≡ get_or ds k null)
     → i + n ≤ length ds → slots read i n ≡ take n (drop i ds)
 unfolding slots
 slots-are read ds i zero same room = refl
@@ -62,9 +93,11 @@ column-slots b t ds i n is room = slots-are (cell b t) ds i n (λ k below. cell-
 part-at : (columns : List (List Datum)) (i j : ℕ) → j < length columns
     → part j (row_cell (row_at columns i)) ≡ get_or (get_or columns j []) i null
 part-at columns i j h =
-    ap (λ ds. get_or ds j null) (listed-items_of (row_at columns i)) ∙ get_or-map (λ c. get_or c i null) columns j [] null h
+    ap (λ ds. get_or ds j null) (listed-items_of (row_at columns i))
+        ∙ get_or-map (λ c. get_or c i null) columns j [] null h
 
-rows-column : (columns : List (List Datum)) (i n j : ℕ) (ds : List Datum) → j < length columns → get_or columns j [] ≡ ds
+rows-column : (columns : List (List Datum)) (i n j : ℕ) (ds : List Datum) → j < length columns
+    → get_or columns j [] ≡ ds
     → i + n ≤ length ds → map (part j) (row_cells (rows_from columns i n)) ≡ take n (drop i ds)
 unfolding rows_from
 rows-column columns i zero j ds h e room = refl
@@ -74,7 +107,8 @@ rows-column columns i (suc n) j ds h e room =
     let here = part-at columns i j h ∙ ap (λ c. get_or c i null) e in
     rw (here, rest) (sym (ap (take (suc n)) (drop_more ds i null inside)))
 
-rows-dropped : (columns : List (List Datum)) (at i n : ℕ) → i ≤ n → drop i (rows_from columns at n) ≡ rows_from columns (at + i) (n - i)
+rows-dropped : (columns : List (List Datum)) (at i n : ℕ) → i ≤ n
+    → drop i (rows_from columns at n) ≡ rows_from columns (at + i) (n - i)
 unfolding rows_from
 rows-dropped columns at zero n h =
     let a : at ≡ at + 0 = omega arith in
@@ -84,15 +118,19 @@ rows-dropped columns at (suc i) zero h = absurd (omega (arith, h))
 rows-dropped columns at (suc i) (suc n) h =
     let a : at + 1 + i ≡ at + suc i = omega arith in
     let b : n - i ≡ suc n - suc i = omega arith in
-    rows-dropped columns (at + 1) i n (omega (arith, h)) ∙ ap (λ k. rows_from columns k (n - i)) a ∙ ap (rows_from columns (at + suc i)) b
+    rows-dropped columns (at + 1) i n (omega (arith, h)) ∙ ap (λ k. rows_from columns k (n - i)) a
+        ∙ ap (rows_from columns (at + suc i)) b
 
-rows-taken : (columns : List (List Datum)) (at m n : ℕ) → m ≤ n → take m (rows_from columns at n) ≡ rows_from columns at m
+rows-taken : (columns : List (List Datum)) (at m n : ℕ) → m ≤ n
+    → take m (rows_from columns at n) ≡ rows_from columns at m
 unfolding rows_from
 rows-taken columns at zero n h = refl
 rows-taken columns at (suc m) zero h = absurd (omega (arith, h))
-rows-taken columns at (suc m) (suc n) h = ap (λ rs. row_at columns at ∷ rs) (rows-taken columns (at + 1) m n (omega (arith, h)))
+rows-taken columns at (suc m) (suc n) h = ap (λ rs. row_at columns at ∷ rs) (rows-taken columns (at + 1) m n (omega
+    (arith, h)))
 
-pub rows-cut : (columns : List (List Datum)) (i n all : ℕ) → i + n ≤ all → take n (drop i (rows_in all columns)) ≡ rows_from columns i n
+pub rows-cut : (columns : List (List Datum)) (i n all : ℕ) → i + n ≤ all
+    → take n (drop i (rows_in all columns)) ≡ rows_from columns i n
 rows-cut columns i n all h =
     let a : 0 + i ≡ i = omega arith in
     ap (take n) (rows-dropped columns 0 i all (omega (arith, h)) ∙ ap (λ k. rows_from columns k (all - i)) a)
@@ -102,16 +140,19 @@ rows-cut columns i n all h =
 pub range-column :
     (columns : List CheckedColumn) (j from to all : ℕ) (c : CheckedColumn) → j < length columns → c ≡ get_or columns j c
     → length c.cells ≡ all → from ≤ to → to ≤ all
-    → map (part j) (row_cells (take (to - from) (drop from (rows_in all (cells_in columns))))) ≡ take (to - from) (drop from c.cells)
+    → map (part j) (row_cells (take (to - from) (drop from (rows_in all (cells_in columns))))) ≡ take (to - from) (drop
+        from c.cells)
 range-column columns j from to all c h e size order within =
     let items : CheckedColumn → List Datum = λ x. x.cells in
     let room : from + (to - from) ≤ all = omega (arith, order, within) in
     let many = length-map columns items in
     let here : get_or (cells_in columns) j [] ≡ c.cells = get_or-map items columns j c [] h ∙ ap items (sym e) in
     ap (λ rs. map (part j) (row_cells rs)) (rows-cut (cells_in columns) from (to - from) all room)
-    ∙ rows-column (cells_in columns) from (to - from) j c.cells (omega (arith, h, many)) here (omega (arith, room, size))
+    ∙ rows-column (cells_in columns) from (to - from) j c.cells (omega (arith, h, many)) here (omega (arith, room,
+        size))
 
-pub column-long : (columns : List CheckedColumn) (j all : ℕ) (c : CheckedColumn) → j < length columns → c ≡ get_or columns j c
+pub column-long : (columns : List CheckedColumn) (j all : ℕ) (c : CheckedColumn) → j < length columns
+    → c ≡ get_or columns j c
     → All (λ (x : CheckedColumn). length x.cells ≡ all) columns → length c.cells ≡ all
 column-long columns j all c h e long =
     let P : CheckedColumn → Type 0 = λ x. length x.cells ≡ all in
@@ -119,11 +160,14 @@ column-long columns j all c h e long =
 
 -- range after range
 
-pub at-range : (P : RowRange → Type 0) (rs : List RowRange) (i : ℕ) (r : RowRange) → i < length rs → r ≡ get_or rs i r → All P rs → P r
+pub at-range : (P : RowRange → Type 0) (rs : List RowRange) (i : ℕ) (r : RowRange) → i < length rs
+    → r ≡ get_or rs i r → All P rs → P r
 at-range P rs i r h e all = subst P (sym e) (All-get_or P rs i r h all)
 
-column-append : (j : ℕ) (xs ys : List (List Datum)) → map (part j) (row_cells (xs ++ ys)) ≡ map (part j) (row_cells xs) ++ map (part j) (row_cells ys)
-column-append j xs ys = ap (map (part j)) (map-append row_cell xs ys) ∙ map-append (part j) (row_cells xs) (row_cells ys)
+column-append : (j : ℕ) (xs ys : List (List Datum)) → map (part j) (row_cells (xs ++ ys)) ≡ map (part j) (row_cells xs)
+    ++ map (part j) (row_cells ys)
+column-append j xs ys = ap (map (part j)) (map-append row_cell xs ys)
+    ∙ map-append (part j) (row_cells xs) (row_cells ys)
 
 pub column-split : (j : ℕ) (rs : List RowRange) (i : ℕ) (r : RowRange) → i < length rs → r ≡ get_or rs i r
     → column_in j (drop i rs) ≡ map (part j) (row_cells (range_rows r)) ++ column_in j (drop (i + 1) rs)
@@ -132,7 +176,8 @@ column-split j rs i r h e =
     ∙ ap (λ q. map (part j) (row_cells (range_rows q ++ ranges_rows (drop (i + 1) rs)))) (sym e)
     ∙ column-append j (range_rows r) (ranges_rows (drop (i + 1) rs))
 
-pub column-step : (j : ℕ) (rs : List RowRange) (i : ℕ) (r : RowRange) (made next total : List Datum) → i < length rs → r ≡ get_or rs i r
+pub column-step : (j : ℕ) (rs : List RowRange) (i : ℕ) (r : RowRange) (made next total : List Datum) → i < length rs
+    → r ≡ get_or rs i r
     → next ≡ made ++ map (part j) (row_cells (range_rows r)) → made ++ column_in j (drop i rs) ≡ total
     → next ++ column_in j (drop (i + 1) rs) ≡ total
 column-step j rs i r made next total h e n is =
@@ -140,9 +185,11 @@ column-step j rs i r made next total h e n is =
     ap (λ xs. xs ++ column_in j (drop (i + 1) rs)) n ∙ append_assoc made here (column_in j (drop (i + 1) rs))
     ∙ ap (λ xs. made ++ xs) (sym (column-split j rs i r h e)) ∙ is
 
-pub column-over : (j : ℕ) (rs : List RowRange) (i : ℕ) (made total : List Datum) → length rs ≤ i → made ++ column_in j (drop i rs) ≡ total
+pub column-over : (j : ℕ) (rs : List RowRange) (i : ℕ) (made total : List Datum) → length rs ≤ i
+    → made ++ column_in j (drop i rs) ≡ total
     → made ≡ total
-column-over j rs i made total h is = sym (append-nil made) ∙ ap (λ qs. made ++ column_in j qs) (sym (drop_all i rs h)) ∙ is
+column-over j rs i made total h is = sym (append-nil made)
+    ∙ ap (λ qs. made ++ column_in j qs) (sym (drop_all i rs h)) ∙ is
 
 -- cell after cell
 
@@ -157,7 +204,8 @@ values-step ds i to d made next total h room there n is =
     ∙ ap (λ x. x ∷ rest) (get_or_from_slice_get ds i d d there) in
     ap (λ xs. xs ++ rest) n ∙ append_assoc made (d ∷ []) rest ∙ ap (λ xs. made ++ xs) (sym split) ∙ is
 
-pub values-over : (ds : List Datum) (i to : ℕ) (made total : List Datum) → to ≤ i → made ++ take (to - i) (drop i ds) ≡ total → made ≡ total
+pub values-over : (ds : List Datum) (i to : ℕ) (made total : List Datum) → to ≤ i
+    → made ++ take (to - i) (drop i ds) ≡ total → made ≡ total
 values-over ds i to made total h is =
     let none : to - i ≡ 0 = omega (arith, h) in
     sym (append-nil made) ∙ ap (λ k. made ++ take k (drop i ds)) (sym none) ∙ is
@@ -168,7 +216,8 @@ pub all-more : (P : Piece → Type 0) (ps : List Piece) (p : Piece) → All P ps
 all-more P ps p all one = All-append P ps (p ∷ []) all (All-cons P p [] one (All-nil P))
 
 pub pieces-more : (ps : List Piece) (p : Piece) → pieces_cells (ps ++ p ∷ []) ≡ pieces_cells ps ++ piece_cells p
-pieces-more ps p = flat_map-append piece_cells ps (p ∷ []) ∙ ap (λ cs. pieces_cells ps ++ cs) (append-nil (piece_cells p))
+pieces-more ps p = flat_map-append piece_cells ps (p ∷ [])
+    ∙ ap (λ cs. pieces_cells ps ++ cs) (append-nil (piece_cells p))
 
 pub all-columns : (n j : ℕ) (rs : List RowRange) → j < n → All (IsRange n) rs → All (HasColumn j) rs
 all-columns n j rs h all = All-weaker (IsRange n) (HasColumn j) has rs all where

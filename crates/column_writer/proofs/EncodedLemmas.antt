@@ -1,5 +1,34 @@
 -- Slots that stand for values of a dictionary.
-use Rattle.std.proofs.Common.{◌≡◌, ℕ, ◌+◌, ◌-◌, ◌<◌, ◌≤◌, List, [], ◌∷◌, ◌++◌, length, get_or, drop, Option, None, Some, Ok, Err, false, true, refl, ap, sym, subst, ◌∙◌, arith, append_assoc, append-nil}
+use Rattle.std.proofs.Common.{
+  ◌≡◌,
+  ℕ,
+  ◌+◌,
+  ◌-◌,
+  ◌<◌,
+  ◌≤◌,
+  List,
+  [],
+  ◌∷◌,
+  ◌++◌,
+  length,
+  get_or,
+  drop,
+  Option,
+  None,
+  Some,
+  Ok,
+  Err,
+  false,
+  true,
+  refl,
+  ap,
+  sym,
+  subst,
+  ◌∙◌,
+  arith,
+  append_assoc,
+  append-nil,
+}
 use Rattle.std.specs.Option.{option_copied}
 use Rattle.std.proofs.lemmas.List.{map-append}
 use denote.Ref.{Bor}
@@ -21,29 +50,34 @@ use Rattle.column_writer.proofs.PieceLemmas.{pieces-split, pieces-none}
 
 encoded-slot :
     (body : List ℕ) (p : ArrayData) (kids : Roses ArrayData) (w : DictionaryValues) (k : ℕ) → p.dictionary ≡ Some w
-    → is_null (bytes_of body p.validity) k ≡ false → cell body (node p kids) k ≡ coded_by p.layout w.values (bytes_of body p.values) k
+    → is_null (bytes_of body p.validity) k ≡ false → cell body (node p kids) k ≡ coded_by p.layout w.values (bytes_of
+        body p.values) k
 unfolding cell_by
 encoded-slot body p kids w k e h =
     rw h (ap (λ d. slot_by d body p (λ j. first_cell body kids j) (λ j. row body kids j) k) e)
 
-found-value : (r : Option (Bor Datum)) (m : Reading Datum) → must fault.DictionaryIndex (option_copied r) ≡ m → IsValid m → cell_of r ≡ cell_in m
+found-value : (r : Option (Bor Datum)) (m : Reading Datum) → must fault.DictionaryIndex (option_copied r) ≡ m
+    → IsValid m → cell_of r ≡ cell_in m
 found-value None m e h = absurd (subst IsValid (sym e) h)
 found-value (Some b) m e h = ap cell_in e
 
 -- the value that is found is the slot's cell
 pub encoded-cell :
-    (body : List ℕ) (p : ArrayData) (kids : Roses ArrayData) (w : DictionaryValues) (k : ℕ) (r : Option (Bor Datum)) → p.dictionary ≡ Some w
+    (body : List ℕ) (p : ArrayData) (kids : Roses ArrayData) (w : DictionaryValues) (k : ℕ) (r : Option (Bor Datum))
+        → p.dictionary ≡ Some w
     → is_null (bytes_of body p.validity) k ≡ false → IsValid (cell body (node p kids) k)
     → must fault.DictionaryIndex (option_copied r) ≡ coded_by p.layout w.values (bytes_of body p.values) k
     → cell_of r ≡ cell_in (cell body (node p kids) k)
 encoded-cell body p kids w k r e there good found =
     let read = encoded-slot body p kids w k e there in
-    found-value r (coded_by p.layout w.values (bytes_of body p.values) k) found (subst IsValid read good) ∙ sym (ap cell_in read)
+    found-value r (coded_by p.layout w.values (bytes_of body p.values) k) found (subst IsValid read good)
+        ∙ sym (ap cell_in read)
 
 -- slot after slot
 
 pub encoded-step :
-    (read : ℕ → Reading Datum) (i to : ℕ) (r : Option (Bor Datum)) (made next : List (Option (Bor Datum))) (total : List Datum) → i < to
+    (read : ℕ → Reading Datum) (i to : ℕ) (r : Option (Bor Datum)) (made next : List (Option (Bor Datum))) (total :
+        List Datum) → i < to
     → cell_of r ≡ cell_in (read i) → next ≡ made ++ r ∷ [] → cells_of made ++ slots read i (to - i) ≡ total
     → cells_of next ++ slots read (i + 1) (to - (i + 1)) ≡ total
 encoded-step read i to r made next total h e n is =
@@ -53,7 +87,8 @@ encoded-step read i to r made next total h e n is =
     ∙ ap (λ xs. cells_of made ++ xs) (sym (slots-next read i to h)) ∙ is
 
 pub encoded-over :
-    (read : ℕ → Reading Datum) (i to : ℕ) (made total : List Datum) → to ≤ i → made ++ slots read i (to - i) ≡ total → made ≡ total
+    (read : ℕ → Reading Datum) (i to : ℕ) (made total : List Datum) → to ≤ i → made ++ slots read i (to - i) ≡ total
+        → made ≡ total
 encoded-over read i to made total h is =
     sym (append-nil made) ∙ ap (λ xs. made ++ xs) (sym (slots-none read i to h)) ∙ is
 
@@ -61,10 +96,13 @@ encoded-over read i to made total h is =
 
 pub cells-step :
     (ps : List Piece) (i : ℕ) (p : Piece) (made next total : List Datum) → i < length ps → p ≡ get_or ps i p
-    → next ≡ made ++ piece_cells p → made ++ pieces_cells (drop i ps) ≡ total → next ++ pieces_cells (drop (i + 1) ps) ≡ total
+    → next ≡ made ++ piece_cells p → made ++ pieces_cells (drop i ps) ≡ total
+        → next ++ pieces_cells (drop (i + 1) ps) ≡ total
 cells-step ps i p made next total h e n is =
     let rest = pieces_cells (drop (i + 1) ps) in
-    ap (λ xs. xs ++ rest) n ∙ append_assoc made (piece_cells p) rest ∙ ap (λ xs. made ++ xs) (sym (pieces-split ps i p h e)) ∙ is
+    ap (λ xs. xs ++ rest) n ∙ append_assoc made (piece_cells p) rest
+        ∙ ap (λ xs. made ++ xs) (sym (pieces-split ps i p h e)) ∙ is
 
-pub cells-over : (ps : List Piece) (i : ℕ) (made total : List Datum) → length ps ≤ i → made ++ pieces_cells (drop i ps) ≡ total → made ≡ total
+pub cells-over : (ps : List Piece) (i : ℕ) (made total : List Datum) → length ps ≤ i
+    → made ++ pieces_cells (drop i ps) ≡ total → made ≡ total
 cells-over ps i made total h is = sym (append-nil made) ∙ ap (λ xs. made ++ xs) (sym (pieces-none ps i h)) ∙ is

@@ -17,7 +17,8 @@ use Rattle.column_writer.specs.declared.piece.Piece.TheVariants.{Slots, Nulls}
 use Rattle.column_writer.specs.declared.piece.SlotRange.{SlotRange}
 
 abbrev pub range_cells : SlotRange → List Datum
-range_cells r = slots (cell r.parts.body.now (node r.parts.own.now (kids_of r.parts.children.now))) r.from (r.to - r.from)
+range_cells r = slots (cell r.parts.body.now (node r.parts.own.now (kids_of r.parts.children.now))) r.from (r.to -
+    r.from)
 
 abbrev pub piece_cells : Piece → List Datum
 piece_cells (Slots r) = range_cells r

@@ -20,7 +20,9 @@ count-layouts : (fs : Roses Entry) → count (layouts_below fs) ≡ count fs
 count-layouts none = refl
 count-layouts (more f fs) = let rest = count-layouts fs in omega (arith, rest)
 
-pub as-many : (columns : List CheckedColumn) (fs : List (Rose Entry)) → layouts_in columns ≡ layouts_of fs → length columns ≡ length fs
+pub as-many : (columns : List CheckedColumn) (fs : List (Rose Entry)) → layouts_in columns ≡ layouts_of fs
+    → length columns ≡ length fs
 as-many columns fs e =
-    sym (length-map columns (λ (c : CheckedColumn). c.layouts)) ∙ sym (count-kids (map (λ (c : CheckedColumn). c.layouts) columns))
+    sym (length-map columns (λ (c : CheckedColumn). c.layouts))
+        ∙ sym (count-kids (map (λ (c : CheckedColumn). c.layouts) columns))
     ∙ ap count e ∙ count-layouts (kids_of fs) ∙ count-kids fs

@@ -1,5 +1,32 @@
 -- What is kept beside the rows.
-use Rattle.std.proofs.Common.{◌≡◌, ℕ, zero, suc, ◌+◌, ◌<◌, ◌≤◌, List, [], ◌∷◌, ◌++◌, length, drop, get_or, refl, ap, sym, subst, ◌∙◌, arith, append_assoc, append-nil, All, inl, inr, length-append}
+use Rattle.std.proofs.Common.{
+  ◌≡◌,
+  ℕ,
+  zero,
+  suc,
+  ◌+◌,
+  ◌<◌,
+  ◌≤◌,
+  List,
+  [],
+  ◌∷◌,
+  ◌++◌,
+  length,
+  drop,
+  get_or,
+  refl,
+  ap,
+  sym,
+  subst,
+  ◌∙◌,
+  arith,
+  append_assoc,
+  append-nil,
+  All,
+  inl,
+  inr,
+  length-append,
+}
 use Rattle.std.specs.Prelude.{map, Option, None, Some}
 use Rattle.std.proofs.lemmas.Bool.{cases_lt}
 use Rattle.std.proofs.lemmas.List.{drop_more, drop_all, length-map}
@@ -62,22 +89,26 @@ light-more ls columns i w most next before here grown above k below = elim (case
 ]
 
 row-held :
-    (columns : List CheckedColumn) (rows i : ℕ) → All HoldsCells columns → All (λ (c : CheckedColumn). length c.cells ≡ rows) columns
+    (columns : List CheckedColumn) (rows i : ℕ) → All HoldsCells columns
+        → All (λ (c : CheckedColumn). length c.cells ≡ rows) columns
     → i < rows → HoldsEach (layouts_in columns) (items_of (row_at (cells_in columns) i))
 row-held [] rows i holds long below = tt
 row-held (c ∷ cs) rows i holds long below =
     let many = All-head (λ (x : CheckedColumn). length x.cells ≡ rows) c cs long in (
       All-get_or (λ d. Holds c.layouts d) c.cells i null (omega (arith, below, many)) (All-head HoldsCells c cs holds),
-      row-held cs rows i (All-tail HoldsCells c cs holds) (All-tail (λ (x : CheckedColumn). length x.cells ≡ rows) c cs long) below,
+      row-held cs rows i (All-tail HoldsCells c cs holds) (All-tail (λ (x : CheckedColumn). length x.cells ≡ rows) c cs
+          long) below,
     )
 
 pub fit-rows :
-    (columns : List CheckedColumn) (n most : ℕ) → All HoldsCells columns → All (λ (c : CheckedColumn). length c.cells ≡ n) columns
+    (columns : List CheckedColumn) (n most : ℕ) → All HoldsCells columns
+        → All (λ (c : CheckedColumn). length c.cells ≡ n) columns
     → AreLightUpTo (layouts_in columns) (cells_in columns) n most → AreFit (layouts_in columns) (cells_in columns) n
 fit-rows columns n most holds long light k below =
     record { held = row-held columns n k holds long below; light = (light k below).0 }
 
-all-rows : (P : List Datum → Type 0) (columns : List (List Datum)) (i n : ℕ) → ((k : ℕ) → i ≤ k → k < i + n → P (row_at columns k))
+all-rows : (P : List Datum → Type 0) (columns : List (List Datum)) (i n : ℕ) → ((k : ℕ) → i ≤ k → k < i + n
+    → P (row_at columns k))
     → All P (rows_from columns i n)
 unfolding rows_from
 all-rows P columns i zero h = All-nil P
@@ -91,14 +122,16 @@ pub one-more : (bs new : List Batch) (b : Batch) → new ≡ bs ++ b ∷ [] → 
 one-more bs new b is =
     ap rows_of is ∙ flat_map-append batch_rows bs (b ∷ []) ∙ ap (λ xs. rows_of bs ++ xs) (append-nil (batch_rows b))
 
-pub count-more : (bs new : List Batch) (b : Batch) (rows next : ℕ) → new ≡ bs ++ b ∷ [] → rows ≡ length (rows_of bs) → next ≡ rows + b.rows
+pub count-more : (bs new : List Batch) (b : Batch) (rows next : ℕ) → new ≡ bs ++ b ∷ [] → rows ≡ length (rows_of bs)
+    → next ≡ rows + b.rows
     → next ≡ length (rows_of new)
 count-more bs new b rows next is counted e =
     let joined = ap length (one-more bs new b is) ∙ length-append (rows_of bs) (batch_rows b) in
     let size = rows_from-length (cells_in b.columns.items) 0 b.rows in
     omega (arith, joined, size, counted, e)
 
-pub kept-more : (ls : Roses Layout) (old new : Taken) (b : Batch) (most : ℕ) → new.batches.items ≡ old.batches.items ++ b ∷ []
+pub kept-more : (ls : Roses Layout) (old new : Taken) (b : Batch) (most : ℕ)
+    → new.batches.items ≡ old.batches.items ++ b ∷ []
     → All (λ (c : CheckedColumn). length c.cells ≡ b.rows) b.columns.items
     → AreLightUpTo ls (cells_in b.columns.items) b.rows most → old.heaviest ≤ new.heaviest → most ≤ new.heaviest
     → IsKept (length b.columns.items) ls old → IsKept (length b.columns.items) ls new
@@ -106,13 +139,15 @@ kept-more ls old new b most is long light grown above kept =
     let S : Batch → Type 0 = IsSized (length b.columns.items) in
     let W : List Datum → Type 0 = λ row. row_weight ls row ≤ new.heaviest in
     let before : All W (rows_of old.batches.items) =
-    All-weaker (λ (row : List Datum). row_weight ls row ≤ old.heaviest) W (λ row h. omega (arith, h, grown)) (rows_of old.batches.items)
+    All-weaker (λ (row : List Datum). row_weight ls row ≤ old.heaviest) W (λ row h. omega (arith, h, grown)) (rows_of
+        old.batches.items)
     kept.light in
     let here : All W (batch_rows b) = all-rows W (cells_in b.columns.items) 0 b.rows
     (λ k lo hi. let bound = (light k (omega (arith, hi))).1 in omega (arith, bound, above)) in
     record {
       sized = subst (All S) (sym is)
-          (All-append S old.batches.items (b ∷ []) kept.sized (All-cons S b [] (record { columns = refl; cells = long }) (All-nil S)));
+          (All-append S old.batches.items (b ∷ []) kept.sized (All-cons S b [] (record { columns = refl; cells = long
+              }) (All-nil S)));
       light = subst (All W) (sym (one-more old.batches.items new.batches.items b is))
           (All-append W (rows_of old.batches.items) (batch_rows b) before here);
     }
@@ -129,38 +164,45 @@ kept-so-none None t is = tt
 kept-so-none (Some fs) t is = kept-none (length fs) (layouts_of fs) t is
 
 -- the same of the logical columns
-pub writable : (law : LogicalTrees) (weighs : NarrowRowWeighs) (fs : List (Rose Entry)) (fields : List (Rose NamedType)) (t : Taken)
+pub writable : (law : LogicalTrees) (weighs : NarrowRowWeighs) (fs : List (Rose Entry)) (fields : List (Rose
+    NamedType)) (t : Taken)
     → fields ≡ map logical_field fs → IsKept (length fs) (layouts_of fs) t → IsWritable fields t
 writable law weighs fs fields t named kept =
     let ls : Roses Layout = layouts_of fs in
     let same : trees (map logical_field fs) ≡ narrow_trees ls = law fs in
     let many : length fs ≡ length (map logical_field fs) = sym (length-map fs logical_field) in
     let narrow : All (λ (row : List Datum). row_weight (narrow_trees ls) row ≤ t.heaviest) (taken_rows t) =
-    All-weaker (λ (row : List Datum). row_weight ls row ≤ t.heaviest) (λ (row : List Datum). row_weight (narrow_trees ls) row ≤ t.heaviest)
+    All-weaker (λ (row : List Datum). row_weight ls row ≤ t.heaviest) (λ (row : List Datum). row_weight (narrow_trees
+        ls) row ≤ t.heaviest)
     (λ row h. let e = weighs ls (items_of row) in omega (arith, e, h)) (taken_rows t) kept.light in
     let here : IsWritable (map logical_field fs) t = record {
       sized = subst (λ (n : ℕ). All (IsSized n) t.batches.items) many kept.sized;
-      light = subst (λ (us : Roses Layout). All (λ (row : List Datum). row_weight us row ≤ t.heaviest) (taken_rows t)) (sym same) narrow;
+      light = subst (λ (us : Roses Layout). All (λ (row : List Datum). row_weight us row ≤ t.heaviest) (taken_rows t))
+          (sym same) narrow;
     } in
     subst (λ (xs : List (Rose NamedType)). IsWritable xs t) (sym named) here
 
 -- for writing
 
-pub light-rows : (ls : Roses Layout) (t : Taken) → All (λ (row : List Datum). row_weight ls row ≤ t.heaviest) (taken_rows t)
+pub light-rows : (ls : Roses Layout) (t : Taken) → All (λ (row : List Datum). row_weight ls row ≤ t.heaviest)
+    (taken_rows t)
     → t.heaviest ≤ max_light_row → AreLightRows ls (taken_rows t)
 light-rows ls t light below =
-    All-weaker (λ (row : List Datum). row_weight ls row ≤ t.heaviest) (λ (row : List Datum). row_weight ls row ≤ max_light_row)
+    All-weaker (λ (row : List Datum). row_weight ls row ≤ t.heaviest) (λ (row : List Datum). row_weight ls row ≤
+        max_light_row)
     (λ row h. omega (arith, h, below)) (taken_rows t) light
 
 pub all-sizes : (n : ℕ) (bs : List Batch) → All (IsSized n) bs → All HasSizes bs
 all-sizes n bs sized = All-weaker (IsSized n) HasSizes (λ b is. is.cells) bs sized
 
-pub batch-step : (bs : List Batch) (i : ℕ) (b : Batch) (made next total : List (List Datum)) → i < length bs → b ≡ get_or bs i b
+pub batch-step : (bs : List Batch) (i : ℕ) (b : Batch) (made next total : List (List Datum)) → i < length bs
+    → b ≡ get_or bs i b
     → next ≡ made ++ batch_rows b → made ++ rows_of (drop i bs) ≡ total → next ++ rows_of (drop (i + 1) bs) ≡ total
 batch-step bs i b made next total h e n is =
     let split = ap rows_of (drop_more bs i b h) ∙ ap (λ x. batch_rows x ++ rows_of (drop (i + 1) bs)) (sym e) in
     ap (λ xs. xs ++ rows_of (drop (i + 1) bs)) n ∙ append_assoc made (batch_rows b) (rows_of (drop (i + 1) bs))
     ∙ ap (λ xs. made ++ xs) (sym split) ∙ is
 
-pub batch-over : (bs : List Batch) (i : ℕ) (made total : List (List Datum)) → length bs ≤ i → made ++ rows_of (drop i bs) ≡ total → made ≡ total
+pub batch-over : (bs : List Batch) (i : ℕ) (made total : List (List Datum)) → length bs ≤ i
+    → made ++ rows_of (drop i bs) ≡ total → made ≡ total
 batch-over bs i made total h is = sym (append-nil made) ∙ ap (λ xs. made ++ rows_of xs) (sym (drop_all i bs h)) ∙ is

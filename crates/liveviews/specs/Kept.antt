@@ -27,7 +27,8 @@ pub record IsLightAs (ls : Roses Layout) (row : List Datum) (weight : ℕ) : Typ
 
 -- the first n rows are not too heavy, and none is heavier than this
 abbrev pub AreLightUpTo : Roses Layout → List (List Datum) → ℕ → ℕ → Type 0
-AreLightUpTo ls columns n most = (k : ℕ) → k < n → IsLight ls (row_at columns k) × (row_weight ls (row_at columns k) ≤ most)
+AreLightUpTo ls columns n most = (k : ℕ) → k < n → IsLight ls (row_at columns k)
+    × (row_weight ls (row_at columns k) ≤ most)
 
 -- each column has a cell a row
 abbrev pub HasSizes : Batch → Type 0

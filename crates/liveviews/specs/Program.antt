@@ -1,5 +1,22 @@
 -- How a command ends, and how the program does.
-use Rattle.std.specs.Prelude.{◌≡◌, ◌≢◌, ◌⊎◌, ℕ, List, [], ◌∷◌, ◌++◌, Option, Some, Result, Ok, Err, String, codes, string_bytes}
+use Rattle.std.specs.Prelude.{
+  ◌≡◌,
+  ◌≢◌,
+  ◌⊎◌,
+  ℕ,
+  List,
+  [],
+  ◌∷◌,
+  ◌++◌,
+  Option,
+  Some,
+  Result,
+  Ok,
+  Err,
+  String,
+  codes,
+  string_bytes,
+}
 use Rattle.std.specs.Fmt.{decimal}
 use Rattle.std.specs.Io.KnownBytes.{Appends}
 use Rattle.clap.specs.Matches.{first_value}
@@ -72,11 +89,13 @@ IsRefusedAs kind r =
     ((kind ≡ kinds.OutOfMemory) × (r ≡ refusal.Refused cause.Memory))
     ⊎ ((kind ≢ kinds.OutOfMemory) × (r ≡ refusal.WrongUse))
 
--- A cause that the command names: memory was refused outside of recasting, or it stands in a configuration, or recasting
+-- A cause that the command names: memory was refused outside of recasting, or it stands in a configuration, or
+-- recasting
 -- stopped for it.
 abbrev pub StopsFor : Option (List ℕ) → Sunk → Sunk → Option FileFault → Cause → Type 0
 StopsFor held old new unmade c =
-    ((c ≡ cause.Memory) × (new ≡ old)) ⊎ (RefusesFile held c × (new ≡ old)) ⊎ ((c ≡ cause.Memory) × MakesNone held old new unmade file.Memory)
+    ((c ≡ cause.Memory) × (new ≡ old)) ⊎ (RefusesFile held c × (new ≡ old)) ⊎ ((c ≡ cause.Memory)
+        × MakesNone held old new unmade file.Memory)
     ⊎ ((written : ℕ) × RecastsFile held old new (Err (record { cause = c; written = written })))
 
 -- what `check` is refused for: a file that can't be read, or has no configuration
@@ -134,7 +153,8 @@ line_of n = codes "wrote " ++ decimal n ++ 10 ∷ []
 
 -- the line of a configuration with so many feeds and views
 abbrev pub counts_of : ℕ → ℕ → List ℕ
-counts_of feeds views = codes "ok: " ++ (decimal feeds ++ (codes " feeds, " ++ (decimal views ++ (codes " views" ++ 10 ∷ []))))
+counts_of feeds views = codes "ok: " ++ (decimal feeds ++ (codes " feeds, " ++ (decimal views ++ (codes " views" ++ 10
+    ∷ []))))
 
 abbrev pub text_of : Outcome → List ℕ
 text_of (outcome.Inspected i) = string_bytes i.text

@@ -189,7 +189,8 @@ no_null_key t (r ∷ rs) [] n keyed given at = none-some (numbered key.Null true
 no_null_key t (r ∷ rs) (x ∷ xs) zero keyed given at =
     let same : x ≡ numbered key.Null true = some_same x (numbered key.Null true) at in
     true≢false (sym (ap is_null (keyed.0 ∙ ap (λ y. datum_of_key y.key) same)) ∙ given zero r (omega arith))
-no_null_key t (r ∷ rs) (x ∷ xs) (suc n) keyed given at = no_null_key t rs xs n keyed.1 (λ k d below. given (suc k) d (omega (arith, below))) at
+no_null_key t (r ∷ rs) (x ∷ xs) (suc n) keyed given at = no_null_key t rs xs n keyed.1 (λ k d below. given (suc k) d
+    (omega (arith, below))) at
 
 pub key_known :
     (t : Table) (rows : List (List Datum)) (xs : List Numbered) (v : ℕ) (k : Key) (found : Option ℕ)

@@ -354,7 +354,8 @@ first-channel conf k plan is =
     slice_get-map (opened (tables_of conf)) conf.feeds k ∙ ap (λ o. option_map (opened (tables_of conf)) o) is
 
 pub breaks-in-both : FeedLaws → BreaksInBoth
-breaks-in-both laws conf streams steps others replies answers sinks after sinks_too after_too new other run run_too k plan c
+breaks-in-both laws conf streams steps others replies answers sinks after sinks_too after_too new other run run_too k
+    plan c
     d is there there_too whole asks broke =
     by_ending (told_at conf streams k).end refl (l.fell refl (ap (λ x. broken x) (sym same) ∙ broke)) where
       l : Leads conf steps replies new k (opened (tables_of conf) plan)

@@ -1,5 +1,29 @@
 -- Rows and undo records that hold what edits come to, before and after an edit.
-use Rattle.std.proofs.Common.{◌≡◌, ℕ, zero, suc, ◌<◌, min, None, Ok, Err, List, [], ◌∷◌, Some, length, length-take, take, drop, refl, ap, sym, subst, ◌∙◌, arith}
+use Rattle.std.proofs.Common.{
+  ◌≡◌,
+  ℕ,
+  zero,
+  suc,
+  ◌<◌,
+  min,
+  None,
+  Ok,
+  Err,
+  List,
+  [],
+  ◌∷◌,
+  Some,
+  length,
+  length-take,
+  take,
+  drop,
+  refl,
+  ap,
+  sym,
+  subst,
+  ◌∙◌,
+  arith,
+}
 use Rattle.std.specs.Prelude.{slice_get, slice_set}
 use Rattle.view_lang.specs.Causes.{cause_in, cause_of}
 use Rattle.view_lang.specs.Config.{Table}
@@ -167,7 +191,8 @@ world_edited tables e old new es held below made =
     }
 
 pub edit_made :
-    (tables : List Table) (e : Edit) (old : Rows) (new : List Slot) (rs : List UndoRecord) (past : Past) (c : TableChange)
+    (tables : List Table) (e : Edit) (old : Rows) (new : List Slot) (rs : List UndoRecord) (past : Past) (c :
+        TableChange)
     → e.table < length old
     → Makes (table_at tables e.table) e.change (rows_at old e.table) new (Ok c) → IsChangeOf e.table c
     → ShowsPast tables old rs past

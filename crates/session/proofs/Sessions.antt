@@ -111,9 +111,11 @@ told names [] some = absurd (omega (arith, some))
 told names (t ∷ ts) some = ap (λ us. t ∷ us) (sides_named names ts)
 
 pub tables_told : (p : SessionParts) → 0 < length p.tables.stores → tables_of (config_of p) ≡ tables_in p.tables.stores
-tables_told p some = let many = tables_length p.tables.stores in told p.sides (tables_in p.tables.stores) (omega (arith, many, some))
+tables_told p some = let many = tables_length p.tables.stores in told p.sides (tables_in p.tables.stores) (omega
+    (arith, many, some))
 
-main_moved : (p q : SessionParts) → tables_in q.tables.stores ≡ tables_in p.tables.stores → 0 < length p.tables.stores → 0 < length q.tables.stores
+main_moved : (p q : SessionParts) → tables_in q.tables.stores ≡ tables_in p.tables.stores
+    → 0 < length p.tables.stores → 0 < length q.tables.stores
 main_moved p q same some =
     let one = tables_length p.tables.stores in
     let two = tables_length q.tables.stores in
@@ -232,13 +234,15 @@ pub link_shown :
     (p : SessionParts) (k : ℕ) (l : Link) → (s : State) × Shows p s → k < length p.links → l ≡ get_or p.links k l
     → (c : Channel) × ShowsChannel (tables_in p.tables.stores) l c
 link_shown p k l some below is =
-    let here = each_get (tables_in p.tables.stores) p.links some.0.channels k l some.1.channels below is in (here.0, here.2)
+    let here = each_get (tables_in p.tables.stores) p.links some.0.channels k l some.1.channels below is in (here.0,
+        here.2)
 
 pub push_known :
     (p q : SessionParts) (name piece : List ℕ) (k : ℕ) (l m : Link) (answer : Result Came Fault)
     → k ≡ place_of name (map (λ f. f.name) p.feeds)
     → k < length p.links → l ≡ get_or p.links k l
-    → PushesTo (tables_in p.tables.stores) l (rows_in p.tables.stores) p.records piece answer m (rows_in q.tables.stores) q.records
+    → PushesTo (tables_in p.tables.stores) l (rows_in p.tables.stores) p.records piece answer m (rows_in
+        q.tables.stores) q.records
     → (tables_in q.tables.stores) ≡ (tables_in p.tables.stores) → q.links ≡ slice_set p.links k m → Declares p q
     → IsStep p (λ s t. PushStep (config_of p) s name piece answer t) q
 push_known p q name piece k l m answer at below is pushes table links declares s shown =
@@ -263,7 +267,8 @@ push_known p q name piece k l m answer at below is pushes table links declares s
         main = main_moved p q table shown.main;
         sides = sides_moved p q declares table shown.sides;
         links = links_moved p q declares (ap roles_of links ∙ roles_set p.links k l m is below role) shown.links;
-        past = past_moved (tables_in p.tables.stores) (tables_in q.tables.stores) (rows_in q.tables.stores) q.records made.after table
+        past = past_moved (tables_in p.tables.stores) (tables_in q.tables.stores) (rows_in q.tables.stores) q.records
+            made.after table
             made.shows;
         channels = channels_moved p q s.channels k m made.channel table links shown.channels made.feed;
       },
@@ -272,7 +277,8 @@ push_known p q name piece k l m answer at below is pushes table links declares s
 pub finish_known :
     (p q : SessionParts) (name : List ℕ) (k : ℕ) (l m : Link) (answer : Result (Unit {0}) Fault)
     → k ≡ place_of name (map (λ f. f.name) p.feeds)
-    → k < length p.links → l ≡ get_or p.links k l → EndsTo l answer m → q.tables.stores ≡ p.tables.stores → q.records ≡ p.records
+    → k < length p.links → l ≡ get_or p.links k l → EndsTo l answer m → q.tables.stores ≡ p.tables.stores
+        → q.records ≡ p.records
     → q.links ≡ slice_set p.links k m → Declares p q
     → IsStep p (λ s t. FinishStep (config_of p) s name answer t) q
 finish_known p q name k l m answer at below is ends stores records links declares s shown =
@@ -286,7 +292,8 @@ finish_known p q name k l m answer at below is ends stores records links declare
     let goes : FinishTo s k (Some here.0) answer t =
     record { channel = made.channel; finishes = made.finishes; leads = refl } in
     let rows : ShowsPast (tables_in p.tables.stores) (rows_in p.tables.stores) q.records s.past =
-    subst (λ (rs : List UndoRecord). ShowsPast (tables_in p.tables.stores) (rows_in p.tables.stores) rs s.past) (sym records)
+    subst (λ (rs : List UndoRecord). ShowsPast (tables_in p.tables.stores) (rows_in p.tables.stores) rs s.past) (sym
+        records)
     shown.past in
     let slots : ShowsPast (tables_in p.tables.stores) (rows_in q.tables.stores) q.records s.past =
     subst (λ (ss : Rows). ShowsPast (tables_in p.tables.stores) ss q.records s.past) (sym (ap rows_in stores)) rows in (
@@ -296,7 +303,8 @@ finish_known p q name k l m answer at below is ends stores records links declare
         main = main_moved p q table shown.main;
         sides = sides_moved p q declares table shown.sides;
         links = links_moved p q declares (ap roles_of links ∙ roles_set p.links k l m is below role) shown.links;
-        past = past_moved (tables_in p.tables.stores) (tables_in q.tables.stores) (rows_in q.tables.stores) q.records s.past table slots;
+        past = past_moved (tables_in p.tables.stores) (tables_in q.tables.stores) (rows_in q.tables.stores) q.records
+            s.past table slots;
         channels = channels_moved p q s.channels k m made.channel table links shown.channels made.feed;
       },
     )
@@ -304,7 +312,8 @@ finish_known p q name k l m answer at below is ends stores records links declare
 pub undo_known :
     (p q : SessionParts) (answer : Result (Unit {0}) Fault)
     → ((past : Past) → ShowsPast (tables_in p.tables.stores) (rows_in p.tables.stores) p.records past
-    → (next : Past) × Undoes past answer next × ShowsPast (tables_in p.tables.stores) (rows_in q.tables.stores) q.records next)
+    → (next : Past) × Undoes past answer next × ShowsPast (tables_in p.tables.stores) (rows_in q.tables.stores)
+        q.records next)
     → (tables_in q.tables.stores) ≡ (tables_in p.tables.stores) → q.links ≡ p.links → Declares p q
     → IsStep p (λ s t. UndoTo s answer t) q
 undo_known p q answer undoes table links declares s shown =
@@ -317,7 +326,8 @@ undo_known p q answer undoes table links declares s shown =
         main = main_moved p q table shown.main;
         sides = sides_moved p q declares table shown.sides;
         links = links_moved p q declares (ap roles_of links) shown.links;
-        past = past_moved (tables_in p.tables.stores) (tables_in q.tables.stores) (rows_in q.tables.stores) q.records made.0 table made.2;
+        past = past_moved (tables_in p.tables.stores) (tables_in q.tables.stores) (rows_in q.tables.stores) q.records
+            made.0 table made.2;
         channels = subst (λ (ts : List Table). ShowsEach ts q.links s.channels) (sym table) placed;
       },
     )
@@ -332,13 +342,15 @@ rows_shown p s shown =
     held.same
 
 pub live_shown :
-    (p : SessionParts) (s : State) (x : Store) (n : ℕ) → Shows p s → x ≡ get_or p.tables.stores 0 x → n ≡ length (live x.slots)
+    (p : SessionParts) (s : State) (x : Store) (n : ℕ) → Shows p s → x ≡ get_or p.tables.stores 0 x
+        → n ≡ length (live x.slots)
     → n ≡ length (contents_at (world (tables_of (config_of p)) s.past.edits) 0).live
 live_shown p s x n shown is many =
     let rows : rows_at (rows_in p.tables.stores) 0 ≡ x.slots = rows_there p.tables.stores 0 x is shown.main in
     let have = rows_length p.tables.stores in
     many ∙ ap (λ (ss : List Slot). length (live ss)) (sym rows)
-    ∙ ap (λ (c : Contents). length c.live) (sym (contents_there (rows_in p.tables.stores) 0 (omega (arith, have, shown.main))))
+    ∙ ap (λ (c : Contents). length c.live) (sym (contents_there (rows_in p.tables.stores) 0 (omega (arith, have,
+        shown.main))))
     ∙ ap (λ (w : World). length (contents_at w 0).live)
     (rows_shown p s shown ∙ ap (λ ts. world ts s.past.edits) (sym (tables_told p shown.main)))
 
@@ -357,10 +369,12 @@ pub write_known :
     → (rows_in q.tables.stores) ≡ (rows_in p.tables.stores) → q.links ≡ p.links → q.records ≡ p.records → Declares p q
     → IsStep p (λ s t. WriteStep (config_of p) s name old answer new × (t ≡ s)) q
 write_known p q name k v old new answer at below is writes read table slots links records declares s shown =
-    let found : slice_get p.tables.views k ≡ Some v = slice_get-get_or p.tables.views k v below ∙ ap (λ x. Some x) (sym is) in
+    let found : slice_get p.tables.views k ≡ Some v = slice_get-get_or p.tables.views k v below
+        ∙ ap (λ x. Some x) (sym is) in
     let there : view_in (config_of p) name ≡ Some v =
     subst (λ (n : ℕ). slice_get p.tables.views n ≡ Some v) at found in
-    let rows : WriteAnswers old new answer (stream_of (tables_in p.tables.stores) v (world (tables_in p.tables.stores) s.past.edits))
+    let rows : WriteAnswers old new answer (stream_of (tables_in p.tables.stores) v (world (tables_in p.tables.stores)
+        s.past.edits))
     × IsReadIfWhole (tables_in p.tables.stores) v (world (tables_in p.tables.stores) s.past.edits) answer =
     subst (λ (w : World). WriteAnswers old new answer (stream_of (tables_in p.tables.stores) v w)
     × IsReadIfWhole (tables_in p.tables.stores) v w answer) (rows_shown p s shown) (writes, read) in
@@ -370,7 +384,8 @@ write_known p q name k v old new answer at below is writes read table slots link
     subst (λ ts. WritesView ts s.past (view_in (config_of p) name) old answer new) (sym (tables_told p shown.main))
     goes in
     let past : ShowsPast (tables_in p.tables.stores) (rows_in p.tables.stores) q.records s.past =
-    subst (λ (rs : List UndoRecord). ShowsPast (tables_in p.tables.stores) (rows_in p.tables.stores) rs s.past) (sym records)
+    subst (λ (rs : List UndoRecord). ShowsPast (tables_in p.tables.stores) (rows_in p.tables.stores) rs s.past) (sym
+        records)
     shown.past in
     let held : ShowsPast (tables_in p.tables.stores) (rows_in q.tables.stores) q.records s.past =
     subst (λ (ss : Rows). ShowsPast (tables_in p.tables.stores) ss q.records s.past) (sym slots) past in
@@ -382,7 +397,8 @@ write_known p q name k v old new answer at below is writes read table slots link
         main = main_moved p q table shown.main;
         sides = sides_moved p q declares table shown.sides;
         links = links_moved p q declares (ap roles_of links) shown.links;
-        past = past_moved (tables_in p.tables.stores) (tables_in q.tables.stores) (rows_in q.tables.stores) q.records s.past table held;
+        past = past_moved (tables_in p.tables.stores) (tables_in q.tables.stores) (rows_in q.tables.stores) q.records
+            s.past table held;
         channels = subst (λ (ts : List Table). ShowsEach ts q.links s.channels) (sym table) placed;
       },
     )

@@ -1,5 +1,24 @@
 -- The rows of a view can be written.
-use Rattle.std.proofs.Common.{◌≡◌, ◌<◌, ◌&&◌, true, Result, Ok, Err, OnOk, List, length, refl, ap, ap₂, le-leb, subst, sym, ◌∙◌, arith}
+use Rattle.std.proofs.Common.{
+  ◌≡◌,
+  ◌<◌,
+  ◌&&◌,
+  true,
+  Result,
+  Ok,
+  Err,
+  OnOk,
+  List,
+  length,
+  refl,
+  ap,
+  ap₂,
+  le-leb,
+  subst,
+  sym,
+  ◌∙◌,
+  arith,
+}
 use Rattle.std.proofs.lemmas.List.Elements.{All-weaker}
 use Rattle.values.specs.Datum.{Datum}
 use Rattle.values.specs.Layouts.{slot}

@@ -68,12 +68,14 @@ abbrev pub told_of : Config → Option FeedConfig → List ℕ → Transcript
 told_of conf None bytes = no_events (Ok (fresh None))
 told_of conf (Some plan) bytes = transcript (fresh (Some (feed_columns (tables_of conf) plan.role))) bytes
 
--- what the stream of a feed tells, from its beginning: its messages, and then the faults that stand, or where the feed is
+-- what the stream of a feed tells, from its beginning: its messages, and then the faults that stand, or where the feed
+-- is
 -- once all is consumed
 abbrev pub told_at : Config → (ℕ → List ℕ) → ℕ → Transcript
 told_at conf streams k = told_of conf (slice_get conf.feeds k) (streams k)
 
--- A feed of which so much is told may break by this fault: by a push, or by its finish where all its bytes are consumed.
+-- A feed of which so much is told may break by this fault: by a push, or by its finish where all its bytes are
+-- consumed.
 abbrev pub MayBreak : Reading FeedState → StreamFault → Type 0
 MayBreak (Ok s) f = Finishes s (Err f)
 MayBreak (Err fs) f = IsAmong fs f
@@ -374,7 +376,8 @@ unfoldable pub AsksEnd : Config → ℕ → List Step → Type 0
 AsksEnd conf k [] = ⊥
 AsksEnd conf k (s ∷ ss) = AsksNow conf k s ⊎ AsksEnd conf k ss
 
--- Two runs that offer a feed all of the same bytes, where the second finishes it if the first does: if it is broken after
+-- Two runs that offer a feed all of the same bytes, where the second finishes it if the first does: if it is broken
+-- after
 -- the first, it is broken after the second.
 abbrev pub BreaksInBoth : Type 0
 BreaksInBoth =

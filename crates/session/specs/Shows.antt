@@ -95,7 +95,8 @@ parts_code =
     (λ p. record { sides = p.0; feeds = p.1.0; links = p.1.1.0; tables = p.1.1.1.0; records = p.1.1.1.1 })
     (λ _. refl)
 
--- A session shows a state. It has a main table, a name for each side table, and for each feed that is declared, in order,
+-- A session shows a state. It has a main table, a name for each side table, and for each feed that is declared, in
+-- order,
 -- a link with its role. It stores neither the edits nor the bytes that came.
 pub record Shows (p : SessionParts) (s : State) : Type 0 where
   pub main : 0 < length p.tables.stores

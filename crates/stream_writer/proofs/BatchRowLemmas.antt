@@ -1,5 +1,35 @@
 -- Rows that lie in batches.
-use Rattle.std.proofs.Common.{◌≡◌, ℕ, zero, suc, ◌+◌, ◌*◌, ◌-◌, ◌<◌, ◌≤◌, List, [], ◌∷◌, ◌++◌, length, get_or, take, drop, refl, ap, sym, subst, ◌∙◌, arith, append_assoc, append-nil, length-drop, inl, inr, All}
+use Rattle.std.proofs.Common.{
+  ◌≡◌,
+  ℕ,
+  zero,
+  suc,
+  ◌+◌,
+  ◌*◌,
+  ◌-◌,
+  ◌<◌,
+  ◌≤◌,
+  List,
+  [],
+  ◌∷◌,
+  ◌++◌,
+  length,
+  get_or,
+  take,
+  drop,
+  refl,
+  ap,
+  sym,
+  subst,
+  ◌∙◌,
+  arith,
+  append_assoc,
+  append-nil,
+  length-drop,
+  inl,
+  inr,
+  All,
+}
 use Rattle.std.specs.Prelude.{min}
 use Rattle.std.proofs.lemmas.Bool.{cases_lt}
 use Rattle.std.proofs.lemmas.List.{drop_more, drop_all, take_all, drop-drop}
@@ -21,7 +51,8 @@ use Rattle.stream_writer.proofs.Cut.{beginning-light}
 
 -- where rows are light, a batch has as many as it may
 
-light-beginning : (ls : Roses Layout) (n room : ℕ) (rows : List (List Datum)) → n * max_light_row ≤ room → AreLightRows ls rows
+light-beginning : (ls : Roses Layout) (n room : ℕ) (rows : List (List Datum)) → n * max_light_row ≤ room
+    → AreLightRows ls rows
     → (length rows ≤ n → beginning ls n room rows ≡ length rows) × (n ≤ length rows → beginning ls n room rows ≡ n)
 light-beginning ls zero room rows fits light = (λ h. omega (arith, h), λ h. refl)
 light-beginning ls (suc n) room [] fits light = (λ h. refl, λ h. absurd (omega (arith, h)))
@@ -31,12 +62,14 @@ light-beginning ls (suc n) room (row ∷ rows) fits light =
     let same : suc n - 1 ≡ n = omega arith in
     let first = beginning-light ls (suc n) room row rows (omega arith) (omega (arith, here, fits)) in
     let moved = ap (λ k. beginning ls k (room - row_weight ls row) rows) same in
-    let rest = light-beginning ls n (room - row_weight ls row) rows (omega (arith, here, fits)) (All-tail P row rows light) in (
+    let rest = light-beginning ls n (room - row_weight ls row) rows (omega (arith, here, fits)) (All-tail P row rows
+        light) in (
       λ h. let all = rest.0 (omega (arith, h)) in omega (arith, first, moved, all),
       λ h. let all = rest.1 (omega (arith, h)) in omega (arith, first, moved, all),
     )
 
-pub light-len : (ls : Roses Layout) (rows : List (List Datum)) (left count : ℕ) → AreLightRows ls rows → left ≡ length rows
+pub light-len : (ls : Roses Layout) (rows : List (List Datum)) (left count : ℕ) → AreLightRows ls rows
+    → left ≡ length rows
     → count ≡ min left max_batch_rows → count ≡ batch_len ls rows
 unfolding batch_len
 light-len ls rows left count light e is =
@@ -74,7 +107,8 @@ pub rows-split : (bs : List Batch) (i : ℕ) (b : Batch) → i < length bs → b
     → rows_of (drop i bs) ≡ batch_rows b ++ rows_of (drop (i + 1) bs)
 rows-split bs i b h e = ap rows_of (drop_more bs i b h) ∙ ap (λ x. batch_rows x ++ rows_of (drop (i + 1) bs)) (sym e)
 
-pub place-step : (bs : List Batch) (i : ℕ) (b : Batch) (from : ℕ) (whole : List (List Datum)) → i < length bs → b ≡ get_or bs i b
+pub place-step : (bs : List Batch) (i : ℕ) (b : Batch) (from : ℕ) (whole : List (List Datum)) → i < length bs
+    → b ≡ get_or bs i b
     → b.rows ≤ from → drop from (rows_of (drop i bs)) ≡ whole → drop (from - b.rows) (rows_of (drop (i + 1) bs)) ≡ whole
 place-step bs i b from whole some e past is =
     let behind = rows_of (drop (i + 1) bs) in
@@ -87,17 +121,21 @@ place-step bs i b from whole some e past is =
 pub rest-is : {A : Type 0} (xs : List A) (i : ℕ) → i ≤ length xs → take (length xs - i) (drop i xs) ≡ drop i xs
 rest-is xs i h = let left = length-drop i xs in take_all (length xs - i) (drop i xs) (omega (arith, left))
 
-pub place-here : (bs : List Batch) (i from : ℕ) (whole : List (List Datum)) → i ≤ length bs → drop from (rows_of (drop i bs)) ≡ whole
+pub place-here : (bs : List Batch) (i from : ℕ) (whole : List (List Datum)) → i ≤ length bs
+    → drop from (rows_of (drop i bs)) ≡ whole
     → drop from (rows_of (take (length bs - i) (drop i bs))) ≡ whole
 place-here bs i from whole h is = ap (λ xs. drop from (rows_of xs)) (rest-is bs i h) ∙ is
 
-pub place-end : (bs : List Batch) (i from : ℕ) (whole : List (List Datum)) → length bs ≤ i → drop from (rows_of (drop i bs)) ≡ whole
+pub place-end : (bs : List Batch) (i from : ℕ) (whole : List (List Datum)) → length bs ≤ i
+    → drop from (rows_of (drop i bs)) ≡ whole
     → drop from (rows_of (take (length bs - length bs) (drop (length bs) bs))) ≡ whole
 place-end bs i from whole h is =
     let none_left : length bs - length bs ≡ 0 = omega arith in
-    ap (λ k. drop from (rows_of (take k (drop (length bs) bs)))) none_left ∙ ap (λ xs. drop from (rows_of xs)) (sym (drop_all i bs h)) ∙ is
+    ap (λ k. drop from (rows_of (take k (drop (length bs) bs)))) none_left
+        ∙ ap (λ xs. drop from (rows_of xs)) (sym (drop_all i bs h)) ∙ is
 
-pub sized-here : (n : ℕ) (bs : List Batch) (i : ℕ) → i ≤ length bs → All (IsSized n) bs → All (IsSized n) (take (length bs - i) (drop i bs))
+pub sized-here : (n : ℕ) (bs : List Batch) (i : ℕ) → i ≤ length bs → All (IsSized n) bs
+    → All (IsSized n) (take (length bs - i) (drop i bs))
 sized-here n bs i h all = subst (All (IsSized n)) (sym (rest-is bs i h)) (All-drop (IsSized n) i bs all)
 
 take-least : {A : Type 0} (n m : ℕ) (xs : List A) → m ≡ min (length xs) n → take n xs ≡ take m xs
@@ -107,7 +145,8 @@ take-least n m xs e = elim (cases_lt n (length xs)) [
 ]
 
 -- the rows of the next batch, and those of the batches behind it
-pub range-split : (b : Batch) (others : List (List Datum)) (from left to : ℕ) → from < to → to ≡ min b.rows (from + left)
+pub range-split : (b : Batch) (others : List (List Datum)) (from left to : ℕ) → from < to
+    → to ≡ min b.rows (from + left)
     → take left (drop from (batch_rows b ++ others))
     ≡ take (to - from) (drop from (batch_rows b)) ++ take (left - (to - from)) (drop (from - b.rows) others)
 range-split b others from left to some e =
@@ -116,7 +155,8 @@ range-split b others from left to some e =
     let same : from - length (batch_rows b) ≡ from - b.rows = omega (arith, size) in
     let here : take left (drop from (batch_rows b)) ≡ take (to - from) (drop from (batch_rows b)) =
     take-least left (to - from) (drop from (batch_rows b)) (omega (arith, size, behind, some, e)) in
-    let rest : take (left - length (drop from (batch_rows b))) (drop (from - b.rows) others) ≡ take (left - (to - from)) (drop (from - b.rows) others) =
+    let rest : take (left - length (drop from (batch_rows b))) (drop (from - b.rows) others) ≡ take (left - (to -
+        from)) (drop (from - b.rows) others) =
     (let k : left - length (drop from (batch_rows b)) ≡ left - (to - from) = omega (arith, size, behind, some, e) in
     ap (λ n. take n (drop (from - b.rows) others)) k) in
     ap (take left) (drop-joined from (batch_rows b) others ∙ ap (λ k. drop from (batch_rows b) ++ drop k others) same)
@@ -124,7 +164,8 @@ range-split b others from left to some e =
     ∙ ap (λ xs. xs ++ take (left - length (drop from (batch_rows b))) (drop (from - b.rows) others)) here
     ∙ ap (λ ys. take (to - from) (drop from (batch_rows b)) ++ ys) rest
 
-pub range-none : (b : Batch) (others : List (List Datum)) (from left to : ℕ) → to ≤ from → 0 < left → to ≡ min b.rows (from + left)
+pub range-none : (b : Batch) (others : List (List Datum)) (from left to : ℕ) → to ≤ from → 0 < left
+    → to ≡ min b.rows (from + left)
     → take left (drop from (batch_rows b ++ others)) ≡ take left (drop (from - b.rows) others)
 range-none b others from left to past some e =
     let size = batch-long b in
@@ -139,34 +180,42 @@ ranges-more rs r = flat_map-append range_rows rs (r ∷ []) ∙ ap (λ cs. range
 pub all-ranges : (P : RowRange → Type 0) (rs : List RowRange) (r : RowRange) → All P rs → P r → All P (rs ++ r ∷ [])
 all-ranges P rs r all one = All-append P rs (r ∷ []) all (All-cons P r [] one (All-nil P))
 
-pub batch-sized : (n : ℕ) (bs : List Batch) (i : ℕ) (b : Batch) → i < length bs → b ≡ get_or bs i b → All (IsSized n) bs → IsSized n b
+pub batch-sized : (n : ℕ) (bs : List Batch) (i : ℕ) (b : Batch) → i < length bs → b ≡ get_or bs i b
+    → All (IsSized n) bs → IsSized n b
 batch-sized n bs i b h e all = subst (IsSized n) (sym e) (All-get_or (IsSized n) bs i b h all)
 
 pub rows-then :
-    (bs : List Batch) (i : ℕ) (b : Batch) (start left to next others : ℕ) (rs more_ranges : List RowRange) (r : RowRange)
+    (bs : List Batch) (i : ℕ) (b : Batch) (start left to next others : ℕ) (rs more_ranges : List RowRange) (r :
+        RowRange)
     (whole : List (List Datum)) → i < length bs → b ≡ get_or bs i b → start < to → to ≡ min b.rows (start + left)
-    → more_ranges ≡ rs ++ r ∷ [] → range_rows r ≡ take (to - start) (drop start (batch_rows b)) → others ≡ left - (to - start)
+    → more_ranges ≡ rs ++ r ∷ [] → range_rows r ≡ take (to - start) (drop start (batch_rows b))
+        → others ≡ left - (to - start)
     → next ≡ start - b.rows → ranges_rows rs ++ take left (drop start (rows_of (drop i bs))) ≡ whole
     → ranges_rows more_ranges ++ take others (drop next (rows_of (drop (i + 1) bs))) ≡ whole
 rows-then bs i b start left to next others rs more_ranges r whole h e some least grown here fewer on is =
     let behind = rows_of (drop (i + 1) bs) in
-    let split = ap (λ rows. take left (drop start rows)) (rows-split bs i b h e) ∙ range-split b behind start left to some least in
+    let split = ap (λ rows. take left (drop start rows)) (rows-split bs i b h e)
+        ∙ range-split b behind start left to some least in
     ap (λ k. ranges_rows more_ranges ++ take k (drop next behind)) fewer
     ∙ ap (λ k. ranges_rows more_ranges ++ take (left - (to - start)) (drop k behind)) on
-    ∙ ap (λ xs. xs ++ take (left - (to - start)) (drop (start - b.rows) behind)) (ap ranges_rows grown ∙ ranges-more rs r
+    ∙ ap (λ xs. xs ++ take (left - (to - start)) (drop (start - b.rows) behind)) (ap ranges_rows grown
+        ∙ ranges-more rs r
     ∙ ap (λ ys. ranges_rows rs ++ ys) here)
-    ∙ append_assoc (ranges_rows rs) (take (to - start) (drop start (batch_rows b))) (take (left - (to - start)) (drop (start - b.rows) behind))
+    ∙ append_assoc (ranges_rows rs) (take (to - start) (drop start (batch_rows b))) (take (left - (to - start)) (drop
+        (start - b.rows) behind))
     ∙ ap (λ ys. ranges_rows rs ++ ys) (sym split) ∙ is
 
 pub rows-else :
     (bs : List Batch) (i : ℕ) (b : Batch) (start left to next others : ℕ) (rs same_ranges : List RowRange)
-    (whole : List (List Datum)) → i < length bs → b ≡ get_or bs i b → to ≤ start → 0 < left → to ≡ min b.rows (start + left)
+    (whole : List (List Datum)) → i < length bs → b ≡ get_or bs i b → to ≤ start → 0 < left
+        → to ≡ min b.rows (start + left)
     → same_ranges ≡ rs → others ≡ left → next ≡ start - b.rows
     → ranges_rows rs ++ take left (drop start (rows_of (drop i bs))) ≡ whole
     → ranges_rows same_ranges ++ take others (drop next (rows_of (drop (i + 1) bs))) ≡ whole
 rows-else bs i b start left to next others rs same_ranges whole h e past some least same fewer on is =
     let behind = rows_of (drop (i + 1) bs) in
-    let split = ap (λ rows. take left (drop start rows)) (rows-split bs i b h e) ∙ range-none b behind start left to past some least in
+    let split = ap (λ rows. take left (drop start rows)) (rows-split bs i b h e)
+        ∙ range-none b behind start left to past some least in
     ap (λ k. ranges_rows same_ranges ++ take k (drop next behind)) fewer
     ∙ ap (λ k. ranges_rows same_ranges ++ take left (drop k behind)) on
     ∙ ap (λ xs. ranges_rows xs ++ take left (drop (start - b.rows) behind)) same
@@ -191,10 +240,12 @@ as-many ls fs e = sym (count-kids ls) ∙ ap count e ∙ count-trees (kids_of fs
 
 -- the rows behind those that are skipped
 
-pub skipped : (rows : List (List Datum)) (from n : ℕ) (left : List (List Datum)) → left ≡ drop (from + n) rows → left ≡ drop n (drop from rows)
+pub skipped : (rows : List (List Datum)) (from n : ℕ) (left : List (List Datum)) → left ≡ drop (from + n) rows
+    → left ≡ drop n (drop from rows)
 skipped rows from n left is = is ∙ sym (drop-drop n from rows)
 
-pub light-left : (ls : Roses Layout) (rows left : List (List Datum)) (n : ℕ) → left ≡ drop n rows → AreLightRows ls rows → AreLightRows ls left
+pub light-left : (ls : Roses Layout) (rows left : List (List Datum)) (n : ℕ) → left ≡ drop n rows
+    → AreLightRows ls rows → AreLightRows ls left
 light-left ls rows left n is light =
     let P : List Datum → Type 0 = λ row. row_weight ls row ≤ max_light_row in
     subst (AreLightRows ls) (sym is) (All-drop P n rows light)

@@ -241,7 +241,8 @@ batch-sound fs rows columns layouts sound =
 pub taken_count : {A : Type 0} (n : ℕ) (xs : List A) → n ≤ length xs → length (take n xs) ≡ n
 taken_count n xs h = let cut = length-take n xs in omega (arith, cut, h)
 
-pub batch-of : (fs : List (Rose NamedType)) (ls : Roses Layout) (rows : List (List Datum)) (n : ℕ) → ls ≡ trees fs → AreColumns fs
+pub batch-of : (fs : List (Rose NamedType)) (ls : Roses Layout) (rows : List (List Datum)) (n : ℕ) → ls ≡ trees fs
+    → AreColumns fs
     → AreLayouts (trees fs) → All (IsRow fs) rows → n ≡ batch_len ls rows → IsBatch ls (take n rows)
 batch-of fs ls rows n same columns layouts sound e =
     let Q : Roses Layout → Type 0 = λ us. IsBatch us (take n rows) in
@@ -257,24 +258,29 @@ light-of fs ls rows same sound =
     subst Q (sym same)
     (All-weaker (IsRow fs) (λ row. row_weight (trees fs) row ≤ max_row_weight) (λ row h. h.light) rows sound)
 
-pub sound-left : (fs : List (Rose NamedType)) (rows left : List (List Datum)) (n : ℕ) → left ≡ drop n rows → All (IsRow fs) rows
+pub sound-left : (fs : List (Rose NamedType)) (rows left : List (List Datum)) (n : ℕ) → left ≡ drop n rows
+    → All (IsRow fs) rows
     → All (IsRow fs) left
 sound-left fs rows left n is sound = subst (All (IsRow fs)) (sym is) (All-drop (IsRow fs) n rows sound)
 
 -- the next batch, and what is left behind it
-pub batches-left : (fs : List (Rose NamedType)) (rows left : List (List Datum)) (n : ℕ) (tail : List ℕ) → 0 < length rows
+pub batches-left : (fs : List (Rose NamedType)) (rows left : List (List Datum)) (n : ℕ) (tail : List ℕ)
+    → 0 < length rows
     → All (IsRow fs) rows → n ≡ batch_len (trees fs) rows → left ≡ drop n rows
     → batches (trees fs) (length rows) rows ++ tail
     ≡ batch_message (trees fs) (take n rows) ++ (batches (trees fs) (length left) left ++ tail)
 batches-left fs rows left n tail some sound e is =
-    let F : ℕ → List ℕ = λ k. batch_message (trees fs) (take k rows) ++ batches (trees fs) (length (drop k rows)) (drop k rows) in
-    let G : List (List Datum) → List ℕ = λ cs. batch_message (trees fs) (take n rows) ++ batches (trees fs) (length cs) cs in
+    let F : ℕ → List ℕ = λ k. batch_message (trees fs) (take k rows) ++ batches (trees fs) (length (drop k rows)) (drop
+        k rows) in
+    let G : List (List Datum) → List ℕ = λ cs. batch_message (trees fs) (take n rows) ++ batches (trees fs) (length cs)
+        cs in
     ap (λ bs. bs ++ tail) (batches-next fs rows some sound ∙ ap F (sym e) ∙ ap G (sym is))
     ∙ append_assoc (batch_message (trees fs) (take n rows)) (batches (trees fs) (length left) left) tail
 
 -- rows that are values
 
-left-is : (rows : List (Vec Datum Global)) (n : ℕ) → n ≤ length rows → take (length rows - n) (drop n rows) ≡ drop n rows
+left-is : (rows : List (Vec Datum Global)) (n : ℕ) → n ≤ length rows
+    → take (length rows - n) (drop n rows) ≡ drop n rows
 left-is rows n h = let left = length-drop n rows in take_all (length rows - n) (drop n rows) (omega (arith, left))
 
 pub cells-take : (rows : List (Vec Datum Global)) (n : ℕ) → take n (cells_in rows) ≡ cells_in (take n rows)

@@ -1,5 +1,23 @@
 -- A store that was changed, among the others.
-use Rattle.std.proofs.Common.{◌≡◌, [], ◌∷◌, ℕ, zero, suc, ◌<◌, All, List, Result, ap, arith, get_or, length, subst, sym, ◌∙◌}
+use Rattle.std.proofs.Common.{
+  ◌≡◌,
+  [],
+  ◌∷◌,
+  ℕ,
+  zero,
+  suc,
+  ◌<◌,
+  All,
+  List,
+  Result,
+  ap,
+  arith,
+  get_or,
+  length,
+  subst,
+  sym,
+  ◌∙◌,
+}
 use Rattle.std.specs.Prelude.{slice_set}
 use Rattle.std.proofs.lemmas.List.Elements.{All-get_or}
 use Rattle.view_lang.specs.Config.{Table, View}

@@ -1,5 +1,25 @@
 -- Views in a loop that brings what is kept of each up to rows that come or go.
-use Rattle.std.proofs.Common.{◌≡◌, ℕ, zero, suc, ◌+◌, ◌*◌, ◌<◌, ◌≤◌, All, true, List, [], ◌∷◌, arith, get_or, length, subst, sym, ◌∙◌}
+use Rattle.std.proofs.Common.{
+  ◌≡◌,
+  ℕ,
+  zero,
+  suc,
+  ◌+◌,
+  ◌*◌,
+  ◌<◌,
+  ◌≤◌,
+  All,
+  true,
+  List,
+  [],
+  ◌∷◌,
+  arith,
+  get_or,
+  length,
+  subst,
+  sym,
+  ◌∙◌,
+}
 use Rattle.std.specs.Prelude.{slice_set}
 use Rattle.std.proofs.lemmas.Bool.{true≢false}
 use Rattle.std.proofs.lemmas.List.Elements.{All-head, All-tail}
@@ -70,7 +90,8 @@ pub followed_more :
     → With (tables_in now) (rows_in now) rows v s
     → With (tables_in now) (rows_in now) (patched rows (change_in (rows_in now) t numbers)) v u)
     → Fits before (change_in (rows_in old) t numbers)
-    → AreFollowed (tables_in old) (rows_in old) before (patched before (change_in (rows_in old) t numbers)) (n + 1) views
+    → AreFollowed (tables_in old) (rows_in old) before (patched before (change_in (rows_in old) t numbers)) (n + 1)
+        views
     (slice_set states n u)
 followed_more old now before t numbers n views states v s u tables rows mixed below at_v at_s kept fits =
     let after : NumberedRows = patched before (change_in (rows_in old) t numbers) in

@@ -1,5 +1,23 @@
 -- What is looked up depends on the live rows of a side table alone.
-use Rattle.std.proofs.Common.{◌≡◌, ℕ, zero, suc, ◌<◌, List, [], ◌∷◌, Option, None, Some, ap, arith, refl, subst, sym, ◌∙◌}
+use Rattle.std.proofs.Common.{
+  ◌≡◌,
+  ℕ,
+  zero,
+  suc,
+  ◌<◌,
+  List,
+  [],
+  ◌∷◌,
+  Option,
+  None,
+  Some,
+  ap,
+  arith,
+  refl,
+  subst,
+  sym,
+  ◌∙◌,
+}
 use Rattle.std.specs.Prelude.{cond, find, slice_set}
 use Rattle.std.specs.Option.{option_and_then}
 use Rattle.values.specs.Datum.{Datum, bytes, list, null, structure, text, truth, whole}

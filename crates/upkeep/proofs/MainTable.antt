@@ -1,5 +1,34 @@
 -- Views of a main table whose rows come and go.
-use Rattle.std.proofs.Common.{◌≡◌, ℕ, zero, suc, ◌+◌, ◌-◌, ◌<◌, ◌≤◌, All, Bool, true, false, if◌then◌else◌, List, [], ◌∷◌, Option, None, Some, get_or, length, map, refl, ap, sym, subst, ◌∙◌, arith}
+use Rattle.std.proofs.Common.{
+  ◌≡◌,
+  ℕ,
+  zero,
+  suc,
+  ◌+◌,
+  ◌-◌,
+  ◌<◌,
+  ◌≤◌,
+  All,
+  Bool,
+  true,
+  false,
+  if◌then◌else◌,
+  List,
+  [],
+  ◌∷◌,
+  Option,
+  None,
+  Some,
+  get_or,
+  length,
+  map,
+  refl,
+  ap,
+  sym,
+  subst,
+  ◌∙◌,
+  arith,
+}
 use Rattle.std.specs.Prelude.{slice_index_or, slice_set}
 use Rattle.std.specs.List.{range_with_len}
 use Rattle.std.proofs.lemmas.List.{length-append, length-map}
@@ -17,7 +46,20 @@ use Rattle.view_lang.specs.Views.{side_in}
 use Rattle.view_lang.specs.declared.view.Lookup.{Lookup}
 use Rattle.row_keys.specs.Numbered.{come, numbered}
 use Rattle.row_keys.specs.NumberLaws.{FewPutBack, FewRetracted, Leads, NewCome, RowsAreLive, with_new}
-use Rattle.row_keys.specs.Slots.{AreRetracted, CanPutBack, CanRetract, CanTakeBack, IsThere, Slot, last_numbers, live, marked, new_slot, put_back, slot}
+use Rattle.row_keys.specs.Slots.{
+  AreRetracted,
+  CanPutBack,
+  CanRetract,
+  CanTakeBack,
+  IsThere,
+  Slot,
+  last_numbers,
+  live,
+  marked,
+  new_slot,
+  put_back,
+  slot,
+}
 use Rattle.row_keys.specs.Store.{Store}
 use Rattle.upkeep.specs.Inputs.{side_by}
 use Rattle.upkeep.specs.LiveParts.{AreLive, AreOf}

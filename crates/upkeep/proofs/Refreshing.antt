@@ -1,5 +1,24 @@
 -- A view that is built anew, among the others.
-use Rattle.std.proofs.Common.{◌≡◌, ℕ, zero, suc, ◌<◌, false, Bool, List, [], ◌∷◌, ap, arith, get_or, length, refl, subst, sym, ◌∙◌}
+use Rattle.std.proofs.Common.{
+  ◌≡◌,
+  ℕ,
+  zero,
+  suc,
+  ◌<◌,
+  false,
+  Bool,
+  List,
+  [],
+  ◌∷◌,
+  ap,
+  arith,
+  get_or,
+  length,
+  refl,
+  subst,
+  sym,
+  ◌∙◌,
+}
 use Rattle.std.specs.Prelude.{slice_set}
 use Rattle.view_lang.specs.Config.{Table, View}
 use Rattle.view_lang.specs.Shifts.{NumberedRows}

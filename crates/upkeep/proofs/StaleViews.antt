@@ -53,7 +53,8 @@ marked_more (suc i) (x ∷ xs) s so_far below stale =
     All-cons IsStale x (take (suc i) (slice_set xs i s)) (All-head IsStale x (take i xs) so_far)
     (marked_more i xs s (All-tail IsStale x (take i xs) so_far) (omega (arith, below)) stale)
 
-pub stale_more : (i : ℕ) (ss : List ViewState) (s : ViewState) → All IsStale (take i ss) → i < length ss → s.stale ≡ true
+pub stale_more : (i : ℕ) (ss : List ViewState) (s : ViewState) → All IsStale (take i ss) → i < length ss
+    → s.stale ≡ true
     → All IsStale (take (i + 1) (slice_set ss i s))
 stale_more i ss s so_far below stale =
     subst (λ n. All IsStale (take n (slice_set ss i s))) (sym (add-one i)) (marked_more i ss s so_far below stale)
@@ -63,7 +64,8 @@ all_stale i ss so_far all = subst (All IsStale) (take_all i ss all) so_far
 
 -- counted
 
-pub counted : (ss : List ViewState) → count_by (λ (b : Bool). b) (stale_in ss) ≡ count_by (λ (s : ViewState). s.stale) ss
+pub counted : (ss : List ViewState) → count_by (λ (b : Bool). b) (stale_in ss) ≡ count_by (λ (s : ViewState). s.stale)
+    ss
 counted [] = refl
 counted (s ∷ ss) =
     sum_by-cons (λ (b : Bool). cond b 1 0) s.stale (stale_in ss) ∙ ap (λ n. cond s.stale 1 0 + n) (counted ss)
@@ -82,7 +84,8 @@ current_more tables rows (w ∷ ws) (t ∷ ts) v s each kept refers =
     (each.0, current_more tables rows ws ts v s each.1 kept refers)
 
 pub fresh_more :
-    (tables : List Table) (rows : Rows) (views : List View) (i : ℕ) (old new : List ViewState) (v : View) (s : ViewState)
+    (tables : List Table) (rows : Rows) (views : List View) (i : ℕ) (old new : List ViewState) (v : View) (s :
+        ViewState)
     → EachIsCurrent tables rows [] (take i views) old → i < length views → v ≡ get_or views i v
     → IsKept v.outputs v.order s.kept [] → KeepsReferrers s.referrers [] → new ≡ old ++ s ∷ []
     → EachIsCurrent tables rows [] (take (i + 1) views) new

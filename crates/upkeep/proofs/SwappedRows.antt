@@ -90,7 +90,8 @@ keys_marked t (m ∷ ms) b slots n =
     ap (λ r. key_in t r ∷ keys_at t ms (marked b slots n)) (row_marked b slots n m)
     ∙ ap (λ ks. key_in t (row_of slots m) ∷ ks) (keys_marked t ms b slots n)
 
-keys_retracted : (t : Table) (ms ns : List ℕ) (slots : List Slot) → keys_at t ms (retracted ns slots) ≡ keys_at t ms slots
+keys_retracted : (t : Table) (ms ns : List ℕ) (slots : List Slot)
+    → keys_at t ms (retracted ns slots) ≡ keys_at t ms slots
 unfolding retracted
 keys_retracted t ms [] slots = refl
 keys_retracted t ms (n ∷ ns) slots = keys_retracted t ms ns (marked false slots n) ∙ keys_marked t ms false slots n

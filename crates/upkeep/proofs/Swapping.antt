@@ -23,7 +23,16 @@ use Rattle.view_lang.specs.World.{table_at}
 use Rattle.row_keys.specs.Slots.{Slot}
 use Rattle.row_keys.specs.Store.{Store, with_slots}
 use Rattle.upkeep.specs.Stores.{Rows, rows_at, rows_in, tables_in}
-use Rattle.upkeep.specs.StoreLaws.{rows_placed, rows_length, rows_restored, rows_set, rows_there, table_there, tables_length, tables_set}
+use Rattle.upkeep.specs.StoreLaws.{
+  rows_placed,
+  rows_length,
+  rows_restored,
+  rows_set,
+  rows_there,
+  table_there,
+  tables_length,
+  tables_set,
+}
 use Rattle.upkeep.specs.Swaps.{CanSwap, opposite, swapped}
 use Rattle.upkeep.specs.ViewStates.{made_change, swapped_at}
 use Rattle.upkeep.specs.declared.table_change.TableChange.{TableChange}
@@ -71,7 +80,8 @@ can_turn_back ss ss' n u w c s t s' turned since is other can =
     let table : s'.table ≡ s.table =
     sym (table_there ss' n s' is below) ∙ ap (λ ts. table_at ts n) same ∙ table_there ss n s turned.is turned.below in
     let placed : rows_at (slice_set (rows_in ss) n t.slots) n ≡ t.slots =
-    rows_placed (rows_in ss) n t.slots (let long = rows_length ss in let there = turned.below in omega (arith, long, there)) in
+    rows_placed (rows_in ss) n t.slots (let long = rows_length ss in let there = turned.below in omega (arith, long,
+        there)) in
     let slots : s'.slots ≡ t.slots =
     sym (rows_there ss' n s' is below)
     ∙ ap (λ (rs : Rows). rows_at rs n) (since.rows ∙ rows_set ss n t) ∙ placed in

@@ -1,5 +1,30 @@
 -- The rows of views are of the types that are declared for them.
-use Rattle.std.proofs.Common.{◌≡◌, ℕ, suc, ◌<◌, ◌≤◌, Bool, true, false, cond, All, IfSome, List, [], ◌∷◌, Option, None, Some, ap, arith, find, get_or, length, subst, sym}
+use Rattle.std.proofs.Common.{
+  ◌≡◌,
+  ℕ,
+  suc,
+  ◌<◌,
+  ◌≤◌,
+  Bool,
+  true,
+  false,
+  cond,
+  All,
+  IfSome,
+  List,
+  [],
+  ◌∷◌,
+  Option,
+  None,
+  Some,
+  ap,
+  arith,
+  find,
+  get_or,
+  length,
+  subst,
+  sym,
+}
 use Rattle.std.proofs.lemmas.List.Elements.{All-cons, All-head, All-nil, All-tail}
 use Rattle.values.specs.Datum.{Datum, null}
 use Rattle.values.specs.Limits.{max_main_rows}
@@ -75,7 +100,8 @@ module _ (stores : List Store) (v : View) (s : Store) (right : All IsTable (tabl
       let same = ap (λ (ss : List Slot). length (live ss)) (rows_there stores 0 s main some) in
       omega (arith, same, few, table.few)
 
-  pub viewed_with : (looked : (row : List Datum) → IsLookedUp (tables_in stores) v.lookup (side_by (tables_in stores) rows v)
+  pub viewed_with : (looked : (row : List Datum) → IsLookedUp (tables_in stores) v.lookup (side_by (tables_in stores)
+      rows v)
       row) → Viewed (tables_in stores) v (side_by (tables_in stores) rows v) (live (rows_at rows 0))
   viewed_with looked = record {
     right = right;

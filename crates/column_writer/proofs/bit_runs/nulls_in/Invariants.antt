@@ -10,8 +10,10 @@ invariant-loop-at l = record {
   past : l.range.from ≤ l.at;
   order : l.at ≤ l.range.to;
   few : l.nulls ≤ l.at - l.range.from;
-  nulls : l.nulls + null_count (slots (cell l.range.parts.body.now (node l.range.parts.own.now (kids_of l.range.parts.children.now))) l.at (l.range.to - l.at))
-      ≡ null_count (slots (cell l.range.parts.body.now (node l.range.parts.own.now (kids_of l.range.parts.children.now))) l.range.from (l.range.to - l.range.from));
+  nulls : l.nulls + null_count (slots (cell l.range.parts.body.now (node l.range.parts.own.now (kids_of
+      l.range.parts.children.now))) l.at (l.range.to - l.at))
+      ≡ null_count (slots (cell l.range.parts.body.now (node l.range.parts.own.now (kids_of
+          l.range.parts.children.now))) l.range.from (l.range.to - l.range.from));
 }
 
 abbrev pub decreases-loop-at : goal.decreases-loop-at

@@ -9,6 +9,8 @@ use Rattle.column_writer.proofs.bit_runs.push_truths.Given as goal
 abbrev pub invariant-loop-i : goal.invariant-loop-i
 invariant-loop-i l = record {
   size : length l.truths + l.range.from ≡ length l.fn.truths + l.i;
-  bits : l.truths ++ map truth_in (slots (cell l.range.parts.body.now (node l.range.parts.own.now (kids_of l.range.parts.children.now))) l.i (l.range.to - l.i))
-      ≡ l.fn.truths ++ map truth_in (slots (cell l.range.parts.body.now (node l.range.parts.own.now (kids_of l.range.parts.children.now))) l.range.from (l.range.to - l.range.from));
+  bits : l.truths ++ map truth_in (slots (cell l.range.parts.body.now (node l.range.parts.own.now (kids_of
+      l.range.parts.children.now))) l.i (l.range.to - l.i))
+      ≡ l.fn.truths ++ map truth_in (slots (cell l.range.parts.body.now (node l.range.parts.own.now (kids_of
+          l.range.parts.children.now))) l.range.from (l.range.to - l.range.from));
 }

@@ -10,6 +10,8 @@ abbrev pub invariant-loop-i : goal.invariant-loop-i
 invariant-loop-i l = record {
   past : l.range.from ≤ l.i;
   size : length l.valid + l.range.from ≡ length l.fn.valid + l.i;
-  bits : l.valid ++ map is_valid (slots (cell l.range.parts.body.now (node l.range.parts.own.now (kids_of l.range.parts.children.now))) l.i (l.range.to - l.i))
-      ≡ l.fn.valid ++ map is_valid (slots (cell l.range.parts.body.now (node l.range.parts.own.now (kids_of l.range.parts.children.now))) l.range.from (l.range.to - l.range.from));
+  bits : l.valid ++ map is_valid (slots (cell l.range.parts.body.now (node l.range.parts.own.now (kids_of
+      l.range.parts.children.now))) l.i (l.range.to - l.i))
+      ≡ l.fn.valid ++ map is_valid (slots (cell l.range.parts.body.now (node l.range.parts.own.now (kids_of
+          l.range.parts.children.now))) l.range.from (l.range.to - l.range.from));
 }

@@ -9,8 +9,10 @@ abbrev pub invariant-loop-at : goal.invariant-loop-at
 invariant-loop-at l = record {
   past : l.range.from ≤ l.at;
   order : l.at ≤ l.range.to;
-  bytes : l.out.items ++ joined (slots (cell l.range.parts.body.now (node l.range.parts.own.now (kids_of l.range.parts.children.now))) l.at (l.range.to - l.at))
-      ≡ l.fn.out.items ++ joined (slots (cell l.range.parts.body.now (node l.range.parts.own.now (kids_of l.range.parts.children.now))) l.range.from (l.range.to - l.range.from));
+  bytes : l.out.items ++ joined (slots (cell l.range.parts.body.now (node l.range.parts.own.now (kids_of
+      l.range.parts.children.now))) l.at (l.range.to - l.at))
+      ≡ l.fn.out.items ++ joined (slots (cell l.range.parts.body.now (node l.range.parts.own.now (kids_of
+          l.range.parts.children.now))) l.range.from (l.range.to - l.range.from));
 }
 
 abbrev pub decreases-loop-at : goal.decreases-loop-at

@@ -10,8 +10,14 @@ use Rattle.column_writer.proofs.byte_runs.push_starts.Given as goal
 abbrev pub invariant-loop-i : goal.invariant-loop-i
 invariant-loop-i l = record {
   past : l.range.from ≤ l.i;
-  end : l.end + total_length (slots (cell l.range.parts.body.now (node l.range.parts.own.now (kids_of l.range.parts.children.now))) l.i (l.range.to - l.i))
-      ≡ l.fn.start + total_length (slots (cell l.range.parts.body.now (node l.range.parts.own.now (kids_of l.range.parts.children.now))) l.range.from (l.range.to - l.range.from));
-  bytes : (rest : List ℕ) → l.out.items ++ offsets_from l.fn.wanted l.end (map length_in (slots (cell l.range.parts.body.now (node l.range.parts.own.now (kids_of l.range.parts.children.now))) l.i (l.range.to - l.i)) ++ rest)
-      ≡ l.fn.out.items ++ offsets_from l.fn.wanted l.fn.start (map length_in (slots (cell l.range.parts.body.now (node l.range.parts.own.now (kids_of l.range.parts.children.now))) l.range.from (l.range.to - l.range.from)) ++ rest);
+  end : l.end + total_length (slots (cell l.range.parts.body.now (node l.range.parts.own.now (kids_of
+      l.range.parts.children.now))) l.i (l.range.to - l.i))
+      ≡ l.fn.start + total_length (slots (cell l.range.parts.body.now (node l.range.parts.own.now (kids_of
+          l.range.parts.children.now))) l.range.from (l.range.to - l.range.from));
+  bytes : (rest : List ℕ) → l.out.items ++ offsets_from l.fn.wanted l.end (map length_in (slots (cell
+      l.range.parts.body.now (node l.range.parts.own.now (kids_of l.range.parts.children.now))) l.i (l.range.to - l.i))
+      ++ rest)
+      ≡ l.fn.out.items ++ offsets_from l.fn.wanted l.fn.start (map length_in (slots (cell l.range.parts.body.now (node
+          l.range.parts.own.now (kids_of l.range.parts.children.now))) l.range.from (l.range.to - l.range.from)) ++
+          rest);
 }

@@ -8,7 +8,8 @@ use Rattle.column_writer.proofs.children.push_below_nulls.Goals as goal
 pub returns-in_ok-push-in-Struct-clause-cells : goal.returns-in_ok-push-in-Struct-clause-cells
 returns-in_ok-push-in-Struct-clause-cells c = λ j.
     ap pieces_cells c.in_ok-push-in-Struct.ensures.items ∙ pieces-more c.args.all.now.items (Nulls c.args.count)
-    ∙ ap (λ cs. pieces_cells c.args.all.now.items ++ cs) (sym (below-struct c.args.layout j c.args.count c.in-Struct.is))
+    ∙ ap (λ cs. pieces_cells c.args.all.now.items ++ cs) (sym (below-struct c.args.layout j c.args.count
+        c.in-Struct.is))
 
 pub returns-in-List-clause-cells : goal.returns-in-List-clause-cells
 returns-in-List-clause-cells c = λ j.

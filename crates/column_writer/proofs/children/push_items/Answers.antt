@@ -19,11 +19,14 @@ loop-at-preserved-in_ok-push c =
     record {
       past = omega (arith, inv.past, run.past);
       order = run.within;
-      cells = run-step items_in (cell parts.body.now (node parts.own.now (kids_of parts.children.now))) c.loop-at.at c.run_end-end.result
-          c.args.range.now.to (pieces_cells c.loop-at.all.items) (pieces_cells c.push.new.self.items) _ _ up run.within c.run_items.ensures.cells
+      cells = run-step items_in (cell parts.body.now (node parts.own.now (kids_of parts.children.now))) c.loop-at.at
+          c.run_end-end.result
+          c.args.range.now.to (pieces_cells c.loop-at.all.items) (pieces_cells c.push.new.self.items) _ _ up run.within
+              c.run_items.ensures.cells
           (ap pieces_cells c.in_ok-push.ensures.items ∙ pieces-more c.loop-at.all.items c.run_items.result) inv.cells;
       lies = λ t below old. subst (All (LiesAs t)) (sym c.in_ok-push.ensures.items)
-          (all-more (LiesAs t) c.loop-at.all.items c.run_items.result (inv.lies t below old) (c.run_items.ensures.lies t below));
+          (all-more (LiesAs t) c.loop-at.all.items c.run_items.result (inv.lies t below old) (c.run_items.ensures.lies
+              t below));
     }
 
 pub loop-at-preserved : goal.loop-at-preserved
@@ -39,8 +42,10 @@ loop-at-preserved c =
     record {
       past = omega (arith, inv.past, run.past);
       order = run.within;
-      cells = run-step items_in (cell parts.body.now (node parts.own.now (kids_of parts.children.now))) c.loop-at.at c.run_end-end.result
-          c.args.range.now.to (pieces_cells c.loop-at.all.items) (pieces_cells c.loop-at.all.items) [] _ up run.within none
+      cells = run-step items_in (cell parts.body.now (node parts.own.now (kids_of parts.children.now))) c.loop-at.at
+          c.run_end-end.result
+          c.args.range.now.to (pieces_cells c.loop-at.all.items) (pieces_cells c.loop-at.all.items) [] _ up run.within
+              none
           (sym (append-nil (pieces_cells c.loop-at.all.items))) inv.cells;
       lies = inv.lies;
     }
@@ -48,5 +53,6 @@ loop-at-preserved c =
 pub returns-clause-cells : goal.returns-clause-cells
 returns-clause-cells c =
     let parts = c.args.range.now.parts in
-    run-over items_in (cell parts.body.now (node parts.own.now (kids_of parts.children.now))) c.loop-at.at c.args.range.now.to
+    run-over items_in (cell parts.body.now (node parts.own.now (kids_of parts.children.now))) c.loop-at.at
+        c.args.range.now.to
     (pieces_cells c.loop-at.all.items) _ c.loop-at-test.false c.loop-at.invariant.cells

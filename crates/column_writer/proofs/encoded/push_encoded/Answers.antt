@@ -10,8 +10,10 @@ loop-i-preserved c =
     let parts = c.args.range.now.parts in
     record {
       past = omega (arith, c.loop-i.invariant.past);
-      cells = encoded-step (cell parts.body.now (node parts.own.now (kids_of parts.children.now))) c.loop-i.i c.args.range.now.to
-          c.value_of.result c.loop-i.cells.items c.push.new.self.items _ c.loop-i-test.true c.value_of.ensures c.in_ok-push.ensures.items
+      cells = encoded-step (cell parts.body.now (node parts.own.now (kids_of parts.children.now))) c.loop-i.i
+          c.args.range.now.to
+          c.value_of.result c.loop-i.cells.items c.push.new.self.items _ c.loop-i-test.true c.value_of.ensures
+              c.in_ok-push.ensures.items
           c.loop-i.invariant.cells;
     }
 

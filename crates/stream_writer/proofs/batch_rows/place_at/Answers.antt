@@ -6,7 +6,8 @@ pub loop-i-preserved : goal.loop-i-preserved
 loop-i-preserved c =
     let batches = c.args.batches.now in
     record {
-      rows = place-step batches c.loop-i.i (get_or batches c.loop-i.i c.index-batches-i.result) c.loop-i.start _ c.loop-i-test.true
+      rows = place-step batches c.loop-i.i (get_or batches c.loop-i.i c.index-batches-i.result) c.loop-i.start _
+          c.loop-i-test.true
           (ap (get_or batches c.loop-i.i) c.index-batches-i.is) (omega arith) c.loop-i.invariant.rows;
       bound = omega (arith, c.loop-i.invariant.bound);
     }

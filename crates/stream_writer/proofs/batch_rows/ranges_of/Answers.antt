@@ -18,8 +18,10 @@ loop-batch-preserved c =
           let some = w.if-start-to.true in
           record {
             small = omega (arith, w.left-is, on, least, l.invariant.small, some);
-            rows = rows-then bs l.batch-index b l.start l.left to c.saturating_sub-start.result c.if-start-to.left l.ranges.items
-                c.if-start-to.ranges.items _ _ c.loop-batch-test.true c.batch-item.is some least grown refl w.left-is on l.invariant.rows;
+            rows = rows-then bs l.batch-index b l.start l.left to c.saturating_sub-start.result c.if-start-to.left
+                l.ranges.items
+                c.if-start-to.ranges.items _ _ c.loop-batch-test.true c.batch-item.is some least grown refl w.left-is
+                    on l.invariant.rows;
             sized = λ n all.
                 subst (All (IsRange n)) (sym grown)
                 (all-ranges (IsRange n) l.ranges.items _ (l.invariant.sized n all)
@@ -33,8 +35,10 @@ loop-batch-preserved c =
           (let same = ap (λ v. v.items) w.ranges-is in
           record {
             small = omega (arith, w.left-is, on, l.invariant.small);
-            rows = rows-else bs l.batch-index b l.start l.left to c.saturating_sub-start.result c.if-start-to.left l.ranges.items
-                c.if-start-to.ranges.items _ c.loop-batch-test.true c.batch-item.is w.if-start-to.false (omega (arith, c.if-left-eq0.false))
+            rows = rows-else bs l.batch-index b l.start l.left to c.saturating_sub-start.result c.if-start-to.left
+                l.ranges.items
+                c.if-start-to.ranges.items _ c.loop-batch-test.true c.batch-item.is w.if-start-to.false (omega (arith,
+                    c.if-left-eq0.false))
                 least same w.left-is on l.invariant.rows;
             sized = λ n all. subst (All (IsRange n)) (sym same) (l.invariant.sized n all);
           })

@@ -6,6 +6,7 @@ use Rattle.upkeep.proofs.all_views.fresh_states.Given as goal
 
 abbrev pub invariant-loop-view : goal.invariant-loop-view
 invariant-loop-view l = record {
-  current : (tables : List Table) (rows : Rows) → EachIsCurrent tables rows [] (take l.view-index l.views) l.states.items;
+  current : (tables : List Table) (rows : Rows) → EachIsCurrent tables rows [] (take l.view-index l.views)
+      l.states.items;
   stale : stale_in l.states.items ≡ map (λ (_ : View). false) (take l.view-index l.views);
 }

@@ -1,4 +1,21 @@
-use Rattle.std.proofs.Common.{◌≡◌, ℕ, ◌<◌, ◌≤◌, ◌||◌, List, ap, arith, count_by, false, length, not, subst, sym, true, ◌∙◌}
+use Rattle.std.proofs.Common.{
+  ◌≡◌,
+  ℕ,
+  ◌<◌,
+  ◌≤◌,
+  ◌||◌,
+  List,
+  ap,
+  arith,
+  count_by,
+  false,
+  length,
+  not,
+  subst,
+  sym,
+  true,
+  ◌∙◌,
+}
 use Rattle.std.specs.List.{list_any}
 use Rattle.std.specs.List.Sorted.{IsStrictlySortedBy}
 use Rattle.std.specs.Ordering.{nat_cmp}

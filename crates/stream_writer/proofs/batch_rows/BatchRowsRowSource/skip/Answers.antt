@@ -14,7 +14,8 @@ returns-clause-fits c = λ ls fits.
     let size = ap length behind ∙ length-drop n (drop from rows) in
     record {
       sized = c.place_at-place.ensures.sized (length ls) fits.sized;
-      light = light-left (kids_of ls) (drop from rows) (drop place.from (rows_of place.batches.now)) n behind fits.light;
+      light = light-left (kids_of ls) (drop from rows) (drop place.from (rows_of place.batches.now)) n behind
+          fits.light;
       left = omega (arith, size, fits.left);
       small = omega (arith, fits.small, fits.left, c.place_at-place.ensures.bound, c.requires.within);
     }

@@ -41,7 +41,8 @@ invariant_of-self c =
           subst (λ n. c.args.table < n) (ap (λ p. length p.stores) (sym c.self.view_is)) c.requires.there;
       same = c.make_edit.ensures.table;
     } in
-    same_live ss c.self.inside.views.items c.self.inside.states.items c.args.table c.index_mut.result.now c.make_edit.new.store changed
+    same_live ss c.self.inside.views.items c.self.inside.states.items c.args.table c.index_mut.result.now
+        c.make_edit.new.store changed
     c.in_err-change.ensures.makes.1 c.self.invariant
 
 pub returns-in_err-change : goal.returns-in_err-change
@@ -55,7 +56,8 @@ returns-in_err-change c =
     } in
     let failed = err_from_is_err_and c.from_residual.result c.from_residual.ensures.1 in
     rw (failed.1, failed.2, ← c.self.view_is)
-    (edit_refused ss c.self.inside.views.items c.self.inside.states.items c.args.table c.index_mut.result.now c.make_edit.new.store
+    (edit_refused ss c.self.inside.views.items c.self.inside.states.items c.args.table c.index_mut.result.now
+        c.make_edit.new.store
     (change_by c.args.role c.args.columns.items c.args.rows) c.in_err-change.field-0.0 c.requires.side changed
     c.in_err-change.ensures.makes)
 
