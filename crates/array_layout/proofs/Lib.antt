@@ -3,3 +3,4 @@ pub mod Bits
 pub mod OffsetLemmas
 pub mod SoundLemmas
 pub mod FullBytes
+pub mod NumberLemmas

@@ -1,11 +1,11 @@
 //! Reads bits, numbers, offsets and slices from an array's buffers.
 
-ghost use Rattle.std.specs.Prelude.{◌≡◌, ◌+◌, ◌*◌, ◌<◌, ◌≤◌, length, true};
+ghost use Rattle.std.specs.Prelude.{◌≡◌, ◌+◌, ◌-◌, ◌*◌, ◌<◌, ◌≤◌, ◌^◌, length, true};
 ghost use Rattle.bitmaps.specs.Bits.{HasBits, bit_at};
 ghost use Rattle.values.specs.Layouts.{bytes_in, offset_bytes};
 ghost use Rattle.array_layout.specs.Placing.{bytes_of};
 ghost use Rattle.array_layout.specs.Sound.{LiesIn};
-ghost use Rattle.array_layout.specs.Buffers.{is_null, number_at, fixed_at, offset_at, slice_at};
+ghost use Rattle.array_layout.specs.Buffers.{is_null, unsigned_at, number_at, fixed_at, offset_at, slice_at};
 
 use crate::array::BufferRange;
 use byteorder::{ByteOrder, LittleEndian};
@@ -36,6 +36,47 @@ pub fn is_null_at(bits: &[u8], i: usize) -> bool
     !bits.is_empty() && !bit(bits, i)
 }
 
+/// Number `i`, without its sign.
+#[tactic(auto, unfolding(crate::specs::Buffers::unsigned_at))]
+fn unsigned_number(bytes: &[u8], width: IntWidth, i: usize) -> u64
+    requires { bytes_in width * (i + 1) ≤ length bytes.now }
+    ensures value { result ≡ unsigned_at (bytes_in width) bytes.now i }
+{
+    match width {
+        IntWidth::Bits8 => u64::from(bytes[i]),
+        IntWidth::Bits16 => u64::from(LittleEndian::read_u16(&bytes[2 * i..])),
+        IntWidth::Bits32 => u64::from(LittleEndian::read_u32(&bytes[4 * i..])),
+        IntWidth::Bits64 => LittleEndian::read_u64(&bytes[8 * i..]),
+    }
+}
+
+/// The least number of this width whose sign is negative.
+fn sign_bit(width: IntWidth) -> u64
+    ensures { result ≡ 2 ^ (8 * bytes_in width - 1) }
+{
+    match width {
+        IntWidth::Bits8 => 1 << 7,
+        IntWidth::Bits16 => 1 << 15,
+        IntWidth::Bits32 => 1 << 31,
+        IntWidth::Bits64 => 1 << 63,
+    }
+}
+
+/// Number `i`.
+#[tactic(auto, using(crate::proofs::NumberLemmas::signs), unfolding(crate::specs::Buffers::number_at))]
+pub fn number(bytes: &[u8], width: IntWidth, signed: bool, i: usize) -> i128
+    requires { bytes_in width * (i + 1) ≤ length bytes.now }
+    ensures { result ≡ number_at signed (bytes_in width) bytes.now i }
+{
+    let number = unsigned_number(bytes, width, i);
+    let sign = sign_bit(width);
+    if signed && number >= sign {
+        i128::from(number) - 2 * i128::from(sign)
+    } else {
+        i128::from(number)
+    }
+}
+
 /// Number `i`, in two's complement.
 #[tactic(auto, unfolding(crate::specs::Buffers::number_at, crate::specs::Buffers::unsigned_at))]
 fn signed_number(bytes: &[u8], width: usize, i: usize) -> i128
@@ -45,20 +86,6 @@ fn signed_number(bytes: &[u8], width: usize, i: usize) -> i128
     ensures { result ≡ number_at true width bytes.now i }
 {
     LittleEndian::read_int128(&bytes[width * i..], width)
-}
-
-/// Number `i`.
-#[tactic(auto, unfolding(crate::specs::Buffers::number_at, crate::specs::Buffers::unsigned_at))]
-pub fn number(bytes: &[u8], width: IntWidth, signed: bool, i: usize) -> i128
-    requires { bytes_in width * (i + 1) ≤ length bytes.now }
-    ensures { result ≡ number_at signed (bytes_in width) bytes.now i }
-{
-    let width = width.bytes();
-    if signed {
-        signed_number(bytes, width, i)
-    } else {
-        i128::from(LittleEndian::read_uint(&bytes[width * i..], width))
-    }
 }
 
 /// Decimal `i`, unscaled.

@@ -1,7 +1,6 @@
 -- Readings one after the other, by ranges and by runs of slots that are all null or all valid.
 use Rattle.std.proofs.Common.{
   ◌≡◌,
-  ◌⊎◌,
   inl,
   inr,
   ℕ,
@@ -19,18 +18,17 @@ use Rattle.std.proofs.Common.{
   refl,
   true,
   false,
-  ap,
   sym,
   subst,
   ◌∙◌,
   arith,
 }
-use Rattle.std.specs.Prelude.{Ok, Err, if◌then◌else◌}
+use Rattle.std.specs.Prelude.{Ok, if◌then◌else◌}
 use Rattle.std.proofs.lemmas.Bool.{cases_lt}
 use Rattle.std.proofs.lemmas.List.{length-take}
 use Rattle.values.specs.declared.faults.StreamFault.{StreamFault}
 use Rattle.values.specs.Datum.{Datum, null}
-use Rattle.values.specs.Reading.{Reading, both, cons, each, Stands, IsValid, Decides}
+use Rattle.values.specs.Reading.{Reading, cons, each, Stands, IsValid, Decides}
 use Rattle.values.proofs.Readings.{
   both_left,
   both_right,
@@ -200,8 +198,8 @@ slot_fault bits f i c h stands =
 
 -- a loop's fault, by what it has left
 pub each_fault :
-    {X W : Type 0} (f : ℕ → Reading X) (i n : ℕ) (w : Reading W) (c : StreamFault) → Decides (each f i (n - i)) w → i < n
-    → Stands (f i) c → Stands w c
+    {X W : Type 0} (f : ℕ → Reading X) (i n : ℕ) (w : Reading W) (c : StreamFault) → Decides (each f i (n - i)) w
+    → i < n → Stands (f i) c → Stands w c
 each_fault f i n w c left below stands = decides_fault f i n w c below stands left
 
 pub slot_stands :

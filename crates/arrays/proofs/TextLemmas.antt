@@ -20,7 +20,6 @@ use Rattle.std.proofs.Common.{
   take,
   drop,
   ap,
-  sym,
   subst,
   ◌∙◌,
   arith,
@@ -125,7 +124,8 @@ boundary_at o offsets values from to k fit begin low high some =
       | inr g ↦
           let last : to ≡ k = omega (arith, g, high) in
           let long : length whole ≡ b - a =
-          part_long values a b (offsets_rise o offsets to (length values) from to fit (omega (arith, some)) (omega arith))
+          part_long values a b
+          (offsets_rise o offsets to (length values) from to fit (omega (arith, some)) (omega arith))
           (offsets_end o offsets to (length values) from to fit some (omega arith)) in
           subst (λ (n : ℕ). IsCharBoundary whole (offset_at o offsets n - a)) last
           (subst (IsCharBoundary whole) long (IsCharBoundary-end whole))

@@ -1,7 +1,6 @@
--- What is known of a slot of a sound array, and how ranges of its slots are validated: child by child, and list by list.
+-- What is known of a slot of a sound array, and how ranges of its slots are validated: child by child, list by list.
 use Rattle.std.proofs.Common.{
   ◌≡◌,
-  ◌⊎◌,
   inl,
   inr,
   ℕ,
@@ -268,7 +267,8 @@ pub columns_step :
     → Decides (columns b bits (kids_of (drop (k + 1) ts)) i n) w
 columns_step b bits ts k e d i n w is below valid left =
     let P : Roses ArrayData → Type 0 = λ r. Decides (columns b bits r i n) w in
-    decides_both second (each (where_valid bits (cell b e)) i n) (columns b bits (kids_of (drop (k + 1) ts)) i n) w valid
+    decides_both second (each (where_valid bits (cell b e)) i n) (columns b bits (kids_of (drop (k + 1) ts)) i n) w
+    valid
     (subst P (kids_step ts k e d is below) left)
 
 pub columns_fault :
@@ -278,8 +278,8 @@ pub columns_fault :
     → Stands w c
 columns_fault b bits ts k e d i n w c is below stands left =
     let P : Roses ArrayData → Type 0 = λ r. Decides (columns b bits r i n) w in
-    decides_both_fault second (each (where_valid bits (cell b e)) i n) (columns b bits (kids_of (drop (k + 1) ts)) i n) w
-    c stands
+    decides_both_fault second (each (where_valid bits (cell b e)) i n) (columns b bits (kids_of (drop (k + 1) ts)) i n)
+    w c stands
     (subst P (kids_step ts k e d is below) left)
 
 pub columns_end :
@@ -421,7 +421,8 @@ pub passes_decimals :
     → Passes r (each (where_valid bits (λ j. decimal_of d (number_at true 16 values j))) i n)
     → Passes r (each (cell b (node p kids)) i n)
 passes_decimals r b p kids d bits values i n plain is bits_are values_are h =
-    let P : List ℕ → Type 0 = λ x. Passes r (each (where_valid x (λ j. decimal_of d (number_at true 16 values j))) i n) in
+    let P : List ℕ → Type 0 =
+    λ x. Passes r (each (where_valid x (λ j. decimal_of d (number_at true 16 values j))) i n) in
     let Q : List ℕ → Type 0 =
     λ x. Passes r (each (where_valid (bytes_of b p.validity) (λ j. decimal_of d (number_at true 16 x j))) i n) in
     subst (Passes r) (all_cells b p kids (Decimal d) i n plain is) (subst Q values_are (subst P bits_are h))
@@ -438,8 +439,8 @@ passes_texts r b p kids o bits offsets values i n plain is bits_are offsets_are 
     let Q : List ℕ → Type 0 =
     λ x. Passes r (each (where_valid (bytes_of b p.validity) (λ j. text_of (slice_at o x values j))) i n) in
     let R : List ℕ → Type 0 =
-    λ x. Passes r (each (where_valid (bytes_of b p.validity) (λ j. text_of (slice_at o (bytes_of b p.offsets) x j))) i n)
-    in
+    λ x. Passes r
+    (each (where_valid (bytes_of b p.validity) (λ j. text_of (slice_at o (bytes_of b p.offsets) x j))) i n) in
     subst (Passes r) (all_cells b p kids (Utf8 o) i n plain is)
     (subst R values_are (subst Q offsets_are (subst P bits_are h)))
 

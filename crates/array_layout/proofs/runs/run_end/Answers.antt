@@ -14,5 +14,6 @@ loop-end-preserved-then-bits-end c =
     record {
       past = omega (arith, inv.past);
       within = omega (arith, inv.within, room);
-      same = all-alike c.args.bits.now c.args.from c.loop-end.end inv.same c.if-not-first.ensures c.if-end-eq0.true c.if-bits-end.true;
+      same = all-alike c.args.bits.now c.args.from c.loop-end.end inv.same c.if-not-first.ensures c.if-end-eq0.true
+          c.if-bits-end.true;
     }

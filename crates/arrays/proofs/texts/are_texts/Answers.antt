@@ -1,4 +1,4 @@
-use Rattle.std.proofs.Common.{arith, length, ◌<◌, ◌≤◌}
+use Rattle.std.proofs.Common.{arith, length}
 use Rattle.arrays.proofs.TextLemmas.{offsets_rise, starts_above, texts_found}
 use Rattle.arrays.proofs.texts.are_texts.Goals as goal
 

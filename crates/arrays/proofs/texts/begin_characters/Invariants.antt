@@ -1,4 +1,4 @@
-use Rattle.std.proofs.Common.{◌≡◌, ℕ, ◌-◌, ◌<◌, ◌≤◌}
+use Rattle.std.proofs.Common.{ℕ, ◌-◌, ◌<◌, ◌≤◌}
 use Rattle.std.specs.Str.{IsCharBoundary}
 use Rattle.array_layout.specs.Buffers.{offset_at}
 use Rattle.arrays.proofs.texts.begin_characters.Given as goal

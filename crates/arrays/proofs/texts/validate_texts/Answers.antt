@@ -1,4 +1,4 @@
-use Rattle.std.proofs.Common.{rules, ℕ, ◌-◌, arith, sym}
+use Rattle.std.proofs.Common.{rules, ℕ, ◌-◌, sym}
 use Rattle.values.specs.declared.faults.StreamFault.{StreamFault}
 use Rattle.values.specs.Datum.{Datum}
 use Rattle.values.specs.Reading.{Reading, Stands, each}

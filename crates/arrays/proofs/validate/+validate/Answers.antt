@@ -1,8 +1,7 @@
-use Rattle.std.proofs.Common.{rules, ℕ, arith, sym, length, ◌<◌, ◌≤◌, ◌-◌}
+use Rattle.std.proofs.Common.{rules, ℕ, arith, sym, ◌≤◌, ◌-◌}
 use Rattle.values.specs.Datum.{Datum}
 use Rattle.values.specs.Reading.{Reading, Stands, each}
 use Rattle.values.specs.Rose.{kids_of}
-use Rattle.array_layout.specs.Buffers.{offset_at}
 use Rattle.array_layout.specs.Cells.{cell, len_of, list_of, items_at}
 use Rattle.arrays.specs.Ranges.{where_valid}
 use Rattle.arrays.proofs.RangeLemmas.{run_valid, run_fault}
@@ -33,7 +32,8 @@ validate_lists-validate_slots-requires t c =
     let end =
     offsets_end c.args.width c.args.offsets.now c.args.to limit c.loop-at.at c.run_end-end.result c.requires.fit
     run.past run.within in
-    let order : c.offset-first.result ≤ c.offset.result = omega (arith, rise, c.offset-first.ensures, c.offset.ensures) in
+    let order : c.offset-first.result ≤ c.offset.result =
+    omega (arith, rise, c.offset-first.ensures, c.offset.ensures) in
     let within : c.offset.result ≤ len_of c.args.items.now = omega (arith, end, c.offset.ensures) in
     search rules
 

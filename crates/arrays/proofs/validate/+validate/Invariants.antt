@@ -1,4 +1,4 @@
-use Rattle.std.proofs.Common.{◌≡◌, ◌+◌, ◌*◌, ◌-◌, ◌≤◌, drop, suc}
+use Rattle.std.proofs.Common.{◌+◌, ◌*◌, ◌-◌, ◌≤◌, drop}
 use Rattle.values.specs.Reading.{Decides, each}
 use Rattle.values.specs.Rose.{kids_of, rose_size, roses_size}
 use Rattle.array_layout.specs.Cells.{cell, row, list_of, structure_of, items_at}
