@@ -19,19 +19,22 @@ use Rattle.std.proofs.Common.{
   sym,
   subst,
   arith,
+  refl,
+  ◌∙◌,
 }
+use Rattle.std.specs.Prelude.{Option, None, Some}
 use Rattle.std.proofs.lemmas.List.{drop_more, drop_all}
 use Rattle.std.proofs.lemmas.Option.{slice_get-get_or}
-use Rattle.std.proofs.lemmas.List.Elements.{All-get_or}
+use Rattle.std.proofs.lemmas.List.Elements.{All-get_or, All-head, All-tail, All-cons, All-weaker}
 use Rattle.values.specs.Limits.{max_cell_weight, max_row_weight}
 use Rattle.values.specs.Datum.{null}
-use Rattle.values.specs.Layouts.{weight}
+use Rattle.values.specs.Layouts.{slot, weight}
 use Rattle.arrays.specs.Checked.{CheckedColumn}
 use Rattle.arrays.specs.Weights.{Says}
 use Rattle.schema_meta.specs.Rows.{row_at}
 use Rattle.feed.specs.Columns.{cells_in, layouts_in}
-use Rattle.liveviews.specs.Kept.{IsLightAs}
-use Rattle.liveviews.specs.Heavy.{row_weight, HasHeavyCell, AreLightCells, IsHeavy, IsLight}
+use Rattle.liveviews.specs.Kept.{IsLightAs, AreLightUpTo}
+use Rattle.liveviews.specs.Heavy.{row_weight, HasHeavyCell, AreLightCells, IsHeavy, IsLight, IsUniform}
 
 abbrev weight_left : List CheckedColumn → ℕ → ℕ
 weight_left cs k = row_weight (layouts_in cs) (row_at (cells_in cs) k)
@@ -130,5 +133,64 @@ weighs-end sum i k columns whole all left =
     let P : List CheckedColumn → Type 0 = λ cs. Weighs sum cs whole k in
     let here : Weighs sum [] whole k = subst P (drop_all i columns all) left in
     record { light = here.light tt (omega (arith, here.below)); exact = omega (arith, here.exact) }
+
+-- rows of columns all of whose cells weigh the same
+
+all_before : (cs : List CheckedColumn) (i : ℕ) (c : CheckedColumn) → i < length cs → c ≡ get_or cs i c → IsUniform c
+    → All IsUniform (drop (i + 1) cs) → All IsUniform (drop i cs)
+all_before cs i c below is here rest =
+    subst (All IsUniform) (sym (split_at cs i c is below)) (All-cons IsUniform c (drop (i + 1) cs) here rest)
+
+pub uniform-step : (cs : List CheckedColumn) (i : ℕ) (c : CheckedColumn) → i < length cs → c ≡ get_or cs i c → IsUniform c
+    → (All IsUniform (drop i cs) → All IsUniform cs) → All IsUniform (drop (i + 1) cs) → All IsUniform cs
+uniform-step cs i c below is here so_far rest = so_far (all_before cs i c below is here rest)
+
+same_cell : (c : CheckedColumn) (i k : ℕ) → IsUniform c → i < length c.cells → k < length c.cells
+    → weight c.layouts (get_or c.cells i null) ≡ weight c.layouts (get_or c.cells k null)
+same_cell c i k even hi hk = even i null hi ∙ sym (even k null hk)
+
+same_weight : (cs : List CheckedColumn) (i k : ℕ) → All IsUniform cs → All (λ c. i < length c.cells) cs → All (λ c. k < length c.cells) cs
+    → weight_left cs i ≡ weight_left cs k
+same_weight [] i k even hi hk = refl
+same_weight (c ∷ cs) i k even hi hk =
+    let I : CheckedColumn → Type 0 = λ x. i < length x.cells in
+    let K : CheckedColumn → Type 0 = λ x. k < length x.cells in
+    let here = same_cell c i k (All-head IsUniform c cs even) (All-head I c cs hi) (All-head K c cs hk) in
+    let rest = same_weight cs i k (All-tail IsUniform c cs even) (All-tail I c cs hi) (All-tail K c cs hk) in
+    omega (arith, here, rest)
+
+same_light : (cs : List CheckedColumn) (i k : ℕ) → All IsUniform cs → All (λ c. i < length c.cells) cs → All (λ c. k < length c.cells) cs
+    → light_left cs i → light_left cs k
+same_light [] i k even hi hk light = tt
+same_light (c ∷ cs) i k even hi hk light =
+    let I : CheckedColumn → Type 0 = λ x. i < length x.cells in
+    let K : CheckedColumn → Type 0 = λ x. k < length x.cells in
+    let here = same_cell c i k (All-head IsUniform c cs even) (All-head I c cs hi) (All-head K c cs hk) in (
+      subst (λ n. n ≤ max_cell_weight) here light.0,
+      same_light cs i k (All-tail IsUniform c cs even) (All-tail I c cs hi) (All-tail K c cs hk) light.1,
+    )
+
+pub rows_there : (cs : List CheckedColumn) (n k : ℕ) → k < n → All (λ (c : CheckedColumn). length c.cells ≡ n) cs
+    → All (λ (c : CheckedColumn). k < length c.cells) cs
+rows_there cs n k below all =
+    let N : CheckedColumn → Type 0 = λ x. length x.cells ≡ n in
+    let K : CheckedColumn → Type 0 = λ x. k < length x.cells in
+    All-weaker N K (λ c h. omega (arith, h, below)) cs all
+
+pub rows-alike :
+    (cs : List CheckedColumn) (n most : ℕ) → 0 < n → All IsUniform cs → All (λ (c : CheckedColumn). length c.cells ≡ n) cs
+    → IsLightAs (layouts_in cs) (row_at (cells_in cs) 0) most → AreLightUpTo (layouts_in cs) (cells_in cs) n most
+rows-alike cs n most some even long first = λ k below.
+    let hi = rows_there cs n 0 some long in
+    let hk = rows_there cs n k below long in
+    let same = same_weight cs 0 k even hi hk in
+    let whole = first.light.whole in
+    (record { cells = same_light cs 0 k even hi hk first.light.cells; whole = omega (arith, whole, same) }, omega (arith, first.exact, same))
+
+pub all-alike :
+    (o : Option ℕ) (cs : List CheckedColumn) (n : ℕ) → 0 < n → All IsUniform cs → All (λ (c : CheckedColumn). length c.cells ≡ n) cs
+    → IfSome o (IsLightAs (layouts_in cs) (row_at (cells_in cs) 0)) → IfSome o (AreLightUpTo (layouts_in cs) (cells_in cs) n)
+all-alike None cs n some even long first = tt
+all-alike (Some w) cs n some even long first = rows-alike cs n w some even long first
 
 pub ruleset weighing = (weighs-all, weighs-heavy, weighs-over, weighs-more, weighs-end)

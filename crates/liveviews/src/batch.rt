@@ -1,11 +1,11 @@
 //! Weighs and copies the rows of a record batch.
 
-ghost use Rattle.std.specs.Prelude.{◌≡◌, ◌<◌, ◌++◌, All, IfOk, IfSome, OnOk, None, length};
+ghost use Rattle.std.specs.Prelude.{◌≡◌, ◌<◌, ◌++◌, All, IfOk, IfSome, OnOk, None, length, true};
 ghost use Rattle.values.specs.Datum.{items_of};
 ghost use Rattle.values.specs.Layouts.{HoldsEach};
 ghost use Rattle.schema_meta.specs.Rows.{row_at, rows_in};
 ghost use Rattle.feed.specs.Columns.{cells_in, layouts_in};
-ghost use Rattle.liveviews.specs.Heavy.{IsHeavy};
+ghost use Rattle.liveviews.specs.Heavy.{IsHeavy, IsUniform};
 ghost use Rattle.liveviews.specs.Taken.{HasHeavyRow, cells_of_rows};
 ghost use Rattle.liveviews.specs.Kept.{AreLightUpTo, IsLightAs};
 ghost use Rattle.row_keys.specs.Batches.{HoldsCells};
@@ -50,12 +50,38 @@ fn weigh_row(columns: &[Column], index: usize) -> Option<u64>
     Some(sum)
 }
 
+/// Whether in each column all cells weigh the same.
+fn are_uniform(columns: &[Column]) -> bool
+    ensures { result ≡ true → All IsUniform columns.now }
+{
+    for column in columns {
+        if !column.is_uniform() {
+            return false;
+        }
+    }
+    true
+}
+
+/// The weight of each of `count` rows that weigh the same, or `None` if they are too heavy.
+fn weigh_alike(columns: &[Column], count: usize) -> Option<u64>
+    requires some { 0 < count }
+    requires sized { All (λ c. length c.cells ≡ count) columns.now }
+    requires uniform { All IsUniform columns.now }
+    ensures heavy { result ≡ None → HasHeavyRow (layouts_in columns.now) (cells_in columns.now) count }
+    ensures light { IfSome result (AreLightUpTo (layouts_in columns.now) (cells_in columns.now) count) }
+{
+    weigh_row(columns, 0)
+}
+
 /// A weight that none of the first `count` rows passes, or `None` if one of them is too heavy.
 pub(crate) fn heaviest_row(columns: &[Column], count: usize) -> Option<u64>
     requires { All (λ c. length c.cells ≡ count) columns.now }
     ensures heavy { result ≡ None → HasHeavyRow (layouts_in columns.now) (cells_in columns.now) count }
     ensures light { IfSome result (AreLightUpTo (layouts_in columns.now) (cells_in columns.now) count) }
 {
+    if count > 0 && are_uniform(columns) {
+        return weigh_alike(columns, count);
+    }
     let mut most = 0;
     for index in 0..count {
         let Some(weight) = weigh_row(columns, index) else {
