@@ -1,0 +1,115 @@
+#!/usr/bin/env python3
+"""Runs the built lv, or the program that is named, over streams that claim much and hold little.
+
+Each is a few hundred bytes to 200 KB long. The program must answer what docs/FORMAT.md says, in the memory and the time that stand here.
+"""
+import os
+import resource
+import subprocess
+import sys
+import tempfile
+import time
+
+sys.dont_write_bytecode = True
+from claims import END_MARK, FIXED, LIST, STRUCT, batch, empty_bytes, empty_struct, field, list_of, offsets, schema
+
+LV = "crates/lv/out/lv"
+MOST_ROWS = 1 << 24
+MOST_NODE = (1 << 31) - 1
+# A list weighs 5 and each item without a byte 1.
+MOST_ITEMS = (1 << 20) - 5
+MEGABYTE = 1 << 20
+END, HEAVY = "end", "refused 45 CellTooHeavy"
+
+
+def lists(item, counts):
+    """One column of lists that claim so many items each."""
+    ends = [0]
+    for count in counts:
+        ends.append(ends[-1] + count)
+    nodes = [len(counts), ends[-1]]
+    return [schema([list_of("l", item)]), batch(len(counts), nodes, [b"", offsets(*ends), *own_buffers(item)]), END_MARK]
+
+
+def own_buffers(item):
+    return [b"", b""] if item.slots[2] == ("B", FIXED) else [b""]
+
+
+def wide_lists(items, rows):
+    """Lists of structs with 1,000 children of no width."""
+    children = [empty_bytes(f"c{it}") for it in range(1000)]
+    total = items * rows
+    ends = range(0, total + 1, items)
+    item = field("item", STRUCT, children=children)
+    return [
+        schema([field("l", LIST, children=[item])]),
+        batch(rows, [rows, total] + [total] * 1000, [b"", offsets(*ends), b""] + [b"", b""] * 1000),
+        END_MARK,
+    ]
+
+
+def rows_of(fields, rows, buffers, again=()):
+    nodes = [rows] * len(fields)
+    more = [batch(it, [it] * len(fields), buffers) for it in again]
+    return [schema(fields), batch(rows, nodes, buffers), *more, END_MARK]
+
+
+def claims():
+    """The name, the stream, and the wanted last lines of inspect and, where it is run, of recast."""
+    bare, empty = empty_struct("i"), empty_bytes("i")
+    yield "1 list of as many items as weigh least", lists(bare, [MOST_ITEMS]), END, None
+    yield "1 list of one item more", lists(bare, [MOST_ITEMS + 1]), END, HEAVY
+    yield "1 list of all items that there can be", lists(bare, [MOST_NODE]), END, HEAVY
+    yield "the same of empty bytes", lists(empty, [MOST_NODE]), END, HEAVY
+    yield "2,047 lists of 2^20 items", lists(empty, [MOST_ITEMS] * 2047), END, None
+    yield "1,000 lists of 1,024 structs of 1,000 children", wide_lists(1024, 1000), END, None
+    yield "2^24 rows of empty bytes", rows_of([empty], MOST_ROWS, [b"", b""]), END, None
+    yield "2^24 rows of empty bytes and one more", rows_of([empty], MOST_ROWS, [b"", b""], [1]), END, None
+    yield "2^24 rows of empty structs", rows_of([bare], MOST_ROWS, [b""]), END, None
+    yield "2^24 rows of no columns", rows_of([], MOST_ROWS, []), END, None
+    many = [empty_bytes(f"c{it}") for it in range(1024)]
+    yield "2^24 rows of 1,024 columns of empty bytes", rows_of(many, MOST_ROWS, [b"", b""] * 1024), END, None
+
+
+def limited(words, seconds, megabytes):
+    """The last line that a program prints within its time and memory, with what it took."""
+
+    def limit():
+        resource.setrlimit(resource.RLIMIT_AS, (megabytes * MEGABYTE,) * 2)
+
+    began = time.monotonic()
+    try:
+        ran = subprocess.run(words, stdout=subprocess.PIPE, text=True, preexec_fn=limit, timeout=seconds)
+        said = (ran.stdout.splitlines() or [f"status {ran.returncode}"])[-1]
+    except subprocess.TimeoutExpired:
+        said = f"took more than {seconds} s"
+    return said, time.monotonic() - began
+
+
+def main():
+    os.chdir(os.path.dirname(os.path.dirname(os.path.abspath(__file__))))
+    lv = os.path.abspath(sys.argv[1] if len(sys.argv) > 1 else LV)
+    if not os.access(lv, os.X_OK):
+        sys.exit(f"{lv} is not there; make lv builds it")
+    failed, tried = 0, 0
+    with tempfile.TemporaryDirectory(prefix="lv-claims-") as folder:
+        stream, output = f"{folder}/in", f"{folder}/out"
+        for name, parts, inspected, recast in claims():
+            with open(stream, "wb") as file:
+                file.writelines(parts)
+            for wanted, words in ((inspected, ["inspect", stream]), (recast, ["recast", stream, output])):
+                if wanted is None:
+                    continue
+                said, seconds = limited([lv, *words], 10, 64)
+                tried += 1
+                if said != wanted and not said.startswith(f"{wanted} "):
+                    failed += 1
+                    print(f"claims: {name}: {words[0]}: FAILED: {said} in {seconds:.1f} s, wanted {wanted}")
+                elif "-v" in sys.argv:
+                    print(f"claims: {name}: {words[0]}: {said} in {seconds:.2f} s")
+    print(f"claims: {tried - failed} passed, {failed} failed")
+    return 1 if failed else 0
+
+
+if __name__ == "__main__":
+    sys.exit(main())
