@@ -1,0 +1,98 @@
+//! Sessions that are taken apart and made again.
+
+use crate::ledger::{add, cut, open, put, retract, undo};
+use crate::visits::write;
+use session::Session;
+use std::alloc::{AllocError, Global};
+use std::process::Abort;
+use std::test::Fail;
+use stream_writer::MemorySink;
+
+const VIEWS: [&str; 4] = ["top", "sums", "zone", "all"];
+
+/// What the views show, one stream after the other, and how many rows each write opened.
+#[derive(Drop)]
+struct Shown {
+    sink: MemorySink,
+    opened: Vec<u128>,
+}
+
+fn show(rt: &impl Abort, alloc: Global, session: &mut Session) -> Result<Shown, AllocError> {
+    let mut sink = MemorySink::new(alloc);
+    let mut opened = Vec::new(alloc);
+    for view in VIEWS {
+        opened.push(write(rt, session, view, &mut sink))?;
+    }
+    Ok(Shown { sink, opened })
+}
+
+/// The session made again of its parts, over the same stores. It shows the same, and opens as many rows for it.
+fn make_again(rt: &impl Abort, alloc: Global, session: Session) -> Result<Session, Fail> {
+    let mut session = session;
+    let before = show(rt, alloc, &mut session)?;
+    let visits = session.visits();
+    let stale = session.stale();
+    let mut again = Session::from_parts(alloc, session.into_parts()?)?;
+    assert_eq!(rt; again.visits(), visits);
+    assert_eq!(rt; again.stale(), stale);
+    let after = show(rt, alloc, &mut again)?;
+    assert_eq!(rt; after.sink.bytes(), before.sink.bytes());
+    assert_eq!(rt; after.opened.as_slice(), before.opened.as_slice());
+    Ok(again)
+}
+
+/// Rows that tie in an order; one goes and comes back.
+fn ties(rt: &impl Abort, alloc: Global) -> Result<(), Fail> {
+    let mut session = open(rt, alloc)?;
+    for id in 1..4u16 {
+        add(rt, &mut session, id, b'p', 5);
+    }
+    let first = show(rt, alloc, &mut session)?;
+    retract(rt, &mut session, 2);
+    let mut again = make_again(rt, alloc, session)?;
+    undo(rt, &mut again);
+    let last = show(rt, alloc, &mut again)?;
+    assert_eq!(rt; last.sink.bytes(), first.sink.bytes());
+    make_again(rt, alloc, again)?;
+    Ok(())
+}
+
+/// A group whose rows go one by one.
+fn groups(rt: &impl Abort, alloc: Global) -> Result<(), Fail> {
+    let mut session = open(rt, alloc)?;
+    session = make_again(rt, alloc, session)?;
+    add(rt, &mut session, 1, b'p', 9);
+    add(rt, &mut session, 2, b'p', 9);
+    add(rt, &mut session, 3, b'p', 4);
+    for id in 1..4u8 {
+        session = make_again(rt, alloc, session)?;
+        retract(rt, &mut session, id);
+    }
+    make_again(rt, alloc, session)?;
+    Ok(())
+}
+
+/// Rows of a side table that are put, put again and dropped.
+fn lookups(rt: &impl Abort, alloc: Global) -> Result<(), Fail> {
+    let mut session = open(rt, alloc)?;
+    put(rt, &mut session, b'p', b'x');
+    put(rt, &mut session, b'q', b'x');
+    add(rt, &mut session, 1, b'p', 1);
+    add(rt, &mut session, 2, b'q', 1);
+    session = make_again(rt, alloc, session)?;
+    put(rt, &mut session, b'q', b'y');
+    session = make_again(rt, alloc, session)?;
+    put(rt, &mut session, b'p', b'y');
+    session = make_again(rt, alloc, session)?;
+    cut(rt, &mut session, b'q');
+    make_again(rt, alloc, session)?;
+    Ok(())
+}
+
+#[test]
+fn states_hold_no_rows(rt: HostRuntime) -> Result<(), Fail> {
+    ties(&rt, rt.alloc())?;
+    groups(&rt, rt.alloc())?;
+    lookups(&rt, rt.alloc())?;
+    Ok(())
+}
