@@ -94,7 +94,7 @@ part-at : (columns : List (List Datum)) (i j : ℕ) → j < length columns
     → part j (row_cell (row_at columns i)) ≡ get_or (get_or columns j []) i null
 part-at columns i j h =
     ap (λ ds. get_or ds j null) (listed-items_of (row_at columns i))
-        ∙ get_or-map (λ c. get_or c i null) columns j [] null h
+    ∙ get_or-map (λ c. get_or c i null) columns j [] null h
 
 rows-column : (columns : List (List Datum)) (i n j : ℕ) (ds : List Datum) → j < length columns
     → get_or columns j [] ≡ ds
@@ -119,7 +119,7 @@ rows-dropped columns at (suc i) (suc n) h =
     let a : at + 1 + i ≡ at + suc i = omega arith in
     let b : n - i ≡ suc n - suc i = omega arith in
     rows-dropped columns (at + 1) i n (omega (arith, h)) ∙ ap (λ k. rows_from columns k (n - i)) a
-        ∙ ap (rows_from columns (at + suc i)) b
+    ∙ ap (rows_from columns (at + suc i)) b
 
 rows-taken : (columns : List (List Datum)) (at m n : ℕ) → m ≤ n
     → take m (rows_from columns at n) ≡ rows_from columns at m
@@ -141,15 +141,18 @@ pub range-column :
     (columns : List CheckedColumn) (j from to all : ℕ) (c : CheckedColumn) → j < length columns → c ≡ get_or columns j c
     → length c.cells ≡ all → from ≤ to → to ≤ all
     → map (part j) (row_cells (take (to - from) (drop from (rows_in all (cells_in columns))))) ≡ take (to - from) (drop
-        from c.cells)
+    from c.cells)
 range-column columns j from to all c h e size order within =
     let items : CheckedColumn → List Datum = λ x. x.cells in
     let room : from + (to - from) ≤ all = omega (arith, order, within) in
     let many = length-map columns items in
     let here : get_or (cells_in columns) j [] ≡ c.cells = get_or-map items columns j c [] h ∙ ap items (sym e) in
     ap (λ rs. map (part j) (row_cells rs)) (rows-cut (cells_in columns) from (to - from) all room)
-    ∙ rows-column (cells_in columns) from (to - from) j c.cells (omega (arith, h, many)) here (omega (arith, room,
-        size))
+    ∙ rows-column (cells_in columns) from (to - from) j c.cells (omega (arith, h, many)) here (omega (
+      arith,
+      room,
+      size,
+    ))
 
 pub column-long : (columns : List CheckedColumn) (j all : ℕ) (c : CheckedColumn) → j < length columns
     → c ≡ get_or columns j c

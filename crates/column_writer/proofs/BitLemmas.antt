@@ -95,7 +95,7 @@ value-set (Utf8 o) body p item others k h = text-set (slice_at o (bytes_of body 
 value-set (Binary o) body p item others k h = refl
 value-set (Listed o) body p item others k h =
     mapped-set _ (items_at item o (bytes_of body p.offsets) k) (λ x. refl) (mapped-valid _ (items_at item o (bytes_of
-        body p.offsets) k) h)
+    body p.offsets) k) h)
 value-set Struct body p item others k h = mapped-set _ (others k) (λ x. refl) (mapped-valid _ (others k) h)
 
 -- a cell is null where its slot is
@@ -109,14 +109,14 @@ cell-set body bits p kids k b n good = by_null (is_null bits k) refl where
   by_null false is =
       let read = plain-cell body p kids p.layout k refl n (ap (λ ys. is_null ys k) (sym b) ∙ is) in
       let set = value-set p.layout body p (λ j. first_cell body kids j) (λ j. row body kids j) k (subst IsValid read
-          good) in
+      good) in
       sym (ap (λ r. is_valid (cell_in r)) read ∙ set)
 
 -- the bit of a slot
 pub cell-truth : (body bits xs : List ℕ) (p : ArrayData) (kids : Roses ArrayData) (k : ℕ) (b : Bool)
     → bits ≡ bytes_of body p.validity
     → xs ≡ bytes_of body p.values → p.dictionary ≡ None → p.layout ≡ Booleans
-        → b ≡ (not (is_null bits k) && bit_at xs k)
+    → b ≡ (not (is_null bits k) && bit_at xs k)
     → b ≡ truth_in (cell_in (cell body (node p kids) k))
 cell-truth body bits xs p kids k t b v n l is = by_null (is_null bits k) refl is where
   by_null : (u : Bool) → is_null bits k ≡ u → t ≡ (not u && bit_at xs k)
@@ -193,7 +193,7 @@ nulls-step body bits p kids at end to nulls more total b same plain all up insid
     let a : at + (end - at) ≡ end = omega (arith, up) in
     let split : slots read at (to - at) ≡ slots read at (end - at) ++ slots read end (to - end) =
     ap (λ n. slots read at n) e ∙ slots-split read at (end - at) (to - end)
-        ∙ ap (λ i. slots read at (end - at) ++ slots read i (to - end)) a in
+    ∙ ap (λ i. slots read at (end - at) ++ slots read i (to - end)) a in
     let sum = ap null_count split ∙ nulls-append (slots read at (end - at)) (slots read end (to - end)) in
     let run = run-nulls read at (end - at) (not b)
     (λ k lo hi. ap not (sym test) ∙ ap not (sym (alike k lo (omega (arith, hi, up))))

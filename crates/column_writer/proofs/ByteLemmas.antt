@@ -77,14 +77,14 @@ text-there t h =
 -- a valid slot has its bytes
 bytes-there :
     (l : Layout) (body : List ℕ) (p : ArrayData) (item : ℕ → Reading Datum) (others : ℕ
-        → Reading (List Datum)) (o : OffsetWidth) (k : ℕ)
+    → Reading (List Datum)) (o : OffsetWidth) (k : ℕ)
     → HasBytes l o → IsValid (value_by l body p item others k)
     → HasTheBytes (cell_in (value_by l body p item others k)) (slice_at o (bytes_of body p.offsets) (bytes_of body
-        p.values) k)
+    p.values) k)
 bytes-there l body p item others o k is h =
     let P : Layout → Type 0 = λ y. IsValid (value_by y body p item others k) in
     let Q : Layout → Type 0 = λ y. HasTheBytes (cell_in (value_by y body p item others k)) (slice_at o (bytes_of body
-        p.offsets) (bytes_of body p.values) k) in
+    p.offsets) (bytes_of body p.values) k) in
     elim is [
       | inl e ↦ subst Q (sym e) (text-there (slice_at o (bytes_of body p.offsets) (bytes_of body p.values) k) (subst P
           e h))
@@ -93,7 +93,7 @@ bytes-there l body p item others o k is h =
 
 pub bytes-valid :
     (body offs xs : List ℕ) (p : ArrayData) (kids : Roses ArrayData) (o : OffsetWidth) (k : ℕ)
-        → offs ≡ bytes_of body p.offsets → xs ≡ bytes_of body p.values
+    → offs ≡ bytes_of body p.offsets → xs ≡ bytes_of body p.values
     → HasBytes p.layout o → p.dictionary ≡ None
     → is_null (bytes_of body p.validity) k ≡ false → IsValid (cell body (node p kids) k)
     → HasTheBytes (cell_in (cell body (node p kids) k)) (slice_range xs (offset_at o offs k) (offset_at o offs (k + 1)))
@@ -101,13 +101,13 @@ unfolding slice_at
 bytes-valid body offs xs p kids o k oe xe l n h valid =
     let read = plain-cell body p kids p.layout k refl n h in
     let there = bytes-there p.layout body p (λ j. first_cell body kids j) (λ j. row body kids j) o k l (subst IsValid
-        read valid) in
+    read valid) in
     let P : Reading Datum → List ℕ → List ℕ → Type 0 = λ r os ys. HasTheBytes (cell_in r) (slice_range ys (offset_at o
-        os k) (offset_at o os (k + 1))) in
+    os k) (offset_at o os (k + 1))) in
     subst (λ r. P r offs xs) (sym read)
     (subst (λ os. P (value_by p.layout body p (λ j. first_cell body kids j) (λ j. row body kids j) k) os xs) (sym oe)
     (subst (λ ys. P (value_by p.layout body p (λ j. first_cell body kids j) (λ j. row body kids j) k) (bytes_of body
-        p.offsets) ys) (sym xe) there))
+    p.offsets) ys) (sym xe) there))
 
 fit-by : (l : Layout) (body : List ℕ) (p : ArrayData) (limit : ℕ) (o : OffsetWidth) → HasBytes l o
     → HasRoom l body p limit → 0 < p.len
@@ -118,14 +118,14 @@ fit-by l body p limit o is room some =
 
 pub fit-of :
     (body offs : List ℕ) (p : ArrayData) (kids : Roses ArrayData) (o : OffsetWidth) → offs ≡ bytes_of body p.offsets
-        → HasBytes p.layout o → IsSound body (node p kids) → 0 < p.len
+    → HasBytes p.layout o → IsSound body (node p kids) → 0 < p.len
     → AreFit o offs p.len p.values.len
 fit-of body offs p kids o e l sound some =
     subst (λ ys. AreFit o ys p.len p.values.len) (sym e) (fit-by p.layout body p (first_len kids) o l sound.0.room some)
 
 pub offsets-rise :
     (o : OffsetWidth) (offs : List ℕ) (len limit at end : ℕ) → AreFit o offs len limit → at ≤ end → end ≤ len
-        → offset_at o offs at ≤ offset_at o offs end
+    → offset_at o offs at ≤ offset_at o offs end
 offsets-rise o offs len limit at end fit h k =
     let e : at + (end - at) ≡ end = omega (arith, h) in
     subst (λ n. offset_at o offs at ≤ offset_at o offs n) e
@@ -133,7 +133,7 @@ offsets-rise o offs len limit at end fit h k =
 
 pub offsets-end :
     (o : OffsetWidth) (offs : List ℕ) (len limit end : ℕ) → AreFit o offs len limit → 0 < end → end ≤ len
-        → offset_at o offs end ≤ limit
+    → offset_at o offs end ≤ limit
 offsets-end o offs len limit zero fit some h = absurd (omega (arith, some))
 offsets-end o offs len limit (suc n) fit some h =
     let e : n + 1 ≡ suc n = omega arith in
@@ -141,7 +141,7 @@ offsets-end o offs len limit (suc n) fit some h =
 
 pub texts-null :
     (body bits : List ℕ) (p : ArrayData) (kids : Roses ArrayData) (at end : ℕ) → bits ≡ bytes_of body p.validity
-        → at ≤ end → is_null bits at ≡ true → AreAlike bits at end
+    → at ≤ end → is_null bits at ≡ true → AreAlike bits at end
     → [] ≡ flat_map bytes_in (slots (cell body (node p kids)) at (end - at))
 texts-null body bits p kids at end b h is same =
     let z : 0 * (end - at) ≡ 0 = omega arith in
@@ -151,20 +151,20 @@ texts-null body bits p kids at end b h is same =
 
 pub texts-valid :
     (body bits offs xs : List ℕ) (p : ArrayData) (kids : Roses ArrayData) (o : OffsetWidth) (at end : ℕ)
-        → bits ≡ bytes_of body p.validity
+    → bits ≡ bytes_of body p.validity
     → offs ≡ bytes_of body p.offsets → xs ≡ bytes_of body p.values → at ≤ end → end ≤ p.len → HasBytes p.layout o
-        → p.dictionary ≡ None
+    → p.dictionary ≡ None
     → IsSound body (node p kids) → AllValid body p kids at end → 0 < p.len → is_null bits at ≡ false
-        → AreAlike bits at end
+    → AreAlike bits at end
     → slice_range xs (offset_at o offs at) (offset_at o offs end) ≡ flat_map bytes_in (slots (cell body (node p kids))
-        at (end - at))
+    at (end - at))
 texts-valid body bits offs xs p kids o at end b oe xe h within l n sound all some is same =
     let fit = fit-of body offs p kids o oe l sound some in
     let past : at + (end - at) ≡ end = omega (arith, h) in
     ap (λ k. slice_range xs (offset_at o offs at) (offset_at o offs k)) (sym past)
     ∙ sym (flat-valid bytes_in (cell body (node p kids)) (λ k. offset_at o offs k) xs at (end - at)
     (λ k lo hi. (bytes-valid body offs xs p kids o k oe xe l n (ap (λ ys. is_null ys k) (sym b)
-        ∙ same k lo (omega (arith, hi, h)) ∙ is) (all k lo (omega (arith, hi, h)))).bytes)
+    ∙ same k lo (omega (arith, hi, h)) ∙ is) (all k lo (omega (arith, hi, h)))).bytes)
     (λ k lo hi. fit.rising k (omega (arith, hi, h, within))))
 
 -- where texts start, slot by slot
@@ -195,7 +195,7 @@ list-fit body p kids o l sound some =
 
 pub list-fit-of :
     (body offs : List ℕ) (p : ArrayData) (kids : Roses ArrayData) (o : OffsetWidth) → offs ≡ bytes_of body p.offsets
-        → p.layout ≡ Listed o
+    → p.layout ≡ Listed o
     → IsSound body (node p kids) → 0 < p.len → AreFit o offs p.len (first_len kids)
 list-fit-of body offs p kids o e l sound some =
     subst (λ ys. AreFit o ys p.len (first_len kids)) (sym e) (list-fit body p kids o l sound some)
@@ -213,7 +213,7 @@ fit-stands o offs len limit k fit h =
 
 pub stands-of :
     (body offs : List ℕ) (p : ArrayData) (kids : Roses ArrayData) (o : OffsetWidth) (k : ℕ)
-        → offs ≡ bytes_of body p.offsets → HasOffsets p.layout o
+    → offs ≡ bytes_of body p.offsets → HasOffsets p.layout o
     → IsSound body (node p kids) → k < p.len → StandsAt o offs k
 stands-of body offs p kids o k e l sound h =
     let some : 0 < p.len = omega (arith, h) in
@@ -230,7 +230,7 @@ list-size (Err fs) n size valid = absurd valid
 -- the length of the text or of the list in slot k
 pub text-length :
     (body bits offs : List ℕ) (p : ArrayData) (kids : Roses ArrayData) (o : OffsetWidth) (k n : ℕ)
-        → bits ≡ bytes_of body p.validity
+    → bits ≡ bytes_of body p.validity
     → offs ≡ bytes_of body p.offsets → HasOffsets p.layout o → p.dictionary ≡ None
     → IsSound body (node p kids) → IsValid (cell body (node p kids) k) → k < p.len
     → n ≡ (if is_null bits k then 0 else offset_at o offs (k + 1) - offset_at o offs k)
@@ -242,7 +242,7 @@ text-length body bits offs p kids o k n b oe l w sound good h e = by (is_null bi
       let fit = fit-of body offs p kids o oe lay sound (omega (arith, h)) in
       let long = range-long body p.values sound.0.own.values in
       let range = length-range (bytes_of body p.values) (offset_at o offs k) (offset_at o offs (k + 1)) (fit.rising k
-          h) (omega (arith, long, fit.within k h)) in
+      h) (omega (arith, long, fit.within k h)) in
       sym range ∙ sym ((bytes-valid body offs (bytes_of body p.values) p kids o k oe refl lay w is good).size)
 
   list-long : p.layout ≡ Listed o → is_null (bytes_of body p.validity) k ≡ false
@@ -253,7 +253,7 @@ text-length body bits offs p kids o k n b oe l w sound good h e = by (is_null bi
       let from : ℕ = offset_at o (bytes_of body p.offsets) k in
       let count : ℕ = offset_at o (bytes_of body p.offsets) (k + 1) - offset_at o (bytes_of body p.offsets) k in
       let size = list-size (items_at item o (bytes_of body p.offsets) k) count (λ ds is_it. each_length item from count
-          ds is_it) (subst IsValid read good) in
+      ds is_it) (subst IsValid read good) in
       ap (λ ys. offset_at o ys (k + 1) - offset_at o ys k) oe ∙ sym size ∙ ap (λ r. length_in (cell_in r)) (sym read)
 
   by : (v : Bool) → is_null bits k ≡ v → n ≡ (if v then 0 else offset_at o offs (k + 1) - offset_at o offs k)
@@ -266,7 +266,7 @@ text-length body bits offs p kids o k n b oe l w sound good h e = by (is_null bi
 
 pub starts-step :
     (o : OffsetWidth) (cell : ℕ → Reading Datum) (i to end n : ℕ) (made next total rest : List ℕ) → i < to
-        → n ≡ length_in (cell_in (cell i))
+    → n ≡ length_in (cell_in (cell i))
     → next ≡ made ++ little_bytes (offset_bytes o) end
     → made ++ offsets_from o end (map length_in (slots cell i (to - i)) ++ rest) ≡ total
     → next ++ offsets_from o (end + n) (map length_in (slots cell (i + 1) (to - (i + 1))) ++ rest) ≡ total
@@ -274,14 +274,14 @@ unfolding offsets_from
 starts-step o cell i to end n made next total rest h e x is =
     let more = map length_in (slots cell (i + 1) (to - (i + 1))) ++ rest in
     ap (λ ys. ys ++ offsets_from o (end + n) more) x ∙ append_assoc made (little_bytes (offset_bytes o) end)
-        (offsets_from o (end + n) more)
+    (offsets_from o (end + n) more)
     ∙ ap (λ m. made ++ (little_bytes (offset_bytes o) end ++ offsets_from o (end + m) more)) e
     ∙ ap (λ cs. made ++ offsets_from o end (map length_in cs ++ rest)) (sym (slots-next cell i to h)) ∙ is
 
 pub end-step :
     (cell : ℕ → Reading Datum) (i to end n total : ℕ) → i < to → n ≡ length_in (cell_in (cell i))
     → end + total_length (slots cell i (to - i)) ≡ total
-        → (end + n) + total_length (slots cell (i + 1) (to - (i + 1))) ≡ total
+    → (end + n) + total_length (slots cell (i + 1) (to - (i + 1))) ≡ total
 end-step cell i to end n total h e is =
     let next = ap total_length (slots-next cell i to h) in
     omega (arith, next, e, is)
@@ -289,7 +289,7 @@ end-step cell i to end n total h e is =
 pub starts-over :
     (o : OffsetWidth) (cell : ℕ → Reading Datum) (i to end : ℕ) (made total rest : List ℕ) → to ≤ i
     → made ++ offsets_from o end (map length_in (slots cell i (to - i)) ++ rest) ≡ total
-        → made ++ offsets_from o end rest ≡ total
+    → made ++ offsets_from o end rest ≡ total
 starts-over o cell i to end made total rest h is =
     ap (λ cs. made ++ offsets_from o end (map length_in cs ++ rest)) (sym (slots-none cell i to h)) ∙ is
 

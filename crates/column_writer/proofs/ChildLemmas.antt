@@ -135,9 +135,9 @@ gives-items f i n (Err fs) is valid = absurd valid
 
 pub list-gives :
     (b : List ℕ) (p : ArrayData) (ts : List (Rose ArrayData)) (e : Rose ArrayData) (o : OffsetWidth) (k : ℕ)
-        → p.layout ≡ Listed o → p.dictionary ≡ None
+    → p.layout ≡ Listed o → p.dictionary ≡ None
     → e ≡ get_or ts 0 e → 0 < length ts → is_null (bytes_of b p.validity) k ≡ false
-        → IsValid (cell b (node p (kids_of ts)) k)
+    → IsValid (cell b (node p (kids_of ts)) k)
     → GivesItems (cell b e) (cell b (node p (kids_of ts)) k) (offset_at o (bytes_of b p.offsets) k)
     (offset_at o (bytes_of b p.offsets) (k + 1) - offset_at o (bytes_of b p.offsets) k)
 list-gives b p ts e o k l n is some there good =
@@ -155,9 +155,9 @@ list-gives b p ts e o k l n is some there good =
 -- Slots whose items lie between places that rise: the items of a run lie between the first place and the last.
 pub items-run :
     (read item : ℕ → Reading Datum) (at : ℕ → ℕ) (i n : ℕ) → ((k : ℕ) → i ≤ k → k < i + n
-        → GivesItems item (read k) (at k) (at (k + 1) - at k))
+    → GivesItems item (read k) (at k) (at (k + 1) - at k))
     → ((k : ℕ) → i ≤ k → k < i + n → at k ≤ at (k + 1))
-        → flat_map items_in (slots read i n) ≡ slots item (at i) (at (i + n) - at i)
+    → flat_map items_in (slots read i n) ≡ slots item (at i) (at (i + n) - at i)
 unfolding slots
 items-run read item at i zero gives rising =
     let here : i + 0 ≡ i = omega arith in
@@ -168,19 +168,19 @@ items-run read item at i (suc n) gives rising =
     let up = rising i (omega arith) (omega arith) in
     let far = rises-far at (i + 1) n (λ k a b. rising k (omega (arith, a)) (omega (arith, b))) in
     let rest = items-run read item at (i + 1) n (λ k a b. gives k (omega (arith, a)) (omega (arith, b))) (λ k a b.
-        rising k (omega (arith, a)) (omega (arith, b))) in
+    rising k (omega (arith, a)) (omega (arith, b))) in
     let e : i + 1 + n ≡ i + suc n = omega arith in
     let past : at i + (at (i + 1) - at i) ≡ at (i + 1) = omega (arith, up) in
     let sum : (at (i + 1) - at i) + (at (i + 1 + n) - at (i + 1)) ≡ at (i + 1 + n) - at i = omega (arith, up, far) in
     ap (λ xs. xs ++ flat_map items_in (slots read (i + 1) n)) here.cells
-        ∙ ap (λ xs. slots item (at i) (at (i + 1) - at i) ++ xs) rest
+    ∙ ap (λ xs. slots item (at i) (at (i + 1) - at i) ++ xs) rest
     ∙ ap (λ k. slots item (at i) (at (i + 1) - at i) ++ slots item k (at (i + 1 + n) - at (i + 1))) (sym past)
     ∙ sym (slots-split item (at i) (at (i + 1) - at i) (at (i + 1 + n) - at (i + 1)))
     ∙ ap (slots item (at i)) sum ∙ ap (λ k. slots item (at i) (at k - at i)) e
 
 pub items-good :
     (read item : ℕ → Reading Datum) (at : ℕ → ℕ) (i n : ℕ) → ((k : ℕ) → i ≤ k → k < i + n
-        → GivesItems item (read k) (at k) (at (k + 1) - at k))
+    → GivesItems item (read k) (at k) (at (k + 1) - at k))
     → ((k : ℕ) → i ≤ k → k < i + n → at k ≤ at (k + 1)) → (q : ℕ) → at i ≤ q → q < at (i + n) → IsValid (item q)
 items-good read item at i zero gives rising q lo hi =
     let e : i + 0 ≡ i = omega arith in
@@ -194,8 +194,11 @@ items-good read item at i (suc n) gives rising q lo hi =
     elim (cases_lt q (at (i + 1))) [
       | inl h ↦
           let d : at i + (q - at i) ≡ q = omega (arith, lo) in
-          subst (λ k. IsValid (item k)) d ((gives i (omega arith) (omega arith)).valid (q - at i) (omega (arith, lo,
-              h)))
+          subst (λ k. IsValid (item k)) d ((gives i (omega arith) (omega arith)).valid (q - at i) (omega (
+            arith,
+            lo,
+            h,
+          )))
       | inr h ↦ items-good read item at (i + 1) n (λ k a b. gives k (omega (arith, a)) (omega (arith, b)))
           (λ k a b. rising k (omega (arith, a)) (omega (arith, b))) q h within
     ]
@@ -221,9 +224,9 @@ pub record IsListRun (b : List ℕ) (p : ArrayData) (ts : List (Rose ArrayData))
 
 pub list-run :
     (r : SlotRange) (e : Rose ArrayData) (at end x y : ℕ) (offs : List ℕ) → HasChild (Listed r.offsets) 0 r
-        → r.from ≤ at → at < end → end ≤ r.to
+    → r.from ≤ at → at < end → end ≤ r.to
     → AreSet r.parts.body.now r.parts.own.now at end → e ≡ get_or r.parts.children.now 0 e
-        → offs ≡ bytes_of r.parts.body.now r.parts.own.now.offsets
+    → offs ≡ bytes_of r.parts.body.now r.parts.own.now.offsets
     → x ≡ offset_at r.offsets offs at → y ≡ offset_at r.offsets offs end
     → IsListRun r.parts.body.now r.parts.own.now r.parts.children.now e r.offsets at end x y
 list-run r e at end x y offs lists start order within set is same from to =
@@ -244,7 +247,7 @@ list-run r e at end x y offs lists start order within set is same from to =
 
 run-gives :
     (b : List ℕ) (p : ArrayData) (ts : List (Rose ArrayData)) (e : Rose ArrayData) (o : OffsetWidth) (at end x y : ℕ) →
-        IsListRun b p ts e o at end x y
+    IsListRun b p ts e o at end x y
     → (k : ℕ) → at ≤ k → k < at + (end - at)
     → GivesItems (cell b e) (cell b (node p (kids_of ts)) k) (offset_at o (bytes_of b p.offsets) k)
     (offset_at o (bytes_of b p.offsets) (k + 1) - offset_at o (bytes_of b p.offsets) k)
@@ -255,32 +258,35 @@ run-gives b p ts e o at end x y run k lo hi =
 
 run-rises :
     (b : List ℕ) (p : ArrayData) (ts : List (Rose ArrayData)) (e : Rose ArrayData) (o : OffsetWidth) (at end x y : ℕ) →
-        IsListRun b p ts e o at end x y
+    IsListRun b p ts e o at end x y
     → (k : ℕ) → at ≤ k → k < at + (end - at) → offset_at o (bytes_of b p.offsets) k ≤ offset_at o (bytes_of b
-        p.offsets) (k + 1)
+    p.offsets) (k + 1)
 run-rises b p ts e o at end x y run k lo hi =
     let order = run.order in
     let within = run.within in
-    (list-fit-of b (bytes_of b p.offsets) p (kids_of ts) o refl run.layout run.sound (omega (arith, order,
-        within))).rising k
+    (list-fit-of b (bytes_of b p.offsets) p (kids_of ts) o refl run.layout run.sound (omega (
+      arith,
+      order,
+      within,
+    ))).rising k
     (omega (arith, hi, order, within))
 
 pub run-order :
     (b : List ℕ) (p : ArrayData) (ts : List (Rose ArrayData)) (e : Rose ArrayData) (o : OffsetWidth) (at end x y : ℕ) →
-        IsListRun b p ts e o at end x y
+    IsListRun b p ts e o at end x y
     → x ≤ y
 run-order b p ts e o at end x y run =
     let order = run.order in
     let past : at + (end - at) ≡ end = omega (arith, order) in
     let up = rises-far (λ k. offset_at o (bytes_of b p.offsets) k) at (end - at) (run-rises b p ts e o at end x y run)
-        in
+    in
     let far : offset_at o (bytes_of b p.offsets) at ≤ offset_at o (bytes_of b p.offsets) end =
     subst (λ k. offset_at o (bytes_of b p.offsets) at ≤ offset_at o (bytes_of b p.offsets) k) past up in
     omega (arith, far, run.start, run.stop)
 
 pub run-valid :
     (b : List ℕ) (p : ArrayData) (ts : List (Rose ArrayData)) (e : Rose ArrayData) (o : OffsetWidth) (at end x y : ℕ) →
-        IsListRun b p ts e o at end x y
+    IsListRun b p ts e o at end x y
     → (k : ℕ) → x ≤ k → k < y → IsValid (cell b e k)
 run-valid b p ts e o at end x y run k lo hi =
     let order = run.order in
@@ -289,18 +295,18 @@ run-valid b p ts e o at end x y run k lo hi =
     let stop : y ≡ off (at + (end - at)) = run.stop ∙ ap off past in
     items-good (cell b (node p (kids_of ts))) (cell b e) (λ i. offset_at o (bytes_of b p.offsets) i) at (end - at)
     (run-gives b p ts e o at end x y run) (run-rises b p ts e o at end x y run) k (subst (λ i. i ≤ k) run.start lo)
-        (subst (λ i. k < i) stop hi)
+    (subst (λ i. k < i) stop hi)
 
 pub run-cells :
     (b : List ℕ) (p : ArrayData) (ts : List (Rose ArrayData)) (e : Rose ArrayData) (o : OffsetWidth) (at end x y : ℕ) →
-        IsListRun b p ts e o at end x y
+    IsListRun b p ts e o at end x y
     → slots (cell b e) x (y - x) ≡ flat_map items_in (slots (cell b (node p (kids_of ts))) at (end - at))
 run-cells b p ts e o at end x y run =
     let order = run.order in
     let past : at + (end - at) ≡ end = omega (arith, order) in
     let off : ℕ → ℕ = λ i. offset_at o (bytes_of b p.offsets) i in
     let all = items-run (cell b (node p (kids_of ts))) (cell b e) (λ i. offset_at o (bytes_of b p.offsets) i) at (end -
-        at)
+    at)
     (run-gives b p ts e o at end x y run) (run-rises b p ts e o at end x y run) in
     ap (λ i. slots (cell b e) i (y - i)) run.start ∙ ap (λ i. slots (cell b e) (off at) (i - off at)) run.stop
     ∙ ap (λ i. slots (cell b e) (off at) (off i - off at)) (sym past) ∙ sym all
@@ -309,7 +315,7 @@ run-cells b p ts e o at end x y run =
 
 row-part :
     (b : List ℕ) (ts : List (Rose ArrayData)) (j i : ℕ) (e : Rose ArrayData) (ds : List Datum) → e ≡ get_or ts j e
-        → j < length ts
+    → j < length ts
     → row b (kids_of ts) i ≡ Ok ds → cell b e i ≡ Ok (get_or ds j null)
 row-part b [] j i e ds is below read = absurd (omega (arith, below))
 row-part b (t ∷ ts) zero i e ds is below read =
@@ -337,9 +343,9 @@ gives-part b ts j i e (Err fs) is below same valid = absurd valid
 
 pub struct-gives :
     (b : List ℕ) (p : ArrayData) (ts : List (Rose ArrayData)) (e : Rose ArrayData) (j k : ℕ) → p.layout ≡ Struct
-        → p.dictionary ≡ None
+    → p.dictionary ≡ None
     → e ≡ get_or ts j e → j < length ts → is_null (bytes_of b p.validity) k ≡ false
-        → IsValid (cell b (node p (kids_of ts)) k)
+    → IsValid (cell b (node p (kids_of ts)) k)
     → GivesPart j (cell b e k) (cell b (node p (kids_of ts)) k)
 struct-gives b p ts e j k l n is below there good =
     let read = plain-cell b p (kids_of ts) Struct k l n there in
@@ -354,7 +360,7 @@ parts-run j read child i zero gives = refl
 parts-run j read child i (suc n) gives =
     ap (λ x. x ∷ map (part j) (slots read (i + 1) n)) (gives i (omega arith) (omega arith)).cell
     ∙ ap (λ xs. cell_in (child i) ∷ xs) (parts-run j read child (i + 1) n (λ k a b. gives k (omega (arith, a)) (omega
-        (arith, b))))
+    (arith, b))))
 
 -- child j in a run of structs, none of which is null
 pub record IsPartRun (r : SlotRange) (j : ℕ) (e : Rose ArrayData) (at end : ℕ) : Type 0 where
@@ -369,24 +375,24 @@ long-struct l n kids is long = subst (λ y. AreLong y n kids) is long
 
 pub part-run :
     (r : SlotRange) (j : ℕ) (e : Rose ArrayData) (at end : ℕ) (bits : List ℕ) → HasChild Struct j r → r.from ≤ at
-        → at < end → end ≤ r.to
+    → at < end → end ≤ r.to
     → bits ≡ bytes_of r.parts.body.now r.parts.own.now.validity → is_null bits at ≡ false
     → AreAlike (bytes_of r.parts.body.now r.parts.own.now.validity) at end → e ≡ get_or r.parts.children.now j e
-        → IsPartRun r j e at end
+    → IsPartRun r j e at end
 part-run r j e at end bits structs start order within same set alike is =
     let b = r.parts.body.now in
     let p = r.parts.own.now in
     let ts = r.parts.children.now in
     let checked = structs.own.plain.checked in
     let first : is_null (bytes_of r.parts.body.now r.parts.own.now.validity) at ≡ false = ap (λ ys. is_null ys at) (sym
-        same) ∙ set in
+    same) ∙ set in
     let gives : (k : ℕ) → at ≤ k → k < end → GivesPart j (cell r.parts.body.now e k) (cell r.parts.body.now (node
-        r.parts.own.now (kids_of r.parts.children.now)) k) =
+    r.parts.own.now (kids_of r.parts.children.now)) k) =
     λ k lo hi. struct-gives b p ts e j k structs.own.layout structs.own.plain.plain is structs.below (alike k lo hi
-        ∙ first)
+    ∙ first)
     (checked.valid k (omega (arith, start, lo)) (omega (arith, hi, within))) in
     let long = child-long ts j p.len e is structs.below (long-struct p.layout p.len (kids_of ts) structs.own.layout
-        checked.sound.1) in
+    checked.sound.1) in
     record {
       sound = child-sound b ts j e is structs.below checked.sound.2;
       valid = λ k lo hi. (gives k lo hi).valid;
@@ -406,17 +412,20 @@ null-slots read i (suc n) all =
 
 pub null-run :
     (b : List ℕ) (p : ArrayData) (kids : Roses ArrayData) (at end : ℕ) → at ≤ end
-        → is_null (bytes_of b p.validity) at ≡ true
+    → is_null (bytes_of b p.validity) at ≡ true
     → AreAlike (bytes_of b p.validity) at end → slots (cell b (node p kids)) at (end - at) ≡ replicate (end - at) null
 null-run b p kids at end up is alike =
-    null-slots (cell b (node p kids)) at (end - at) (λ k lo hi. null-cell b p kids k (alike k lo (omega (arith, hi,
-        up)) ∙ is))
+    null-slots (cell b (node p kids)) at (end - at) (λ k lo hi. null-cell b p kids k (alike k lo (omega (
+      arith,
+      hi,
+      up,
+    )) ∙ is))
 
 pub null-parts :
     (j : ℕ) (b : List ℕ) (p : ArrayData) (kids : Roses ArrayData) (at end : ℕ) → at ≤ end
-        → is_null (bytes_of b p.validity) at ≡ true
+    → is_null (bytes_of b p.validity) at ≡ true
     → AreAlike (bytes_of b p.validity) at end → replicate (end - at) null ≡ map (part j) (slots (cell b (node p kids))
-        at (end - at))
+    at (end - at))
 null-parts j b p kids at end up is alike =
     sym (ap (map (part j)) (null-run b p kids at end up is alike) ∙ nulls-map (part j) (end - at))
 
@@ -426,7 +435,7 @@ items-null (suc n) = items-null n
 
 pub null-items :
     (b : List ℕ) (p : ArrayData) (kids : Roses ArrayData) (at end : ℕ) → at ≤ end
-        → is_null (bytes_of b p.validity) at ≡ true
+    → is_null (bytes_of b p.validity) at ≡ true
     → AreAlike (bytes_of b p.validity) at end → [] ≡ flat_map items_in (slots (cell b (node p kids)) at (end - at))
 null-items b p kids at end up is alike = sym (ap (flat_map items_in) (null-run b p kids at end up is alike)
     ∙ items-null (end - at))
@@ -434,7 +443,7 @@ null-items b p kids at end up is alike = sym (ap (flat_map items_in) (null-run b
 -- run after run, one thing a cell
 pub map-run-step :
     {A : Type 0} (f : Datum → A) (read : ℕ → Reading Datum) (at end to : ℕ) (made next chunk total : List A)
-        → at ≤ end → end ≤ to
+    → at ≤ end → end ≤ to
     → chunk ≡ map f (slots read at (end - at)) → next ≡ made ++ chunk → made ++ map f (slots read at (to - at)) ≡ total
     → next ++ map f (slots read end (to - end)) ≡ total
 map-run-step f read at end to made next chunk total up inside e n is =
@@ -443,10 +452,10 @@ map-run-step f read at end to made next chunk total up inside e n is =
     let rest = map f (slots read end (to - end)) in
     let split : slots read at (to - at) ≡ slots read at (end - at) ++ slots read end (to - end) =
     ap (slots read at) more ∙ slots-split read at (end - at) (to - end)
-        ∙ ap (λ i. slots read at (end - at) ++ slots read i (to - end)) past in
+    ∙ ap (λ i. slots read at (end - at) ++ slots read i (to - end)) past in
     ap (λ xs. xs ++ rest) n ∙ append_assoc made chunk rest ∙ ap (λ xs. made ++ (xs ++ rest)) e
     ∙ ap (λ xs. made ++ xs) (sym (ap (map f) split ∙ map-append f (slots read at (end - at)) (slots read end (to -
-        end)))) ∙ is
+    end)))) ∙ is
 
 -- what two columns give to a child, one after the other
 pub child-append : (l : Layout) (j : ℕ) (xs ys : List Datum)
@@ -474,20 +483,20 @@ child-none Struct j = refl
 
 pub child-step :
     (l : Layout) (j : ℕ) (ps : List Piece) (i : ℕ) (p : Piece) (made next total : List Datum) → i < length ps
-        → p ≡ get_or ps i p
+    → p ≡ get_or ps i p
     → next ≡ made ++ child_cells l j (piece_cells p) → made ++ child_cells l j (pieces_cells (drop i ps)) ≡ total
     → next ++ child_cells l j (pieces_cells (drop (i + 1) ps)) ≡ total
 child-step l j ps i p made next total h e n is =
     let rest = pieces_cells (drop (i + 1) ps) in
     ap (λ xs. xs ++ child_cells l j rest) n ∙ append_assoc made (child_cells l j (piece_cells p)) (child_cells l j rest)
     ∙ ap (λ xs. made ++ xs) (sym (child-append l j (piece_cells p) rest))
-        ∙ ap (λ cs. made ++ child_cells l j cs) (sym (pieces-split ps i p h e)) ∙ is
+    ∙ ap (λ cs. made ++ child_cells l j cs) (sym (pieces-split ps i p h e)) ∙ is
 
 pub child-over : (l : Layout) (j : ℕ) (ps : List Piece) (i : ℕ) (made total : List Datum) → length ps ≤ i
     → made ++ child_cells l j (pieces_cells (drop i ps)) ≡ total → made ≡ total
 child-over l j ps i made total h is =
     sym (append-nil made) ∙ ap (λ xs. made ++ xs) (sym (child-none l j))
-        ∙ ap (λ cs. made ++ child_cells l j cs) (sym (pieces-none ps i h)) ∙ is
+    ∙ ap (λ cs. made ++ child_cells l j cs) (sym (pieces-none ps i h)) ∙ is
 
 -- a list's child is its first
 pub first-only : (l : Layout) (o : OffsetWidth) (j : ℕ) (r : SlotRange) → HasChild l j r → l ≡ Listed o → 0 ≡ j

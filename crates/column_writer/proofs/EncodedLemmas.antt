@@ -51,7 +51,7 @@ use Rattle.column_writer.proofs.PieceLemmas.{pieces-split, pieces-none}
 encoded-slot :
     (body : List ℕ) (p : ArrayData) (kids : Roses ArrayData) (w : DictionaryValues) (k : ℕ) → p.dictionary ≡ Some w
     → is_null (bytes_of body p.validity) k ≡ false → cell body (node p kids) k ≡ coded_by p.layout w.values (bytes_of
-        body p.values) k
+    body p.values) k
 unfolding cell_by
 encoded-slot body p kids w k e h =
     rw h (ap (λ d. slot_by d body p (λ j. first_cell body kids j) (λ j. row body kids j) k) e)
@@ -64,20 +64,20 @@ found-value (Some b) m e h = ap cell_in e
 -- the value that is found is the slot's cell
 pub encoded-cell :
     (body : List ℕ) (p : ArrayData) (kids : Roses ArrayData) (w : DictionaryValues) (k : ℕ) (r : Option (Bor Datum))
-        → p.dictionary ≡ Some w
+    → p.dictionary ≡ Some w
     → is_null (bytes_of body p.validity) k ≡ false → IsValid (cell body (node p kids) k)
     → must fault.DictionaryIndex (option_copied r) ≡ coded_by p.layout w.values (bytes_of body p.values) k
     → cell_of r ≡ cell_in (cell body (node p kids) k)
 encoded-cell body p kids w k r e there good found =
     let read = encoded-slot body p kids w k e there in
     found-value r (coded_by p.layout w.values (bytes_of body p.values) k) found (subst IsValid read good)
-        ∙ sym (ap cell_in read)
+    ∙ sym (ap cell_in read)
 
 -- slot after slot
 
 pub encoded-step :
     (read : ℕ → Reading Datum) (i to : ℕ) (r : Option (Bor Datum)) (made next : List (Option (Bor Datum))) (total :
-        List Datum) → i < to
+    List Datum) → i < to
     → cell_of r ≡ cell_in (read i) → next ≡ made ++ r ∷ [] → cells_of made ++ slots read i (to - i) ≡ total
     → cells_of next ++ slots read (i + 1) (to - (i + 1)) ≡ total
 encoded-step read i to r made next total h e n is =
@@ -88,7 +88,7 @@ encoded-step read i to r made next total h e n is =
 
 pub encoded-over :
     (read : ℕ → Reading Datum) (i to : ℕ) (made total : List Datum) → to ≤ i → made ++ slots read i (to - i) ≡ total
-        → made ≡ total
+    → made ≡ total
 encoded-over read i to made total h is =
     sym (append-nil made) ∙ ap (λ xs. made ++ xs) (sym (slots-none read i to h)) ∙ is
 
@@ -97,11 +97,11 @@ encoded-over read i to made total h is =
 pub cells-step :
     (ps : List Piece) (i : ℕ) (p : Piece) (made next total : List Datum) → i < length ps → p ≡ get_or ps i p
     → next ≡ made ++ piece_cells p → made ++ pieces_cells (drop i ps) ≡ total
-        → next ++ pieces_cells (drop (i + 1) ps) ≡ total
+    → next ++ pieces_cells (drop (i + 1) ps) ≡ total
 cells-step ps i p made next total h e n is =
     let rest = pieces_cells (drop (i + 1) ps) in
     ap (λ xs. xs ++ rest) n ∙ append_assoc made (piece_cells p) rest
-        ∙ ap (λ xs. made ++ xs) (sym (pieces-split ps i p h e)) ∙ is
+    ∙ ap (λ xs. made ++ xs) (sym (pieces-split ps i p h e)) ∙ is
 
 pub cells-over : (ps : List Piece) (i : ℕ) (made total : List Datum) → length ps ≤ i
     → made ++ pieces_cells (drop i ps) ≡ total → made ≡ total

@@ -76,16 +76,21 @@ text-runs o ps all = all-slots (HasLayout (Utf8 o)) HasRuns (λ r h. record { pl
     ps all
 
 pub byte-runs : (o : OffsetWidth) (ps : List Piece) → All (OfSlots (HasLayout (Binary o))) ps → All (OfSlots HasRuns) ps
-byte-runs o ps all = all-slots (HasLayout (Binary o)) HasRuns (λ r h. record { plain = h.plain; layout = inr h.layout
-    }) ps all
+byte-runs o ps all = all-slots (HasLayout (Binary o)) HasRuns (λ r h. record {
+  plain = h.plain;
+  layout = inr h.layout;
+}) ps all
 
 pub run-starts : (ps : List Piece) → All (OfSlots HasRuns) ps → All (OfSlots HasStarts) ps
 run-starts ps all = all-slots HasRuns HasStarts (λ r h. record { plain = h.plain; layout = inl h.layout }) ps all
 
 pub list-starts : (o : OffsetWidth) (ps : List Piece) → All (OfSlots (HasLayout (Listed o))) ps
     → All (OfSlots HasStarts) ps
-list-starts o ps all = all-slots (HasLayout (Listed o)) HasStarts (λ r h. record { plain = h.plain; layout = inr
-    h.layout }) ps all
+list-starts o ps all = all-slots (HasLayout (Listed o)) HasStarts (λ r h. record {
+  plain = h.plain;
+  layout = inr
+      h.layout;
+}) ps all
 
 -- children
 

@@ -88,14 +88,14 @@ nulls-items (suc n) = nulls-items n
 -- one null more, as the loop takes them
 pub slots-more : (l : Layout) (n : ℕ) (before made next : List ℕ) → next ≡ made ++ replicate (slot_width l) 0
     → made ≡ before ++ flat_map (slot_bytes l) (replicate n null)
-        → next ≡ before ++ flat_map (slot_bytes l) (replicate (n + 1) null)
+    → next ≡ before ++ flat_map (slot_bytes l) (replicate (n + 1) null)
 slots-more l n before made next grown is =
     let w : ℕ = slot_width l in
     let one : slot_width l * n + slot_width l ≡ slot_width l * (n + 1) = omega arith in
     grown ∙ ap (λ xs. xs ++ replicate w 0) (is ∙ ap (λ xs. before ++ xs) (nulls-flat (slot_bytes l) w n (slot-null l)))
     ∙ append_assoc before (replicate (w * n) 0) (replicate w 0) ∙ ap (λ xs. before ++ xs) (zeros-split (w * n) w)
     ∙ ap (λ k. before ++ replicate k 0) one ∙ ap (λ xs. before ++ xs) (sym (nulls-flat (slot_bytes l) w (n + 1)
-        (slot-null l)))
+    (slot-null l)))
 
 pub slots-none : (l : Layout) (made : List ℕ) → made ≡ made ++ flat_map (slot_bytes l) (replicate 0 null)
 slots-none l made = sym (append-nil made)
@@ -108,7 +108,7 @@ unfolding offsets_from
 same-start o at made next rest is =
     let z : at ≡ at + 0 = omega arith in
     ap (λ xs. xs ++ offsets_from o at rest) is ∙ append_assoc made (little_bytes (offset_bytes o) at) (offsets_from o
-        at rest)
+    at rest)
     ∙ ap (λ n. made ++ (little_bytes (offset_bytes o) at ++ offsets_from o n rest)) z
 
 pub zeros-more : (n : ℕ) (rest : List ℕ) → replicate n 0 ++ (0 ∷ rest) ≡ replicate (n + 1) 0 ++ rest
@@ -132,6 +132,6 @@ pub below-list : (l : Layout) (o : OffsetWidth) (j n : ℕ) (made : List Datum) 
     → made ≡ made ++ child_cells l j (replicate n null)
 below-list l o j n made is =
     sym (append-nil made) ∙ ap (λ cs. made ++ cs) (sym (nulls-items n))
-        ∙ ap (λ y. made ++ child_cells y j (replicate n null)) (sym is)
+    ∙ ap (λ y. made ++ child_cells y j (replicate n null)) (sym is)
 
 pub ruleset null_laws = (nulls-count, nulls-joined, nulls-size, range-size)

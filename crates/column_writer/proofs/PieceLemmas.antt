@@ -63,14 +63,14 @@ pieces-none ps i h = ap pieces_cells (drop_all i ps h)
 
 pub flat-step :
     (f : Datum → List ℕ) (ps : List Piece) (i : ℕ) (p : Piece) (made next total : List ℕ) → i < length ps
-        → p ≡ get_or ps i p
+    → p ≡ get_or ps i p
     → next ≡ made ++ flat_map f (piece_cells p) → made ++ flat_map f (pieces_cells (drop i ps)) ≡ total
     → next ++ flat_map f (pieces_cells (drop (i + 1) ps)) ≡ total
 flat-step f ps i p made next total h e n is =
     let rest = pieces_cells (drop (i + 1) ps) in
     ap (λ xs. xs ++ flat_map f rest) n ∙ append_assoc made (flat_map f (piece_cells p)) (flat_map f rest)
     ∙ ap (λ xs. made ++ xs) (sym (flat-append f (piece_cells p) rest))
-        ∙ ap (λ cs. made ++ flat_map f cs) (sym (pieces-split ps i p h e)) ∙ is
+    ∙ ap (λ cs. made ++ flat_map f cs) (sym (pieces-split ps i p h e)) ∙ is
 
 pub flat-over : (f : Datum → List ℕ) (ps : List Piece) (i : ℕ) (made total : List ℕ) → length ps ≤ i
     → made ++ flat_map f (pieces_cells (drop i ps)) ≡ total → made ≡ total
@@ -79,14 +79,14 @@ flat-over f ps i made total h is = sym (append-nil made)
 
 pub maps-step :
     {A : Type 0} (f : Datum → A) (ps : List Piece) (i : ℕ) (p : Piece) (made next total : List A) → i < length ps
-        → p ≡ get_or ps i p
+    → p ≡ get_or ps i p
     → next ≡ made ++ map f (piece_cells p) → made ++ map f (pieces_cells (drop i ps)) ≡ total
     → next ++ map f (pieces_cells (drop (i + 1) ps)) ≡ total
 maps-step f ps i p made next total h e n is =
     let rest = pieces_cells (drop (i + 1) ps) in
     ap (λ xs. xs ++ map f rest) n ∙ append_assoc made (map f (piece_cells p)) (map f rest)
     ∙ ap (λ xs. made ++ xs) (sym (map-append f (piece_cells p) rest))
-        ∙ ap (λ cs. made ++ map f cs) (sym (pieces-split ps i p h e)) ∙ is
+    ∙ ap (λ cs. made ++ map f cs) (sym (pieces-split ps i p h e)) ∙ is
 
 pub maps-over : {A : Type 0} (f : Datum → A) (ps : List Piece) (i : ℕ) (made total : List A) → length ps ≤ i
     → made ++ map f (pieces_cells (drop i ps)) ≡ total → made ≡ total
@@ -94,12 +94,12 @@ maps-over f ps i made total h is = sym (append-nil made) ∙ ap (λ cs. made ++ 
 
 pub count-step :
     (ps : List Piece) (i : ℕ) (p : Piece) (nulls more total : ℕ) → i < length ps → p ≡ get_or ps i p
-        → more ≡ null_count (piece_cells p)
+    → more ≡ null_count (piece_cells p)
     → nulls + null_count (pieces_cells (drop i ps)) ≡ total
-        → nulls + more + null_count (pieces_cells (drop (i + 1) ps)) ≡ total
+    → nulls + more + null_count (pieces_cells (drop (i + 1) ps)) ≡ total
 count-step ps i p nulls more total h e n is =
     let split = ap null_count (pieces-split ps i p h e)
-        ∙ nulls-append (piece_cells p) (pieces_cells (drop (i + 1) ps)) in
+    ∙ nulls-append (piece_cells p) (pieces_cells (drop (i + 1) ps)) in
     omega (arith, n, split, is)
 
 pub count-over : (ps : List Piece) (i nulls total : ℕ) → length ps ≤ i
@@ -112,7 +112,7 @@ lengths-append (x ∷ xs) ys = let rest = lengths-append xs ys in omega (arith, 
 
 pub total-split : (ps : List Piece) (i : ℕ) (p : Piece) → i < length ps → p ≡ get_or ps i p
     → total_length (pieces_cells (drop i ps)) ≡ total_length (piece_cells p) + total_length (pieces_cells (drop (i + 1)
-        ps))
+    ps))
 total-split ps i p h e =
     ap total_length (pieces-split ps i p h e) ∙ lengths-append (piece_cells p) (pieces_cells (drop (i + 1) ps))
 
@@ -123,9 +123,9 @@ size-split ps i p h e = ap length (pieces-split ps i p h e)
 
 pub starts-step :
     (o : OffsetWidth) (ps : List Piece) (i : ℕ) (p : Piece) (end n : ℕ) (made next total rest : List ℕ)
-        → i < length ps → p ≡ get_or ps i p
+    → i < length ps → p ≡ get_or ps i p
     → ((more : List ℕ) → next ++ offsets_from o n more ≡ made ++ offsets_from o end (map length_in (piece_cells p) ++
-        more))
+    more))
     → made ++ offsets_from o end (map length_in (pieces_cells (drop i ps)) ++ rest) ≡ total
     → next ++ offsets_from o n (map length_in (pieces_cells (drop (i + 1) ps)) ++ rest) ≡ total
 starts-step o ps i p end n made next total rest h e grown is =
@@ -138,7 +138,7 @@ starts-step o ps i p end n made next total rest h e grown is =
 pub starts-over :
     (o : OffsetWidth) (ps : List Piece) (i end : ℕ) (made total : List ℕ) → length ps ≤ i
     → made ++ offsets_from o end (map length_in (pieces_cells (drop i ps)) ++ []) ≡ total
-        → made ++ offsets_from o end [] ≡ total
+    → made ++ offsets_from o end [] ≡ total
 starts-over o ps i end made total h is =
     ap (λ cs. made ++ offsets_from o end (map length_in cs ++ [])) (sym (pieces-none ps i h)) ∙ is
 
@@ -156,10 +156,10 @@ same-bytes Struct o cs = refl
 
 pub slots-alike : (l : Layout) (r : SlotRange) (made next : List ℕ) → HasLayout l r
     → next ≡ made ++ flat_map (slot_bytes r.parts.own.now.layout) (range_cells r)
-        → next ≡ made ++ flat_map (slot_bytes l) (range_cells r)
+    → next ≡ made ++ flat_map (slot_bytes l) (range_cells r)
 slots-alike l r made next lies is =
     is ∙ ap (λ xs. made ++ xs) (ap (λ y. flat_map (slot_bytes y) (range_cells r)) lies.layout
-        ∙ same-bytes l r.offsets (range_cells r))
+    ∙ same-bytes l r.offsets (range_cells r))
 
 -- one piece, and those behind it
 pub all-before : (P : Piece → Type 0) (ps : List Piece) (i : ℕ) (p : Piece) → i < length ps → p ≡ get_or ps i p
@@ -167,4 +167,4 @@ pub all-before : (P : Piece → Type 0) (ps : List Piece) (i : ℕ) (p : Piece) 
     → All P (drop i ps)
 all-before P ps i p h e here rest =
     subst (All P) (sym (drop_more ps i p h ∙ ap (λ q. q ∷ drop (i + 1) ps) (sym e))) (All-cons P p (drop (i + 1) ps)
-        here rest)
+    here rest)

@@ -52,7 +52,7 @@ slots-split cell i (suc m) n =
     let e : i + 1 + m ≡ i + suc m = omega arith in
     let z : suc m + n ≡ suc (m + n) = omega arith in
     ap (λ k. slots cell i k) z ∙ ap (λ xs. cell_in (cell i) ∷ xs) (slots-split cell (i + 1) m n
-        ∙ ap (λ k. slots cell (i + 1) m ++ slots cell k n) e)
+    ∙ ap (λ k. slots cell (i + 1) m ++ slots cell k n) e)
 
 pub flat-append : {A : Type 0} (f : Datum → List A) (xs ys : List Datum)
     → flat_map f (xs ++ ys) ≡ flat_map f xs ++ flat_map f ys
@@ -66,7 +66,7 @@ zeros-split m n = replicate-append-replicate {A = ℕ} m n 0
 -- a run of nulls
 pub flat-nulls :
     (f : Datum → List ℕ) (cell : ℕ → Reading Datum) (w i n : ℕ) → f null ≡ replicate w 0 → ((k : ℕ) → i ≤ k
-        → k < i + n → cell k ≡ Ok null)
+    → k < i + n → cell k ≡ Ok null)
     → flat_map f (slots cell i n) ≡ replicate (w * n) 0
 unfolding slots
 flat-nulls f cell w i zero z h = let e : w * 0 ≡ 0 = omega arith in ap (λ (k : ℕ). replicate k 0) (sym e)
@@ -99,7 +99,7 @@ range-none xs a = let e : a - a ≡ 0 = omega arith in rw e refl
 pub flat-valid :
     (f : Datum → List ℕ) (cell : ℕ → Reading Datum) (at : ℕ → ℕ) (xs : List ℕ) (i n : ℕ)
     → ((k : ℕ) → i ≤ k → k < i + n → f (cell_in (cell k)) ≡ slice_range xs (at k) (at (k + 1))) → ((k : ℕ) → i ≤ k
-        → k < i + n → at k ≤ at (k + 1))
+    → k < i + n → at k ≤ at (k + 1))
     → flat_map f (slots cell i n) ≡ slice_range xs (at i) (at (i + n))
 unfolding slots
 flat-valid f cell at xs i zero same rising = let e : i ≡ i + 0 = omega arith in subst (λ k. [] ≡ slice_range xs (at i)
@@ -109,16 +109,16 @@ flat-valid f cell at xs i (suc n) same rising =
     let up = rising i (omega arith) (omega arith) in
     let far = rises-far at (i + 1) n (λ k a b. rising k (omega (arith, a)) (omega (arith, b))) in
     let rest = flat-valid f cell at xs (i + 1) n (λ k a b. same k (omega (arith, a)) (omega (arith, b))) (λ k a b.
-        rising k (omega (arith, a)) (omega (arith, b))) in
+    rising k (omega (arith, a)) (omega (arith, b))) in
     let e : i + 1 + n ≡ i + suc n = omega arith in
     rw (here, rest) (range-split xs (at i) (at (i + 1)) (at (i + 1 + n)) up far
-        ∙ ap (λ k. slice_range xs (at i) (at k)) e)
+    ∙ ap (λ k. slice_range xs (at i) (at k)) e)
 
 -- a slot by whether it is null
 
 pub null-cell :
     (body : List ℕ) (p : ArrayData) (kids : Roses ArrayData) (k : ℕ) → is_null (bytes_of body p.validity) k ≡ true
-        → cell body (node p kids) k ≡ Ok null
+    → cell body (node p kids) k ≡ Ok null
 unfolding cell_by
 null-cell body p kids k h = rw h refl
 
@@ -126,7 +126,7 @@ null-cell body p kids k h = rw h refl
 pub run-next :
     {A : Type 0} (f : Datum → List A) (cell : ℕ → Reading Datum) (at end to : ℕ) → at ≤ end → end ≤ to
     → flat_map f (slots cell at (to - at)) ≡ flat_map f (slots cell at (end - at)) ++ flat_map f (slots cell end (to -
-        end))
+    end))
 run-next f cell at end to h k =
     let e : to - at ≡ (end - at) + (to - end) = omega (arith, h, k) in
     let a : at + (end - at) ≡ end = omega (arith, h) in
@@ -136,9 +136,9 @@ run-next f cell at end to h k =
 
 pub run-step :
     {A : Type 0} (f : Datum → List A) (cell : ℕ → Reading Datum) (at end to : ℕ) (made next chunk total : List A)
-        → at ≤ end → end ≤ to
+    → at ≤ end → end ≤ to
     → chunk ≡ flat_map f (slots cell at (end - at)) → next ≡ made ++ chunk
-        → made ++ flat_map f (slots cell at (to - at)) ≡ total
+    → made ++ flat_map f (slots cell at (to - at)) ≡ total
     → next ++ flat_map f (slots cell end (to - end)) ≡ total
 run-step f cell at end to made next chunk total h k e n is =
     let rest = flat_map f (slots cell end (to - end)) in

@@ -88,7 +88,7 @@ decimal-valid d z h = by_test (nat_lt (nat_abs z) (10 ^ d)) h where
 slot-value :
     (l : Layout) (body : List ℕ) (p : ArrayData) (item : ℕ → Reading Datum) (others : ℕ → Reading (List Datum)) (k : ℕ)
     → ((n : ℕ) → slice_index (bytes_of body p.values) n < 256)
-        → slot_width l * (k + 1) ≤ length (bytes_of body p.values)
+    → slot_width l * (k + 1) ≤ length (bytes_of body p.values)
     → IsValid (value_by l body p item others k)
     → slot_bytes l (cell_in (value_by l body p item others k))
     ≡ slice_range (bytes_of body p.values) (slot_width l * k) (slot_width l * (k + 1))
@@ -129,7 +129,7 @@ pub slots-null :
 slots-null body bits p kids m at end b e h is same =
     ap (λ n. replicate (n * (end - at)) 0) e
     ∙ sym (flat-nulls (slot_bytes p.layout) (cell body (node p kids)) (slot_width p.layout) at (end - at) (slot-null
-        p.layout)
+    p.layout)
     (λ k l u. null-cell body p kids k (ap (λ xs. is_null xs k) (sym b) ∙ same k l (omega (arith, u, h)) ∙ is)))
 
 -- a run of valid slots
@@ -151,22 +151,26 @@ slots-valid body bits xs p kids m at end b v e h inside n valid small room is sa
     ap (λ k. slice_range xs (k * at) (k * end)) e ∙ ap (λ k. slice_range xs (w * at) (w * k)) (sym past)
     ∙ sym (flat-valid (slot_bytes p.layout) (cell body (node p kids)) (λ k. w * k) xs at (end - at)
     (λ k lo hi. slot-here k (same k lo (omega (arith, hi, h))
-        ∙ is) (omega (arith, hi, h)) fits (valid k lo (omega (arith, hi, h))))
+    ∙ is) (omega (arith, hi, h)) fits (valid k lo (omega (arith, hi, h))))
     (λ k lo hi. let up : k ≤ k + 1 = omega arith in mul-le-mul_left w up))
   where
     slot-here : (k : ℕ) → is_null bits k ≡ false → k + 1 ≤ end → slot_width p.layout * end ≤ length xs
         → IsValid (cell body (node p kids) k) → slot_bytes p.layout (cell_in (cell body (node p kids) k)) ≡ slice_range
-            xs (slot_width p.layout * k) (slot_width p.layout * (k + 1))
+        xs (slot_width p.layout * k) (slot_width p.layout * (k + 1))
     slot-here k valid_here below fits good =
         let w : ℕ = slot_width p.layout in
         let read = plain-cell body p kids p.layout k refl n (ap (λ ys. is_null ys k) (sym b) ∙ valid_here) in
         let within = mul-le-mul_left w below in
         let long = ap length v in
         let bytes : (i : ℕ) → slice_index (bytes_of body p.values) i < 256 = subst (λ ys. (i : ℕ)
-            → slice_index ys i < 256) v small in
+        → slice_index ys i < 256) v small in
         ap (λ r. slot_bytes p.layout (cell_in r)) read
-        ∙ slot-value p.layout body p (λ j. first_cell body kids j) (λ j. row body kids j) k bytes (omega (arith,
-            within, fits, long))
+        ∙ slot-value p.layout body p (λ j. first_cell body kids j) (λ j. row body kids j) k bytes (omega (
+          arith,
+          within,
+          fits,
+          long,
+        ))
         (subst IsValid read good)
         ∙ ap (λ ys. slice_range ys (w * k) (w * (k + 1))) (sym v)
 

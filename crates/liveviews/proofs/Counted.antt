@@ -24,5 +24,5 @@ pub as-many : (columns : List CheckedColumn) (fs : List (Rose Entry)) → layout
     → length columns ≡ length fs
 as-many columns fs e =
     sym (length-map columns (λ (c : CheckedColumn). c.layouts))
-        ∙ sym (count-kids (map (λ (c : CheckedColumn). c.layouts) columns))
+    ∙ sym (count-kids (map (λ (c : CheckedColumn). c.layouts) columns))
     ∙ ap count e ∙ count-layouts (kids_of fs) ∙ count-kids fs

@@ -90,7 +90,7 @@ light-more ls columns i w most next before here grown above k below = elim (case
 
 row-held :
     (columns : List CheckedColumn) (rows i : ℕ) → All HoldsCells columns
-        → All (λ (c : CheckedColumn). length c.cells ≡ rows) columns
+    → All (λ (c : CheckedColumn). length c.cells ≡ rows) columns
     → i < rows → HoldsEach (layouts_in columns) (items_of (row_at (cells_in columns) i))
 row-held [] rows i holds long below = tt
 row-held (c ∷ cs) rows i holds long below =
@@ -102,7 +102,7 @@ row-held (c ∷ cs) rows i holds long below =
 
 pub fit-rows :
     (columns : List CheckedColumn) (n most : ℕ) → All HoldsCells columns
-        → All (λ (c : CheckedColumn). length c.cells ≡ n) columns
+    → All (λ (c : CheckedColumn). length c.cells ≡ n) columns
     → AreLightUpTo (layouts_in columns) (cells_in columns) n most → AreFit (layouts_in columns) (cells_in columns) n
 fit-rows columns n most holds long light k below =
     record { held = row-held columns n k holds long below; light = (light k below).0 }
@@ -140,14 +140,16 @@ kept-more ls old new b most is long light grown above kept =
     let W : List Datum → Type 0 = λ row. row_weight ls row ≤ new.heaviest in
     let before : All W (rows_of old.batches.items) =
     All-weaker (λ (row : List Datum). row_weight ls row ≤ old.heaviest) W (λ row h. omega (arith, h, grown)) (rows_of
-        old.batches.items)
+    old.batches.items)
     kept.light in
     let here : All W (batch_rows b) = all-rows W (cells_in b.columns.items) 0 b.rows
     (λ k lo hi. let bound = (light k (omega (arith, hi))).1 in omega (arith, bound, above)) in
     record {
       sized = subst (All S) (sym is)
-          (All-append S old.batches.items (b ∷ []) kept.sized (All-cons S b [] (record { columns = refl; cells = long
-              }) (All-nil S)));
+          (All-append S old.batches.items (b ∷ []) kept.sized (All-cons S b [] (record {
+            columns = refl;
+            cells = long;
+          }) (All-nil S)));
       light = subst (All W) (sym (one-more old.batches.items new.batches.items b is))
           (All-append W (rows_of old.batches.items) (batch_rows b) before here);
     }
@@ -173,7 +175,7 @@ writable law weighs fs fields t named kept =
     let many : length fs ≡ length (map logical_field fs) = sym (length-map fs logical_field) in
     let narrow : All (λ (row : List Datum). row_weight (narrow_trees ls) row ≤ t.heaviest) (taken_rows t) =
     All-weaker (λ (row : List Datum). row_weight ls row ≤ t.heaviest) (λ (row : List Datum). row_weight (narrow_trees
-        ls) row ≤ t.heaviest)
+    ls) row ≤ t.heaviest)
     (λ row h. let e = weighs ls (items_of row) in omega (arith, e, h)) (taken_rows t) kept.light in
     let here : IsWritable (map logical_field fs) t = record {
       sized = subst (λ (n : ℕ). All (IsSized n) t.batches.items) many kept.sized;
@@ -189,7 +191,7 @@ pub light-rows : (ls : Roses Layout) (t : Taken) → All (λ (row : List Datum).
     → t.heaviest ≤ max_light_row → AreLightRows ls (taken_rows t)
 light-rows ls t light below =
     All-weaker (λ (row : List Datum). row_weight ls row ≤ t.heaviest) (λ (row : List Datum). row_weight ls row ≤
-        max_light_row)
+    max_light_row)
     (λ row h. omega (arith, h, below)) (taken_rows t) light
 
 pub all-sizes : (n : ℕ) (bs : List Batch) → All (IsSized n) bs → All HasSizes bs

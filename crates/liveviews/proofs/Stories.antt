@@ -380,7 +380,7 @@ columns-refused law held knows st rows old new bytes used columns n body before 
 -- what is kept beside the rows
 pub columns-kept :
     (law : EventTells) (held : NoneHeld) (knows : StoryKnowsSchema) (st : Story) (rows : List (List Datum)) (old new :
-        FeedParts)
+    FeedParts)
     (bytes : List ℕ) (used : ℕ) (columns : List CheckedColumn) (n body : ℕ) (before after : Taken)
     → Came old new bytes used (batch (cells_in columns) n body)
     → IsSomeAnd new.framing.current.known.schema (λ fs. HasColumns fs columns n)

@@ -95,7 +95,7 @@ IsRefusedAs kind r =
 abbrev pub StopsFor : Option (List ℕ) → Sunk → Sunk → Option FileFault → Cause → Type 0
 StopsFor held old new unmade c =
     ((c ≡ cause.Memory) × (new ≡ old)) ⊎ (RefusesFile held c × (new ≡ old)) ⊎ ((c ≡ cause.Memory)
-        × MakesNone held old new unmade file.Memory)
+    × MakesNone held old new unmade file.Memory)
     ⊎ ((written : ℕ) × RecastsFile held old new (Err (record { cause = c; written = written })))
 
 -- what `check` is refused for: a file that can't be read, or has no configuration

@@ -210,7 +210,7 @@ pub opened_session :
     (conf : Config) (names : List (List ℕ)) (links : List Link) (tables : LiveParts) (records : List UndoRecord)
     (capacity : ℕ) (columns : List (List (Rose NamedType))) → IsConfig conf → capacity ≡ 64
     → names ≡ map (λ s. s.name) conf.sides → tables.stores ≡ empty_stores conf → tables.views ≡ conf.views
-        → records ≡ []
+    → records ≡ []
     → ShowsEach (tables_of conf) links (map (opened (tables_of conf)) conf.feeds)
     → columns ≡ map (view_columns (tables_of conf)) conf.views
     → IsSession (opened_parts conf names links tables records) capacity columns

@@ -192,7 +192,7 @@ world_edited tables e old new es held below made =
 
 pub edit_made :
     (tables : List Table) (e : Edit) (old : Rows) (new : List Slot) (rs : List UndoRecord) (past : Past) (c :
-        TableChange)
+    TableChange)
     → e.table < length old
     → Makes (table_at tables e.table) e.change (rows_at old e.table) new (Ok c) → IsChangeOf e.table c
     → ShowsPast tables old rs past

@@ -317,7 +317,7 @@ abbrev pub Follows : (ℕ → Role) → (ℕ → Reading FeedState) → (ℕ →
 Follows roles ends messages streams channels =
     (k : ℕ) (c : Channel) → slice_get channels k ≡ Some c
     → (c.role ≡ roles k) × (messages k ≡ (transcript c.fed (streams k)).events) × Heir (ends k) c.fed (streams k)
-        × Stand
+    × Stand
     (ends k) c.fed (streams k)
 
 -- where one feed goes on
@@ -330,33 +330,33 @@ follows-set :
     → Follows roles ends new left (slice_set channels k (with_feed c fed))
 follows-set roles ends messages new streams left channels k c fed follows there at heir stand messages_stay
     streams_stay j d is = elim (same_by j k) [
-  | inl e ↦ here e.1
-  | inr e ↦ other e.1
-] where
-  here : j ≡ k → (d.role ≡ roles j) × (new j ≡ (transcript d.fed (left j)).events) × Heir (ends j) d.fed (left j)
-      × Stand
-      (ends j) d.fed (left j)
-  here e =
-      let found : with_feed c fed ≡ d = same_Some (with_feed c fed) d
-      (sym (get-set channels k (with_feed c fed) c there) ∙ ap
-      (λ i. slice_get (slice_set channels k (with_feed c fed)) i) (sym e) ∙ is) in
-      subst (λ i. (d.role ≡ roles i) × (new i ≡ (transcript d.fed (left i)).events) × Heir (ends i) d.fed (left i)
+      | inl e ↦ here e.1
+      | inr e ↦ other e.1
+    ] where
+      here : j ≡ k → (d.role ≡ roles j) × (new j ≡ (transcript d.fed (left j)).events) × Heir (ends j) d.fed (left j)
           × Stand
-      (ends i) d.fed (left i)) (sym e)
-      (subst (λ x. (x.role ≡ roles k) × (new k ≡ (transcript x.fed (left k)).events) × Heir (ends k) x.fed (left k)
+          (ends j) d.fed (left j)
+      here e =
+          let found : with_feed c fed ≡ d = same_Some (with_feed c fed) d
+          (sym (get-set channels k (with_feed c fed) c there) ∙ ap
+          (λ i. slice_get (slice_set channels k (with_feed c fed)) i) (sym e) ∙ is) in
+          subst (λ i. (d.role ≡ roles i) × (new i ≡ (transcript d.fed (left i)).events) × Heir (ends i) d.fed (left i)
           × Stand
-      (ends k) x.fed (left k)) found ((follows k c there).0, at, heir, stand))
+          (ends i) d.fed (left i)) (sym e)
+          (subst (λ x. (x.role ≡ roles k) × (new k ≡ (transcript x.fed (left k)).events) × Heir (ends k) x.fed (left k)
+          × Stand
+          (ends k) x.fed (left k)) found ((follows k c there).0, at, heir, stand))
 
-  other : (j ≡ k → ⊥) → (d.role ≡ roles j) × (new j ≡ (transcript d.fed (left j)).events) × Heir (ends j) d.fed (left j)
-      × Stand (ends j) d.fed (left j)
-  other e =
-      let found : slice_get channels j ≡ Some d = sym (get-other channels k j (with_feed c fed) e) ∙ is in
-      let before = follows j d found in (
-        before.0,
-        messages_stay j e ∙ before.1 ∙ ap (λ bs. (transcript d.fed bs).events) (sym (streams_stay j e)),
-        subst (λ bs. Heir (ends j) d.fed bs) (sym (streams_stay j e)) before.2,
-        subst (λ bs. Stand (ends j) d.fed bs) (sym (streams_stay j e)) before.3,
-      )
+      other : (j ≡ k → ⊥) → (d.role ≡ roles j) × (new j ≡ (transcript d.fed (left j)).events) × Heir (ends j) d.fed (left j)
+          × Stand (ends j) d.fed (left j)
+      other e =
+          let found : slice_get channels j ≡ Some d = sym (get-other channels k j (with_feed c fed) e) ∙ is in
+          let before = follows j d found in (
+            before.0,
+            messages_stay j e ∙ before.1 ∙ ap (λ bs. (transcript d.fed bs).events) (sym (streams_stay j e)),
+            subst (λ bs. Heir (ends j) d.fed bs) (sym (streams_stay j e)) before.2,
+            subst (λ bs. Stand (ends j) d.fed bs) (sym (streams_stay j e)) before.3,
+          )
 
 -- the same streams, number by number
 follows-same :
@@ -615,7 +615,7 @@ module _ (laws : FeedLaws) (conf : Config) (ends : ℕ → Reading FeedState) (m
           none_left : (fs : Faults) → gives c.fed (b ∷ bs) ≡ Err fs → messages (place conf name) ≡ []
           none_left fs at =
               (follows (place conf name) c there).1 ∙ ap (λ ys. (transcript c.fed ys).events) begins.1
-                  ∙ ap (λ x. x.events)
+              ∙ ap (λ x. x.events)
               (tells-fault laws c.fed b bs begins.0 fs at)
 
           some_left : 0 < length (put_at (place conf name) (drop (used_of answer) (streams (place conf name))) streams
@@ -965,8 +965,11 @@ module _ (laws : FeedLaws) (conf : Config) (ends : ℕ → Reading FeedState) (m
             → (next : Channel) → FinishBy c broken answer next → t ≡ moved s (place conf name) s.past next
             → Goes conf ends (step.Finish name) (reply.Finish answer) messages streams bytes before s t ls
         by_broken c there true is next h leads =
-            stays (Err (refused cause.FeedBroken)) (λ f e. broken-stream f e) (λ d. d) (h.0, unmoved c there next h.1
-                leads)
+            stays (Err (refused cause.FeedBroken)) (λ f e. broken-stream f e) (λ d. d) (
+              h.0,
+              unmoved c there next h.1
+                  leads,
+            )
         by_broken c there false is next h leads = ending c there is next h leads
 
         by_channel : (o : Option Channel) → slice_get s.channels (place conf name) ≡ o → FinishTo s
@@ -1125,7 +1128,7 @@ run-goes laws conf [] [] ends messages streams bytes before sinks s new after fo
 run-goes laws conf (st ∷ steps)
     (re ∷ replies) ends messages streams bytes before sinks s new after follows took ample offers run =
     let g : Goes conf ends st re messages streams bytes before s run.0 run.1 = step-goes laws conf ends messages
-        streams bytes before sinks s run.0 run.1 follows took st re (first-ample st re replies ample) offers.0 run.2 in
+    streams bytes before sinks s run.0 run.1 follows took st re (first-ample st re replies ample) offers.0 run.2 in
     let r = run-goes laws conf steps replies ends g.messages_left
     (left_after conf streams st re) g.bytes_left before run.1 run.0 new after g.follows g.took
     (rest-ample re replies ample) offers.1 run.3 in
@@ -1194,14 +1197,14 @@ pub run-is-replayed : FeedLaws → RunIsReplayed
 run-is-replayed laws conf streams steps replies sinks new after run =
     let r : Replayed conf (replayed conf streams (order conf steps replies)) new sinks after
     (λ k. (told_at conf streams k).end) streams steps replies = run-replayed laws conf streams steps replies sinks new
-        after run in
+    after run in
     record { past = r.past; took = r.took }
 
 pub same-runs : FeedLaws → SameRuns
 same-runs laws conf streams steps others replies answers sinks after sinks_too after_too new other run run_too same =
     let r : Replayed conf (replayed conf streams (order conf steps replies)) new sinks after
     (λ k. (told_at conf streams k).end) streams steps replies = run-replayed laws conf streams steps replies sinks new
-        after run in
+    after run in
     let r_too : Replayed conf (replayed conf streams (order conf steps replies)) other sinks_too after_too
     (λ k. (told_at conf streams k).end) streams others answers =
     subst (λ marks. Replayed conf (replayed conf streams marks) other sinks_too after_too

@@ -234,15 +234,17 @@ pub link_shown :
     (p : SessionParts) (k : ℕ) (l : Link) → (s : State) × Shows p s → k < length p.links → l ≡ get_or p.links k l
     → (c : Channel) × ShowsChannel (tables_in p.tables.stores) l c
 link_shown p k l some below is =
-    let here = each_get (tables_in p.tables.stores) p.links some.0.channels k l some.1.channels below is in (here.0,
-        here.2)
+    let here = each_get (tables_in p.tables.stores) p.links some.0.channels k l some.1.channels below is in (
+      here.0,
+      here.2,
+    )
 
 pub push_known :
     (p q : SessionParts) (name piece : List ℕ) (k : ℕ) (l m : Link) (answer : Result Came Fault)
     → k ≡ place_of name (map (λ f. f.name) p.feeds)
     → k < length p.links → l ≡ get_or p.links k l
     → PushesTo (tables_in p.tables.stores) l (rows_in p.tables.stores) p.records piece answer m (rows_in
-        q.tables.stores) q.records
+    q.tables.stores) q.records
     → (tables_in q.tables.stores) ≡ (tables_in p.tables.stores) → q.links ≡ slice_set p.links k m → Declares p q
     → IsStep p (λ s t. PushStep (config_of p) s name piece answer t) q
 push_known p q name piece k l m answer at below is pushes table links declares s shown =
@@ -278,7 +280,7 @@ pub finish_known :
     (p q : SessionParts) (name : List ℕ) (k : ℕ) (l m : Link) (answer : Result (Unit {0}) Fault)
     → k ≡ place_of name (map (λ f. f.name) p.feeds)
     → k < length p.links → l ≡ get_or p.links k l → EndsTo l answer m → q.tables.stores ≡ p.tables.stores
-        → q.records ≡ p.records
+    → q.records ≡ p.records
     → q.links ≡ slice_set p.links k m → Declares p q
     → IsStep p (λ s t. FinishStep (config_of p) s name answer t) q
 finish_known p q name k l m answer at below is ends stores records links declares s shown =
@@ -293,7 +295,7 @@ finish_known p q name k l m answer at below is ends stores records links declare
     record { channel = made.channel; finishes = made.finishes; leads = refl } in
     let rows : ShowsPast (tables_in p.tables.stores) (rows_in p.tables.stores) q.records s.past =
     subst (λ (rs : List UndoRecord). ShowsPast (tables_in p.tables.stores) (rows_in p.tables.stores) rs s.past) (sym
-        records)
+    records)
     shown.past in
     let slots : ShowsPast (tables_in p.tables.stores) (rows_in q.tables.stores) q.records s.past =
     subst (λ (ss : Rows). ShowsPast (tables_in p.tables.stores) ss q.records s.past) (sym (ap rows_in stores)) rows in (
@@ -313,7 +315,7 @@ pub undo_known :
     (p q : SessionParts) (answer : Result (Unit {0}) Fault)
     → ((past : Past) → ShowsPast (tables_in p.tables.stores) (rows_in p.tables.stores) p.records past
     → (next : Past) × Undoes past answer next × ShowsPast (tables_in p.tables.stores) (rows_in q.tables.stores)
-        q.records next)
+    q.records next)
     → (tables_in q.tables.stores) ≡ (tables_in p.tables.stores) → q.links ≡ p.links → Declares p q
     → IsStep p (λ s t. UndoTo s answer t) q
 undo_known p q answer undoes table links declares s shown =
@@ -343,14 +345,17 @@ rows_shown p s shown =
 
 pub live_shown :
     (p : SessionParts) (s : State) (x : Store) (n : ℕ) → Shows p s → x ≡ get_or p.tables.stores 0 x
-        → n ≡ length (live x.slots)
+    → n ≡ length (live x.slots)
     → n ≡ length (contents_at (world (tables_of (config_of p)) s.past.edits) 0).live
 live_shown p s x n shown is many =
     let rows : rows_at (rows_in p.tables.stores) 0 ≡ x.slots = rows_there p.tables.stores 0 x is shown.main in
     let have = rows_length p.tables.stores in
     many ∙ ap (λ (ss : List Slot). length (live ss)) (sym rows)
-    ∙ ap (λ (c : Contents). length c.live) (sym (contents_there (rows_in p.tables.stores) 0 (omega (arith, have,
-        shown.main))))
+    ∙ ap (λ (c : Contents). length c.live) (sym (contents_there (rows_in p.tables.stores) 0 (omega (
+      arith,
+      have,
+      shown.main,
+    ))))
     ∙ ap (λ (w : World). length (contents_at w 0).live)
     (rows_shown p s shown ∙ ap (λ ts. world ts s.past.edits) (sym (tables_told p shown.main)))
 
@@ -370,11 +375,11 @@ pub write_known :
     → IsStep p (λ s t. WriteStep (config_of p) s name old answer new × (t ≡ s)) q
 write_known p q name k v old new answer at below is writes read table slots links records declares s shown =
     let found : slice_get p.tables.views k ≡ Some v = slice_get-get_or p.tables.views k v below
-        ∙ ap (λ x. Some x) (sym is) in
+    ∙ ap (λ x. Some x) (sym is) in
     let there : view_in (config_of p) name ≡ Some v =
     subst (λ (n : ℕ). slice_get p.tables.views n ≡ Some v) at found in
     let rows : WriteAnswers old new answer (stream_of (tables_in p.tables.stores) v (world (tables_in p.tables.stores)
-        s.past.edits))
+    s.past.edits))
     × IsReadIfWhole (tables_in p.tables.stores) v (world (tables_in p.tables.stores) s.past.edits) answer =
     subst (λ (w : World). WriteAnswers old new answer (stream_of (tables_in p.tables.stores) v w)
     × IsReadIfWhole (tables_in p.tables.stores) v w answer) (rows_shown p s shown) (writes, read) in
@@ -385,7 +390,7 @@ write_known p q name k v old new answer at below is writes read table slots link
     goes in
     let past : ShowsPast (tables_in p.tables.stores) (rows_in p.tables.stores) q.records s.past =
     subst (λ (rs : List UndoRecord). ShowsPast (tables_in p.tables.stores) (rows_in p.tables.stores) rs s.past) (sym
-        records)
+    records)
     shown.past in
     let held : ShowsPast (tables_in p.tables.stores) (rows_in q.tables.stores) q.records s.past =
     subst (λ (ss : Rows). ShowsPast (tables_in p.tables.stores) ss q.records s.past) (sym slots) past in

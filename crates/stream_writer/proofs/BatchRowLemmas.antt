@@ -63,7 +63,7 @@ light-beginning ls (suc n) room (row ∷ rows) fits light =
     let first = beginning-light ls (suc n) room row rows (omega arith) (omega (arith, here, fits)) in
     let moved = ap (λ k. beginning ls k (room - row_weight ls row) rows) same in
     let rest = light-beginning ls n (room - row_weight ls row) rows (omega (arith, here, fits)) (All-tail P row rows
-        light) in (
+    light) in (
       λ h. let all = rest.0 (omega (arith, h)) in omega (arith, first, moved, all),
       λ h. let all = rest.1 (omega (arith, h)) in omega (arith, first, moved, all),
     )
@@ -132,7 +132,7 @@ pub place-end : (bs : List Batch) (i from : ℕ) (whole : List (List Datum)) →
 place-end bs i from whole h is =
     let none_left : length bs - length bs ≡ 0 = omega arith in
     ap (λ k. drop from (rows_of (take k (drop (length bs) bs)))) none_left
-        ∙ ap (λ xs. drop from (rows_of xs)) (sym (drop_all i bs h)) ∙ is
+    ∙ ap (λ xs. drop from (rows_of xs)) (sym (drop_all i bs h)) ∙ is
 
 pub sized-here : (n : ℕ) (bs : List Batch) (i : ℕ) → i ≤ length bs → All (IsSized n) bs
     → All (IsSized n) (take (length bs - i) (drop i bs))
@@ -156,7 +156,7 @@ range-split b others from left to some e =
     let here : take left (drop from (batch_rows b)) ≡ take (to - from) (drop from (batch_rows b)) =
     take-least left (to - from) (drop from (batch_rows b)) (omega (arith, size, behind, some, e)) in
     let rest : take (left - length (drop from (batch_rows b))) (drop (from - b.rows) others) ≡ take (left - (to -
-        from)) (drop (from - b.rows) others) =
+    from)) (drop (from - b.rows) others) =
     (let k : left - length (drop from (batch_rows b)) ≡ left - (to - from) = omega (arith, size, behind, some, e) in
     ap (λ n. take n (drop (from - b.rows) others)) k) in
     ap (take left) (drop-joined from (batch_rows b) others ∙ ap (λ k. drop from (batch_rows b) ++ drop k others) same)
@@ -186,36 +186,36 @@ batch-sized n bs i b h e all = subst (IsSized n) (sym e) (All-get_or (IsSized n)
 
 pub rows-then :
     (bs : List Batch) (i : ℕ) (b : Batch) (start left to next others : ℕ) (rs more_ranges : List RowRange) (r :
-        RowRange)
+    RowRange)
     (whole : List (List Datum)) → i < length bs → b ≡ get_or bs i b → start < to → to ≡ min b.rows (start + left)
     → more_ranges ≡ rs ++ r ∷ [] → range_rows r ≡ take (to - start) (drop start (batch_rows b))
-        → others ≡ left - (to - start)
+    → others ≡ left - (to - start)
     → next ≡ start - b.rows → ranges_rows rs ++ take left (drop start (rows_of (drop i bs))) ≡ whole
     → ranges_rows more_ranges ++ take others (drop next (rows_of (drop (i + 1) bs))) ≡ whole
 rows-then bs i b start left to next others rs more_ranges r whole h e some least grown here fewer on is =
     let behind = rows_of (drop (i + 1) bs) in
     let split = ap (λ rows. take left (drop start rows)) (rows-split bs i b h e)
-        ∙ range-split b behind start left to some least in
+    ∙ range-split b behind start left to some least in
     ap (λ k. ranges_rows more_ranges ++ take k (drop next behind)) fewer
     ∙ ap (λ k. ranges_rows more_ranges ++ take (left - (to - start)) (drop k behind)) on
     ∙ ap (λ xs. xs ++ take (left - (to - start)) (drop (start - b.rows) behind)) (ap ranges_rows grown
-        ∙ ranges-more rs r
+    ∙ ranges-more rs r
     ∙ ap (λ ys. ranges_rows rs ++ ys) here)
     ∙ append_assoc (ranges_rows rs) (take (to - start) (drop start (batch_rows b))) (take (left - (to - start)) (drop
-        (start - b.rows) behind))
+    (start - b.rows) behind))
     ∙ ap (λ ys. ranges_rows rs ++ ys) (sym split) ∙ is
 
 pub rows-else :
     (bs : List Batch) (i : ℕ) (b : Batch) (start left to next others : ℕ) (rs same_ranges : List RowRange)
     (whole : List (List Datum)) → i < length bs → b ≡ get_or bs i b → to ≤ start → 0 < left
-        → to ≡ min b.rows (start + left)
+    → to ≡ min b.rows (start + left)
     → same_ranges ≡ rs → others ≡ left → next ≡ start - b.rows
     → ranges_rows rs ++ take left (drop start (rows_of (drop i bs))) ≡ whole
     → ranges_rows same_ranges ++ take others (drop next (rows_of (drop (i + 1) bs))) ≡ whole
 rows-else bs i b start left to next others rs same_ranges whole h e past some least same fewer on is =
     let behind = rows_of (drop (i + 1) bs) in
     let split = ap (λ rows. take left (drop start rows)) (rows-split bs i b h e)
-        ∙ range-none b behind start left to past some least in
+    ∙ range-none b behind start left to past some least in
     ap (λ k. ranges_rows same_ranges ++ take k (drop next behind)) fewer
     ∙ ap (λ k. ranges_rows same_ranges ++ take left (drop k behind)) on
     ∙ ap (λ xs. ranges_rows xs ++ take left (drop (start - b.rows) behind)) same

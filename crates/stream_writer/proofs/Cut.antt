@@ -271,9 +271,9 @@ pub batches-left : (fs : List (Rose NamedType)) (rows left : List (List Datum)) 
     ≡ batch_message (trees fs) (take n rows) ++ (batches (trees fs) (length left) left ++ tail)
 batches-left fs rows left n tail some sound e is =
     let F : ℕ → List ℕ = λ k. batch_message (trees fs) (take k rows) ++ batches (trees fs) (length (drop k rows)) (drop
-        k rows) in
+    k rows) in
     let G : List (List Datum) → List ℕ = λ cs. batch_message (trees fs) (take n rows) ++ batches (trees fs) (length cs)
-        cs in
+    cs in
     ap (λ bs. bs ++ tail) (batches-next fs rows some sound ∙ ap F (sym e) ∙ ap G (sym is))
     ∙ append_assoc (batch_message (trees fs) (take n rows)) (batches (trees fs) (length left) left) tail
 

@@ -53,11 +53,11 @@ first-comes start fs rows bytes e =
 -- a batch comes next
 pub batch-comes :
     (start now : Sunk) (written : ℕ) (whole : List ℕ) (fs : List (Rose NamedType)) (rows left : List (List Datum)) (n :
-        ℕ)
+    ℕ)
     (bytes : List ℕ) → WrittenSoFar start now written whole (batches (trees fs) (length rows) rows ++ end_mark)
-        → 0 < length rows
+    → 0 < length rows
     → All (IsRow fs) rows → n ≡ batch_len (trees fs) rows → bytes ≡ batch_message (trees fs) (take n rows)
-        → left ≡ drop n rows
+    → left ≡ drop n rows
     → WrittenSoFar start now written whole (bytes ++ (batches (trees fs) (length left) left ++ end_mark))
 batch-comes start now written whole fs rows left n bytes so_far some sound e is behind =
     let P : List ℕ → Type 0 = λ rest. WrittenSoFar start now written whole rest in

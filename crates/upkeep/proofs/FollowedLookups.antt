@@ -225,7 +225,7 @@ module _ (laws : Laws) (tables : List Table) (n : ℕ) (u : Turn) (c : TableChan
         ≤ count_by (refers_by v.lookup n (named_keys (table_at tables n) c (rows_at rows n))) (live main)
     counted =
         referring_counted laws.can_go v.lookup look.0 n (named_keys (table_at tables n) c (rows_at rows n)) main ns
-            look.1
+        look.1
         looks refer ascending
 
     change_leads : Leads (image made_without (numbered main))

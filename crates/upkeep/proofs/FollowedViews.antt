@@ -91,7 +91,7 @@ pub followed_more :
     → With (tables_in now) (rows_in now) (patched rows (change_in (rows_in now) t numbers)) v u)
     → Fits before (change_in (rows_in old) t numbers)
     → AreFollowed (tables_in old) (rows_in old) before (patched before (change_in (rows_in old) t numbers)) (n + 1)
-        views
+    views
     (slice_set states n u)
 followed_more old now before t numbers n views states v s u tables rows mixed below at_v at_s kept fits =
     let after : NumberedRows = patched before (change_in (rows_in old) t numbers) in

@@ -368,7 +368,7 @@ pub moved : (P : List Table → Rows → Type 0) (stores now : List Store) → t
     → rows_in now ≡ rows_in stores → P (tables_in stores) (rows_in stores) → P (tables_in now) (rows_in now)
 moved P stores now tables rows h =
     subst (λ (rs : Rows). P (tables_in now) rs) (sym rows) (subst (λ (ts : List Table). P ts (rows_in stores)) (sym
-        tables) h)
+    tables) h)
 
 pub many_stores : (stores now : List Store) → tables_in now ≡ tables_in stores → length now ≡ length stores
 many_stores stores now tables = sym (tables_length now) ∙ ap length tables ∙ tables_length stores

@@ -159,7 +159,7 @@ opened_live ss ss' views states states' n s t u c changed opened same made was =
       current =
           subst (λ (rs : Rows). AreCurrent (tables_in ss') rs views states') (sym opened.rows)
           (subst (λ (x : List Table). AreCurrent x (rows_in (slice_set ss n t)) views states') (sym opened.tables)
-              after);
+          after);
     }
 
 pub opened_rows :
@@ -208,7 +208,7 @@ pub swaps_found : (ss ss' : List Store) (n : ℕ) (s t v : Store) (u : Turn) (c 
 swaps_found ss ss' n s t v u c changed opened is can =
     subst (λ (slots : List Slot). CanSwap u v.table c slots) (sym (found_slots ss ss' n s t v changed opened is))
     (subst (λ (x : Table). CanSwap u x c t.slots) (changed.same
-        ∙ sym (found_table ss ss' n s t v changed opened is)) can)
+    ∙ sym (found_table ss ss' n s t v changed opened is)) can)
 
 -- what is live where an edit is taken back for a while
 pub made_same : HiddenIsUndone → (s t : Store) (n : ℕ) (c : TableChange) → 0 < n → IsChangeOf n c
@@ -358,7 +358,7 @@ opened_before ss ss' views states states' n s t v u c side changed is few =
     let main : rows_at (rows_in (slice_set ss n t)) 0 ≡ rows_at (rows_in ss) 0 =
     ap (λ (rs : Rows). rows_at rs 0) (rows_set ss n t) ∙ set_main (rows_in ss) n t.slots side in
     subst (P (visits_in (slice_set ss' n u)) (visits_in ss)) (sym (touched_side (tables_in ss) views (rows_in ss) n c
-        side))
+    side))
     (subst (λ new. P new (visits_in ss) (count (tables_in ss) rows (rows_at (rows_in ss) 0)))
     (sym (side_visits ss' n u side))
     (subst (λ (ms : List Slot). P (visits_in ss') (visits_in ss) (count (tables_in ss) rows ms)) main

@@ -85,7 +85,7 @@ current_more tables rows (w ∷ ws) (t ∷ ts) v s each kept refers =
 
 pub fresh_more :
     (tables : List Table) (rows : Rows) (views : List View) (i : ℕ) (old new : List ViewState) (v : View) (s :
-        ViewState)
+    ViewState)
     → EachIsCurrent tables rows [] (take i views) old → i < length views → v ≡ get_or views i v
     → IsKept v.outputs v.order s.kept [] → KeepsReferrers s.referrers [] → new ≡ old ++ s ∷ []
     → EachIsCurrent tables rows [] (take (i + 1) views) new

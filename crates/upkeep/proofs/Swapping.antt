@@ -80,8 +80,11 @@ can_turn_back ss ss' n u w c s t s' turned since is other can =
     let table : s'.table ≡ s.table =
     sym (table_there ss' n s' is below) ∙ ap (λ ts. table_at ts n) same ∙ table_there ss n s turned.is turned.below in
     let placed : rows_at (slice_set (rows_in ss) n t.slots) n ≡ t.slots =
-    rows_placed (rows_in ss) n t.slots (let long = rows_length ss in let there = turned.below in omega (arith, long,
-        there)) in
+    rows_placed (rows_in ss) n t.slots (let long = rows_length ss in let there = turned.below in omega (
+      arith,
+      long,
+      there,
+    )) in
     let slots : s'.slots ≡ t.slots =
     sym (rows_there ss' n s' is below)
     ∙ ap (λ (rs : Rows). rows_at rs n) (since.rows ∙ rows_set ss n t) ∙ placed in

@@ -15,11 +15,11 @@ loop-at-preserved-then-is_null_at c =
       few = omega (arith, inv.few, inv.past, run.past);
       nulls =
           nulls-step parts.body.now c.buffer-bits.result.now parts.own.now (kids_of parts.children.now) c.loop-at.at
-              c.run_end-end.result
+          c.run_end-end.result
           c.args.range.now.to c.loop-at.nulls (c.run_end-end.result - c.loop-at.at) _ true c.buffer-bits.ensures
-              c.requires.plain
+          c.requires.plain
           (λ k lo hi. c.requires.checked.valid k (omega (arith, inv.past, lo)) (omega (arith, hi, run.within))) (omega
-              (arith, run.past)) run.within (search rules) run.same refl inv.nulls;
+          (arith, run.past)) run.within (search rules) run.same refl inv.nulls;
     }
 
 pub loop-at-preserved : goal.loop-at-preserved
@@ -29,9 +29,9 @@ loop-at-preserved c =
     let parts = c.args.range.now.parts in
     let next =
     nulls-step parts.body.now c.buffer-bits.result.now parts.own.now (kids_of parts.children.now) c.loop-at.at
-        c.run_end-end.result
+    c.run_end-end.result
     c.args.range.now.to c.loop-at.nulls 0 _ false c.buffer-bits.ensures c.requires.plain (λ k lo hi.
-        c.requires.checked.valid k (omega (arith, inv.past, lo)) (omega (arith, hi, run.within)))
+    c.requires.checked.valid k (omega (arith, inv.past, lo)) (omega (arith, hi, run.within)))
     (omega (arith, run.past)) run.within (search rules) run.same refl inv.nulls in
     record {
       past = omega (arith, inv.past, run.past);
@@ -44,7 +44,7 @@ pub returns-clause-value : goal.returns-clause-value
 returns-clause-value c =
     let parts = c.args.range.now.parts in
     nulls-over (cell parts.body.now (node parts.own.now (kids_of parts.children.now))) c.loop-at.at c.args.range.now.to
-        c.loop-at.nulls _
+    c.loop-at.nulls _
     c.loop-at-test.false c.loop-at.invariant.nulls
 
 pub returns-clause-bound : goal.returns-clause-bound

@@ -13,7 +13,7 @@ invariant-loop-at l = record {
   nulls : l.nulls + null_count (slots (cell l.range.parts.body.now (node l.range.parts.own.now (kids_of
       l.range.parts.children.now))) l.at (l.range.to - l.at))
       ≡ null_count (slots (cell l.range.parts.body.now (node l.range.parts.own.now (kids_of
-          l.range.parts.children.now))) l.range.from (l.range.to - l.range.from));
+      l.range.parts.children.now))) l.range.from (l.range.to - l.range.from));
 }
 
 abbrev pub decreases-loop-at : goal.decreases-loop-at

@@ -14,7 +14,7 @@ loop-i-preserved c =
     let inside : c.loop-i.i < parts.own.now.len = omega (arith, c.loop-i-test.true, c.requires.checked.within) in
     let bit : Bool = c.truth_at.result in
     let is : bit ≡ truth_in (cell_in (read c.loop-i.i)) = cell-truth parts.body.now c.buffer-bits.result.now
-        c.buffer-values.result.now parts.own.now kids c.loop-i.i c.truth_at.result
+    c.buffer-values.result.now parts.own.now kids c.loop-i.i c.truth_at.result
     c.buffer-bits.ensures c.buffer-values.ensures c.requires.plain c.requires.layout c.truth_at.ensures in
     let grown = ap length c.in_ok-push.ensures.pushed in
     let size = length-append c.loop-i.truths (bit ∷ []) in
@@ -29,5 +29,5 @@ pub returns : goal.returns
 returns c =
     let parts = c.args.range.now.parts in
     map-over truth_in (cell parts.body.now (node parts.own.now (kids_of parts.children.now))) c.loop-i.i
-        c.args.range.now.to c.loop-i.truths _
+    c.args.range.now.to c.loop-i.truths _
     c.loop-i-test.false c.loop-i.invariant.bits

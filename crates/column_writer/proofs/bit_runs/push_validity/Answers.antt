@@ -15,7 +15,7 @@ loop-i-preserved c =
     let bit : Bool = not c.is_null_at.result in
     let is : bit ≡ is_valid (cell_in (read c.loop-i.i)) = ap not c.is_null_at.ensures
     ∙ cell-set parts.body.now c.buffer-bits.result.now parts.own.now kids c.loop-i.i c.buffer-bits.ensures
-        c.requires.plain
+    c.requires.plain
     (c.requires.checked.valid c.loop-i.i c.loop-i.invariant.past c.loop-i-test.true) in
     let grown = ap length c.in_ok-push.ensures.pushed in
     let size = length-append c.loop-i.valid (bit ∷ []) in
@@ -31,5 +31,5 @@ pub returns : goal.returns
 returns c =
     let parts = c.args.range.now.parts in
     map-over is_valid (cell parts.body.now (node parts.own.now (kids_of parts.children.now))) c.loop-i.i
-        c.args.range.now.to c.loop-i.valid _
+    c.args.range.now.to c.loop-i.valid _
     c.loop-i-test.false c.loop-i.invariant.bits

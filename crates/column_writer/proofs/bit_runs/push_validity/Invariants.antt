@@ -13,5 +13,5 @@ invariant-loop-i l = record {
   bits : l.valid ++ map is_valid (slots (cell l.range.parts.body.now (node l.range.parts.own.now (kids_of
       l.range.parts.children.now))) l.i (l.range.to - l.i))
       ≡ l.fn.valid ++ map is_valid (slots (cell l.range.parts.body.now (node l.range.parts.own.now (kids_of
-          l.range.parts.children.now))) l.range.from (l.range.to - l.range.from));
+      l.range.parts.children.now))) l.range.from (l.range.to - l.range.from));
 }

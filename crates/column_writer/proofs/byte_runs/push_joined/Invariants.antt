@@ -12,7 +12,7 @@ invariant-loop-at l = record {
   bytes : l.out.items ++ joined (slots (cell l.range.parts.body.now (node l.range.parts.own.now (kids_of
       l.range.parts.children.now))) l.at (l.range.to - l.at))
       ≡ l.fn.out.items ++ joined (slots (cell l.range.parts.body.now (node l.range.parts.own.now (kids_of
-          l.range.parts.children.now))) l.range.from (l.range.to - l.range.from));
+      l.range.parts.children.now))) l.range.from (l.range.to - l.range.from));
 }
 
 abbrev pub decreases-loop-at : goal.decreases-loop-at

@@ -7,14 +7,14 @@ use Rattle.column_writer.proofs.byte_runs.push_starts.Goals as goal
 pub slot_len-requires-clause-room : goal.slot_len-requires-clause-room
 slot_len-requires-clause-room c =
     (stands-of c.args.range.now.parts.body.now c.buffer-offsets.result.now c.args.range.now.parts.own.now (kids_of
-        c.args.range.now.parts.children.now)
+    c.args.range.now.parts.children.now)
     c.args.range.now.offsets c.loop-i.i c.buffer-offsets.ensures c.requires.layout c.requires.checked.sound
     (omega (arith, c.loop-i-test.true, c.requires.checked.within))).room
 
 pub slot_len-requires-clause-rising : goal.slot_len-requires-clause-rising
 slot_len-requires-clause-rising c =
     (stands-of c.args.range.now.parts.body.now c.buffer-offsets.result.now c.args.range.now.parts.own.now (kids_of
-        c.args.range.now.parts.children.now)
+    c.args.range.now.parts.children.now)
     c.args.range.now.offsets c.loop-i.i c.buffer-offsets.ensures c.requires.layout c.requires.checked.sound
     (omega (arith, c.loop-i-test.true, c.requires.checked.within))).rising
 
@@ -24,10 +24,13 @@ loop-i-preserved c =
     let kids = kids_of c.args.range.now.parts.children.now in
     let at = cell c.args.range.now.parts.body.now (node p kids) in
     let len = text-length c.args.range.now.parts.body.now c.buffer-bits.result.now c.buffer-offsets.result.now p kids
-        c.args.range.now.offsets c.loop-i.i c.slot_len.result
+    c.args.range.now.offsets c.loop-i.i c.slot_len.result
     c.buffer-bits.ensures c.buffer-offsets.ensures c.requires.layout c.requires.plain c.requires.checked.sound
-        (c.requires.checked.valid c.loop-i.i c.loop-i.invariant.past c.loop-i-test.true) (omega (arith,
-        c.loop-i-test.true, c.requires.checked.within)) c.slot_len.ensures in
+    (c.requires.checked.valid c.loop-i.i c.loop-i.invariant.past c.loop-i-test.true) (omega (
+      arith,
+      c.loop-i-test.true,
+      c.requires.checked.within,
+    )) c.slot_len.ensures in
     record {
       past = omega (arith, c.loop-i.invariant.past);
       end = end-step at c.loop-i.i c.args.range.now.to c.loop-i.end c.slot_len.result _ c.loop-i-test.true len
@@ -40,11 +43,11 @@ loop-i-preserved c =
 pub returns-clause-end : goal.returns-clause-end
 returns-clause-end c =
     end-over (cell c.args.range.now.parts.body.now (node c.args.range.now.parts.own.now (kids_of
-        c.args.range.now.parts.children.now))) c.loop-i.i c.args.range.now.to c.loop-i.end _ c.loop-i-test.false
-        c.loop-i.invariant.end
+    c.args.range.now.parts.children.now))) c.loop-i.i c.args.range.now.to c.loop-i.end _ c.loop-i-test.false
+    c.loop-i.invariant.end
 
 pub returns-clause-bytes : goal.returns-clause-bytes
 returns-clause-bytes c =
     λ rest. starts-over c.args.wanted (cell c.args.range.now.parts.body.now (node c.args.range.now.parts.own.now
-        (kids_of c.args.range.now.parts.children.now))) c.loop-i.i c.args.range.now.to c.loop-i.end c.loop-i.out.items
-        _ rest c.loop-i-test.false (c.loop-i.invariant.bytes rest)
+    (kids_of c.args.range.now.parts.children.now))) c.loop-i.i c.args.range.now.to c.loop-i.end c.loop-i.out.items
+    _ rest c.loop-i-test.false (c.loop-i.invariant.bytes rest)

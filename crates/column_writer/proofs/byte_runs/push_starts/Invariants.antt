@@ -13,11 +13,11 @@ invariant-loop-i l = record {
   end : l.end + total_length (slots (cell l.range.parts.body.now (node l.range.parts.own.now (kids_of
       l.range.parts.children.now))) l.i (l.range.to - l.i))
       ≡ l.fn.start + total_length (slots (cell l.range.parts.body.now (node l.range.parts.own.now (kids_of
-          l.range.parts.children.now))) l.range.from (l.range.to - l.range.from));
+      l.range.parts.children.now))) l.range.from (l.range.to - l.range.from));
   bytes : (rest : List ℕ) → l.out.items ++ offsets_from l.fn.wanted l.end (map length_in (slots (cell
       l.range.parts.body.now (node l.range.parts.own.now (kids_of l.range.parts.children.now))) l.i (l.range.to - l.i))
       ++ rest)
       ≡ l.fn.out.items ++ offsets_from l.fn.wanted l.fn.start (map length_in (slots (cell l.range.parts.body.now (node
-          l.range.parts.own.now (kids_of l.range.parts.children.now))) l.range.from (l.range.to - l.range.from)) ++
-          rest);
+      l.range.parts.own.now (kids_of l.range.parts.children.now))) l.range.from (l.range.to - l.range.from)) ++
+      rest);
 }

@@ -11,13 +11,13 @@ unfolding items
 returns-in-List-clause-cells c =
     let P : Layout → Type 0 = λ l. OnOk c.push_items.result
     (pieces_cells c.push_items.new.all.items ≡ pieces_cells c.args.all.now.items ++ child_cells l c.args.j (range_cells
-        c.args.range.now)) in
+    c.args.range.now)) in
     subst P (sym c.in-List.is) c.push_items.ensures.cells
 
 pub returns-in-List-clause-lies : goal.returns-in-List-clause-lies
 returns-in-List-clause-lies c =
     let P : ℕ → Type 0 = λ j. OnOk c.push_items.result
     ((t : Rose Layout) → ChildLies t j c.args.range.now → All (LiesAs t) c.args.all.now.items
-        → All (LiesAs t) c.push_items.new.all.items) in
+    → All (LiesAs t) c.push_items.new.all.items) in
     subst P (first-only c.args.layout c.in-List.offsets c.args.j c.args.range.now c.requires c.in-List.is)
-        c.push_items.ensures.lies
+    c.push_items.ensures.lies

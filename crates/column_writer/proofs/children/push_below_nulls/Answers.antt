@@ -9,7 +9,7 @@ pub returns-in_ok-push-in-Struct-clause-cells : goal.returns-in_ok-push-in-Struc
 returns-in_ok-push-in-Struct-clause-cells c = λ j.
     ap pieces_cells c.in_ok-push-in-Struct.ensures.items ∙ pieces-more c.args.all.now.items (Nulls c.args.count)
     ∙ ap (λ cs. pieces_cells c.args.all.now.items ++ cs) (sym (below-struct c.args.layout j c.args.count
-        c.in-Struct.is))
+    c.in-Struct.is))
 
 pub returns-in-List-clause-cells : goal.returns-in-List-clause-cells
 returns-in-List-clause-cells c = λ j.

@@ -10,13 +10,13 @@ pub returns-in-Slots-clause-lies : goal.returns-in-Slots-clause-lies
 returns-in-Slots-clause-lies c =
     let P : Piece → Type 0 = λ p. OnOk c.push_below.result
     ((t : Rose Layout) → OfSlots (ChildLies t c.args.j) p → All (LiesAs t) c.args.all.now.items
-        → All (LiesAs t) c.push_below.new.all.items) in
+    → All (LiesAs t) c.push_below.new.all.items) in
     subst P (sym c.in-Slots.is) c.push_below.ensures.lies
 
 pub returns-in-Nulls-clause-lies : goal.returns-in-Nulls-clause-lies
 returns-in-Nulls-clause-lies c =
     on_ok_weaker c.push_below_nulls.result
     (λ (same : (t : Rose Layout) → All (LiesAs t) c.args.all.now.items
-        → All (LiesAs t) c.push_below_nulls.new.all.items).
+    → All (LiesAs t) c.push_below_nulls.new.all.items).
     λ t below old. same t old)
     c.push_below_nulls.ensures.lies

@@ -22,11 +22,11 @@ loop-at-preserved-in_ok-push c =
       cells = run-step items_in (cell parts.body.now (node parts.own.now (kids_of parts.children.now))) c.loop-at.at
           c.run_end-end.result
           c.args.range.now.to (pieces_cells c.loop-at.all.items) (pieces_cells c.push.new.self.items) _ _ up run.within
-              c.run_items.ensures.cells
+          c.run_items.ensures.cells
           (ap pieces_cells c.in_ok-push.ensures.items ∙ pieces-more c.loop-at.all.items c.run_items.result) inv.cells;
       lies = λ t below old. subst (All (LiesAs t)) (sym c.in_ok-push.ensures.items)
           (all-more (LiesAs t) c.loop-at.all.items c.run_items.result (inv.lies t below old) (c.run_items.ensures.lies
-              t below));
+          t below));
     }
 
 pub loop-at-preserved : goal.loop-at-preserved
@@ -45,7 +45,7 @@ loop-at-preserved c =
       cells = run-step items_in (cell parts.body.now (node parts.own.now (kids_of parts.children.now))) c.loop-at.at
           c.run_end-end.result
           c.args.range.now.to (pieces_cells c.loop-at.all.items) (pieces_cells c.loop-at.all.items) [] _ up run.within
-              none
+          none
           (sym (append-nil (pieces_cells c.loop-at.all.items))) inv.cells;
       lies = inv.lies;
     }
@@ -54,5 +54,5 @@ pub returns-clause-cells : goal.returns-clause-cells
 returns-clause-cells c =
     let parts = c.args.range.now.parts in
     run-over items_in (cell parts.body.now (node parts.own.now (kids_of parts.children.now))) c.loop-at.at
-        c.args.range.now.to
+    c.args.range.now.to
     (pieces_cells c.loop-at.all.items) _ c.loop-at-test.false c.loop-at.invariant.cells

@@ -14,10 +14,10 @@ invariant-loop-at l = record {
   order : l.at ≤ l.range.to;
   cells : pieces_cells l.all.items
       ++ flat_map items_in (slots (cell l.range.parts.body.now (node l.range.parts.own.now (kids_of
-          l.range.parts.children.now))) l.at (l.range.to - l.at))
+      l.range.parts.children.now))) l.at (l.range.to - l.at))
       ≡ pieces_cells l.fn.all.items
       ++ flat_map items_in (slots (cell l.range.parts.body.now (node l.range.parts.own.now (kids_of
-          l.range.parts.children.now))) l.range.from (l.range.to - l.range.from));
+      l.range.parts.children.now))) l.range.from (l.range.to - l.range.from));
   lies : (t : Rose Layout) → ChildLies t 0 l.range → All (LiesAs t) l.fn.all.items → All (LiesAs t) l.all.items;
 }
 

@@ -20,17 +20,17 @@ loop-at-preserved c =
       cells = map-run-step (part c.args.j) (cell parts.body.now (node parts.own.now (kids_of parts.children.now)))
           c.loop-at.at
           c.run_end-end.result c.args.range.now.to (pieces_cells c.loop-at.all.items) (pieces_cells
-              c.push.new.self.items) _ _ up run.within
+          c.push.new.self.items) _ _ up run.within
           c.run_part.ensures.cells (ap pieces_cells c.in_ok-push.ensures.items
-              ∙ pieces-more c.loop-at.all.items c.run_part.result) inv.cells;
+          ∙ pieces-more c.loop-at.all.items c.run_part.result) inv.cells;
       lies = λ t below old. subst (All (LiesAs t)) (sym c.in_ok-push.ensures.items)
           (all-more (LiesAs t) c.loop-at.all.items c.run_part.result (inv.lies t below old) (c.run_part.ensures.lies t
-              below));
+          below));
     }
 
 pub returns-clause-cells : goal.returns-clause-cells
 returns-clause-cells c =
     let parts = c.args.range.now.parts in
     map-over (part c.args.j) (cell parts.body.now (node parts.own.now (kids_of parts.children.now))) c.loop-at.at
-        c.args.range.now.to
+    c.args.range.now.to
     (pieces_cells c.loop-at.all.items) _ c.loop-at-test.false c.loop-at.invariant.cells

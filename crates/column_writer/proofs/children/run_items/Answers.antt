@@ -11,9 +11,9 @@ pub array_slots-requires-clause-valid : goal.array_slots-requires-clause-valid
 array_slots-requires-clause-valid c = λ k lo hi.
     let run =
     list-run c.args.range.now c.index-parts-0.result c.args.at c.args.end c.offset.result c.offset-2.result
-        c.buffer-offsets.result.now
+    c.buffer-offsets.result.now
     c.requires.lists c.requires.start c.requires.order c.requires.within c.requires.valid c.index-parts-0.is
-        c.buffer-offsets.ensures
+    c.buffer-offsets.ensures
     c.offset.ensures c.offset-2.ensures in
     subst (λ (t : Rose ArrayData). IsValid (cell c.args.range.now.parts.body.now t k)) c.index-parts-0.is
     (run-valid _ _ _ _ _ _ _ _ _ run k lo hi)
@@ -22,9 +22,9 @@ pub array_slots-requires-clause-order : goal.array_slots-requires-clause-order
 array_slots-requires-clause-order c =
     let run =
     list-run c.args.range.now c.index-parts-0.result c.args.at c.args.end c.offset.result c.offset-2.result
-        c.buffer-offsets.result.now
+    c.buffer-offsets.result.now
     c.requires.lists c.requires.start c.requires.order c.requires.within c.requires.valid c.index-parts-0.is
-        c.buffer-offsets.ensures
+    c.buffer-offsets.ensures
     c.offset.ensures c.offset-2.ensures in
     run-order _ _ _ _ _ _ _ _ _ run
 
@@ -32,11 +32,11 @@ pub returns-clause-cells : goal.returns-clause-cells
 returns-clause-cells c =
     let run =
     list-run c.args.range.now c.index-parts-0.result c.args.at c.args.end c.offset.result c.offset-2.result
-        c.buffer-offsets.result.now
+    c.buffer-offsets.result.now
     c.requires.lists c.requires.start c.requires.order c.requires.within c.requires.valid c.index-parts-0.is
-        c.buffer-offsets.ensures
+    c.buffer-offsets.ensures
     c.offset.ensures c.offset-2.ensures in
     c.array_slots.ensures.cells
     ∙ ap (λ (t : Rose ArrayData). slots (cell c.args.range.now.parts.body.now t) c.offset.result (c.offset-2.result -
-        c.offset.result)) (sym c.index-parts-0.is)
+    c.offset.result)) (sym c.index-parts-0.is)
     ∙ run-cells _ _ _ _ _ _ _ _ _ run

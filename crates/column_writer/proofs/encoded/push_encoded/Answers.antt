@@ -13,7 +13,7 @@ loop-i-preserved c =
       cells = encoded-step (cell parts.body.now (node parts.own.now (kids_of parts.children.now))) c.loop-i.i
           c.args.range.now.to
           c.value_of.result c.loop-i.cells.items c.push.new.self.items _ c.loop-i-test.true c.value_of.ensures
-              c.in_ok-push.ensures.items
+          c.in_ok-push.ensures.items
           c.loop-i.invariant.cells;
     }
 

@@ -10,8 +10,8 @@ invariant-loop-i l = record {
   past : l.range.from ≤ l.i;
   cells : cells_of l.cells.items
       ++ slots (cell l.range.parts.body.now (node l.range.parts.own.now (kids_of l.range.parts.children.now))) l.i
-          (l.range.to - l.i)
+      (l.range.to - l.i)
       ≡ cells_of l.fn.cells.items
       ++ slots (cell l.range.parts.body.now (node l.range.parts.own.now (kids_of l.range.parts.children.now)))
-          l.range.from (l.range.to - l.range.from);
+      l.range.from (l.range.to - l.range.from);
 }

@@ -16,6 +16,6 @@ pub returns : goal.returns
 returns c =
     let parts = c.args.range.now.parts in
     encoded-cell parts.body.now parts.own.now (kids_of parts.children.now) c.args.dictionary.now c.args.i
-        c.find_value.result
+    c.find_value.result
     c.requires.encoded (ap (λ ys. is_null ys c.args.i) (sym c.buffer.ensures) ∙ search rules)
     (c.requires.checked.valid c.args.i c.requires.start c.requires.within) c.find_value.ensures

@@ -8,7 +8,7 @@ pub loop-range-preserved : goal.loop-range-preserved
 loop-range-preserved c = record {
   pieces = subst (All (OfSlots HasWidth)) (sym c.in_ok-push.ensures.items)
       (all-more (OfSlots HasWidth) c.loop-range.pieces.items (Slots c.slots_in.result) c.loop-range.invariant.pieces
-          c.slots_in.ensures.piece);
+      c.slots_in.ensures.piece);
   cells = column-step c.args.j c.args.ranges.now c.loop-range.range-index c.range-item.result (pieces_cells
       c.loop-range.pieces.items)
       (pieces_cells c.push.new.self.items) _ c.loop-range-test.true c.range-item.is

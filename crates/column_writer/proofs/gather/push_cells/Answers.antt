@@ -9,7 +9,7 @@ returns c =
     let columns = range.batch.now.columns.items in
     let column = c.index.result.now in
     let long = column-long columns c.args.j range.batch.now.rows column c.requires.below c.index.ensures
-        c.requires.cells in
+    c.requires.cells in
     let P : List Datum → Type 0 =
     λ ds. OnOk c.push_values.result (c.push_values.new.values.items ≡ c.args.values.now.items ++ ds) in
     subst P

@@ -7,5 +7,5 @@ pub loop-piece-preserved : goal.loop-piece-preserved
 loop-piece-preserved c = λ rest.
     c.loop-piece.invariant
     (all-before (LiesAs c.args.layout.now) c.args.pieces.now c.loop-piece.piece-index c.piece-item.result
-        c.loop-piece-test.true c.piece-item.is
+    c.loop-piece-test.true c.piece-item.is
     (c.lies_as.ensures (search rules)) rest)

@@ -5,13 +5,13 @@ use Rattle.column_writer.proofs.own.count_cells.Goals as goal
 pub overflow_add-count : goal.overflow_add-count
 overflow_add-count c =
     let split = size-split c.args.pieces.now c.loop-piece.piece-index c.piece-item.result c.loop-piece-test.true
-        c.piece-item.is in
+    c.piece-item.is in
     omega (arith, split, c.cells_in-count.ensures, c.loop-piece.invariant, c.requires.few)
 
 pub loop-piece-preserved : goal.loop-piece-preserved
 loop-piece-preserved c =
     let split = size-split c.args.pieces.now c.loop-piece.piece-index c.piece-item.result c.loop-piece-test.true
-        c.piece-item.is in
+    c.piece-item.is in
     omega (arith, split, c.cells_in-count.ensures, c.loop-piece.invariant)
 
 pub returns : goal.returns

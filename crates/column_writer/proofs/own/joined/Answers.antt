@@ -8,7 +8,7 @@ unfolding joined
 loop-piece-preserved c =
     flat-step bytes_in c.args.pieces.now c.loop-piece.piece-index c.piece-item.result c.loop-piece.buffer.items
     c.push_piece_bytes.new.out.items _ c.loop-piece-test.true c.piece-item.is c.in_ok-push_piece_bytes.ensures
-        c.loop-piece.invariant
+    c.loop-piece.invariant
 
 pub returns : goal.returns
 unfolding joined

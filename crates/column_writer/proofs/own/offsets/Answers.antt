@@ -9,18 +9,18 @@ use Rattle.column_writer.proofs.own.offsets.Goals as goal
 pub push_piece_starts-requires-clause-short : goal.push_piece_starts-requires-clause-short
 push_piece_starts-requires-clause-short c =
     let split = total-split c.args.pieces.now c.loop-piece.piece-index c.piece-item.result c.loop-piece-test.true
-        c.piece-item.is in
+    c.piece-item.is in
     omega (arith, split, c.loop-piece.invariant.end, c.requires.short)
 
 pub loop-piece-preserved : goal.loop-piece-preserved
 loop-piece-preserved c =
     let split = total-split c.args.pieces.now c.loop-piece.piece-index c.piece-item.result c.loop-piece-test.true
-        c.piece-item.is in
+    c.piece-item.is in
     record {
       end = omega (arith, split, c.loop-piece.invariant.end, c.in_ok-end.ensures.end);
       bytes = λ rest.
           starts-step c.args.width c.args.pieces.now c.loop-piece.piece-index c.piece-item.result c.loop-piece.end
-              c.in_ok-end.end
+          c.in_ok-end.end
           c.loop-piece.buffer.items c.push_piece_starts.new.out.items _ rest c.loop-piece-test.true c.piece-item.is
           c.in_ok-end.ensures.bytes (c.loop-piece.invariant.bytes rest);
     }

@@ -10,6 +10,6 @@ invariant-loop-piece l = record {
   end : l.end + total_length (pieces_cells (drop l.piece-index l.pieces)) ≡ total_length (pieces_cells l.pieces);
   bytes : (rest : List ℕ)
       → l.buffer.items ++ offsets_from l.width l.end (map length_in (pieces_cells (drop l.piece-index l.pieces)) ++
-          rest)
+      rest)
       ≡ offsets_from l.width 0 (map length_in (pieces_cells l.pieces) ++ rest);
 }

@@ -5,7 +5,7 @@ use Rattle.column_writer.proofs.own.slots.Goals as goal
 pub loop-piece-preserved : goal.loop-piece-preserved
 loop-piece-preserved c =
     flat-step (slot_bytes c.args.layout) c.args.pieces.now c.loop-piece.piece-index c.piece-item.result
-        c.loop-piece.buffer.items
+    c.loop-piece.buffer.items
     c.push_piece_slots.new.out.items _ c.loop-piece-test.true c.piece-item.is
     c.in_ok-push_piece_slots.ensures
     c.loop-piece.invariant
@@ -13,5 +13,5 @@ loop-piece-preserved c =
 pub returns : goal.returns
 returns c =
     flat-over (slot_bytes c.args.layout) c.args.pieces.now c.loop-piece.piece-index c.loop-piece.buffer.items _
-        c.loop-piece-test.false
+    c.loop-piece-test.false
     c.loop-piece.invariant

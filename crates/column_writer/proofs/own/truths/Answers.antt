@@ -10,4 +10,4 @@ unfolding truths
 returns c =
     ap bytes_of
     (maps-over truth_in c.args.pieces.now c.loop-piece.piece-index c.loop-piece.bits _ c.loop-piece-test.false
-        c.loop-piece.invariant.bits)
+    c.loop-piece.invariant.bits)

@@ -15,7 +15,7 @@ loop-at-preserved-in_ok-push_zeros c =
     let up : c.loop-at.at ≤ c.run_end-end.result = omega (arith, run.past) in
     let chunk =
     slots-null parts.body.now c.buffer-bits.result.now parts.own.now kids c.slot_width-width.result c.loop-at.at
-        c.run_end-end.result
+    c.run_end-end.result
     c.buffer-bits.ensures c.slot_width-width.ensures up (search rules) run.same in
     record {
       past = omega (arith, inv.past, run.past);
@@ -23,7 +23,7 @@ loop-at-preserved-in_ok-push_zeros c =
       bytes = run-step (slot_bytes parts.own.now.layout) (cell parts.body.now (node parts.own.now kids)) c.loop-at.at
           c.run_end-end.result
           c.args.range.now.to c.loop-at.out.items c.push_zeros.new.out.items _ _ up run.within chunk
-              c.in_ok-push_zeros.ensures inv.bytes;
+          c.in_ok-push_zeros.ensures inv.bytes;
     }
 
 pub loop-at-preserved : goal.loop-at-preserved
@@ -36,27 +36,27 @@ loop-at-preserved c =
     let inside : c.run_end-end.result ≤ parts.own.now.len = omega (arith, run.within, c.requires.checked.within) in
     let room =
     slots-room parts.body.now c.buffer-values.result.now parts.own.now kids c.slot_width-width.result
-        c.run_end-end.result
+    c.run_end-end.result
     c.buffer-values.ensures c.slot_width-width.ensures c.requires.checked.sound inside in
     let chunk =
     slots-valid parts.body.now c.buffer-bits.result.now c.buffer-values.result.now parts.own.now kids
-        c.slot_width-width.result c.loop-at.at
+    c.slot_width-width.result c.loop-at.at
     c.run_end-end.result c.buffer-bits.ensures c.buffer-values.ensures c.slot_width-width.ensures up inside
-        c.requires.plain
+    c.requires.plain
     (λ k lo hi. c.requires.checked.valid k (omega (arith, inv.past, lo)) (omega (arith, hi, run.within))) (λ k.
-        (c.type_inv.values k).fits) room (search rules) run.same in
+    (c.type_inv.values k).fits) room (search rules) run.same in
     record {
       past = omega (arith, inv.past, run.past);
       order = run.within;
       bytes = run-step (slot_bytes parts.own.now.layout) (cell parts.body.now (node parts.own.now kids)) c.loop-at.at
           c.run_end-end.result
           c.args.range.now.to c.loop-at.out.items c.extend_from_slice.new.self.items _ _ up run.within chunk (search
-              rules) inv.bytes;
+          rules) inv.bytes;
     }
 
 pub returns : goal.returns
 returns c =
     let parts = c.args.range.now.parts in
     run-over (slot_bytes parts.own.now.layout) (cell parts.body.now (node parts.own.now (kids_of parts.children.now)))
-        c.loop-at.at
+    c.loop-at.at
     c.args.range.now.to c.loop-at.out.items _ c.loop-at-test.false c.loop-at.invariant.bytes

@@ -11,10 +11,10 @@ invariant-loop-at l = record {
   order : l.at ≤ l.range.to;
   bytes : l.out.items ++ flat_map (slot_bytes l.range.parts.own.now.layout)
       (slots (cell l.range.parts.body.now (node l.range.parts.own.now (kids_of l.range.parts.children.now))) l.at
-          (l.range.to - l.at))
+      (l.range.to - l.at))
       ≡ l.fn.out.items ++ flat_map (slot_bytes l.range.parts.own.now.layout)
       (slots (cell l.range.parts.body.now (node l.range.parts.own.now (kids_of l.range.parts.children.now)))
-          l.range.from (l.range.to - l.range.from));
+      l.range.from (l.range.to - l.range.from));
 }
 
 abbrev pub decreases-loop-at : goal.decreases-loop-at

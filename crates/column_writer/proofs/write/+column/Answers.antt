@@ -26,7 +26,7 @@ write_pieces-write_own-requires-clause-short t c =
 pub write_children-loop-j-init : goal.write_children-loop-j-init
 write_children-loop-j-init t c =
     ahead-start c.args.layout (kids_of c.args.children.now) (pieces_cells c.args.pieces.now) c.args.body.now
-        c.requires.own c.requires.layouts
+    c.requires.own c.requires.layouts
     c.requires.held c.requires.light
 
 pub write_children-child_pieces-requires : goal.write_children-child_pieces-requires
@@ -42,17 +42,27 @@ write_children-write_pieces-requires t c =
     let lie =
     c.in_ok-below.ensures.lies child
     (lie-below c.args.layout children c.loop-j.j child c.args.pieces.now c.loop-j-test.true c.index-children-j.is
-        c.requires.lie) in
+    c.requires.lie) in
     let first =
     ahead-first c.args.layout c.loop-j.j children child (pieces_cells c.args.pieces.now) c.loop-j.body _ _ _
-        c.loop-j-test.true
+    c.loop-j-test.true
     c.index-children-j.is c.loop-j.invariant in
     let call =
     ahead-call c.args.layout c.loop-j.j child (kids_of (drop (c.loop-j.j + 1) children)) (pieces_cells
-        c.args.pieces.now)
-    (pieces_cells c.deref.result.now) c.loop-j.body _ _ _ below first in
-    (search (rules, at_most, small), (call.0, (subst (All (LiesAs child)) (sym c.deref.ensures.value) lie, (call.1,
-        call.2))))
+    c.args.pieces.now)
+    (pieces_cells c.deref.result.now) c.loop-j.body _ _ _ below first in (
+      search (rules, at_most, small),
+      (
+        call.0,
+        (
+          subst (All (LiesAs child)) (sym c.deref.ensures.value) lie,
+          (
+            call.1,
+            call.2,
+          ),
+        ),
+      ),
+    )
 
 pub write_children-loop-j-preserved : goal.write_children-loop-j-preserved
 write_children-loop-j-preserved t c =
@@ -61,9 +71,9 @@ write_children-loop-j-preserved t c =
     let below = ap pieces_cells c.deref.ensures.value ∙ c.in_ok-below.ensures.cells in
     let first =
     ahead-first c.args.layout c.loop-j.j children child (pieces_cells c.args.pieces.now) c.loop-j.body _ _ _
-        c.loop-j-test.true
+    c.loop-j-test.true
     c.index-children-j.is c.loop-j.invariant in
     ahead-next c.args.layout c.loop-j.j child (kids_of (drop (c.loop-j.j + 1) children)) (pieces_cells
-        c.args.pieces.now)
+    c.args.pieces.now)
     (pieces_cells c.deref.result.now) c.loop-j.body c.write_pieces.new.body _ _ _ below first
-        c.in_ok-write_pieces.ensures
+    c.in_ok-write_pieces.ensures

@@ -11,7 +11,7 @@ use Rattle.column_writer.proofs.write.write_body.Goals as goal
 pub loop-j-init : goal.loop-j-init
 loop-j-init c =
     write-start (kids_of c.args.layouts.now) (ranges_rows c.args.ranges.now) c.new-body.result c.requires.batch
-        c.new-body.ensures.nodes
+    c.new-body.ensures.nodes
     c.new-body.ensures.ranges c.new-body.ensures.bytes
 
 pub write_column-requires : goal.write_column-requires
@@ -21,10 +21,10 @@ write_column-requires c =
     let rows = row_cells (ranges_rows c.args.ranges.now) in
     let first =
     ahead-first Struct c.loop-j.j layouts child rows c.loop-j.body _ _ _ c.loop-j-test.true c.index-layouts-j.is
-        c.loop-j.invariant in
+    c.loop-j.invariant in
     let call =
     ahead-call Struct c.loop-j.j child (kids_of (drop (c.loop-j.j + 1) layouts)) rows (column_in c.loop-j.j
-        c.args.ranges.now) c.loop-j.body
+    c.args.ranges.now) c.loop-j.body
     _ _ _ refl first in
     record {
       ranges = all-columns (length layouts) c.loop-j.j c.args.ranges.now c.loop-j-test.true c.requires.ranges;
@@ -40,7 +40,7 @@ loop-j-preserved c =
     let rows = row_cells (ranges_rows c.args.ranges.now) in
     let first =
     ahead-first Struct c.loop-j.j layouts child rows c.loop-j.body _ _ _ c.loop-j-test.true c.index-layouts-j.is
-        c.loop-j.invariant in
+    c.loop-j.invariant in
     ahead-next Struct c.loop-j.j child (kids_of (drop (c.loop-j.j + 1) layouts)) rows (column_in c.loop-j.j
-        c.args.ranges.now) c.loop-j.body
+    c.args.ranges.now) c.loop-j.body
     c.write_column.new.body _ _ _ refl first c.in_ok-write_column.ensures

@@ -21,7 +21,7 @@ loop-batch-preserved c =
             rows = rows-then bs l.batch-index b l.start l.left to c.saturating_sub-start.result c.if-start-to.left
                 l.ranges.items
                 c.if-start-to.ranges.items _ _ c.loop-batch-test.true c.batch-item.is some least grown refl w.left-is
-                    on l.invariant.rows;
+                on l.invariant.rows;
             sized = λ n all.
                 subst (All (IsRange n)) (sym grown)
                 (all-ranges (IsRange n) l.ranges.items _ (l.invariant.sized n all)
@@ -37,8 +37,10 @@ loop-batch-preserved c =
             small = omega (arith, w.left-is, on, l.invariant.small);
             rows = rows-else bs l.batch-index b l.start l.left to c.saturating_sub-start.result c.if-start-to.left
                 l.ranges.items
-                c.if-start-to.ranges.items _ c.loop-batch-test.true c.batch-item.is w.if-start-to.false (omega (arith,
-                    c.if-left-eq0.false))
+                c.if-start-to.ranges.items _ c.loop-batch-test.true c.batch-item.is w.if-start-to.false (omega (
+                  arith,
+                  c.if-left-eq0.false,
+                ))
                 least same w.left-is on l.invariant.rows;
             sized = λ n all. subst (All (IsRange n)) (sym same) (l.invariant.sized n all);
           })

@@ -39,14 +39,14 @@ is_empty-requires g c = (c.args.layouts.now, c.loop-alloc.invariant.fits)
 pub len_of_batch-count-requires-clause-light : goal.len_of_batch-count-requires-clause-light
 len_of_batch-count-requires-clause-light g c =
     light-of c.args.schema.now.fields.items (kids_of c.args.layouts.now) (g.R.RowSource.rows c.loop-alloc.left)
-        c.requires.layouts
+    c.requires.layouts
     c.loop-alloc.invariant.sound
 
 pub batch_message-requires-clause-batch : goal.batch_message-requires-clause-batch
 batch_message-requires-clause-batch g c =
     batch-of c.args.schema.now.fields.items (kids_of c.args.layouts.now) (g.R.RowSource.rows c.loop-alloc.left)
     c.len_of_batch-count.result c.requires.layouts c.requires.table.columns c.requires.table.layouts
-        c.loop-alloc.invariant.sound
+    c.loop-alloc.invariant.sound
     c.len_of_batch-count.ensures.value
 
 pub skip-requires-clause-fits : goal.skip-requires-clause-fits
@@ -69,7 +69,7 @@ returns-in_err-written-2 g c =
     from-err start (g.S.Sink.sunk c.put_after-in-loop-alloc.new.sink) c.from_residual-in_err-written-2.result
     c.in_err-written-2.field-0.0 whole c.from_residual-in_err-written-2.ensures.1
     (c.in_err-written-2.ensures.goes start whole (batches (trees fs) (length (drop n left)) (drop n left) ++ end_mark)
-        comes)
+    comes)
 
 pub loop-alloc-smaller : goal.loop-alloc-smaller
 loop-alloc-smaller g c =
@@ -98,7 +98,7 @@ loop-alloc-preserved g c =
     let one = batch-some fs left some inv.sound in
     let comes =
     batch-comes start (g.S.Sink.sunk c.loop-alloc.sink) c.loop-alloc.written whole fs left behind n
-        c.deref-in-loop-alloc.result.now
+    c.deref-in-loop-alloc.result.now
     inv.so_far some inv.sound value bytes c.skip.ensures.rows in
     let fewer = ap length c.skip.ensures.rows in
     let rest = length-drop n left in
@@ -109,8 +109,18 @@ loop-alloc-preserved g c =
       so_far = c.in_ok-written-2.ensures.goes start whole (batches (trees fs) (length behind) behind ++ end_mark) comes;
       fits = c.skip.ensures.fits c.args.layouts.now inv.fits;
       sound = sound-left fs left behind n c.skip.ensures.rows inv.sound;
-      short = omega (arith, fewer, rest, counted, size, same, one, value, c.len_of_batch-count.ensures.bound,
-          inv.short);
+      short = omega (
+        arith,
+        fewer,
+        rest,
+        counted,
+        size,
+        same,
+        one,
+        value,
+        c.len_of_batch-count.ensures.bound,
+        inv.short,
+      );
     }
 
 pub returns : goal.returns
@@ -122,6 +132,6 @@ returns g c =
     let none = none-left c.is_empty.result (length left) c.is_empty.ensures c.loop-alloc-test.false in
     let comes =
     end-comes start (g.S.Sink.sunk c.loop-alloc.sink) c.loop-alloc.written whole (trees fs) left
-        c.loop-alloc.invariant.so_far none in
+    c.loop-alloc.invariant.so_far none in
     last-put start (g.S.Sink.sunk c.put_after-2.new.sink) c.put_after-2.result whole
     (c.put_after-2.ensures.goes start whole [] comes)

@@ -12,7 +12,7 @@ invariant-loop-alloc g l = record {
       WrittenSoFar (g.S.Sink.sunk l.fn.sink) (g.S.Sink.sunk l.sink) l.written
       (canon l.schema.fields.items (g.R.RowSource.rows l.fn.rows))
       (batches (trees l.schema.fields.items) (length (g.R.RowSource.rows l.left)) (g.R.RowSource.rows l.left) ++
-          end_mark);
+      end_mark);
   fits : g.R.RowSource.fits l.left l.layouts;
   sound : All (IsRow l.schema.fields.items) (g.R.RowSource.rows l.left);
   short : l.written + 2 ^ 39 * length (g.R.RowSource.rows l.left) ≤ 2 ^ 39 * (max_main_rows + 1);

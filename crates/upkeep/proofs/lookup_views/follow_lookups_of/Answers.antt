@@ -137,7 +137,7 @@ loop-place-preserved c = record {
       (moved (λ (ts : List Table) (rs : Rows). visits_in c.follow_lookup.new.stores.items
       ≤ visits_in c.loop-place.stores.items
       + 2 * referring_at (refers_by c.index-views-place.result.lookup c.args.table) c.args.table c.args.change.now ts
-          rs)
+      rs)
       c.loop-place.stores.items c.args.stores.now.items (sym c.loop-place.invariant.tables)
       (sym c.loop-place.invariant.rows) c.follow_lookup.ensures.visits)
       (view_counted c.args.views.now c.loop-place.place c.index-views-place.result c.args.table

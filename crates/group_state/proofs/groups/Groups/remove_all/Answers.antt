@@ -46,7 +46,7 @@ loop-changed-preserved c = (
   λ rows k.
       let P : List (List Datum) → Type 0 = λ xs. Keeps c.loop-changed.self xs in
       c.in_ok-remove_before.ensures.kept (with_befores (drop (c.loop-changed.changed-index + 1) c.args.changes.now)
-          rows)
+      rows)
       (subst P (befores-more c.args.changes.now c.loop-changed.changed-index c.changed-item.result rows
       c.loop-changed-test.true c.changed-item.is) (c.loop-changed.invariant.0 rows k)),
   (

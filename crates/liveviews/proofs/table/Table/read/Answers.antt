@@ -63,7 +63,7 @@ pub returns-clause-counted : goal.returns-clause-counted
 returns-clause-counted c =
     IfOk-weaker c.finish.result _ _
     (λ t same. subst (λ (x : Taken). IsCounted x) (sym same) c.in_ok-take_messages.ensures.counted)
-        c.finish.ensures.same
+    c.finish.ensures.same
 
 pub returns-clause-kept : goal.returns-clause-kept
 returns-clause-kept c =

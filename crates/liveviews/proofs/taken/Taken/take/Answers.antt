@@ -20,14 +20,14 @@ pub returns-in_default-clause-refused : goal.returns-in_default-clause-refused
 returns-in_default-clause-refused c =
     let P : List CheckedColumn → Type 0 = λ cs. HasHeavyRow (layouts_in cs) (cells_in cs) c.args.count in
     rows-refused (layouts_in c.args.columns.items) (cells_in c.args.columns.items) c.args.count c.args.self.now.rows
-        cause.CellTooHeavy
+    cause.CellTooHeavy
     (subst P c.deref-2.ensures.value (c.heaviest_row.ensures.heavy c.in_default.is))
 
 pub returns-clause-counted : goal.returns-clause-counted
 returns-clause-counted c =
     let batch : Batch = record { columns = c.args.columns; rows = c.args.count } in
     count-more c.args.self.now.batches.items c.push.new.self.items batch c.args.self.now.rows (c.args.self.now.rows +
-        c.args.count)
+    c.args.count)
     c.in_ok-push.ensures.items c.requires.counted refl
 
 pub returns-clause-taken : goal.returns-clause-taken
@@ -35,7 +35,7 @@ returns-clause-taken c = λ before.
     let columns = c.args.columns.items in
     let batch : Batch = record { columns = c.args.columns; rows = c.args.count } in
     let P : List CheckedColumn → Type 0 = λ cs. AreLightUpTo (layouts_in cs) (cells_in cs) c.args.count
-        c.in-Some.heaviest in
+    c.in-Some.heaviest in
     let light = subst P c.deref-2.ensures.value c.in-Some.ensures.light in
     let holds = subst (All HoldsCells) c.deref.ensures.value c.columns_law.ensures in
     taken-rows (layouts_in columns) (cells_in columns) (taken_rows c.args.self.now)
@@ -57,8 +57,8 @@ returns-clause-kept c = λ kept.
       heaviest = c.max-self.result;
     } in
     let P : List CheckedColumn → Type 0 = λ cs. AreLightUpTo (layouts_in cs) (cells_in cs) c.args.count
-        c.in-Some.heaviest in
+    c.in-Some.heaviest in
     let light = subst P c.deref-2.ensures.value c.in-Some.ensures.light in
     kept-more (layouts_in columns) c.args.self.now next batch c.in-Some.heaviest c.in_ok-push.ensures.items
-        c.requires.cells light
+    c.requires.cells light
     (omega (arith, c.max-self.ensures)) (omega (arith, c.max-self.ensures)) kept

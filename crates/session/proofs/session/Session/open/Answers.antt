@@ -46,7 +46,7 @@ returns-clause-shows c =
     c.config.view_is
     (opened_shown conf (map string_bytes c.in_ok-names.names.items) c.in_ok-links.links.items
     c.in_ok-tables.tables c.in_ok-records.records.items c.in_ok-names.ensures.names (c.in_ok-tables.ensures.stores
-        ∙ c.in_ok-names.ensures.stores) c.in_ok-tables.ensures.views
+    ∙ c.in_ok-names.ensures.stores) c.in_ok-tables.ensures.views
     (ap (λ (b : Buffer UndoRecord). b.items) c.in_ok-records.ensures)
     (subst (λ (x : Config). ShowsEach (tables_of x) c.in_ok-links.links.items (map (opened (tables_of x)) x.feeds))
     (sym c.config.view_is) c.in_ok-links.ensures))
@@ -62,7 +62,7 @@ returns-clause-config c =
     } in
     opened_config conf (map string_bytes c.in_ok-names.names.items) c.in_ok-links.links.items
     c.in_ok-tables.tables c.in_ok-records.records.items c.in_ok-names.ensures.names (c.in_ok-tables.ensures.stores
-        ∙ c.in_ok-names.ensures.stores) c.in_ok-tables.ensures.views
+    ∙ c.in_ok-names.ensures.stores) c.in_ok-tables.ensures.views
     ∙ c.config.view_is
 
 pub new-requires-clause-right : goal.new-requires-clause-right

@@ -26,10 +26,10 @@ invariant_of-self g c =
     let failed = err_from_is_err_and c.from_residual.result c.from_residual.ensures.1 in
     let p : SessionParts =
     parts (map string_bytes c.self.inside.names.items) c.self.inside.feeds.items c.self.inside.links.items
-        c.self.inside.tables c.self.inside.records.items in
+    c.self.inside.tables c.self.inside.records.items in
     let q : SessionParts =
     parts (map string_bytes c.self.inside.names.items) c.self.inside.feeds.items c.self.inside.links.items
-        c.write_rows.new.tables c.self.inside.records.items in
+    c.write_rows.new.tables c.self.inside.records.items in
     let old : Sunk = g.S.Sink.sunk c.args.sink.now in
     let new : Sunk = g.S.Sink.sunk c.write_rows.new.sink in
     let saturated : c.from_residual.result ≡ Err (Write c.in_err-written.field-0.0) =
@@ -42,19 +42,19 @@ invariant_of-self g c =
     let writes :
     WriteAnswers old new c.from_residual.result
     (stream_of (tables_in p.tables.stores) (view_at c.self.inside.tables.views c.view_place-place.result) (world_of
-        (rows_in p.tables.stores))) =
+    (rows_in p.tables.stores))) =
     rw saturated c.in_err-written.ensures.writes in
     let read :
     IsReadIfWhole (tables_in p.tables.stores) (view_at c.self.inside.tables.views c.view_place-place.result) (world_of
-        (rows_in p.tables.stores)) c.from_residual.result =
+    (rows_in p.tables.stores)) c.from_residual.result =
     refused_read (tables_in p.tables.stores) (view_at c.self.inside.tables.views c.view_place-place.result) (world_of
-        (rows_in p.tables.stores)) c.from_residual.result
+    (rows_in p.tables.stores)) c.from_residual.result
     (Write c.in_err-written.field-0.0) saturated in
     session_kept p q (λ s t. WriteStep (config_of p) s c.args.view.now old c.from_residual.result new × (t ≡ s))
     c.self.inside.records.capacity c.self.inside.records.capacity (columns_of c.self.inside.schemas.items)
     c.self.invariant
     (write_known p q c.args.view.now c.view_place-place.result (view_at c.self.inside.tables.views
-        c.view_place-place.result) old new
+    c.view_place-place.result) old new
     c.from_residual.result at below (view_is c.self.inside.tables.views c.view_place-place.result below) writes read
     c.write_rows.ensures.tables c.write_rows.ensures.rows refl refl (refl, refl))
     c.write_rows.ensures.tables c.write_rows.ensures.views c.self.invariant.capacity_is
@@ -63,10 +63,10 @@ pub invariant_of-self-2 : goal.invariant_of-self-2
 invariant_of-self-2 g c =
     let p : SessionParts =
     parts (map string_bytes c.self.inside.names.items) c.self.inside.feeds.items c.self.inside.links.items
-        c.self.inside.tables c.self.inside.records.items in
+    c.self.inside.tables c.self.inside.records.items in
     let q : SessionParts =
     parts (map string_bytes c.self.inside.names.items) c.self.inside.feeds.items c.self.inside.links.items
-        c.write_rows.new.tables c.self.inside.records.items in
+    c.write_rows.new.tables c.self.inside.records.items in
     let old : Sunk = g.S.Sink.sunk c.args.sink.now in
     let new : Sunk = g.S.Sink.sunk c.write_rows.new.sink in
     let at :
@@ -78,7 +78,7 @@ invariant_of-self-2 g c =
     c.self.inside.records.capacity c.self.inside.records.capacity (columns_of c.self.inside.schemas.items)
     c.self.invariant
     (write_known p q c.args.view.now c.view_place-place.result (view_at c.self.inside.tables.views
-        c.view_place-place.result) old new
+    c.view_place-place.result) old new
     (Ok c.in_ok-written.written) at below (view_is c.self.inside.tables.views c.view_place-place.result below)
     c.in_ok-written.ensures.writes c.in_ok-written.ensures.read c.write_rows.ensures.tables
     c.write_rows.ensures.rows refl refl (refl, refl))
@@ -103,19 +103,19 @@ returns-in_err-written-clause-step g c =
     let writes :
     WriteAnswers old new c.from_residual.result
     (stream_of (tables_in p.tables.stores) (view_at c.self.inside.tables.views c.view_place-place.result) (world_of
-        (rows_in p.tables.stores))) =
+    (rows_in p.tables.stores))) =
     rw saturated c.in_err-written.ensures.writes in
     let read :
     IsReadIfWhole (tables_in p.tables.stores) (view_at c.self.inside.tables.views c.view_place-place.result) (world_of
-        (rows_in p.tables.stores)) c.from_residual.result =
+    (rows_in p.tables.stores)) c.from_residual.result =
     refused_read (tables_in p.tables.stores) (view_at c.self.inside.tables.views c.view_place-place.result) (world_of
-        (rows_in p.tables.stores)) c.from_residual.result
+    (rows_in p.tables.stores)) c.from_residual.result
     (Write c.in_err-written.field-0.0) saturated in
     subst (λ (x : SessionParts). IsStep x
     (λ s t. WriteStep (config_of x) s c.args.view.now old c.from_residual.result new × (t ≡ s)) q)
     c.self.view_is
     (write_known p q c.args.view.now c.view_place-place.result (view_at c.self.inside.tables.views
-        c.view_place-place.result) old new
+    c.view_place-place.result) old new
     c.from_residual.result at below (view_is c.self.inside.tables.views c.view_place-place.result below) writes read
     c.write_rows.ensures.tables c.write_rows.ensures.rows refl refl (refl, refl))
 
@@ -136,7 +136,7 @@ returns-clause-step g c =
     (λ s t. WriteStep (config_of x) s c.args.view.now old (Ok c.in_ok-written.written) new × (t ≡ s)) q)
     c.self.view_is
     (write_known p q c.args.view.now c.view_place-place.result (view_at c.self.inside.tables.views
-        c.view_place-place.result) old new
+    c.view_place-place.result) old new
     (Ok c.in_ok-written.written) at below (view_is c.self.inside.tables.views c.view_place-place.result below)
     c.in_ok-written.ensures.writes c.in_ok-written.ensures.read c.write_rows.ensures.tables
     c.write_rows.ensures.rows refl refl (refl, refl))

@@ -42,7 +42,7 @@ invariant_of-self c =
       same = c.make_edit.ensures.table;
     } in
     same_live ss c.self.inside.views.items c.self.inside.states.items c.args.table c.index_mut.result.now
-        c.make_edit.new.store changed
+    c.make_edit.new.store changed
     c.in_err-change.ensures.makes.1 c.self.invariant
 
 pub returns-in_err-change : goal.returns-in_err-change
@@ -57,7 +57,7 @@ returns-in_err-change c =
     let failed = err_from_is_err_and c.from_residual.result c.from_residual.ensures.1 in
     rw (failed.1, failed.2, ← c.self.view_is)
     (edit_refused ss c.self.inside.views.items c.self.inside.states.items c.args.table c.index_mut.result.now
-        c.make_edit.new.store
+    c.make_edit.new.store
     (change_by c.args.role c.args.columns.items c.args.rows) c.in_err-change.field-0.0 c.requires.side changed
     c.in_err-change.ensures.makes)
 

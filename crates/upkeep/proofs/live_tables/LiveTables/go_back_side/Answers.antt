@@ -146,7 +146,7 @@ invariant_of-self c =
     (opened_live ss c.follow_lookups.new.stores.items c.self.inside.views.items c.self.inside.states.items
     c.follow_lookups.new.states.items c.args.table c.index_mut.result.now c.swap.new.store turn.Go c.args.change.now
     changed opened (ap live (sym c.swap.ensures.back)) (rw c.deref.ensures.value at c.in-Ok.ensures.kept)
-        c.self.invariant)
+    c.self.invariant)
 
 pub swap-requires-in-Err : goal.swap-requires-in-Err
 swap-requires-in-Err c =
@@ -180,7 +180,7 @@ invariant_of-self-in-Err c =
     c.follow_lookups.new.states.items c.args.table c.index_mut.result.now c.swap.new.store
     c.index_mut-in-Err.result.now c.swap-in-Err.new.store (shown c.args.change.now) turn.Go c.args.change.now changed
     opened (ap live (sym c.swap.ensures.back)) (rw c.deref.ensures.value at c.in-Err.ensures.err)
-        c.index_mut-in-Err.ensures.value
+    c.index_mut-in-Err.ensures.value
     c.swap-in-Err.ensures.slots c.swap.ensures.back c.self.invariant
 
 pub returns-in-Ok : goal.returns-in-Ok

@@ -10,13 +10,13 @@ index-requires c =
     let there : c.args.place < length c.self.inside.states.items =
     subst (λ n. c.args.place < n)
     (sym (live_many c.self.inside.stores.items c.self.inside.views.items c.self.inside.states.items c.self.invariant))
-        below in
+    below in
     subst (λ n. c.args.place < n) (sym c.self.inside.states.ok.0) there
 
 pub invariant_of-self : goal.invariant_of-self
 invariant_of-self c =
     opened_stays c.self.inside.stores.items c.rebuild.new.stores.items c.self.inside.views.items
-        c.self.inside.states.items
+    c.self.inside.states.items
     (record { tables = c.in_err-state.ensures.tables; rows = c.in_err-state.ensures.rows }) c.self.invariant
 
 pub index_mut-requires : goal.index_mut-requires
@@ -26,7 +26,7 @@ index_mut-requires c =
     let there : c.args.place < length c.self.inside.states.items =
     subst (λ n. c.args.place < n)
     (sym (live_many c.self.inside.stores.items c.self.inside.views.items c.self.inside.states.items c.self.invariant))
-        below in
+    below in
     subst (λ n. c.args.place < n) (sym c.self.inside.states.ok.0) there
 
 pub invariant_of-self-then-index : goal.invariant_of-self-then-index
@@ -46,4 +46,4 @@ returns-in_ok-state-clause-stale c =
 pub returns-else-index-clause-stale : goal.returns-else-index-clause-stale
 returns-else-index-clause-stale c =
     rw (← c.self.view_is) (fresh_was c.self.inside.states.items c.args.place c.index.result.now c.index.ensures
-        c.if-index.false)
+    c.if-index.false)

@@ -17,7 +17,7 @@ follow_last-requires-clause-fits c =
     c.self.inside.views.items c.deref.result.now c.self.inside.states.items c.index.result.now c.args.count
     c.deref.ensures.value c.self.invariant c.index.ensures (subst
     (λ (p : LiveParts). CanTakeBack c.args.count (rows_at (rows_in p.stores) 0)) (sym c.self.view_is) c.requires)
-        c.rows_law.ensures.table
+    c.rows_law.ensures.table
     c.rows_law.ensures.few
 
 pub invariant_of-self-2 : goal.invariant_of-self-2
@@ -27,5 +27,5 @@ invariant_of-self-2 c =
     c.index.result.now c.index_mut.result.now c.take_back.new.self c.args.count c.deref.ensures.value
     c.self.invariant c.index.ensures (subst
     (λ (p : LiveParts). CanTakeBack c.args.count (rows_at (rows_in p.stores) 0)) (sym c.self.view_is) c.requires)
-        c.in_ok-follow_last.ensures.kept
+    c.in_ok-follow_last.ensures.kept
     c.follow_last.ensures.tables c.follow_last.ensures.rows c.index_mut.ensures.value c.take_back.ensures

@@ -19,7 +19,7 @@ index-requires c =
     let there : c.args.place < length c.self.inside.states.items =
     subst (λ n. c.args.place < n)
     (sym (live_many c.self.inside.stores.items c.self.inside.views.items c.self.inside.states.items c.self.invariant))
-        below in
+    below in
     subst (λ n. c.args.place < n) (sym c.self.inside.states.ok.0) there
 
 pub kept_rows-requires-clause-fresh : goal.kept_rows-requires-clause-fresh
@@ -30,7 +30,7 @@ kept_rows-requires-clause-fresh c =
     let there : c.args.place < length c.self.inside.states.items =
     subst (λ n. c.args.place < n)
     (sym (live_many c.self.inside.stores.items c.self.inside.views.items c.self.inside.states.items c.self.invariant))
-        below in
+    below in
     stale_there c.self.inside.states.items c.args.self.now.stale c.args.place c.index.result.now
     (ap (λ p. p.stale) c.self.view_is ∙ c.in_ok-refresh.ensures.stale) c.index.ensures there
 
@@ -42,11 +42,11 @@ kept_rows-requires-clause-current c =
     state_current (tables_in c.self.inside.stores.items) (rows_in c.self.inside.stores.items)
     (numbered (rows_at (rows_in c.self.inside.stores.items) 0)) c.self.inside.views.items
     c.self.inside.states.items c.args.place c.index-view.result.now c.index.result.now c.index-view.ensures
-        c.index.ensures
+    c.index.ensures
     below c.self.invariant.current
 
 pub invariant_of-self : goal.invariant_of-self
 invariant_of-self c =
     opened_stays c.self.inside.stores.items c.kept_rows.new.stores.items c.self.inside.views.items
-        c.self.inside.states.items
+    c.self.inside.states.items
     (record { tables = c.kept_rows.ensures.tables; rows = c.kept_rows.ensures.same_rows }) c.self.invariant
