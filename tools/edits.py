@@ -215,8 +215,13 @@ class Trial:
             self.failed += [] if is_well else [f"{crate}/{edit.name}"]
 
 
+def code_in(file):
+    """A file's text without the lines that hold a comment alone: no proof depends on them."""
+    return "\n".join(line for line in read(file).split("\n") if not line.lstrip().startswith(("//", "--")))
+
+
 def stamp(root, crates, name):
-    """A sum of all that the answer to a crate's edits depends on: its text, that of the crates below, these tools, the toolchain."""
+    """A sum of all that the answer to a crate's edits depends on: its code, that of the crates below, these tools, the toolchain."""
     total = hashlib.sha256(subprocess.run(["rt", "version"], stdout=subprocess.PIPE, check=True).stdout)
     files = [f"{root}/{it}" for it in JUDGES] + files_below(f"{root}/crates/{name}/must-fail")
     for crate in sorted(below(crates, name)):
@@ -224,7 +229,7 @@ def stamp(root, crates, name):
         for part in PARTS:
             files += files_below(f"{root}/crates/{crate}/{part}")
     for file in files:
-        total.update(repr([os.path.relpath(file, root), read(file)]).encode())
+        total.update(repr([os.path.relpath(file, root), code_in(file)]).encode())
     return total.hexdigest()
 
 
