@@ -7,11 +7,11 @@ use dictionaries::Dictionary;
 use std::marker::Model;
 use values::Layout;
 
-/// The length of an array and the nulls that are claimed for it: Message.fbs, struct `FieldNode`.
+/// The length of an array, in slots, and the null count that is claimed for it: Message.fbs, struct `FieldNode`.
 #[derive(Clone, Copy, Debug, PartialEq, Eq)]
 pub struct FieldNode {
     pub length: usize,
-    /// As stored: whether it is true is checked on the body.
+    /// The null count as it is stored. Whether it is true is checked on the body.
     pub nulls: i64,
 }
 
@@ -34,7 +34,7 @@ pub fn own_ranges(layout: Layout) -> usize
     }
 }
 
-/// The values of a dictionary, and how they would lie in an array of their own.
+/// The values of a dictionary, and the layout that an array of them would have.
 #[derive(Drop)]
 pub struct DictionaryValues {
     pub layout: Layout,
@@ -44,24 +44,25 @@ pub struct DictionaryValues {
 /// What an array has of its own: its layout, its node, and where its buffers lie in the body.
 #[derive(Drop)]
 pub struct ArrayData {
-    /// How its slots lie: of indices into a dictionary, where it has one.
+    /// How its slots lie. Where it has a dictionary, this is the layout of the indices.
     pub layout: Layout,
     /// The dictionary whose values its slots stand for, as it is for this batch.
     pub dictionary: Option<DictionaryValues>,
     /// The number of slots.
     pub len: usize,
-    /// How many of them are said to be null.
+    /// The null count as it is stored.
     pub nulls: i64,
     pub validity: BufferRange,
-    /// Of texts, bytes and lists; elsewhere of length 0.
+    /// Where the offsets of texts, bytes and lists lie; of length 0 for any other layout.
     pub offsets: BufferRange,
-    /// The bits or numbers of the slots, or the bytes that the offsets point into; of lists and structs of length 0.
+    /// Where the bits or numbers of the slots lie, or the bytes that the offsets point into; of length 0 for lists and
+    /// structs.
     pub values: BufferRange,
 }
 
 /// An array with its children.
 ///
-/// Contracts see it as a tree with a `ArrayData` at each node.
+/// Contracts see it as a tree with an `ArrayData` at each node.
 #[derive(Drop)]
 pub struct Array {
     pub own: ArrayData,

@@ -24,7 +24,7 @@ use Rattle.std.specs.Option.{option_map}
 use Rattle.byteorder.specs.Endian.{little_number}
 
 infixl 10 ◌>>=◌
--- what is read next is read only where this could be
+-- the second is read only where the first could be
 abbrev pub ◌>>=◌ : {A B : Type 0} → Option A → (A → Option B) → Option B
 None >>= next = None
 (Some x) >>= next = next x

@@ -186,7 +186,7 @@ impl<'a> TableRef<'a> {
     }
 }
 
-/// `place` less the signed distance whose bits are `distance`.
+/// `place` less the signed distance whose bits are `distance`; `None` where that is negative.
 fn vtable_place(place: usize, distance: u32) -> Option<usize>
     requires { place < 2 ^ 63 }
     ensures { result ≡ place_of_vtable place distance }
