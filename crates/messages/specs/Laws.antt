@@ -1,4 +1,4 @@
--- What pieces can't change.
+-- What doesn't depend on how the bytes of a stream are cut into pieces.
 use Rattle.std.specs.Prelude.{◌≡◌, ℕ, suc, ◌≤◌, List, [], ◌++◌, length, take, drop, None, Some, Result, Ok, Err}
 use Rattle.std.specs.List.{concat}
 use Rattle.values.specs.declared.faults.StreamFault.{StreamFault}

@@ -1,4 +1,4 @@
--- Going over the nodes of fields, which may be too short.
+-- Skipping the nodes of fields, whose arrays may be too short.
 use Rattle.std.specs.Prelude.{◌≡◌, ℕ, ◌+◌, Bool, true, false, List, Option, MatchOption}
 use Rattle.values.specs.Rose.{Rose, Roses, rose_size, roses_size}
 use Rattle.values.specs.declared.layout.Layout.{Layout}

@@ -1,4 +1,4 @@
--- What a message is that is found whole.
+-- What holds of each complete message.
 use Rattle.std.specs.Prelude.{◌≡◌, ℕ, ◌≤◌, List, length, map, Option, None, Some, Ok}
 use Rattle.values.specs.Rose.{Rose}
 use Rattle.schema_meta.specs.Entry.{Entry}

@@ -1,4 +1,4 @@
--- How many bytes more a message that isn't whole wants at least.
+-- How many further bytes an incomplete message wants at least.
 use Rattle.std.specs.Prelude.{◌≡◌, ℕ, ◌<◌, ◌≤◌, List, ◌++◌, length, slice_range, Option, None, Ok}
 use Rattle.messages.specs.declared.framing.Progress.{Progress}
 use Rattle.messages.specs.declared.framing.Progress.TheVariants as progress

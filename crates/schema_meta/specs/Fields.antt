@@ -60,7 +60,7 @@ children_of below k t = do
   v ← readable (vector_of t fbs.children)
   both second (needs fault.BadType (may_have k (count_in v))) (fields_in below v)
 
--- the parts of a field that its kind doesn't bear on, and those that it does
+-- the parts of a field that don't depend on its kind, and those that do
 pub record Label : Type 0 where
   pub name : List ℕ
   pub nullable : Bool
@@ -90,7 +90,7 @@ field l c =
 unfoldable pub label_of : Table → Reading Label
 label_of t = both label (name_of t) (bool_of t fbs.nullable)
 
--- Where the kind can't be read, or isn't taken, that is the fault, and nothing that it bears on is read.
+-- Where the kind can't be read, or isn't taken, that is the fault, and nothing that depends on it is read.
 unfoldable pub content_of : (Vector → Reading (List (Rose Entry))) → Table → Reading Content
 content_of below t = do
   k ← kind_of t
@@ -115,7 +115,7 @@ children_at (Some t) = children_by (kind_of t) (vector_of t fbs.children)
 unfoldable pub child_at : Vector → ℕ → Option Vector
 child_at v i = children_at (entry_of v i)
 
--- The fields of a vector, with at most this many levels of fields, and no field below them.
+-- the fields of a vector, nested to at most this many levels
 unfoldable pub forest : ℕ → Vector → Reading (List (Rose Entry))
 forest zero v = if v.count == 0 then Ok [] else Err (one fault.TooManyFields)
 forest (suc depth) v = each (entry_by (forest depth) v) 0 v.count
