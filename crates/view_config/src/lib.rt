@@ -1,4 +1,4 @@
-//! Configurations, read from TOML: the main table, side tables, the feeds that change them, and the views that are
+//! Reads configurations from TOML: the main table, side tables, the feeds that change them, and the views that are
 //! written of them.
 //!
 //! `read_config` is proved against one definition, `text_means` of `specs/Config.antt`: which configuration a text
