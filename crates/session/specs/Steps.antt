@@ -123,7 +123,7 @@ abbrev pub given_answer : List Table → Role → Past → ℕ → Option Messag
 given_answer tables role past used None = Ok (pushed used None)
 given_answer tables role past used (Some m) = message_answer tables past used (kind_of m) (edit_in role m)
 
--- what a push answers where the feed gave so much
+-- what a push answers, by what the feed gave
 abbrev pub push_answer : List Table → Role → Past → Result Given StreamFault → Result Pushed Fault
 push_answer tables role past (Ok g) = given_answer tables role past g.used g.event
 push_answer tables role past (Err f) = Err (refused (cause_named f))
@@ -143,7 +143,7 @@ push_past tables role past (Err f) = past
 abbrev pub with_feed : Channel → FeedState → Channel
 with_feed c fed = record { role = c.role; fed = fed }
 
--- the channel after a push, where the feed gave so much
+-- the channel after a push, by what the feed gave
 abbrev pub push_channel : Channel → List ℕ → Result Given StreamFault → Channel
 push_channel c piece gave = with_feed c (after_push c.fed piece gave)
 
