@@ -103,8 +103,9 @@ abbrev mutual
 abbrev pub LiesIn : List ℕ → BufferRange → Type 0
 LiesIn body s = s.from + s.len ≤ length body
 
--- What a message's metadata vouches for before the body is looked at: an array's buffers lie within the body, its
--- length is below 2^31, it has the children that its layout wants, and the children of a struct are long enough.
+-- What the checks of a message's metadata have shown before the body is looked at: an array's buffers lie within the
+-- body, its length is below 2^31, it has the children that its layout wants, and the children of a struct are long
+-- enough.
 pub record IsArrayData (body : List ℕ) (p : ArrayData) (kids : Roses ArrayData) : Type 0 where
   pub validity : LiesIn body p.validity
   pub offsets : LiesIn body p.offsets

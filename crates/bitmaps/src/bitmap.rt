@@ -27,7 +27,7 @@ impl Model for Bitmap {
     ghost invariant = { λ b. IsPacked b.bytes.items b.len };
 }
 
-/// Adds a bit behind the `len` bits that the bytes hold.
+/// Adds a bit after the `len` bits that the bytes hold.
 #[tactic(auto, using(crate::proofs::PushLemmas::pushing))]
 fn push_bit(bytes: &mut Vec<u8>, len: usize, bit: bool) -> Result<(), AllocError>
     requires { IsPacked bytes.old.items len }

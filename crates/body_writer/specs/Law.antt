@@ -65,7 +65,7 @@ BatchLaw =
     → Stand body ranges b (buffers_below Struct 0 ts rows)
     → AreRead body (placed_all all ranges n b ts) 0 rows × ArePlaced body (placed_all all ranges n b ts)
 
--- nodes and buffers that are appended come right behind those that were there
+-- nodes and buffers that are appended come right after those that were there
 
 abbrev pub NodesStandLaw : Type 0
 NodesStandLaw = (before xs after : List FieldNode) → AreNodes (before ++ (xs ++ after)) (length before) xs

@@ -85,7 +85,7 @@ fn push_content(out: &mut Vec<u8>, place: u64, at: u64, slot: &Slot) -> Result<(
     }
 }
 
-/// Appends the fields of the table at `table`, the first behind `cursor`, whose objects have room
+/// Appends the fields of the table at `table`, the first after `cursor`, whose objects have room
 /// from `at` on.
 #[tactic(auto, using(crate::proofs::Ends::ends, crate::proofs::Views::slots))]
 fn push_fields(
@@ -112,7 +112,7 @@ fn push_fields(
     push_zeros(out, layout::up_to(end, 4) - end)
 }
 
-/// Appends the vtable's entries for these slots, the first field behind `cursor`.
+/// Appends the vtable's entries for these slots, the first field after `cursor`.
 #[tactic(auto, using(crate::proofs::Ends::ends, crate::proofs::Views::slots))]
 fn push_entries(out: &mut Vec<u8>, cursor: u64, slots: &[Slot]) -> Result<(), AllocError>
     requires fits { FitAll (views slots.now) }

@@ -25,7 +25,7 @@ Brings known brought (header.Dictionary d) = brought ≡ None
 Brings known brought (header.Batch b) = brought ≡ None
 Brings known brought header.End = brought ≡ None
 
--- Its body begins behind its first eight bytes, it lies within the bytes, and it brings a schema or none.
+-- Its body begins after its first eight bytes, it lies within the bytes, and it brings a schema or none.
 pub record IsMessage (known : Known) (bytes : List ℕ) (w : Whole) : Type 0 where
   pub framed : 8 ≤ w.front
   pub within : end_of w ≤ length bytes

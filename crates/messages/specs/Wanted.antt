@@ -13,7 +13,7 @@ pub record Wants (later : List ℕ → Reading (Option Whole)) (wanted : ℕ) : 
   pub some : 1 ≤ wanted
   pub short : (more : List ℕ) → length more < wanted → later more ≡ Ok None
 
--- what is read once more bytes stand behind these
+-- what is read once more bytes stand after these
 abbrev pub followed : Known → List ℕ → List ℕ → Reading (Option Whole)
 followed known bytes more = first known (bytes ++ more)
 

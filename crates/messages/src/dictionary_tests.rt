@@ -166,7 +166,7 @@ fn takes_dictionaries(rt: HostRuntime) -> Result<(), Fail> {
     Ok(())
 }
 
-/// The stream with another byte at one place answers so.
+/// Asserts the answer to the stream with another byte at one place.
 fn answers_with(
     rt: &(impl Abort + AllocGlobal),
     place: usize,

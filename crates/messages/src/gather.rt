@@ -125,7 +125,7 @@ fn take_whole(alloc: Global, state: &State, found: Found, piece: &[u8]) -> Resul
     })
 }
 
-/// Looks for a message in the held bytes and the piece, which is copied behind them.
+/// Looks for a message in the held bytes and the piece, which is copied after them.
 fn advance_held(
     alloc: Global,
     state: &State,

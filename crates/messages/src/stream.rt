@@ -29,7 +29,7 @@ pub struct Framer {
     // The first `len` are those of an incomplete message. What comes after them is of a prepared piece.
     bytes: Vec<u8>,
     len: usize,
-    // Fewer than so many further bytes neither complete the message nor show a fault.
+    // Fewer further bytes than this neither complete the message nor show a fault.
     wanted: usize,
     pending: Pending,
 }

@@ -48,7 +48,7 @@ flagged b [] n = []
 flagged b (e ∷ es) zero = record { key = e.key; is_live = b; is_new = e.is_new } ∷ es
 flagged b (e ∷ es) (suc n) = e ∷ flagged b es n
 
--- What holds of keys, holders and entries. A row that brought its key has a key behind those of all rows before it, so
+-- What holds of keys, holders and entries. A row that brought its key has a key after those of all rows before it, so
 -- that the key can go when the row does.
 pub record IsIndex (keys : List Key) (holders : List ℕ) (entries : List Entry) (live : ℕ) : Type 0 where
   pub as_many : length holders ≡ length keys

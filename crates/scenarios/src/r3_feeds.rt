@@ -117,7 +117,7 @@ fn r3_truncated(rt: HostRuntime) {
     assert!(rt; feed.is_broken());
 }
 
-/// The end of the input before a schema, and behind one.
+/// The end of the input before a schema, and after one.
 #[test]
 fn r3_finish(rt: HostRuntime) {
     let mut none = Feed::open(rt.alloc(), None);

@@ -1,4 +1,4 @@
--- What a batch's header that fits vouches for of its arrays.
+-- What holds of a batch's arrays where its header fits.
 use Rattle.std.specs.Prelude.{◌≡◌, ℕ, ℤ, All, List, length, Some}
 use Rattle.values.specs.Datum.{Datum}
 use Rattle.values.specs.Layouts.{Holds}

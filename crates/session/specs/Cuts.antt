@@ -235,7 +235,7 @@ Took bytes before after =
     → (new : Sunk) × (slice_get after n ≡ Some new) × Appends old.taken new.taken (bytes n)
 
 -- A run that ended in this state, and did this to its sinks, left this: the edits that are accepted and not undone,
--- how many of them can be undone, and of each sink that tells its bytes those that went into it. What was offered of a
+-- how many of them can be undone, and of each sink that shows its bytes those that went into it. What was offered of a
 -- message that isn't complete is no part of it.
 pub record Leaves (left : Left) (new : State) (before after : List Sunk) : Type 0 where
   pub past : new.past ≡ left.past

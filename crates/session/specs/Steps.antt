@@ -163,7 +163,7 @@ PushBy tables past c true piece answer next_past next =
 PushBy tables past c false [] answer next_past next = (answer ≡ Ok (pushed 0 None)) × (next_past ≡ past) × (next ≡ c)
 PushBy tables past c false (b ∷ bs) answer next_past next = Gets tables past c (b ∷ bs) answer next_past next
 
--- A push to a channel answers so, and leads there.
+-- a push to a channel: its answer, and the past and the channel after it
 abbrev pub Pushes : List Table → Past → Channel → List ℕ → Result Pushed Fault → Past → Channel → Type 0
 Pushes tables past c piece answer next_past next =
     PushBy tables past c (is_broken c.fed.condition) piece answer next_past next
@@ -200,7 +200,7 @@ abbrev pub FinishBy : Channel → Bool → Result (Unit {0}) Fault → Channel �
 FinishBy c true answer next = (answer ≡ Err (refused cause.FeedBroken)) × (next ≡ c)
 FinishBy c false answer next = Ends c answer next
 
--- A channel's end answers so, and leads there.
+-- the end of a channel's input: its answer, and the channel after it
 abbrev pub FinishOf : Channel → Result (Unit {0}) Fault → Channel → Type 0
 FinishOf c answer next = FinishBy c (is_broken c.fed.condition) answer next
 
@@ -223,7 +223,7 @@ undone_by (suc d) past = record { edits = drop 1 past.edits; depth = d }
 unfoldable pub undone : Past → Past
 undone past = undone_by past.depth past
 
--- An undo answers so, and leads there; memory may be refused where there is an edit to undo.
+-- An undo: its answer, and the past after it. Memory may be refused where there is an edit to undo.
 abbrev pub UndoBy : ℕ → Past → Result (Unit {0}) Fault → Past → Type 0
 UndoBy zero past answer next = (answer ≡ Err (refused cause.NothingToUndo)) × (next ≡ past)
 UndoBy (suc d) past (Ok u) next = next ≡ undone past
@@ -256,7 +256,7 @@ abbrev pub IsReadIfWhole : List Table → View → World → Result ℕ ViewFaul
 IsReadIfWhole tables view w (Ok n) = IsReadAsView tables view w (stream_of tables view w)
 IsReadIfWhole tables view w (Err f) = Unit {0}
 
--- A write of a view answers so, and does this to its sink.
+-- a write of a view: its answer, and what it does to its sink
 abbrev pub WritesView : List Table → Past → Option View → Sunk → Result ℕ ViewFault → Sunk → Type 0
 WritesView tables past None old answer new = (answer ≡ Err view_fault.UnknownView) × (new ≡ old)
 WritesView tables past (Some view) old answer new =

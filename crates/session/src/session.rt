@@ -297,7 +297,7 @@ impl Session {
     }
 
     /// Writes the canonical stream of a view, and returns its length in bytes. On an error the sink took a beginning of
-    /// that stream, whose length the error tells. A stale view is built anew first.
+    /// that stream, whose length is in the error. A stale view is built anew first.
     pub fn write_view<S: Sink>(&mut self, view: &str, sink: &mut S) -> Result<u64, ViewFault>
         ensures step { IsStep self.old
             (λ s t. WriteStep (config_of self.old) s view.now (S.sunk sink.old) result (S.sunk sink.new)

@@ -30,12 +30,12 @@ use Rattle.stream_writer.specs.declared.sink.DeviceFault.{DeviceFault}
 use Rattle.stream_writer.specs.declared.faults.WriteFault.{WriteFault}
 use Rattle.stream_writer.specs.declared.faults.WriteFault.TheVariants.{Memory, Device}
 
--- the bytes that a sink took, where it tells them, and its failures, modulo 2^64
+-- the bytes that a sink took, where it shows them, and its failures, modulo 2^64
 pub record Sunk : Type 0 where
   pub taken : Option (List ℕ)
   pub failures : ℕ
 
--- of a sink that tells its bytes
+-- of a sink that shows its bytes
 abbrev pub sunk_of : List ℕ → ℕ → Sunk
 sunk_of bytes failures = record { taken = Some bytes; failures = failures }
 

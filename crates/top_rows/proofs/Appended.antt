@@ -1,4 +1,4 @@
--- A loop that inserts ascending keys one after another: the next one comes behind those that are there.
+-- A loop that inserts ascending keys one after another: the next one comes after those that are there.
 use Rattle.std.proofs.Common.{◌≡◌, ap, ◌∙◌}
 use Rattle.std.specs.BTreeSet.{insert_key}
 use Rattle.std.specs.Cmp.{IsTotalOrder}

@@ -7,7 +7,7 @@ use crate::cells::{Kind, Value};
 use crate::key_parts::{KeyBytes, KeyText};
 use std::alloc::{AllocError, Global};
 
-/// A value by which rows are told apart, grouped and ordered. Lists and structs are no keys.
+/// A value by which rows are identified, grouped and ordered. Lists and structs are no keys.
 ///
 /// Keys of one column are of one kind or null. Their order is that of `cmp_values`, so nulls come last.
 #[derive(Debug, Drop, PartialEq, Eq, PartialOrd, Ord, Hash)]
