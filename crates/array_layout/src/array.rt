@@ -10,6 +10,7 @@ use values::Layout;
 /// The length of an array, in slots, and the null count that is claimed for it: Message.fbs, struct `FieldNode`.
 #[derive(Clone, Copy, Debug, PartialEq, Eq)]
 pub struct FieldNode {
+    /// The number of slots.
     pub length: usize,
     /// The null count as it is stored. Whether it is true is checked on the body.
     pub nulls: i64,
@@ -18,7 +19,9 @@ pub struct FieldNode {
 /// A buffer's place in the body, in bytes: Message.fbs, struct `Buffer`.
 #[derive(Clone, Copy, Debug, PartialEq, Eq)]
 pub struct BufferRange {
+    /// Where the buffer begins, in bytes from the start of the body.
     pub from: usize,
+    /// Its length in bytes.
     pub len: usize,
 }
 
@@ -52,6 +55,7 @@ pub struct ArrayData {
     pub len: usize,
     /// The null count as it is stored.
     pub nulls: i64,
+    /// Where the validity bitmap lies; of length 0 where it is left out.
     pub validity: BufferRange,
     /// Where the offsets of texts, bytes and lists lie; of length 0 for any other layout.
     pub offsets: BufferRange,

@@ -4,10 +4,12 @@ use crate::view::View;
 use std::marker::Model;
 use values::LogicalField;
 
-/// A declared table: its columns, the number of its key column, and how many rows may be live at once.
+/// A declared table.
 #[derive(Debug, Drop)]
 pub struct Table {
+    /// The number of the key column.
     pub key: usize,
+    /// How many rows may be live at once.
     pub max_rows: usize,
     pub columns: Vec<LogicalField>,
 }

@@ -74,10 +74,11 @@ pub enum Outputs {
     },
 }
 
-/// A column of a view: its name, and the number of the column that it shows.
+/// A column of a view without groups.
 #[derive(Debug, Drop)]
 pub struct Output {
     pub name: String,
+    /// The number of the column of joined rows that it shows.
     pub column: usize,
 }
 
@@ -119,16 +120,18 @@ pub enum Aggregate {
     Count,
     /// In how many of the group's rows this column isn't null.
     CountOf(usize),
-    /// The sum of this column's values that aren't null; null where there is none. The same goes for the least and the
-    /// greatest.
+    /// The sum of this column's values that aren't null; null where there is none.
     Sum(usize),
+    /// The least of this column's values that aren't null; null where there is none.
     Least(usize),
+    /// The greatest of this column's values that aren't null; null where there is none.
     Greatest(usize),
 }
 
 /// A column of the output by which rows are sorted.
 #[derive(Clone, Copy, Debug)]
 pub struct OrderBy {
+    /// The place of the column among the view's outputs.
     pub column: usize,
     pub direction: Direction,
 }
