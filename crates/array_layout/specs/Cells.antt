@@ -113,6 +113,7 @@ abbrev mutual
 abbrev pub len_of : Rose ArrayData → ℕ
 len_of (node p kids) = p.len
 
+-- all cells of an array
 unfoldable pub cells : List ℕ → Rose ArrayData → Reading (List Datum)
 cells body t = each (λ i. cell body t i) 0 (len_of t)
 

@@ -60,15 +60,17 @@ children_of below k t = do
   v ← readable (vector_of t fbs.children)
   both second (needs fault.BadType (may_have k (count_in v))) (fields_in below v)
 
--- the parts of a field that don't depend on its kind, and those that do
+-- the parts of a field that don't depend on the kind of its type
 pub record Label : Type 0 where
   pub name : List ℕ
   pub nullable : Bool
 
+-- how a field's values are stored: their type, and the dictionary encoding, if there is one
 pub record Storage : Type 0 where
   pub stored : ColType
   pub encoding : Option DictionaryEncoding
 
+-- how the values are stored, and the field's children
 pub record Content : Type 0 where
   pub storage : Storage
   pub children : List (Rose Entry)
@@ -96,6 +98,7 @@ content_of below t = do
   k ← kind_of t
   both content (both storage (type_of k t) (field_encoding_of k t)) (children_of below k t)
 
+-- a field by its table, where `below` reads a vector of fields
 unfoldable pub field_of : (Vector → Reading (List (Rose Entry))) → Table → Reading (Rose Entry)
 field_of below t = both field (label_of t) (content_of below t)
 

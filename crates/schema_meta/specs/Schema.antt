@@ -30,5 +30,6 @@ unfoldable pub columns_of : Vector → Reading (List (Rose Entry))
 columns_of v =
     both second (needs fault.TooManyFields (nat_le (total max_depth v) max_fields)) (forest max_depth v >>= judged)
 
+-- the columns that a Schema table means
 unfoldable pub schema_of : Table → Reading (List (Rose Entry))
 schema_of t = both second (endianness_of t) (readable (vector_of t fbs.fields) >>= fields_in columns_of)

@@ -64,6 +64,7 @@ pub record Channel : Type 0 where
   pub role : Role
   pub fed : FeedState
 
+-- a state of a session: its past, and the channel of each declared feed, in order
 pub record State : Type 0 where
   pub past : Past
   pub channels : List Channel
@@ -105,12 +106,14 @@ edit_in role (dictionary id delta values) = None
 edit_in role (batch columns rows body) = Some (edit_of role (rows_in rows columns))
 edit_in role ended = None
 
+-- which kind of message it was
 abbrev pub kind_of : Message → Event
 kind_of (schema fields) = event.Schema
 kind_of (dictionary id delta values) = event.Dictionary
 kind_of (batch columns rows body) = event.Batch
 kind_of ended = event.End
 
+-- what a push answers for a message whose edit fits, or has this cause
 abbrev pub judged : ℕ → Event → Option Unfit → Result Pushed Fault
 judged used e None = Ok (pushed used (Some e))
 judged used e (Some u) = Err (record { cause = named u; used = used })

@@ -18,12 +18,15 @@ use Rattle.stream_writer.specs.Batch.{batch_metadata}
 abbrev pub message : List ℕ → List ℕ → List ℕ
 message metadata body = (255 ∷ 255 ∷ 255 ∷ 255 ∷ []) ++ (little_bytes 4 (length metadata) ++ (metadata ++ body))
 
+-- the continuation mark, and a metadata size of 0
 abbrev pub end_mark : List ℕ
 end_mark = 255 ∷ 255 ∷ 255 ∷ 255 ∷ 0 ∷ 0 ∷ 0 ∷ 0 ∷ []
 
+-- the Schema message, which has no body
 unfoldable pub schema_message : List (Rose NamedType) → List ℕ
 schema_message fs = message (schema_metadata fs) []
 
+-- the RecordBatch message of these rows
 unfoldable pub batch_message : Roses Layout → List (List Datum) → List ℕ
 batch_message ls rows = message (batch_metadata ls rows) (body_bytes ls rows)
 
@@ -50,5 +53,6 @@ batches ls (suc most) (row ∷ rows) =
 abbrev pub trees : List (Rose NamedType) → Roses Layout
 trees fs = trees_of (kids_of fs)
 
+-- the canonical stream of a table with these columns and rows
 unfoldable pub canon : List (Rose NamedType) → List (List Datum) → List ℕ
 canon fs rows = schema_message fs ++ (batches (trees fs) (length rows) rows ++ end_mark)

@@ -51,6 +51,7 @@ abbrev pub made_by : Outputs → Option (List Datum) → Option (List Datum)
 made_by (columns outputs) joined = option_map (shown_row outputs) joined
 made_by (groups by outputs) joined = joined
 
+-- what a view makes of a row of the main table, joined and filtered; `None` where it isn't kept
 abbrev pub made_row : View → Side → List Datum → Option (List Datum)
 made_row v side row = made_by v.outputs (kept_row v side row)
 
@@ -67,6 +68,7 @@ abbrev pub referring_by : Option Lookup → List Datum → Option (List Datum)
 referring_by None row = None
 referring_by (Some l) row = Some (cell_at row l.on ∷ [])
 
+-- the same by the view's lookup
 abbrev pub referring_row : View → List Datum → Option (List Datum)
 referring_row v row = referring_by v.lookup row
 
