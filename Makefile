@@ -1,4 +1,5 @@
-# The ways in: `make try`, `make run`, `make test`, `make edits`, `make ci`, `make limits` and `make bench`.
+# What to make: `make try`, `make run`, `make install`, `make test`, `make edits`, `make ci`, `make limits` and
+# `make bench`.
 
 PREFIX ?= /usr/local
 LV := crates/lv/out/lv
@@ -6,7 +7,8 @@ OUT ?= out/orders.canon.arrows
 
 .PHONY: try run test edits ci limits bench install lv need-rt need-python
 
-# Recasts the sample stream to a file of its own, and inspects that file; then runs the script of the report, which writes three views.
+# Recasts the sample stream to a file of its own, and inspects that file; then runs the script of the report, which
+# writes three views.
 run: lv
 	@mkdir -p out
 	$(LV) recast examples/orders.arrows $(OUT)
@@ -20,8 +22,8 @@ try: need-rt
 	@cd crates/lv && rt try --data orders.arrows=../../examples/orders.arrows -- inspect orders.arrows
 	@echo "(proved=no: this was a try; make run proves lv first)"
 
-# The merge gate: every proof from nothing, contracts, layout, tests, must-fail edits, and the program over its runs. Of crates whose
-# edits were all refused as they stand (tools/edits-tried.txt) it tries a fifth.
+# The merge gate: every proof from nothing, contracts, layout, tests, must-fail edits, and the program over its runs. Of
+# crates whose edits were all refused as they stand (tools/edits-tried.txt) it tries a fifth.
 test: need-rt need-python
 	@tools/gate.py --due
 

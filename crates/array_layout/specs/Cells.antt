@@ -69,7 +69,7 @@ abbrev pub indexed : List Datum → ℤ → Reading Datum
 indexed values (pos n) = must fault.DictionaryIndex (slice_get values n)
 indexed values (negsuc n) = Err (one fault.DictionaryIndex)
 
--- A valid slot of an array of indices. Indices are whole numbers.
+-- a valid slot of an array of indices, which stands for a value of the dictionary
 abbrev pub coded_by : Layout → List Datum → List ℕ → ℕ → Reading Datum
 coded_by (Int w s) values indices i = indexed values (number_at s (bytes_in w) indices i)
 coded_by l values indices i = Err (one fault.DictionaryIndex)
@@ -86,7 +86,7 @@ value_by (Binary o) body p item row i = Ok (bytes (slice_at o (bytes_of body p.o
 value_by (Listed o) body p item row i = list_of (items_at item o (bytes_of body p.offsets) i)
 value_by Struct body p item row i = structure_of (row i)
 
--- a valid slot
+-- a valid slot, of an array with a dictionary or without
 abbrev pub slot_by : Option DictionaryValues → List ℕ → ArrayData → (ℕ → Reading Datum) → (ℕ → Reading (List Datum)) → ℕ
     → Reading Datum
 slot_by None body p item row i = value_by p.layout body p item row i
@@ -113,6 +113,7 @@ abbrev mutual
 abbrev pub len_of : Rose ArrayData → ℕ
 len_of (node p kids) = p.len
 
+-- all cells of an array
 unfoldable pub cells : List ℕ → Rose ArrayData → Reading (List Datum)
 cells body t = each (λ i. cell body t i) 0 (len_of t)
 

@@ -82,7 +82,7 @@ data_at nodes ranges n b l = record {
   values = values_at l ranges b;
 }
 
--- the array of this tree
+-- the array of a tree of layouts, its nodes and buffers from these numbers on
 abbrev mutual
   pub placed : List FieldNode → List BufferRange → ℕ → ℕ → Rose Layout → Rose ArrayData
   placed nodes ranges n b (node l kids) =

@@ -81,6 +81,7 @@ values_by (Binary o) body p slots = offsets_of o (bytes_of body p.offsets) p.len
 values_by (Listed o) body p slots = offsets_of o (bytes_of body p.offsets) p.len slots
 values_by Struct body p slots = Ok tt
 
+-- the faults of an array's own buffers; the offsets of a list point into `slots` slots
 unfoldable pub own_faults : List ℕ → ArrayData → ℕ → Reading (Unit {0})
 own_faults body p slots =
     both second (validity_of (bytes_of body p.validity) p.len p.nulls) (values_by p.layout body p slots)
@@ -103,8 +104,8 @@ abbrev mutual
 abbrev pub LiesIn : List ℕ → BufferRange → Type 0
 LiesIn body s = s.from + s.len ≤ length body
 
--- What a message's metadata vouches for before the body is looked at: an array's buffers lie within the body, its
--- length is below 2^31, it has the children that its layout wants, and the children of a struct are long enough.
+-- What the checks of a message's metadata have shown before the body is looked at: an array's buffers lie within the
+-- body, its length is below 2^31, and it has the children that its layout wants.
 pub record IsArrayData (body : List ℕ) (p : ArrayData) (kids : Roses ArrayData) : Type 0 where
   pub validity : LiesIn body p.validity
   pub offsets : LiesIn body p.offsets
@@ -112,11 +113,13 @@ pub record IsArrayData (body : List ℕ) (p : ArrayData) (kids : Roses ArrayData
   pub small : p.len ≤ max_node_length
   pub kids_fit : IsNode p.layout (layouts_of kids)
 
+-- The children of a struct of n slots have at least n slots.
 abbrev pub AreLong : Layout → ℕ → Roses ArrayData → Type 0
 AreLong Struct n none = Unit {0}
 AreLong Struct n (more (node p kids) ts) = (n ≤ p.len) × AreLong Struct n ts
 AreLong l n kids = Unit {0}
 
+-- an array and all arrays below it are so, and the children of structs are long enough
 abbrev mutual
   pub IsPlaced : List ℕ → Rose ArrayData → Type 0
   IsPlaced body (node p kids) = IsArrayData body p kids × AreLong p.layout p.len kids × ArePlaced body kids
@@ -131,6 +134,7 @@ pub record AreFit (o : OffsetWidth) (offsets : List ℕ) (n limit : ℕ) : Type 
   pub rising : (i : ℕ) → i < n → offset_at o offsets i ≤ offset_at o offsets (i + 1)
   pub within : (i : ℕ) → i < n → offset_at o offsets (i + 1) ≤ limit
 
+-- the buffers beside validity are long enough, and the offsets are fit
 abbrev pub HasRoom : Layout → List ℕ → ArrayData → ℕ → Type 0
 HasRoom Booleans body p slots = p.len ≤ 8 * p.values.len
 HasRoom (Int w s) body p slots = bytes_in w * p.len ≤ p.values.len

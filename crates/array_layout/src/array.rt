@@ -7,18 +7,21 @@ use dictionaries::Dictionary;
 use std::marker::Model;
 use values::Layout;
 
-/// The length of an array and the nulls that are claimed for it: Message.fbs, struct `FieldNode`.
+/// The length of an array, in slots, and the null count that is claimed for it: Message.fbs, struct `FieldNode`.
 #[derive(Clone, Copy, Debug, PartialEq, Eq)]
 pub struct FieldNode {
+    /// The number of slots.
     pub length: usize,
-    /// As stored: whether it is true is checked on the body.
+    /// The null count as it is stored. Whether it is true is checked on the body.
     pub nulls: i64,
 }
 
 /// A buffer's place in the body, in bytes: Message.fbs, struct `Buffer`.
 #[derive(Clone, Copy, Debug, PartialEq, Eq)]
 pub struct BufferRange {
+    /// Where the buffer begins, in bytes from the start of the body.
     pub from: usize,
+    /// Its length in bytes.
     pub len: usize,
 }
 
@@ -34,7 +37,7 @@ pub fn own_ranges(layout: Layout) -> usize
     }
 }
 
-/// The values of a dictionary, and how they would lie in an array of their own.
+/// The values of a dictionary, and the layout that an array of them would have.
 #[derive(Drop)]
 pub struct DictionaryValues {
     pub layout: Layout,
@@ -44,24 +47,26 @@ pub struct DictionaryValues {
 /// What an array has of its own: its layout, its node, and where its buffers lie in the body.
 #[derive(Drop)]
 pub struct ArrayData {
-    /// How its slots lie: of indices into a dictionary, where it has one.
+    /// How its slots lie. Where it has a dictionary, this is the layout of the indices.
     pub layout: Layout,
     /// The dictionary whose values its slots stand for, as it is for this batch.
     pub dictionary: Option<DictionaryValues>,
     /// The number of slots.
     pub len: usize,
-    /// How many of them are said to be null.
+    /// The null count as it is stored.
     pub nulls: i64,
+    /// Where the validity bitmap lies; of length 0 where it is left out.
     pub validity: BufferRange,
-    /// Of texts, bytes and lists; elsewhere of length 0.
+    /// Where the offsets of texts, bytes and lists lie; of length 0 for any other layout.
     pub offsets: BufferRange,
-    /// The bits or numbers of the slots, or the bytes that the offsets point into; of lists and structs of length 0.
+    /// Where the bits or numbers of the slots lie, or the bytes that the offsets point into; of length 0 for lists and
+    /// structs.
     pub values: BufferRange,
 }
 
 /// An array with its children.
 ///
-/// Contracts see it as a tree with a `ArrayData` at each node.
+/// Contracts see it as a tree with an `ArrayData` at each node.
 #[derive(Drop)]
 pub struct Array {
     pub own: ArrayData,

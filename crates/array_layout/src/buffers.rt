@@ -19,7 +19,7 @@ pub fn buffer<'a>(body: &'a [u8], range: &BufferRange) -> &'a [u8]
     &body[range.from..range.from + range.len]
 }
 
-/// Bit `i`.
+/// Bit `i`, the least significant of a byte first.
 pub fn bit(bits: &[u8], i: usize) -> bool
     requires { HasBits bits.now (i + 1) }
     ensures { result ≡ bit_at bits.now i }
@@ -27,7 +27,7 @@ pub fn bit(bits: &[u8], i: usize) -> bool
     (bits[i / 8] >> (i % 8)) % 2 == 1
 }
 
-/// Whether slot `i` is null, by a validity buffer.
+/// Whether slot `i` is null by its bit of a validity buffer; where that has length 0, no slot is.
 #[tactic(auto, unfolding(crate::specs::Buffers::is_null))]
 pub fn is_null_at(bits: &[u8], i: usize) -> bool
     requires { 0 < length bits.now → HasBits bits.now (i + 1) }
@@ -36,7 +36,7 @@ pub fn is_null_at(bits: &[u8], i: usize) -> bool
     !bits.is_empty() && !bit(bits, i)
 }
 
-/// Number `i`, without its sign.
+/// The bits of number `i` as a number without a sign.
 #[tactic(auto, unfolding(crate::specs::Buffers::unsigned_at))]
 fn unsigned_number(bytes: &[u8], width: IntWidth, i: usize) -> u64
     requires { bytes_in width * (i + 1) ≤ length bytes.now }
@@ -50,7 +50,7 @@ fn unsigned_number(bytes: &[u8], width: IntWidth, i: usize) -> u64
     }
 }
 
-/// The least number of this width whose sign is negative.
+/// The sign bit of a number of this width.
 fn sign_bit(width: IntWidth) -> u64
     ensures { result ≡ 2 ^ (8 * bytes_in width - 1) }
 {
@@ -62,7 +62,7 @@ fn sign_bit(width: IntWidth) -> u64
     }
 }
 
-/// Number `i`.
+/// Number `i` of this width, in two's complement if `signed`.
 #[tactic(auto, using(crate::proofs::NumberLemmas::signs), unfolding(crate::specs::Buffers::number_at))]
 pub fn number(bytes: &[u8], width: IntWidth, signed: bool, i: usize) -> i128
     requires { bytes_in width * (i + 1) ≤ length bytes.now }
@@ -77,7 +77,7 @@ pub fn number(bytes: &[u8], width: IntWidth, signed: bool, i: usize) -> i128
     }
 }
 
-/// Number `i`, in two's complement.
+/// Number `i` of `width` bytes, in two's complement.
 #[tactic(auto, unfolding(crate::specs::Buffers::number_at, crate::specs::Buffers::unsigned_at))]
 fn signed_number(bytes: &[u8], width: usize, i: usize) -> i128
     requires low { 1 ≤ width }
@@ -88,7 +88,7 @@ fn signed_number(bytes: &[u8], width: usize, i: usize) -> i128
     LittleEndian::read_int128(&bytes[width * i..], width)
 }
 
-/// Decimal `i`, unscaled.
+/// The unscaled number of decimal `i`, of 128 bits.
 pub fn decimal(bytes: &[u8], i: usize) -> i128
     requires { 16 * (i + 1) ≤ length bytes.now }
     ensures { result ≡ number_at true 16 bytes.now i }
@@ -105,7 +105,7 @@ pub fn fixed(bytes: &[u8], width: usize, i: usize) -> &[u8]
     &bytes[width * i..width * i + width]
 }
 
-/// Offset `i`, without its sign.
+/// Offset `i`, read as a number without a sign.
 #[tactic(auto, unfolding(crate::specs::Buffers::offset_at, crate::specs::Buffers::unsigned_at))]
 pub fn offset(offsets: &[u8], width: OffsetWidth, i: usize) -> usize
     requires { offset_bytes width * (i + 1) ≤ length offsets.now }

@@ -83,7 +83,7 @@ fn check_slots(bytes: &[u8], width: usize, len: usize) -> Result<(), StreamFault
     }
 }
 
-/// Whether no offset falls.
+/// Whether none of the offsets is below the one before it.
 #[tactic(auto, using(crate::proofs::OffsetLemmas::rising_steps), unfolding(crate::specs::Buffers::is_rising))]
 fn rises(offsets: &[u8], width: OffsetWidth, len: usize) -> bool
     requires room { offset_bytes width * (len + 1) ≤ length offsets.now }
@@ -127,7 +127,7 @@ fn check_offsets(
     }
 }
 
-/// The slots that a list's offsets point into.
+/// How many slots the first child has: those that a list's offsets point into.
 fn first_len(children: &[Array]) -> usize
     ensures { result ≡ first_len (kids_of children.now) }
 {

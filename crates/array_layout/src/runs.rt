@@ -6,8 +6,8 @@ ghost use Rattle.array_layout.specs.Buffers.{is_null};
 
 use crate::buffers::is_null_at;
 
-/// Where a run of slots ends that begins at slot `from`: up to there each slot is null as that one is, or valid as it
-/// is.
+/// The end of a run of slots from slot `from` on, at most `to`, by a validity buffer: all slots of the run are null, or
+/// all are valid.
 pub fn run_end(bits: &[u8], from: usize, to: usize) -> usize
     requires some { from < to }
     requires room { 0 < length bits.now → HasBits bits.now to }

@@ -28,16 +28,16 @@ unfoldable pub bits_at : List ℕ → ℕ → ℕ → List Bool
 bits_at bytes i zero = []
 bits_at bytes i (suc n) = bit_at bytes i ∷ bits_at bytes (i + 1) n
 
--- so many bits are there
+-- the bytes hold at least n bits
 abbrev pub HasBits : List ℕ → ℕ → Type 0
 HasBits bytes n = n ≤ 8 * length bytes
 
--- how many of them are 1
+-- how many bits of a list are 1
 unfoldable pub ones : List Bool → ℕ
 ones [] = 0
 ones (b ∷ bs) = (if b then 1 else 0) + ones bs
 
--- bit by bit, of lists of one length
+-- f of each bit of the first list and the bit of the second at its place; the lists are of one length
 unfoldable pub pairwise : (Bool → Bool → Bool) → List Bool → List Bool → List Bool
 pairwise f [] ys = []
 pairwise f (x ∷ xs) [] = []

@@ -27,7 +27,7 @@ impl Model for Bitmap {
     ghost invariant = { λ b. IsPacked b.bytes.items b.len };
 }
 
-/// Adds a bit to the `len` that the bytes hold.
+/// Adds a bit after the `len` bits that the bytes hold.
 #[tactic(auto, using(crate::proofs::PushLemmas::pushing))]
 fn push_bit(bytes: &mut Vec<u8>, len: usize, bit: bool) -> Result<(), AllocError>
     requires { IsPacked bytes.old.items len }
@@ -45,7 +45,7 @@ fn push_bit(bytes: &mut Vec<u8>, len: usize, bit: bool) -> Result<(), AllocError
 
 #[tactic(auto, using(crate::proofs::PackLemmas::packing))]
 impl Bitmap {
-    /// No bits. It takes no memory.
+    /// A bitmap without bits. It takes no memory.
     pub fn new(alloc: Global) -> Bitmap
         ensures { result ≡ [] }
     {
@@ -66,7 +66,7 @@ impl Bitmap {
         Ok(())
     }
 
-    /// Its bits.
+    /// A view of its bits.
     pub fn bits(&self) -> Bits<'_>
         ensures { result ≡ self.now }
     {

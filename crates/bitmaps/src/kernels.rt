@@ -15,7 +15,7 @@ fn pick(mask: bool, yes: bool, no: bool) -> bool
 
 #[tactic(auto, using(crate::proofs::KernelLemmas::making, crate::proofs::Runs::runs))]
 impl<'a> Bits<'a> {
-    /// 1 where both bits are.
+    /// 1 where both bits are 1. The two are of one length.
     pub fn and(&self, alloc: Global, other: &Bits<'_>) -> Result<Bitmap, AllocError>
         requires { length other.now ≡ length self.now }
         ensures { IfOk result (λ b. b ≡ pairwise (λ x y. x && y) self.now other.now) }
@@ -27,7 +27,7 @@ impl<'a> Bits<'a> {
         Ok(made)
     }
 
-    /// 1 where either bit is.
+    /// 1 where at least one of the two bits is 1. The two are of one length.
     pub fn or(&self, alloc: Global, other: &Bits<'_>) -> Result<Bitmap, AllocError>
         requires { length other.now ≡ length self.now }
         ensures { IfOk result (λ b. b ≡ pairwise (λ x y. x || y) self.now other.now) }

@@ -19,15 +19,19 @@ row_cell row = structure (items_of row)
 abbrev pub row_cells : List (List Datum) → List Datum
 row_cells rows = map row_cell rows
 
+-- the field nodes of the body of a batch of these rows
 unfoldable pub body_nodes : Roses Layout → List (List Datum) → List FieldNode
 body_nodes ls rows = nodes_below Struct 0 ls (row_cells rows)
 
+-- its buffers
 unfoldable pub body_buffers : Roses Layout → List (List Datum) → List (List ℕ)
 body_buffers ls rows = buffers_below Struct 0 ls (row_cells rows)
 
+-- where its buffers lie
 unfoldable pub body_ranges : Roses Layout → List (List Datum) → List BufferRange
 body_ranges ls rows = ranges_from 0 (body_buffers ls rows)
 
+-- its bytes
 unfoldable pub body_bytes : Roses Layout → List (List Datum) → List ℕ
 body_bytes ls rows = laid (body_buffers ls rows)
 

@@ -4,6 +4,7 @@ use Rattle.std.specs.Prelude.{ℕ, ◌+◌, ◌-◌, ◌%◌, List, [], ◌∷�
 use Rattle.std.specs.List.{flat_map}
 use Rattle.array_layout.specs.declared.array.BufferRange.{BufferRange}
 
+-- how many zeros fill n bytes up to a multiple of 8
 abbrev pub padding : ℕ → ℕ
 padding n = (8 - n % 8) % 8
 

@@ -32,7 +32,7 @@ use Rattle.body_writer.specs.Slots.{
   part,
 }
 
--- no bytes where nothing is null
+-- the validity buffer: no bytes where nothing is null
 unfoldable pub validity : List Datum → List ℕ
 validity cs = if null_count cs == 0 then [] else bytes_of (map is_valid cs)
 
@@ -62,7 +62,7 @@ items cs = flat_map items_in cs
 unfoldable pub offsets : OffsetWidth → List Datum → List ℕ
 offsets o cs = offsets_from o 0 (map length_in cs)
 
--- what an array's slots hold: after validity, its offsets and its values
+-- the buffers after validity: the offsets, where the layout has them, and the values
 abbrev pub value_buffers : Layout → List Datum → List (List ℕ)
 value_buffers Booleans cs = truths cs ∷ []
 value_buffers (Int w s) cs = numbers (width_of w) cs ∷ []

@@ -65,7 +65,7 @@ BatchLaw =
     → Stand body ranges b (buffers_below Struct 0 ts rows)
     → AreRead body (placed_all all ranges n b ts) 0 rows × ArePlaced body (placed_all all ranges n b ts)
 
--- nodes and buffers stand where they are appended
+-- nodes and buffers that are appended come right after those that were there
 
 abbrev pub NodesStandLaw : Type 0
 NodesStandLaw = (before xs after : List FieldNode) → AreNodes (before ++ (xs ++ after)) (length before) xs
@@ -75,7 +75,7 @@ BuffersStandLaw =
     (before after : List ℕ) (sb sa : List BufferRange) (xs : List (List ℕ))
     → Stand (before ++ (laid xs ++ after)) (sb ++ (ranges_from (length before) xs ++ sa)) (length sb) xs
 
--- each at a multiple of 8
+-- each buffer stands at a multiple of 8
 abbrev pub AlignedLaw : Type 0
 AlignedLaw = (at : ℕ) (xs : List (List ℕ)) → at % 8 ≡ 0 → All (λ (s : BufferRange). s.from % 8 ≡ 0) (ranges_from at xs)
 

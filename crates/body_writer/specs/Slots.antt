@@ -73,7 +73,7 @@ length_in (bytes b) = length b
 length_in (list es) = length (listed es)
 length_in _ = 0
 
--- in all cells
+-- how many bytes or items all cells have
 abbrev pub total_length : List Datum → ℕ
 total_length [] = 0
 total_length (c ∷ cs) = length_in c + total_length cs

@@ -27,7 +27,7 @@ fn column_cells<'a>(
     Ok(cells)
 }
 
-/// The body of the batch of these rows, in columns of these layouts.
+/// The body of a record batch of these rows, in columns of these layouts, with its nodes and buffer ranges.
 #[tactic(auto, using(crate::proofs::Rows::batch), unfolding(crate::specs::Batch::body_nodes, crate::specs::Batch::body_ranges, crate::specs::Batch::body_bytes))]
 pub fn write_body(alloc: Global, layouts: &[LayoutTree], rows: &[Row]) -> Result<Body, AllocError>
     requires { IsBatch (kids_of layouts.now) (map (λ r. r.items) rows.now) }

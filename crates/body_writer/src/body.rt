@@ -9,11 +9,11 @@ use std::alloc::{AllocError, Global};
 /// A message body, with the field nodes and buffer ranges of its header.
 #[derive(Debug, Drop)]
 pub struct Body {
-    /// One an array, in preorder.
+    /// The field nodes, one for each array, in preorder.
     pub nodes: Vec<FieldNode>,
-    /// The buffers in the same order, their lengths without padding.
+    /// Where the buffers lie, in the same order; their lengths don't count the padding.
     pub ranges: Vec<BufferRange>,
-    /// Each buffer with zeros up to a multiple of 8.
+    /// The body's bytes: the buffers in that order, each filled with zeros up to a multiple of 8.
     pub bytes: Vec<u8>,
 }
 

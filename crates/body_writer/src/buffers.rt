@@ -46,7 +46,7 @@ pub fn count_nulls(cells: &[Option<&Value>]) -> usize
     nulls
 }
 
-/// A bit a cell, or none where no cell is null.
+/// The validity buffer: a bit a cell, or no bits where no cell is null.
 #[tactic(auto, using(crate::proofs::Cells::bits))]
 pub fn validity(alloc: Global, cells: &[Option<&Value>]) -> Result<Bitmap, AllocError>
     requires { length cells.now < 2 ^ 31 }
@@ -62,6 +62,7 @@ pub fn validity(alloc: Global, cells: &[Option<&Value>]) -> Result<Bitmap, Alloc
     Ok(bits)
 }
 
+/// The values of a column of bools: a bit a cell, 0 for a null.
 #[tactic(auto, using(crate::proofs::Cells::steps), unfolding(crate::specs::Columns::truths))]
 pub fn truths(alloc: Global, cells: &[Option<&Value>]) -> Result<Bitmap, AllocError>
     requires { length cells.now < 2 ^ 31 }
@@ -84,7 +85,7 @@ fn push_number(buffer: &mut Vec<u8>, number: i128, width: usize) -> Result<(), A
     buffer.extend_from_slice(&bytes[..width])
 }
 
-/// `width` bytes a cell.
+/// The numbers of the cells, `width` bytes each; 0 for a null.
 #[tactic(auto, using(crate::proofs::Cells::steps), unfolding(crate::specs::Columns::numbers))]
 pub fn numbers(alloc: Global, cells: &[Option<&Value>], width: usize) -> Result<Vec<u8>, AllocError>
     requires some { 1 ≤ width }
@@ -155,7 +156,7 @@ fn push_offset(buffer: &mut Vec<u8>, width: OffsetWidth, offset: u64) -> Result<
     }
 }
 
-/// Where the bytes or the items of each cell start, and where the last ones end.
+/// The offsets: where the bytes or the items of each cell start, and where the last ones end.
 #[tactic(auto, using(crate::proofs::Cells::steps), unfolding(crate::specs::Columns::offsets, crate::specs::Columns::offsets_from))]
 pub fn offsets(
     alloc: Global,

@@ -24,7 +24,7 @@ use array_layout::FieldNode;
 use std::alloc::{AllocError, Global};
 use values::{Layout, LayoutTree, OffsetWidth, Value};
 
-/// Texts or bytes: where each starts, and all of them.
+/// Appends the offsets and the bytes of texts or of bytes.
 fn append_runs(
     alloc: Global,
     offsets: OffsetWidth,
@@ -39,7 +39,7 @@ fn append_runs(
     body.append(&buffers::joined(alloc, cells)?)
 }
 
-/// The offsets and values of these cells, by layout.
+/// Appends the offsets and values of these cells, by layout.
 fn append_values(
     alloc: Global,
     layout: Layout,
@@ -68,7 +68,7 @@ fn append_values(
     }
 }
 
-/// The node and the buffers of these cells, without those of any children.
+/// Appends the node and the buffers of an array of these cells, without those of its children.
 fn write_own(
     alloc: Global,
     layout: Layout,
@@ -88,7 +88,7 @@ fn write_own(
     append_values(alloc, layout, cells, body)
 }
 
-/// Writes the columns of the children of an array with this layout and these cells.
+/// Appends the columns of the children of an array with this layout and these cells.
 #[cycle(column)]
 fn write_children(
     alloc: Global,
@@ -112,10 +112,10 @@ fn write_children(
     Ok(())
 }
 
-/// Appends the column of these cells: its nodes, and its buffers, each with zeros up to a multiple of 8. No cell is a
-/// null.
+/// Appends the column of these cells: its nodes, and its buffers, each with zeros up to a multiple of 8. `None` is a
+/// null cell, as below a null struct.
 ///
-/// Where memory runs out, what the body holds has no meaning.
+/// Where memory runs out the body may hold a part of the column, and is of no further use.
 #[cycle(column)]
 pub fn write_column(
     alloc: Global,

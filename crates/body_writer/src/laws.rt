@@ -13,8 +13,8 @@ ghost use Rattle.body_writer.specs.Law.{
   SizeLaw,
 };
 
-/// Whatever stands around its nodes and buffers, a column that is written is read as the same cells, and no fault
-/// stands in it. The columns of a batch are so read one after the other.
+/// A column that is written is read back as the same cells with no fault, whatever nodes, buffers and bytes come before
+/// and after its own. So are the columns of a batch, one after the other.
 #[tactic(auto, using(crate::proofs::ColumnRead::column_laws))]
 pub fn column_law()
     ensures cells { ColumnLaw }
@@ -22,14 +22,14 @@ pub fn column_law()
     ensures batch { BatchLaw }
 {}
 
-/// A column has a node an array, and as many buffers as their layouts want.
+/// A column has one node for each of its arrays, and as many buffers as their layouts want.
 #[tactic(auto, using(crate::proofs::ColumnRead::column_laws))]
 pub fn count_law()
     ensures nodes { NodesLaw }
     ensures buffers { BuffersLaw }
 {}
 
-/// What is appended stands behind what was there, each buffer at a multiple of 8.
+/// Nodes and buffers that are appended come after those that were there, each buffer at a multiple of 8.
 #[tactic(auto, using(crate::proofs::PlaceLemmas::standing))]
 pub fn standing_law()
     ensures nodes { NodesStandLaw }

@@ -13,6 +13,7 @@ ghost use Rattle.body_writer.specs.Slots.{
 
 use values::{Kind, Value};
 
+/// Whether a cell is not null. `None` is a cell below a null struct, which is null.
 pub fn is_set(cell: Option<&Value>) -> bool
     ensures { result ≡ is_valid (cell_of cell.entry) }
 {
@@ -25,6 +26,7 @@ pub fn is_set(cell: Option<&Value>) -> bool
     }
 }
 
+/// The bool in a cell; `false` where it holds none.
 pub fn truth_in(cell: Option<&Value>) -> bool
     ensures { result ≡ truth_of (cell_of cell.entry) }
 {
@@ -37,6 +39,7 @@ pub fn truth_in(cell: Option<&Value>) -> bool
     }
 }
 
+/// The whole number in a cell; 0 where it holds none.
 pub fn whole_in(cell: Option<&Value>) -> i128
     ensures { result ≡ whole_of (cell_of cell.entry) }
 {
@@ -49,7 +52,7 @@ pub fn whole_in(cell: Option<&Value>) -> i128
     }
 }
 
-/// Of a text or of bytes; else none.
+/// The bytes of a text or of bytes; empty for any other cell.
 pub fn bytes_in<'a>(cell: Option<&'a Value>) -> &'a [u8]
     ensures { result.now ≡ bytes_of (cell_of cell.entry) }
 {
@@ -63,8 +66,8 @@ pub fn bytes_in<'a>(cell: Option<&'a Value>) -> &'a [u8]
     }
 }
 
+/// How many bytes a text or bytes have, or how many items a list has; 0 for any other cell.
 #[tactic(auto, using(crate::proofs::Cells::reading))]
-/// The bytes of a text or of bytes, or the items of a list.
 pub fn length_in(cell: Option<&Value>) -> usize
     ensures { result ≡ length_of (cell_of cell.entry) }
 {
@@ -79,8 +82,8 @@ pub fn length_in(cell: Option<&Value>) -> usize
     }
 }
 
+/// Child `j` of a struct; `None`, which is a null, for any other cell.
 #[tactic(auto, using(crate::proofs::Cells::reading))]
-/// Child `j` of a struct.
 pub fn part<'a>(cell: Option<&'a Value>, j: usize) -> Option<&'a Value>
     ensures { cell_of result ≡ part_of j (cell_of cell.entry) }
 {

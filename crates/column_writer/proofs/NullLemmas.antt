@@ -1,4 +1,4 @@
--- What so many nulls give to each buffer, and to children.
+-- What a number of nulls gives to each buffer, and to children.
 use Rattle.std.proofs.Common.{
   ◌≡◌,
   ℕ,

@@ -161,7 +161,7 @@ slots-alike l r made next lies is =
     is ∙ ap (λ xs. made ++ xs) (ap (λ y. flat_map (slot_bytes y) (range_cells r)) lies.layout
     ∙ same-bytes l r.offsets (range_cells r))
 
--- one piece, and those behind it
+-- one piece, and those after it
 pub all-before : (P : Piece → Type 0) (ps : List Piece) (i : ℕ) (p : Piece) → i < length ps → p ≡ get_or ps i p
     → P p → All P (drop (i + 1) ps)
     → All P (drop i ps)

@@ -18,7 +18,7 @@ batch_rows b = rows_in b.rows (cells_in b.columns.items)
 abbrev pub rows_of : List Batch → List (List Datum)
 rows_of bs = flat_map batch_rows bs
 
--- so many columns, each with a cell a row
+-- the batch has n columns, each with a cell a row
 pub record IsSized (n : ℕ) (b : Batch) : Type 0 where
   pub columns : length b.columns.items ≡ n
   pub cells : All (λ (c : CheckedColumn). length c.cells ≡ b.rows) b.columns.items
@@ -35,7 +35,7 @@ pub record IsRange (n : ℕ) (r : RowRange) : Type 0 where
   pub order : r.from ≤ r.to
   pub within : r.to ≤ r.batch.now.rows
 
--- and the batch has column j
+-- the rows lie within the batch, and it has column j
 pub record HasColumn (j : ℕ) (r : RowRange) : Type 0 where
   pub below : j < length r.batch.now.columns.items
   pub cells : All (λ (c : CheckedColumn). length c.cells ≡ r.batch.now.rows) r.batch.now.columns.items

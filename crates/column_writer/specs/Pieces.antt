@@ -1,4 +1,4 @@
--- Cells that lie in several arrays, or nowhere.
+-- Cells that lie in several arrays, or are nulls that lie in none.
 use Rattle.std.specs.Prelude.{◌≡◌, ◌⊎◌, ℕ, ◌-◌, ◌<◌, ◌≤◌, List, None, get_or, length, replicate}
 use Rattle.std.specs.List.{flat_map}
 use Rattle.values.specs.Rose.{Rose, node, Roses, none, more, kids_of}
@@ -63,7 +63,7 @@ abbrev mutual
   AllLie (more t ts) none = ⊥
   AllLie (more t ts) (more a rest) = Lies t a × AllLie ts rest
 
--- so it is with the slots, if a piece is of slots
+-- what holds of the slots of a piece, if it is of slots
 abbrev pub OfSlots : (SlotRange → Type 0) → Piece → Type 0
 OfSlots P (Slots r) = P r
 OfSlots P (Nulls n) = Unit {0}
@@ -72,7 +72,7 @@ pub record HasWidth (r : SlotRange) : Type 0 where
   pub checked : IsChecked r
   pub offsets : r.offsets ≡ offset_width r.parts.own.now.layout
 
--- slots that lie as this layout wants
+-- slots of an array of this layout
 pub record RangeLies (t : Rose Layout) (r : SlotRange) : Type 0 where
   pub width : HasWidth r
   pub lies : Lies t (node r.parts.own.now (kids_of r.parts.children.now))
@@ -87,26 +87,26 @@ pub record IsPlain (r : SlotRange) : Type 0 where
   pub checked : IsChecked r
   pub plain : r.parts.own.now.dictionary ≡ None
 
--- of this layout, but for the width of offsets
+-- slots of this layout, but for the width of offsets
 pub record HasLayout (l : Layout) (r : SlotRange) : Type 0 where
   pub plain : IsPlain r
   pub layout : r.parts.own.now.layout ≡ with_offsets r.offsets l
 
--- with offsets
+-- slots with offsets
 pub record HasStarts (r : SlotRange) : Type 0 where
   pub plain : IsPlain r
   pub layout : HasOffsets r.parts.own.now.layout r.offsets
 
--- of texts or of bytes
+-- slots of texts or of bytes
 pub record HasRuns (r : SlotRange) : Type 0 where
   pub plain : IsPlain r
   pub layout : HasBytes r.parts.own.now.layout r.offsets
 
--- of an array with so many children, and more
+-- slots of an array that has child j
 pub record HasChild (l : Layout) (j : ℕ) (r : SlotRange) : Type 0 where
   pub own : HasLayout l r
   pub below : j < length r.parts.children.now
 
--- child j of the array lies so
+-- child j of the array is of this layout
 abbrev pub ChildLies : Rose Layout → ℕ → SlotRange → Type 0
 ChildLies t j r = (a : Rose ArrayData) → a ≡ get_or r.parts.children.now j a → Lies t a

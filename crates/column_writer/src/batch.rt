@@ -2,14 +2,14 @@
 
 use arrays::Column;
 
-/// A record batch: its columns, each with as many cells as there are rows.
+/// The checked columns of a record batch, each with `rows` cells.
 #[derive(Drop)]
 pub struct Batch {
     pub columns: Vec<Column>,
     pub rows: usize,
 }
 
-/// The rows from `from` to `to` of a batch.
+/// The rows of a batch from `from` up to, and without, `to`.
 #[derive(Clone, Copy)]
 pub struct RowRange<'a> {
     pub batch: &'a Batch,

@@ -1,4 +1,4 @@
-//! Slots of one bit, and which slots are null.
+//! Copies bits of slots: their validity, and the values of bools.
 
 ghost use Rattle.std.specs.Prelude.{◌≡◌, ◌+◌, ◌<◌, ◌≤◌, ◌++◌, ◌^◌, ◌&&◌, OnOk, None, length, map, not};
 ghost use Rattle.bitmaps.specs.Bits.{HasBits, bit_at};
@@ -12,7 +12,7 @@ use array_layout::{bit, buffer, is_null_at, run_end};
 use bitmaps::Bitmap;
 use std::alloc::AllocError;
 
-/// How many of its slots are null.
+/// How many slots of the range are null.
 pub(crate) fn nulls_in(range: &SlotRange) -> usize
     requires checked { IsChecked range.now }
     requires plain { range.now.parts.own.now.dictionary ≡ None }
@@ -32,7 +32,7 @@ pub(crate) fn nulls_in(range: &SlotRange) -> usize
     nulls
 }
 
-/// Appends a bit a slot: 1 where it is valid.
+/// Appends the validity of the range: a bit a slot, 1 where it is valid.
 pub(crate) fn push_validity(valid: &mut Bitmap, range: &SlotRange) -> Result<(), AllocError>
     requires checked { IsChecked range.now }
     requires plain { range.now.parts.own.now.dictionary ≡ None }
@@ -46,7 +46,7 @@ pub(crate) fn push_validity(valid: &mut Bitmap, range: &SlotRange) -> Result<(),
     Ok(())
 }
 
-/// Whether slot `i` holds 1, which a null doesn't.
+/// Whether slot `i` is valid and holds true.
 fn truth_at(bits: &[u8], values: &[u8], i: usize) -> bool
     requires bits { 0 < length bits.now → HasBits bits.now (i + 1) }
     requires room { HasBits values.now (i + 1) }
@@ -55,7 +55,7 @@ fn truth_at(bits: &[u8], values: &[u8], i: usize) -> bool
     !is_null_at(bits, i) && bit(values, i)
 }
 
-/// Appends a bit a slot: a null gives 0.
+/// Appends the bools of the range: a bit a slot, 0 for a null.
 pub(crate) fn push_truths(truths: &mut Bitmap, range: &SlotRange) -> Result<(), AllocError>
     requires checked { IsChecked range.now }
     requires plain { range.now.parts.own.now.dictionary ≡ None }

@@ -1,4 +1,4 @@
-//! What the offsets of slots point to, and where it starts.
+//! Copies the bytes that offsets point to, and makes their new offsets.
 
 ghost use Rattle.std.specs.Prelude.{◌≡◌, ℕ, ◌+◌, ◌-◌, ◌*◌, ◌<◌, ◌≤◌, ◌++◌, ◌^◌, List, OnOk, IfOk, None, if◌then◌else◌, map, length, slice_range};
 ghost use Rattle.bitmaps.specs.Bits.{HasBits};
@@ -39,7 +39,7 @@ fn bytes_between<'a>(
     &bytes[offset(offsets, width, from)..offset(offsets, width, to)]
 }
 
-/// Appends the bytes of its slots, those of a run of valid slots at once.
+/// Appends the bytes of the range's slots, those of a run of valid slots at once.
 pub(crate) fn push_joined(out: &mut Vec<u8>, range: &SlotRange) -> Result<(), AllocError>
     requires checked { IsChecked range.now }
     requires plain { range.now.parts.own.now.dictionary ≡ None }
@@ -77,7 +77,7 @@ pub(crate) fn push_offset(
     }
 }
 
-/// How many bytes or items slot `i` has, a null none.
+/// How many bytes or items slot `i` has: a null has none.
 fn slot_len(bits: &[u8], offsets: &[u8], width: OffsetWidth, i: usize) -> usize
     requires bits { 0 < length bits.now → HasBits bits.now (i + 1) }
     requires room { offset_bytes width * (i + 2) ≤ length offsets.now }
@@ -91,7 +91,8 @@ fn slot_len(bits: &[u8], offsets: &[u8], width: OffsetWidth, i: usize) -> usize
     }
 }
 
-/// Appends where the bytes or the items of its slots start, the first at `start`, and answers where the last ones end.
+/// Appends the offsets at which the bytes or items of the range's slots start, the first at `start`, and returns where
+/// the last ones end.
 pub(crate) fn push_starts(
     out: &mut Vec<u8>,
     range: &SlotRange,

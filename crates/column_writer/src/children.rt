@@ -1,4 +1,4 @@
-//! The cells that children have, from those of the array above them.
+//! Where the cells of children lie, from where those of the array above them do.
 
 ghost use Rattle.std.specs.Prelude.{◌≡◌, ℕ, ◌-◌, ◌<◌, ◌≤◌, ◌++◌, All, IfOk, OnOk, false, get_or, length, map, replicate};
 ghost use Rattle.values.specs.Datum.{null};
@@ -67,7 +67,7 @@ fn push_items<'a>(all: &mut Vec<Piece<'a>>, range: &SlotRange<'a>) -> Result<(),
     Ok(())
 }
 
-/// What child `j` has in a run of structs: nulls where they are null.
+/// The cells of child `j` in a run of structs: nulls where the structs are null.
 fn run_part<'a>(range: &SlotRange<'a>, j: usize, at: usize, end: usize) -> Piece<'a>
     requires structs { HasChild Struct j range.now }
     requires start { range.now.from ≤ at }
@@ -85,7 +85,7 @@ fn run_part<'a>(range: &SlotRange<'a>, j: usize, at: usize, end: usize) -> Piece
     Piece::Slots(array_slots(parts.body, child_at(parts.children, j), at, end))
 }
 
-/// Appends what child `j` has in these structs.
+/// Appends the cells of child `j` in these structs.
 fn push_parts<'a>(
     all: &mut Vec<Piece<'a>>,
     range: &SlotRange<'a>,
@@ -130,7 +130,7 @@ fn push_below<'a>(
     }
 }
 
-/// Appends the cells that a child has below so many nulls.
+/// Appends the cells that a child has below `count` nulls of this layout: nulls below structs, and none below lists.
 fn push_below_nulls<'a>(
     all: &mut Vec<Piece<'a>>,
     layout: Layout,

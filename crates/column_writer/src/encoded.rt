@@ -13,7 +13,7 @@ use arrays::find_value;
 use std::alloc::{AllocError, Global};
 use values::Value;
 
-/// The value that slot `i` stands for, or none where it is null.
+/// The dictionary's value at the index in slot `i`; `None` where the slot is null.
 fn value_of<'a>(
     range: &SlotRange<'a>,
     dictionary: &'a DictionaryValues,
@@ -49,7 +49,7 @@ fn push_encoded<'a>(
     Ok(())
 }
 
-/// The cells of these pieces, where all of them lie in arrays with a dictionary.
+/// References to the values of these cells; `None` where not all of them lie in arrays with a dictionary.
 pub(crate) fn encoded_cells<'a>(
     alloc: Global,
     pieces: &[Piece<'a>],

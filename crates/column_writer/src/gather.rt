@@ -1,4 +1,4 @@
-//! The cells of one column of some rows: where they lie, or as values.
+//! The cells of one column of some rows: where they lie, or copies of them.
 
 ghost use Rattle.std.specs.Prelude.{◌≡◌, ◌-◌, ◌<◌, ◌≤◌, ◌++◌, All, IfOk, OnOk, length, map, take, drop};
 ghost use Rattle.body_writer.specs.Slots.{part, cells_of};
@@ -12,7 +12,7 @@ use arrays::Column;
 use std::alloc::{AllocError, Global};
 use values::Value;
 
-/// Where the cells of column `j` lie.
+/// Where the cells of column `j` of these rows lie.
 fn slots_in<'a>(range: &RowRange<'a>, j: usize) -> SlotRange<'a>
     requires { HasColumn j range.now }
     ensures piece { HasWidth result }

@@ -1,4 +1,4 @@
-//! Which columns are written run by run.
+//! Which columns are copied by runs of slots: those whose arrays are of the layout that is written.
 
 ghost use Rattle.std.specs.Prelude.{◌≡◌, true, All};
 ghost use Rattle.values.specs.Rose.{node, kids_of};
@@ -27,7 +27,7 @@ fn is_alike(layout: Layout, other: Layout) -> bool
     other == with_offsets(layout, offset_width(other))
 }
 
-/// Whether an array lies as this layout wants, but for the width of offsets.
+/// Whether an array, with those below it, is of this layout but for the width of offsets, and without a dictionary.
 #[cycle(lies)]
 fn lies(layout: Layout, kids: &[LayoutTree], own: &ArrayData, children: &[Array]) -> bool
     ensures { result ≡ true → Lies (node layout (kids_of kids.now)) (node own.now (kids_of children.now)) }
@@ -35,7 +35,7 @@ fn lies(layout: Layout, kids: &[LayoutTree], own: &ArrayData, children: &[Array]
     own.dictionary.is_none() && is_alike(layout, own.layout) && all_lie(kids, children)
 }
 
-/// Whether all of these arrays do.
+/// Whether each of these arrays is of its layout in this sense.
 #[cycle(lies)]
 fn all_lie(layouts: &[LayoutTree], arrays: &[Array]) -> bool
     ensures { result ≡ true → AllLie (kids_of layouts.now) (kids_of arrays.now) }
@@ -49,7 +49,7 @@ fn all_lie(layouts: &[LayoutTree], arrays: &[Array]) -> bool
     lies(layout.layout, &layout.children, &array.own, &array.children) && all_lie(layouts, arrays)
 }
 
-/// Whether a piece does.
+/// Whether the array of a piece is of this layout in this sense; nulls are of any.
 fn lies_as(piece: &Piece, layout: &LayoutTree) -> bool
     requires { OfSlots HasWidth piece.now }
     ensures { result ≡ true → LiesAs layout.now piece.now }
@@ -65,7 +65,7 @@ fn lies_as(piece: &Piece, layout: &LayoutTree) -> bool
     }
 }
 
-/// Whether all of these pieces do.
+/// Whether the arrays of all these pieces are.
 pub(crate) fn all_lie_as(pieces: &[Piece], layout: &LayoutTree) -> bool
     requires { All (OfSlots HasWidth) pieces.now }
     ensures { result ≡ true → All (LiesAs layout.now) pieces.now }

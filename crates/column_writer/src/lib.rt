@@ -1,10 +1,11 @@
-//! Batches of checked columns as they are written: no value is made of a cell where its bytes can be copied.
+//! Writes record batches straight from checked columns: bytes are copied where they can be, and no values are made of
+//! cells.
 //!
-//! Slots that lie one after the other and are all valid are copied at once (`specs/Runs.antt`). The cells of a column of
-//! a batch may lie in several arrays (`specs/Pieces.antt`), since its rows may come from several batches
-//! (`specs/Batches.antt`). Children have the pieces that the runs of the array above them give. Columns with a dictionary
-//! are written from references to its values (`src/encoded.rt`), and what lies otherwise than the layouts want from copies
-//! of its cells.
+//! Slots that lie one after the other and are all valid are copied at once (`specs/Runs.antt`). The cells of a column
+//! of a batch may lie in several arrays (`specs/Pieces.antt`), since its rows may come from several batches
+//! (`specs/Batches.antt`). The pieces of a child follow from the runs of the array above it. Columns with a dictionary
+//! are written from references to its values (`src/encoded.rt`), and columns with arrays of another layout from copies
+//! of their cells.
 #![tactic(auto)]
 
 mod batch;

@@ -1,4 +1,4 @@
-//! The node and the buffers that the array of a column has of its own, from the pieces that have the column's cells.
+//! Writes an array's own node and buffers, without those of its children, from the pieces in which its cells lie.
 
 ghost use Rattle.std.specs.Prelude.{◌≡◌, ◌<◌, ◌≤◌, ◌^◌, All, IfOk, OnOk, [], ◌∷◌, length};
 ghost use Rattle.std.specs.List.{flat_map};
@@ -58,7 +58,7 @@ fn count_nulls(pieces: &[Piece]) -> usize
     nulls
 }
 
-/// A bit a cell, or none where no cell is null.
+/// The validity buffer: a bit a cell, or no bits where no cell is null.
 fn validity(alloc: Global, pieces: &[Piece], nulls: usize) -> Result<Bitmap, AllocError>
     requires plain { All (OfSlots IsPlain) pieces.now }
     requires few { length (pieces_cells pieces.now) < 2 ^ 31 }
@@ -111,7 +111,7 @@ fn joined(alloc: Global, pieces: &[Piece]) -> Result<Vec<u8>, AllocError>
     Ok(buffer)
 }
 
-/// Where the bytes or the items of each cell start, and where the last ones end.
+/// The offsets: where the bytes or the items of each cell start, and where the last ones end.
 fn offsets(alloc: Global, pieces: &[Piece], width: OffsetWidth) -> Result<Vec<u8>, AllocError>
     requires layout { All (OfSlots HasStarts) pieces.now }
     requires short { total_length (pieces_cells pieces.now) < 2 ^ 31 }
@@ -126,7 +126,7 @@ fn offsets(alloc: Global, pieces: &[Piece], width: OffsetWidth) -> Result<Vec<u8
     Ok(buffer)
 }
 
-/// Texts or bytes: where each starts, and all of them.
+/// Appends the offsets and the bytes of texts or of bytes.
 fn append_runs(
     alloc: Global,
     width: OffsetWidth,

@@ -1,4 +1,4 @@
-//! The cells of a column, piece by piece.
+//! Pieces: where some cells of a column lie, one after the other.
 
 ghost use Rattle.std.specs.Prelude.{◌≡◌, ℕ, ◌-◌, ◌<◌, ◌≤◌};
 ghost use Rattle.values.specs.Rose.{Rose};
@@ -13,11 +13,11 @@ use array_layout::Array;
 use arrays::ColumnParts;
 use values::{Layout, OffsetWidth};
 
-/// The slots from `from` to `to` of a checked array.
+/// The slots of a checked array from `from` up to, and without, `to`.
 #[derive(Clone, Copy)]
 pub(crate) struct SlotRange<'a> {
     pub parts: ColumnParts<'a>,
-    /// The width of its offsets, if it has any.
+    /// The width of the array's offsets, if it has any.
     pub offsets: OffsetWidth,
     pub from: usize,
     pub to: usize,
@@ -27,7 +27,7 @@ pub(crate) struct SlotRange<'a> {
 #[derive(Clone, Copy)]
 pub(crate) enum Piece<'a> {
     Slots(SlotRange<'a>),
-    /// So many nulls, as a struct that is null has in each of its children.
+    /// This number of nulls that lie in no array, as the children of null structs have them.
     Nulls(usize),
 }
 

@@ -1,4 +1,4 @@
-//! What one piece gives to the buffers of its column.
+//! Appends the cells of one piece to the buffers of its column.
 
 ghost use Rattle.std.specs.Prelude.{◌≡◌, ℕ, ◌+◌, ◌<◌, ◌≤◌, ◌++◌, ◌^◌, List, IfOk, OnOk, false, length, map, replicate};
 ghost use Rattle.std.specs.List.{flat_map};
@@ -17,7 +17,7 @@ use bitmaps::Bitmap;
 use std::alloc::AllocError;
 use values::{Layout, OffsetWidth};
 
-/// The number of its cells.
+/// How many cells a piece has.
 #[tactic(auto, using(crate::proofs::NullLemmas::null_laws))]
 pub(crate) fn cells_in(piece: &Piece) -> usize
     requires { OfSlots IsPlain piece.now }
@@ -29,7 +29,7 @@ pub(crate) fn cells_in(piece: &Piece) -> usize
     }
 }
 
-/// How many of its cells are null.
+/// How many cells of a piece are null.
 #[tactic(auto, using(crate::proofs::NullLemmas::null_laws))]
 pub(crate) fn piece_nulls(piece: &Piece) -> usize
     requires { OfSlots IsPlain piece.now }
@@ -51,7 +51,7 @@ fn push_clear(bits: &mut Bitmap, count: usize) -> Result<(), AllocError>
     Ok(())
 }
 
-/// Appends a bit a cell: 1 where it isn't null.
+/// Appends the validity of a piece: a bit a cell, 1 where it isn't null.
 pub(crate) fn push_piece_validity(valid: &mut Bitmap, piece: &Piece) -> Result<(), AllocError>
     requires plain { OfSlots IsPlain piece.now }
     requires room { length valid.old + length (piece_cells piece.now) < 2 ^ 32 }
@@ -63,7 +63,7 @@ pub(crate) fn push_piece_validity(valid: &mut Bitmap, piece: &Piece) -> Result<(
     }
 }
 
-/// Appends a bit a cell: a null gives 0.
+/// Appends the bools of a piece: a bit a cell, 0 for a null.
 pub(crate) fn push_piece_truths(truths: &mut Bitmap, piece: &Piece) -> Result<(), AllocError>
     requires layout { OfSlots (HasLayout Booleans) piece.now }
     requires room { length truths.old + length (piece_cells piece.now) < 2 ^ 32 }
@@ -75,7 +75,7 @@ pub(crate) fn push_piece_truths(truths: &mut Bitmap, piece: &Piece) -> Result<()
     }
 }
 
-/// Appends zeros for so many nulls.
+/// Appends the zero bytes of `count` null slots of this layout.
 fn push_null_slots(out: &mut Vec<u8>, layout: Layout, count: usize) -> Result<(), AllocError>
     ensures { OnOk result (out.new.items ≡ out.old.items ++ flat_map (slot_bytes layout) (replicate count null)) }
 {
@@ -86,7 +86,7 @@ fn push_null_slots(out: &mut Vec<u8>, layout: Layout, count: usize) -> Result<()
     Ok(())
 }
 
-/// Appends the bytes of its cells, which are of a fixed width: a null gives zeros.
+/// Appends the bytes of a piece's cells, which are of a fixed width: zeros for a null.
 pub(crate) fn push_piece_slots(
     out: &mut Vec<u8>,
     layout: Layout,
@@ -101,7 +101,7 @@ pub(crate) fn push_piece_slots(
     }
 }
 
-/// Appends the bytes of its texts or bytes.
+/// Appends the bytes of a piece's texts or bytes.
 #[tactic(auto, using(crate::proofs::NullLemmas::null_laws))]
 pub(crate) fn push_piece_bytes(out: &mut Vec<u8>, piece: &Piece) -> Result<(), AllocError>
     requires { OfSlots HasRuns piece.now }
@@ -113,7 +113,7 @@ pub(crate) fn push_piece_bytes(out: &mut Vec<u8>, piece: &Piece) -> Result<(), A
     }
 }
 
-/// Appends the same offset for each of `count` nulls.
+/// Appends `count` equal offsets, one for each null.
 fn push_same(
     out: &mut Vec<u8>,
     width: OffsetWidth,
@@ -130,7 +130,8 @@ fn push_same(
     Ok(())
 }
 
-/// Appends where its texts, bytes or lists start, the first at `start`, and answers where the last one ends.
+/// Appends the offsets at which a piece's texts, bytes or lists start, the first at `start`, and returns where the last
+/// one ends.
 pub(crate) fn push_piece_starts(
     out: &mut Vec<u8>,
     piece: &Piece,

@@ -1,4 +1,4 @@
-//! Slots of a fixed width in bytes.
+//! Copies slots of a fixed width in bytes.
 
 ghost use Rattle.std.specs.Prelude.{◌≡◌, ◌*◌, ◌≤◌, ◌++◌, OnOk, None, replicate, length, slice_range};
 ghost use Rattle.std.specs.List.{flat_map};
@@ -44,7 +44,7 @@ fn slot_range(bytes: &[u8], width: usize, from: usize, to: usize) -> &[u8]
     &bytes[width * from..width * to]
 }
 
-/// Appends the bytes of its slots: a null gives zeros, a run of valid slots is copied at once.
+/// Appends the bytes of the range's slots: zeros for a null, a run of valid slots copied at once.
 pub(crate) fn push_slots(out: &mut Vec<u8>, range: &SlotRange) -> Result<(), AllocError>
     requires checked { IsChecked range.now }
     requires plain { range.now.parts.own.now.dictionary ≡ None }

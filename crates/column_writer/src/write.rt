@@ -67,7 +67,7 @@ fn write_children(
     Ok(())
 }
 
-/// Appends the column whose cells lie in these pieces.
+/// Appends the column whose cells lie in these pieces, with its children.
 #[cycle(column)]
 fn write_pieces(
     alloc: Global,
@@ -111,7 +111,8 @@ fn write_column(
     write_values(alloc, layout, ranges, j, body)
 }
 
-/// The body of the batch of these rows, in columns of these layouts.
+/// The body of a record batch of these rows, in columns of these layouts, as `body_writer::write_body` makes it of the
+/// rows' values.
 #[tactic(auto, using(body_writer::proofs::Rows::batch), unfolding(body_writer::specs::Batch::body_nodes, body_writer::specs::Batch::body_ranges, body_writer::specs::Batch::body_bytes))]
 pub fn write_body(
     alloc: Global,

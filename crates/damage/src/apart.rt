@@ -1,4 +1,5 @@
-//! Streams that differ in one thing only are told apart, whatever it is.
+//! Checks the comparison of events: two streams that differ in one thing only, whatever it is, don't compare as the
+//! same.
 
 use crate::harm::flipped;
 use crate::lockstep::{Outcome, feed_both};
@@ -8,7 +9,7 @@ use std::alloc::AllocError;
 use std::process::Abort;
 use std::test::Fail;
 
-/// Two streams that are taken, and not as the same.
+/// Asserts that two streams are both accepted, and that their events differ.
 fn differ(
     rt: &(impl Abort + AllocGlobal),
     valid: &[u8],
@@ -32,7 +33,7 @@ fn turned(
     flipped(rt.alloc(), valid, place, bit)
 }
 
-/// A stream and the same with one bit turned.
+/// Asserts it of a stream and the same stream with one bit flipped.
 fn differs(
     rt: &(impl Abort + AllocGlobal),
     valid: &[u8],
@@ -43,7 +44,7 @@ fn differs(
     differ(rt, valid, &other, place)
 }
 
-/// A field's name, whether it is nullable, its type, what its indices are, and a child's name.
+/// A field's name, whether it is nullable, its type, its index type, and a child's name.
 #[test]
 fn fields(rt: HostRuntime) -> Result<(), Fail> {
     differs(&rt, &TEXTS, 92, 0)?;
@@ -54,7 +55,7 @@ fn fields(rt: HostRuntime) -> Result<(), Fail> {
     Ok(())
 }
 
-/// A cell of each kind of value, also inside of others, and the length of a list.
+/// A cell of each kind of value, also inside lists and structs, and the length of a list.
 #[test]
 fn cells(rt: HostRuntime) -> Result<(), Fail> {
     differs(&rt, &BOOLS, 248, 0)?;

@@ -27,7 +27,7 @@ pub fn dropped(alloc: Global, valid: &[u8], place: usize) -> Result<Vec<u8>, All
     Ok(bytes)
 }
 
-/// The stream with one bit turned in the byte at `place`.
+/// The stream with one bit flipped in the byte at `place`.
 pub fn flipped(alloc: Global, valid: &[u8], place: usize, bit: u8) -> Result<Vec<u8>, AllocError>
     requires place { place < length valid.now }
     requires bit { bit < 8 }

@@ -6,21 +6,21 @@ use std::alloc::{AllocError, Global};
 use std::process::Abort;
 use values::StreamFault;
 
-/// What came of two streams.
+/// How two feeds compare at the end of their streams.
 #[derive(Clone, Copy, Debug, PartialEq, Eq)]
 pub enum Outcome {
     /// The same events, and an end without a fault.
     Taken,
     /// The same events, and then the same fault.
     Broken(StreamFault),
-    /// Not the same.
+    /// Something differs.
     Apart,
 }
 
-/// What came of one step of both.
+/// How two feeds compare after their next events.
 #[derive(Clone, Copy, Debug, PartialEq, Eq)]
 enum Step {
-    /// The same event, for which so many bytes were used.
+    /// The same event, for which both used this number of bytes.
     Event(usize),
     /// No event: all bytes were used.
     Rest,
@@ -28,13 +28,13 @@ enum Step {
     Apart,
 }
 
-/// One push to a feed at which no fault stood.
+/// A push to a feed that isn't broken.
 pub fn push(rt: &impl Abort, feed: &mut Feed, piece: &[u8]) -> Result<Fed, StreamFault> {
     assert!(rt; !feed.is_broken());
     feed.push(piece)
 }
 
-/// The end of its input.
+/// Ends the input of a feed that isn't broken.
 pub fn finish(rt: &impl Abort, feed: &mut Feed) -> Result<(), StreamFault> {
     assert!(rt; !feed.is_broken());
     feed.finish()
@@ -126,7 +126,7 @@ fn drive(
     Ok(finish_both(rt, whole, single))
 }
 
-/// What comes of two streams, the first of which is fed as it is and the second byte by byte.
+/// Compares two feeds, of which the first gets its stream whole and the second byte by byte.
 pub fn feed_both(
     rt: &(impl Abort + AllocGlobal),
     bytes: &[u8],

@@ -6,7 +6,7 @@ use field_types::TypeKind;
 use std::process::Abort;
 use values::StreamFault;
 
-/// One event of a stream of one kind of column.
+/// What is compared of an event.
 #[derive(Clone, Copy, Debug, PartialEq, Eq)]
 pub enum EventKind {
     /// A schema: how many columns, and the type of the values of the first.
@@ -27,7 +27,7 @@ pub enum EventKind {
     End,
 }
 
-/// Where a message ends, and what it brings.
+/// A message of a stream: the place at which it ends, and its event.
 pub type Chapter = (usize, EventKind);
 
 fn kind_of_event(event: FeedEvent) -> EventKind {
@@ -53,7 +53,7 @@ fn kind_of_event(event: FeedEvent) -> EventKind {
     }
 }
 
-/// What one push tells, and how much it uses.
+/// Pushes a piece, and returns how many bytes were used and the event.
 fn tell(
     rt: &impl Abort,
     feed: &mut Feed,
@@ -63,7 +63,7 @@ fn tell(
     Ok((used, event.map(kind_of_event)))
 }
 
-/// A stream is taken whole, and tells this.
+/// Asserts that a stream is accepted, and has these events.
 pub fn tells(rt: &(impl Abort + AllocGlobal), valid: &[u8], story: &[Chapter]) {
     let mut feed = Feed::open(rt.alloc(), None);
     let mut start = 0;

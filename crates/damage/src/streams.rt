@@ -1,4 +1,4 @@
-//! A good stream for each kind of column, with few rows: a Schema message, one batch, and the end mark in the last 8
+//! A valid stream for each kind of column, with few rows: a Schema message, one batch, and the end mark in the last 8
 //! bytes. The last has dictionaries.
 
 /// Truth values: true, null, false.

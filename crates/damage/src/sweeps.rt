@@ -14,7 +14,7 @@ use std::process::Abort;
 use std::test::Fail;
 use values::{OffsetWidth, StreamFault};
 
-/// Without any one byte: what stands behind it is out of place, and the stream is never taken.
+/// Drops each byte in turn. What comes after it is out of place, so the stream is never accepted.
 fn drops(rt: &(impl Abort + AllocGlobal), valid: &[u8]) -> Result<(), AllocError> {
     for place in 0..valid.len() {
         let bytes = dropped(rt.alloc(), valid, place)?;
@@ -27,7 +27,7 @@ fn drops(rt: &(impl Abort + AllocGlobal), valid: &[u8]) -> Result<(), AllocError
     Ok(())
 }
 
-/// With any bit turned of one byte.
+/// Flips each bit of one byte in turn.
 fn flips_at(rt: &(impl Abort + AllocGlobal), valid: &[u8], place: usize) -> Result<(), AllocError> {
     assert!(rt; place < valid.len());
     for bit in 0..8 {
@@ -48,7 +48,7 @@ fn flips(rt: &(impl Abort + AllocGlobal), valid: &[u8]) -> Result<(), AllocError
     Ok(())
 }
 
-/// What comes of the first bytes of a stream: it may end where a message does.
+/// The expected outcome of the first `place` bytes of a stream: it may end where a message does.
 fn cut_outcome(story: &[Chapter], place: usize) -> Outcome {
     if place == 0 {
         return Outcome::Broken(StreamFault::NoSchema);
@@ -59,7 +59,7 @@ fn cut_outcome(story: &[Chapter], place: usize) -> Outcome {
     Outcome::Broken(StreamFault::Truncated)
 }
 
-/// Cut at each place, also behind the last byte.
+/// Cuts the stream at each place, also after the last byte.
 fn cuts(
     rt: &(impl Abort + AllocGlobal),
     valid: &[u8],
@@ -84,7 +84,7 @@ fn sweep(
     cuts(rt, valid, story)
 }
 
-/// A stream of one column and one batch, whose Schema message ends at `schema`.
+/// Damages a stream of one column and one batch, whose Schema message ends at `schema`, in all these ways.
 fn sweep_one(
     rt: &(impl Abort + AllocGlobal),
     valid: &[u8],

@@ -142,7 +142,7 @@ fixed_type width = stored.FixedSizeBinary width
 unfoldable pub fixed_of : Table → Reading ColType
 fixed_of t = mapped fixed_type (i32_of t fbs.byte_width (pos 0) >>= ranged (pos 0) (pos max_fixed_width))
 
--- the type that a type table of this kind says. The other tables have no slots.
+-- the type that a type table of this kind means. The other tables have no slots.
 abbrev pub stored_by : TypeKind → Table → Reading ColType
 stored_by kind.Bool t = Ok stored.Bool
 stored_by kind.Int t = int_of t

@@ -9,14 +9,15 @@ use crate::schema_fbs::INT_IS_SIGNED;
 use flatbuf::TableRef;
 use values::{IntWidth, StreamFault};
 
-/// The whole numbers that indices are.
+/// The integer type of the indices into a dictionary.
 #[derive(Clone, Copy, Debug, PartialEq, Eq)]
 pub struct IndexType {
     pub width: IntWidth,
     pub signed: bool,
 }
 
-/// The indices that a table `Int` says; another width than 8, 16, 32 or 64 bits is `BadType`.
+/// Reads an index type from its table `Int`. A width other than 8, 16, 32 or 64 bits is `BadType`, an unreadable table
+/// `BadTable`.
 #[tactic(auto, using(crate::proofs::Faults::faults), unfolding(crate::specs::Types::index_of))]
 pub fn read_index_type(table: &TableRef) -> Result<IndexType, StreamFault>
     ensures { Judges (λ t. t) result (index_of table.now) }

@@ -13,7 +13,7 @@ use crate::schema_fbs::{
 use flatbuf::TableRef;
 use values::{ColType, OffsetWidth, StreamFault};
 
-/// The kind of a type: what a field says of its type before the type's own table.
+/// The kind of a field's type: which table of the union `Type` has its parameters.
 #[derive(Clone, Copy, Debug, PartialEq, Eq)]
 pub enum TypeKind {
     Bool,
@@ -31,7 +31,7 @@ pub enum TypeKind {
 }
 
 impl TypeKind {
-    /// The kind that a field of this type says.
+    /// The kind of this type.
     pub fn of(col_type: &ColType) -> TypeKind
         ensures { result ≡ kind_of_type col_type.now }
     {
@@ -52,9 +52,7 @@ impl TypeKind {
     }
 }
 
-/// The kind of a field's type.
-///
-/// A kind that is not taken is `UnsupportedType`.
+/// Reads the kind of a field's type. A kind that is not taken is `UnsupportedType`, an unreadable one `BadTable`.
 #[tactic(auto, unfolding(crate::specs::Kinds::kind_of, crate::specs::Kinds::kind_numbered))]
 pub fn read_kind(field: &TableRef) -> Result<TypeKind, StreamFault>
     ensures { Judges (λ k. k) result (kind_of field.now) }
@@ -80,7 +78,7 @@ pub fn read_kind(field: &TableRef) -> Result<TypeKind, StreamFault>
     }
 }
 
-/// Whether a field of this kind may have as many children.
+/// Whether a field of this kind may have this number of children.
 pub fn may_have(kind: TypeKind, children: usize) -> bool
     ensures { result ≡ may_have_children kind children }
 {

@@ -23,7 +23,7 @@ use flatbuf::TableRef;
 use values::limits::{MAX_NAME_LEN, MAX_PRECISION};
 use values::{DateUnit, IntWidth, StreamFault, TimeUnit};
 
-/// The number, where it lies between these.
+/// The number, where it is from `low` to `high`; otherwise `BadType`.
 pub(crate) fn ranged(low: i32, high: i32, number: i32) -> Result<u32, StreamFault>
     requires { pos 0 ≤ℤ low }
     ensures exact { Judges (λ n. n) result (ranged_between low high number) }
@@ -59,7 +59,7 @@ pub(crate) fn read_precision(table: &TableRef) -> Result<u8, StreamFault>
     Ok(precision as u8)
 }
 
-/// Refuses decimals of other widths than 128 bits.
+/// Refuses decimals of a width other than 128 bits, as `UnsupportedType`.
 #[tactic(auto, using(crate::proofs::Faults::faults), unfolding(crate::specs::Types::wide_of))]
 pub(crate) fn check_decimal_bits(table: &TableRef) -> Result<(), StreamFault>
     ensures { Judges (λ u. u) result (wide_of table.now) }
@@ -101,7 +101,7 @@ pub(crate) fn read_time_unit(table: &TableRef, default: i16) -> Result<TimeUnit,
     time_unit(read_short(table, UNIT, default)?)
 }
 
-/// The name of a timestamp's zone, in the buffer.
+/// The name of a timestamp's zone, empty where it is absent, borrowed from the buffer.
 #[tactic(auto, using(crate::proofs::Faults::faults), unfolding(crate::specs::Types::zone_of))]
 pub(crate) fn read_zone<'a>(table: &TableRef<'a>) -> Result<&'a str, StreamFault>
     ensures { Judges (λ name. name.now) result (zone_of table.now) }

@@ -7,7 +7,7 @@ ghost use Rattle.field_types.specs.Reads.{bool_of, byte_of, long_of, short_of, i
 use flatbuf::{BadTable, TableRef};
 use values::StreamFault;
 
-/// What was read of a table, or the fault of an unreadable one.
+/// What was read of a table, with `BadTable` as a fault of the stream.
 pub fn readable<T: Drop>(found: Result<T, BadTable>) -> Result<T, StreamFault>
     ensures { Judges (λ x. x) result (must StreamFault.BadTable (result_ok found)) }
 {
@@ -17,7 +17,7 @@ pub fn readable<T: Drop>(found: Result<T, BadTable>) -> Result<T, StreamFault>
     }
 }
 
-/// A bool of a table, `false` where it is absent.
+/// The bool in a slot, `false` where it is absent; a place that isn't readable is `BadTable`, here and below.
 #[tactic(auto, unfolding(crate::specs::Reads::bool_of))]
 pub fn read_bool(table: &TableRef, slot: u16) -> Result<bool, StreamFault>
     ensures { Judges (λ b. b) result (bool_of table.now slot) }
@@ -25,14 +25,14 @@ pub fn read_bool(table: &TableRef, slot: u16) -> Result<bool, StreamFault>
     Ok(read_byte(table, slot)? != 0)
 }
 
-/// A byte of a table, 0 where it is absent.
+/// The number of 8 bits in a slot, 0 where it is absent.
 pub fn read_byte(table: &TableRef, slot: u16) -> Result<u8, StreamFault>
     ensures { Judges (λ n. n) result (byte_of table.now slot) }
 {
     Ok(readable(table.u8(slot))?.unwrap_or(0))
 }
 
-/// A number of 16 bits, or this default where it is absent.
+/// The number of 16 bits in a slot, `default` where it is absent.
 #[tactic(auto, unfolding(crate::specs::Reads::short_of))]
 pub fn read_short(table: &TableRef, slot: u16, default: i16) -> Result<i16, StreamFault>
     ensures { Judges (λ n. n) result (short_of table.now slot default) }
@@ -40,7 +40,7 @@ pub fn read_short(table: &TableRef, slot: u16, default: i16) -> Result<i16, Stre
     Ok(readable(table.i16(slot))?.unwrap_or(default))
 }
 
-/// A number of 32 bits, or this default where it is absent.
+/// The number of 32 bits in a slot, `default` where it is absent.
 #[tactic(auto, unfolding(crate::specs::Reads::i32_of))]
 pub(crate) fn read_i32(table: &TableRef, slot: u16, default: i32) -> Result<i32, StreamFault>
     ensures { Judges (λ n. n) result (i32_of table.now slot default) }
@@ -48,7 +48,7 @@ pub(crate) fn read_i32(table: &TableRef, slot: u16, default: i32) -> Result<i32,
     Ok(readable(table.i32(slot))?.unwrap_or(default))
 }
 
-/// A number of 64 bits, 0 where it is absent.
+/// The number of 64 bits in a slot, 0 where it is absent.
 pub fn read_long(table: &TableRef, slot: u16) -> Result<i64, StreamFault>
     ensures { Judges (λ n. n) result (long_of table.now slot) }
 {

@@ -29,10 +29,10 @@ use std::alloc::Global;
 use values::limits::MAX_FIXED_WIDTH;
 use values::{ColType, StreamFault, Zone};
 
-/// A field's type, of a known kind.
+/// Reads a field's type, whose kind was read before.
 ///
-/// A type whose table is absent, or whose parameters are out of range, is `BadType`; a decimal of other widths than 128
-/// bits is `UnsupportedType`.
+/// A type whose table is absent, or whose parameters are out of range, is `BadType`; a table that isn't readable is
+/// `BadTable`, and a decimal of a width other than 128 bits `UnsupportedType`.
 #[tactic(auto, using(crate::proofs::Faults::faults, crate::proofs::TypeFacts::type_facts), unfolding(crate::specs::Types::type_of))]
 pub fn read_type(alloc: Global, kind: TypeKind, field: &TableRef) -> Result<ColType, StreamFault>
     ensures exact { Answers (λ t. t) result (type_of kind field.now) }

@@ -1,4 +1,4 @@
--- Ends lie behind beginnings, and the tree of slots by its first.
+-- Ends lie after beginnings, and the tree of slots by its first.
 use Rattle.std.proofs.Common.{◌≡◌, ℕ, ◌+◌, ◌*◌, ◌/◌, ◌%◌, ◌-◌, ◌<◌, ◌≤◌, List, length, get_or, drop, refl, arith}
 use Rattle.std.proofs.Math.Nat.{div-add-mod', mod-lt}
 use Rattle.flatbuf.specs.Tree.{Node, absent, number, text, structs, table, references, Nodes, node, no_nodes}
@@ -61,7 +61,7 @@ mutual
 
 pub ruleset ends = (fields_end-le, object_end-le, objects_end-le)
 
--- the next of some slots, and those behind it
+-- the next of some slots, and those after it
 
 pub next-fits : (xs : List Slot) (i : ℕ) (x : Slot) → i < length xs → x ≡ get_or xs i x → FitAll (views (drop i xs))
     → Fits (view x) × FitAll (views (drop (i + 1) xs))

@@ -1,4 +1,4 @@
--- What the reader's words answer where a node is held.
+-- What the definitions of reading give where a node is held.
 use Rattle.std.proofs.Common.{◌≡◌, ℕ, ◌+◌, ◌*◌, ◌≤◌, List, Option, Some, None, refl, sym, subst}
 use Rattle.std.specs.Int.{Width, byte_len, cast_signed}
 use Rattle.flatbuf.specs.Tree.{number, text, structs, table, references, Nodes, count}

@@ -4,7 +4,7 @@ use Rattle.flatbuf.specs.declared.builder.Builder.{Builder}
 use Rattle.flatbuf.specs.declared.builder.Tables.{Tables}
 use Rattle.flatbuf.specs.Slots.{views}
 
--- the slots, and one more behind them
+-- the slots, and one more after them
 abbrev pub add : Nodes → Node → Nodes
 add no_nodes x = node x no_nodes
 add (node y r) x = node y (add r x)

@@ -1,4 +1,4 @@
--- A tree is read back from bytes: the reader's words answer, from places alone, what the tree says.
+-- What it means that bytes hold a tree: reading them slot by slot and element by element gives the tree's nodes.
 use Rattle.std.specs.Prelude.{◌≡◌, ℕ, ◌+◌, ◌*◌, ◌≤◌, List, Option, Some, None, ⊤}
 use Rattle.flatbuf.specs.Tree.{Node, absent, number, text, structs, table, references, Nodes, no_nodes, node, count}
 use Rattle.flatbuf.specs.Layout.{number_at, target_at, block_at, table_at, table_in, slot_of, root_of}

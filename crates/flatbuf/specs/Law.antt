@@ -1,4 +1,4 @@
--- Reading by places gives back what the one layout writes.
+-- Each tree that can be written is read back from the bytes of its canonical layout.
 use Rattle.flatbuf.specs.Tree.{Nodes}
 use Rattle.flatbuf.specs.Written.{whole, IsWritable}
 use Rattle.flatbuf.specs.Held.{RootHeld}

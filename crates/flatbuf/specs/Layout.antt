@@ -24,7 +24,7 @@ use Rattle.std.specs.Option.{option_map}
 use Rattle.byteorder.specs.Endian.{little_number}
 
 infixl 10 ◌>>=◌
--- what is read next is read only where this could be
+-- the second is read only where the first could be
 abbrev pub ◌>>=◌ : {A B : Type 0} → Option A → (A → Option B) → Option B
 None >>= next = None
 (Some x) >>= next = next x
@@ -89,7 +89,7 @@ table_at bytes p = option_map (λ vtable. table_in bytes p) (vtable_at bytes p)
 unfoldable pub root_of : List ℕ → Option Table
 root_of bytes = target_at bytes 0 >>= table_at bytes
 
--- A vtable holds 16 bits for each slot: how far behind the table's place the field stands. A slot is absent where this
+-- A vtable holds 16 bits for each slot: how far after the table's place the field stands. A slot is absent where this
 -- is 0, or is not wholly within the vtable's own size.
 abbrev pub field_place : Table → ℕ → Option ℕ
 field_place t offset = if offset == 0 then None else Some (t.place + offset)

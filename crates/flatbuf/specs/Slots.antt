@@ -1,11 +1,11 @@
--- The tree that the program's slots stand for.
+-- The tree of `specs/Tree` that the slots of a `Builder` stand for.
 use Rattle.std.specs.Prelude.{List, map}
 use Rattle.flatbuf.specs.Tree.{Node, absent, number, text, structs, table, references, Nodes, nodes_of}
 use Rattle.flatbuf.specs.declared.slot.Slot.{Slot}
 use Rattle.flatbuf.specs.declared.slot.Slot.TheFolds.{fold-Slot}
 use Rattle.flatbuf.specs.declared.slot.Slot.TheOpen.{Slot-F}
 
--- one level of it
+-- the node of a slot, from the nodes of the slots below it
 abbrev pub view_step : Slot-F Node → Node
 view_step Slot-F.Absent = absent
 view_step (Slot-F.Number w n) = number w n

@@ -12,8 +12,8 @@ use std::alloc::{AllocError, Global};
 
 /// A table that is built slot by slot, in slot order, with all that it refers to.
 ///
-/// A signed number is given as two's complement. After a refusal the builder may be dropped, or the
-/// same call made again.
+/// A signed number is given as two's complement. Where memory is refused the builder is as it was, and the same call
+/// may be made again.
 #[derive(Drop)]
 pub struct Builder {
     slots: Vec<Slot>,
@@ -26,6 +26,7 @@ pub struct Tables {
 }
 
 impl Builder {
+    /// A table without slots. It takes no memory.
     pub fn new(alloc: Global) -> Self
         ensures { slots result ≡ no_nodes }
     {
@@ -59,6 +60,7 @@ impl Builder {
         self.push(Slot::Number(1, value as u64))
     }
 
+    /// A number of two bytes.
     pub fn u16(&mut self, value: u16) -> Result<(), AllocError>
         ensures ok { OnOk result (slots self.new ≡ add (slots self.old) (number 2 value)) }
         ensures err { OnErr result (slots self.new ≡ slots self.old) }
@@ -66,6 +68,7 @@ impl Builder {
         self.push(Slot::Number(2, value as u64))
     }
 
+    /// A number of four bytes.
     pub fn u32(&mut self, value: u32) -> Result<(), AllocError>
         ensures ok { OnOk result (slots self.new ≡ add (slots self.old) (number 4 value)) }
         ensures err { OnErr result (slots self.new ≡ slots self.old) }
@@ -73,6 +76,7 @@ impl Builder {
         self.push(Slot::Number(4, value as u64))
     }
 
+    /// A number of eight bytes.
     pub fn u64(&mut self, value: u64) -> Result<(), AllocError>
         ensures ok { OnOk result (slots self.new ≡ add (slots self.old) (number 8 value)) }
         ensures err { OnErr result (slots self.new ≡ slots self.old) }
@@ -80,7 +84,7 @@ impl Builder {
         self.push(Slot::Number(8, value))
     }
 
-    /// A string, by its bytes.
+    /// A string, by its bytes, which need not be UTF-8.
     pub fn text(&mut self, bytes: &[u8]) -> Result<(), AllocError>
         ensures ok { OnOk result (slots self.new ≡ add (slots self.old) (text bytes.now)) }
         ensures err { OnErr result (slots self.new ≡ slots self.old) }
@@ -97,6 +101,7 @@ impl Builder {
         self.push(Slot::Structs(width, bytes))
     }
 
+    /// A table below this one, or the table of a union.
     pub fn table(&mut self, fields: Builder) -> Result<(), AllocError>
         ensures ok { OnOk result (slots self.new ≡ add (slots self.old) (table (slots fields))) }
         ensures err { OnErr result (slots self.new ≡ slots self.old) }
@@ -124,6 +129,7 @@ impl Builder {
 }
 
 impl Tables {
+    /// A vector without tables. It takes no memory.
     pub fn new(alloc: Global) -> Self
         ensures { listed result ≡ no_nodes }
     {
@@ -132,6 +138,7 @@ impl Tables {
         }
     }
 
+    /// Adds a table at the end.
     #[tactic(auto, using(crate::proofs::Views::pushed))]
     pub fn push(&mut self, fields: Builder) -> Result<(), AllocError>
         ensures ok { OnOk result (listed self.new ≡ add (listed self.old) (table (slots fields))) }

@@ -51,7 +51,7 @@ fn push_number(out: &mut Vec<u8>, number: u64, width: usize) -> Result<(), Alloc
     out.extend_from_slice(&bytes[..width])
 }
 
-/// What a vtable says of a slot: where its field stands in the table, or 0.
+/// The vtable's entry for a slot: where its field stands, counted from the table, or 0 where the slot is absent.
 fn entry_of(cursor: u64, slot: &Slot) -> u64
     requires fits { Fits (view slot.now) }
     requires room { cursor < 2 ^ 32 }
@@ -67,7 +67,7 @@ fn entry_of(cursor: u64, slot: &Slot) -> u64
     }
 }
 
-/// Appends a field that stands at `place`, whose object has room from `at` on.
+/// Appends a field that stands at `place`: a number itself, or the distance to the object, which has room from `at` on.
 #[tactic(auto, using(crate::proofs::Ends::ends, crate::proofs::Views::slots))]
 fn push_content(out: &mut Vec<u8>, place: u64, at: u64, slot: &Slot) -> Result<(), AllocError>
     requires fits { Fits (view slot.now) }
@@ -85,7 +85,7 @@ fn push_content(out: &mut Vec<u8>, place: u64, at: u64, slot: &Slot) -> Result<(
     }
 }
 
-/// Appends the fields of the table at `table`, the first behind `cursor`, whose objects have room
+/// Appends the fields of the table at `table`, the first after `cursor`, whose objects have room
 /// from `at` on.
 #[tactic(auto, using(crate::proofs::Ends::ends, crate::proofs::Views::slots))]
 fn push_fields(
@@ -112,7 +112,7 @@ fn push_fields(
     push_zeros(out, layout::up_to(end, 4) - end)
 }
 
-/// Appends what a vtable says of each slot.
+/// Appends the vtable's entries for these slots, the first field after `cursor`.
 #[tactic(auto, using(crate::proofs::Ends::ends, crate::proofs::Views::slots))]
 fn push_entries(out: &mut Vec<u8>, cursor: u64, slots: &[Slot]) -> Result<(), AllocError>
     requires fits { FitAll (views slots.now) }

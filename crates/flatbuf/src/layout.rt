@@ -86,6 +86,7 @@ pub fn place_of_field(cursor: u64, slot: &Slot) -> u64
     up_to(cursor, alignment_of(slot))
 }
 
+/// The end of a field in its table, where `cursor` is the end of the one before.
 pub fn end_of_field(cursor: u64, slot: &Slot) -> u64
     requires fits { Fits (view slot.now) }
     requires room { cursor < 2 ^ 33 }
@@ -111,6 +112,7 @@ pub fn end_of_fields(cursor: u64, slots: &[Slot]) -> u64
 }
 
 #[tactic(auto, using(crate::proofs::Views::slots))]
+/// The size in bytes of the vtable of these slots.
 pub fn len_of_vtable(slots: &[Slot]) -> u64
     requires { vtable_len (views slots.now) < 2 ^ 16 }
     ensures { result ≡ vtable_len (views slots.now) }
@@ -129,6 +131,7 @@ pub fn place_of_table(at: u64, slots: &[Slot]) -> u64
     up_to(up_to(at, 8) + len_of_vtable(slots), 8)
 }
 
+/// The end of a table whose vtable has room from `at` on, without the objects that it refers to.
 pub fn end_of_table(at: u64, slots: &[Slot]) -> u64
     requires fits { Fits (table (views slots.now)) }
     requires room { at < 2 ^ 32 }
@@ -150,6 +153,7 @@ pub fn place_of_items(at: u64) -> u64
 }
 
 #[tactic(auto, using(crate::proofs::Views::slots))]
+/// The end of the elements of a vector of references whose count has room from `at` on.
 pub fn end_of_items(at: u64, slots: &[Slot]) -> u64
     requires { items_end at (views slots.now) < 2 ^ 32 }
     ensures value { result ≡ items_end at (views slots.now) }

@@ -7,7 +7,7 @@ ghost use Rattle.flatbuf.specs.Layout.{block_at, number_at, target_at};
 use crate::bad_table::BadTable;
 use byteorder::{ByteOrder, LittleEndian};
 
-/// Whether `len` bytes stand at `place`.
+/// Whether the buffer has `len` bytes from `place` on.
 fn is_readable(bytes: &[u8], place: usize, len: usize) -> bool
     ensures { IsTrue result ↔ (place + len ≤ length bytes.now) }
 {

@@ -138,7 +138,7 @@ impl<'a> TableRef<'a> {
         }
     }
 
-    /// The bytes of a string. They need not be UTF-8, and the zero byte behind them is not read.
+    /// The bytes of a string. They need not be UTF-8, and the zero byte after them is not read.
     pub fn text(&self, slot: u16) -> Result<Option<&'a [u8]>, BadTable>
         ensures { option_map option_copied (result_ok result) ≡ text_of self.now slot }
     {
@@ -186,7 +186,7 @@ impl<'a> TableRef<'a> {
     }
 }
 
-/// `place` less the signed distance whose bits are `distance`.
+/// `place` less the signed distance whose bits are `distance`; `None` where that is negative.
 fn vtable_place(place: usize, distance: u32) -> Option<usize>
     requires { place < 2 ^ 63 }
     ensures { result ≡ place_of_vtable place distance }

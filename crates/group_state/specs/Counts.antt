@@ -37,7 +37,7 @@ keeps_none = []
 abbrev pub had : List (Key × ℕ) → Key → ℕ
 had es k = unwrap_or (lookup (is_at (key_cmp k)) es) 0
 
--- whether two keys are one, as a number
+-- 1 where two keys are equal, else 0
 abbrev pub one : Key → Key → ℕ
 one k q = if is_at (key_cmp k) q then 1 else 0
 
@@ -57,7 +57,7 @@ abbrev pub number_in : Key → ℤ
 number_in (key.Int n) = n
 number_in k = pos 0
 
--- a number, added so many times
+-- n times a number
 abbrev pub times : ℕ → ℤ → ℤ
 times zero x = pos 0
 times (suc n) x = x +ℤ times n x
@@ -67,7 +67,7 @@ abbrev pub weighted : List (Key × ℕ) → ℤ
 weighted [] = pos 0
 weighted (e ∷ es) = times e.1 (number_in e.0) +ℤ weighted es
 
--- the counts are above 0, and the sum that is kept beside them is theirs, in 128 bits
+-- the counts are above 0, and `total` is the sum of the values, each as often as it is there, wrapped around 128 bits
 pub record IsTied (es : List (Key × ℕ)) (total : ℤ) : Type 0 where
   pub present : All (λ n. 0 < n) (values_of es)
   pub total_is : total ≡ int_wrap w128 (weighted es)

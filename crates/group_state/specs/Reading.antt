@@ -1,4 +1,4 @@
--- What is read out of groups.
+-- Reading group rows out of groups that are kept.
 use Rattle.std.specs.Prelude.{
   ◌≡◌,
   ◌<◌,

@@ -1,4 +1,4 @@
-//! One group: the number of its rows, and a tally for each column that outputs read.
+//! A group: the number of its rows, and a tally for each column that outputs read.
 
 ghost use Rattle.std.specs.Prelude.{◌≡◌, ◌<◌, ◌^◌, ◌∷◌, List, OnOk, IfOk, length, []};
 ghost use Rattle.values.specs.Datum.{Datum};
@@ -16,7 +16,7 @@ use std::alloc::{AllocError, Global};
 use std::marker::Model;
 use values::Value;
 
-/// The number of rows of a group, and what is kept of each column that its outputs read.
+/// What is kept of a group: the number of its rows, and a tally of each column that outputs read.
 #[derive(Debug, Drop)]
 pub struct Group {
     rows: u64,
@@ -43,7 +43,7 @@ impl Group {
         Ok(Group { rows: 0, tallies })
     }
 
-    /// With the tuple that its rows have.
+    /// Takes the group apart, together with the tuple that its rows have. If memory is refused, it is lost.
     pub(crate) fn into_parts(self, alloc: Global, tuple: Tuple) -> Result<GroupParts, AllocError>
         ensures value { IfOk result (λ parts. group_with parts ≡ (tuple, self)) }
         ensures kept { IfOk result (λ parts. IsGroup parts) }
@@ -61,7 +61,7 @@ impl Group {
         })
     }
 
-    /// The tuple that its rows have, and the group.
+    /// Makes the group that has these parts, and the tuple that its rows have.
     pub(crate) fn from_parts(alloc: Global, parts: GroupParts) -> Result<(Tuple, Group), AllocError>
         requires { IsGroup parts }
         ensures { IfOk result (λ made. made ≡ group_with parts) }
@@ -90,7 +90,7 @@ impl Group {
         self.rows
     }
 
-    /// The tally of a column; `None` if the group keeps none of it.
+    /// The tally of a column; `None` if the group keeps no tally of it.
     pub(crate) fn tally(&self, columns: &[usize], column: usize) -> Option<&Tally>
         ensures { (rows : List (List Datum)) → KeepsRows columns.now self.now rows
             → is_kept columns.now column ≡ true → IsThat (option_map (λ t. t.now) result) (cells column rows) }
@@ -117,7 +117,7 @@ impl Group {
         Ok(())
     }
 
-    /// Takes a row away.
+    /// Removes a row.
     pub(crate) fn remove(
         &mut self,
         alloc: Global,
@@ -166,7 +166,7 @@ fn remove_each(
     Ok(())
 }
 
-/// Where a column is among others.
+/// The place of a column among others.
 fn place(columns: &[usize], column: usize) -> Option<usize>
     ensures { IsPlace columns.now column result }
 {

@@ -48,8 +48,8 @@ use std::marker::Model;
 use values::{Row, Value};
 use view_lang::{Change, GroupOutput, RowChange, Upkeep, group_law};
 
-/// The groups of rows that are alike in some columns, and what is kept of other columns of each. Without such columns
-/// all rows are one group.
+/// The groups of rows that are alike in the grouping columns, each with what is kept of other columns. Without grouping
+/// columns all rows are one group.
 #[derive(Debug, Drop)]
 pub struct Groups {
     alloc: Global,
@@ -67,7 +67,7 @@ impl Model for Groups {
 }
 
 impl Groups {
-    /// The groups of no rows.
+    /// The groups of no rows, by the columns `by`, with tallies of the columns `columns`.
     pub fn new(alloc: Global, by: &[usize], columns: &[usize]) -> Result<Groups, AllocError>
         ensures keys { IfOk result (λ groups. groups.keys ≡ by.now) }
         ensures columns { IfOk result (λ groups. groups.columns ≡ columns.now) }
@@ -81,7 +81,7 @@ impl Groups {
         })
     }
 
-    /// Takes them apart. The parts are all that they keep. If memory is refused, they are lost.
+    /// Takes the groups apart. The parts are all that they keep. If memory is refused, they are lost.
     pub fn into_parts(self) -> Result<GroupsParts, AllocError>
         ensures value { IfOk result (λ parts. grouped_with parts ≡ self) }
         ensures kept { IfOk result (λ parts. AreGroups parts) }
@@ -126,7 +126,7 @@ impl Groups {
         })
     }
 
-    /// The groups of no rows, of which these outputs can be read.
+    /// The groups of no rows, by the columns `by`, with tallies of all columns that these outputs read.
     pub fn of(alloc: Global, by: &[usize], outputs: &[GroupOutput]) -> Result<Groups, AllocError>
         ensures keys { IfOk result (λ groups. groups.keys ≡ by.now) }
         ensures columns { IfOk result (λ groups. All (λ o. IsKept groups.columns o.aggregate) outputs.now) }
@@ -136,7 +136,8 @@ impl Groups {
         Ok(Groups::new(alloc, by, columns.as_slice())?)
     }
 
-    /// The group rows of the rows, ascending by their tuples. Without grouping columns there is one, also of no rows.
+    /// The group rows, ascending by their tuples. Without grouping columns there is one row, also where there are no
+    /// rows to group.
     pub fn rows(&self, alloc: Global, outputs: &[GroupOutput]) -> Result<Vec<Row>, AllocError>
         ensures { IfOk result (λ made. (rows : List (List Datum)) → Keeps self.now rows
             → CanReadAll self.now.keys self.now.columns outputs.now rows
@@ -158,7 +159,7 @@ impl Groups {
         Ok(read_rows(alloc, outputs, &self.groups, self.columns.as_slice())?)
     }
 
-    /// Whether it has neither grouping columns nor groups.
+    /// Whether there are neither grouping columns nor groups.
     fn is_bare(&self) -> bool
         ensures { IsTrue result ↔ ((length self.now.keys ≡ 0) × (length self.now.groups ≡ 0)) }
     {
@@ -221,7 +222,7 @@ impl Groups {
         Ok(())
     }
 
-    /// Takes the row before a change away, if there was one.
+    /// Removes the row before a change, if there was one.
     fn remove_before(&mut self, changed: &RowChange) -> Result<(), AllocError>
         requires { (rows : List (List Datum)) × Keeps self.old (push_some changed.now.before rows) }
         ensures kept { OnOk result ((rows : List (List Datum)) → Keeps self.old (push_some changed.now.before rows)
@@ -254,7 +255,7 @@ impl Groups {
         Ok(())
     }
 
-    /// Takes a row away.
+    /// Removes a row.
     fn remove(&mut self, row: &[Value]) -> Result<(), AllocError>
         requires { (rows : List (List Datum)) × Keeps self.old (row.now ∷ rows) }
         ensures kept { OnOk result ((rows : List (List Datum)) → Keeps self.old (row.now ∷ rows)
@@ -311,7 +312,7 @@ fn put_row(
     Ok(())
 }
 
-/// Takes a row away from the group of its tuple, and the group with its last row.
+/// Removes a row from the group of its tuple, and the group with its last row.
 fn take_row(
     groups: &mut BTreeMap<Tuple, Group>,
     alloc: Global,

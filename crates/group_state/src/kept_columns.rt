@@ -1,4 +1,4 @@
-//! The columns that outputs of groups read.
+//! The columns that outputs of groups read, of which groups keep tallies.
 
 ghost use Rattle.group_state.specs.KeptColumns.{IsKept, is_kept};
 ghost use Rattle.std.specs.Prelude.{All, IfOk, OnOk, true, ◌≡◌, ℕ};

@@ -1,4 +1,4 @@
-//! Cells by which rows are grouped and compared.
+//! Values by which rows are grouped and compared.
 
 ghost use Rattle.std.specs.Prelude.{◌≡◌, IfOk, is_some};
 ghost use Rattle.values.specs.Keys.{datum_of_key, key_of};
@@ -13,7 +13,7 @@ use std::cmp::Ordering;
 use std::marker::Model;
 use values::{Kind, Value, cmp_values, key_law};
 
-/// A cell that is neither a list nor a struct. Contracts see the key that it is.
+/// A value that is neither a list nor a struct. Contracts see the key that it is.
 #[derive(Debug, Drop)]
 pub struct KeyCell {
     cell: Value,
@@ -85,7 +85,7 @@ impl Ord for KeyCell {
 }
 
 impl KeyCell {
-    /// A copy of a value; none where it is a list or a struct.
+    /// A copy of a value; `None` where it is a list or a struct.
     pub(crate) fn of(alloc: Global, value: &Value) -> Result<Option<KeyCell>, AllocError>
         ensures { IfOk result (λ key. key ≡ key_of value.now) }
     {
@@ -96,7 +96,7 @@ impl KeyCell {
         Ok(None)
     }
 
-    /// A value that is neither a list nor a struct.
+    /// Wraps a value, which must be neither a list nor a struct.
     pub(crate) fn of_cell(cell: Value) -> KeyCell
         requires { IsKeyCell cell }
         ensures { result ≡ key_in cell }
@@ -119,14 +119,14 @@ impl KeyCell {
         KeyCell { cell: no_value() }
     }
 
-    /// The value, with memory of its own.
+    /// A copy of the value.
     pub(crate) fn value(&self, alloc: Global) -> Result<Value, AllocError>
         ensures { IfOk result (λ value. value ≡ datum_of_key self.now) }
     {
         self.cell.copy(alloc)
     }
 
-    /// The number that it is; 0 where it is none.
+    /// Its whole number; 0 where it is of another kind.
     pub(crate) fn number(&self) -> i128
         ensures { result ≡ number_in self.now }
     {

@@ -1,4 +1,4 @@
-//! Ordered multisets.
+//! Ordered multisets of values, with their sum.
 
 ghost use Rattle.std.specs.Prelude.{
   ◌≡◌,
@@ -33,8 +33,8 @@ use std::alloc::{AllocError, Global};
 use std::collections::BTreeMap;
 use std::marker::Model;
 
-/// Cells with the number of times that each is there, in their order, and the sum of those that are numbers. Contracts
-/// see the entries; none has the count 0.
+/// Values with how often each is there, in ascending order, and the sum of those that are numbers. Contracts see the
+/// entries; none has the count 0.
 #[derive(Debug, Drop)]
 pub struct Multiset {
     counts: BTreeMap<KeyCell, u64>,
@@ -55,7 +55,7 @@ impl Model for Multiset {
 }
 
 impl Multiset {
-    /// An empty one.
+    /// An empty multiset. It takes no memory.
     pub fn new(alloc: Global) -> Multiset
         ensures { result ≡ keeps_none }
     {
@@ -96,7 +96,7 @@ impl Multiset {
         })
     }
 
-    /// The sum of its whole numbers, in 128 bits.
+    /// The sum of its whole numbers, each as often as it is there. It wraps around 128 bits.
     pub fn total(&self) -> i128
         ensures total { result ≡ int_wrap w128 (weighted self.now) }
         ensures ordered { IsStrictlySortedBy key_cmp (keys_of self.now) }
@@ -106,7 +106,7 @@ impl Multiset {
         self.total
     }
 
-    /// The least value; none where there is none.
+    /// The least value; `None` where there is no value.
     pub fn least(&self) -> Option<&KeyCell>
         ensures least { option_map (λ k. k.now) result ≡ first_of self.now }
         ensures ordered { IsStrictlySortedBy key_cmp (keys_of self.now) }
@@ -119,7 +119,7 @@ impl Multiset {
         }
     }
 
-    /// The greatest value; none where there is none.
+    /// The greatest value; `None` where there is no value.
     pub fn greatest(&self) -> Option<&KeyCell>
         ensures greatest { option_map (λ k. k.now) result ≡ last_of self.now }
         ensures ordered { IsStrictlySortedBy key_cmp (keys_of self.now) }
@@ -146,7 +146,7 @@ impl Multiset {
         Ok(())
     }
 
-    /// Takes one such value away, if there is one.
+    /// Removes one such value, if there is one.
     pub fn remove(&mut self, key: &KeyCell)
         ensures entries { self.new ≡ take_one key.now self.old }
         ensures counts { (q : Key) → had self.new q ≡ had self.old q - one key.now q }
@@ -157,7 +157,7 @@ impl Multiset {
     }
 }
 
-/// Lowers a value's count by one, and removes the value with its last one. Answers whether it was there.
+/// Lowers a value's count by one, and removes the value when none is left. Returns whether it was there.
 fn take_from(counts: &mut BTreeMap<KeyCell, u64>, key: &KeyCell) -> bool
     ensures entries { counts.new.entries ≡ take_one key.now counts.old.entries }
     ensures ordered { IsStrictlySortedBy key_cmp (keys_of counts.old.entries) }

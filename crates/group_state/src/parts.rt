@@ -2,8 +2,8 @@
 
 use values::{Row, Value};
 
-/// All that `Groups` keep: the grouping columns, the columns of which values are kept, and the groups, ascending by
-/// their tuples.
+/// All that `Groups` keep: the numbers of the grouping columns, those of the columns with tallies, and the groups,
+/// ascending by their tuples.
 #[derive(Debug, Drop)]
 pub struct GroupsParts {
     pub keys: Vec<usize>,
@@ -11,7 +11,7 @@ pub struct GroupsParts {
     pub groups: Vec<GroupParts>,
 }
 
-/// A grouping tuple, the number of its rows, and what is kept of each column.
+/// A group: its cells in the grouping columns, the number of its rows, and a tally of each other column.
 #[derive(Debug, Drop)]
 pub struct GroupParts {
     pub tuple: Row,
@@ -19,14 +19,15 @@ pub struct GroupParts {
     pub tallies: Vec<TallyParts>,
 }
 
-/// How many cells of a column aren't null, and those that have an order.
+/// The tally of a column: how many cells aren't null, and the values of those that are neither lists nor structs.
 #[derive(Debug, Drop)]
 pub struct TallyParts {
     pub filled: u64,
     pub values: MultisetParts,
 }
 
-/// Values, ascending, and the sum of those that are numbers, each as often as it is there, in 128 bits.
+/// Values with their counts, ascending, and the sum of those that are numbers, each as often as it is there, wrapped
+/// around 128 bits.
 #[derive(Debug, Drop)]
 pub struct MultisetParts {
     pub counts: Vec<ValueCount>,

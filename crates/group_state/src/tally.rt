@@ -1,4 +1,4 @@
-//! The tally of one column of a group: how many cells aren't null, and the multiset of those that have an order.
+//! Tallies of the cells of one column of a group.
 
 ghost use Rattle.std.specs.Prelude.{◌≡◌, ◌<◌, ◌^◌, ◌∷◌, List, OnOk, IfOk, length, []};
 ghost use Rattle.std.proofs.Common.{option_map};
@@ -22,7 +22,8 @@ use crate::parts::TallyParts;
 use std::alloc::{AllocError, Global};
 use values::Value;
 
-/// How many cells of the column aren't null, and those that have an order.
+/// The tally of a column of a group: how many cells aren't null, and the multiset of those that are neither lists nor
+/// structs.
 #[derive(Debug, Drop)]
 pub struct Tally {
     pub(crate) filled: u64,
@@ -123,7 +124,7 @@ impl Tally {
         Ok(())
     }
 
-    /// Takes a row's cell away.
+    /// Removes a row's cell.
     pub(crate) fn remove(
         &mut self,
         alloc: Global,
@@ -147,7 +148,7 @@ impl Tally {
     }
 }
 
-/// The value that a key is; null where there is none.
+/// A copy of the value; null where there is none.
 fn key_cell(alloc: Global, key: Option<&KeyCell>) -> Result<Value, AllocError>
     ensures { IfOk result (λ cell. cell ≡ datum_in (option_map (λ k. k.now) key.entry)) }
 {

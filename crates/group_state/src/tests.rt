@@ -32,7 +32,7 @@ fn row(alloc: Global, first: i128, second: Option<i128>) -> Result<Row, AllocErr
     Ok(cells)
 }
 
-/// A row comes.
+/// The change in which a row comes.
 fn add(
     alloc: Global,
     change: &mut Change,
@@ -47,7 +47,7 @@ fn add(
     Ok(())
 }
 
-/// A row goes.
+/// The change in which a row goes.
 fn remove(
     alloc: Global,
     change: &mut Change,

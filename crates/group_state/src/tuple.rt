@@ -15,7 +15,7 @@ use std::cmp::Ordering;
 use std::marker::Model;
 use values::{Row, Value};
 
-/// The keys of the grouping columns. Contracts see the list of them.
+/// A grouping tuple: what a row has in the grouping columns, in order. Contracts see the list of keys.
 #[derive(Debug, Drop)]
 pub struct Tuple {
     keys: Vec<KeyCell>,
@@ -127,7 +127,7 @@ impl Tuple {
         }
     }
 
-    /// The value of a key of it; null where it has no such key.
+    /// A copy of the value at place `k`; null where there is none.
     pub(crate) fn cell(&self, alloc: Global, k: usize) -> Result<Value, AllocError>
         ensures { IfOk result (λ cell. cell ≡ cell_at (data_of self.now) k) }
     {

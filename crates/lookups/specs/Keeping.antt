@@ -1,4 +1,4 @@
--- Which rows are kept.
+-- When the numbers by key are those of some rows.
 use Rattle.lookups.specs.Refers.{RowsByKey, key_cmp, refers}
 use Rattle.std.specs.BTreeMap.{is_at}
 use Rattle.std.specs.Prelude.{◌≡◌, ℕ, Bool, false, List, Option, None, Some}

@@ -41,7 +41,7 @@ impl Numbers {
         Ok(Numbers { numbers })
     }
 
-    /// These numbers, which ascend.
+    /// The set of these numbers, which must ascend.
     pub(crate) fn of(alloc: Global, numbers: Vec<usize>) -> Result<Numbers, AllocError>
         requires { IsStrictlySortedBy nat_cmp numbers.items }
         ensures value { IfOk result (λ made. made ≡ numbers.items) }
@@ -53,7 +53,7 @@ impl Numbers {
         Ok(Numbers { numbers: made })
     }
 
-    /// Where memory is refused, nothing has changed.
+    /// Adds a number. If memory is refused, nothing has changed.
     pub(crate) fn insert(&mut self, number: usize) -> Result<(), AllocError>
         ensures ok { OnOk result ((n : ℕ) → is_among self.new n ≡ cond (n == number) true (is_among self.old n)) }
         ensures err { OnErr result (self.new ≡ self.old) }
@@ -63,7 +63,7 @@ impl Numbers {
         Ok(())
     }
 
-    /// Where memory is refused, some of them may be there.
+    /// Adds all numbers of another set. If memory is refused, some of them may have been added.
     pub(crate) fn add_all(&mut self, others: &Numbers) -> Result<(), AllocError>
         ensures { OnOk result ((n : ℕ) → is_among self.new n ≡ (is_among self.old n || is_among others.now n)) }
     {

@@ -2,13 +2,13 @@
 
 use values::Key;
 
-/// All that a `Referrers` keeps: keys, ascending, each with the numbers of the rows that hold it.
+/// All that `Referrers` keep: keys, ascending, each with the numbers of the rows that hold it.
 #[derive(Debug, Drop)]
 pub struct ReferrersParts {
     pub keys: Vec<KeyNumbers>,
 }
 
-/// A key with numbers of rows, at least one, ascending.
+/// A key with the numbers of the rows that hold it: at least one, ascending.
 #[derive(Debug, Drop)]
 pub struct KeyNumbers {
     pub key: Key,

@@ -1,4 +1,4 @@
-//! Rows by the keys that they hold.
+//! The numbers of rows by the keys that the rows hold.
 
 ghost use Rattle.lookups.specs.Keeping.{Keeps, holds};
 ghost use Rattle.lookups.specs.ReferrersParts.{rows_with};
@@ -32,7 +32,7 @@ use view_lang::{Change, RowChange, Upkeep};
 
 /// The numbers of a table's rows by the key that each holds in a column. Contracts see the numbers under each key.
 ///
-/// A key without a number is no more there, so they don't depend on the course by which rows came and went.
+/// A key is dropped with its last number, so what is kept doesn't depend on the changes that led to it.
 #[derive(Debug, Drop)]
 pub struct Referrers {
     alloc: Global,
@@ -61,7 +61,7 @@ impl Referrers {
         }
     }
 
-    /// Takes it apart. The parts are all that it keeps. If memory is refused, it is lost.
+    /// Takes the referrers apart. The parts are all that they keep. If memory is refused, they are lost.
     pub fn into_parts(self) -> Result<ReferrersParts, AllocError>
         ensures value { IfOk result (λ parts. rows_with parts ≡ self) }
         ensures ordered { IfOk result (λ parts. IsOrdered (rows_with parts)) }
@@ -75,7 +75,7 @@ impl Referrers {
         Ok(ReferrersParts { keys })
     }
 
-    /// Makes the `Referrers` that has these parts.
+    /// Makes the `Referrers` that have these parts.
     pub fn from_parts(alloc: Global, parts: ReferrersParts) -> Result<Referrers, AllocError>
         requires { IsOrdered (rows_with parts) }
         ensures { IfOk result (λ referrers. referrers ≡ rows_with parts) }
@@ -97,7 +97,7 @@ impl Referrers {
         Ok(())
     }
 
-    /// Removes a row's number from under a key. It takes no memory.
+    /// Removes a row's number from those under a key. It takes no memory.
     pub fn remove(&mut self, key: &Key, number: usize)
         ensures here { (n : ℕ) → refers self.new key.now n ≡ cond (n == number) false (refers self.old key.now n) }
         ensures others { (k : Key) → is_at (key_cmp key.now) k ≡ false → found_at self.new k ≡ found_at self.old k }
@@ -112,7 +112,7 @@ impl Referrers {
         ensures ascending { IfOk result (λ numbers. IsStrictlySortedBy nat_cmp numbers.items) }
         ensures ordered { IsOrdered self.now }
     {
-        // It is how the proof learns that the keys ascend.
+        // It does nothing: the proof takes from it that the keys ascend.
         let _keys = self.rows.len();
         match self.rows.get(key) {
             Some(numbers) => Ok(numbers.to_vec(alloc)?),
@@ -148,7 +148,7 @@ impl Referrers {
         }
     }
 
-    /// The row before the change is under its key no longer.
+    /// Removes the row before a change from those under its key, if there was one.
     fn remove_before(&mut self, changed: &RowChange) -> Result<(), AllocError>
         ensures { OnOk result ((k : Key) (n : ℕ) → refers self.new k n
             ≡ cond (holds k changed.now.before && n == changed.now.number) false (refers self.old k n)) }
@@ -159,7 +159,7 @@ impl Referrers {
         Ok(())
     }
 
-    /// The row after the change comes under its key.
+    /// Adds the row after a change under its key, if there is one.
     fn add_after(&mut self, changed: &RowChange) -> Result<(), AllocError>
         ensures { OnOk result ((k : Key) (n : ℕ) → refers self.new k n
             ≡ cond (holds k changed.now.after && n == changed.now.number) true (refers self.old k n)) }
@@ -170,8 +170,8 @@ impl Referrers {
         Ok(())
     }
 
-    /// Applies the change of one row. It is removed before it is added, so that a row that keeps its key is there in the
-    /// end.
+    /// Applies the change of one row. It is removed before it is added, so that a row that keeps its key is there in
+    /// the end.
     fn change_row(&mut self, changed: &RowChange) -> Result<(), AllocError>
         ensures { OnOk result ((rows : NumberedRows) → IsStrictlySortedBy nat_cmp (keys_of rows)
             → row_at changed.now.number rows ≡ changed.now.before → Keeps self.old rows
@@ -202,7 +202,7 @@ impl Upkeep for Referrers {
     }
 }
 
-/// Where memory is refused, nothing has changed.
+/// Adds a number under a key. If memory is refused, nothing has changed.
 fn put_number(
     rows: &mut BTreeMap<Key, Numbers>,
     alloc: Global,
@@ -224,7 +224,7 @@ fn put_number(
     Ok(())
 }
 
-/// The key goes with its last number.
+/// Removes a number from those under a key, and the key with its last number.
 #[tactic(auto, using(crate::proofs::Ascending::none_ascends))]
 fn take_number(rows: &mut BTreeMap<Key, Numbers>, key: &Key, number: usize)
     ensures here { (n : ℕ) → refers rows.new.entries key.now n

@@ -1,4 +1,4 @@
-//! Rows that come under keys and go.
+//! Referrers through a change of a few rows.
 
 use crate::Referrers;
 use std::alloc::{AllocError, Global};

@@ -42,7 +42,7 @@ use Rattle.messages.specs.Run.{Run, led_by, run_after, run_of, run_past}
 use Rattle.messages.specs.Laws.{PushKeepsRun, RefusalEndsRun}
 use Rattle.messages.proofs.Messages.{first_within, whole_stays, fault_stays}
 
--- what lies within the first bytes is the same with more behind them
+-- what lies within the first bytes is the same with more after them
 slice-append :
     (xs ys : List ℕ) (from end : ℕ) → from ≤ end → end ≤ length xs
     → slice_range (xs ++ ys) from end ≡ slice_range xs from end
@@ -62,7 +62,7 @@ pub run_step :
 unfolding run_of
 run_step n known bytes r e = ap (λ m. run_after (run_of n) known bytes m) e
 
--- the bytes behind the message
+-- the bytes after the message
 rest_after :
     (held piece later : List ℕ) (used end : ℕ) → used + length held ≡ end → end ≤ length (held ++ piece)
     → drop end ((held ++ piece) ++ later) ≡ drop used piece ++ later

@@ -151,7 +151,7 @@ staged_stable len more size other end f g h s e =
           subst P (sym (s t.1)) (rw (t.0, k) (sizes_stable len more size end f g h e))
     ]
 
--- the end mark ends at 8, and any other message behind its metadata
+-- the end mark ends at 8, and any other message after its metadata
 sized_there :
     (len n : ℕ) (end : Reading (Option Whole)) (f : ℕ → Reading Meta) (w : Whole) → 8 ≤ len
     → ((v : Whole) → end ≡ Ok (Some v) → (v.front ≡ 8) × (v.meta.body ≡ 0)) → sized len end f n ≡ Ok (Some w)

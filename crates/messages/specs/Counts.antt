@@ -20,7 +20,7 @@ IsCounted counts (header.Dictionary d) = count_after counts d.id d.is_delta d.ba
 IsCounted counts (header.Batch b) = Unit {0}
 IsCounted counts header.End = Unit {0}
 
--- There is room to set it, if one is to be set: for so many more ids no memory is taken.
+-- There is room to set a count, if one is to be set: for `room` more ids no memory is taken.
 abbrev pub HasRoom : Option Count → ℕ → Type 0
 HasRoom None room = Unit {0}
 HasRoom (Some c) room = 0 < room

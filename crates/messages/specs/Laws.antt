@@ -1,4 +1,4 @@
--- What pieces can't change.
+-- What doesn't depend on how the bytes of a stream are cut into pieces.
 use Rattle.std.specs.Prelude.{◌≡◌, ℕ, suc, ◌≤◌, List, [], ◌++◌, length, take, drop, None, Some, Result, Ok, Err}
 use Rattle.std.specs.List.{concat}
 use Rattle.values.specs.declared.faults.StreamFault.{StreamFault}
@@ -12,7 +12,7 @@ use Rattle.messages.specs.Stream.{Stream, Frames}
 use Rattle.messages.specs.Run.{Run, run_of, run_past, whole_run}
 use Rattle.messages.specs.Feeding.{End, Feeds}
 
--- Bytes behind a whole message change nothing of it.
+-- Bytes after a whole message change nothing of it.
 abbrev pub WholeStays : Type 0
 WholeStays =
     (known : Known) (bytes more : List ℕ) (w : Whole) → first known bytes ≡ Ok (Some w)

@@ -1,4 +1,4 @@
--- What a message is that is found whole.
+-- What holds of each complete message.
 use Rattle.std.specs.Prelude.{◌≡◌, ℕ, ◌≤◌, List, length, map, Option, None, Some, Ok}
 use Rattle.values.specs.Rose.{Rose}
 use Rattle.schema_meta.specs.Entry.{Entry}
@@ -25,7 +25,7 @@ Brings known brought (header.Dictionary d) = brought ≡ None
 Brings known brought (header.Batch b) = brought ≡ None
 Brings known brought header.End = brought ≡ None
 
--- Its body begins behind its first eight bytes, it lies within the bytes, and it brings a schema or none.
+-- Its body begins after its first eight bytes, it lies within the bytes, and it brings a schema or none.
 pub record IsMessage (known : Known) (bytes : List ℕ) (w : Whole) : Type 0 where
   pub framed : 8 ≤ w.front
   pub within : end_of w ≤ length bytes

@@ -1,4 +1,4 @@
--- What a framer keeps of a stream, and of the piece that was made ready.
+-- What a framer keeps of a stream, and of a piece that was prepared.
 use Rattle.std.specs.Prelude.{◌≡◌, ℕ, ◌≤◌, List, [], length, take, None, Ok}
 use Rattle.std.specs.Option.{option_map}
 use Rattle.messages.specs.declared.pending.Pending.{Pending}
@@ -14,14 +14,14 @@ use Rattle.messages.specs.Stream.{Stream, IsStream}
 abbrev pub standing : Known → List ℕ → ℕ → Stream
 standing known bytes len = record { known = known; held = take len bytes }
 
--- the stream once what was made ready is done
+-- the stream once the prepared change is committed
 abbrev pub promised : Known → List ℕ → ℕ → Pending → Stream
 promised known bytes len pending.Nothing = standing known bytes len
 promised known bytes len (pending.Piece wanted) = record { known = known; held = bytes }
 promised known bytes len (pending.Message schema count) =
     record { known = learnt known (option_map (λ s. s.value.fields.items) schema) count; held = [] }
 
--- what was made ready can be done, where so many more counts fit
+-- the prepared change can be committed, where `room` more counts fit
 abbrev pub IsReady : Known → ℕ → List ℕ → Pending → Type 0
 IsReady known room bytes pending.Nothing = Unit {0}
 IsReady known room bytes (pending.Piece wanted) = (first known bytes ≡ Ok None) × Wants (followed known bytes) wanted

@@ -18,7 +18,7 @@ led_by m r = record { messages = m ∷ r.messages; rest = r.rest }
 abbrev pub stopped : Reading Stream → Run
 stopped rest = record { messages = []; rest = rest }
 
--- after the first message, where `later` reads what stands behind it
+-- after the first message, where `later` reads what stands after it
 abbrev pub run_after : (Known → List ℕ → Run) → Known → List ℕ → Reading (Option Whole) → Run
 run_after later known bytes (Ok None) = stopped (Ok (record { known = known; held = bytes }))
 run_after later known bytes (Ok (Some w)) =

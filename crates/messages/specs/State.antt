@@ -1,4 +1,4 @@
--- What the program knows of a stream, as the definitions have it.
+-- The state of a framer as the `Known` of the definitions.
 use Rattle.std.specs.Prelude.{List, Option, None, Some}
 use Rattle.std.specs.Option.{option_map}
 use Rattle.values.specs.Rose.{Rose}
@@ -41,7 +41,7 @@ abbrev pub progress_seen : Progress → Option Whole
 progress_seen (progress.Partial n) = None
 progress_seen (progress.Whole f) = Some (whole_seen f)
 
--- The fields are as they are read.
+-- The fields of the schema, if one is known, keep what reading it checks (`AreFields`).
 abbrev pub IsRead : Option (List (Rose Entry)) → Type 0
 IsRead None = Unit {0}
 IsRead (Some fields) = AreFields fields

@@ -1,4 +1,4 @@
--- A stream between two pieces, what a push makes of it, and the stream that a piece was made ready for.
+-- A stream between two pieces, what a push makes of it, and the stream after a prepared piece.
 use Rattle.std.specs.Prelude.{
   ◌≡◌,
   ℕ,
@@ -51,7 +51,7 @@ stream_code =
     code_by Stored stored_code (λ s. (s.known.declared, (s.known.schema, (s.known.counts, s.held))))
     (λ p. record { known = record { declared = p.0; schema = p.1.0; counts = p.1.1.0 }; held = p.1.1.1 }) (λ _. refl)
 
--- a stream as it stands, and as it will stand once what was made ready is done
+-- a stream now, and as it will be once the prepared change is committed
 pub record Framing : Type 0 where
   pub current : Stream
   pub prepared : Stream
@@ -67,7 +67,7 @@ pub record IsStream (known : Known) (held : List ℕ) (wanted : ℕ) : Type 0 wh
   pub small : IsRead known.schema
   pub wants : Wants (followed known held) wanted
 
--- of which nothing has come; these columns are declared for it, if any are
+-- a stream of which nothing has come; these columns are declared for it, if any are
 abbrev pub opened : Option (List (Rose NamedType)) → Stream
 opened declared = record { known = before declared; held = [] }
 
@@ -98,7 +98,7 @@ first_in s piece = first s.known (s.held ++ piece)
 abbrev pub Takes : Stream → List ℕ → Framed → Stream → Type 0
 Takes old piece f new = Frames (first_in old piece) old piece f new
 
--- Nothing was taken, and nothing came of it.
+-- No byte was taken, and there is no message.
 abbrev pub IsNothing : Framed → Type 0
 IsNothing f = (f.used ≡ 0) × (f.message ≡ None)
 

@@ -1,4 +1,4 @@
--- How many bytes more a message that isn't whole wants at least.
+-- How many further bytes an incomplete message wants at least.
 use Rattle.std.specs.Prelude.{◌≡◌, ℕ, ◌<◌, ◌≤◌, List, ◌++◌, length, slice_range, Option, None, Ok}
 use Rattle.messages.specs.declared.framing.Progress.{Progress}
 use Rattle.messages.specs.declared.framing.Progress.TheVariants as progress
@@ -13,7 +13,7 @@ pub record Wants (later : List ℕ → Reading (Option Whole)) (wanted : ℕ) : 
   pub some : 1 ≤ wanted
   pub short : (more : List ℕ) → length more < wanted → later more ≡ Ok None
 
--- what is read once more bytes stand behind these
+-- what is read once more bytes stand after these
 abbrev pub followed : Known → List ℕ → List ℕ → Reading (Option Whole)
 followed known bytes more = first known (bytes ++ more)
 

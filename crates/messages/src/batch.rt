@@ -30,7 +30,7 @@ use std::alloc::Global;
 use values::StreamFault;
 use values::limits::{MAX_BATCH_LENGTH, MAX_NODE_LENGTH};
 
-/// The number of 64 bits at `place`.
+/// The number of 64 bits at `place`, read without a sign.
 #[tactic(auto, unfolding(schema_meta::specs::Batch::long_at))]
 fn long_at(bytes: &[u8], place: usize) -> u64
     requires { place + 8 ≤ length bytes.now }
@@ -39,7 +39,7 @@ fn long_at(bytes: &[u8], place: usize) -> u64
     LittleEndian::read_u64(&bytes[place..])
 }
 
-/// The node with number `index`.
+/// Reads node `index`. A negative length, or one above 2^31 - 1, is `BadLength`.
 fn node_at(bytes: &[u8], index: usize) -> Result<FieldNode, StreamFault>
     requires { 16 * index + 16 ≤ length bytes.now }
     ensures { Judges (λ n. n) result (node_of bytes.now index) }
@@ -56,7 +56,7 @@ fn node_at(bytes: &[u8], index: usize) -> Result<FieldNode, StreamFault>
     })
 }
 
-/// The buffer with number `index`: it must lie within the body.
+/// Reads the range of buffer `index`. One that doesn't lie within the body is `BufferRange`.
 fn range_at(bytes: &[u8], index: usize, body: usize) -> Result<BufferRange, StreamFault>
     requires in_bytes { 16 * index + 16 ≤ length bytes.now }
     requires in_range { body ≤ max_body_size }
@@ -74,7 +74,7 @@ fn range_at(bytes: &[u8], index: usize, body: usize) -> Result<BufferRange, Stre
     })
 }
 
-/// `count` nodes, one after the other.
+/// Reads `count` nodes.
 #[tactic(auto, using(values::proofs::Readings::gathering), unfolding(schema_meta::specs::Batch::nodes_in))]
 fn nodes_in(alloc: Global, bytes: &[u8], count: usize) -> Result<Vec<FieldNode>, StreamFault>
     requires { length bytes.now ≡ 16 * count }
@@ -87,7 +87,7 @@ fn nodes_in(alloc: Global, bytes: &[u8], count: usize) -> Result<Vec<FieldNode>,
     Ok(nodes)
 }
 
-/// `count` buffers, one after the other.
+/// Reads the ranges of `count` buffers.
 #[tactic(auto, using(values::proofs::Readings::gathering), unfolding(schema_meta::specs::Batch::ranges_in))]
 fn ranges_in(
     alloc: Global,
@@ -106,7 +106,8 @@ fn ranges_in(
     Ok(ranges)
 }
 
-/// The bytes of a vector of `count` structs of 16 bytes; an absent vector is an empty one.
+/// The bytes of a vector of `count` structs of 16 bytes; another number of them is `fault`. An absent vector is an
+/// empty one.
 fn structs<'a>(
     table: &TableRef<'a>,
     slot: u16,
@@ -176,7 +177,7 @@ fn check_uncompressed(table: &TableRef) -> Result<(), StreamFault>
     Ok(())
 }
 
-/// The header that the table `RecordBatch` means for these columns, where the message has a body of `body` bytes.
+/// Reads the table `RecordBatch` of a batch of these columns, in a message with a body of `body` bytes.
 #[tactic(auto, using(values::proofs::Readings::failing), unfolding(schema_meta::specs::Batch::batch_of))]
 pub(crate) fn read_batch_header(
     alloc: Global,

@@ -14,9 +14,9 @@ use values::Layout;
 /// The columns of a batch.
 #[derive(Clone, Copy)]
 pub(crate) enum Columns<'a> {
-    /// Those of the schema.
+    /// The columns of the schema.
     Fields(&'a StreamSchema),
-    /// One, of a dictionary's values, which lie so.
+    /// One column, of a dictionary's values, with this layout.
     Values(Layout),
 }
 
@@ -43,7 +43,7 @@ impl<'a> Columns<'a> {
         }
     }
 
-    /// Whether each column is as long as the batch, and all below it are long enough.
+    /// Whether each column has `rows` slots, and the arrays below it are long enough.
     #[tactic(auto, using(crate::proofs::LongEnough::one_fits), unfolding(schema_meta::specs::Batch::lengths_fit))]
     pub(crate) fn fit(self, nodes: &[FieldNode], rows: usize) -> bool
         requires { roses_size (layouts_wanted self) ≤ length nodes.now }

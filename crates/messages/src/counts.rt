@@ -7,14 +7,14 @@ ghost use Rattle.schema_meta.specs.DictionaryBatch.{count_of, counts_after};
 use indexmap::IndexMap;
 use schema_meta::{DictionaryHeader, Header};
 
-/// The number of values that a dictionary gets.
+/// How many values the dictionary with this id has after a message.
 #[derive(Clone, Copy)]
 pub(crate) struct Count {
     pub id: i64,
     pub values: usize,
 }
 
-/// The number of values that stay before a batch: none unless it is a delta.
+/// How many values of its dictionary stay when a batch comes: none unless it is a delta.
 pub(crate) fn count_before(counts: &IndexMap<i64, usize>, header: &DictionaryHeader) -> usize
     ensures { result ≡ (if header.now.is_delta then count_of counts.now.entries header.now.id else 0) }
 {
@@ -27,7 +27,7 @@ pub(crate) fn count_before(counts: &IndexMap<i64, usize>, header: &DictionaryHea
     }
 }
 
-/// The number of values of a dictionary after a message, if it is a batch of that dictionary.
+/// How many values a dictionary has after a message, if that is a dictionary batch.
 pub(crate) fn count_after(counts: &IndexMap<i64, usize>, header: &Header) -> Option<Count>
     requires { IsCounted counts.now.entries header.now }
     ensures { counted counts.now.entries result ≡ counts_after counts.now.entries header.now }

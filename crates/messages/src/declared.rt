@@ -5,7 +5,7 @@ ghost use Rattle.schema_meta.specs.SameColumns.{are_same, is_same};
 
 use values::LogicalField;
 
-/// Whether two fields have one name and type, and so on down.
+/// Whether two fields have the same name and type, and so have the fields below them.
 #[cycle(same)]
 #[tactic(auto, using(crate::proofs::SameFields::same))]
 fn is_same(a: &LogicalField, b: &LogicalField) -> bool

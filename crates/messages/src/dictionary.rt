@@ -25,7 +25,7 @@ fn id_of(table: &TableRef) -> Result<i64, StreamFault>
     read_long(table, DICTIONARY_BATCH_ID)
 }
 
-/// The table of its record batch.
+/// The table of the record batch of a dictionary batch; an absent one is `BadTable`.
 fn data_of<'a>(table: &TableRef<'a>) -> Result<TableRef<'a>, StreamFault>
     ensures { Judges (λ t. t) result (data_of table.now) }
 {
@@ -35,7 +35,7 @@ fn data_of<'a>(table: &TableRef<'a>) -> Result<TableRef<'a>, StreamFault>
     }
 }
 
-/// The header of a batch of values of this type, for the dictionary `id`.
+/// Reads the header of a batch of values of this type for the dictionary `id`.
 #[tactic(auto, using(values::proofs::Readings::failing), unfolding(schema_meta::specs::DictionaryBatch::values_batch))]
 fn values_batch(
     alloc: Global,
@@ -57,7 +57,7 @@ fn values_batch(
     })
 }
 
-/// The dictionary must not have too many values after the batch.
+/// Refuses a batch after which its dictionary would have too many values, as `DictionaryTooLarge`.
 fn check_count(counts: &IndexMap<i64, usize>, header: &DictionaryHeader) -> Result<(), StreamFault>
     ensures { Judges (λ u. header.now) result (limited counts.now.entries header.now) }
 {
@@ -69,8 +69,8 @@ fn check_count(counts: &IndexMap<i64, usize>, header: &DictionaryHeader) -> Resu
     Ok(())
 }
 
-/// The header that the table `DictionaryBatch` means under this schema, where the message has a body of `body` bytes
-/// and the dictionaries have so many values.
+/// Reads the table `DictionaryBatch` under this schema, in a message with a body of `body` bytes. `counts` has how many
+/// values each dictionary has.
 #[tactic(auto, using(values::proofs::Readings::failing), unfolding(schema_meta::specs::DictionaryBatch::dictionary_of))]
 pub(crate) fn read_dictionary_header(
     alloc: Global,

@@ -69,7 +69,7 @@ const STREAM: [u8; 896] = [
     0x04, 0x01, 0x00, 0x00, 0x00, 0x00, 0x00, 0x00, 0xFF, 0xFF, 0xFF, 0xFF, 0x00, 0x00, 0x00, 0x00,
 ];
 
-/// The bytes with others at some places.
+/// The stream with other bytes at some places.
 fn changed(
     rt: &(impl Abort + AllocGlobal),
     bytes: &[u8],
@@ -83,7 +83,7 @@ fn changed(
     Ok(changed)
 }
 
-/// The bytes where the first dictionary batch claims so many rows.
+/// The stream whose first dictionary batch claims this number of rows.
 fn with_values(
     rt: &(impl Abort + AllocGlobal),
     bytes: &[u8],
@@ -95,7 +95,7 @@ fn with_values(
     changed(rt, &changed(rt, bytes, &length)?, &node)
 }
 
-/// The bytes where the delta claims so many rows.
+/// The stream whose delta claims this number of rows.
 fn with_delta(
     rt: &(impl Abort + AllocGlobal),
     bytes: &[u8],
@@ -140,7 +140,7 @@ fn brings(rt: &impl Abort, framer: &mut Framer, from: usize, to: usize) -> Resul
     Ok(kind(&message.header))
 }
 
-/// That message is of so many values.
+/// That message has this number of values.
 fn brings_values(
     rt: &impl Abort,
     framer: &mut Framer,
@@ -166,7 +166,7 @@ fn takes_dictionaries(rt: HostRuntime) -> Result<(), Fail> {
     Ok(())
 }
 
-/// The stream with another byte at one place answers so.
+/// Asserts the answer to the stream with another byte at one place.
 fn answers_with(
     rt: &(impl Abort + AllocGlobal),
     place: usize,

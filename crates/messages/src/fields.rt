@@ -6,7 +6,7 @@ ghost use Rattle.schema_meta.specs.Counts.{within};
 
 use values::StreamFault;
 
-/// A number that must lie between 0 and `most`.
+/// The number as a count, or `fault` where it isn't from 0 to `most`.
 pub fn checked(fault: StreamFault, most: usize, number: i64) -> Result<usize, StreamFault>
     requires { most ≤ 2 ^ 31 }
     ensures value { Judges (λ x. x) result (within fault most number) }

@@ -19,7 +19,7 @@ use values::limits::MAX_METADATA_SIZE;
 /// A complete message at the front of some bytes.
 #[derive(Drop)]
 pub(crate) struct Found {
-    /// Where its body begins.
+    /// Where its body begins, in bytes from the front of the message.
     pub front: usize,
     pub metadata: Metadata,
 }
@@ -27,12 +27,12 @@ pub(crate) struct Found {
 /// Whether the first message of some bytes is complete.
 #[derive(Drop)]
 pub(crate) enum Progress {
-    /// Bytes are missing. Fewer than `wanted` more bytes neither complete it nor show a fault.
+    /// Bytes are missing. Fewer than `wanted` further bytes, whatever they are, neither complete it nor show a fault.
     Partial { wanted: usize },
     Whole(Found),
 }
 
-/// Reads the metadata size from the first 8 bytes of a message.
+/// Checks the first 8 bytes of a message, given as two numbers, and returns the size of its metadata.
 #[tactic(auto, unfolding(schema_meta::specs::Framing::framed))]
 fn metadata_size(mark: u32, size: u32) -> Result<usize, StreamFault>
     ensures value { Judges (λ n. n) result (framed mark size) }

@@ -29,8 +29,8 @@ use crate::state::State;
 use std::alloc::Global;
 use values::StreamFault;
 
-/// Extends what is held, and looks for the first message in it. Where fewer bytes come than are wanted nothing is read
-/// again.
+/// Appends bytes to the held ones, and parses the first message of all. Where fewer bytes come than `wanted`, nothing
+/// is parsed.
 #[tactic(auto, using(crate::proofs::WantedLemmas::growing))]
 fn grow(
     alloc: Global,
@@ -55,8 +55,8 @@ fn grow(
     first(alloc, state, held)
 }
 
-/// Extends what is held by the piece until it holds a whole message, or by all of the piece. No more is copied than
-/// the message can be seen to want; `wanted` is what it was seen to want before.
+/// Appends the piece to the held bytes, up to the end of the first message or all of it. No more is copied than the
+/// message is known to want; `wanted` is what it was known to want before.
 #[tactic(auto, using(crate::proofs::GatherLemmas::gathers))]
 fn gather(
     alloc: Global,
@@ -97,11 +97,11 @@ fn gather(
 /// The result of taking a piece.
 #[derive(Drop)]
 pub(crate) enum Step {
-    /// All of it is held, and no message is whole yet.
+    /// All of the piece is held, and no message is complete. Fewer than `wanted` further bytes don't change that.
     Partial {
         wanted: usize,
     },
-    /// It completes a message, of which this is the body.
+    /// The first `used` bytes of the piece complete a message with this body.
     Whole {
         used: usize,
         found: Found,
@@ -109,7 +109,7 @@ pub(crate) enum Step {
     },
 }
 
-/// The message with which the piece begins, where nothing is held: its body is copied from where it lies.
+/// Takes the message with which a piece begins, where nothing is held: its body is copied out of the piece.
 fn take_whole(alloc: Global, state: &State, found: Found, piece: &[u8]) -> Result<Step, StreamFault>
     requires found { first (known_of state.now) piece.now ≡ Ok (Some (whole_seen found)) }
     requires within { found.front + found.metadata.body ≤ length piece.now }
@@ -125,7 +125,7 @@ fn take_whole(alloc: Global, state: &State, found: Found, piece: &[u8]) -> Resul
     })
 }
 
-/// Looks for a message in the held bytes and the piece, which is copied behind them.
+/// Looks for a message in the held bytes and the piece, which is copied after them.
 fn advance_held(
     alloc: Global,
     state: &State,

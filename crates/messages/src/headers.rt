@@ -4,13 +4,13 @@ use schema_meta::{Header, StreamSchema};
 use std::marker::Model;
 use std::rc::Rc;
 
-/// A complete message.
+/// A complete message, whose header was checked against the schema and the length of the body.
 #[derive(Drop)]
 pub struct Message {
     /// The schema of the stream: the one that this message brings, or that came before it.
     pub schema: Rc<StreamSchema>,
     pub header: Header,
-    /// The bytes that a batch's buffers lie in. A schema may have a body too, which means nothing.
+    /// The body, in which the buffers of a batch lie. A Schema message may have a body too, which has no meaning.
     pub body: Vec<u8>,
 }
 

@@ -16,8 +16,8 @@ ghost use Rattle.messages.specs.Laws.{
   WholeWithin,
 };
 
-/// More bytes change neither a whole message nor the faults that stand, so neither depends on where the input is cut;
-/// and a message is whole as soon as its own bytes are there.
+/// Bytes that come later change neither a complete message nor the faults that stand, so neither depends on where the
+/// input is cut; and a message is complete as soon as its own bytes are there.
 #[tactic(auto, using(crate::proofs::Lawful::laws))]
 pub fn more_bytes_law()
     ensures whole { WholeStays }

@@ -11,7 +11,7 @@ use array_layout::FieldNode;
 use schema_meta::{Field, StreamSchema};
 use values::Layout;
 
-/// The length of node `index`; 0 if there is none.
+/// The length of node `index`; 0 if there is no such node.
 pub(crate) fn length_at(nodes: &[FieldNode], index: usize) -> usize
     ensures { result ≡ (node_at nodes.now index).length }
 {
@@ -65,7 +65,7 @@ fn skip_fields(fields: &[Field], nodes: &[FieldNode], index: usize, floor: usize
     Some(next)
 }
 
-/// Whether each column is as long as the batch, and all below it are long enough.
+/// Whether each column has `rows` slots, and the arrays below it are long enough.
 #[tactic(auto, using(crate::proofs::LongEnough::lengths), unfolding(schema_meta::specs::Batch::lengths_fit))]
 pub(crate) fn fit(schema: &StreamSchema, nodes: &[FieldNode], rows: usize) -> bool
     requires { roses_size (slot_layouts_of schema.now.fields.items) ≤ length nodes.now }

@@ -37,11 +37,11 @@ use std::rc::Rc;
 use values::limits::MAX_BODY_SIZE;
 use values::{Schema, StreamFault};
 
-/// What the metadata of a message says.
+/// The metadata of a message, read and checked.
 #[derive(Drop)]
 pub(crate) struct Metadata {
     pub header: Header,
-    /// The length of the body.
+    /// The length of the body in bytes.
     pub body: usize,
     /// The schema that the message brings, if it is one.
     pub schema: Option<Rc<StreamSchema>>,
@@ -84,7 +84,7 @@ fn body_of(message: &TableRef) -> Result<usize, StreamFault>
     checked(StreamFault::BodySize, MAX_BODY_SIZE, length)
 }
 
-/// Whether the schema has the columns that were declared, where some were.
+/// Refuses a schema without the columns that were declared, where a schema was declared, as `SchemaMismatch`.
 #[tactic(auto, unfolding(schema_meta::specs::SameColumns::is_declared))]
 fn check_declared(
     alloc: Global,
@@ -105,7 +105,7 @@ fn check_declared(
     }
 }
 
-/// The schema of a message that comes where `state` is known.
+/// Reads the schema of a Schema message; a second one is `SecondSchema`.
 fn new_schema(alloc: Global, state: &State, header: &TableRef) -> Result<StreamSchema, StreamFault>
     ensures { Answers (λ s. s.fields.items) result (new_schema (known_of state.now) header.now) }
 {
@@ -185,7 +185,7 @@ fn read_header(
     }
 }
 
-/// What the metadata means where `state` is known.
+/// Reads the metadata of the message that comes after those by which `state` is what it is.
 #[tactic(auto, using(values::proofs::Readings::failing), unfolding(schema_meta::specs::Message::meta_of))]
 pub(crate) fn read_metadata(
     alloc: Global,

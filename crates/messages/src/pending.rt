@@ -9,11 +9,12 @@ use std::rc::Rc;
 pub(crate) enum Pending {
     /// Nothing was prepared.
     Nothing,
-    /// All of the piece is held. Fewer than `wanted` bytes more neither make a message whole nor show a fault.
+    /// All of the piece is held. Fewer than `wanted` further bytes neither complete a message nor show a fault.
     Piece {
         wanted: usize,
     },
-    /// A message is returned, which may bring a schema or set the size of a dictionary; nothing is held.
+    /// A message was returned. It may bring a schema or set the count of a dictionary's values; nothing is held after
+    /// it.
     Message {
         schema: Option<Rc<StreamSchema>>,
         count: Option<Count>,

@@ -1,4 +1,4 @@
-//! A framer: splits a stream into messages, however it is cut into pieces.
+//! A framer, which gives the messages of a stream however its bytes are cut into pieces.
 
 ghost use Rattle.std.specs.Prelude.{◌≡◌, [], ◌<◌, ◌≤◌, length, IfOk, IfErr, IsOkAnd, OnErr};
 ghost use Rattle.std.specs.Option.{option_map};
@@ -18,19 +18,18 @@ use std::mem::replace;
 use std::rc::Rc;
 use values::{Schema, StreamFault};
 
-/// Splits a stream into messages, however it is cut into pieces.
+/// Gives the messages of a stream, however its bytes are cut into pieces.
 ///
-/// Contracts see what is known of the stream and the bytes of a message that isn't whole yet (`specs/Stream.antt`), as
-/// they stand and as they will stand once the piece that was made ready is done.
+/// Contracts see two states of the stream (`specs/Stream.antt`), each the schema and counts that are known and the
+/// bytes of an incomplete message: the one now, and the one after `commit`, if a piece was prepared.
 #[derive(Drop)]
 pub struct Framer {
     alloc: Global,
     state: State,
-    // The first `len` are those of a message that isn't whole yet. What lies behind them is of a piece that was made
-    // ready.
+    // The first `len` are those of an incomplete message. What comes after them is of a prepared piece.
     bytes: Vec<u8>,
     len: usize,
-    // How many bytes more the message was seen to want: fewer neither make it whole nor show a fault.
+    // Fewer further bytes than this neither complete the message nor show a fault.
     wanted: usize,
     pending: Pending,
 }
@@ -54,7 +53,8 @@ impl Model for Framer {
 }
 
 impl Framer {
-    /// Opens a framer that has taken nothing. Where a schema is declared, that of the stream must have its columns.
+    /// Opens a framer for a stream of which nothing has come. Where a schema is declared the stream's must have the
+    /// same logical columns, and is otherwise refused as `SchemaMismatch`.
     pub fn open(alloc: Global, declared: Option<Schema>) -> Framer
         ensures current { result.current ≡ opened (option_map (λ s. s.fields.items) declared) }
         ensures nothing_prepared { result.prepared ≡ result.current }
@@ -96,11 +96,10 @@ impl Framer {
     }
 
     /// Checks the piece up to the end of the first message that it completes, or all of it, and makes the room that
-    /// `commit` then needs. The stream stays as it stands. What was made ready before and isn't done is dropped.
+    /// `commit` then needs. The stream stays as it is. A change that was prepared before and not committed is dropped.
     ///
-    /// The error is a fault of the framing or of the metadata that stands where all bytes before were taken, or
-    /// `Memory`; nothing is ready then. A fault of the framing stands once 8 bytes of a message are there, one of the
-    /// metadata once all of that is.
+    /// The error is a fault of the framing or of the metadata, or `Memory`; nothing is prepared then. A fault of the
+    /// framing is reported once 8 bytes of a message are there, one of the metadata once all of the metadata is.
     pub fn prepare(&mut self, piece: &[u8]) -> Result<Framed, StreamFault>
         ensures ok { IfOk result (λ f. Takes self.old.current piece.now f self.new.prepared) }
         ensures fault { IfErr result (λ e. Fails e (first_in self.old.current piece.now)) }
@@ -167,7 +166,7 @@ impl Framer {
     }
 
     /// Takes the piece up to the end of the first message that it completes, or all of it: `prepare`, and then
-    /// `commit`. Where it is refused the stream stays as it stands.
+    /// `commit`. On an error, which is one of `prepare`, the stream stays as it is.
     pub fn push(&mut self, piece: &[u8]) -> Result<Framed, StreamFault>
         ensures ok { IfOk result (λ f. Takes self.old.current piece.now f self.new.current) }
         ensures fault { IfErr result (λ e. Fails e (first_in self.old.current piece.now)) }

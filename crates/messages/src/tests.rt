@@ -159,7 +159,7 @@ fn long_body_in_pieces(rt: HostRuntime) -> Result<(), Fail> {
     Ok(())
 }
 
-/// What a stream is refused for that comes whole, if it is.
+/// The fault for which a stream is refused that comes whole, if it is.
 fn fault_of_whole(framer: &mut Framer, bytes: &[u8]) -> Option<StreamFault> {
     let mut rest = bytes;
     for _ in 0..8 {
@@ -171,7 +171,7 @@ fn fault_of_whole(framer: &mut Framer, bytes: &[u8]) -> Option<StreamFault> {
     None
 }
 
-/// What a stream is refused for that comes in pieces of one byte, if it is.
+/// The fault for which a stream is refused that comes in pieces of one byte, if it is.
 fn fault_of_bytes(framer: &mut Framer, bytes: &[u8]) -> Option<StreamFault> {
     for byte in bytes {
         if let Err(fault) = framer.push(&[*byte]) {
@@ -243,7 +243,7 @@ fn second_schema(rt: HostRuntime) -> Result<(), Fail> {
     Ok(())
 }
 
-/// The Schema message of so many columns, which all share the first one's bytes.
+/// The Schema message of this number of columns, which all share the first one's bytes.
 fn columns(alloc: Global, count: u16) -> Result<Vec<u8>, AllocError> {
     let count = count as u32;
     let mut bytes = Vec::new(alloc);
@@ -270,7 +270,7 @@ fn too_many_columns(rt: HostRuntime) -> Result<(), Fail> {
 }
 
 /// The Schema message of a column of structs without names, `depth` levels with an int64 at the bottom. Each struct has
-/// so many children, which are all one table.
+/// this number of children, which are all one table.
 fn nested(alloc: Global, depth: u8, children: u8) -> Result<Vec<u8>, AllocError> {
     let mut bytes = Vec::new(alloc);
     bytes.extend_from_slice(&[255; 4])?;

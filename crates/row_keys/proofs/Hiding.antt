@@ -64,7 +64,7 @@ use Rattle.row_keys.proofs.PuttingBack.{can_retract_again, length_put_back, retr
 use Rattle.row_keys.proofs.Retracting.{length_retracted, put_back_undoes}
 use Rattle.row_keys.proofs.TurnedRows.{row_put_back}
 
--- the row behind those
+-- the row after those
 
 marked_next : (b : Bool) (xs : List Slot) (s : Slot) (ys : List Slot)
     → marked b (xs ++ s ∷ ys) (length xs) ≡ xs ++ slot s.row b ∷ ys

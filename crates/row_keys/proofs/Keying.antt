@@ -105,7 +105,7 @@ pub ruleset nulls = (null_found, null_later, null_never)
 split_at : (cells : List Datum) (i : ℕ) → i < length cells → drop i cells ≡ get_or cells i null ∷ drop (i + 1) cells
 split_at cells i below = drop_more cells i null below
 
--- a null key is told from there on
+-- a null key from there on is found
 pub null_at : (cells : List Datum) (i : ℕ) → i < length cells → is_null (get_or cells i null) ≡ true
     → has_null (drop i cells) ≡ true
 unfolding has_null

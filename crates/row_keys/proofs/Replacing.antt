@@ -185,7 +185,7 @@ put_refused t c rows (fault.Unfit unfit.DuplicateKey) h =
 put_refused t c rows fault.Memory h = tt
 put_refused t c rows (fault.Unfit u) h = absurd h
 
--- Rows that are put are judged as rows that come once those with their keys are gone.
+-- The causes against rows that are put are those against rows that come once those with their keys are gone.
 pub put_judged :
     (old mid : Store) (rows : List (List Datum)) (ns ms : List ℕ)
     → mid ≡ with_slots old (retracted ms old.slots)

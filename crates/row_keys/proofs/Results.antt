@@ -1,4 +1,4 @@
--- Clauses of results.
+-- Clauses over `Ok` and `Err`, from one result to another.
 use Rattle.std.specs.Prelude.{Result, Ok, Err, IfOk, IfErr, OnOk}
 
 pub if_ok : {A E : Type 0} (P Q : A → Type 0) (r : Result A E) → ((a : A) → P a → Q a) → IfOk r P → IfOk r Q

@@ -12,8 +12,8 @@ use Rattle.view_lang.specs.Config.{Table}
 use Rattle.view_lang.specs.Edits.{first_cell}
 use Rattle.view_lang.specs.ViewColumns.{no_field}
 
--- Layouts that differ in no value: what the second holds the first holds, and it weighs the same. So it is where they
--- differ in the width of offsets.
+-- Layouts of the same values: what the second holds the first holds, and it weighs the same. Layouts that differ only
+-- in the width of offsets are so.
 pub record IsAlike (t u : Rose Layout) : Type 0 where
   pub holds : (d : Datum) → Holds u d → Holds t d
   pub weighs : (d : Datum) → weight t d ≡ weight u d
@@ -38,7 +38,7 @@ batch_rows rows columns = rows_in rows (cells_in columns)
 abbrev pub HoldsCells : CheckedColumn → Type 0
 HoldsCells c = All (λ d. Holds c.layouts d) c.cells
 
--- columns of so many cells, each as the table's column holds them
+-- columns of `rows` cells each, which the table's columns hold
 pub record IsBatch (t : Table) (rows : ℕ) (columns : List CheckedColumn) : Type 0 where
   pub alike : AreAlike (layouts_of t) (layouts_in columns)
   pub long : All (λ c. length c.cells ≡ rows) columns

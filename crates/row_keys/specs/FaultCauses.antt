@@ -1,4 +1,4 @@
--- The cause that an edit is refused with.
+-- The cause of an edit's fault.
 use Rattle.values.specs.declared.causes.Cause.{Cause}
 use Rattle.values.specs.declared.causes.Cause.TheVariants as cause
 use Rattle.view_lang.specs.UnfitCauses.{named as unfit_named}

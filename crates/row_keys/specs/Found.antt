@@ -18,7 +18,7 @@ FindsAll [] rows (n ∷ ns) = ⊥
 FindsAll (d ∷ ds) rows [] = ⊥
 FindsAll (d ∷ ds) rows (n ∷ ns) = ((key : Key) × (datum_of_key key ≡ d) × IsAt rows n key true) × FindsAll ds rows ns
 
--- those of the keys that live rows have
+-- of these keys those that live rows have
 abbrev pub known_keys : List Datum → List Numbered → List Datum
 known_keys cells rows = filter (λ d. is_among d (live_keys rows)) cells
 

@@ -1,5 +1,5 @@
--- How rows are found by their keys. Each row names the place of its key in a table of keys, and for each key its holder
--- is told: the row that came last with it. So a row is live with a key where it holds the key and wasn't retracted.
+-- How rows are found by their keys. Each row names the place of its key in a table of keys, and each key has a holder:
+-- the row that came last with it. So the live row with a key is its holder, unless that was retracted.
 use Rattle.std.specs.Prelude.{
   ◌≡◌,
   ◌⊎◌,
@@ -35,11 +35,11 @@ seen_all keys entries = map (seen keys) entries
 abbrev pub HoldsPlace : List Entry → ℕ → ℕ → Type 0
 HoldsPlace entries place n = (e : Entry) × (slice_get entries n ≡ Some e) × (e.key ≡ place) × (e.is_live ≡ true)
 
--- The row that is told to hold the key at that place isn't live with it.
+-- the key at this place has no holder, or one that isn't live with it
 abbrev pub IsFree : List ℕ → List Entry → ℕ → Type 0
 IsFree holders entries place = (n : ℕ) → slice_get holders place ≡ Some n → HoldsPlace entries place n → ⊥
 
--- Row n holds the key at that place, which is there or comes last.
+-- Row n becomes the holder of the key at this place, which has a holder or is the next one.
 abbrev pub Puts : List ℕ → ℕ → ℕ → List ℕ → Type 0
 Puts old place n new = ((place ≡ length old) × (new ≡ old ++ n ∷ [])) ⊎ ((place < length old) × (new ≡ set old place n))
 
@@ -48,8 +48,8 @@ flagged b [] n = []
 flagged b (e ∷ es) zero = record { key = e.key; is_live = b; is_new = e.is_new } ∷ es
 flagged b (e ∷ es) (suc n) = e ∷ flagged b es n
 
--- What holds of them. A row with which its key came has a key behind those of all rows before it, so that its key goes
--- with it.
+-- What holds of keys, holders and entries. A row that brought its key has a key after those of all rows before it, so
+-- that the key can go when the row does.
 pub record IsIndex (keys : List Key) (holders : List ℕ) (entries : List Entry) (live : ℕ) : Type 0 where
   pub as_many : length holders ≡ length keys
   pub keyed : (n : ℕ) (e : Entry) → slice_get entries n ≡ Some e → e.key < length keys

@@ -1,4 +1,4 @@
--- Why the rows of a batch aren't kept, once their keys are numbered.
+-- Why the rows of a batch are refused once their keys are numbered: too many rows, or too heavy ones.
 use Rattle.std.specs.Prelude.{◌≡◌, ℕ, ◌+◌, Bool, true, false, ◌||◌, nat_lt, List}
 use Rattle.arrays.specs.Checked.{CheckedColumn}
 use Rattle.view_lang.specs.Causes.{any_heavy}
@@ -8,7 +8,7 @@ use Rattle.row_keys.specs.declared.faults.EditFault.{EditFault}
 use Rattle.row_keys.specs.declared.faults.EditFault.TheVariants as fault
 use Rattle.row_keys.specs.Batches.{batch_rows, layouts_in}
 
--- there would be too many rows: more live ones than so many, or too many in all
+-- there would be too many rows: more live ones than `most`, or too many in all
 abbrev pub are_many : ℕ → ℕ → ℕ → ℕ → Bool
 are_many most live appended rows = nat_lt most (live + rows) || nat_lt max_appended_rows (appended + rows)
 

@@ -82,7 +82,7 @@ PutBackCome =
 abbrev pub with_new : List Slot → List (List Datum) → List Slot
 with_new slots rows = slots ++ map new_slot rows
 
--- New rows come, under the numbers behind all others.
+-- New rows come, under the numbers after all others.
 abbrev pub NewCome : Type 0
 NewCome =
     (slots : List Slot) (rows : List (List Datum))

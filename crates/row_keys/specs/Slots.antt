@@ -26,6 +26,7 @@ use Rattle.values.specs.Datum.{Datum}
 use Rattle.view_lang.specs.Config.{Table}
 use Rattle.view_lang.specs.Contents.{Contents, is_among, key_in, keys_in}
 
+-- a row, and whether it is live or retracted
 pub record Slot : Type 0 where
   pub row : List Datum
   pub live : Bool
@@ -69,6 +70,7 @@ unfoldable pub CanRetract : List ℕ → List Slot → Type 0
 CanRetract [] slots = Unit {0}
 CanRetract (n ∷ ns) slots = IsThere slots n true × CanRetract ns (marked false slots n)
 
+-- the rows where those of these numbers are retracted, one after the other
 unfoldable pub retracted : List ℕ → List Slot → List Slot
 retracted [] slots = slots
 retracted (n ∷ ns) slots = retracted ns (marked false slots n)
@@ -89,10 +91,11 @@ AreRetracted t (n ∷ ns) slots =
 unfoldable pub CanPutBack : Table → List ℕ → List Slot → Type 0
 CanPutBack t ns slots = AreRetracted t ns slots × (length (live (put_back ns slots)) ≤ t.max_rows)
 
--- the last n rows can go
+-- there are n rows that can be removed
 unfoldable pub CanTakeBack : ℕ → List Slot → Type 0
 CanTakeBack n slots = n ≤ length slots
 
+-- the rows without the last n
 unfoldable pub taken_back : ℕ → List Slot → List Slot
 taken_back n slots = take (length slots - n) slots
 

@@ -53,7 +53,7 @@ no_rows t = record { table = t; slots = []; visits = 0 }
 abbrev pub with_slots : Store → List Slot → Store
 with_slots s slots = record { table = s.table; slots = slots; visits = s.visits }
 
--- n stored rows more were opened; the count rests at its greatest number
+-- n more stored rows were opened; the count stops at its greatest number
 abbrev pub visited : ℕ → Store → Store
 visited n s = record { table = s.table; slots = s.slots; visits = min (s.visits + n) (2 ^ 128 - 1) }
 

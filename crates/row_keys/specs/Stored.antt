@@ -58,7 +58,7 @@ pub record IsPlaced (t : Table) (batches : List (List CheckedColumn)) (p : Place
   pub long : All (λ c. p.index < length c.cells) (columns_of batches p)
   pub alike : AreAlike (layouts_of t) (layouts_in (columns_of batches p))
 
--- each row's key is the one that it is numbered by
+-- each row's key is the one under which it is numbered
 abbrev pub AreKeyed : Table → List (List Datum) → List Numbered → Type 0
 AreKeyed t [] [] = Unit {0}
 AreKeyed t [] (n ∷ ns) = ⊥

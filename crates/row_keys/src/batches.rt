@@ -18,7 +18,7 @@ use values::Row;
 use values::limits::MAX_APPENDED_ROWS;
 use view_lang::{Table, Unfit};
 
-/// The columns of a batch. Contracts see their list.
+/// The checked columns of a batch, which a store keeps as they came. Contracts see their list.
 #[derive(Drop)]
 pub(crate) struct Batch {
     pub columns: Vec<Column>,
@@ -36,14 +36,14 @@ impl Model for Batch {
     ghost view = { λ b. b.columns.items };
 }
 
-/// Where a row is: the number of its batch, and its number in it.
+/// Where a row is stored: the number of its batch, and its index in that batch.
 #[derive(Clone, Copy, Debug)]
 pub(crate) struct Place {
     pub batch: usize,
     pub index: usize,
 }
 
-/// The layouts of the columns hold their cells: a function that does nothing.
+/// Each cell of these columns is a value of its column's layout. It does nothing: its contract is the theorem.
 #[tactic(auto, using(crate::proofs::HeldRows::holding))]
 fn columns_law(columns: &[Column])
     ensures { All HoldsCells columns.now }
@@ -53,7 +53,7 @@ fn columns_law(columns: &[Column])
     }
 }
 
-/// Adds the places of the `rows` rows of a batch. Where memory runs out, the places are as they were.
+/// Adds the places of the `rows` rows of a batch. If memory is refused, the places are as they were.
 #[tactic(auto, using(crate::proofs::Batching::placing))]
 fn push_places(places: &mut Vec<Place>, batch: usize, rows: usize) -> Result<(), AllocError>
     ensures ok { OnOk result (places.new.items ≡ places.old.items ++ places_from batch 0 rows) }
@@ -69,7 +69,7 @@ fn push_places(places: &mut Vec<Place>, batch: usize, rows: usize) -> Result<(),
     Ok(())
 }
 
-/// Keeps the columns of a batch, with the places of its `rows` rows. Where memory runs out, nothing has changed.
+/// Adds the columns of a batch, with the places of its `rows` rows. If memory is refused, nothing has changed.
 #[tactic(auto, using(crate::proofs::Batching::placing))]
 pub(crate) fn keep_batch(
     batches: &mut Vec<Batch>,
@@ -88,8 +88,8 @@ pub(crate) fn keep_batch(
     Ok(())
 }
 
-/// Keeps a batch of `rows` rows of a table beside `live` live rows among `appended`: 44 where there would be too many,
-/// 45 where one is too heavy. On an error nothing has changed.
+/// Adds a batch of `rows` rows to those of a table, of which `live` are live among `appended` in all: `TooManyRows`
+/// where there would be too many, `CellTooHeavy` where one is too heavy. On an error nothing has changed.
 pub(crate) fn keep_rows(
     table: &Table,
     batches: &mut Vec<Batch>,
@@ -127,7 +127,7 @@ fn has_many(most: usize, live: usize, appended: usize, rows: usize) -> bool
     live > most || rows > most - live || appended.saturating_add(rows) as u64 > MAX_APPENDED_ROWS
 }
 
-/// A copy of row `index`.
+/// A copy of row `index` of these columns.
 #[tactic(auto, using(crate::proofs::RowCells::cells))]
 pub(crate) fn read_row(alloc: Global, columns: &[Column], index: usize) -> Result<Row, AllocError>
     requires { All (λ c. index < length c.cells) columns.now }

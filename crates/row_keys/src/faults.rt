@@ -4,10 +4,10 @@ use std::alloc::{AllocError, AllocFailed};
 use values::Cause;
 use view_lang::Unfit;
 
-/// Why the store doesn't take an edit. It is then as it was.
+/// Why a store refuses an edit. The store is then as it was.
 #[derive(Clone, Copy, Debug, PartialEq, Eq)]
 pub enum EditFault {
-    /// The edit doesn't fit; of several causes this is the first.
+    /// The edit doesn't fit; of several causes this is the one with the lowest number.
     Unfit(Unfit),
     /// Memory ran out.
     Memory,

@@ -1,4 +1,4 @@
-//! The keys of a batch.
+//! Numbers the rows of a batch by their keys, and finds live rows by them.
 
 ghost use Rattle.std.specs.Prelude.{◌≡◌, ◌<◌, ◌≤◌, [], IfErr, IfOk, OnErr, OnOk, drop, false, get_or, length};
 ghost use Rattle.values.specs.Datum.{null};
@@ -36,7 +36,7 @@ fn is_null_key(key: &Key) -> bool
     }
 }
 
-/// The key that a cell is.
+/// The key of cell `index`.
 #[tactic(auto, using(crate::proofs::Keying::reading))]
 pub(crate) fn read_key(alloc: Global, column: &Column, index: usize) -> Result<Key, AllocError>
     requires below { index < length column.now.cells }
@@ -47,7 +47,7 @@ pub(crate) fn read_key(alloc: Global, column: &Column, index: usize) -> Result<K
     Ok(Key::of(alloc, &value)?.unwrap())
 }
 
-/// Whether a cell is null, from this one on.
+/// Whether one of the cells from `from` on is null.
 #[tactic(auto, using(crate::proofs::Keying::nulls))]
 fn has_null_from(alloc: Global, column: &Column, from: usize) -> Result<bool, AllocError>
     requires { from ≤ length column.now.cells }
@@ -61,7 +61,8 @@ fn has_null_from(alloc: Global, column: &Column, from: usize) -> Result<bool, Al
     Ok(false)
 }
 
-/// Numbers a live row with the key of cell `index`.
+/// Adds a live row with the key of cell `index`: `NullKey` where it or a later one is null, else `DuplicateKey` where a
+/// live row has it.
 #[tactic(auto, using(crate::proofs::Keying::numbering))]
 fn push_key(
     alloc: Global,
@@ -89,8 +90,8 @@ fn push_key(
     }
 }
 
-/// Numbers live rows with the keys of a column, in order: 41 where one is null, 42 where one stands twice or is a live
-/// row's. On an error the numbers are as they were.
+/// Adds a live row for each key of a column, in order: `NullKey` where one is null, `DuplicateKey` where one stands
+/// twice or is a live row's. On an error the numbers are as they were.
 #[tactic(auto, using(crate::proofs::Keying::pushing))]
 pub(crate) fn push_keys(
     alloc: Global,
@@ -112,7 +113,7 @@ pub(crate) fn push_keys(
     Ok(())
 }
 
-/// Numbers live rows with the keys of a batch's rows, as `push_keys` does.
+/// Adds a live row for each row of a batch, by its key, as `push_keys` does.
 pub(crate) fn push_batch(
     alloc: Global,
     table: &Table,
@@ -129,7 +130,7 @@ pub(crate) fn push_batch(
     push_keys(alloc, &columns[table.key], numbers)
 }
 
-/// The numbers of the live rows with the keys of a column, in order: 43 where one is no live row's.
+/// The numbers of the live rows with the keys of a column, in order: `UnknownKey` where a key is no live row's.
 #[tactic(auto, using(crate::proofs::Finding::finding))]
 pub(crate) fn find_keys(
     alloc: Global,
@@ -151,7 +152,7 @@ pub(crate) fn find_keys(
     Ok(found)
 }
 
-/// The numbers of the live rows whose keys are in a column, in its order. Keys that no live row has are passed over.
+/// The numbers of the live rows whose keys are in a column, in its order. Keys that no live row has are skipped.
 #[tactic(auto, using(crate::proofs::Replacing::knowing))]
 fn find_known(alloc: Global, column: &Column, numbers: &Numbers) -> Result<Vec<usize>, AllocError>
     requires { HoldsKeys column.now.layouts }
@@ -168,7 +169,8 @@ fn find_known(alloc: Global, column: &Column, numbers: &Numbers) -> Result<Vec<u
     Ok(found)
 }
 
-/// The numbers of the live rows with the keys of a batch's rows: 41 where a key is null, 42 where one stands twice.
+/// The numbers of the live rows with the keys of a batch's rows: `NullKey` where a key is null, `DuplicateKey` where
+/// one stands twice.
 pub(crate) fn find_batch(
     alloc: Global,
     table: &Table,

@@ -1,4 +1,4 @@
-//! Keys by place.
+//! A table of distinct keys, each with its place.
 
 ghost use Rattle.std.specs.Prelude.{◌≡◌, [], IfOk, MatchOption, OnErr, Some, length, option_copied, slice_get, take};
 ghost use Rattle.row_keys.specs.KeyTable.{AreApart, Inserts, IsNew};
@@ -8,7 +8,7 @@ use std::alloc::{AllocError, Global};
 use std::marker::Model;
 use values::{Key, key_law};
 
-/// Keys in the order in which they first came, each once. Contracts see their list.
+/// Distinct keys, in the order in which they were inserted. Contracts see their list.
 #[derive(Drop)]
 pub(crate) struct KeyTable {
     keys: IndexSet<Key>,
@@ -38,7 +38,7 @@ impl KeyTable {
         }
     }
 
-    /// No key stands at two places.
+    /// No key stands at two places. It does nothing: its contract is the theorem.
     pub(crate) fn apart(&self)
         ensures { AreApart self.now }
     {
@@ -60,7 +60,7 @@ impl KeyTable {
         self.keys.get_index(place)
     }
 
-    /// Puts a key last, unless it is there, and answers its place.
+    /// Adds a key at the end, unless it is there, and returns its place.
     pub(crate) fn insert(&mut self, key: Key) -> Result<usize, AllocError>
         ensures place { IfOk result (λ p. Inserts self.old key p self.new) }
         ensures err { OnErr result (self.new ≡ self.old) }

@@ -26,7 +26,7 @@ pub fn batch_law()
     ensures keys { KeysAreCells }
 {}
 
-/// The live rows of a store under their numbers, and what each edit changes in them.
+/// How each call of a store changes its live rows under their numbers, which ascend.
 pub fn numbers_law()
     ensures ascend { NumbersAscend }
     ensures live { RowsAreLive }

@@ -1,8 +1,8 @@
-//! The rows of a table by number, and the numbers of the live rows by key.
+//! Stores of rows: the rows of a table by number, and the numbers of the live rows by key.
 //!
 //! `specs/Slots.antt` says what the rows of a store are and what each call does to them, `specs/Numbered.antt` which
 //! live rows have which numbers, `specs/NumberLaws.antt` how these change, `specs/Store.antt` what contracts see, and
-//! `specs/Batches.antt` which batches may come. What an edit means, and why it isn't taken, is said in `view_lang`.
+//! `specs/Batches.antt` which batches may come. What an edit means, and why it is refused, is said in `view_lang`.
 #![tactic(auto)]
 
 mod batches;

@@ -27,7 +27,8 @@ use std::alloc::{AllocError, Global};
 use std::marker::Model;
 use values::Key;
 
-/// What is kept of a row: the place of its key, whether it is live, and whether its key came with it.
+/// What is kept of a row: the place of its key in the table of keys, whether it is live, and whether its key came into
+/// that table with it.
 #[derive(Clone, Copy, Debug)]
 struct Entry {
     key: usize,
@@ -35,13 +36,14 @@ struct Entry {
     is_new: bool,
 }
 
-/// Rows by number, each with its key. A row's key is kept once, also where rows that were retracted had the same.
+/// Row numbers, each with its row's key and whether the row is live. Keys are stored once, also where retracted rows
+/// had the same.
 ///
 /// Contracts see a list of `Numbered`.
 #[derive(Drop)]
 pub(crate) struct Numbers {
     keys: KeyTable,
-    // Of each key the row that came last with it.
+    // For each key the number of the row that was added last with it.
     holders: Vec<usize>,
     entries: Vec<Entry>,
     live: usize,
@@ -61,7 +63,7 @@ impl Model for Numbers {
     ghost invariant = { λ s. IsIndex s.keys s.holders.items s.entries.items s.live };
 }
 
-/// The live row with the key at that place, if any.
+/// The number of the live row with the key at this place, if any.
 #[tactic(auto, using(crate::proofs::Indexes::holding))]
 fn holder(holders: &[usize], entries: &[Entry], place: usize) -> Option<usize>
     ensures { MatchOption result (IsFree holders.now entries.now place) (HoldsPlace entries.now place) }
@@ -75,7 +77,7 @@ fn holder(holders: &[usize], entries: &[Entry], place: usize) -> Option<usize>
     }
 }
 
-/// Makes a row the holder of the key at that place, which comes last or is there.
+/// Makes a row the holder of the key at this place, which has a holder or is the next one.
 #[tactic(auto, using(crate::proofs::Indexes::holding))]
 fn hold(holders: &mut Vec<usize>, place: usize, number: usize)
     requires within { place ≤ length holders.old.items }
@@ -103,7 +105,7 @@ fn count(is_live: bool) -> usize
     if is_live { 1 } else { 0 }
 }
 
-/// How many keys stay where a row goes.
+/// How many of `keys` keys are left when the last row is removed: its own goes if it came with it.
 fn kept(entry: Entry, keys: usize) -> usize
     ensures { result ≡ (if entry.is_new then entry.key else keys) }
 {
@@ -153,7 +155,7 @@ impl Numbers {
         self.live
     }
 
-    /// Two live rows have different keys.
+    /// Two live rows have different keys. It does nothing: its contract is the theorem.
     pub(crate) fn distinct(&self)
         ensures { AreDistinct self.now }
     {
@@ -161,7 +163,7 @@ impl Numbers {
         let _live = self.live;
     }
 
-    /// The live row with this key.
+    /// The number of the live row with this key.
     pub(crate) fn find(&self, key: &Key) -> Option<usize>
         ensures { MatchOption result (IsUnused self.now key.now) (λ n. IsAt self.now n key.now true) }
     {
@@ -172,7 +174,7 @@ impl Numbers {
         }
     }
 
-    /// Adds a live row with this key, unless there is one: whether it was added.
+    /// Adds a live row with this key, unless there is one, and returns whether it was added.
     pub(crate) fn push(&mut self, key: Key) -> Result<bool, AllocError>
         ensures pushed { IfOk result (λ added. Pushes self.old key added self.new) }
         ensures err { OnErr result (self.new ≡ self.old) }
@@ -198,7 +200,7 @@ impl Numbers {
         Ok(true)
     }
 
-    /// Takes the last row away.
+    /// Removes the last row.
     fn pop(&mut self)
         ensures { self.new ≡ take (length self.old - 1) self.old }
     {

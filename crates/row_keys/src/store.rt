@@ -1,4 +1,4 @@
-//! The store of rows.
+//! Stores of rows.
 
 ghost use Rattle.std.specs.Prelude.{
   ◌≡◌,
@@ -75,8 +75,8 @@ use std::marker::Model;
 use values::{Key, Row, Value};
 use view_lang::Table;
 
-/// The rows of a table, by number. A row's number is its place in the order in which rows came; retracted rows keep
-/// theirs.
+/// The rows of a table, by number. A row's number is its place in the order in which rows came. Rows are live or
+/// retracted; retracted rows keep their numbers, and can be put back.
 ///
 /// Contracts see a `Store` of `specs/Store.antt`.
 #[derive(Drop)]
@@ -84,7 +84,7 @@ pub struct RowStore {
     alloc: Global,
     table: Table,
     batches: Vec<Batch>,
-    // Of each row by number.
+    // Where each row is stored, by its number.
     places: Vec<Place>,
     numbers: Numbers,
     visits: u128,
@@ -131,7 +131,7 @@ impl RowStore {
         &self.table
     }
 
-    /// What holds of all rows, live or retracted, and of the live ones: a function that does nothing.
+    /// What holds of all rows, live or retracted, and of the live ones. It does nothing: its contract is the theorem.
     pub fn rows_law(&self)
         ensures held { All (λ s. IsRow self.now.table.columns s.row) self.now.slots }
         ensures table { IsTable self.now.table }
@@ -151,7 +151,7 @@ impl RowStore {
         self.numbers.live()
     }
 
-    /// How often a stored row was opened; it rests at its greatest number.
+    /// How often a stored row was opened, that is copied by `open_row`. The count stops at its greatest number.
     pub fn visits(&self) -> u128
         ensures { result ≡ self.now.visits }
     {
@@ -166,9 +166,9 @@ impl RowStore {
         self.numbers.find(key)
     }
 
-    /// Adds the `rows` rows of a batch after all rows, or answers the first cause for which they don't fit: a null key,
-    /// a key that stands twice or is live, too many rows, a cell or a row that is too heavy. On an error nothing has
-    /// changed.
+    /// Adds the `rows` rows of a batch after all rows. The error is the first cause for which they don't fit: a null
+    /// key, a key that stands twice or is live, too many rows, a cell or a row that is too heavy; or it is `Memory`. On
+    /// an error nothing has changed.
     pub fn append(&mut self, columns: Vec<Column>, rows: usize) -> Result<(), EditFault>
         requires { IsBatch self.old.table rows columns.items }
         ensures contents { OnOk result
@@ -208,7 +208,7 @@ impl RowStore {
         }
     }
 
-    /// Takes the last `count` rows away, and gives their numbers free. It takes no memory.
+    /// Removes the last `count` rows, as an append is undone, and frees their numbers. It takes no memory.
     pub fn take_back(&mut self, count: usize)
         requires { CanTakeBack count self.old.slots }
         ensures { self.new ≡ with_slots self.old (taken_back count self.old.slots) }
@@ -218,8 +218,8 @@ impl RowStore {
         self.numbers.truncate(left);
     }
 
-    /// The numbers of the live rows with these keys, in order, or the first cause for which the keys can't be
-    /// retracted: a null key, a key that stands twice, a key that isn't live.
+    /// The numbers of the live rows with these keys, in order. The error is the first cause for which the keys can't be
+    /// retracted: a null key, a key that stands twice, a key that no live row has; or it is `Memory`.
     pub fn find_all(&self, keys: &Column) -> Result<Vec<usize>, EditFault>
         requires { AreKeys self.now.table keys.now }
         ensures numbers { IfOk result (λ ns. CanRetract ns.items self.now.slots) }
@@ -237,7 +237,8 @@ impl RowStore {
         }
     }
 
-    /// The numbers of the live rows whose places the rows of a batch take, or why their keys don't fit.
+    /// The numbers of the live rows that the rows of a batch replace: those with the same keys; or why the keys don't
+    /// fit.
     fn find_replaced(&self, columns: &[Column], rows: usize) -> Result<Vec<usize>, EditFault>
         requires { IsBatch self.now.table rows columns.now }
         ensures numbers { IfOk result (λ ns. CanRetract ns.items self.now.slots) }
@@ -250,9 +251,10 @@ impl RowStore {
         find_batch(self.alloc, &self.table, columns, rows, &self.numbers)
     }
 
-    /// Adds the `rows` rows of a batch after all rows once the live rows with their keys are retracted, and answers the
-    /// numbers of these; or it answers the first cause for which they don't fit: a null key, a key that stands twice,
-    /// too many rows, a cell or a row that is too heavy. On an error nothing has changed.
+    /// Retracts the live rows with the keys of a batch, adds the batch's `rows` rows after all rows, and returns the
+    /// numbers of the retracted ones. The error is the first cause for which the batch doesn't fit: a null key, a key
+    /// that stands twice, too many rows, a cell or a row that is too heavy; or it is `Memory`. On an error nothing has
+    /// changed.
     pub fn put(&mut self, columns: Vec<Column>, rows: usize) -> Result<Vec<usize>, EditFault>
         requires { IsBatch self.old.table rows columns.items }
         ensures contents { OnOk result
@@ -283,7 +285,7 @@ impl RowStore {
         }
     }
 
-    /// Takes the last `rows` rows away, and puts those back whose places they took. It takes no memory.
+    /// Undoes a put: removes the last `rows` rows, and puts back those that they replaced. It takes no memory.
     pub fn undo_put(&mut self, rows: usize, replaced: &[usize])
         requires { CanUndoPut self.old.table rows replaced.now self.old.slots }
         ensures { self.new ≡ with_slots self.old (put_undone rows replaced.now self.old.slots) }
@@ -292,8 +294,8 @@ impl RowStore {
         self.put_back(replaced);
     }
 
-    /// Retracts the last `rows` rows, and puts those back whose places they took. The rows keep their numbers, so that
-    /// they can be shown again. It takes no memory.
+    /// Hides a put: retracts the last `rows` rows, and puts back those that they replaced. The rows keep their numbers,
+    /// so that `show_put` can show them again. It takes no memory.
     pub fn hide_put(&mut self, rows: usize, replaced: &[usize])
         requires { CanUndoPut self.old.table rows replaced.now self.old.slots }
         ensures slots { self.new ≡ with_slots self.old (put_hidden rows replaced.now self.old.slots) }
@@ -307,8 +309,8 @@ impl RowStore {
         self.put_back(replaced);
     }
 
-    /// Shows the last `rows` rows again, which were hidden, and retracts those whose places they take. It takes no
-    /// memory.
+    /// Shows a put again that was hidden: puts back the last `rows` rows, and retracts those that they replace. It
+    /// takes no memory.
     pub fn show_put(&mut self, rows: usize, replaced: &[usize])
         requires { CanShowPut self.old.table rows replaced.now self.old.slots }
         ensures { self.new ≡ with_slots self.old (put_shown rows replaced.now self.old.slots) }
@@ -330,7 +332,7 @@ impl RowStore {
         retract_from(&mut self.numbers, first);
     }
 
-    /// Puts the last `count` rows back into their places. It takes no memory.
+    /// Makes the last `count` rows live again. It takes no memory.
     fn put_back_last(&mut self, count: usize)
         requires few { CanTakeBack count self.old.slots }
         requires retracted { CanPutBack self.old.table (last_numbers count self.old.slots) self.old.slots }
@@ -353,7 +355,7 @@ impl RowStore {
         retract_all(&mut self.numbers, numbers);
     }
 
-    /// Puts retracted rows back into their places. It takes no memory.
+    /// Makes retracted rows live again, each in its old place among the rows. It takes no memory.
     pub fn put_back(&mut self, numbers: &[usize])
         requires { CanPutBack self.old.table numbers.now self.old.slots }
         ensures slots { self.new ≡ with_slots self.old (put_back numbers.now self.old.slots) }
@@ -374,7 +376,7 @@ impl RowStore {
         StoredRow::new(&batch.columns, place.index)
     }
 
-    /// A copy of the row of this number, live or retracted. It is a visit.
+    /// A copy of the row of this number, live or retracted. It is counted as a visit.
     pub fn open_row(&mut self, number: usize) -> Result<Row, AllocError>
         requires { number < length self.old.slots }
         ensures row { IfOk result (λ row. row.items ≡ row_of self.old.slots number) }
@@ -385,7 +387,7 @@ impl RowStore {
         self.row_at(number).copy(self.alloc)
     }
 
-    /// The number of the live row with this key: null is no row's key.
+    /// The number of the live row with this key. Null is no row's key.
     fn number_with(&self, key: &Key) -> Option<usize>
         ensures { MatchOption result (IsUnknown self.now (datum_of_key key.now))
             (IsKnown self.now (datum_of_key key.now)) }
@@ -395,8 +397,8 @@ impl RowStore {
         numbers.find(key)
     }
 
-    /// The live row with this key where it lies, if there is one: null is no row's key. It takes no memory, and isn't a
-    /// visit.
+    /// The live row with this key where it lies, if there is one. Null is no row's key. It takes no memory, and isn't
+    /// counted as a visit.
     pub fn get(&self, key: &Key) -> Option<StoredRow<'_>>
         ensures row { result ≡ side_of self.now.table (contents_of self.now.slots) (datum_of_key key.now) }
         ensures held { IfSome result (IsRow self.now.table.columns) }
@@ -407,7 +409,8 @@ impl RowStore {
         Some(self.row_at(number))
     }
 
-    /// A copy of the live row whose key a cell is, if there is one: a null is no row's key. It isn't a visit.
+    /// A copy of the live row whose key equals a cell, if there is one. Null is no row's key. It isn't counted as a
+    /// visit.
     pub fn row_with_key(&self, cell: &Value) -> Result<Option<Row>, AllocError>
         ensures row { IfOk result (λ row. option_map (λ r. r.items) row
             ≡ side_of self.now.table (contents_of self.now.slots) cell.now) }

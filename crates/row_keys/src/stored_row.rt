@@ -1,4 +1,4 @@
-//! A row where it lies.
+//! Borrowed views of stored rows.
 
 ghost use Rattle.std.specs.Prelude.{◌≡◌, ◌<◌, All, IfOk, length};
 ghost use Rattle.schema_meta.specs.Rows.{row_at};

@@ -1,4 +1,4 @@
-//! Rows that are retracted together, or live again.
+//! Retracts several rows, or makes them live again.
 
 ghost use Rattle.std.specs.Prelude.{◌≡◌, ◌-◌, ◌≤◌, length};
 ghost use Rattle.std.specs.List.{range_with_len};
@@ -17,7 +17,7 @@ pub(crate) fn retract_all(rows: &mut Numbers, numbers: &[usize])
     }
 }
 
-/// Makes these retracted rows live, the last one first. It takes no memory.
+/// Makes these retracted rows live again, the last one first. It takes no memory.
 #[tactic(auto, using(crate::proofs::TurnedRows::turning))]
 pub(crate) fn revive_all(rows: &mut Numbers, numbers: &[usize])
     requires { CanRevive numbers.now rows.old }
@@ -41,7 +41,7 @@ pub(crate) fn retract_from(rows: &mut Numbers, first: usize)
     }
 }
 
-/// Makes all rows from this one on live, which are retracted, the last one first. It takes no memory.
+/// Makes all rows from this one on live, which must be retracted, the last one first. It takes no memory.
 #[tactic(auto, using(crate::proofs::TurnedRows::turning))]
 pub(crate) fn revive_from(rows: &mut Numbers, first: usize)
     requires within { first ≤ length rows.old }

@@ -1,4 +1,4 @@
-//! Rows that are too heavy, weighed where they lie.
+//! Weighs rows where they lie, against the limits of cells and of rows.
 
 ghost use Rattle.std.specs.Prelude.{◌≡◌, ◌<◌, All, length};
 ghost use Rattle.schema_meta.specs.Rows.{row_at};
@@ -8,7 +8,7 @@ ghost use Rattle.row_keys.specs.Batches.{batch_rows, cells_in, layouts_in};
 use arrays::Column;
 use values::limits::{MAX_CELL_WEIGHT, MAX_ROW_WEIGHT};
 
-/// Whether row `index` has a cell or is as a whole above the limit on weights. Nothing is copied for it.
+/// Whether row `index` has a cell above the limit of a cell's weight, or is above that of a row. Nothing is copied.
 fn is_heavy_row(columns: &[Column], index: usize) -> bool
     requires { All (λ c. index < length c.cells) columns.now }
     ensures { result ≡ is_heavy (layouts_in columns.now) (row_at (cells_in columns.now) index) }

@@ -1,4 +1,4 @@
-//! What one call answers.
+//! Asserts what one call answers.
 
 use feed::{Fed, Feed};
 use liveviews::{RecastFault, recast};
@@ -36,13 +36,13 @@ pub fn writes(rt: &(impl Abort + AllocGlobal), input: &[u8], body: &[u8]) {
     gives(rt, bytes, bytes);
 }
 
-/// One push to a feed at which no fault stood.
+/// A push to a feed that isn't broken.
 pub fn push(rt: &impl Abort, feed: &mut Feed, piece: &[u8]) -> Result<Fed, StreamFault> {
     assert!(rt; !feed.is_broken());
     feed.push(piece)
 }
 
-/// The end of its input.
+/// Ends the input of a feed that isn't broken.
 pub fn finish(rt: &impl Abort, feed: &mut Feed) -> Result<(), StreamFault> {
     assert!(rt; !feed.is_broken());
     feed.finish()

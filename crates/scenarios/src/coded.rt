@@ -6,7 +6,8 @@ use crate::typed::{
 };
 use std::alloc::{AllocError, Global};
 
-/// How a column is coded: the id of its dictionary, the bits and the sign of its indices, and the kind of dictionary.
+/// The dictionary encoding of a column: the id of its dictionary, the bits and the sign of its indices, and the kind of
+/// the dictionary.
 #[derive(Clone, Copy)]
 pub struct DictionaryEncoding {
     pub id: i64,
@@ -26,7 +27,7 @@ pub const BY_INT8: DictionaryEncoding = DictionaryEncoding {
 /// The vtable of a field with a dictionary: name, nullable, the type's kind and table, the dictionary, children.
 const FIELD: [u8; 16] = [16, 0, 24, 0, 4, 0, 8, 0, 9, 0, 12, 0, 20, 0, 16, 0];
 
-/// Appends a DictionaryEncoding: id, indexType, no word on order, dictionaryKind.
+/// Appends a DictionaryEncoding: id, indexType, no isOrdered, dictionaryKind.
 fn put_encoding(out: &mut Vec<u8>, encoding: &DictionaryEncoding) -> Result<(), AllocError> {
     out.extend_from_slice(&[12, 0, 20, 0, 4, 0, 12, 0, 0, 0, 16, 0])?;
     out.extend_from_slice(&[12, 0, 0, 0])?;
@@ -59,7 +60,7 @@ pub fn coded(
     Ok(out)
 }
 
-/// The Schema message of one utf8 column `t`, coded so.
+/// The Schema message of one utf8 column `t` with this dictionary encoding.
 pub fn texts(alloc: Global, encoding: &DictionaryEncoding) -> Result<Vec<u8>, AllocError> {
     let column = coded(alloc, b't', 5, &PLAIN, encoding, &[])?;
     schema(alloc, &[&column])

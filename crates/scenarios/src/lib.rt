@@ -1,11 +1,11 @@
-//! Tests that cross crates and call them as their users do. What `lv recast` and `lv inspect` do with given bytes stands in
-//! tests/*.txt at the repository's root, and is run by tools/check-rows.py.
+//! Tests that cross crates and call them as their users do. What `lv recast` and `lv inspect` do with given bytes
+//! stands in `tests/*.txt` at the repository's root, and is run by `tools/check-rows.py`.
 //!
-//! `sample` is a stored stream, `table` the table that it means, built cell by cell, and `streams` builds other streams by hand, `typed`
-//! those of columns of any type, `coded` those with dictionaries. `checks` compares one answer. The tests are `r2_rows`, copies of
-//! values of every kind, `r3_feeds`, a stream that comes in pieces, `declared`, one whose columns were declared, `limits`, streams at a
-//! limit, `sinks`, a sink that fails, and `printed`, what `lv` prints and which files it makes.
-//! Nothing here is for other crates.
+//! `sample` is a stored stream, and `table` the table that it means, built cell by cell. `streams` builds other streams
+//! by hand, `typed` those of columns of any type, `coded` those with dictionaries. `checks` asserts what one call
+//! answers. The tests are `r2_rows` (copies of values of every kind), `r3_feeds` (a stream that comes in pieces),
+//! `declared` (one whose columns were declared), `limits` (streams at a limit), `sinks` (a sink that fails) and
+//! `printed` (what `lv` prints and which files it makes). Nothing here is for other crates.
 #![tactic(auto)]
 
 #[cfg(test)]

@@ -22,7 +22,7 @@ fn r1_heaviest(rt: HostRuntime) -> Result<(), Fail> {
     Ok(())
 }
 
-/// A stream of a column of bools with a dictionary of one value and then a delta of so many.
+/// A stream of a column of bools with a dictionary of one value, and then a delta of `count` values.
 fn grown(alloc: Global, count: u64) -> Result<Vec<u8>, AllocError> {
     let column = coded(alloc, b'b', 6, &PLAIN, &BY_INT8, &[])?;
     let mut input = schema(alloc, &[&column])?;

@@ -93,7 +93,7 @@ impl Files for Shelf<'_> {
     }
 }
 
-/// What came of one run: its line, its status, and the file `out`.
+/// Runs `lv` with these words: its line, its status, and the file `out` afterwards.
 fn run(
     rt: &(impl Abort + AllocGlobal),
     input: &[u8],

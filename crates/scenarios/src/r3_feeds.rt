@@ -9,7 +9,7 @@ use std::process::Abort;
 use std::test::Fail;
 use values::StreamFault;
 
-/// What a push told, beside how much it used.
+/// What is compared of an event.
 #[derive(Clone, Copy, Debug, PartialEq, Eq)]
 enum EventKind {
     Nothing,
@@ -117,7 +117,7 @@ fn r3_truncated(rt: HostRuntime) {
     assert!(rt; feed.is_broken());
 }
 
-/// The end of the input before a schema, and behind one.
+/// The end of the input before a schema, and after one.
 #[test]
 fn r3_finish(rt: HostRuntime) {
     let mut none = Feed::open(rt.alloc(), None);
@@ -134,13 +134,13 @@ fn r3_finish(rt: HostRuntime) {
     );
 }
 
-/// How much a piece uses that is made ready and not committed.
+/// Prepares a piece without a commit, and returns how much of it would be used.
 fn readied(rt: &impl Abort, feed: &mut Feed, piece: &[u8]) -> Result<usize, StreamFault> {
     assert!(rt; !feed.is_broken());
     Ok(feed.prepare(piece)?.used)
 }
 
-/// A piece that is made ready changes nothing before it is committed.
+/// A prepared piece changes nothing before it is committed.
 #[test]
 fn r3_ready(rt: HostRuntime) {
     let mut feed = Feed::open(rt.alloc(), None);
@@ -152,8 +152,8 @@ fn r3_ready(rt: HostRuntime) {
     assert_eq!(rt; readied(&rt, &mut feed, &SAMPLE[232..]), Ok(264));
 }
 
-/// A piece that is refused breaks a feed for good: what was made ready before it is dropped, and a commit mends
-/// nothing.
+/// A piece that is refused breaks a feed for good: what was prepared before it is dropped, and a commit doesn't change
+/// that.
 #[test]
 fn r3_refused_stays_broken(rt: HostRuntime) {
     let mut feed = Feed::open(rt.alloc(), None);
@@ -169,7 +169,7 @@ fn r3_refused_stays_broken(rt: HostRuntime) {
     }
 }
 
-/// An end of the input inside a message does so too.
+/// The end of the input inside a message breaks a feed for good too.
 #[test]
 fn r3_truncated_stays_broken(rt: HostRuntime) {
     let mut feed = Feed::open(rt.alloc(), None);
@@ -186,7 +186,7 @@ fn r3_truncated_stays_broken(rt: HostRuntime) {
     }
 }
 
-/// A finished feed stays finished, also where a message was ready.
+/// A finished feed stays finished, also where a message was prepared.
 #[test]
 fn r3_stays_finished(rt: HostRuntime) {
     let mut feed = Feed::open(rt.alloc(), None);

@@ -4,7 +4,7 @@
 
 use std::alloc::{AllocError, Global};
 
-/// The end of a stream.
+/// The end mark.
 pub const END: u64 = 0xFFFFFFFF_00000000;
 
 /// The Schema message of one int64 column `k`, 160 bytes.
@@ -54,7 +54,7 @@ pub const UTF8_SCHEMA: [u64; 19] = [
     0x08000000_00000000,
 ];
 
-/// Appends groups of eight bytes, as they are read.
+/// Appends groups of eight bytes, in the order in which they are written as a number.
 pub fn put(out: &mut Vec<u8>, groups: &[u64]) -> Result<(), AllocError> {
     for &group in groups {
         out.extend_from_slice(&group.to_be_bytes())?;
@@ -71,7 +71,7 @@ pub fn put_numbers(out: &mut Vec<u8>, numbers: &[u64]) -> Result<(), AllocError>
 }
 
 /// Appends the metadata of a batch of one column: its rows, its nulls, and the offset and the length of each buffer in
-/// a body of so many bytes.
+/// a body of this length.
 ///
 /// `first` is its first group, with the size of the metadata, and `buffers` the group with the number of buffers.
 fn put_head(
@@ -148,7 +148,7 @@ pub fn one_text(alloc: Global, size: u32) -> Result<Vec<u8>, AllocError> {
     Ok(out)
 }
 
-/// The stream of no rows of so many int64 columns, all named `k`, which is canonical.
+/// The canonical stream without rows of `count` int64 columns, all named `k`.
 pub fn many_columns(alloc: Global, count: u16) -> Result<Vec<u8>, AllocError> {
     let many = count as u32;
     // Where the first column's field starts in the metadata, and how many bytes there are before it.

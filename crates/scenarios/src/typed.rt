@@ -81,7 +81,7 @@ fn put_pairs(out: &mut Vec<u8>, pairs: &[Two]) -> Result<(), AllocError> {
     Ok(())
 }
 
-/// Appends the table of a record batch of so many rows.
+/// Appends the table of a record batch of this number of rows.
 pub fn put_record(
     out: &mut Vec<u8>,
     rows: u64,
@@ -97,7 +97,7 @@ pub fn put_record(
     put_pairs(out, ranges)
 }
 
-/// Appends a batch of so many rows.
+/// Appends a batch of this number of rows.
 pub fn put_batch(
     out: &mut Vec<u8>,
     rows: u64,

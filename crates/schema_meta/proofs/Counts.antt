@@ -19,7 +19,7 @@ pub length_le : (fs : List (Rose Entry)) → length fs ≤ roses_size (kids_of f
 length_le [] = omega arith
 length_le (node e kids ∷ fs) = let rest = length_le fs in omega (arith, rest)
 
--- what the next field and those behind it have
+-- what the next field and those after it have
 pub nodes_step :
     (fs : List (Rose Entry)) (k : ℕ) (e d : Rose Entry) → e ≡ get_or fs k d → k < length fs
     → roses_size (slot_layouts_below (kids_of (drop k fs))) ≡ rose_size (slot_layout_of e) + roses_size

@@ -14,7 +14,7 @@ use Rattle.schema_meta.specs.FieldLayouts.{layout_of, layouts_below, layouts_of}
 use Rattle.schema_meta.specs.SchemaTree.{field_tables, AreWithin}
 use Rattle.schema_meta.specs.SchemaLaw.{stored_field, stored_below, stored_fields}
 
--- the fields below one of this type, at most so many levels of them
+-- the fields below one of this type, nested to at most this many levels
 pub record Sound (depth : ℕ) (parent : ColType) (fs : Roses NamedType) : Type 0 where
   pub within : AreWithin fs
   pub logical : AreLogical parent fs

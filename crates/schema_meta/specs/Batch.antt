@@ -116,8 +116,8 @@ plain t = must fault.BadTable (slot_of t fbs.compression) >>= λ place. refused_
 abbrev pub batch : ℕ → List FieldNode → List BufferRange → BatchHead
 batch rows nodes ranges = record { rows = rows; nodes = nodes; ranges = ranges }
 
--- The header of a batch whose columns lie so, with a body of this length. Nodes and buffers are checked where the
--- batch's own length is in range.
+-- The header of a batch of columns with these layouts, and a body of this length. Nodes and buffers are checked where
+-- the batch's own length is in range.
 unfoldable pub batch_of : Roses Layout → ℕ → Table → Reading BatchHead
 batch_of ls body t =
     both second (plain t) (rows_of t

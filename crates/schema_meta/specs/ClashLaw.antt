@@ -1,4 +1,4 @@
--- No ids of dictionaries clash exactly where any two fields with one id, at all levels, have the same type.
+-- A schema has no clash of dictionary ids exactly where any two fields with one id, at all levels, have the same type.
 use Rattle.std.specs.Prelude.{◌≡◌, ◌⊎◌, ◌↔◌, ℤ, true, List, Some, None, Option}
 use Rattle.values.specs.Rose.{Rose, node, Roses, none, more, kids_of}
 use Rattle.values.specs.declared.col_type.ColType.{ColType}

@@ -1,4 +1,4 @@
--- Fields of metadata tables.
+-- Counts in tables of metadata, with the fault of one that is out of range.
 use Rattle.std.specs.Prelude.{ℕ, ℤ, pos, negsuc, Ok, Err, nat_le, if◌then◌else◌}
 use Rattle.flatbuf.specs.Layout.{Table}
 use Rattle.values.specs.declared.faults.StreamFault.{StreamFault}

@@ -60,15 +60,17 @@ children_of below k t = do
   v ← readable (vector_of t fbs.children)
   both second (needs fault.BadType (may_have k (count_in v))) (fields_in below v)
 
--- the parts of a field that its kind doesn't bear on, and those that it does
+-- the parts of a field that don't depend on the kind of its type
 pub record Label : Type 0 where
   pub name : List ℕ
   pub nullable : Bool
 
+-- how a field's values are stored: their type, and the dictionary encoding, if there is one
 pub record Storage : Type 0 where
   pub stored : ColType
   pub encoding : Option DictionaryEncoding
 
+-- how the values are stored, and the field's children
 pub record Content : Type 0 where
   pub storage : Storage
   pub children : List (Rose Entry)
@@ -90,12 +92,13 @@ field l c =
 unfoldable pub label_of : Table → Reading Label
 label_of t = both label (name_of t) (bool_of t fbs.nullable)
 
--- Where the kind can't be read, or isn't taken, that is the fault, and nothing that it bears on is read.
+-- Where the kind can't be read, or isn't taken, that is the fault, and nothing that depends on it is read.
 unfoldable pub content_of : (Vector → Reading (List (Rose Entry))) → Table → Reading Content
 content_of below t = do
   k ← kind_of t
   both content (both storage (type_of k t) (field_encoding_of k t)) (children_of below k t)
 
+-- a field by its table, where `below` reads a vector of fields
 unfoldable pub field_of : (Vector → Reading (List (Rose Entry))) → Table → Reading (Rose Entry)
 field_of below t = both field (label_of t) (content_of below t)
 
@@ -115,7 +118,7 @@ children_at (Some t) = children_by (kind_of t) (vector_of t fbs.children)
 unfoldable pub child_at : Vector → ℕ → Option Vector
 child_at v i = children_at (entry_of v i)
 
--- The fields of a vector, with at most this many levels of fields, and no field below them.
+-- the fields of a vector, nested to at most this many levels
 unfoldable pub forest : ℕ → Vector → Reading (List (Rose Entry))
 forest zero v = if v.count == 0 then Ok [] else Err (one fault.TooManyFields)
 forest (suc depth) v = each (entry_by (forest depth) v) 0 v.count

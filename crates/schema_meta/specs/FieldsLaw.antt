@@ -16,7 +16,7 @@ use Rattle.schema_meta.specs.Schema.{schema_of}
 use Rattle.schema_meta.specs.SchemaTree.{AreColumns}
 use Rattle.schema_meta.specs.SchemaLaw.{AreNamed}
 
--- what a dictionary has is no list or struct
+-- the values of a dictionary are no lists or structs
 abbrev pub IsCoded : Option DictionaryEncoding → ColType → Type 0
 IsCoded None s = Unit {0}
 IsCoded (Some c) s = IsSingle s
@@ -31,8 +31,8 @@ abbrev mutual
   AreGoodFields none = Unit {0}
   AreGoodFields (more f fs) = IsGoodField f × AreGoodFields fs
 
--- They are few at all levels, and not too deep, each has the children that its layout wants, no slot is too large, and
--- no ids of dictionaries clash.
+-- Fields within the limits on their number, depth and slots, each with the children that its layout wants and with a
+-- name and a type within bounds, and no two dictionaries of one id and of different types.
 pub record AreFields (fields : List (Rose Entry)) : Type 0 where
   pub few : roses_size (kids_of fields) ≤ max_fields
   pub shallow : roses_depth (kids_of fields) ≤ max_depth

@@ -1,4 +1,4 @@
--- What a batch's header that fits vouches for of its arrays.
+-- What holds of a batch's arrays where its header fits.
 use Rattle.std.specs.Prelude.{◌≡◌, ℕ, ℤ, All, List, length, Some}
 use Rattle.values.specs.Datum.{Datum}
 use Rattle.values.specs.Layouts.{Holds}
@@ -18,12 +18,13 @@ use Rattle.schema_meta.specs.FieldsLaw.{AreFields}
 use Rattle.schema_meta.specs.Parts.{arrays_of, values_array}
 use Rattle.schema_meta.specs.Sound.{Fits}
 
--- each of them has so many slots
+-- each of the arrays has n slots
 abbrev pub HaveLength : ℕ → Roses ArrayData → Type 0
 HaveLength n none = Unit {0}
 HaveLength n (more t ts) = (len_of t ≡ n) × HaveLength n ts
 
--- Their buffers lie in the body, they are long enough, one slot a row, and their values lie as their fields want.
+-- The arrays' buffers lie in the body and are long enough, there is a slot a row, and the layouts are those of the
+-- fields.
 abbrev pub PlaceLaw : Type 0
 PlaceLaw =
     (values : ℤ → List Datum) (fields : List (Rose Entry)) (body : List ℕ) (head : BatchHead)
@@ -36,14 +37,14 @@ abbrev pub AreValues : List (Rose Entry) → (ℤ → List Datum) → Type 0
 AreValues fields values = (id : ℤ) (s : ColType) → value_type fields id ≡ Some s
     → All (Holds (value_layout s)) (values id)
 
--- Then so are those of the arrays' dictionaries.
+-- Then the values of the arrays' dictionaries are of their types too.
 abbrev pub WordsLaw : Type 0
 WordsLaw =
     (values : ℤ → List Datum) (fields : List (Rose Entry)) (head : BatchHead) → AreFields fields
     → AreValues fields values
     → AreTyped (arrays_of values fields head)
 
--- Of the values of a dictionary no more is used than what they are.
+-- Arrays depend on the values of dictionaries alone: where these are the same for each id, so are the arrays.
 abbrev pub SameWords : Type 0
 SameWords =
     (values others : ℤ → List Datum) (fields : List (Rose Entry)) (head : BatchHead)

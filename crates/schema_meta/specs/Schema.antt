@@ -14,7 +14,7 @@ use Rattle.schema_meta.specs.Dictionaries.{is_clear}
 use Rattle.schema_meta.specs.Fields.{forest, fields_in}
 use Rattle.schema_meta.specs.Totals.{total}
 
--- The numbers of the bodies are little endian, which is 0. An absent one is 0.
+-- The numbers in bodies are little endian, which is 0. An absent endianness is 0.
 unfoldable pub endianness_of : Table → Reading (Unit {0})
 endianness_of t =
     short_of t fbs.endianness (pos 0) >>= λ e. needs fault.BigEndian (int_eq e (pos fbs.little_endian))
@@ -30,5 +30,6 @@ unfoldable pub columns_of : Vector → Reading (List (Rose Entry))
 columns_of v =
     both second (needs fault.TooManyFields (nat_le (total max_depth v) max_fields)) (forest max_depth v >>= judged)
 
+-- the columns that a Schema table means
 unfoldable pub schema_of : Table → Reading (List (Rose Entry))
 schema_of t = both second (endianness_of t) (readable (vector_of t fbs.fields) >>= fields_in columns_of)

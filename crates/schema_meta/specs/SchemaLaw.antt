@@ -40,7 +40,7 @@ abbrev pub AreExpected : Option (List (Rose NamedType)) → List (Rose NamedType
 AreExpected None fs = ⊤
 AreExpected (Some columns) fs = columns ≡ fs
 
--- The metadata of the Schema message says the schema, and no body.
+-- The metadata of the Schema message is read as the schema and a body of length 0.
 abbrev pub SchemaLaw : Type 0
 SchemaLaw =
     (declared : Option (List (Rose NamedType))) (fs : List (Rose NamedType)) → AreColumns fs → AreNamed fs

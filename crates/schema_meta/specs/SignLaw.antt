@@ -31,13 +31,13 @@ use Rattle.array_layout.specs.Sound.{offsets_of}
 abbrev pub SignedLength : Type 0
 SignedLength = (n rows : ℕ) → n < 2 ^ 64 → rows < 2 ^ 63 → (n ≡ rows) ↔ (cast_signed w64 n ≡ pos rows)
 
--- a node's length is at most so many
+-- a node's length is at most a limit
 abbrev pub SignedBound : Type 0
 SignedBound =
     (n most : ℕ) → n < 2 ^ 64 → most < 2 ^ 63
     → (n ≤ most) ↔ ((pos 0 ≤ℤ cast_signed w64 n) × (cast_signed w64 n ≤ℤ pos most))
 
--- and at least so many, as in the children of a struct
+-- a node's length is at least another number, as in the children of a struct
 abbrev pub SignedFloor : Type 0
 SignedFloor = (n least : ℕ) → n < 2 ^ 63 → (least ≤ n) ↔ (pos least ≤ℤ cast_signed w64 n)
 
@@ -56,7 +56,7 @@ SignedOffsets =
     → ((a ≤ b) × (b < 2 ^ 31) × (b ≤ limit))
     ↔ ((pos 0 ≤ℤ cast_signed w32 a) × (cast_signed w32 a ≤ℤ cast_signed w32 b) × (cast_signed w32 b ≤ℤ pos limit))
 
--- the same of those of 64 bits
+-- the same of offsets of 64 bits
 abbrev pub SignedLargeOffsets : Type 0
 SignedLargeOffsets =
     (a b limit : ℕ) → a < 2 ^ 64 → b < 2 ^ 64
@@ -67,14 +67,14 @@ SignedLargeOffsets =
 abbrev pub signed_offset : OffsetWidth → List ℕ → ℕ → ℤ
 signed_offset o offsets i = number_at true (offset_bytes o) offsets i
 
--- Of the offsets of n slots none is negative, none is above the next, and none points behind `limit`.
+-- Of the offsets of n slots none is negative, none is above the next, and none is above `limit`.
 pub record AreOffsets (o : OffsetWidth) (offsets : List ℕ) (n limit : ℕ) : Type 0 where
   pub positive : (i : ℕ) → i ≤ n → pos 0 ≤ℤ signed_offset o offsets i
   pub rising : (i : ℕ) → i < n → signed_offset o offsets i ≤ℤ signed_offset o offsets (i + 1)
   pub within : (i : ℕ) → i ≤ n → signed_offset o offsets i ≤ℤ pos limit
 
--- Where the bytes have room for the offsets of some slots, no fault stands in them exactly where they are such, and
--- else 24.
+-- Where the bytes have room for the offsets of some slots, no fault stands in them exactly where these are
+-- `AreOffsets`, and otherwise 24 does.
 abbrev pub SignedArrays : Type 0
 SignedArrays =
     (o : OffsetWidth) (offsets : List ℕ) (n limit : ℕ) → ((k : ℕ) → slice_index offsets k < 256) → 0 < n

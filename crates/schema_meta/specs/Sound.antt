@@ -1,4 +1,4 @@
--- What holds of each message that is handed on, so that a reader of its body need not check it again.
+-- What holds of each message that a framer hands on, so that a reader of its body need not check the header again.
 use Rattle.std.specs.Prelude.{◌≡◌, ℕ, ◌+◌, ◌≤◌, List, length, Option, None, Some, All, IsSome, IsSomeAnd, true}
 use Rattle.values.specs.Limits.{max_batch_length, max_node_length}
 use Rattle.values.specs.Rose.{Rose, Roses, roses_size}
@@ -17,7 +17,7 @@ use Rattle.schema_meta.specs.FieldLayouts.{slot_layouts_of}
 use Rattle.schema_meta.specs.Batch.{lengths_fit}
 use Rattle.schema_meta.specs.Stage.{Known, Meta}
 
--- the header of a batch fits arrays that lie so, and a body of this length
+-- the header of a batch fits arrays of these layouts, and a body of this length
 pub record Fits (ls : Roses Layout) (body : ℕ) (b : BatchHead) : Type 0 where
   pub rows : b.rows ≤ max_batch_length
   pub nodes : length b.nodes ≡ roses_size ls
@@ -33,7 +33,7 @@ pub record FitsValues (fields : List (Rose Entry)) (body : ℕ) (d : DictionaryH
   pub type : value_type fields d.id ≡ Some stored
   pub fits : Fits (value_layouts stored) body d.batch
 
--- a header, of a message with a body of this length, where these fields are known
+-- a header fits the known fields, and a body of this length
 abbrev pub IsFitting : Option (List (Rose Entry)) → Header → ℕ → Type 0
 IsFitting schema header.Schema body = IsSome schema
 IsFitting schema (header.Dictionary d) body = IsSomeAnd schema (λ fields. FitsValues fields body d)

@@ -33,8 +33,8 @@ use Rattle.schema_meta.specs.Sound.{after}
 use Rattle.schema_meta.specs.Framing.{first}
 use Rattle.schema_meta.specs.Rows.{rows_of, values_of}
 
--- What a stream tells: the schema that came, the rows of its batches, and then its end, or the faults at which it
--- breaks.
+-- the meaning of a stream: the schema that came, the rows of its batches, and then its end, or the faults at which it
+-- breaks
 pub record Story : Type 0 where
   pub schema : Option (List (Rose Entry))
   pub rows : List (List Datum)
@@ -73,8 +73,8 @@ after_values known (Err fs) rest = ends known (Err fs)
 abbrev pub fields_of : Known → List (Rose Entry)
 fields_of known = unwrap_or known.schema []
 
--- The message's header says what it tells, with the body and the bytes after the message. `known` holds after it, `ds`
--- are the dictionary batches before it, and `rest` is the story of those bytes after some dictionary batches.
+-- the story from a message with this header on, with its body and the bytes after the message. `known` holds after it,
+-- `ds` are the dictionary batches before it, and `rest` is the story of those bytes after some dictionary batches.
 abbrev pub story_by : Known → (List DictionaryBatch → Story) → List DictionaryBatch → List ℕ → List ℕ → Header → Story
 story_by known rest ds body bytes header.Schema = rest ds
 story_by known rest ds body bytes (header.Dictionary d) =

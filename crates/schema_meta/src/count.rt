@@ -1,5 +1,5 @@
-//! The count of fields. Entries may share a table, so that few bytes mean very many fields: counting stops
-//! as soon as they are too many.
+//! Counts fields before any is read. Elements of a vector may share a table, so that few bytes mean very many fields:
+//! counting stops as soon as they are too many.
 ghost use Rattle.std.specs.Prelude.{◌≡◌, ◌+◌, ◌<◌, MatchOption};
 ghost use Rattle.schema_meta.specs.Totals.{total, total_at};
 
@@ -7,8 +7,8 @@ use field_types::read_kind;
 use field_types::schema_fbs::FIELD_CHILDREN;
 use flatbuf::VectorRef;
 
-/// What is left of `room` after the fields of a vector and those below them, of at most `depth` levels;
-/// `None` where they are more than `room`.
+/// `room` less the number of fields of a vector and of all below them, of at most `depth` levels; `None` where they are
+/// more than `room`.
 #[cycle(count)]
 #[tactic(auto, using(crate::proofs::Sums::sums))]
 pub(crate) fn count(vector: &VectorRef, depth: u8, room: usize) -> Option<usize>

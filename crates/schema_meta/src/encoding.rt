@@ -20,7 +20,7 @@ use values::{IntWidth, StreamFault};
 /// How a field refers to its dictionary: its id, and the type of the indices.
 #[derive(Clone, Copy, Debug, PartialEq, Eq)]
 pub struct DictionaryEncoding {
-    /// Fields with the same id share a dictionary.
+    /// The dictionary's id. Fields with the same id share a dictionary.
     pub id: i64,
     pub index: IndexType,
 }
@@ -62,7 +62,7 @@ fn read_encoding(encoding: &TableRef) -> Result<DictionaryEncoding, StreamFault>
     Ok(DictionaryEncoding { id, index })
 }
 
-/// Whether a dictionary may have values of this kind: those of lists and structs are not taken.
+/// Whether a dictionary may have values of this kind: any but lists and structs.
 fn may_be_coded(kind: TypeKind) -> bool
     ensures { result ≡ may_be_coded kind }
 {

@@ -8,17 +8,17 @@ use std::alloc::{AllocError, Global};
 use std::marker::Model;
 use values::{ColType, Layout, LogicalField};
 
-/// A field as it is stored: a column, or a part of one.
+/// A field as it is stored: a column, or a child of a list or struct.
 ///
 /// Contracts see it as a tree with an `Entry` (`specs/Entry.antt`) at each node.
 #[derive(Drop)]
 pub struct Field {
     pub name: String,
-    /// What the schema says. Values are taken as they come: nulls too where this is `false`.
+    /// As the schema has it. It isn't enforced: nulls are read also where this is `false`.
     pub nullable: bool,
-    /// The type of its values.
+    /// The type of its values, also where it has a dictionary.
     pub stored: ColType,
-    /// The dictionary that has its values, if it is stored by one.
+    /// Its dictionary encoding, if its slots are indices into a dictionary.
     pub encoding: Option<DictionaryEncoding>,
     pub children: Vec<Field>,
 }
@@ -43,7 +43,7 @@ impl Model for Field {
 }
 
 impl Field {
-    /// How its slots lie in memory: indices, where it has a dictionary.
+    /// The layout of its slots: that of the indices, where it has a dictionary.
     pub fn slot_layout(&self) -> Layout
         ensures { result ≡ own_layout self.now }
     {
@@ -57,7 +57,7 @@ impl Field {
     }
 }
 
-/// A field's name and the type of its values, with those below it.
+/// A field's name and the type of its values, with those of the fields below it.
 #[cycle(named)]
 #[tactic(auto, using(crate::proofs::Logicals::named))]
 fn named_field(alloc: Global, field: &Field) -> Result<LogicalField, AllocError>

@@ -12,7 +12,7 @@ use std::alloc::Global;
 use values::StreamFault;
 use values::limits::MAX_NAME_LEN;
 
-/// The fields of a vector, of at most `depth` levels.
+/// Reads the fields of a vector, of at most `depth` levels.
 #[cycle(fields)]
 #[tactic(auto, using(crate::proofs::Forests::forests))]
 pub(crate) fn read_fields(
@@ -35,7 +35,7 @@ pub(crate) fn read_fields(
     Ok(fields)
 }
 
-/// Field `index` of a vector, with at most `depth` levels of fields below it.
+/// Reads field `index` of a vector, with at most `depth` levels of fields below it.
 #[cycle(fields)]
 #[tactic(auto, using(crate::proofs::Faults::faults), unfolding(crate::specs::Fields::entry_by))]
 fn read_entry(
@@ -92,7 +92,7 @@ fn read_children(
     }
 }
 
-/// A field's name, in the buffer.
+/// A field's name, borrowed from the buffer; empty where it is absent.
 fn read_name<'a>(table: &TableRef<'a>) -> Result<&'a str, StreamFault>
     ensures { Judges (λ name. name.now) result (name_of table.now) }
 {

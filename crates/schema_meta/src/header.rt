@@ -1,10 +1,9 @@
-//! What the metadata of a message says beside a schema: Message.fbs, tables `Message`, `DictionaryBatch` and
-//! `RecordBatch`.
+//! The headers of messages: Message.fbs, union `MessageHeader`, tables `DictionaryBatch` and `RecordBatch`.
 
 use array_layout::{BufferRange, FieldNode};
 use std::marker::Model;
 
-/// The kinds of headers that a stream is made of: Message.fbs, union `MessageHeader`.
+/// The kind of a message's header: Message.fbs, union `MessageHeader`. Its other kinds are not taken.
 #[derive(Clone, Copy, Debug, PartialEq, Eq)]
 pub enum MessageKind {
     Schema,
@@ -12,7 +11,7 @@ pub enum MessageKind {
     Batch,
 }
 
-/// The header of a record batch.
+/// The header of a record batch: its number of rows, and the nodes and buffers of its arrays, in preorder.
 #[derive(Debug, Drop)]
 pub struct BatchHeader {
     pub rows: usize,
@@ -32,13 +31,13 @@ impl Model for BatchHeader {
 #[derive(Debug, Drop)]
 pub struct DictionaryHeader {
     pub id: i64,
-    /// Whether its values come behind those that the dictionary has, and not in place of them.
+    /// Whether its values are added after those that the dictionary has, and don't replace them.
     pub is_delta: bool,
-    /// It has one column, of the values.
+    /// The header of the record batch of one column that holds the values.
     pub batch: BatchHeader,
 }
 
-/// What a message is.
+/// The header of a message, or the end mark.
 #[derive(Debug, Drop)]
 pub enum Header {
     /// The schema of the stream.
@@ -47,6 +46,6 @@ pub enum Header {
     Dictionary(DictionaryHeader),
     /// A record batch.
     Batch(BatchHeader),
-    /// The end of the stream.
+    /// The end mark.
     End,
 }

@@ -48,10 +48,10 @@ pub fn schema_law()
     ensures columns { ColumnsLaw }
 {}
 
-/// The definitions compare sizes, lengths, places and offsets by their bits, without a sign. Each of
-/// these comparisons holds exactly where the signed numbers, as the format has them, compare so and none
-/// of them is negative. `arrays` says so of all offsets of an array, of either width: 24 stands in them exactly
-/// where one is negative, falls, or points behind what there is.
+/// The definitions read sizes, lengths, places and offsets as numbers without a sign, though the format has them
+/// signed. Each of their comparisons holds exactly where the signed numbers compare so and none of them is negative.
+/// `arrays` says so of all offsets of an array, of either width: 24 stands in them exactly where one is negative, is
+/// below the one before it, or is above the number of bytes or of slots that it may point to.
 pub fn sign_law()
     ensures length { SignedLength }
     ensures bound { SignedBound }
@@ -75,10 +75,10 @@ pub fn logical_law()
     ensures row_weights { NarrowRowWeighs }
 {}
 
-/// The arrays of a batch whose header fits its schema lie in the body, are long enough, have a slot a row, and their
-/// values lie as their fields want. The values of their dictionaries are of the fields' types where those of the ids
-/// are, and nothing else is used of these. The array of a dictionary batch lies in the body, has a slot a value, and
-/// lies as the type wants.
+/// The arrays of a batch whose header fits its schema lie in the body, are long enough, have a slot a row, and are of
+/// the layouts of their fields. The values of their dictionaries are of the fields' types where those of the ids are,
+/// and they depend on nothing else of the dictionaries. The array of a dictionary batch lies in the body, has a slot a
+/// value, and is of the layout of the values' type.
 pub fn place_law()
     ensures placed { PlaceLaw }
     ensures dictionary { WordsLaw }
@@ -86,14 +86,14 @@ pub fn place_law()
     ensures values { ValuesLaw }
 {}
 
-/// No ids of dictionaries clash exactly where any two fields with one id, at all levels, have the same type; and then
-/// the type that is found for an id is that of the fields with the id, where there are any.
+/// A schema has no clash of dictionary ids exactly where any two fields with one id, at all levels, have the same type.
+/// The type that is then found for an id is that of the fields with the id, where there are any.
 pub fn clash_law()
     ensures clash { ClashLaw }
     ensures types { TypeLaw }
 {}
 
-/// Logical fields have no dictionaries: their slots are their values.
+/// Fields without dictionaries, as logical ones are, lie in memory as their values do.
 pub fn plain_law()
     ensures slots { PlainSlots }
     ensures arrays { PlainArrays }

@@ -33,7 +33,7 @@ use dictionaries::Dicts;
 use std::alloc::{AllocError, Global};
 use values::{ColType, Layout};
 
-/// The number of the next array's node, and that of its first buffer.
+/// The index of the next array's node, and that of its first buffer.
 #[derive(Drop)]
 struct Cursor {
     node: usize,
@@ -128,7 +128,7 @@ fn dictionary_values(
     Ok(Some(DictionaryValues { layout, values }))
 }
 
-/// The array of a field; the cursor moves past it and all below it.
+/// The array of a field, with all below it. The cursor moves past their nodes and buffers.
 #[cycle(place)]
 #[tactic(auto, using(crate::proofs::Places::placing))]
 fn place(

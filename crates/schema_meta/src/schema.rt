@@ -23,7 +23,7 @@ pub struct StreamSchema {
 }
 
 impl StreamSchema {
-    /// The columns' names and the types of their values, whatever they are stored as.
+    /// The logical columns: names and types of values, without dictionaries and widths of offsets.
     #[tactic(auto, using(crate::proofs::Logicals::named))]
     pub fn logical(&self, alloc: Global) -> Result<Schema, AllocError>
         ensures { IfOk result (λ s. s.fields.items ≡ map logical_field self.now.fields.items) }
@@ -32,15 +32,15 @@ impl StreamSchema {
     }
 }
 
-/// The schema that a Schema table of the metadata means (Apache Arrow Schema.fbs, table Schema).
+/// Reads a schema from its table (Apache Arrow Schema.fbs, table Schema).
 ///
 /// The error is a fault that stands in the table, any one where there are several: `BadTable`, `BadName`, `BigEndian`,
 /// `UnsupportedType`, `BadType`, `TooManyFields` or `DictionaryClash`. Where none stands only `Memory` is an error.
-/// What lies under a type of a kind that isn't taken is not read.
+/// Under a type of a kind that isn't taken nothing else of the type is read.
 pub fn read_schema(alloc: Global, schema: &TableRef) -> Result<StreamSchema, StreamFault>
     ensures reading { Answers (λ s. s.fields.items) result (schema_of schema.now) }
 
-    // what this says of the two outcomes
+    // what `reading` says of the two outcomes
     ensures ok { OnOk result (IsValid (schema_of schema.now)) }
     ensures fault { IfErr result (λ c. Fails c (schema_of schema.now)) }
 {

@@ -10,7 +10,7 @@ use crate::field::Field;
 use crate::schema::StreamSchema;
 use array_layout::own_ranges;
 
-/// The nodes of these fields and of those below them: one each.
+/// How many nodes these fields and those below them have: one each.
 #[tactic(auto, using(crate::proofs::Counts::counts))]
 fn nodes_of(fields: &[Field]) -> usize
     requires { roses_size (kids_of fields.now) ≤ max_fields }
@@ -23,7 +23,7 @@ fn nodes_of(fields: &[Field]) -> usize
     nodes
 }
 
-/// The buffers of these fields and of those below them.
+/// How many buffers these fields and those below them have.
 #[tactic(auto, using(crate::proofs::Counts::counts))]
 fn ranges_of(fields: &[Field]) -> usize
     requires { roses_size (kids_of fields.now) ≤ max_fields }

@@ -1,4 +1,4 @@
-//! Value types of dictionaries, by id.
+//! The types of the values of dictionaries, by id.
 ghost use Rattle.std.specs.Prelude.{◌≡◌};
 ghost use Rattle.std.specs.Option.{option_copied};
 ghost use Rattle.values.specs.Rose.{kids_of};
@@ -9,7 +9,7 @@ use crate::field::Field;
 use crate::schema::StreamSchema;
 use values::ColType;
 
-/// The type of the values of this dictionary, if the field or one below it has it.
+/// The type of the values of the dictionary with this id, if the field or one below it uses it.
 #[cycle(types)]
 #[tactic(auto, using(crate::proofs::Clashes::clashes))]
 fn type_in(field: &Field, id: i64) -> Option<&ColType>
@@ -21,7 +21,7 @@ fn type_in(field: &Field, id: i64) -> Option<&ColType>
     }
 }
 
-/// The same of the first of these fields that has it.
+/// The type of the values of that dictionary, by the first of these fields that uses it, or has one below it that does.
 #[cycle(types)]
 #[tactic(auto, using(crate::proofs::Clashes::clashes))]
 fn type_below(fields: &[Field], id: i64) -> Option<&ColType>
@@ -50,7 +50,8 @@ impl StreamSchema {
     }
 }
 
-/// Whether a field's dictionary, if it has one, has values of this type among `all`.
+/// Whether the dictionary of a field with values of type `stored`, if it has one, has values of that type by the first
+/// field of `all` that uses it.
 fn own_agrees(all: &[Field], encoding: Option<DictionaryEncoding>, stored: &ColType) -> bool
     ensures { result ≡ own_agrees (value_type all.now) encoding stored.now }
 {

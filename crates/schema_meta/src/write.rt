@@ -33,7 +33,7 @@ fn number_of_header(kind: MessageKind) -> u8
     }
 }
 
-/// The metadata of a message with this header and a body of this length (Message.fbs).
+/// The metadata of a message with this header and a body of `body_len` bytes (Message.fbs, table `Message`).
 pub fn write_message(
     alloc: Global,
     kind: MessageKind,
@@ -53,7 +53,7 @@ pub fn write_message(
     message.finish(alloc)
 }
 
-/// The table of a field: Schema.fbs, `Field`, nullable, without a dictionary.
+/// The table of a field: Schema.fbs, table `Field`, nullable, without a dictionary.
 #[cycle(tables)]
 #[tactic(auto, using(crate::proofs::FieldTables::field_tables_made))]
 fn field_table(alloc: Global, field: &LogicalField) -> Result<Builder, AllocError>

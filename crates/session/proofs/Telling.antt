@@ -67,7 +67,7 @@ module _ (laws : FeedLaws) where
   pub tells-none : (s : FeedState) → transcript s [] ≡ no_events (Ok s)
   tells-none s = laws.none s
 
-  -- A piece without an event is told with what comes behind it.
+  -- A piece without an event is told with what comes after it.
   pub tells-partial : (s : FeedState) (x : ℕ) (p q : List ℕ) (u : ℕ) → gives s (x ∷ p) ≡ Ok (given u None)
       → transcript s ((x ∷ p) ++ q) ≡ transcript (after_push s (x ∷ p) (Ok (given u None))) q
   tells-partial s x p q u is =
@@ -76,7 +76,7 @@ module _ (laws : FeedLaws) where
       laws.push s (x ∷ p) q (given u None) is
       ∙ ap (λ ys. transcript (after_push s (x ∷ p) (Ok (given u None))) (ys ++ q)) none
 
-  -- A whole message is told first, and then what is behind it.
+  -- A whole message is told first, and then what is after it.
   pub tells-whole : (s : FeedState) (x : ℕ) (p q : List ℕ) (u : ℕ) (e : Event) → gives s (x ∷ p) ≡ Ok (given u (Some e))
       → transcript s ((x ∷ p) ++ q) ≡ led_by (Some e)
       (transcript (after_push s (x ∷ p) (Ok (given u (Some e)))) (drop u ((x ∷ p) ++ q)))

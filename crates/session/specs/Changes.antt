@@ -1,4 +1,4 @@
--- What the parts of a push do to the rows and the undo records.
+-- What the functions that a push is made of do to the rows and the undo records.
 use Rattle.std.specs.Prelude.{◌≡◌, ℕ, List, Option, None, Some, Result, Ok, Err}
 use Rattle.arrays.specs.Checked.{CheckedColumn}
 use Rattle.feed.specs.Columns.{cells_in}

@@ -1,5 +1,5 @@
--- It doesn't matter how feeds are cut: what a run leaves is settled by the order in which messages complete, with the
--- undos and writes between, and by what the joined bytes of each feed tell. Feeds are named by their places here.
+-- What a run leaves doesn't depend on how feeds are cut: it is a function of the order in which messages complete, with
+-- the undos and writes between, and of what the joined bytes of each feed tell. Feeds are named by their places here.
 use Rattle.std.specs.Prelude.{
   ◌≡◌,
   ◌⊎◌,
@@ -69,13 +69,11 @@ told_of conf None bytes = no_events (Ok (fresh None))
 told_of conf (Some plan) bytes = transcript (fresh (Some (feed_columns (tables_of conf) plan.role))) bytes
 
 -- what the stream of a feed tells, from its beginning: its messages, and then the faults that stand, or where the feed
--- is
--- once all is consumed
+-- is once all is consumed
 abbrev pub told_at : Config → (ℕ → List ℕ) → ℕ → Transcript
 told_at conf streams k = told_of conf (slice_get conf.feeds k) (streams k)
 
--- A feed of which so much is told may break by this fault: by a push, or by its finish where all its bytes are
--- consumed.
+-- A feed whose bytes tell this may break by this fault: by a push, or by its finish where all its bytes are consumed.
 abbrev pub MayBreak : Reading FeedState → StreamFault → Type 0
 MayBreak (Ok s) f = Finishes s (Err f)
 MayBreak (Err fs) f = IsAmong fs f
@@ -134,7 +132,7 @@ left_after conf streams _ _ = streams
 abbrev pub BeginsWith : List ℕ → List ℕ → Type 0
 BeginsWith piece bytes = (rest : List ℕ) × (bytes ≡ piece ++ rest)
 
--- Nothing is asked of what is said to a feed that is broken or isn't there.
+-- A feed that is broken or isn't declared takes no bytes, so nothing is asked of what is offered to it.
 abbrev pub is_unheard : Cause → Bool
 is_unheard cause.FeedBroken = true
 is_unheard cause.UnknownFeed = true
@@ -230,14 +228,14 @@ replay conf (of_undo ∷ marks) messages left =
 replay conf (of_write name n ∷ marks) messages left =
     replay conf marks messages (written_by conf (view_in conf name) n left)
 
--- so many bytes went into each sink
+-- these bytes went into each sink
 abbrev pub Took : (ℕ → List ℕ) → List Sunk → List Sunk → Type 0
 Took bytes before after =
     (n : ℕ) (old : Sunk) → slice_get before n ≡ Some old
     → (new : Sunk) × (slice_get after n ≡ Some new) × Appends old.taken new.taken (bytes n)
 
--- A run that ended in this state, and did this to its sinks, left so much: the edits that are accepted and not undone,
--- how many of them can be undone, and of each sink that tells its bytes those that went into it. What was offered of a
+-- A run that ended in this state, and did this to its sinks, left this: the edits that are accepted and not undone,
+-- how many of them can be undone, and of each sink that shows its bytes those that went into it. What was offered of a
 -- message that isn't complete is no part of it.
 pub record Leaves (left : Left) (new : State) (before after : List Sunk) : Type 0 where
   pub past : new.past ≡ left.past
@@ -377,8 +375,7 @@ AsksEnd conf k [] = ⊥
 AsksEnd conf k (s ∷ ss) = AsksNow conf k s ⊎ AsksEnd conf k ss
 
 -- Two runs that offer a feed all of the same bytes, where the second finishes it if the first does: if it is broken
--- after
--- the first, it is broken after the second.
+-- after the first, it is broken after the second.
 abbrev pub BreaksInBoth : Type 0
 BreaksInBoth =
     (conf : Config) (streams : ℕ → List ℕ) (steps others : List Step) (replies answers : List Reply)

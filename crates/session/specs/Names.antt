@@ -1,4 +1,4 @@
--- Where a name stands among others.
+-- Looking a name up among others.
 use Rattle.std.specs.Prelude.{ℕ, suc, List, [], ◌∷◌, if◌then◌else◌}
 use Rattle.std.specs.Str.{bytes_eq}
 

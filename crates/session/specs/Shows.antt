@@ -31,7 +31,7 @@ CanUndo tables r rows =
     (r.table < length rows) × IsChangeOf r.table r.change
     × CanGoBack (table_at tables r.table) r.change (rows_at rows r.table)
 
--- They hold the world that the edits leave.
+-- The rows are the world that the edits leave.
 pub record AreWorld (tables : List Table) (rows : Rows) (edits : List Edit) : Type 0 where
   pub same : world_of rows ≡ world tables edits
 
@@ -96,8 +96,7 @@ parts_code =
     (λ _. refl)
 
 -- A session shows a state. It has a main table, a name for each side table, and for each feed that is declared, in
--- order,
--- a link with its role. It stores neither the edits nor the bytes that came.
+-- order, a link with its role. It stores neither the edits nor the bytes that came.
 pub record Shows (p : SessionParts) (s : State) : Type 0 where
   pub main : 0 < length p.tables.stores
   pub sides : length p.sides ≡ length (drop 1 (tables_in p.tables.stores))
@@ -124,7 +123,7 @@ pub record IsSession (p : SessionParts) (capacity : ℕ) (columns : List (List (
 abbrev pub IsStep : SessionParts → (State → State → Type 0) → SessionParts → Type 0
 IsStep old step new = (s : State) → Shows old s → (t : State) × step s t × Shows new t
 
--- the sink of a step is one of so many
+-- the sink of a step is one of n
 abbrev pub IsWithin : ℕ → Step → Type 0
 IsWithin n (step.Write view sink) = sink < n
 IsWithin n _ = Unit {0}

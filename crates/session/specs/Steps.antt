@@ -64,6 +64,7 @@ pub record Channel : Type 0 where
   pub role : Role
   pub fed : FeedState
 
+-- a state of a session: its past, and the channel of each declared feed, in order
 pub record State : Type 0 where
   pub past : Past
   pub channels : List Channel
@@ -105,12 +106,14 @@ edit_in role (dictionary id delta values) = None
 edit_in role (batch columns rows body) = Some (edit_of role (rows_in rows columns))
 edit_in role ended = None
 
+-- which kind of message it was
 abbrev pub kind_of : Message → Event
 kind_of (schema fields) = event.Schema
 kind_of (dictionary id delta values) = event.Dictionary
 kind_of (batch columns rows body) = event.Batch
 kind_of ended = event.End
 
+-- what a push answers for a message whose edit fits, or has this cause
 abbrev pub judged : ℕ → Event → Option Unfit → Result Pushed Fault
 judged used e None = Ok (pushed used (Some e))
 judged used e (Some u) = Err (record { cause = named u; used = used })
@@ -123,7 +126,7 @@ abbrev pub given_answer : List Table → Role → Past → ℕ → Option Messag
 given_answer tables role past used None = Ok (pushed used None)
 given_answer tables role past used (Some m) = message_answer tables past used (kind_of m) (edit_in role m)
 
--- what a push answers where the feed gave so much
+-- what a push answers, by what the feed gave
 abbrev pub push_answer : List Table → Role → Past → Result Given StreamFault → Result Pushed Fault
 push_answer tables role past (Ok g) = given_answer tables role past g.used g.event
 push_answer tables role past (Err f) = Err (refused (cause_named f))
@@ -143,7 +146,7 @@ push_past tables role past (Err f) = past
 abbrev pub with_feed : Channel → FeedState → Channel
 with_feed c fed = record { role = c.role; fed = fed }
 
--- the channel after a push, where the feed gave so much
+-- the channel after a push, by what the feed gave
 abbrev pub push_channel : Channel → List ℕ → Result Given StreamFault → Channel
 push_channel c piece gave = with_feed c (after_push c.fed piece gave)
 
@@ -163,7 +166,7 @@ PushBy tables past c true piece answer next_past next =
 PushBy tables past c false [] answer next_past next = (answer ≡ Ok (pushed 0 None)) × (next_past ≡ past) × (next ≡ c)
 PushBy tables past c false (b ∷ bs) answer next_past next = Gets tables past c (b ∷ bs) answer next_past next
 
--- A push to a channel answers so, and leads there.
+-- a push to a channel: its answer, and the past and the channel after it
 abbrev pub Pushes : List Table → Past → Channel → List ℕ → Result Pushed Fault → Past → Channel → Type 0
 Pushes tables past c piece answer next_past next =
     PushBy tables past c (is_broken c.fed.condition) piece answer next_past next
@@ -200,7 +203,7 @@ abbrev pub FinishBy : Channel → Bool → Result (Unit {0}) Fault → Channel �
 FinishBy c true answer next = (answer ≡ Err (refused cause.FeedBroken)) × (next ≡ c)
 FinishBy c false answer next = Ends c answer next
 
--- A channel's end answers so, and leads there.
+-- the end of a channel's input: its answer, and the channel after it
 abbrev pub FinishOf : Channel → Result (Unit {0}) Fault → Channel → Type 0
 FinishOf c answer next = FinishBy c (is_broken c.fed.condition) answer next
 
@@ -223,7 +226,7 @@ undone_by (suc d) past = record { edits = drop 1 past.edits; depth = d }
 unfoldable pub undone : Past → Past
 undone past = undone_by past.depth past
 
--- An undo answers so, and leads there; memory may be refused where there is an edit to undo.
+-- An undo: its answer, and the past after it. Memory may be refused where there is an edit to undo.
 abbrev pub UndoBy : ℕ → Past → Result (Unit {0}) Fault → Past → Type 0
 UndoBy zero past answer next = (answer ≡ Err (refused cause.NothingToUndo)) × (next ≡ past)
 UndoBy (suc d) past (Ok u) next = next ≡ undone past
@@ -256,7 +259,7 @@ abbrev pub IsReadIfWhole : List Table → View → World → Result ℕ ViewFaul
 IsReadIfWhole tables view w (Ok n) = IsReadAsView tables view w (stream_of tables view w)
 IsReadIfWhole tables view w (Err f) = Unit {0}
 
--- A write of a view answers so, and does this to its sink.
+-- a write of a view: its answer, and what it does to its sink
 abbrev pub WritesView : List Table → Past → Option View → Sunk → Result ℕ ViewFault → Sunk → Type 0
 WritesView tables past None old answer new = (answer ≡ Err view_fault.UnknownView) × (new ≡ old)
 WritesView tables past (Some view) old answer new =

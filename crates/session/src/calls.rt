@@ -1,4 +1,4 @@
-//! What a session is asked for, and what it answers.
+//! The calls of a session, and their answers.
 
 ghost use Rattle.std.specs.Prelude.{◌≡◌};
 ghost use Rattle.session.specs.Refusals.{refused};
@@ -12,7 +12,7 @@ use values::{Cause, StreamFault};
 pub enum Event {
     /// The schema of the feed's stream.
     Schema,
-    /// Values of a dictionary.
+    /// A dictionary batch.
     Dictionary,
     /// A record batch, whose edit was accepted.
     Batch,
@@ -20,7 +20,7 @@ pub enum Event {
     End,
 }
 
-/// What a push came to.
+/// The result of a push.
 #[derive(Clone, Copy, Debug, PartialEq, Eq)]
 pub struct Pushed {
     /// How many bytes of the piece were consumed: up to the end of the message, or all.
@@ -29,8 +29,8 @@ pub struct Pushed {
     pub event: Option<Event>,
 }
 
-/// Why a step was refused. `used` bytes were consumed all the same: up to the end of a batch whose edit doesn't fit,
-/// and none otherwise.
+/// Why a call was refused. `used` bytes of the piece were consumed all the same: those up to the end of a batch whose
+/// edit doesn't fit, and none otherwise.
 #[derive(Clone, Copy, Debug, PartialEq, Eq)]
 pub struct Fault {
     pub cause: Cause,
@@ -55,7 +55,7 @@ pub enum Step<'a> {
     Write { view: &'a str, sink: usize },
 }
 
-/// What the call of a step answered.
+/// The answer of one call.
 #[derive(Clone, Copy, Debug, PartialEq, Eq)]
 pub enum Reply {
     Push(Result<Pushed, Fault>),
@@ -65,7 +65,7 @@ pub enum Reply {
 }
 
 impl Fault {
-    /// Nothing was consumed.
+    /// A refusal before anything was consumed.
     pub(crate) fn of(cause: Cause) -> Fault
         ensures { result ≡ refused cause }
     {
@@ -85,7 +85,7 @@ impl From<AllocError> for Fault {
     }
 }
 
-/// A fault of a feed's stream, or want of memory, before anything was consumed.
+/// A fault of a feed's stream, or want of memory: nothing was consumed.
 impl From<StreamFault> for Fault {
     ghost use Rattle.std.specs.Prelude.{◌≡◌};
     ghost use Rattle.values.specs.StreamCauses.{cause_of};
@@ -98,7 +98,7 @@ impl From<StreamFault> for Fault {
     }
 }
 
-/// What a view couldn't be written for.
+/// The fault for which the stream of a view was not written whole.
 impl From<WriteFault> for ViewFault {
     ghost use Rattle.std.specs.Prelude.{◌≡◌};
     ghost use Rattle.session.specs.declared.calls.ViewFault.TheVariants.{Write};

@@ -1,4 +1,4 @@
-//! Record batches as edits of tables.
+//! Makes the edits that record batches are.
 
 ghost use Rattle.std.specs.Prelude.{◌≡◌, ◌<◌, length};
 ghost use Rattle.feed.specs.Shown.{event_seen};
@@ -19,7 +19,7 @@ use row_keys::EditFault;
 use upkeep::LiveTables;
 use view_lang::Role;
 
-/// Makes the edit that a batch is, and records it. An error leaves all as it was.
+/// Makes the edit that a batch is, and records how to undo it. On an error no row and no record has changed.
 fn edit(
     role: Role,
     tables: &mut LiveTables,
@@ -44,7 +44,7 @@ fn edit(
     Ok(())
 }
 
-/// Does what a message of a feed asks for, and answers its kind. An error leaves all as it was.
+/// Does what a feed's message asks for, and returns the message's kind. On an error no row and no record has changed.
 pub(crate) fn respond(
     role: Role,
     tables: &mut LiveTables,

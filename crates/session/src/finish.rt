@@ -1,4 +1,4 @@
-//! The end of the input of a feed of a session.
+//! Ends the input of a feed of a session.
 
 ghost use Rattle.session.specs.Changes.{EndsTo};
 
@@ -6,7 +6,7 @@ use crate::calls::Fault;
 use crate::link::Link;
 use values::Cause;
 
-/// Ends the input of a feed.
+/// Ends the input of a feed: `FeedBroken` where it is broken, `Truncated` inside a message, `NoSchema` before a schema.
 pub(crate) fn finish_of(link: &mut Link) -> Result<(), Fault>
     ensures { EndsTo link.old result link.new }
 {

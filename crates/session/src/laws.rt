@@ -11,8 +11,8 @@ ghost use Rattle.session.specs.Sample.{after_two, row_again, sample_config, samp
 ghost use Rattle.session.specs.Steps.{no_edits, push_answer, push_past, pushed, undone};
 ghost use Rattle.session.specs.declared.calls.Event.TheVariants as event;
 
-/// What a refused push leaves: the accepted edits and the depth, whatever the cause; after want of memory all; and no
-/// push changes another feed than its own.
+/// A refused push leaves the accepted edits, and how many of them can be undone, as they were; after `Memory` all is as
+/// it was. No push changes another feed than its own.
 #[tactic(auto, using(crate::proofs::Refusing::refusing))]
 pub fn refusal_law()
     ensures edits { RefusalsKeepEdits }

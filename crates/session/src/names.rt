@@ -1,4 +1,4 @@
-//! Feeds and views by their names. There are few of them, so they are looked for one after another.
+//! Looks up feeds and views by their names. There are at most 32, so they are searched one after another.
 
 ghost use Rattle.std.specs.Prelude.{◌≡◌, map};
 ghost use Rattle.session.specs.Names.{place_of};

@@ -1,4 +1,4 @@
-//! A session, taken apart.
+//! The parts of a session.
 
 use crate::link::Link;
 use crate::undo::UndoRecord;
@@ -12,13 +12,13 @@ use view_lang::FeedConfig;
 pub struct SessionParts {
     /// The names of the side tables.
     pub sides: Vec<String>,
-    /// What is declared of the feeds.
+    /// The declarations of the feeds.
     pub feeds: Vec<FeedConfig>,
-    /// The columns of the views.
+    /// The schemas of the views.
     pub schemas: Vec<Schema>,
-    /// The feeds, as they are declared.
+    /// The feeds, in the order of their declarations.
     pub links: Vec<Link>,
     pub tables: LiveTablesParts,
-    /// How the latest edits are taken back, the newest first.
+    /// How the latest edits are undone, the newest first: at most 64.
     pub records: Vec<UndoRecord>,
 }

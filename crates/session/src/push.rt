@@ -1,4 +1,4 @@
-//! What comes to a feed of a session.
+//! Pushes pieces to a feed of a session.
 
 ghost use Rattle.std.specs.Prelude.{◌≡◌};
 ghost use Rattle.upkeep.specs.Stores.{rows_in, tables_in};

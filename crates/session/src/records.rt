@@ -1,4 +1,4 @@
-//! Undo records as a list.
+//! Undo records, as a list and in the session's buffer.
 
 ghost use Rattle.std.specs.Prelude.{◌≡◌, ◌≤◌, IfOk, length};
 ghost use Rattle.circular_buffer.specs.Buffer.{buffer};
@@ -8,7 +8,7 @@ use circular_buffer::HeapCircularBuffer;
 use std::alloc::{AllocError, Global};
 use values::limits::MAX_UNDO_DEPTH;
 
-/// The records, the newest first.
+/// The records of a session as a list, the newest first.
 pub(crate) fn take_records(
     alloc: Global,
     records: HeapCircularBuffer<UndoRecord>,
@@ -23,7 +23,7 @@ pub(crate) fn take_records(
     Ok(taken)
 }
 
-/// These records.
+/// A session's buffer with these records, which come the newest first.
 pub(crate) fn make_records(
     alloc: Global,
     records: Vec<UndoRecord>,

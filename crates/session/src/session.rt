@@ -1,4 +1,4 @@
-//! The session.
+//! Sessions.
 
 ghost use Rattle.std.specs.Prelude.{
   ◌≡◌,
@@ -53,7 +53,7 @@ use values::limits::MAX_UNDO_DEPTH;
 use values::{Cause, Schema};
 use view_lang::{Config, FeedConfig, SideTable, Table};
 
-/// The feeds of a configuration, of which nothing has come.
+/// Opens the feeds of a configuration.
 fn open_feeds(alloc: Global, config: &Config) -> Result<Vec<Link>, AllocError>
     requires { IsConfig config.now }
     ensures { IfOk result (λ links.
@@ -70,7 +70,7 @@ fn open_feeds(alloc: Global, config: &Config) -> Result<Vec<Link>, AllocError>
     Ok(links)
 }
 
-/// The columns of the views of a configuration.
+/// The schemas of the views of a configuration.
 fn open_views(alloc: Global, config: &Config) -> Result<Vec<Schema>, AllocError>
     requires { IsConfig config.now }
     ensures { IfOk result (λ schemas.
@@ -84,7 +84,7 @@ fn open_views(alloc: Global, config: &Config) -> Result<Vec<Schema>, AllocError>
     Ok(schemas)
 }
 
-/// Adds the name of a side table, and the table without rows.
+/// Adds the name of a side table, and its store, without rows.
 fn open_side(
     alloc: Global,
     names: &mut Vec<String>,
@@ -102,7 +102,7 @@ fn open_side(
     Ok(())
 }
 
-/// The names of the side tables, and all tables without rows.
+/// The names of the side tables, and the stores of all tables, without rows.
 fn open_tables(
     alloc: Global,
     main: Table,
@@ -128,10 +128,10 @@ fn open_tables(
 #[derive(Drop)]
 pub struct Session {
     alloc: Global,
-    // Of the side tables.
+    // The names of the side tables.
     names: Vec<String>,
     feeds: Vec<FeedConfig>,
-    // Of the views.
+    // The schemas of the views.
     schemas: Vec<Schema>,
     links: Vec<Link>,
     tables: LiveTables,
@@ -165,7 +165,7 @@ impl Model for Session {
 }
 
 impl Session {
-    /// A session of a configuration, to which nothing has come.
+    /// Opens a session of a configuration: its tables have no rows, and nothing has come to its feeds.
     pub fn open(alloc: Global, config: Config) -> Result<Session, AllocError>
         requires { IsConfig config }
         ensures shows { IfOk result (λ s. Shows s (start config)) }
@@ -194,7 +194,7 @@ impl Session {
         })
     }
 
-    /// What it is made of, and nothing else is kept. Where memory is refused, it is gone.
+    /// Takes the session apart. The parts are all that it keeps. If memory is refused, it is lost.
     pub fn into_parts(self) -> Result<SessionParts, AllocError>
         ensures value { IfOk result (λ parts. session_with parts ≡ self) }
         ensures right { IfOk result (λ parts. AreParts parts) }
@@ -220,8 +220,8 @@ impl Session {
         })
     }
 
-    /// The one that is made of these: it shows the same states. No row is opened, and those views are stale of which
-    /// the parts say so.
+    /// Makes the session that has these parts: its tables, feeds and views are as those were. No row is opened, and
+    /// those views are stale that are so in the parts.
     pub fn from_parts(alloc: Global, parts: SessionParts) -> Result<Session, AllocError>
         requires { AreParts parts }
         ensures { IfOk result (λ session. session ≡ session_with parts) }
@@ -248,10 +248,11 @@ impl Session {
     }
 
     /// Consumes a piece of the stream of a feed up to the end of the first message that it completes, or all of it. The
-    /// edit of a record batch is made where it fits; one that doesn't is consumed all the same.
+    /// edit of a record batch is made where it fits; a batch whose edit doesn't fit is consumed all the same.
     ///
-    /// A fault of the stream breaks its feed, and changes nothing else. After `Memory` all is as it was, but views may be
-    /// stale.
+    /// The error's cause is `UnknownFeed`, `FeedBroken`, a fault of the stream, `NullKey` to `CellTooHeavy` where an
+    /// edit doesn't fit, or `Memory`. A fault of the stream breaks its feed, and changes nothing else. After `Memory`
+    /// all is as it was, but views may be stale.
     pub fn push(&mut self, feed: &str, piece: &[u8]) -> Result<Pushed, Fault>
         ensures step { IsStep self.old (λ s t. PushStep (config_of self.old) s feed.now piece.now result t) self.new }
         ensures config { config_of self.new ≡ config_of self.old }
@@ -270,8 +271,8 @@ impl Session {
         )
     }
 
-    /// Says that the input of a feed has ended: `Truncated` inside a message, `NoSchema` where nothing came. It takes
-    /// no memory.
+    /// Ends the input of a feed: `Truncated` inside a message, `NoSchema` where no schema came, `UnknownFeed` or
+    /// `FeedBroken`. It takes no memory.
     pub fn finish(&mut self, feed: &str) -> Result<(), Fault>
         ensures step { IsStep self.old (λ s t. FinishStep (config_of self.old) s feed.now result t) self.new }
         ensures config { config_of self.new ≡ config_of self.old }
@@ -284,8 +285,8 @@ impl Session {
         finish_of(&mut self.links[place])
     }
 
-    /// Takes the latest accepted edit of any feed away that isn't undone, of the last 64. Feeds don't change. After
-    /// `Memory` views may be stale.
+    /// Undoes the latest accepted edit, of any feed, that isn't undone; the last 64 can be. `NothingToUndo` where there
+    /// is none. Feeds don't change. After `Memory` no row has changed, but views may be stale.
     pub fn undo(&mut self) -> Result<(), Fault>
         ensures step { IsStep self.old (λ s t. UndoTo s result t) self.new }
         ensures config { config_of self.new ≡ config_of self.old }
@@ -295,8 +296,8 @@ impl Session {
         go_back(&mut self.tables, &mut self.records)
     }
 
-    /// Writes the canonical stream of a view, and answers its length. On a fault the sink took a beginning of that
-    /// stream. A stale view is built anew first.
+    /// Writes the canonical stream of a view, and returns its length in bytes. On an error the sink took a beginning of
+    /// that stream, whose length is in the error. A stale view is built anew first.
     pub fn write_view<S: Sink>(&mut self, view: &str, sink: &mut S) -> Result<u64, ViewFault>
         ensures step { IsStep self.old
             (λ s t. WriteStep (config_of self.old) s view.now (S.sunk sink.old) result (S.sunk sink.new)
@@ -339,7 +340,7 @@ impl Session {
         self.tables.stale()
     }
 
-    /// How often a stored row of the main table was opened; it rests at its greatest number. It takes no memory.
+    /// How often a stored row of the main table was opened. The count stops at its greatest number. It takes no memory.
     pub fn visits(&self) -> u128
         ensures { result ≡ (store_at self.now.tables.stores 0).visits }
     {
@@ -363,7 +364,8 @@ impl Session {
         }
     }
 
-    /// Does steps in order, and answers a reply for each. An error comes before the first of them: nothing was done.
+    /// Does steps in order, and returns a reply for each. The error is want of memory for the replies, before the first
+    /// step: then nothing was done.
     pub fn run<S: Sink>(
         &mut self,
         steps: &[Step],

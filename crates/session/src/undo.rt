@@ -1,4 +1,4 @@
-//! Taking accepted edits back.
+//! Undoes accepted edits.
 
 ghost use Rattle.std.specs.Prelude.{◌≡◌};
 ghost use Rattle.upkeep.specs.Stores.{rows_in, tables_in};
@@ -12,14 +12,15 @@ use circular_buffer::HeapCircularBuffer;
 use upkeep::{LiveTables, TableChange};
 use values::Cause;
 
-/// What takes an accepted edit back: the number of the table, and how it was changed. It holds no rows, but their numbers.
+/// How an accepted edit is undone: the number of its table, and how the table's rows were changed. It holds no rows,
+/// but their numbers.
 #[derive(Drop)]
 pub struct UndoRecord {
     pub table: usize,
     pub change: TableChange,
 }
 
-/// Takes the latest edit back, whose record comes first.
+/// Undoes the latest edit, whose record comes first.
 pub(crate) fn go_back(
     tables: &mut LiveTables,
     records: &mut HeapCircularBuffer<UndoRecord>,

@@ -1,4 +1,4 @@
-//! Writing views.
+//! Writes views.
 
 ghost use Rattle.std.specs.Prelude.{◌≡◌, ◌<◌, false, OnOk, length, slice_set};
 ghost use Rattle.stream_writer.specs.Sinks.{Writes};
@@ -15,7 +15,7 @@ use upkeep::LiveTables;
 use values::Schema;
 use view_lang::{config_law, rows_law};
 
-/// Writes what a view shows of the live rows, and answers how many bytes went out.
+/// Writes the canonical stream of what a view shows of the live rows, and returns its length in bytes.
 pub(crate) fn write_rows<S: Sink>(
     alloc: Global,
     tables: &mut LiveTables,

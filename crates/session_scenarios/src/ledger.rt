@@ -1,4 +1,4 @@
-//! A session whose rows come and go one by one.
+//! A session of four feeds, and calls that change one row each.
 
 use crate::streams::{GROUP, KEY, MAIN, ZONE};
 use session::{Fault, Pushed, Session};
@@ -40,7 +40,7 @@ group = []
 columns = [["n", "count"], ["s", "sum", "amt"]]
 "#;
 
-/// A session to which the schemas of its four feeds have come.
+/// Opens a session, and pushes the schemas of its four feeds.
 pub fn open(rt: &impl Abort, alloc: Global) -> Result<Session, Fail> {
     let config = read_config(alloc, CONFIG);
     assert!(rt; config.is_ok());
@@ -89,7 +89,7 @@ pub fn cut(rt: &impl Abort, session: &mut Session, group: u8) {
     push(rt, session.push("cut", &bytes[152..]));
 }
 
-/// Takes the latest edit back.
+/// Undoes the latest edit.
 pub fn undo(rt: &impl Abort, session: &mut Session) {
     assert_eq!(rt; session.undo(), Ok(()));
 }

@@ -144,7 +144,7 @@ take-least n m xs e = elim (cases_lt n (length xs)) [
   | inr over ↦ take_all n xs over ∙ sym (take_all m xs (omega (arith, e, over)))
 ]
 
--- the rows of the next batch, and those of the batches behind it
+-- the rows of the next batch, and those of the batches after it
 pub range-split : (b : Batch) (others : List (List Datum)) (from left to : ℕ) → from < to
     → to ≡ min b.rows (from + left)
     → take left (drop from (batch_rows b ++ others))
@@ -238,7 +238,7 @@ count-trees (more f fs) = let rest = count-trees fs in omega (arith, rest)
 pub as-many : (ls : List (Rose Layout)) (fs : List (Rose NamedType)) → kids_of ls ≡ trees fs → length ls ≡ length fs
 as-many ls fs e = sym (count-kids ls) ∙ ap count e ∙ count-trees (kids_of fs) ∙ count-kids fs
 
--- the rows behind those that are skipped
+-- the rows after those that are skipped
 
 pub skipped : (rows : List (List Datum)) (from n : ℕ) (left : List (List Datum)) → left ≡ drop (from + n) rows
     → left ≡ drop n (drop from rows)

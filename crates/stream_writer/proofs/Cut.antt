@@ -236,7 +236,7 @@ batch-sound fs rows columns layouts sound =
       light = (batch_len-within (trees fs) rows).1;
     }
 
--- the rows that are left behind the batch
+-- the rows that are left after the batch
 
 pub taken_count : {A : Type 0} (n : ℕ) (xs : List A) → n ≤ length xs → length (take n xs) ≡ n
 taken_count n xs h = let cut = length-take n xs in omega (arith, cut, h)
@@ -263,7 +263,7 @@ pub sound-left : (fs : List (Rose NamedType)) (rows left : List (List Datum)) (n
     → All (IsRow fs) left
 sound-left fs rows left n is sound = subst (All (IsRow fs)) (sym is) (All-drop (IsRow fs) n rows sound)
 
--- the next batch, and what is left behind it
+-- the next batch, and what is left after it
 pub batches-left : (fs : List (Rose NamedType)) (rows left : List (List Datum)) (n : ℕ) (tail : List ℕ)
     → 0 < length rows
     → All (IsRow fs) rows → n ≡ batch_len (trees fs) rows → left ≡ drop n rows

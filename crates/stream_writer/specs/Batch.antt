@@ -27,7 +27,7 @@ abbrev pub batch_slots : ℕ → List FieldNode → List BufferRange → Nodes
 batch_slots rows nodes ranges =
     nodes_of (number 8 rows ∷ structs 16 (node_bytes nodes) ∷ structs 16 (range_bytes ranges) ∷ [])
 
--- the metadata of a batch of so many rows, with a body of so many bytes
+-- the metadata of a batch, from its number of rows, its nodes and buffer ranges, and the length of its body
 abbrev pub batch_whole : ℕ → List FieldNode → List BufferRange → ℕ → List ℕ
 batch_whole rows nodes ranges body_len = whole (message_slots kind.Batch (batch_slots rows nodes ranges) body_len)
 

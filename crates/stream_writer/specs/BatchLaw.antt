@@ -1,4 +1,4 @@
--- What is written of a batch's header is read as it is meant.
+-- The header that is written of a batch is read back.
 use Rattle.std.specs.Prelude.{◌≡◌, List, Some, Ok, length}
 use Rattle.values.specs.Rose.{Rose}
 use Rattle.values.specs.Datum.{Datum}
@@ -15,8 +15,8 @@ use Rattle.stream_writer.specs.Stream.{trees}
 abbrev pub head : List (Rose NamedType) → List (List Datum) → BatchHead
 head fs rows = record { rows = length rows; nodes = body_nodes (trees fs) rows; ranges = body_ranges (trees fs) rows }
 
--- Where the schema is known, the metadata of a batch says its rows, nodes and buffer ranges, and the length of its
--- body.
+-- Where the schema is known, the metadata of a batch is read as its rows, nodes and buffer ranges, and the length
+-- of its body.
 abbrev pub BatchLaw : Type 0
 BatchLaw =
     (known : Known) (fs : List (Rose NamedType)) (rows : List (List Datum)) → IsBatch (trees fs) rows

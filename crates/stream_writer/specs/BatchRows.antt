@@ -7,7 +7,7 @@ use Rattle.body_writer.specs.Batch.{row_weight}
 use Rattle.column_writer.specs.Batches.{IsSized, rows_of}
 use Rattle.stream_writer.specs.declared.batch_rows.BatchRows.{BatchRows}
 
--- so many of them weigh 2^27 together
+-- the greatest weight of a row of which 1,024 are within the limit of a batch, 2^27
 abbrev pub max_light_row : ℕ
 max_light_row = 2 ^ 17
 

@@ -6,7 +6,7 @@ use Rattle.schema_meta.specs.Message.{meta_of}
 use Rattle.schema_meta.specs.Framing.{first}
 use Rattle.stream_writer.specs.Stream.{message, end_mark}
 
--- The first message of the bytes is this one, and its body begins behind the metadata.
+-- The first message of the bytes is this one, and its body begins after the metadata.
 abbrev pub FirstLaw : Type 0
 FirstLaw =
     (known : Known) (metadata body rest : List ℕ) (m : Meta)

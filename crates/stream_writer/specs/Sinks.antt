@@ -30,12 +30,12 @@ use Rattle.stream_writer.specs.declared.sink.DeviceFault.{DeviceFault}
 use Rattle.stream_writer.specs.declared.faults.WriteFault.{WriteFault}
 use Rattle.stream_writer.specs.declared.faults.WriteFault.TheVariants.{Memory, Device}
 
--- the bytes that a sink took, where it tells them, and its failures, modulo 2^64
+-- the bytes that a sink took, where it shows them, and its failures, modulo 2^64
 pub record Sunk : Type 0 where
   pub taken : Option (List ℕ)
   pub failures : ℕ
 
--- of a sink that tells its bytes
+-- of a sink that shows its bytes
 abbrev pub sunk_of : List ℕ → ℕ → Sunk
 sunk_of bytes failures = record { taken = Some bytes; failures = failures }
 
@@ -47,7 +47,7 @@ is_failure (Ok n) piece = (n == 0) && not (length piece == 0)
 abbrev pub count_after : ℕ → Result ℕ DeviceFault → List ℕ → ℕ
 count_after count answer piece = if is_failure answer piece then (count + 1) % 2 ^ 64 else count
 
--- one put: so many first bytes of the piece were taken, and a failure was counted
+-- one put: the first bytes of the piece were taken, as many as it answers, and a failure was counted
 pub record Puts (old new : Sunk) (answer : Result ℕ DeviceFault) (piece : List ℕ) : Type 0 where
   pub bound : IfOk answer (λ n. n ≤ length piece)
   pub bytes : WriteAppends old.taken new.taken answer piece
@@ -78,7 +78,7 @@ pub record Writes (old new : Sunk) (answer : Result ℕ WriteFault) (whole : Lis
   pub complete : IsWhole answer whole
   pub device : IsDevice answer ↔ (old.failures ≢ new.failures)
 
--- the fault of a later piece, where so much went out before it
+-- the fault of a later piece, where this number of bytes went out before it
 abbrev pub fault_after : ℕ → WriteFault → WriteFault
 fault_after before (Memory n) = Memory (before + n)
 fault_after before (Device n) = Device (before + n)

@@ -1,6 +1,6 @@
 -- The canonical stream of a table.
 --
--- Arrow columnar format, "IPC Streaming Format": the Schema message, record batches, the end mark.
+-- Arrow Columnar Format, "IPC Streaming Format": the Schema message, record batches, the end mark.
 -- A batch is the longest beginning of the rows that are left with at most 1,024 rows and a summed
 -- weight of at most 2^27. There is no batch for an empty table.
 use Rattle.std.specs.Prelude.{ℕ, zero, suc, ◌+◌, ◌-◌, nat_le, if◌then◌else◌, List, [], ◌∷◌, ◌++◌, length, take, drop}
@@ -18,12 +18,15 @@ use Rattle.stream_writer.specs.Batch.{batch_metadata}
 abbrev pub message : List ℕ → List ℕ → List ℕ
 message metadata body = (255 ∷ 255 ∷ 255 ∷ 255 ∷ []) ++ (little_bytes 4 (length metadata) ++ (metadata ++ body))
 
+-- the continuation mark, and a metadata size of 0
 abbrev pub end_mark : List ℕ
 end_mark = 255 ∷ 255 ∷ 255 ∷ 255 ∷ 0 ∷ 0 ∷ 0 ∷ 0 ∷ []
 
+-- the Schema message, which has no body
 unfoldable pub schema_message : List (Rose NamedType) → List ℕ
 schema_message fs = message (schema_metadata fs) []
 
+-- the RecordBatch message of these rows
 unfoldable pub batch_message : Roses Layout → List (List Datum) → List ℕ
 batch_message ls rows = message (batch_metadata ls rows) (body_bytes ls rows)
 
@@ -38,7 +41,7 @@ beginning ls (suc n) room (row ∷ rows) =
 unfoldable pub batch_len : Roses Layout → List (List Datum) → ℕ
 batch_len ls rows = beginning ls max_batch_rows max_batch_weight rows
 
--- the batches of these rows, at most so many
+-- the batches of these rows, at most n of them
 unfoldable pub batches : Roses Layout → ℕ → List (List Datum) → List ℕ
 batches ls zero rows = []
 batches ls (suc most) [] = []
@@ -46,9 +49,10 @@ batches ls (suc most) (row ∷ rows) =
     batch_message ls (take (batch_len ls (row ∷ rows)) (row ∷ rows))
     ++ batches ls most (drop (batch_len ls (row ∷ rows)) (row ∷ rows))
 
--- how the columns lie in memory
+-- the layouts of the columns
 abbrev pub trees : List (Rose NamedType) → Roses Layout
 trees fs = trees_of (kids_of fs)
 
+-- the canonical stream of a table with these columns and rows
 unfoldable pub canon : List (Rose NamedType) → List (List Datum) → List ℕ
 canon fs rows = schema_message fs ++ (batches (trees fs) (length rows) rows ++ end_mark)

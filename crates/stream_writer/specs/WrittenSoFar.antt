@@ -3,7 +3,7 @@ use Rattle.std.specs.Prelude.{◌≡◌, ℕ, ◌≤◌, List, length, take, dro
 use Rattle.std.specs.Io.KnownBytes.{Appends}
 use Rattle.stream_writer.specs.Sinks.{Sunk}
 
--- so many first bytes of `whole` went out, `rest` is left, and the sink has not failed
+-- the first `written` bytes of `whole` went out, `rest` is left, and the sink has not failed
 pub record WrittenSoFar (start now : Sunk) (written : ℕ) (whole rest : List ℕ) : Type 0 where
   pub bytes : Appends start.taken now.taken (take written whole)
   pub left : drop written whole ≡ rest

@@ -10,7 +10,8 @@ use std::alloc::{AllocError, Global};
 use values::LayoutTree;
 use values::limits::MAX_BATCH_ROWS;
 
-/// The `left` rows of these batches from row `from` on, so light that each batch that is written has 1,024 of them.
+/// The `left` rows of these batches from row `from` on. All are so light that a batch of 1,024 of them is within the
+/// limit on weight.
 #[derive(Drop)]
 pub(crate) struct BatchRows<'a> {
     pub batches: &'a [Batch],
@@ -18,14 +19,14 @@ pub(crate) struct BatchRows<'a> {
     pub left: usize,
 }
 
-/// A row of some batches.
+/// A row of some batches: row `from` of them, counted through all.
 #[derive(Clone, Copy)]
 struct Place<'a> {
     batches: &'a [Batch],
     from: usize,
 }
 
-/// The same row, in the batch in which it lies.
+/// The place of row `from`, counted through all batches, within the one in which it lies.
 fn place_at<'a>(batches: &'a [Batch], from: usize) -> Place<'a>
     ensures rows { drop result.from (rows_of result.batches.now) ≡ drop from (rows_of batches.now) }
     ensures sized { (n : ℕ) → All (IsSized n) batches.now → All (IsSized n) result.batches.now }
@@ -48,7 +49,7 @@ fn place_at<'a>(batches: &'a [Batch], from: usize) -> Place<'a>
     }
 }
 
-/// Where `count` rows lie, the first of them row `from`.
+/// Where `count` rows lie, from row `from` on, batch by batch.
 fn ranges_of<'a>(
     alloc: Global,
     batches: &'a [Batch],

@@ -5,7 +5,7 @@ ghost use Rattle.stream_writer.specs.Sinks.{written_of, fault_after};
 
 use std::alloc::AllocError;
 
-/// Why not all was written. `written` is how many bytes the sink took all the same, from the first on.
+/// Why a stream was not written whole. `written` is how many bytes of its beginning the sink took.
 #[derive(Clone, Copy, Debug, PartialEq, Eq)]
 pub enum WriteFault {
     /// Memory was refused.
@@ -15,7 +15,7 @@ pub enum WriteFault {
 }
 
 impl WriteFault {
-    /// The same fault, where `before` bytes had gone out already.
+    /// The same fault of a stream of which `before` bytes had gone out already.
     pub(crate) fn after(self, before: u64) -> WriteFault
         requires { before + written_of (Err self) < 2 ^ 64 }
         ensures { result ≡ fault_after before self }
@@ -31,7 +31,7 @@ impl WriteFault {
     }
 }
 
-/// Where nothing went out before.
+/// The fault of memory that is refused before any byte went out.
 impl From<AllocError> for WriteFault {
     ghost use Rattle.std.specs.Prelude.{◌≡◌};
     ghost use Rattle.stream_writer.specs.declared.faults.WriteFault.TheVariants.{Memory};

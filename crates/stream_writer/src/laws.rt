@@ -6,20 +6,20 @@ ghost use Rattle.stream_writer.specs.FramingLaw.{FirstLaw, LastLaw};
 ghost use Rattle.stream_writer.specs.RoundTrip.{DeclaredMeansItsTable, DeclaredTrip, MeansItsTable, RoundTrip};
 ghost use Rattle.stream_writer.specs.RowsLaw.{RowsLaw};
 
-/// The batches of a table, joined, are its rows. Each is within the limits, and none could have taken
-/// the next row too.
+/// The batches of a table, joined, are its rows. Each is within the limits on rows and weight, and none could have
+/// taken the next row too.
 pub fn cut_law()
     ensures { CutLaw }
 {}
 
-/// The metadata that is written of a batch is read, where the schema is known, as the counts of its
-/// arrays and the places of its buffers, with no fault.
+/// The metadata that is written of a batch is read under its schema with no fault, as its number of rows, its nodes and
+/// its buffer ranges.
 pub fn batch_law()
     ensures { BatchLaw }
 {}
 
-/// A written message whose metadata is read is found whole at the front of any bytes, and so is the end
-/// mark.
+/// A written message whose metadata has no fault is found complete at the front of bytes, whatever follows it, and so
+/// is the end mark.
 pub fn framing_law()
     ensures first { FirstLaw }
     ensures last { LastLaw }

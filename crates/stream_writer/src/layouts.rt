@@ -28,7 +28,7 @@ fn layout_trees(alloc: Global, fields: &[LogicalField]) -> Result<Vec<LayoutTree
     Ok(trees)
 }
 
-/// The layouts of the columns, in order.
+/// The layouts in which the columns of a schema are written, in order.
 pub fn layouts_of(alloc: Global, schema: &Schema) -> Result<Vec<LayoutTree>, AllocError>
     ensures { IfOk result (λ layouts. kids_of layouts.items ≡ trees_of (kids_of schema.now.fields.items)) }
 {

@@ -24,7 +24,7 @@ impl MemorySink {
         MemorySink::with_limit(alloc, usize::MAX, u64::MAX)
     }
 
-    /// A sink that takes at most `portion` bytes a put, and fails after so many puts. With a portion of 0
+    /// A sink that takes at most `portion` bytes a put, and fails after `puts` puts. With a portion of 0
     /// it answers 0, which is a failure too.
     pub fn with_limit(alloc: Global, portion: usize, puts: u64) -> Self
         ensures bytes { result.bytes.items ≡ [] }

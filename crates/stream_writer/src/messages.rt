@@ -20,7 +20,7 @@ use schema_meta::{MessageKind, write_message, write_schema};
 use std::alloc::{AllocError, Global};
 use values::{LayoutTree, Schema};
 
-/// A message of this metadata and body.
+/// A message with this metadata and this body: the continuation mark, the metadata's size, and both.
 fn message(alloc: Global, metadata: &[u8], body: &[u8]) -> Result<Vec<u8>, AllocError>
     requires metadata { length metadata.now < 2 ^ 32 }
     requires body { length body.now ≤ 2 ^ 38 }
@@ -69,7 +69,7 @@ fn range_bytes(alloc: Global, ranges: &[BufferRange]) -> Result<Vec<u8>, AllocEr
     Ok(bytes)
 }
 
-/// `FieldNode`: two numbers of 64 bits.
+/// A `FieldNode` as the struct of Message.fbs: two numbers of 64 bits.
 fn node_pair(node: &FieldNode) -> [u8; 16]
     ensures { result ≡ little_bytes 8 node.now.length ++ little_bytes 8 (low_bytes w64 8 node.now.nulls) }
 {
@@ -79,7 +79,7 @@ fn node_pair(node: &FieldNode) -> [u8; 16]
     bytes
 }
 
-/// `Buffer`: two numbers of 64 bits.
+/// A `Buffer` as the struct of Message.fbs: two numbers of 64 bits.
 fn range_pair(range: &BufferRange) -> [u8; 16]
     ensures { result ≡ little_bytes 8 range.now.from ++ little_bytes 8 range.now.len }
 {
@@ -89,7 +89,7 @@ fn range_pair(range: &BufferRange) -> [u8; 16]
     bytes
 }
 
-/// The record batch of the first `count` rows.
+/// The RecordBatch message of the first `count` rows.
 #[tactic(auto, using(crate::proofs::BatchFits::batch_fits, crate::proofs::Cut::taken_count), unfolding(crate::specs::Stream::batch_message, crate::specs::Batch::batch_metadata))]
 pub(crate) fn batch_message<R: RowSource>(
     alloc: Global,

@@ -1,4 +1,4 @@
-//! Rows that are written from the front, batch by batch.
+//! Sources of the rows of a table: values, or batches of checked columns.
 
 use body_writer::Body;
 use std::alloc::{AllocError, Global};
@@ -16,7 +16,7 @@ pub(crate) trait RowSource {
 
     ghost rows: { Self → List (List Datum) };
 
-    // what must be known of them, where columns lie so
+    // what must hold of the rows, where the columns have these layouts
     ghost fits: { Self → List (Rose Layout) → Type 0 };
 
     /// Whether no row is left.
@@ -46,7 +46,7 @@ pub(crate) trait RowSource {
         ensures bytes { IfOk result (λ body. body.bytes.items ≡ body_bytes (kids_of layouts.now) (take count (rows self.now))) }
         ensures size { IfOk result (λ body. length body.bytes.items ≤ max_body_size) };
 
-    /// Leaves the first `count` rows.
+    /// Drops the first `count` rows.
     fn skip(&mut self, count: usize)
         requires fits { (ls : List (Rose Layout)) × fits self.old ls }
         requires within { count ≤ length (rows self.old) }
@@ -63,7 +63,7 @@ ghost use Rattle.stream_writer.specs.Stream.{batch_len};
 use values::limits::{MAX_BATCH_ROWS, MAX_BATCH_WEIGHT};
 use values::row_weight;
 
-/// Rows that are values.
+/// Rows as lists of values.
 #[derive(Drop)]
 pub(crate) struct ValueRows<'a> {
     pub rows: &'a [Row],
@@ -98,7 +98,7 @@ impl<'a> RowSource for ValueRows<'a> {
     }
 }
 
-/// How many rows the next batch has.
+/// How many rows the next batch has: as many as are within the limits on rows and on weight.
 #[tactic(auto, unfolding(crate::specs::Stream::batch_len))]
 fn len_of_batch(layouts: &[LayoutTree], rows: &[Row]) -> usize
     requires { All (λ row. row_weight (kids_of layouts.now) row ≤ max_row_weight) (map (λ row. row.items) rows.now) }

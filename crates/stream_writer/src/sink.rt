@@ -4,7 +4,7 @@ ghost use Rattle.std.specs.Prelude.{◌+◌, ◌^◌, ◌<◌, IfErr};
 
 use crate::faults::WriteFault;
 
-/// A sink could not take what it was given.
+/// The failure of a sink to take bytes.
 #[derive(Clone, Copy, Debug, PartialEq, Eq)]
 pub struct DeviceFault;
 
@@ -17,7 +17,7 @@ pub trait Sink {
 
     ghost sunk: { Self → Sunk };
 
-    /// Takes some first bytes of the piece, and answers how many. An error, or 0 for a piece that is
+    /// Takes some first bytes of the piece, and returns how many. An error, or 0 for a piece that is
     /// not empty, is one failure.
     fn put(&mut self, piece: &[u8]) -> Result<usize, DeviceFault>
         ensures { Puts (sunk self.old) (sunk self.new) result piece.now };
@@ -25,7 +25,8 @@ pub trait Sink {
 
 ghost use Rattle.stream_writer.specs.Sinks.{Writes, IsDeviceFault};
 
-/// Puts all bytes, in as many pieces as the sink asks for.
+/// Puts all bytes, in as many pieces as the sink asks for, and returns how many they are. On an error the sink took the
+/// first `written` of them.
 pub fn put_all<S: Sink>(sink: &mut S, bytes: &[u8]) -> Result<u64, WriteFault>
     ensures writes { Writes (S.sunk sink.old) (S.sunk sink.new) result bytes.now }
     ensures stops { IfErr result IsDeviceFault }

@@ -21,12 +21,12 @@ use column_writer::Batch;
 use std::alloc::Global;
 use values::{LayoutTree, Row, Schema};
 
-/// No more bytes follow.
+/// The end mark: the continuation mark, and a metadata size of 0.
 const END_MARK: [u8; 8] = [255, 255, 255, 255, 0, 0, 0, 0];
 
-/// Writes the canonical stream of a table, and answers its length.
+/// Writes the canonical stream of a table, and returns its length in bytes.
 ///
-/// On a fault the sink took a beginning of that stream: `written` bytes.
+/// On an error the sink took a beginning of that stream: `written` bytes.
 pub fn write_table<S: Sink>(
     alloc: Global,
     sink: &mut S,
@@ -41,10 +41,10 @@ pub fn write_table<S: Sink>(
     write_messages(alloc, sink, schema, &layouts, ValueRows { rows })
 }
 
-/// Writes the canonical stream of a table whose rows lie in batches of checked columns, `rows` of them, and answers its
-/// length. None of the rows is so heavy that a batch would have fewer than 1,024 rows for it.
+/// Writes the canonical stream of a table whose `rows` rows lie in batches of checked columns, and returns its length
+/// in bytes. None of the rows may be so heavy that a batch would have fewer than 1,024 rows for it.
 ///
-/// On a fault the sink took a beginning of that stream: `written` bytes.
+/// On an error the sink took a beginning of that stream: `written` bytes.
 pub fn write_batches<S: Sink>(
     alloc: Global,
     sink: &mut S,
@@ -94,7 +94,7 @@ fn write_messages<S: Sink, R: RowSource + Drop>(
     put_after(sink, &END_MARK, written)
 }
 
-/// Puts what follows the bytes that were written.
+/// Puts bytes after the `written` ones that went out before.
 fn put_after<S: Sink>(sink: &mut S, bytes: &[u8], written: u64) -> Result<u64, WriteFault>
     requires { written + length bytes.now < 2 ^ 64 }
     ensures counted { IfOk result (λ n. n ≡ written + length bytes.now) }

@@ -89,7 +89,7 @@ fn answers_zero(rt: HostRuntime) -> Result<(), Fail> {
     Ok(())
 }
 
-/// One byte a put: after each number of puts the sink holds so many first bytes.
+/// One byte a put: after n puts the sink holds the first n bytes.
 #[test]
 fn fails_at_each_put(rt: HostRuntime) -> Result<(), Fail> {
     for puts in 0..504 {

@@ -1,4 +1,4 @@
--- The first of the keys that are left is put to those that are there, which are those of some values.
+-- A loop that inserts ascending keys one after another: the next one comes after those that are there.
 use Rattle.std.proofs.Common.{◌≡◌, ap, ◌∙◌}
 use Rattle.std.specs.BTreeSet.{insert_key}
 use Rattle.std.specs.Cmp.{IsTotalOrder}

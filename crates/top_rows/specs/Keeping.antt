@@ -1,4 +1,4 @@
--- Which rows are kept.
+-- When an order is that of some rows.
 use Rattle.std.specs.Prelude.{◌≡◌, Bool, false, List, None, Option, Some}
 use Rattle.std.specs.BTreeMap.{is_at}
 use Rattle.std.specs.Cmp.Lexicographic.{slice_cmp}

@@ -11,7 +11,7 @@ use Rattle.view_lang.specs.declared.view.OrderBy.{OrderBy}
 use Rattle.top_rows.specs.declared.part.Part.{Part}
 use Rattle.top_rows.specs.declared.part.Part.TheVariants as part
 
--- Null is no value in either direction.
+-- the part of a key in a direction: null is missing in both
 abbrev pub part_in : Direction → Key → Part
 part_in d key.Null = part.Missing
 part_in direction.Ascending k = part.Ascending k
@@ -21,10 +21,10 @@ abbrev pub part_by : Direction → Option Key → Part
 part_by d None = part.Missing
 part_by d (Some k) = part_in d k
 
--- what a cell is in a direction
+-- the part of a cell in a direction
 abbrev pub part_of : Direction → Datum → Part
 part_of d cell = part_by d (key_of cell)
 
--- what a row is in an order
+-- the parts of a row in an order
 abbrev pub parts_of : List OrderBy → List Datum → List Part
 parts_of order row = map (λ o. part_of o.direction (cell_at row o.column)) order

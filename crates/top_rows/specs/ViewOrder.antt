@@ -24,7 +24,7 @@ pub record IsKeptFor (kept : OrderedPlaces) (rows : NumberedRows) : Type 0 where
   pub kept_rows : Keeps kept rows
   pub keys : AllByRecursion (λ e. OrdersKeys kept.order e.1) rows
 
--- Under each number stands a row, and these are the first so many of the sorted rows.
+-- Under each number stands a row, and these are the first n of the sorted rows.
 abbrev pub AreFirst : List OrderBy → ℕ → NumberedRows → List ℕ → Type 0
 AreFirst order most rows numbers =
     map (λ n. row_at n rows) numbers ≡ map Some (take most (sorted (row_cmp order) (values_of rows)))

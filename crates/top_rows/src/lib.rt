@@ -1,4 +1,7 @@
-//! Rows that are kept in an order by their changes.
+//! Orders of rows, kept current by changes of the rows: the numbers of the rows, sorted by some of their columns.
+//!
+//! `specs/Keeping.antt` says when an order is that of some rows, over `Places` and `Parts` (what a row is ordered by),
+//! and `specs/ViewOrder.antt` that its first places are the first rows of a view.
 #![tactic(auto)]
 
 mod laws;

@@ -1,4 +1,4 @@
-//! Rows in order.
+//! The order of some rows, kept current by changes of the rows.
 
 ghost use Rattle.std.specs.Prelude.{◌≡◌, [], cond, false, IfOk, List, map, OnErr, OnOk, take, true, ℕ};
 ghost use Rattle.std.specs.List.Sorted.{IsStrictlySortedBy};
@@ -19,7 +19,7 @@ use std::marker::Model;
 use values::Value;
 use view_lang::{Change, OrderBy, RowChange, Upkeep, keeping_law};
 
-/// The numbers of rows in the order of some of their columns. Rows that tie are in the order of their numbers.
+/// The numbers of rows, sorted by some of the rows' columns. Rows that tie are in the order of their numbers.
 #[derive(Debug, Drop)]
 pub struct Ordered {
     alloc: Global,
@@ -36,7 +36,7 @@ impl Model for Ordered {
 }
 
 impl Ordered {
-    /// No rows, for this order.
+    /// The order of no rows.
     pub fn new(alloc: Global, order: &[OrderBy]) -> Result<Ordered, AllocError>
         ensures order { IfOk result (λ ordered. ordered.order ≡ order.now) }
         ensures none { IfOk result (λ ordered. ordered.places ≡ []) }
@@ -51,7 +51,7 @@ impl Ordered {
         })
     }
 
-    /// Takes it apart. The parts are all that it keeps. If memory is refused, it is lost.
+    /// Takes the order apart. The parts are all that it keeps. If memory is refused, it is lost.
     pub fn into_parts(self) -> Result<OrderedParts, AllocError>
         ensures value { IfOk result (λ parts. ordered_with parts ≡ self) }
         ensures ascending { IfOk result (λ parts. AreAscending parts) }
@@ -166,8 +166,7 @@ impl Ordered {
         Ok(numbers)
     }
 
-    /// The numbers of the first rows of a view in this order, at most `most` of them. A view that shows all of its rows
-    /// asks for as many as there are.
+    /// The numbers of the first rows of a view that is sorted by this order, at most `most` of them.
     pub fn first_of_view(&self, alloc: Global, most: usize) -> Result<Vec<usize>, AllocError>
         ensures { IfOk result (λ numbers.
             (rows : NumberedRows) → IsKeptFor self.now rows → AreFirst self.now.order most rows numbers.items) }

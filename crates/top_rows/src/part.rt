@@ -1,4 +1,4 @@
-//! What rows are ordered by.
+//! Sort keys: what a row is ordered by in one column.
 
 ghost use Rattle.std.specs.Prelude.{◌≡◌, IfOk};
 ghost use Rattle.view_lang.specs.Cells.{cell_at};
@@ -9,7 +9,7 @@ use std::cmp::Reverse;
 use values::{Key, Value};
 use view_lang::{Direction, OrderBy};
 
-/// A cell that a row is ordered by. Where there is no value it comes last in both directions.
+/// What a row is ordered by in one column of an order. A missing value comes last in both directions.
 #[derive(Debug, Drop, PartialEq, Eq, PartialOrd, Ord)]
 pub enum Part {
     Ascending(Key),
@@ -19,7 +19,7 @@ pub enum Part {
 }
 
 impl Part {
-    /// What a row has in a column of an order.
+    /// The part of a row in one column of an order.
     pub(crate) fn of(alloc: Global, row: &[Value], by: &OrderBy) -> Result<Part, AllocError>
         ensures { IfOk result (λ part. part ≡ part_of by.now.direction (cell_at row.now by.now.column)) }
     {

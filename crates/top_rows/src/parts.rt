@@ -10,7 +10,7 @@ pub struct OrderedParts {
     pub places: Vec<PlaceParts>,
 }
 
-/// What a row has in the order's columns, and its number.
+/// The place of a row: what it is ordered by in each of the order's columns, and its number.
 #[derive(Debug, Drop)]
 pub struct PlaceParts {
     pub values: Vec<Part>,

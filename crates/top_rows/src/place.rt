@@ -12,7 +12,8 @@ use std::marker::Model;
 use values::Value;
 use view_lang::OrderBy;
 
-/// What a row is ordered by, and its number. Contracts see the pair of them.
+/// The place of a row in an order: what it is ordered by, and its number, by which ties are broken. Contracts see the
+/// pair of both.
 #[derive(Debug, Drop)]
 pub(crate) struct Place {
     parts: Vec<Part>,

@@ -1,4 +1,4 @@
-//! Rows in an order with a tie and a null.
+//! An order of a few rows, with a tie and a null.
 
 use crate::Ordered;
 use std::alloc::{AllocError, Global};

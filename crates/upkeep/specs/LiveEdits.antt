@@ -45,8 +45,8 @@ pub record Edited (n : ℕ) (e : TableEdit) (old new : LiveParts) (answer : Resu
   pub stale : StaleByMemory old.stale answer new.stale
   pub visits : VisitsOf n old answer new
 
--- A change of table n that touched so many rows is taken back, so that the table's rows are these; or memory is
--- refused, and no row has changed.
+-- A change of table n that touched `rows_touched` rows is taken back, so that the table's rows are `slots`; or memory
+-- is refused, and no row has changed.
 pub record WentBack {X E : Type 0} (n : ℕ) (slots : List Slot) (rows_touched : ℕ) (old new : LiveParts)
     (answer : Result X E) : Type 0 where
   pub rows : OnOk answer (rows_in new.stores ≡ slice_set (rows_in old.stores) n slots)

@@ -23,18 +23,18 @@ live_code =
     (coded× (coded_list store_code) (coded× (coded_list view_code) (coded_list coded_bool)))
     (λ p. (p.stores, (p.views, p.stale))) (λ p. record { stores = p.0; views = p.1.0; stale = p.1.1 }) (λ _. refl)
 
--- there is a main table, and the views are of these tables
+-- there is a main table, and the views keep the rules of views of these tables
 pub record AreOf (stores : List Store) (views : List View) : Type 0 where
   pub main : 0 < length stores
   pub right : All IsTable (tables_in stores)
   pub of_these : All (IsView (tables_in stores)) views
 
--- and what is kept of the views is made of the live rows, where they aren't stale
+-- there are such tables and views, and each view is stale, or what is kept of it is made of the live rows
 pub record AreLive (stores : List Store) (views : List View) (states : List ViewState) : Type 0 where
   pub these : AreOf stores views
   pub current : AreCurrent (tables_in stores) (rows_in stores) views states
 
--- where there is no store of a number
+-- what stands for a store where there is none of a number
 abbrev pub no_store : Store
 no_store = no_rows no_table
 

@@ -12,7 +12,7 @@ Rows = List (List Slot)
 abbrev pub rows_at : Rows → ℕ → List Slot
 rows_at rows n = get_or rows n []
 
--- the world that they are
+-- the world that the live rows are: the contents of each table
 abbrev pub world_of : Rows → World
 world_of rows = map contents_of rows
 

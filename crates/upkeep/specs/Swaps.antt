@@ -33,7 +33,7 @@ shown (Appended n) slots = slots
 shown (Retracted ns) slots = retracted ns.items slots
 shown (Put n replaced) slots = put_shown n replaced.items slots
 
--- the rows that are left where those are forgotten that are hidden
+-- the rows that are left when the hidden ones are removed
 abbrev pub forgotten : TableChange → List Slot → List Slot
 forgotten (Appended n) slots = slots
 forgotten (Retracted ns) slots = slots
@@ -73,6 +73,6 @@ named_numbers (Appended n) slots = []
 named_numbers (Retracted ns) slots = ns.items
 named_numbers (Put n replaced) slots = last_numbers n slots ++ replaced.items
 
--- and their keys
+-- the keys of the rows that a change names
 abbrev pub named_keys : Table → TableChange → List Slot → List Datum
 named_keys t c slots = keys_at t (named_numbers c slots) slots

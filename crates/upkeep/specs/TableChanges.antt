@@ -30,6 +30,7 @@ back (Appended n) slots = taken_back n slots
 back (Retracted ns) slots = put_back ns.items slots
 back (Put n replaced) slots = put_undone n replaced.items slots
 
+-- A change of a table's rows can be taken back.
 abbrev pub CanGoBack : Table → TableChange → List Slot → Type 0
 CanGoBack t (Appended n) slots = CanTakeBack n slots
 CanGoBack t (Retracted ns) slots = CanPutBack t ns.items slots

@@ -40,12 +40,12 @@ use Rattle.upkeep.specs.Swaps.{named_keys}
 use Rattle.upkeep.specs.declared.table_change.TableChange.{TableChange}
 use Rattle.upkeep.specs.declared.table_change.TableChange.TheVariants.{Appended, Put, Retracted}
 
--- whether a row of the main table refers to one of these keys of a table
+-- whether a row of the main table looks up one of these keys in a table
 abbrev pub refers_by : Option Lookup → ℕ → List Datum → List Datum → Bool
 refers_by None table keys row = false
 refers_by (Some l) table keys row = nat_eq (suc l.side) table && is_among (cell_at row l.on) keys
 
--- and does so in one of the views
+-- whether it does so for one of the views
 abbrev pub refers : List View → ℕ → List Datum → List Datum → Bool
 refers views table keys row = list_any (λ v. refers_by v.lookup table keys row) views
 
@@ -62,7 +62,7 @@ touched tables views rows (suc side) change =
 abbrev pub OpensTwice : LiveParts → ℕ → LiveParts → Type 0
 OpensTwice old rows new = visits_in new.stores ≤ visits_in old.stores + 2 * (length old.views * rows)
 
--- how many rows are opened for so many that a view shows: none of groups
+-- how many rows are opened for a view that shows this number of rows: as many for a plain view, none for groups
 abbrev pub opened_by : Outputs → ℕ → ℕ
 opened_by (columns outputs) shown = shown
 opened_by (groups by outputs) shown = 0

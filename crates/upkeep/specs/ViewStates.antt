@@ -45,15 +45,17 @@ use Rattle.upkeep.specs.declared.view_state.Turn.{Turn}
 use Rattle.upkeep.specs.declared.view_state.Turn.TheVariants as turn
 use Rattle.upkeep.specs.declared.view_state.ViewState.{ViewState}
 
--- What is kept of a row of the main table: the row that a plain view shows of it, or the joined row that is grouped.
+-- What a view makes of a row of the main table: the row that a plain view shows of it, or the joined row that is
+-- grouped.
 abbrev pub made_by : Outputs → Option (List Datum) → Option (List Datum)
 made_by (columns outputs) joined = option_map (shown_row outputs) joined
 made_by (groups by outputs) joined = joined
 
+-- what a view makes of a row of the main table, joined and filtered; `None` where it isn't kept
 abbrev pub made_row : View → Side → List Datum → Option (List Datum)
 made_row v side row = made_by v.outputs (kept_row v side row)
 
--- It is what these numbered rows make: their places in the view's order, or their groups.
+-- What is kept is that of these numbered rows: their places in the view's order, or their groups.
 abbrev pub IsKept : Outputs → List OrderBy → Kept → NumberedRows → Type 0
 IsKept (columns outputs) order (kept.Order o) rows = (o.order ≡ order) × KeepsOrder o rows
 IsKept (groups by outputs) order (kept.Groups g) rows =
@@ -61,11 +63,12 @@ IsKept (groups by outputs) order (kept.Groups g) rows =
 IsKept (columns outputs) order (kept.Groups g) rows = ⊥
 IsKept (groups by outputs) order (kept.Order o) rows = ⊥
 
--- what a row of the main table refers by: the cell that is looked up, if the view looks up a table
+-- the cell of a row of the main table that is looked up, if the view looks up a table
 abbrev pub referring_by : Option Lookup → List Datum → Option (List Datum)
 referring_by None row = None
 referring_by (Some l) row = Some (cell_at row l.on ∷ [])
 
+-- the same by the view's lookup
 abbrev pub referring_row : View → List Datum → Option (List Datum)
 referring_row v row = referring_by v.lookup row
 
@@ -101,11 +104,11 @@ turned turn.Go slots ns = gone slots ns
 abbrev pub turned_last : Turn → List Slot → ℕ → List Shift
 turned_last t slots n = turned t slots (last_numbers n slots)
 
--- and the change of what a view makes of them
+-- the change of what a view makes of these rows
 abbrev pub made_change : List Table → Rows → View → Turn → List ℕ → List Shift
 made_change tables rows v t ns = map (shift_image (made_row v (side_by tables rows v))) (turned t (rows_at rows 0) ns)
 
--- and of what they refer by
+-- the change of the cells that are looked up
 abbrev pub referring_change : List Slot → View → Turn → List ℕ → List Shift
 referring_change slots v t ns = map (shift_image (referring_row v)) (turned t slots ns)
 

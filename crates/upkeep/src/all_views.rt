@@ -1,4 +1,4 @@
-//! What is kept of all views when rows of the main table come or go.
+//! Brings what is kept of all views up to rows of the main table that come or go.
 
 ghost use Rattle.std.specs.List.{range_with_len};
 ghost use Rattle.std.specs.Prelude.{◌≡◌, ◌<◌, ◌≤◌, ◌+◌, ◌*◌, ◌^◌, [], All, count_by, false, IfOk, List, OnErr, OnOk, length, map, true};
@@ -15,7 +15,7 @@ use row_keys::RowStore;
 use std::alloc::{AllocError, Global};
 use view_lang::View;
 
-/// What is kept of the views of no rows.
+/// What is kept of these views of tables without rows.
 pub(crate) fn fresh_states(alloc: Global, views: &[View]) -> Result<Vec<ViewState>, AllocError>
     ensures current { IfOk result (λ states.
         (tables : List Table) → (rows : Rows) → EachIsCurrent tables rows [] views.now states.items) }
@@ -52,8 +52,8 @@ fn mark_all_stale(states: &mut Vec<ViewState>)
     }
 }
 
-/// Brings what is kept of each view up to rows of the main table that come or go. Where memory is refused, some of it
-/// is that of the rows before.
+/// Brings what is kept of each view up to rows of the main table that come or go. If memory is refused, some views may
+/// still be those of the rows before.
 fn follow_each(
     alloc: Global,
     stores: &mut Vec<RowStore>,
@@ -131,7 +131,7 @@ pub(crate) fn follow_all(
     }
 }
 
-/// So many numbers from the first on.
+/// The `count` numbers from `first` on.
 pub(crate) fn numbers_from(
     alloc: Global,
     first: usize,

@@ -1,4 +1,4 @@
-//! Batches as edits of the rows of a table.
+//! Makes the edits that batches are, in the store of their table.
 
 ghost use Rattle.std.specs.Prelude.{◌≡◌, ℕ, suc, IfErr, IfOk, None, OnOk};
 ghost use Rattle.view_lang.specs.Causes.{cause_of};
@@ -17,7 +17,7 @@ use arrays::Column;
 use row_keys::{EditFault, RowStore};
 use view_lang::Role;
 
-/// Puts the rows of a batch after all others.
+/// Appends the rows of a batch.
 pub(crate) fn append_batch(
     store: &mut RowStore,
     columns: Vec<Column>,
@@ -53,7 +53,7 @@ pub(crate) fn find_rows(
     Ok(numbers)
 }
 
-/// Takes the rows away whose keys a batch names.
+/// Retracts the rows whose keys a batch names.
 fn retract_batch(
     store: &mut RowStore,
     columns: &[Column],
@@ -69,7 +69,7 @@ fn retract_batch(
     Ok(TableChange::Retracted(numbers))
 }
 
-/// Puts the rows of a batch after all others, in place of those with their keys.
+/// Puts the rows of a batch: those with the same keys are retracted, and they are added after all others.
 fn put_batch(
     store: &mut RowStore,
     columns: Vec<Column>,
@@ -104,7 +104,7 @@ pub(crate) fn make_edit(
     }
 }
 
-/// Takes a change back.
+/// Takes back a change of a store's rows. It takes no memory.
 pub(crate) fn restore(store: &mut RowStore, change: &TableChange)
     requires { CanGoBack store.old.table change.now store.old.slots }
     ensures { store.new ≡ with_slots store.old (back change.now store.old.slots) }

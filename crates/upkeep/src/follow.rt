@@ -1,4 +1,4 @@
-//! What is kept of a view when rows of the main table come or go.
+//! Brings what is kept of a view up to rows of the main table that come or go.
 
 ghost use Rattle.std.specs.Prelude.{◌≡◌, ◌<◌, ◌≤◌, ◌+◌, ◌++◌, [], ◌∷◌, All, false, IfOk, OnErr, OnOk, length, true};
 ghost use Rattle.std.specs.Option.{option_map};
@@ -26,7 +26,8 @@ use std::alloc::{AllocError, Global};
 use values::Row;
 use view_lang::{Change, Outputs, RowChange, View, image_law, project};
 
-/// What a view makes of a joined row, if it keeps one.
+/// What a view makes of a joined row that its filter kept, if it did: the output row of a plain view, or the joined row
+/// that is grouped.
 fn make_of(alloc: Global, view: &View, kept: Option<Row>) -> Result<Option<Row>, AllocError>
     ensures { IfOk result (λ made. option_map (λ r. r.items) made
         ≡ made_by view.now.outputs (option_map (λ r. r.items) kept)) }
@@ -40,7 +41,7 @@ fn make_of(alloc: Global, view: &View, kept: Option<Row>) -> Result<Option<Row>,
     }
 }
 
-/// What a view makes of a row of the main table with what is looked up for it.
+/// What a view makes of a row of the main table: the row is joined, filtered, and projected in a plain view.
 fn make_from(
     alloc: Global,
     stores: &[RowStore],
@@ -55,7 +56,7 @@ fn make_from(
     make_of(alloc, view, kept)
 }
 
-/// What a view makes of the row of the main table of this number.
+/// What a view makes of the row of the main table with this number. The row is opened once.
 pub(crate) fn make_row(
     alloc: Global,
     stores: &mut Vec<RowStore>,
@@ -76,14 +77,14 @@ pub(crate) fn make_row(
     make_from(alloc, stores, view, row)
 }
 
-/// What a view takes from a row of the main table: the row that it makes of it, and what the row refers by.
+/// What is kept of one row of the main table for a view: what the view makes of it, and the cell that is looked up.
 #[derive(Drop)]
 struct Taken {
     made: Option<Row>,
     referring: Option<Row>,
 }
 
-/// Opens a row of the main table once.
+/// Opens a row of the main table once, and takes from it what is kept for a view.
 fn take_row(
     alloc: Global,
     stores: &mut Vec<RowStore>,
@@ -108,7 +109,8 @@ fn take_row(
     Ok(Taken { made, referring })
 }
 
-/// What rows of the main table that come or go change: what a view makes of them, and what they refer by.
+/// The changes that rows of the main table that come or go make in what is kept of a view: in what the view makes of
+/// them, and in the cells that are looked up.
 #[derive(Drop)]
 pub(crate) struct TurnedRows {
     pub made: Change,
@@ -126,7 +128,7 @@ impl TurnedRows {
         }
     }
 
-    /// A row comes, or goes, with what a view takes from it.
+    /// Adds the changes of a row that comes, or goes.
     fn push(&mut self, turn: Turn, number: usize, taken: Taken) -> Result<(), AllocError>
         ensures made { OnOk result (self.new.made ≡ self.old.made
             ++ turned_by turn number (option_map (λ r. r.items) taken.made) ∷ []) }
@@ -150,7 +152,7 @@ fn turn_one(turn: Turn, number: usize, row: Option<Row>) -> RowChange
     }
 }
 
-/// What changes at the number of a row that comes or goes. A row goes that is live.
+/// Adds the changes of the row with this number, which comes or goes. A row that isn't live doesn't go.
 fn turn_row(
     alloc: Global,
     stores: &mut Vec<RowStore>,
@@ -181,7 +183,8 @@ fn turn_row(
     turned_rows.push(turn, number, taken)
 }
 
-/// The changes where rows of these numbers come or go, after those that are there.
+/// Adds the changes of the rows with these numbers, which come or go, after those that are there. Each is opened at
+/// most once.
 pub(crate) fn turn_rows(
     alloc: Global,
     stores: &mut Vec<RowStore>,
@@ -254,7 +257,7 @@ pub(crate) fn follow(
     }
 }
 
-/// What is kept of a view of all live rows of the main table.
+/// Builds what is kept of a view anew, of all live rows of the main table.
 pub(crate) fn rebuild(
     alloc: Global,
     stores: &mut Vec<RowStore>,

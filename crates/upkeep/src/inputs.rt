@@ -1,4 +1,4 @@
-//! What a view keeps of rows of the main table, and what they refer by.
+//! Joins and filters rows of the main table for a view, and takes the cell from each that is looked up.
 
 ghost use Rattle.std.specs.Prelude.{◌≡◌, ◌++◌, IfOk, OnOk};
 ghost use Rattle.std.specs.Option.{option_map};
@@ -16,7 +16,7 @@ use std::alloc::{AllocError, Global};
 use values::{Kind, Row, Value};
 use view_lang::{Lookup, View};
 
-/// The cell of a column, and the null at hand where the row has no such column.
+/// The cell of a column; `absent`, which is a null, where the row has no such column.
 fn cell_or<'a>(row: &'a [Value], column: usize, absent: &'a Value) -> &'a Value
     requires { absent.now ≡ null }
     ensures { result.now ≡ cell_at row.now column }
@@ -45,7 +45,8 @@ fn look_up(
     stores[lookup.side + 1].row_with_key(cell)
 }
 
-/// What a view keeps of a row of the main table: the row with what is looked up for it.
+/// A row of the main table, joined with the side table's row for it; `None` where the view leaves it out or its filter
+/// isn't true.
 pub(crate) fn join_row(
     alloc: Global,
     stores: &[RowStore],
@@ -67,7 +68,8 @@ pub(crate) fn join_row(
     }
 }
 
-/// What a row of the main table refers by: the cell that is looked up, if the view looks up a table.
+/// The cell of a row of the main table that is looked up, as a row of one cell; `None` where the view looks up no
+/// table.
 pub(crate) fn referring_by(
     alloc: Global,
     lookup: Option<Lookup>,

@@ -1,9 +1,10 @@
-//! Tables, views of them, and what is kept of the views.
+//! Tables, and views of them that are kept current by changes: edits of the tables' rows change what is kept of each
+//! view, and the rows of a view are read out of that.
 //!
 //! `specs/Stores.antt` says which tables and rows stores hold, `specs/TableChanges.antt` what edits do to them,
 //! `specs/Inputs.antt` what a view keeps of a row, `specs/ViewStates.antt` what is kept of a view, `specs/Reading.antt`
-//! what is read out of it, `specs/LiveEdits.antt` what edits do to tables and views together, and `specs/ViewParts.antt`
-//! and `specs/TablesParts.antt` of which parts it is all made.
+//! what is read out of it, `specs/LiveEdits.antt` what edits do to tables and views together, and
+//! `specs/ViewParts.antt` and `specs/TablesParts.antt` of which parts all of it is made.
 #![tactic(auto)]
 
 mod all_views;

@@ -52,16 +52,18 @@ fn table_of(role: Role, tables: usize) -> usize
     }
 }
 
-/// The rows of a main table and of side tables, and views of them.
+/// The rows of a main table and of side tables, and views of them that are kept current by the edits.
+///
+/// A view is stale when memory for keeping it current was refused; it is built anew when it is read next.
 ///
 /// Contracts see `LiveParts` of `specs/LiveParts.antt`.
 #[derive(Drop)]
 pub struct LiveTables {
     alloc: Global,
-    // The main table's rows come first.
+    // The store of the main table comes first.
     stores: Vec<RowStore>,
     views: Vec<View>,
-    // Of the views.
+    // What is kept of each view.
     states: Vec<ViewState>,
 }
 
@@ -104,7 +106,7 @@ impl LiveTables {
         })
     }
 
-    /// What they are made of, and nothing else is kept. Where memory is refused, they are gone.
+    /// Takes the tables apart. The parts are all that is kept. If memory is refused, they are lost.
     pub fn into_parts(self) -> Result<LiveTablesParts, AllocError>
         ensures value { IfOk result (λ parts. live_with parts ≡ self) }
         ensures live { IfOk result (λ parts. AreLiveParts parts) }
@@ -123,7 +125,7 @@ impl LiveTables {
         })
     }
 
-    /// Those that are made of these. No row is opened, and those views are stale of which the parts say so.
+    /// Makes the tables that have these parts. No row is opened, and those views are stale that are so in the parts.
     pub fn from_parts(alloc: Global, parts: LiveTablesParts) -> Result<LiveTables, AllocError>
         requires { AreLiveParts parts }
         ensures { IfOk result (λ tables. tables ≡ live_with parts) }
@@ -171,7 +173,7 @@ impl LiveTables {
         count_stale(&self.states)
     }
 
-    /// How often a stored row of the main table was opened; it rests at its greatest number. It takes no memory.
+    /// How often a stored row of the main table was opened. The count stops at its greatest number. It takes no memory.
     pub fn visits(&self) -> u128
         ensures { result ≡ (store_at self.now.stores 0).visits }
     {
@@ -203,7 +205,7 @@ impl LiveTables {
         }
     }
 
-    /// Takes the rows of the main table away whose keys a batch names.
+    /// Retracts the rows of the main table whose keys a batch names.
     fn retract(&mut self, columns: &[Column], rows: usize) -> Result<TableChange, EditFault>
         requires { IsBatch (key_column (table_at (tables_in self.old.stores) 0)) columns.now rows }
         ensures { Edited 0 (change_by Retract columns.now rows) self.old self.new result }
@@ -256,8 +258,9 @@ impl LiveTables {
         }
     }
 
-    /// Makes the edit that a batch is, by the role of its feed. On an error no row has changed. Views follow; where
-    /// memory for that is refused, those are stale that show rows of the table.
+    /// Makes the edit that a batch is, by the role of its feed, and keeps the views current. On an error no row has
+    /// changed: it is the first cause for which the edit doesn't fit, or `Memory`. After `Memory` the views that are
+    /// made of the table's rows may be stale.
     pub fn edit(
         &mut self,
         role: Role,
@@ -276,7 +279,7 @@ impl LiveTables {
         }
     }
 
-    /// Takes the last rows of the main table away.
+    /// Undoes an append of `count` rows to the main table.
     fn take_back(&mut self, count: usize) -> Result<(), AllocError>
         requires { CanTakeBack count (rows_at (rows_in self.old.stores) 0) }
         ensures { WentBack 0 (taken_back count (rows_at (rows_in self.old.stores) 0)) count self.old self.new result }
@@ -316,7 +319,7 @@ impl LiveTables {
         Ok(())
     }
 
-    /// Takes a change of the main table back.
+    /// Takes back a change of the main table.
     fn go_back_main(&mut self, change: &TableChange) -> Result<(), AllocError>
         requires kind { IsChangeOf 0 change.now }
         requires can { CanGoBack (table_at (tables_in self.old.stores) 0) change.now
@@ -332,7 +335,8 @@ impl LiveTables {
         }
     }
 
-    /// Takes a change of a side table back. The views that look it up follow before its rows are forgotten.
+    /// Takes back a change of a side table. The views that look it up are brought up to that before its rows are
+    /// removed.
     fn go_back_side(&mut self, table: usize, change: &TableChange) -> Result<(), AllocError>
         requires side { 0 < table }
         requires there { table < length self.old.stores }
@@ -364,7 +368,8 @@ impl LiveTables {
         }
     }
 
-    /// Takes a change of the rows of a table back. On an error no row has changed. Views follow as they do an edit.
+    /// Takes back a change of a table's rows, and keeps the views current as `edit` does. On an error no row has
+    /// changed.
     pub fn go_back(&mut self, table: usize, change: &TableChange) -> Result<(), AllocError>
         requires there { table < length self.old.stores }
         requires kind { IsChangeOf table change.now }
@@ -399,7 +404,7 @@ impl LiveTables {
         Ok(())
     }
 
-    /// The rows that a view shows. A stale view is built anew; others are read out of what is kept of them.
+    /// The rows that the view at this place shows, read out of what is kept of it. A stale view is built anew first.
     pub fn view_rows(&mut self, place: usize) -> Result<Vec<Row>, AllocError>
         requires { place < length self.old.views }
         ensures rows { IfOk result (λ rows. rows_of rows.items ≡ view_rows (view_at self.old.views place)

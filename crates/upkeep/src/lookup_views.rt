@@ -1,4 +1,4 @@
-//! Views that look up a table whose rows change.
+//! Brings what is kept of views up to changes of a side table that they look up.
 
 ghost use Rattle.std.specs.Prelude.{◌≡◌, ◌<◌, ◌≤◌, ◌+◌, ◌*◌, ◌++◌, All, count_by, length, map, true, IfOk, OnErr, OnOk};
 ghost use Rattle.values.specs.Keys.{datum_of_key};
@@ -50,8 +50,8 @@ fn mark_lookups_stale(views: &[View], states: &mut Vec<ViewState>, table: usize)
     }
 }
 
-/// What changes in what a view makes of the rows of the main table that refer to keys whose rows change: the rows that
-/// it makes of them without the change go, and those with it come, or the other way round.
+/// The changes in what a view makes of the rows of the main table with these numbers, which refer to rows that a change
+/// of a side table names: what it made of them before goes, and what it makes of them now comes.
 fn remake_rows(
     alloc: Global,
     stores: &mut Vec<RowStore>,
@@ -85,9 +85,9 @@ fn remake_rows(
     Ok(remade)
 }
 
-/// Brings what is kept of a view up to a change of a table that it looks up, of which these are the keys; only rows of
-/// the main table are opened that refer to one of them. A stale view is left as it is. After an error the state is as it
-/// was, or stale.
+/// Brings what is kept of a view up to a change of a side table that it looks up. Only rows of the main table are
+/// opened that refer to one of `keys`, those that the change names. A stale view is left as it is. After an error the
+/// state is as it was, or stale.
 fn follow_lookup(
     alloc: Global,
     stores: &mut Vec<RowStore>,
@@ -133,7 +133,7 @@ fn follow_lookup(
     state.apply(&remade.made)
 }
 
-/// Brings what is kept of the views up to a change of a table of which these are the keys. After an error all views that
+/// Brings what is kept of the views up to a change of a side table that names `keys`. After an error all views that
 /// look the table up are stale.
 fn follow_lookups_of(
     alloc: Global,
@@ -190,8 +190,8 @@ fn follow_lookups_of(
     Ok(())
 }
 
-/// Brings what is kept of the views up to a change of a table, which is there or is taken back, as `turn` says; stale
-/// views are left as they are. After an error all views that look the table up are stale.
+/// Brings what is kept of the views up to a change of a side table that was made or was taken back, as `turn` says.
+/// Stale views are left as they are. After an error all views that look the table up are stale.
 pub(crate) fn follow_lookups(
     alloc: Global,
     stores: &mut Vec<RowStore>,

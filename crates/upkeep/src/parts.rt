@@ -1,4 +1,4 @@
-//! Tables and what is kept of views, taken apart.
+//! The parts of `LiveTables`.
 
 use group_state::GroupsParts;
 use lookups::ReferrersParts;
@@ -6,16 +6,16 @@ use row_keys::RowStore;
 use top_rows::OrderedParts;
 use view_lang::View;
 
-/// What is kept of a view, or that it is stale. No row of a table is in it: rows are named by number.
+/// What is kept of a view, and whether it is stale. It holds no row of a table: rows are named by number.
 #[derive(Debug, Drop)]
 pub struct ViewParts {
     pub stale: bool,
     pub kept: KeptParts,
-    /// The numbers of the rows of the main table by what they look up; none where the view looks up no table.
+    /// The numbers of the rows of the main table by the key that they look up; none where the view looks up no table.
     pub referrers: ReferrersParts,
 }
 
-/// What is kept of the rows that a view is made of.
+/// What is kept of the rows that a view is made of: their order, or their groups.
 #[derive(Debug, Drop)]
 pub enum KeptParts {
     /// The places of the rows of a plain view in its order.
@@ -28,6 +28,6 @@ pub enum KeptParts {
 pub struct LiveTablesParts {
     pub stores: Vec<RowStore>,
     pub views: Vec<View>,
-    /// Of the views.
+    /// What is kept of each view.
     pub states: Vec<ViewParts>,
 }

@@ -1,4 +1,4 @@
-//! The rows that a view shows, out of what is kept of it.
+//! Reads the rows that a view shows out of what is kept of it.
 
 ghost use Rattle.std.specs.Prelude.{◌≡◌, ◌<◌, ◌≤◌, ◌+◌, All, false, IfOk, length, List};
 ghost use Rattle.view_lang.specs.Cells.{rows_of};
@@ -35,7 +35,7 @@ use values::Row;
 use values::limits::MAX_MAIN_ROWS;
 use view_lang::{Outputs, View, image_law, one_by_one_law, rows_law};
 
-/// It does nothing: its contract says what can be read out of what is kept of a view.
+/// What can be read out of what is kept of a view. It does nothing: its contract is the theorem.
 fn reading_law()
     ensures groups { GroupsAreOfInput }
     ensures first { FirstsAreShown }

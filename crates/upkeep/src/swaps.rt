@@ -1,4 +1,4 @@
-//! Changes of side tables that are taken back for a while, and come again.
+//! Takes changes of side tables back for a while, and makes them again.
 
 ghost use Rattle.std.specs.Prelude.{◌≡◌, ◌<◌, All, IfOk, length, map};
 ghost use Rattle.values.specs.Keys.{datum_of_key};
@@ -36,7 +36,7 @@ impl Turn {
     }
 }
 
-/// Takes a change back. The rows keep their numbers, so that it can come again.
+/// Takes a change back, so that it can be made again: its rows keep their numbers.
 fn hide(store: &mut RowStore, change: &TableChange)
     requires side { IsChangeOf 1 change.now }
     requires can { CanGoBack store.old.table change.now store.old.slots }
@@ -53,7 +53,7 @@ fn hide(store: &mut RowStore, change: &TableChange)
     }
 }
 
-/// Lets a change come again.
+/// Makes a change again that was taken back.
 fn show(store: &mut RowStore, change: &TableChange)
     requires side { IsChangeOf 1 change.now }
     requires can { CanShow store.old.table change.now store.old.slots }
@@ -66,7 +66,7 @@ fn show(store: &mut RowStore, change: &TableChange)
     }
 }
 
-/// Takes a change of a side table back that is there, or lets it come again. It takes no memory.
+/// Takes back a change of a side table, or makes it again, as `turn` says. It takes no memory.
 pub(crate) fn swap(store: &mut RowStore, change: &TableChange, turn: Turn)
     requires { CanSwap turn store.old.table change.now store.old.slots }
     ensures slots { store.new ≡ with_slots store.old (swapped turn change.now store.old.slots) }
@@ -79,7 +79,7 @@ pub(crate) fn swap(store: &mut RowStore, change: &TableChange, turn: Turn)
     }
 }
 
-/// Forgets the rows of a change that was taken back: their numbers are free again.
+/// Removes the rows of a change that was taken back, and frees their numbers.
 pub(crate) fn forget(store: &mut RowStore, change: &TableChange)
     requires { CanSwap turn_is.Go store.old.table change.now store.old.slots }
     ensures { store.new ≡ with_slots store.old (forgotten change.now store.old.slots) }

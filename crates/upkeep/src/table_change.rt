@@ -1,12 +1,12 @@
-//! How edits change the rows of their tables.
+//! Changes of the rows of a table.
 
-/// How an accepted edit changed the rows of its table.
+/// How an accepted edit changed the rows of its table. It is all that taking the edit back needs.
 #[derive(Drop)]
 pub enum TableChange {
-    /// So many rows were appended.
+    /// This many rows were appended.
     Appended(usize),
     /// The rows of these numbers were retracted.
     Retracted(Vec<usize>),
-    /// So many rows were put, and took the places of those of these numbers.
+    /// `rows` rows were put, and replaced those with the numbers `replaced`.
     Put { rows: usize, replaced: Vec<usize> },
 }

@@ -1,4 +1,4 @@
-//! What is kept of views, taken apart and made again.
+//! Takes what is kept of views apart, and makes it again of its parts.
 
 ghost use Rattle.std.specs.Prelude.{◌≡◌, All, IfOk, map};
 ghost use Rattle.upkeep.specs.ViewParts.{IsKeptParts, IsState, kept_with, state_with};
@@ -11,7 +11,7 @@ use std::alloc::{AllocError, Global};
 use top_rows::Ordered;
 
 impl Kept {
-    /// What it is made of. Where memory is refused, it is gone.
+    /// Takes it apart. If memory is refused, it is lost.
     fn into_parts(self) -> Result<KeptParts, AllocError>
         ensures value { IfOk result (λ parts. kept_with parts ≡ self) }
         ensures kept { IfOk result (λ parts. IsKeptParts parts) }
@@ -22,7 +22,7 @@ impl Kept {
         }
     }
 
-    /// What is made of these.
+    /// Makes what has these parts.
     fn from_parts(alloc: Global, parts: KeptParts) -> Result<Kept, AllocError>
         requires { IsKeptParts parts }
         ensures { IfOk result (λ kept. kept ≡ kept_with parts) }
@@ -35,7 +35,7 @@ impl Kept {
 }
 
 impl ViewState {
-    /// What it is made of. Where memory is refused, it is gone.
+    /// Takes the state apart. If memory is refused, it is lost.
     pub(crate) fn into_parts(self) -> Result<ViewParts, AllocError>
         ensures value { IfOk result (λ parts. state_with parts ≡ self) }
         ensures kept { IfOk result (λ parts. IsState parts) }
@@ -54,7 +54,7 @@ impl ViewState {
         })
     }
 
-    /// The one that is made of these.
+    /// Makes the state that has these parts.
     pub(crate) fn from_parts(alloc: Global, parts: ViewParts) -> Result<ViewState, AllocError>
         requires { IsState parts }
         ensures { IfOk result (λ state. state ≡ state_with parts) }
@@ -74,7 +74,7 @@ impl ViewState {
     }
 }
 
-/// What states are made of, each by itself.
+/// Takes states apart, one by one.
 pub(crate) fn take_states(
     alloc: Global,
     states: Vec<ViewState>,
@@ -89,7 +89,7 @@ pub(crate) fn take_states(
     Ok(taken)
 }
 
-/// The states that are made of these.
+/// Makes the states that have these parts.
 pub(crate) fn make_states(
     alloc: Global,
     parts: Vec<ViewParts>,

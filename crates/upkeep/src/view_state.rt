@@ -1,4 +1,4 @@
-//! What is kept of a view.
+//! States of views: what is kept of each.
 
 ghost use Rattle.std.specs.Prelude.{◌≡◌, [], false, IfOk, List, OnErr, OnOk, true};
 ghost use Rattle.view_lang.specs.Outputs as seen;
@@ -13,7 +13,7 @@ use std::alloc::{AllocError, Global};
 use top_rows::Ordered;
 use view_lang::{Change, Outputs, Upkeep, View};
 
-/// What is kept of the rows that a view is made of.
+/// What is kept of the rows that a view is made of: their order, or their groups.
 #[derive(Debug, Drop)]
 pub(crate) enum Kept {
     /// The places of the rows of a plain view in its order.
@@ -21,23 +21,24 @@ pub(crate) enum Kept {
     Groups(Groups),
 }
 
-/// Whether rows of the main table come or go.
+/// Whether rows come or go.
 #[derive(Clone, Copy, Debug, PartialEq, Eq)]
 pub(crate) enum Turn {
     Come,
     Go,
 }
 
-/// What is kept of a view, or that it is stale: what is kept may then be that of no rows, until the view is built anew.
+/// The state of a view: what is kept of it, and whether it is stale. What is kept of a stale view has no meaning; it is
+/// built anew before the view is read.
 #[derive(Debug, Drop)]
 pub(crate) struct ViewState {
     pub stale: bool,
     pub kept: Kept,
-    /// The numbers of the rows of the main table by what they look up; none where the view looks up no table.
+    /// The numbers of the rows of the main table by the key that they look up; none where the view looks up no table.
     pub referrers: Referrers,
 }
 
-/// What is kept of no rows.
+/// What is kept of a view of no rows.
 fn kept_of_none(alloc: Global, view: &View) -> Result<Kept, AllocError>
     ensures { IfOk result (λ kept. IsKept view.now.outputs view.now.order kept []) }
 {
@@ -47,7 +48,7 @@ fn kept_of_none(alloc: Global, view: &View) -> Result<Kept, AllocError>
     }
 }
 
-/// Brings what is kept to the rows after a change. After an error it may be that of no rows.
+/// Brings what is kept to the rows after a change. After an error it has no meaning.
 fn apply_to(kept: &mut Kept, change: &Change) -> Result<(), AllocError>
     requires { (outputs : seen.Outputs) × (order : List OrderBy) × (rows : NumberedRows)
         × (IsKept outputs order kept.old rows × (Fits rows change.now × IsFew rows change.now)) }
@@ -62,7 +63,7 @@ fn apply_to(kept: &mut Kept, change: &Change) -> Result<(), AllocError>
 }
 
 impl ViewState {
-    /// What is kept of a view of no rows.
+    /// The state of a view of no rows.
     pub(crate) fn new(alloc: Global, view: &View) -> Result<ViewState, AllocError>
         ensures fresh { IfOk result (λ s. s.stale ≡ false) }
         ensures kept { IfOk result (λ s. IsKept view.now.outputs view.now.order s.kept []) }
@@ -75,7 +76,7 @@ impl ViewState {
         })
     }
 
-    /// Brings what is kept of a view's rows to those after a change; a stale one stays as it is. After an error it is
+    /// Brings what is kept to the view's rows after a change; a stale state stays as it is. After an error the state is
     /// stale.
     pub(crate) fn apply(&mut self, change: &Change) -> Result<(), AllocError>
         requires { self.old.stale ≡ false → (outputs : seen.Outputs) × (order : List OrderBy) × (rows : NumberedRows)
@@ -98,7 +99,7 @@ impl ViewState {
         applied
     }
 
-    /// Brings the referrers to the rows after a change of what they refer by. After an error the state is stale.
+    /// Brings the referrers to the cells that are looked up after a change. After an error the state is stale.
     pub(crate) fn refer(&mut self, change: &Change) -> Result<(), AllocError>
         ensures referrers { OnOk result ((rows : NumberedRows) → Fits rows change.now
             → KeepsReferrers self.old.referrers rows → KeepsReferrers self.new.referrers (patched rows change.now)) }

@@ -1,4 +1,4 @@
-//! The types of the rows of views.
+//! That the rows of views are of their columns' types.
 
 ghost use Rattle.std.specs.Prelude.{◌<◌, All, length};
 ghost use Rattle.view_lang.specs.ConfigRules.{IsView};
@@ -11,7 +11,7 @@ ghost use Rattle.upkeep.specs.Stores.{rows_at, rows_in, tables_in};
 use row_keys::RowStore;
 use view_lang::View;
 
-/// The rows of a view are of the types that are declared for them: a function that does nothing.
+/// The rows of a view are of the types of its columns. It does nothing: its contract is the theorem.
 pub(crate) fn viewed_law(stores: &[RowStore], view: &View)
     requires view { IsView (tables_in stores.now) view.now }
     requires right { All IsTable (tables_in stores.now) }

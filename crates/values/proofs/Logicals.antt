@@ -1,4 +1,4 @@
--- The logical fields of any.
+-- The logical fields that any fields are turned into.
 use Rattle.std.proofs.Common.{◌≡◌, ℕ, true, String, List, [], ◌∷◌, ◌++◌, map, refl, ap, sym, ◌∙◌}
 use Rattle.std.specs.Prelude.{string_bytes}
 use Rattle.std.specs.declared.alloc.Global.{Global}

@@ -4,6 +4,7 @@ use Rattle.std.specs.Prelude.{ℕ, List, codes}
 use Rattle.values.specs.declared.causes.Cause.{Cause}
 use Rattle.values.specs.declared.causes.Cause.TheVariants as cause
 
+-- the number and the name, in one table
 abbrev pub printed : Cause → ℕ × List ℕ
 printed cause.NoContinuation = (1, codes "NoContinuation")
 printed cause.BadSize = (2, codes "BadSize")

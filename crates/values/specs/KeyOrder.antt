@@ -1,4 +1,4 @@
--- Keys are told apart and ordered as the values that they are.
+-- Keys are equal, and are ordered, as the values that they are.
 use Rattle.std.specs.Prelude.{◌≡◌}
 use Rattle.std.specs.Bool.{Decides}
 use Rattle.values.specs.Order.{datum_cmp}

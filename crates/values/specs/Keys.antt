@@ -4,6 +4,7 @@ use Rattle.values.specs.Datum.{Datum, null, truth, whole, text, bytes, list, str
 use Rattle.values.specs.declared.key.Key.{Key}
 use Rattle.values.specs.declared.key.Key.TheVariants as key
 
+-- the key of a value; lists and structs have none
 abbrev pub key_of : Datum → Option Key
 key_of null = Some key.Null
 key_of (truth b) = Some (key.Bool b)

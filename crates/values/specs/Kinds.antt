@@ -1,4 +1,4 @@
--- The datum that a value of the program holds.
+-- The `Datum` as which contracts see a `Value` of this kind.
 use Rattle.std.specs.Prelude.{string_bytes}
 use Rattle.values.specs.Datum.{Datum, null, truth, whole, text, bytes, list, structure, items_of}
 use Rattle.values.specs.declared.cells.Kind.{Kind}

@@ -26,7 +26,7 @@ max_precision = 38
 abbrev pub max_fixed_width : ℕ
 max_fixed_width = 65536
 
--- what the slot of a field's type weighs
+-- the weight of a null of a field's type, and how many values a dictionary may have
 abbrev pub max_slot : ℕ
 max_slot = 2 ^ 20
 

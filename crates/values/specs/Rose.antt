@@ -1,4 +1,4 @@
--- A tree with any number of children at each node, as stored fields and arrays are.
+-- A tree with any number of children at each node, as fields, layouts and arrays are.
 use Rattle.std.specs.Prelude.{◌≡◌, ℕ, suc, max, ◌+◌, ◌≤◌, Option, None, Some, List, [], ◌∷◌, refl}
 use Rattle.std.proofs.Common.{ap, arith, ◌∙◌}
 use Rattle.std.specs.Coded.{Coded, code_by, coded×, coded_list, coded_option}

@@ -1,4 +1,4 @@
--- The size of a value bounds what it holds.
+-- The size of a value bounds its depth, by which copying it ends.
 use Rattle.std.specs.Prelude.{◌≤◌}
 use Rattle.std.proofs.Common.{arith}
 use Rattle.values.specs.Datum.{datum_size, most_le-items_size}

@@ -1,15 +1,15 @@
--- How weights are told, and what they are counted from.
+-- Weights in 64 bits, and what they are counted from.
 use Rattle.std.specs.Prelude.{ℕ, ◌+◌, ◌-◌, ◌^◌, nat_lt, if◌then◌else◌, List, [], ◌∷◌}
 use Rattle.values.specs.Rose.{Rose}
 use Rattle.values.specs.Datum.{Datum, text, bytes, list, Items, no_items}
 use Rattle.values.specs.declared.layout.Layout.{Layout}
 use Rattle.values.specs.Layouts.{weight}
 
--- a weight in 64 bits: the greatest number where it is more
+-- a weight in 64 bits: 2^64 - 1 where it is more
 unfoldable pub saturated : ℕ → ℕ
 saturated n = if nat_lt n (2 ^ 64) then n else 2 ^ 64 - 1
 
--- of values of one layout
+-- the weights of values of one layout, summed
 abbrev pub weights : Rose Layout → List Datum → ℕ
 weights t [] = 0
 weights t (c ∷ cs) = weight t c + weights t cs

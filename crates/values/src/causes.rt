@@ -6,10 +6,10 @@ ghost use Rattle.values.specs.Causes.{name_of, number_of};
 use std::alloc::{AllocError, AllocFailed};
 use std::fmt;
 
-/// Why something is refused, and its number. A refusal is printed as `refused NUMBER NAME`.
+/// Why a call is refused. A refusal is printed as `refused NUMBER NAME`.
 #[derive(Clone, Copy, Debug, PartialEq, Eq)]
 pub enum Cause {
-    // 1 to 30 break a stream; `StreamFault` says each.
+    // 1 to 30 are faults of a stream; `StreamFault` describes each.
     NoContinuation = 1,
     BadSize = 2,
     BadTable = 3,
@@ -41,19 +41,19 @@ pub enum Cause {
     AfterEnd = 29,
     Truncated = 30,
 
-    // An edit.
+    // 41 to 45: an edit doesn't fit its table, or a table is above its limits.
     /// A key is null.
     NullKey = 41,
     /// A key stands twice in a batch, or an appended key is live.
     DuplicateKey = 42,
-    /// A key isn't there.
+    /// A retract or a drop names a key that no live row has.
     UnknownKey = 43,
     /// A table would have more rows than its limit.
     TooManyRows = 44,
     /// A cell or a row is above its weight limit.
     CellTooHeavy = 45,
 
-    // A call.
+    // 51 to 56: a call can't be done.
     /// There is no edit to undo.
     NothingToUndo = 51,
     /// The feed was broken by an earlier fault.
@@ -64,23 +64,23 @@ pub enum Cause {
     UnknownView = 54,
     /// Memory ran out.
     Memory = 55,
-    /// The output failed.
+    /// The sink failed.
     Device = 56,
 
-    // A configuration.
+    // 61 to 69: a configuration isn't accepted.
     /// The configuration isn't TOML.
     NotToml = 61,
-    /// A name isn't there.
+    /// A column, a side table or an output of this name isn't declared.
     UnknownName = 62,
-    /// A name stands twice.
+    /// A name or a grouping column stands twice.
     DuplicateColumn = 63,
-    /// A type's text means no type.
+    /// What is written for a type is none.
     TypeText = 64,
-    /// A constant, or a compared column, doesn't fit its column.
+    /// A constant isn't of its column's type, or two columns that are compared have different types.
     ConstantType = 65,
-    /// A sum over a type that has none.
+    /// A sum of values that can't be added.
     SumType = 66,
-    /// A key or an order over a type that has no order.
+    /// A list or a struct as a key, in a comparison, in a group, in an order, or under `least` or `greatest`.
     OrderType = 67,
     /// A limit of the configuration is passed.
     OverLimit = 68,

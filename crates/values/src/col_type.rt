@@ -11,25 +11,25 @@ use std::alloc::{AllocError, Global};
 /// The type of a column, or of a part of one: Schema.fbs, union `Type`. Types that the union has and this enum hasn't
 /// are not taken.
 ///
-/// It says also how wide offsets are stored. A logical type has offsets of 32 bits, whatever its values are stored
-/// with.
+/// It has the width of stored offsets too: Utf8 and LargeUtf8 are one variant. A logical type has offsets of 32 bits,
+/// whatever its values are stored with.
 #[derive(Debug, Drop, PartialEq, Eq)]
 pub enum ColType {
     Bool,
     Int { width: IntWidth, signed: bool },
-    /// Of 128 bits: so many decimal digits, so many of them after the point.
+    /// Of 128 bits: at most `precision` decimal digits, `scale` of them after the point.
     Decimal { precision: u8, scale: u8 },
     /// Days of 32 bits, or milliseconds of 64, since the beginning of 1970.
     Date { unit: DateUnit },
-    /// Since midnight: seconds and milliseconds of 32 bits, microseconds and nanoseconds of 64.
+    /// Time since midnight: seconds and milliseconds of 32 bits, microseconds and nanoseconds of 64.
     Time { unit: TimeUnit },
-    /// Of 64 bits, since the beginning of 1970.
+    /// Time since the beginning of 1970, of 64 bits.
     Timestamp { unit: TimeUnit, zone: Zone },
     /// Of 64 bits.
     Duration { unit: TimeUnit },
     Utf8 { offsets: OffsetWidth },
     Binary { offsets: OffsetWidth },
-    /// So many bytes a value.
+    /// `width` bytes a value.
     FixedSizeBinary { width: u32 },
     /// With one child.
     List { offsets: OffsetWidth },

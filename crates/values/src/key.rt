@@ -7,7 +7,7 @@ use crate::cells::{Kind, Value};
 use crate::key_parts::{KeyBytes, KeyText};
 use std::alloc::{AllocError, Global};
 
-/// A value by which rows are told apart, grouped and ordered. Lists and structs are none.
+/// A value by which rows are identified, grouped and ordered. Lists and structs are no keys.
 ///
 /// Keys of one column are of one kind or null. Their order is that of `cmp_values`, so nulls come last.
 #[derive(Debug, Drop, PartialEq, Eq, PartialOrd, Ord, Hash)]
@@ -25,7 +25,7 @@ pub enum Key {
 }
 
 impl Key {
-    /// The key that a value is; none where it is a list or a struct.
+    /// The key of a value; `None` where that is a list or a struct.
     pub fn of(alloc: Global, value: &Value) -> Result<Option<Key>, AllocError>
         ensures { IfOk result (λ key. key ≡ key_of value.now) }
     {

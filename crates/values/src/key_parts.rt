@@ -31,7 +31,7 @@ impl KeyText {
         })
     }
 
-    /// An equal one with memory of its own.
+    /// An equal text with memory of its own.
     pub(crate) fn copy(&self, alloc: Global) -> Result<KeyText, AllocError>
         ensures { IfOk result (λ key. key ≡ self.now) }
     {
@@ -110,7 +110,7 @@ impl Hash for KeyText {
     }
 }
 
-/// The bytes of a key that is no text. Contracts see them.
+/// The bytes of a key of type Binary or FixedSizeBinary. Contracts see them.
 #[derive(Debug, Drop)]
 pub struct KeyBytes {
     bytes: Vec<u8>,
@@ -134,7 +134,7 @@ impl KeyBytes {
         })
     }
 
-    /// An equal one with memory of its own.
+    /// Equal bytes with memory of their own.
     pub(crate) fn copy(&self, alloc: Global) -> Result<KeyBytes, AllocError>
         ensures { IfOk result (λ key. key ≡ self.now) }
     {

@@ -35,7 +35,7 @@ pub fn key_law()
     ensures ordered { KeysStandInOrder }
 {}
 
-/// Types of columns are equal exactly where they are the same.
+/// `==` on types of columns, and on what they are made of, answers true exactly where both are the same.
 #[tactic(auto, using(crate::proofs::Equality::type_equality))]
 pub fn equality_law()
     ensures { TypesAreExact }

@@ -3,9 +3,9 @@
 //!
 //! The contracts are equations on definitions of `specs/`: `ColTypes` (the types, and how each lies in memory),
 //! `TypeText` (how a type is printed), `Logical` (a schema as contracts see it), `Datum` (a value as contracts see it),
-//! `Order`, `Layouts` (what a layout holds, and what it weighs), `Causes`, `Limits`. `Reading` has the words for what
-//! bytes mean where some of them may be at fault, and `Rose` the tree that stored fields and arrays are seen as; the
-//! crates above cite both.
+//! `Order`, `Layouts` (what a layout holds, and what it weighs), `Causes`, `Limits`. `Reading` defines what it is that
+//! bytes mean a value or are at fault, and `Rose` the tree with any number of children as which contracts
+//! see fields, layouts and arrays; the crates above use both.
 #![tactic(auto)]
 
 mod causes;

@@ -15,13 +15,13 @@ pub const MAX_DEPTH: u8 = 16;
 /// The longest name of a field, and the longest time zone, in bytes.
 pub const MAX_NAME_LEN: usize = 4096;
 
-/// The most digits of a decimal, those of 128 bits.
+/// The most digits of a decimal: those that 128 bits hold.
 pub const MAX_PRECISION: u8 = 38;
 
 /// The widest value of `FixedSizeBinary`, in bytes.
 pub const MAX_FIXED_WIDTH: u32 = 65_536;
 
-/// The greatest slot of a field's type.
+/// The greatest weight of a null of a field's type.
 pub const MAX_SLOT: u64 = 1 << 20;
 
 /// The most values that a dictionary may hold.
@@ -30,7 +30,7 @@ pub const MAX_DICTIONARY_VALUES: usize = 1 << 20;
 /// The most rows of a record batch that is read.
 pub const MAX_BATCH_LENGTH: usize = 1 << 24;
 
-/// The greatest length of an array below a column.
+/// The greatest length of an array below a column, in slots.
 pub const MAX_NODE_LENGTH: usize = (1 << 31) - 1;
 
 /// The most live rows of the main table, and of what is recast.
@@ -66,5 +66,5 @@ pub const MAX_BATCH_ROWS: usize = 1024;
 /// The greatest summed weight of the rows of a record batch that is written.
 pub const MAX_BATCH_WEIGHT: u64 = 1 << 27;
 
-/// The most edits that can be undone.
+/// The most accepted edits that can be undone.
 pub const MAX_UNDO_DEPTH: usize = 64;

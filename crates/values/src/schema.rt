@@ -63,7 +63,7 @@ impl Schema {
     }
 }
 
-/// A field below one of type `parent` as a logical one, and those below it.
+/// A field below one of type `parent`, with those below it, as a logical field.
 #[cycle(logical)]
 #[tactic(auto, using(crate::proofs::Logicals::logicals))]
 fn logical_in(
@@ -91,7 +91,7 @@ fn logical_in(
     })
 }
 
-/// The fields below one of type `parent` as logical ones.
+/// The fields below one of type `parent` as logical fields.
 #[cycle(logical)]
 #[tactic(auto, using(crate::proofs::Logicals::logicals))]
 fn logical_below(
@@ -109,7 +109,7 @@ fn logical_below(
     Ok(logical)
 }
 
-/// The type with offsets of 32 bits.
+/// The same type with offsets of 32 bits.
 fn narrow(col_type: ColType) -> ColType
     ensures { result ≡ narrow col_type }
 {

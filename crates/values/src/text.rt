@@ -35,7 +35,7 @@ impl fmt::Display for TimeUnit {
     }
 }
 
-/// What stands before the name of a type, where its offsets have 64 bits.
+/// The text before a type's name: `large_` where its offsets have 64 bits, else nothing.
 fn size(offsets: OffsetWidth) -> &'static str
     ensures { result.now ≡ size_text offsets }
 {

@@ -44,7 +44,7 @@ impl TimeUnit {
         }
     }
 
-    /// The same in bits.
+    /// How wide a time of this unit is, in bits.
     pub fn bits(self) -> u32
         ensures value { result ≡ bits_of_time self }
         ensures few { result ≤ 64 }

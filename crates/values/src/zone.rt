@@ -25,13 +25,14 @@ impl Zone {
         Ok(Zone(String::from_str(alloc, name)?))
     }
 
+    /// The zone's name; empty where there is none.
     pub fn as_str(&self) -> &str
         ensures { result.now ≡ self.now }
     {
         &self.0
     }
 
-    /// An equal one with memory of its own.
+    /// An equal zone with memory of its own.
     pub fn copy(&self, alloc: Global) -> Result<Zone, AllocError>
         ensures { IfOk result (λ zone. zone ≡ self.now) }
     {

@@ -3,7 +3,7 @@ use Rattle.std.proofs.Common.{◌≡◌, ℕ, ◌+◌, ◌<◌, ◌≤◌, List,
 use Rattle.values.specs.Rose.{Rose, kids_of, rose_size, roses_size}
 use Rattle.values.proofs.Roses.{kids_step, kids_end, kid_smaller}
 
--- what the next field and those behind it have
+-- what the next field and those after it have
 pub fields_step :
     {A : Type 0} (fs : List (Rose A)) (k : ℕ) (e d : Rose A) → e ≡ get_or fs k d → k < length fs
     → roses_size (kids_of (drop k fs)) ≡ rose_size e + roses_size (kids_of (drop (k + 1) fs))

@@ -9,7 +9,7 @@ use Rattle.view_config.specs.Reading.{Fails}
 use Rattle.view_config.specs.declared.faults.ConfigFault.{ConfigFault}
 use Rattle.view_config.proofs.Causes.{fails_along}
 
--- bytes that were read, and those behind them
+-- bytes that were read, and those after them
 abbrev pub behind : List ℕ → Option (List ℕ) → Option (List ℕ)
 behind xs o = option_map (λ ys. xs ++ ys) o
 

@@ -1,4 +1,4 @@
--- What was read, where a reading is good.
+-- What a reading without a fault was made of.
 use Rattle.std.proofs.Common.{◌≡◌, ◌⊎◌, inl, inr, List, [], refl, subst, Ok, Err, Some, Option, Bool, true, false}
 use Rattle.std.specs.Prelude.{All, if◌then◌else◌}
 use Rattle.std.proofs.lemmas.List.Elements.{All-nil, All-cons}

@@ -27,7 +27,7 @@ use Rattle.view_config.proofs.Readings.{bound, test_Ok}
 use Rattle.view_config.proofs.SoundTypes.{IsPlain, pair-textual, plain-sound, simple-sound}
 use Rattle.view_config.proofs.Texts.{AreTextual, IsTextual}
 
--- a field of this name, with at most so many levels
+-- a field of this name, nested to at most this many levels
 record IsField (n : ℕ) (name : List ℕ) (f : Rose NamedType) : Type 0 where
   shallow : rose_depth f ≤ n
   within : IsWithin f

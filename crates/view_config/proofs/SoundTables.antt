@@ -159,7 +159,7 @@ key-sound cs name k e =
     let number : p.0 ≡ k = ap (λ (f : ℕ × Rose NamedType). f.0) order.0 ∙ named.2 in
     (p.1, subst (λ (i : ℕ). slice_get cs i ≡ Some p.1) number found, order-single (type_of p.1) order.1))
 
--- a table of at most so many rows
+-- a table of at most this many rows
 pub table-sound :
     (rows : ℕ) (ms : Members) (t : Table) → rows ≤ max_main_rows → HasTextual ms → table_of rows ms ≡ Ok t
     → IsTable t × (t.max_rows ≡ rows)

@@ -140,7 +140,7 @@ type_by below name (string w) = mapped (leaf name) (must fault.TypeText (plain_t
 type_by below name (array ds) = must fault.TypeText (headed ds) >>= λ p. array_of below name p.0 p.1
 type_by below name d = Err (one fault.TypeText)
 
--- A field of this name and this type, with at most so many levels of fields. What lies deeper isn't read.
+-- A field of this name and this type, nested to at most this many levels. What lies deeper isn't read.
 unfoldable pub field_of : ℕ → List ℕ → Data → Reading (Rose NamedType)
 field_of zero name d = Err (one fault.OverLimit)
 field_of (suc depth) name d = type_by (field_of depth) name d

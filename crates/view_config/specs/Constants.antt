@@ -23,7 +23,7 @@ abbrev pub truth_in : Data → Option Datum
 truth_in (boolean b) = Some (truth b)
 truth_in d = None
 
--- Whole numbers of so many bytes, with a sign or without: the least and the greatest.
+-- Whole numbers of a width, with a sign or without: the least and the greatest.
 abbrev pub least_of : IntWidth → Bool → ℤ
 least_of w true = neg_ℤ (pos (2 ^ (8 * bytes_in w - 1)))
 least_of w false = pos 0
@@ -37,8 +37,8 @@ whole_in w signed (integer z) =
     if int_le (least_of w signed) z && int_le z (greatest_of w signed) then Some (whole z) else None
 whole_in w signed d = None
 
--- Decimals: a minus sign or none, a digit or more, and where the type has digits after the point, the point and exactly
--- so many digits.
+-- Decimals: a minus sign or none, a digit or more, and where the type has a scale above 0, a point and exactly as
+-- many digits as the scale.
 
 abbrev pub is_digit : ℕ → Bool
 is_digit c = nat_le 48 c && nat_le c 57
@@ -48,7 +48,7 @@ abbrev pub digits_after : ℕ → List ℕ → Option ℕ
 digits_after m [] = Some m
 digits_after m (c ∷ cs) = if is_digit c then digits_after (10 * m + (c - 48)) cs else None
 
--- that of a digit or more
+-- the number of one or more digits
 abbrev pub some_digits : List ℕ → Option ℕ
 some_digits [] = None
 some_digits (c ∷ cs) = digits_after 0 (c ∷ cs)
@@ -57,18 +57,18 @@ some_digits (c ∷ cs) = digits_after 0 (c ∷ cs)
 abbrev pub held : Option ℕ → Option ℕ
 held o = option_map (λ n. min n (2 ^ 128 - 1)) o
 
--- those on both sides of a point that stands at this place
+-- the number of the digits on both sides of a point at this place
 unfoldable pub pointed : ℕ → List ℕ → Option ℕ
 pointed point cs =
     if get_or cs point 0 == 46 then and_then (some_digits (take point cs)) (λ m. digits_after m (drop (point + 1) cs))
     else None
 
--- without a sign, so many digits after the point
+-- the unscaled number of a text without a sign, with this number of digits after the point
 unfoldable pub unscaled : ℕ → List ℕ → Option ℕ
 unscaled zero cs = some_digits cs
 unscaled (suc s) cs = if nat_lt (length cs) (s + 2) then None else pointed (length cs - (s + 2)) cs
 
--- of at most so many digits, which are never more than a decimal can have
+-- a number of at most p digits, which are never more than a decimal can have
 abbrev pub within : ℕ → ℕ → Option ℕ
 within precision m = if nat_lt m (10 ^ min precision max_precision) then Some m else None
 
@@ -115,7 +115,7 @@ bytes_in_pairs d = None
 abbrev pub binary_in : Data → Option Datum
 binary_in d = and_then (bytes_in_pairs d) (λ bs. Some (bytes bs))
 
--- exactly so many
+-- exactly n bytes
 abbrev pub fixed_in : ℕ → Data → Option Datum
 fixed_in n d = and_then (bytes_in_pairs d) (λ bs. if length bs == n then Some (bytes bs) else None)
 

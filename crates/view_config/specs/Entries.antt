@@ -19,17 +19,17 @@ abbrev pub are_name_bytes : List ℕ → Bool
 are_name_bytes [] = true
 are_name_bytes (c ∷ cs) = is_name_byte c && are_name_bytes cs
 
--- The name of a side table, a feed or a view has 1 to 64 of these.
+-- The name of a side table, a feed or a view has 1 to 64 such bytes.
 abbrev pub entry_name : List ℕ → Reading (List ℕ)
 entry_name name =
     if are_name_bytes name && nat_le 1 (length name) && nat_le (length name) max_entry_name_len then Ok name
     else Err (one fault.Shape)
 
--- at most so many entries
+-- at most this number of entries
 abbrev pub few_entries : ℕ → Members → Reading (Unit {0})
 few_entries n ms = refused_if fault.OverLimit (nat_lt n (count_members ms))
 
--- the entries of a table that may be absent, at most so many
+-- the entries of a table that may be absent, at most this number, each read by itself
 abbrev pub each_entry : {X : Type 0} → ℕ → (List ℕ → Data → Reading X) → Option Data → Reading (List X)
 each_entry n f d = do
   ms ← members_or_none d

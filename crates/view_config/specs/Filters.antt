@@ -1,4 +1,4 @@
--- Filters.
+-- The filters of views, as a configuration writes them.
 use Rattle.std.specs.Prelude.{codes, ℕ, zero, suc, nat_lt, Option, None, Some, Ok, Err, List, if◌then◌else◌}
 use Rattle.std.specs.Str.{bytes_eq}
 use Rattle.toml.specs.Data.{Data, array, Items, no_items}
@@ -25,7 +25,7 @@ comparison_by w =
     else if bytes_eq w (codes "gt") then Some than.Above else if bytes_eq w (codes "ge") then Some than.AtLeast
     else None
 
--- Compared columns have one type.
+-- Two columns that are compared have the same type.
 abbrev pub alike : ColType → Column → Reading Operand
 alike t c = if equality.ghosts.eq t (type_of c.1) then Ok (operand.Column c.0) else Err (one fault.ConstantType)
 
@@ -76,7 +76,7 @@ unfoldable pub filter_with : Scope → (Data → Reading Filter) → Data → Re
 filter_with s below (array ds) = must fault.Shape (headed ds) >>= λ p. filter_by s below p.0 p.1
 filter_with s below d = Err (one fault.Shape)
 
--- A filter of at most so many levels. What lies deeper isn't read.
+-- A filter nested to at most this many levels. What lies deeper isn't read.
 unfoldable pub filter_of : ℕ → Scope → Data → Reading Filter
 filter_of zero s d = Err (one fault.OverLimit)
 filter_of (suc depth) s d = filter_with s (filter_of depth s) d

@@ -27,7 +27,7 @@ max_filter_parts = 256
 abbrev pub max_filter_depth : ℕ
 max_filter_depth = 16
 
--- rows of a view that has at most so many
+-- the greatest `first` of a view
 abbrev pub max_first : ℕ
 max_first = 2 ^ 24
 
@@ -64,11 +64,11 @@ column_limits cs = do
 abbrev pub size_of : List (Rose NamedType) → ℕ
 size_of fields = roses_size (kids_of fields)
 
--- what is left of a room after n things; none where they are more
+-- what is left of a room for things after n of them; none where they are more
 abbrev pub IsRoomAfter : ℕ → ℕ → Option ℕ → Type 0
 IsRoomAfter room n left = MatchOption left (room < n) (λ m. m + n ≡ room)
 
--- the slot of a layout, and of layouts together; none where one at some level is too large
+-- the slot of a layout, and those of layouts summed; none where one at some level is above the limit
 abbrev pub IsSlotOf : Option ℕ → Rose Layout → Type 0
 IsSlotOf o t = MatchOption o (is_within_slot t ≡ false) (λ n. (is_within_slot t ≡ true) × (n ≡ slot t))
 

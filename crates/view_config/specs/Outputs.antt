@@ -119,7 +119,7 @@ abbrev pub names_of : Outputs → List (List ℕ)
 names_of (columns outputs) = map (λ o. o.name) outputs
 names_of (groups by outputs) = map (λ o. o.name) outputs
 
--- the columns that outputs of the program are
+-- the columns that outputs in memory show
 abbrev pub shown_in : Scope → Stored → List (Rose NamedType)
 shown_in s os = output_fields (fields_of s) (outputs_seen os)
 

@@ -11,7 +11,7 @@ use Rattle.view_config.specs.Reading.{Reading}
 use Rattle.view_config.specs.Tree.{pair}
 use Rattle.view_config.specs.declared.faults.ConfigFault.TheVariants as fault
 
--- those of the main table, and those of the side table that it looks up; none without a lookup
+-- the columns of the main table, and those of the side table that the view looks up; none without a lookup
 pub record Scope : Type 0 where
   pub main : List (Rose NamedType)
   pub side : List (Rose NamedType)
@@ -57,6 +57,6 @@ reference s (string name) = main_column s name
 reference s (array ds) = reference_in s ds
 reference s d = Err (one fault.Shape)
 
--- one whose values have an order
+-- a reference to a column whose values have an order
 unfoldable pub ordered_reference : Scope → Data → Reading Column
 ordered_reference s d = reference s d >>= ordered

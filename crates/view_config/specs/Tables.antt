@@ -46,7 +46,7 @@ table_entries = codes "key" ∷ codes "columns" ∷ []
 abbrev pub keyed : ℕ → List (Rose NamedType) → ℕ → Table
 keyed max_rows cs key = record { key = key; max_rows = max_rows; columns = cs }
 
--- a table of at most so many rows
+-- a table that may have at most this many live rows
 unfoldable pub table_of : ℕ → Members → Reading Table
 table_of max_rows ms = do
   _ ← only table_entries ms

@@ -11,7 +11,7 @@ use Rattle.values.specs.Reading.{both, cons, must, one, refused_if}
 use Rattle.view_config.specs.Reading.{Reading}
 use Rattle.view_config.specs.declared.faults.ConfigFault.TheVariants as fault
 
--- A value of another kind is a fault of shape.
+-- A value of another kind is the fault Shape.
 abbrev pub text_in : Data → Reading (List ℕ)
 text_in (string s) = Ok s
 text_in d = Err (one fault.Shape)
@@ -28,7 +28,7 @@ members_in d = Err (one fault.Shape)
 abbrev pub needed : List ℕ → Members → Reading Data
 needed key ms = must fault.Shape (get_member key ms)
 
--- the data of a value of the program that may be absent
+-- the data of a value in memory that may be absent
 abbrev pub data_of : Option (Bor Value) → Option Data
 data_of value = option_map (λ v. view v.now) value
 
@@ -47,7 +47,7 @@ abbrev pub repeats : List (List ℕ) → Bool
 repeats [] = false
 repeats (n ∷ ns) = is_one_of ns n || repeats ns
 
--- No entry has another name than these.
+-- All entries have one of these names.
 abbrev pub has_only : List (List ℕ) → Members → Bool
 has_only names no_members = true
 has_only names (member key d ms) = if is_one_of names key then has_only names ms else false

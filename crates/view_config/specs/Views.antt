@@ -1,4 +1,4 @@
--- Views.
+-- The views of a configuration.
 use Rattle.std.specs.Prelude.{codes, ℕ, ℤ, pos, nat_abs, int_le, ◌&&◌, Option, None, Some, Ok, Err, List, [], ◌∷◌}
 use Rattle.std.specs.Prelude.{if◌then◌else◌, map}
 use Rattle.std.specs.Str.{bytes_eq}
@@ -80,7 +80,7 @@ abbrev pub view_named : List ℕ → Option Lookup → Option Filter → Outputs
 view_named name lookup filter outputs order n =
     record { name = name; lookup = lookup; filter = filter; outputs = outputs; order = order; first = n }
 
--- what a view does with the rows that it looks up
+-- the parts of a view that may name columns, once its lookup is read
 unfoldable pub view_in : Scope → List ℕ → Option Lookup → Members → Reading View
 view_in s name lookup ms = do
   filter ← perhaps (whole_filter s) (get_member (codes "filter") ms)

@@ -199,12 +199,12 @@ filtered f = shows (codes "filter = " ++ f)
 abbrev grouped : List ℕ → List ℕ → List ℕ
 grouped by outputs = many ((codes "group = " ++ by) ∷ (codes "columns = [" ++ (outputs ++ codes "]")) ∷ [])
 
--- a test in so many others
+-- a test inside n negations
 abbrev within : ℕ → List ℕ
 within zero = codes "[\"is_null\", \"x\"]"
 within (suc n) = codes "[\"not\", " ++ (within n ++ codes "]")
 
--- one of so many tests, and one more
+-- n tests and one more, as the last parts of an array
 abbrev tests : ℕ → List ℕ
 tests zero = codes "[\"is_null\", \"x\"]]"
 tests (suc n) = codes "[\"is_null\", \"x\"], " ++ tests n

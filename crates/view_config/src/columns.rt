@@ -1,4 +1,4 @@
-//! Columns, by their names.
+//! Looks columns up by their names.
 
 ghost use Rattle.std.specs.Prelude.{◌≡◌, ◌<◌, IfSome, length, option_map, map};
 ghost use Rattle.std.specs.Bool.{Decides};
@@ -10,7 +10,8 @@ ghost use Rattle.view_config.specs.Tree.{is_one_of, repeats};
 use crate::faults::ConfigFault;
 use values::{ColType, LogicalField};
 
-/// Whether the values of a type have an order: `rule` ties it to what is asked of keys and of what is compared.
+/// Whether the values of a type have an order: all but lists and structs do. The clause `rule` ties it to the rules of
+/// `view_lang`.
 pub(crate) fn has_order(col_type: &ColType) -> bool
     ensures value { result ≡ has_order col_type.now }
     ensures rule { Decides result (IsSingle col_type.now) }
@@ -18,7 +19,7 @@ pub(crate) fn has_order(col_type: &ColType) -> bool
     !matches!(col_type, ColType::List { .. } | ColType::Struct)
 }
 
-/// A column with its number, where its values have an order.
+/// The column, with its number, or `OrderType` where its values have no order.
 pub(crate) fn ordered<'a>(
     number: usize,
     column: &'a LogicalField,
@@ -32,7 +33,7 @@ pub(crate) fn ordered<'a>(
     }
 }
 
-/// Whether two of these fields have one name.
+/// Whether two of these fields have the same name.
 #[tactic(auto, using(crate::proofs::Names::naming))]
 pub(crate) fn repeats(fields: &[LogicalField]) -> bool
     ensures { result ≡ repeats (map name_of fields.now) }

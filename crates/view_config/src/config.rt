@@ -20,8 +20,8 @@ use view_lang::Config;
 
 /// Reads a configuration from TOML.
 ///
-/// It answers Ok exactly where no fault stands in the text, unless memory runs out, and otherwise one of the faults
-/// that stand.
+/// The error is a fault that stands in the text, any one where there are several, or `Memory`. A text without a fault
+/// is refused only for want of memory.
 #[tactic(auto, using(crate::proofs::SoundConfig::whole), unfolding(crate::specs::Config::text_means))]
 pub fn read_config(alloc: Global, text: &str) -> Result<Config, ConfigFault>
     ensures meaning { Answers (λ c. c) result (text_means text.now) }
@@ -31,7 +31,7 @@ pub fn read_config(alloc: Global, text: &str) -> Result<Config, ConfigFault>
     read_entries(alloc, &tree)
 }
 
-/// The entries of a TOML document.
+/// Parses a TOML document. A text that is none is `NotToml`.
 fn read_tree(alloc: Global, text: &str) -> Result<Entries, ConfigFault>
     ensures { Answers table_view result (must ConfigFault.NotToml (parse_document text.now)) }
 {
@@ -42,7 +42,7 @@ fn read_tree(alloc: Global, text: &str) -> Result<Entries, ConfigFault>
     }
 }
 
-/// The configuration of a document's entries.
+/// Reads a configuration from a document's entries.
 #[tactic(auto, using(crate::proofs::Causes::failing), unfolding(crate::specs::Config::config_of))]
 fn read_entries(alloc: Global, entries: &Entries) -> Result<Config, ConfigFault>
     ensures { Answers (λ c. c) result (config_of (table_view entries.now)) }

@@ -1,4 +1,4 @@
-//! Constants of filters, each by the type of the column that it is compared with.
+//! Reads constants of filters, each by the type of the column that it is compared with.
 
 ghost use Rattle.std.specs.Prelude.{◌≡◌, ◌<◌, ◌≤◌, ◌^◌, IfSome, length, min};
 ghost use Rattle.toml.specs.View.{view};
@@ -74,7 +74,8 @@ fn whole_in(width: IntWidth, signed: bool, value: &Value) -> Option<Constant>
     }
 }
 
-/// The number of these digits, which come after those of `start`. Above 128 bits it is the greatest that they hold.
+/// The number whose decimal digits are those of `start` and then these, at most `u128::MAX`; `None` where one of these
+/// is no digit.
 #[tactic(auto, using(crate::proofs::Digits::digits))]
 fn digits_after(start: u128, digits: &[u8]) -> Option<u128>
     ensures { result ≡ held (digits_after start digits.now) }
@@ -101,7 +102,7 @@ fn some_digits(digits: &[u8]) -> Option<u128>
     digits_after(0, digits)
 }
 
-/// The number of the digits on both sides of a point that stands at this place.
+/// The number of the digits on both sides of the point at place `point`, read as if it weren't there.
 #[tactic(auto, using(crate::proofs::Digits::numbers), unfolding(crate::specs::Constants::pointed))]
 fn pointed(point: usize, text: &[u8]) -> Option<u128>
     requires { point < length text.now }
@@ -113,7 +114,7 @@ fn pointed(point: usize, text: &[u8]) -> Option<u128>
     digits_after(some_digits(&text[..point])?, &text[point + 1..])
 }
 
-/// The number of a text without a sign, with so many digits after the point.
+/// The unscaled number of a text without a sign that has exactly `scale` digits after the point.
 #[tactic(auto, using(crate::proofs::Digits::scales))]
 fn unscaled(scale: u8, text: &[u8]) -> Option<u128>
     ensures { result ≡ held (unscaled scale text.now) }
@@ -128,7 +129,7 @@ fn unscaled(scale: u8, text: &[u8]) -> Option<u128>
     pointed(text.len() - behind, text)
 }
 
-/// The least number that has more digits than a decimal of this precision.
+/// The least unscaled number that has more than `precision` digits.
 #[tactic(auto, using(crate::proofs::Digits::powers))]
 fn limit_of(precision: u8) -> u128
     ensures value { result ≡ 10 ^ min precision max_precision }
@@ -203,7 +204,7 @@ fn byte_of(high: u8, low: u8) -> Option<u8>
     Some(16 * nibble(high)? + nibble(low)?)
 }
 
-/// The bytes that pairs of hexadecimal digits say.
+/// The bytes of a text of pairs of lower case hexadecimal digits; another text is `ConstantType`.
 #[tactic(auto, using(crate::proofs::Pairs::paired))]
 fn pairs(alloc: Global, text: &[u8]) -> Result<Vec<u8>, ConfigFault>
     ensures { Answers (λ b. b.items) result (must ConfigFault.ConstantType (pairs text.now)) }
@@ -250,7 +251,7 @@ fn fixed_in(alloc: Global, width: u32, value: &Value) -> Result<Constant, Config
     })
 }
 
-/// The constant that a column of this type is compared with.
+/// Reads a constant that is compared with a column of this type; another value is `ConstantType`.
 #[tactic(auto, unfolding(crate::specs::Constants::constant_in))]
 pub(crate) fn read_constant(
     alloc: Global,

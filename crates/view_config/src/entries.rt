@@ -1,4 +1,4 @@
-//! Entries with names of their own: `[side.NAME]`, `[feed.NAME]` and `[view.NAME]`.
+//! Checks of entries that have names: `[side.NAME]`, `[feed.NAME]` and `[view.NAME]`.
 
 ghost use Rattle.std.specs.Prelude.{◌≡◌};
 ghost use Rattle.toml.specs.View.{table_view};
@@ -9,7 +9,7 @@ use crate::faults::ConfigFault;
 use crate::limits::MAX_ENTRY_NAME_LEN;
 use toml::Table as Entries;
 
-/// An ASCII letter, a digit, `_` or `-`.
+/// Whether a byte is an ASCII letter, a digit, `_` or `-`.
 fn is_name_byte(byte: u8) -> bool
     ensures { result ≡ is_name_byte byte }
 {
@@ -28,7 +28,7 @@ fn are_name_bytes(bytes: &[u8]) -> bool
     true
 }
 
-/// The name of a side table, a feed or a view, which has 1 to 64 such bytes.
+/// The name of a side table, a feed or a view, or `Shape` where it doesn't have 1 to 64 such bytes.
 pub(crate) fn check_entry_name(name: &str) -> Result<&str, ConfigFault>
     ensures { Judges (λ n. n.now) result (entry_name name.now) }
 {
@@ -39,7 +39,7 @@ pub(crate) fn check_entry_name(name: &str) -> Result<&str, ConfigFault>
     }
 }
 
-/// Refuses more entries than `most`.
+/// Refuses more than `most` entries, as `OverLimit`.
 #[tactic(auto, using(crate::proofs::Arrays::counts))]
 pub(crate) fn check_few_entries(entries: &Entries, most: usize) -> Result<(), ConfigFault>
     ensures { Judges (λ u. u) result (few_entries most (table_view entries.now)) }

@@ -1,4 +1,4 @@
-//! What can be wrong with a configuration.
+//! The faults of a configuration.
 
 use std::alloc::{AllocError, AllocFailed};
 use values::Cause;
@@ -8,19 +8,20 @@ use values::Cause;
 pub enum ConfigFault {
     /// The text isn't TOML.
     NotToml,
-    /// A name of a column, a side table or an output isn't there, or a column isn't among those that rows are grouped
-    /// by.
+    /// A column, a side table or an output of this name isn't declared, or a column isn't among those that rows are
+    /// grouped by.
     UnknownName,
     /// A name stands twice among a table's columns, a struct's children, a view's outputs or its order, or a column
     /// among those that rows are grouped by.
     DuplicateColumn,
-    /// What stands in a type's place is no type.
+    /// What is written for a type is none, or has a parameter out of its range.
     TypeText,
-    /// A constant, or a compared column, doesn't fit its column.
+    /// A constant isn't of its column's type, or two columns that are compared have different types.
     ConstantType,
-    /// A sum over a type that has none.
+    /// A sum over other values than integers or decimals of at most 28 digits.
     SumType,
-    /// A list or a struct where values must have an order, as those of a key, in a comparison, or in an order.
+    /// A list or a struct where values must have an order: as a key, in a comparison, a group or an order, or under
+    /// `least` or `greatest`.
     OrderType,
     /// A count, a depth, a slot, the length of a name or how many rows a view has is out of its limits.
     OverLimit,

@@ -1,4 +1,4 @@
-//! Feeds, each with its role.
+//! Reads feeds, each with its role.
 
 ghost use Rattle.std.specs.Prelude.{◌≡◌};
 ghost use Rattle.toml.specs.View.{table_view, view};
@@ -16,7 +16,7 @@ use toml::{Table as Entries, Value};
 use values::limits::MAX_FEEDS;
 use view_lang::{FeedConfig, Role, SideTable};
 
-/// A role that names no side table.
+/// A role for which the feed must not name a side table; one that does is `Shape`.
 fn sideless(role: Role, entries: &Entries) -> Result<Role, ConfigFault>
     ensures { Judges (λ r. r) result (sideless role (table_view entries.now)) }
 {
@@ -24,7 +24,7 @@ fn sideless(role: Role, entries: &Entries) -> Result<Role, ConfigFault>
     Ok(role)
 }
 
-/// The number of the side table that a feed names.
+/// The number of the side table that a feed names with `side`.
 #[tactic(auto, using(crate::proofs::Causes::causes), unfolding(crate::specs::Feeds::side_number))]
 fn side_number(sides: &[SideTable], entries: &Entries) -> Result<usize, ConfigFault>
     ensures { Judges (λ n. n) result (side_number sides.now (table_view entries.now)) }

@@ -1,4 +1,4 @@
-//! Filters.
+//! Reads filters.
 
 ghost use Rattle.std.specs.Prelude.{◌≡◌};
 ghost use Rattle.toml.specs.View.{items_view as items, view};
@@ -40,7 +40,8 @@ fn comparison_by(word: &str) -> Option<Comparison>
     }
 }
 
-/// What a column of this type is compared with: a column where it is an array, and else a constant.
+/// Reads what a column of this type is compared with: a reference to another column where it is an array, otherwise a
+/// constant.
 #[tactic(auto, using(crate::proofs::Causes::failing), unfolding(crate::specs::Filters::operand_of))]
 fn read_operand(
     alloc: Global,
@@ -62,7 +63,7 @@ fn read_operand(
     }
 }
 
-/// `[op, REF, X]`.
+/// Reads `[op, REF, X]`.
 #[tactic(auto, using(crate::proofs::Causes::failing), unfolding(crate::specs::Filters::comparison_of))]
 fn read_comparison(
     alloc: Global,
@@ -84,7 +85,7 @@ fn read_comparison(
     })
 }
 
-/// `["is_null", REF]`.
+/// Reads `["is_null", REF]`.
 #[tactic(auto, using(crate::proofs::Causes::causes), unfolding(crate::specs::Filters::null_of))]
 fn null_test(scope: &Scope, values: &[Value]) -> Result<Filter, ConfigFault>
     ensures { Judges (λ f. f) result (null_of scope.now (items values.now)) }
@@ -95,7 +96,7 @@ fn null_test(scope: &Scope, values: &[Value]) -> Result<Filter, ConfigFault>
     })
 }
 
-/// A filter of at most `depth` levels.
+/// Reads a filter nested to at most `depth` levels.
 #[cycle(filters)]
 #[tactic(auto, using(crate::proofs::Causes::causes, crate::proofs::FilterDepths::levels))]
 fn read_filter(
@@ -112,7 +113,7 @@ fn read_filter(
     read_filter_with(alloc, scope, value, depth - 1)
 }
 
-/// A filter round others of at most `depth` levels.
+/// Reads `not`, `and` and `or`, whose parts are nested to at most `depth` levels.
 #[cycle(filters)]
 #[tactic(auto, using(crate::proofs::Causes::failing), unfolding(crate::specs::Filters::filter_with))]
 fn read_filter_with(
@@ -163,7 +164,7 @@ fn read_filter_by(
     }
 }
 
-/// `["not", F]`.
+/// Reads `["not", F]`.
 #[cycle(filters)]
 #[tactic(auto, using(crate::proofs::Causes::failing), unfolding(crate::specs::Filters::negation_of))]
 fn read_negation(
@@ -181,7 +182,7 @@ fn read_negation(
     })
 }
 
-/// The parts of `["and", F, ...]` and of `["or", F, ...]`, one or more.
+/// Reads the parts of `["and", F, ...]` or `["or", F, ...]`, one or more.
 #[cycle(filters)]
 #[tactic(auto, using(crate::proofs::FilterDepths::some_parts))]
 fn read_parts(
@@ -215,7 +216,7 @@ fn read_each_part(
     Ok(parts)
 }
 
-/// What is left of `room` after a filter and all inside it; `None` where they are more.
+/// `room` less the number of filters that a filter is made of, itself among them; `None` where they are more.
 #[cycle(room)]
 #[tactic(auto, using(crate::proofs::FilterCounts::counting))]
 fn room_after(filter: &Filter, room: u32) -> Option<u32>
@@ -242,7 +243,7 @@ fn room_after_all(filters: &[Filter], room: u32) -> Option<u32>
     Some(left)
 }
 
-/// The filter of a view.
+/// Reads the filter of a view, and checks its size.
 #[tactic(auto, using(crate::proofs::Causes::failing), unfolding(crate::specs::Filters::whole_filter))]
 pub(crate) fn read_whole_filter(
     alloc: Global,

@@ -1,4 +1,4 @@
-//! Groups: the columns that rows are grouped by, and what is shown of a group.
+//! Reads the columns that rows are grouped by, and what is shown of a group.
 
 ghost use Rattle.std.specs.Prelude.{◌≡◌};
 ghost use Rattle.std.specs.Bool.{Decides};
@@ -57,7 +57,7 @@ fn place_of(number: usize, numbers: &[usize]) -> Option<usize>
     None
 }
 
-/// Refuses a column that stands twice.
+/// Refuses a column that stands twice, as `DuplicateColumn`.
 pub(crate) fn check_distinct_numbers(numbers: &[usize]) -> Result<(), ConfigFault>
     ensures { Judges (λ u. u) result (distinct_numbers numbers.now) }
 {
@@ -90,7 +90,7 @@ fn read_each_grouping(
     Ok(by)
 }
 
-/// The columns that rows are grouped by.
+/// Reads the columns that rows are grouped by, as their numbers in joined rows.
 #[tactic(auto, using(crate::proofs::Causes::failing), unfolding(crate::specs::Outputs::group_of))]
 pub(crate) fn read_group(
     alloc: Global,
@@ -144,7 +144,7 @@ fn count_by(scope: &Scope, values: &[Value]) -> Result<Aggregate, ConfigFault>
     Ok(Aggregate::CountOf(number))
 }
 
-/// Whether the values of a type have a sum: `rule` ties it to what is asked of the columns that views sum.
+/// Whether columns of a type can be summed. The clause `rule` ties it to the rules of `view_lang`.
 fn can_be_summed(col_type: &ColType) -> bool
     ensures value { result ≡ can_be_summed col_type.now }
     ensures rule { Decides result (IsAddable col_type.now) }
@@ -166,7 +166,7 @@ fn sum_of(number: usize, column: &LogicalField) -> Result<Aggregate, ConfigFault
     }
 }
 
-/// What a view of groups shows, by the output's word.
+/// Reads what an output of a view of groups shows, by its word, as `count`.
 #[tactic(auto, using(crate::proofs::Causes::causes), unfolding(crate::specs::Outputs::aggregate_by))]
 pub(crate) fn aggregate_by(
     scope: &Scope,

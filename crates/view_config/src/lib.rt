@@ -1,10 +1,10 @@
-//! Configurations, read from TOML: the main table, side tables, the feeds that change them, and the views that are
+//! Reads configurations from TOML: the main table, side tables, the feeds that change them, and the views that are
 //! written of them.
 //!
 //! `read_config` is proved against one definition, `text_means` of `specs/Config.antt`: which configuration a text
 //! means, or which faults stand in it. There is a module of `specs/` for each part of a text: `Tree` and `Entries` (its
 //! entries), `ColumnTypes`, `Limits`, `Tables`, `Sides`, `Feeds`, and of a view `Lookups`, `Scope` (the columns that it
-//! can name), `Constants`, `Filters`, `Outputs` and `Views`. `Reading` has the words for what a call answers where
+//! can name), `Constants`, `Filters`, `Outputs` and `Views`. `Reading` defines what a call answers where
 //! faults may stand, and `Worked` has texts whose meaning is computed.
 #![tactic(auto)]
 

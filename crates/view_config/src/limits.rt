@@ -33,7 +33,7 @@ pub(crate) const MAX_SUM_PRECISION: u8 = 28;
 /// The most rows that a view may be cut to.
 pub(crate) const MAX_FIRST: i64 = 1 << 24;
 
-/// A name of a column, of an output or of a struct's child, which has 1 to 255 bytes.
+/// The name of a column, of an output or of a struct's child, or `OverLimit` where it doesn't have 1 to 255 bytes.
 pub(crate) fn check_name(name: &str) -> Result<&str, ConfigFault>
     ensures { Judges (λ n. n.now) result (column_name name.now) }
 {
@@ -44,7 +44,7 @@ pub(crate) fn check_name(name: &str) -> Result<&str, ConfigFault>
     }
 }
 
-/// Refuses two fields of one name.
+/// Refuses two fields with the same name, as `DuplicateColumn`.
 pub(crate) fn check_distinct(fields: &[LogicalField]) -> Result<(), ConfigFault>
     ensures { Judges (λ u. u) result (distinct (map name_of fields.now)) }
 {
@@ -54,7 +54,7 @@ pub(crate) fn check_distinct(fields: &[LogicalField]) -> Result<(), ConfigFault>
     Ok(())
 }
 
-/// What is left of `room` after a field and all below it; `None` where they are more.
+/// `room` less the number of a field and all fields below it; `None` where they are more.
 #[cycle(count)]
 pub(crate) fn room_after(field: &LogicalField, room: u32) -> Option<u32>
     ensures { IsRoomAfter room (rose_size field.now) result }
@@ -62,7 +62,7 @@ pub(crate) fn room_after(field: &LogicalField, room: u32) -> Option<u32>
     room_after_all(&field.children, room.checked_sub(1)?)
 }
 
-/// What is left of `room` after these fields and all below them; `None` where they are more.
+/// `room` less the number of these fields and all below them; `None` where they are more.
 #[cycle(count)]
 #[tactic(auto, using(crate::proofs::Counting::counting))]
 fn room_after_all(fields: &[LogicalField], room: u32) -> Option<u32>
@@ -75,7 +75,7 @@ fn room_after_all(fields: &[LogicalField], room: u32) -> Option<u32>
     Some(left)
 }
 
-/// Refuses more fields than a table may have, at all levels.
+/// Refuses more than 1,024 fields at all levels, as `OverLimit`.
 pub(crate) fn check_count(fields: &[LogicalField]) -> Result<(), ConfigFault>
     ensures { Judges (λ u. u) result (few_fields fields.now) }
 {
@@ -85,7 +85,7 @@ pub(crate) fn check_count(fields: &[LogicalField]) -> Result<(), ConfigFault>
     }
 }
 
-/// The slot of a field; `None` where it or that of a field below it is too large.
+/// The weight of a null of a field; `None` where it, or that of a field below it, is above the limit.
 #[cycle(slots)]
 #[tactic(auto, using(crate::proofs::Slots::slot_lemmas))]
 fn slot_of(field: &LogicalField) -> Option<u64>
@@ -105,7 +105,8 @@ fn slot_of(field: &LogicalField) -> Option<u64>
     Some(slot)
 }
 
-/// The slots of these fields together; `None` where one of them, or of those below them, is too large.
+/// The summed weight of nulls of these fields; `None` where that of one of them, or of a field below them, is above the
+/// limit.
 #[cycle(slots)]
 #[tactic(auto, using(crate::proofs::Slots::slot_lemmas))]
 fn slots_of(fields: &[LogicalField]) -> Option<u64>
@@ -120,7 +121,7 @@ fn slots_of(fields: &[LogicalField]) -> Option<u64>
     Some(slots)
 }
 
-/// Refuses columns that pass the limits of a table, or two of one name.
+/// Refuses columns above the limits of a table, as `OverLimit`, or two with the same name, as `DuplicateColumn`.
 #[tactic(auto, using(crate::proofs::Causes::causes), unfolding(crate::specs::Limits::column_limits))]
 pub(crate) fn check_columns(columns: &[LogicalField]) -> Result<(), ConfigFault>
     ensures { Judges (λ u. u) result (column_limits columns.now) }

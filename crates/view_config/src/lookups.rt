@@ -1,4 +1,4 @@
-//! Lookups: which side table a view's rows are joined with.
+//! Reads lookups: which side table a view's rows are joined with.
 
 ghost use Rattle.std.specs.Prelude.{◌≡◌};
 ghost use Rattle.toml.specs.View.{view};
@@ -25,7 +25,7 @@ fn missing_by(word: &str) -> Option<Missing>
     }
 }
 
-/// Whether the keys of a table have this type.
+/// Whether the key column of a table has this type.
 fn has_key_of(col_type: &ColType, table: &Table) -> bool
     ensures { result ≡ has_key_of col_type.now table.now }
 {
@@ -35,7 +35,7 @@ fn has_key_of(col_type: &ColType, table: &Table) -> bool
     }
 }
 
-/// `{ side, on, missing }`, with the side table that it names.
+/// Reads `{ side, on, missing }`, and finds the side table that it names.
 #[tactic(auto, using(crate::proofs::Causes::causes), unfolding(crate::specs::Lookups::lookup_of))]
 pub(crate) fn read_lookup<'a>(
     main: &Table,

@@ -1,4 +1,4 @@
-//! Names among others.
+//! Looks names up among others.
 
 ghost use Rattle.std.specs.Prelude.{◌≡◌, map};
 ghost use Rattle.values.specs.Reading.{Judges};
@@ -21,7 +21,7 @@ fn repeats(names: &[&str]) -> bool
     false
 }
 
-/// Refuses two of one name.
+/// Refuses a name that stands twice, as `DuplicateColumn`.
 pub(crate) fn check_distinct_names(names: &[&str]) -> Result<(), ConfigFault>
     ensures { Judges (λ u. u) result (distinct (map (λ n. n.now) names.now)) }
 {

@@ -1,4 +1,4 @@
-//! Orders: by which outputs the rows of a view are sorted, and how many of them it has.
+//! Reads by which outputs the rows of a view are sorted, and how many it shows.
 
 ghost use Rattle.std.specs.Prelude.{◌≡◌, IfOk, map};
 ghost use Rattle.toml.specs.View.{items_view as items, view};
@@ -35,7 +35,7 @@ fn direction_by(word: &str) -> Option<Direction>
     }
 }
 
-/// The place of the output of this name, whose values must have an order. The names are those of the outputs.
+/// The place of the output of this name among the outputs; `OrderType` where its values have no order.
 #[tactic(auto, using(crate::proofs::OutputNames::naming_outputs))]
 fn sorting_column(
     scope: &Scope,
@@ -56,7 +56,7 @@ fn sorting_column(
     }
 }
 
-/// `[output name, "asc"]` or `[output name, "desc"]`.
+/// Reads `[output name, "asc"]` or `[output name, "desc"]`.
 #[tactic(auto, using(crate::proofs::Causes::causes), unfolding(crate::specs::Views::order_by_of))]
 fn read_order_by(
     scope: &Scope,
@@ -120,7 +120,7 @@ fn read_order(
     Ok(order)
 }
 
-/// The outputs by which a view is sorted; none where there is no such entry.
+/// Reads the outputs by which a view is sorted: none where there is no such entry.
 pub(crate) fn read_order_at(
     alloc: Global,
     scope: &Scope,
@@ -150,7 +150,7 @@ fn first_of(value: &Value) -> Result<usize, ConfigFault>
     }
 }
 
-/// How many rows a view has at most, if it says so.
+/// Reads how many rows a view shows at most, if it says so.
 #[tactic(auto, using(crate::proofs::Causes::causes))]
 pub(crate) fn read_first(value: Option<&Value>) -> Result<Option<usize>, ConfigFault>
     ensures { Judges (λ n. n) result (perhaps first_of (data_of value.entry)) }

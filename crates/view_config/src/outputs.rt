@@ -1,4 +1,4 @@
-//! The columns of views.
+//! Reads the columns of views.
 
 ghost use Rattle.std.specs.Prelude.{◌≡◌, IfOk, map, option_map};
 ghost use Rattle.toml.specs.View.{items_view, view};
@@ -22,7 +22,7 @@ use std::alloc::{AllocError, Global};
 use toml::Value;
 use view_lang::{GroupOutput, Output, Outputs};
 
-/// The number of the column that a view without groups shows, by the output's word.
+/// Reads which column an output of a view without groups shows, by its word, as a number in joined rows.
 #[tactic(auto, using(crate::proofs::Causes::causes))]
 fn shown_by(scope: &Scope, word: &str, values: &[Value]) -> Result<usize, ConfigFault>
     ensures { Judges (λ n. n) result (shown_by scope.now word.now (items_view values.now)) }
@@ -151,7 +151,7 @@ pub(crate) fn names_of<'a>(alloc: Global, outputs: &'a Outputs) -> Result<Vec<&'
     }
 }
 
-/// Refuses outputs that have too many fields, or two of one name.
+/// Refuses outputs that have too many fields, as `OverLimit`, or two of one name, as `DuplicateColumn`.
 #[tactic(auto, using(crate::proofs::Causes::failing), unfolding(crate::specs::Outputs::output_limits))]
 fn check_outputs(alloc: Global, scope: &Scope, outputs: &Outputs) -> Result<(), ConfigFault>
     ensures { Answers (λ u. u) result (output_limits (fields_of scope.now) (seen outputs.now)) }
@@ -160,7 +160,7 @@ fn check_outputs(alloc: Global, scope: &Scope, outputs: &Outputs) -> Result<(), 
     check_distinct_names(&names_of(alloc, outputs)?)
 }
 
-/// The columns of a view, which has these grouping columns if it has groups.
+/// Reads the columns of a view, whose grouping columns are these if it has groups.
 #[tactic(auto, using(crate::proofs::Causes::failing), unfolding(crate::specs::Outputs::outputs_of))]
 pub(crate) fn read_outputs(
     alloc: Global,

@@ -13,7 +13,8 @@ use std::marker::Model;
 use toml::Value;
 use values::LogicalField;
 
-/// The columns of the main table, and of the side table that a view looks up; none without a lookup.
+/// The columns that a view can name: those of the main table, and those of the side table that it looks up, which are
+/// none without a lookup.
 #[derive(Debug, Drop)]
 pub(crate) struct Scope<'a> {
     pub main: &'a [LogicalField],
@@ -55,7 +56,7 @@ fn side_column<'a>(scope: &Scope<'a>, name: &str) -> Result<(usize, &'a LogicalF
     Ok((scope.main.len() + number, column))
 }
 
-/// `["main", name]` or `["side", name]`.
+/// Reads `["main", name]` or `["side", name]`.
 #[tactic(auto, using(crate::proofs::Causes::causes), unfolding(crate::specs::Scope::reference_in))]
 fn reference_in<'a>(
     scope: &Scope<'a>,
@@ -90,7 +91,7 @@ pub(crate) fn reference<'a>(
     }
 }
 
-/// The same, where the column's values must have an order.
+/// The same, or `OrderType` where the column's values have no order.
 #[tactic(auto, using(crate::proofs::Causes::causes), unfolding(crate::specs::Scope::ordered_reference))]
 pub(crate) fn ordered_reference<'a>(
     scope: &Scope<'a>,

@@ -1,4 +1,4 @@
-//! Which columns outputs are: how many fields they have, and whether their values have an order.
+//! The columns that outputs show: how many fields they have, and whether their values have an order.
 
 ghost use Rattle.std.specs.Prelude.{◌≡◌, [], get_or};
 ghost use Rattle.values.specs.Reading.{Judges};
@@ -18,7 +18,7 @@ use crate::scope::{Scope, column_at};
 use values::limits::MAX_FIELDS;
 use view_lang::{Aggregate, GroupOutput, Output, Outputs};
 
-/// The number at a place among grouping columns.
+/// The number of the grouping column at this place.
 fn grouped_at(by: &[usize], place: usize) -> usize
     ensures { result ≡ get_or by.now place 0 }
 {
@@ -28,7 +28,7 @@ fn grouped_at(by: &[usize], place: usize) -> usize
     }
 }
 
-/// What is left of `room` after the fields of a column; `None` where they are more.
+/// `room` less the number of fields of a column, at all levels; `None` where they are more.
 #[tactic(auto, using(crate::proofs::OutputFields::column_sizes))]
 fn room_after_column(scope: &Scope, number: usize, room: u32) -> Option<u32>
     ensures { IsRoomAfter room (rose_size (field_at (fields_of scope.now) number)) result }
@@ -39,7 +39,7 @@ fn room_after_column(scope: &Scope, number: usize, room: u32) -> Option<u32>
     }
 }
 
-/// What is left of `room` after the fields of these outputs, at all levels; `None` where they are more.
+/// `room` less the number of fields of these outputs, at all levels; `None` where they are more.
 #[tactic(auto, using(crate::proofs::OutputFields::output_sizes))]
 fn room_after_outputs(scope: &Scope, outputs: &[Output], room: u32) -> Option<u32>
     ensures { IsRoomAfter room (size_of (output_fields (fields_of scope.now) (columns_seen outputs.now))) result }
@@ -51,7 +51,7 @@ fn room_after_outputs(scope: &Scope, outputs: &[Output], room: u32) -> Option<u3
     Some(left)
 }
 
-/// The same of an output of groups by these columns.
+/// The same for an output of groups by these columns.
 #[tactic(auto, using(crate::proofs::OutputFields::aggregate_sizes))]
 fn room_after_aggregate(scope: &Scope, by: &[usize], aggregate: Aggregate, room: u32) -> Option<u32>
     ensures { IsRoomAfter room (rose_size (aggregate_field (fields_of scope.now) by.now [] aggregate)) result }
@@ -81,7 +81,7 @@ fn room_after_group_outputs(
     Some(left)
 }
 
-/// Refuses outputs that have too many fields, at all levels.
+/// Refuses outputs with more than 1,024 fields at all levels, as `OverLimit`.
 pub(crate) fn check_fields(scope: &Scope, outputs: &Outputs) -> Result<(), ConfigFault>
     ensures { Judges (λ u. u) result (few_fields (shown_in scope.now outputs.now)) }
 {

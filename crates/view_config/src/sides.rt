@@ -1,4 +1,4 @@
-//! Side tables, each with its name.
+//! Reads side tables, each with its name.
 
 ghost use Rattle.std.specs.Prelude.{◌≡◌, option_map};
 ghost use Rattle.toml.specs.View.{table_view, view};
@@ -39,7 +39,7 @@ fn read_each_side(alloc: Global, entries: &Entries) -> Result<Vec<SideTable>, Co
     Ok(sides)
 }
 
-/// The side tables of a configuration's entries; none where there is no such entry.
+/// Reads the side tables of a configuration: none where there is no such entry.
 #[tactic(auto, using(crate::proofs::Causes::failing), unfolding(crate::specs::Tree::each_member))]
 pub(crate) fn read_sides(alloc: Global, entries: &Entries) -> Result<Vec<SideTable>, ConfigFault>
     ensures { Answers (λ ss. ss.items) result (sides_of (table_view entries.now)) }
@@ -65,7 +65,7 @@ fn find_side<'a>(sides: &'a [SideTable], name: &str) -> Option<(usize, &'a SideT
     None
 }
 
-/// The side table of this name, with its number.
+/// The side table of this name, with its number, or `UnknownName`.
 pub(crate) fn side_called<'a>(
     sides: &'a [SideTable],
     name: &str,

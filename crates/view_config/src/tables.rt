@@ -1,4 +1,4 @@
-//! A table of the configuration: its columns, and which of them is the key.
+//! Reads tables: their columns, and which of them is the key.
 
 ghost use Rattle.std.specs.Prelude.{◌≡◌};
 ghost use Rattle.toml.specs.View.{items_view, table_view, view};
@@ -39,7 +39,7 @@ fn read_each_column(alloc: Global, values: &[Value]) -> Result<Vec<LogicalField>
     Ok(columns)
 }
 
-/// Refuses no columns, and more than a table or a view may have.
+/// Refuses no columns, and more than 64, as `OverLimit`.
 #[tactic(auto, using(crate::proofs::Arrays::counts))]
 pub(crate) fn check_few(values: &[Value]) -> Result<(), ConfigFault>
     ensures { Judges (λ u. u) result (few_columns (items_view values.now)) }
@@ -62,7 +62,8 @@ fn read_columns(alloc: Global, value: &Value) -> Result<Vec<LogicalField>, Confi
     Ok(columns)
 }
 
-/// The column of this name, whose values must have an order, and its number.
+/// The column of this name, with its number; `UnknownName` where there is none, `OrderType` where its values have no
+/// order.
 #[tactic(auto, using(crate::proofs::Causes::causes), unfolding(crate::specs::Tables::ordered_column))]
 pub(crate) fn ordered_column<'a>(
     columns: &'a [LogicalField],
@@ -74,7 +75,7 @@ pub(crate) fn ordered_column<'a>(
     ordered(number, column)
 }
 
-/// A table of at most so many rows.
+/// Reads a table that may have at most `max_rows` live rows.
 #[tactic(auto, using(crate::proofs::Causes::failing), unfolding(crate::specs::Tables::table_of))]
 pub(crate) fn read_table(
     alloc: Global,
@@ -94,7 +95,7 @@ pub(crate) fn read_table(
     })
 }
 
-/// The main table of a configuration's entries.
+/// Reads the main table of a configuration.
 #[tactic(auto, using(crate::proofs::Causes::failing), unfolding(crate::specs::Tables::main_of))]
 pub(crate) fn read_main(alloc: Global, entries: &Entries) -> Result<Table, ConfigFault>
     ensures { Answers (λ t. t) result (main_of (table_view entries.now)) }

@@ -1,4 +1,4 @@
-//! A configuration that is read, and texts that no good configuration is made of.
+//! A configuration that is accepted, and texts that are refused.
 
 use crate::{ConfigFault, read_config};
 use std::alloc::{AllocError, Global};

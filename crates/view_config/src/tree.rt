@@ -1,4 +1,4 @@
-//! The entries of a TOML document.
+//! Helpers for the values of a TOML document. A value of another kind than is asked for is `Shape`.
 
 ghost use Rattle.std.specs.Prelude.{◌≡◌, map, option_map};
 ghost use Rattle.values.specs.Reading.{Judges};
@@ -10,7 +10,7 @@ ghost use Rattle.view_config.specs.Tree.{pair_in, sole, text_in};
 use crate::faults::ConfigFault;
 use toml::{Table as Entries, Value};
 
-/// The value of an entry that must be there.
+/// The value of an entry that must be there; a missing one is `Shape`.
 pub(crate) fn entry<'a>(table: &'a Entries, key: &str) -> Result<&'a Value, ConfigFault>
     ensures { Judges (λ v. view v.now) result (needed key.now (table_view table.now)) }
 {
@@ -24,7 +24,7 @@ pub(crate) fn entry_at<'a>(table: &'a Entries, key: &str) -> Option<&'a Value>
     table.get(key)
 }
 
-/// The text that an array begins with, and what comes after it.
+/// The text that an array begins with, and what comes after it; `None` where it begins with no text.
 #[tactic(auto, using(crate::proofs::Arrays::arrays))]
 pub(crate) fn headed(values: &[Value]) -> Option<(&str, &[Value])>
     ensures { option_map (λ p. (p.0.now, items_view p.1.now)) result ≡ headed (items_view values.now) }
@@ -65,7 +65,7 @@ pub(crate) fn members_in(value: &Value) -> Result<&Entries, ConfigFault>
     }
 }
 
-/// The one value of an array of one.
+/// The value of an array of one; `None` for another array.
 #[tactic(auto, using(crate::proofs::Arrays::arrays))]
 pub(crate) fn sole(values: &[Value]) -> Option<&Value>
     ensures { option_map (λ v. view v.now) result ≡ sole (items_view values.now) }
@@ -76,7 +76,7 @@ pub(crate) fn sole(values: &[Value]) -> Option<&Value>
     Some(&values[0])
 }
 
-/// The two values of an array of two.
+/// The values of an array of two; `None` for another array.
 #[tactic(auto, using(crate::proofs::Arrays::arrays))]
 pub(crate) fn pair(values: &[Value]) -> Option<(&Value, &Value)>
     ensures { option_map (λ p. (view p.0.now, view p.1.now)) result ≡ pair (items_view values.now) }
@@ -96,7 +96,7 @@ pub(crate) fn pair_in(value: &Value) -> Option<(&Value, &Value)>
     }
 }
 
-/// Whether no entry has another name than these.
+/// Whether all entries have one of these names.
 pub(crate) fn has_only(entries: &Entries, names: &[&str]) -> bool
     ensures { result ≡ has_only (map (λ n. n.now) names.now) (table_view entries.now) }
 {
@@ -120,7 +120,7 @@ pub(crate) fn is_one_of(names: &[&str], name: &str) -> bool
     false
 }
 
-/// Refuses entries of other names than these.
+/// Refuses entries with other names than these, as `Shape`.
 pub(crate) fn check_names(entries: &Entries, names: &[&str]) -> Result<(), ConfigFault>
     ensures { Judges (λ u. u) result (only (map (λ n. n.now) names.now) (table_view entries.now)) }
 {

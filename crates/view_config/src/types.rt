@@ -1,4 +1,4 @@
-//! The types of columns, as a configuration writes them.
+//! Reads the types of columns. What is no type is `TypeText`.
 
 ghost use Rattle.std.specs.Prelude.{◌≡◌, ◌≤◌, ◌<◌, ◌^◌, pos, IfOk};
 ghost use Rattle.values.specs.Reading.{Judges};
@@ -23,7 +23,7 @@ fn int(width: IntWidth, signed: bool) -> ColType
     ColType::Int { width, signed }
 }
 
-/// A type that is one word.
+/// The type that is written as this one word.
 fn plain_type(word: &str) -> Option<ColType>
     ensures { result ≡ plain_type word.now }
 {
@@ -91,7 +91,7 @@ fn unit_in(value: &Value) -> Result<TimeUnit, ConfigFault>
     }
 }
 
-/// A whole number from `low` to `high`.
+/// Reads a whole number from `low` to `high`.
 fn number_in(low: u32, high: u32, value: &Value) -> Result<u32, ConfigFault>
     ensures exact { Judges (λ n. n) result (number_in low high (view value.now)) }
     ensures bound { IfOk result (λ n. n ≤ high) }
@@ -172,7 +172,7 @@ fn simple_of(alloc: Global, word: &str, values: &[Value]) -> Result<ColType, Con
     }
 }
 
-/// A field of this name and this type, with at most `depth` levels of fields.
+/// Reads a type, and makes a field of this name with it, nested to at most `depth` levels.
 #[cycle(types)]
 #[tactic(auto, using(crate::proofs::Causes::causes, crate::proofs::Fields::fields))]
 pub(crate) fn read_field(

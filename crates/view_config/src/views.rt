@@ -1,4 +1,4 @@
-//! Views.
+//! Reads views.
 
 ghost use Rattle.std.specs.Prelude.{◌≡◌, option_map};
 ghost use Rattle.toml.specs.View.{table_view, view};
@@ -66,7 +66,7 @@ fn read_group_at(
     }
 }
 
-/// What a view does with the columns that it can name.
+/// Reads the parts of a view that may name columns: its filter, groups, outputs, order and first rows.
 #[tactic(auto, using(crate::proofs::Causes::failing), unfolding(crate::specs::Views::view_in))]
 fn read_view_in(
     alloc: Global,
@@ -142,7 +142,7 @@ fn read_each_view(
     Ok(views)
 }
 
-/// The views of a configuration's entries, over these tables; none where there is no such entry.
+/// Reads the views of a configuration, over these tables: none where there is no such entry.
 #[tactic(auto, using(crate::proofs::Causes::failing), unfolding(crate::specs::Tree::each_member))]
 pub(crate) fn read_views(
     alloc: Global,

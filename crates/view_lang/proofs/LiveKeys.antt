@@ -41,7 +41,7 @@ rest_unfound p x xs h = by (p x) h
     by true q = absurd (none-some x (sym q))
     by false q = q
 
--- the causes behind the first, and behind the second
+-- the causes after the first, and after the second
 abbrev behind_two : List Unfit
 behind_two = unfit.UnknownKey ∷ unfit.TooManyRows ∷ unfit.CellTooHeavy ∷ []
 

@@ -152,7 +152,7 @@ module _ (by : List ℕ) (y : List Datum) where
       go true e a more = ap (λ l. z ∷ l) (more a)
       go false e a more = none_tied (by_tuple by) (on_total (cells_at by) tuple_cmp_total) y zs a.1
 
-  -- rows with a tuple above are behind the run
+  -- rows with a tuple above are after the run
   filter-back : (t : List Datum) (rows : List (List Datum)) → tuple_cmp (cells_at by y) t ≡ Less
       → rows_with by t rows ≡ rows_with by t (back like rows)
   unfolding rows_with

@@ -46,7 +46,7 @@ unfoldable pub any_heavy : Roses Layout → List (List Datum) → Bool
 any_heavy ls [] = false
 any_heavy ls (row ∷ rows) = is_heavy ls row || any_heavy ls rows
 
--- how the columns of a table lie in memory
+-- the layouts of a table's columns
 abbrev pub layouts_of : Table → Roses Layout
 layouts_of t = trees_of (kids_of t.columns)
 
@@ -59,7 +59,8 @@ rows_stand t c rows unfit.TooManyRows =
     nat_lt t.max_rows (length c.live + length rows) || nat_lt max_appended_rows (c.appended + length rows)
 rows_stand t c rows unfit.CellTooHeavy = any_heavy (layouts_of t) rows
 
--- Whether one stands against keys whose rows go away. Keys that are all live can't be too heavy.
+-- Whether a cause stands against keys whose rows are to go. Weight is no cause here: keys of live rows aren't too
+-- heavy.
 abbrev pub keys_stand : Table → Contents → List Datum → Unfit → Bool
 keys_stand t c keys unfit.NullKey = has_null keys
 keys_stand t c keys unfit.DuplicateKey = has_repeated keys
@@ -73,7 +74,7 @@ stands t c (append rows) u = rows_stand t c rows u
 stands t c (retract keys) u = keys_stand t c keys u
 stands t c (put rows) u = rows_stand t (without_keys t (keys_in t rows) c) rows u
 
--- in the order of their numbers
+-- all causes, in the order of their numbers
 abbrev pub causes : List Unfit
 causes = unfit.NullKey ∷ unfit.DuplicateKey ∷ unfit.UnknownKey ∷ unfit.TooManyRows ∷ unfit.CellTooHeavy ∷ []
 

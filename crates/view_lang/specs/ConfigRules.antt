@@ -1,4 +1,4 @@
--- Which configurations are right: what holds of each that was read without a fault.
+-- The rules that a configuration keeps that was read without a fault.
 use Rattle.std.specs.Prelude.{◌≡◌, ℕ, suc, ◌<◌, ◌≤◌, true, All, List, length, Option, None, Some}
 use Rattle.std.specs.Str.{is_utf8}
 use Rattle.values.specs.declared.col_type.ColType.{ColType}
@@ -25,7 +25,7 @@ use Rattle.view_lang.specs.declared.view.Lookup.{Lookup}
 abbrev pub IsColumn : List (Rose NamedType) → ℕ → Type 0
 IsColumn fields k = k < length fields
 
--- one whose values have an order
+-- a column that is there, whose values have an order
 abbrev pub IsOrdered : List (Rose NamedType) → ℕ → Type 0
 IsOrdered fields k = IsColumn fields k × IsSingle (type_of (field_at fields k))
 
@@ -100,9 +100,9 @@ pub record IsView (tables : List Table) (v : View) : Type 0 where
 abbrev pub IsFeed : List Table → FeedConfig → Type 0
 IsFeed tables f = table_of f.role < length tables
 
--- A configuration that a session can keep: its tables are right, of which the main one has at most 2^24 rows and each
--- side table 2^20, its feeds are of tables that are there, its views are right, and there are no more of these than the
--- limits. Names may be there twice.
+-- A configuration that a session can keep: its tables keep their rules, the main one with at most 2^24 rows and each
+-- side table with 2^20; its feeds change tables that are there; its views keep their rules; and there are no more of
+-- all these than the limits. Names may be there twice.
 pub record IsConfig (c : Config) : Type 0 where
   pub main : IsTable c.main
   pub main_rows : c.main.max_rows ≡ max_main_rows

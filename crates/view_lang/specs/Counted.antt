@@ -1,4 +1,4 @@
--- After parts put to rows, and before parts put to what they become, count alike.
+-- Counting over a change: the rows before it and all that it brings count as the rows after it and all that it takes.
 use Rattle.std.specs.Prelude.{
   ◌≡◌,
   ℕ,

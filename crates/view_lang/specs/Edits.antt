@@ -33,6 +33,7 @@ table_of role.Retract = 0
 table_of (role.Put side) = suc side
 table_of (role.Drop side) = suc side
 
+-- what a batch of these rows does to its table, by the role of its feed
 abbrev pub change_of : Role → List (List Datum) → TableEdit
 change_of role.Append rows = append rows
 change_of role.Retract rows = retract (map first_cell rows)

@@ -60,8 +60,10 @@ aggregate_of (aggregate.Sum k) tuple rows = sum_of (values_at k rows)
 aggregate_of (aggregate.Least k) tuple rows = first_in direction.Ascending (values_at k rows)
 aggregate_of (aggregate.Greatest k) tuple rows = first_in direction.Descending (values_at k rows)
 
+-- the row of a group with this tuple and these rows
 unfoldable pub group_row : List GroupOutput → List Datum → List (List Datum) → List Datum
 group_row outs tuple rows = map (λ o. aggregate_of o.aggregate tuple rows) outs
 
+-- a row for each group of these rows
 unfoldable pub group_rows : List ℕ → List GroupOutput → List (List Datum) → List (List Datum)
 group_rows by outs rows = map (λ tuple. group_row outs tuple (rows_with by tuple rows)) (tuples_of by rows)

@@ -35,8 +35,10 @@ abbrev pub looked_up : Option Lookup → Side → List Datum → Option (List Da
 looked_up None side row = None
 looked_up (Some l) side row = side (cell_at row l.on)
 
+-- a row of the main table, joined; `None` where it is left out
 unfoldable pub joined_row : Option Lookup → Side → List Datum → Option (List Datum)
 joined_row l side row = joined_by l row (looked_up l side row)
 
+-- all rows of the main table, joined
 unfoldable pub joined : Option Lookup → Side → List (List Datum) → List (List Datum)
 joined l side rows = filter_map (joined_row l side) rows

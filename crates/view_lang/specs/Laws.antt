@@ -1,4 +1,4 @@
--- What holds of the views of tables whose rows are as their columns say.
+-- What holds of the views of tables whose rows are of their columns' types.
 use Rattle.std.specs.Prelude.{◌≡◌, ℕ, suc, ◌≤◌, false, All, IfSome, List, [], length, Option, None, Some}
 use Rattle.std.specs.List.{AllByRecursion}
 use Rattle.values.specs.Datum.{Datum}
@@ -43,25 +43,25 @@ pub record Viewed (tables : List Table) (v : View) (side : Side) (rows : List (L
   pub few : length rows ≤ max_main_rows
   pub looked_up : All (IsLookedUp tables v.lookup side) rows
 
--- The sums of its groups can be made.
+-- The sums of a view's groups can be made.
 abbrev pub ViewsCanSum : Type 0
 ViewsCanSum =
     (tables : List Table) (v : View) (side : Side) (rows : List (List Datum)) → Viewed tables v side rows
     → CanSum v.outputs (view_input v side rows)
 
--- Its rows are rows of its columns.
+-- The rows that a view shows are rows of its columns.
 abbrev pub ViewsHaveRows : Type 0
 ViewsHaveRows =
     (tables : List Table) (v : View) (side : Side) (rows : List (List Datum)) → Viewed tables v side rows
     → All (IsRow (view_columns tables v)) (view_rows v side rows)
 
--- They are at most as many as a table may have.
+-- They are no more than a table may have.
 abbrev pub ViewsHaveFewRows : Type 0
 ViewsHaveFewRows =
     (tables : List Table) (v : View) (side : Side) (rows : List (List Datum)) → Viewed tables v side rows
     → length (view_rows v side rows) ≤ max_main_rows
 
--- What it groups by, and what it shows the least or the greatest of, is neither a list nor a struct;
+-- What a view groups by, and what it shows the least or the greatest of, is neither a list nor a struct;
 abbrev pub ViewsUseKeys : Type 0
 ViewsUseKeys =
     (tables : List Table) (v : View) (by : List ℕ) (outs : List GroupOutput) (side : Side) (rows : List (List Datum))
@@ -80,7 +80,7 @@ pub record AreKeyed (t : Table) (c : Contents) : Type 0 where
   pub not_null : has_null (keys_in t c.live) ≡ false
   pub distinct : has_repeated (keys_in t c.live) ≡ false
 
--- It is so of a table without rows, and an edit that fits leaves it so.
+-- A table without rows is so, and an edit that fits leaves one so.
 abbrev pub NoRowsAreKeyed : Type 0
 NoRowsAreKeyed = (t : Table) → AreKeyed t no_contents
 

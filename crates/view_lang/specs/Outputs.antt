@@ -19,7 +19,7 @@ pub data Outputs : Type 0 where
   columns : List Output → Outputs
   groups : List ℕ → List GroupOutput → Outputs
 
--- Each is stored as the tuple of its parts; which outputs there are is told by whether they have grouping columns.
+-- Each is encoded as the tuple of its parts; outputs are groups where they have grouping columns.
 
 abbrev pub output_code : Coded Output
 output_code =

@@ -1,4 +1,4 @@
--- The outputs that those of the program are.
+-- The `Outputs` as which contracts see outputs in memory.
 use Rattle.view_lang.specs.Outputs.{Outputs, columns, groups}
 use Rattle.view_lang.specs.declared.view.Outputs.{Outputs as Stored}
 use Rattle.view_lang.specs.declared.view.Outputs.TheVariants.{Columns, Groups}

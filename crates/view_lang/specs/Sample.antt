@@ -1,6 +1,5 @@
 -- Two tables with some edits. The main table has a key `k`, a whole number, and `b`, a list of values of 65,535 bytes;
--- the
--- side table has a key `k` and a whole number `z`.
+-- the side table has a key `k` and a whole number `z`.
 use Rattle.std.specs.Prelude.{ℕ, List, [], ◌∷◌, None, Some, pos, replicate, true}
 use Rattle.values.specs.Datum.{Datum, null, whole, list, items_of}
 use Rattle.values.specs.Rose.{Rose, node, none, more}
@@ -41,7 +40,7 @@ number n = whole (pos n)
 abbrev pub row_with : Datum → Datum → List Datum
 row_with first second = first ∷ second ∷ []
 
--- a list of so many nulls, each of the weight 65,536
+-- a list of n nulls, each of the weight 65,536
 abbrev pub nulls : ℕ → Datum
 nulls n = list (items_of (replicate n null))
 
@@ -75,8 +74,7 @@ abbrev pub sample_shown : List (List Datum)
 sample_shown = (null ∷ number 20 ∷ []) ∷ (nulls 1 ∷ null ∷ []) ∷ []
 
 -- An edit for each cause: a null key beside one that is live, a live key, a key twice, a key that isn't there, a row
--- too
--- many, and a list of 16 nulls.
+-- too many, and a list of 16 nulls.
 
 abbrev pub null_key : Edit
 null_key = edit_at 0 (append (row_with (number 1) null ∷ row_with null null ∷ []))

@@ -1,4 +1,4 @@
--- Changes of rows that have numbers.
+-- Changes of numbered rows.
 use Rattle.std.specs.Prelude.{◌≡◌, ℕ, ◌+◌, ◌<◌, ◌^◌, List, [], ◌∷◌, Option, None, Some, length, refl}
 use Rattle.std.specs.BTreeMap.{insert_entry, is_at}
 use Rattle.std.specs.Coded.{Coded, code_by, coded×, coded_ℕ, coded_option, coded_list}
@@ -12,7 +12,7 @@ use Rattle.values.specs.Datum.{Datum, datum_code}
 abbrev pub NumberedRows : Type 0
 NumberedRows = List (ℕ × List Datum)
 
--- what a number has before a change, and what it has after
+-- the change at one row number: the row before, and the row after
 pub record Shift : Type 0 where
   pub number : ℕ
   pub before : Option (List Datum)
@@ -43,7 +43,7 @@ abbrev pub patched : NumberedRows → List Shift → NumberedRows
 patched rows [] = rows
 patched rows (s ∷ ss) = patched (with_at s.number s.after rows) ss
 
--- Each number has the row that the change says, once what comes before it in the change is done.
+-- Each number has the row that the change says is there before, once what comes earlier in the change is done.
 abbrev pub FitsInTurn : NumberedRows → List Shift → Type 0
 FitsInTurn rows [] = Unit {0}
 FitsInTurn rows (s ∷ ss) = (row_at s.number rows ≡ s.before) × FitsInTurn (with_at s.number s.after rows) ss
@@ -52,11 +52,11 @@ pub record Fits (rows : NumberedRows) (change : List Shift) : Type 0 where
   pub ascending : IsStrictlySortedBy nat_cmp (keys_of rows)
   pub in_turn : FitsInTurn rows change
 
--- so few that they can be counted
+-- rows and changes so few that they can be counted
 abbrev pub IsFew : NumberedRows → List Shift → Type 0
 IsFew rows change = length rows + length change < 2 ^ 62
 
--- a row more, if there is one
+-- the rows with this one at the end, if there is one
 abbrev pub push_some : Option (List Datum) → List (List Datum) → List (List Datum)
 push_some None rows = rows
 push_some (Some row) rows = row ∷ rows

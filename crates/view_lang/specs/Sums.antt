@@ -11,12 +11,12 @@ use Rattle.view_lang.specs.declared.view.Aggregate.TheVariants as aggregate
 abbrev pub IsSmall : ℤ → Type 0
 IsSmall n = (neg_ℤ (pos (2 ^ 96)) ≤ℤ n) × (n ≤ℤ pos (2 ^ 96))
 
--- a number of at most 28 decimal digits, or of 64 bits, is within
+-- the numbers of a summed column are from -2^96 to 2^96, as those of 64 bits or of 28 decimal digits are
 abbrev pub IsSummable : Aggregate → List Datum → Type 0
 IsSummable (aggregate.Sum k) row = IsSmall (number_in (cell_at row k))
 IsSummable _ row = Unit {0}
 
--- so many rows that their numbers can be added
+-- so few rows that their numbers can be added
 abbrev pub AreSummable : List GroupOutput → List (List Datum) → Type 0
 AreSummable outs rows = (length rows ≤ max_main_rows) × All (λ row. All (λ o. IsSummable o.aggregate row) outs) rows
 
@@ -25,7 +25,7 @@ abbrev pub first_tuple : List ℕ → List (List Datum) → List Datum
 first_tuple by [] = []
 first_tuple by (row ∷ rows) = cells_at by row
 
--- so that the outputs can be made
+-- the sums of the outputs can be made for each group of these rows
 abbrev pub CanSum : Outputs → List (List Datum) → Type 0
 CanSum (columns outputs) rows = Unit {0}
 CanSum (groups by outputs) rows = AreSummable outputs rows

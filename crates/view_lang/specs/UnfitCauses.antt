@@ -1,4 +1,4 @@
--- The cause that an unfit edit is refused with: the one of its name.
+-- The cause that an edit is refused with that doesn't fit: the one of the same name.
 use Rattle.values.specs.declared.causes.Cause.{Cause}
 use Rattle.values.specs.declared.causes.Cause.TheVariants as cause
 use Rattle.view_lang.specs.declared.unfit.Unfit.{Unfit}

@@ -20,7 +20,7 @@ use Rattle.view_lang.specs.declared.view.Lookup.{Lookup}
 abbrev pub renamed : List ℕ → Rose NamedType → Rose NamedType
 renamed name (node f kids) = node (record { name = name; col_type = f.col_type }) kids
 
--- where there is no column of a number
+-- what stands for a column where there is none of a number
 abbrev pub no_field : Rose NamedType
 no_field = node (record { name = []; col_type = col.Bool }) none
 
@@ -43,7 +43,7 @@ feed_columns tables r = columns_by r (table_at tables (table_of r))
 
 -- The columns of a view.
 
--- those of the rows that it is made of
+-- the columns of the joined rows that a view is made of
 abbrev pub joined_columns : List Table → Option Lookup → List (Rose NamedType)
 joined_columns tables None = (table_at tables 0).columns
 joined_columns tables (Some l) = (table_at tables 0).columns ++ (table_at tables (suc l.side)).columns
@@ -57,7 +57,7 @@ simple_field name t = node (record { name = name; col_type = t }) none
 abbrev pub count_type : ColType
 count_type = col.Int int.Bits64 true
 
--- A sum has as many digits as there can be, and those after the point of what is added.
+-- A sum has the most digits that a decimal can have, as many of them after the point as what is added.
 abbrev pub sum_type : ColType → ColType
 sum_type (col.Decimal p s) = col.Decimal max_precision s
 sum_type t = col.Decimal max_precision 0

@@ -117,7 +117,7 @@ abbrev pub IsValueIn : ℕ → Operand → Type 0
 IsValueIn n (operand.Constant d) = is_null d ≡ false
 IsValueIn n (operand.Column k) = k < n
 
--- A filter names columns of rows so long, and its constants aren't null.
+-- A filter names columns of rows of this length, and its constants aren't null.
 abbrev mutual
   pub IsOver : ℕ → Filter → Type 0
   IsOver n (compare c k o) = (k < n) × IsValueIn n o
@@ -240,7 +240,7 @@ OrderByTuple =
     (os : List OrderBy) (rows : List (List Datum × List Datum)) → IsStrictlySortedBy (λ a b. tuple_cmp a.0 b.0) rows
     → map (λ e. e.1) (sorted (grouped_cmp os) rows) ≡ sorted (row_cmp os) (map (λ e. e.1) rows)
 
--- A row more, wherever it stands, is put in its place among the sorted ones.
+-- One more row, wherever it stands, is put in its place among the sorted ones.
 abbrev pub RowInserted : Type 0
 RowInserted =
     (os : List OrderBy) (rows others : List (ℕ × List Datum)) (r : ℕ × List Datum)

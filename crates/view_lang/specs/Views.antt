@@ -17,7 +17,7 @@ use Rattle.view_lang.specs.declared.view.Lookup.{Lookup}
 unfoldable pub view_input : View → Side → List (List Datum) → List (List Datum)
 view_input v side rows = filter (passes v.filter) (joined v.lookup side rows)
 
--- one of them
+-- what one row of the main table gives to these: the row joined, if it is kept
 abbrev pub kept_row : View → Side → List Datum → Option (List Datum)
 kept_row v side row = option_and_then (λ r. cond (passes v.filter r) (Some r) None) (joined_row v.lookup side row)
 
@@ -40,6 +40,7 @@ first_of (Some n) xs = take n xs
 unfoldable pub shown_rows : View → List (List Datum) → List (List Datum)
 shown_rows v rows = first_of v.first (sorted (row_cmp v.order) (output_rows v.outputs rows))
 
+-- the rows that a view shows, of these rows of the main table and this side table
 unfoldable pub view_rows : View → Side → List (List Datum) → List (List Datum)
 view_rows v side rows = shown_rows v (view_input v side rows)
 

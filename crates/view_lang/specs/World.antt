@@ -1,4 +1,4 @@
--- The tables that edits leave.
+-- What edits leave of the tables.
 use Rattle.std.specs.Prelude.{ℕ, List, [], ◌∷◌, get_or, map, slice_set}
 use Rattle.view_lang.specs.Config.{Table}
 use Rattle.view_lang.specs.Contents.{Contents, applied, no_contents}
@@ -8,7 +8,7 @@ use Rattle.view_lang.specs.Edits.{Edit}
 abbrev pub World : Type 0
 World = List Contents
 
--- where there is no table of a number
+-- what stands for a table where there is none of a number
 abbrev pub no_table : Table
 no_table = record { key = 0; max_rows = 0; columns = [] }
 
@@ -18,7 +18,7 @@ table_at tables n = get_or tables n no_table
 abbrev pub contents_at : World → ℕ → Contents
 contents_at w n = get_or w n no_contents
 
--- the world after one edit more
+-- the world after one more edit
 abbrev pub edited : List Table → Edit → World → World
 edited tables e w = slice_set w e.table (applied (table_at tables e.table) e.change (contents_at w e.table))
 

@@ -46,7 +46,7 @@ fn count_values(rows: &[Row], column: usize) -> usize
     count
 }
 
-/// The numbers of a column together.
+/// The sum of the numbers of a column, nulls counted as 0.
 #[tactic(auto, using(crate::proofs::Folds::total_steps))]
 fn total_of(rows: &[Row], column: usize) -> i128
     requires few { length rows.now ≤ max_main_rows }
@@ -72,7 +72,7 @@ fn earlier<'a>(direction: Direction, a: &'a Value, b: &'a Value) -> &'a Value
     }
 }
 
-/// The cell of a column that stands first in this direction; the null at hand where all are null.
+/// The cell of a column that stands first in this direction; `absent`, which is a null, where all are null.
 #[tactic(auto, using(crate::proofs::Folds::first_steps))]
 fn first_in<'a>(
     direction: Direction,
@@ -90,7 +90,7 @@ fn first_in<'a>(
     first
 }
 
-/// The cell of the grouping column at this place among them, of the first row.
+/// The cell of grouping column `by[place]` in the first row.
 fn key_cell(alloc: Global, by: &[usize], place: usize, rows: &[Row]) -> Result<Value, AllocError>
     ensures { IfOk result (λ cell. cell ≡ cell_at (first_tuple by.now (rows_of rows.now)) place) }
 {
@@ -110,7 +110,7 @@ fn whole(number: i128) -> Value
     }
 }
 
-/// The sum of a column, of which nulls are no part; null where nothing is left.
+/// The sum of a column's values that aren't null; null where there is none.
 fn sum_of(rows: &[Row], column: usize) -> Value
     requires few { length rows.now ≤ max_main_rows }
     requires small { All (λ row. IsSummable (Aggregate.Sum column) row) (rows_of rows.now) }

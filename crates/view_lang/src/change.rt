@@ -1,4 +1,4 @@
-//! Changes of rows that have numbers.
+//! Changes of numbered rows.
 
 ghost use Rattle.std.specs.Prelude.{◌≡◌, ◌++◌, ◌∷◌, [], OnErr, OnOk};
 ghost use Rattle.std.specs.Option.{option_map};
@@ -8,7 +8,8 @@ use std::alloc::{AllocError, Global};
 use std::marker::Model;
 use values::{Row, Value};
 
-/// What changes at the number of a row: the row before, and the row after. Where there is none, it came or went.
+/// The change at one row number: the row before it, and the row after it. A row that comes has none before, one that
+/// goes has none after.
 #[derive(Debug, Drop)]
 pub struct RowChange {
     number: usize,
@@ -28,6 +29,7 @@ impl Model for RowChange {
 }
 
 impl RowChange {
+    /// A change at this number from one row, or none, to another, or none.
     pub fn new(number: usize, before: Option<Row>, after: Option<Row>) -> RowChange
         ensures { result ≡ shift number (option_map (λ r. r.items) before) (option_map (λ r. r.items) after) }
     {
@@ -38,6 +40,7 @@ impl RowChange {
         }
     }
 
+    /// The number of the row.
     pub fn number(&self) -> usize
         ensures { result ≡ self.now.number }
     {
@@ -65,7 +68,7 @@ impl RowChange {
     }
 }
 
-/// What changes at some numbers, one after the other. Contracts see the list.
+/// A list of changes at row numbers, which are applied one after the other. Contracts see the list.
 #[derive(Debug, Drop)]
 pub struct Change {
     rows: Vec<RowChange>,
@@ -93,7 +96,7 @@ impl Change {
         }
     }
 
-    /// Adds what changes at one number, after all else. Where memory is refused, nothing has changed.
+    /// Adds a change at one number at the end. If memory is refused, nothing has changed.
     pub fn push(&mut self, changed: RowChange) -> Result<(), AllocError>
         ensures ok { OnOk result (self.new ≡ self.old ++ changed ∷ []) }
         ensures err { OnErr result (self.new ≡ self.old) }
@@ -102,7 +105,7 @@ impl Change {
         Ok(())
     }
 
-    /// What changes at each number, in order.
+    /// The changes at row numbers, in order.
     pub fn rows(&self) -> &[RowChange]
         ensures { result.now ≡ self.now }
     {

@@ -4,10 +4,12 @@ use crate::view::View;
 use std::marker::Model;
 use values::LogicalField;
 
-/// The columns of a table, the number of the one that is its key, and how many rows may be live.
+/// A declared table.
 #[derive(Debug, Drop)]
 pub struct Table {
+    /// The number of the key column.
     pub key: usize,
+    /// How many rows may be live at once.
     pub max_rows: usize,
     pub columns: Vec<LogicalField>,
 }
@@ -40,20 +42,20 @@ impl Model for SideTable {
     ghost view = { λ s. record { name = string_bytes s.name; table = s.table } };
 }
 
-/// What the batches of a feed do to a table.
+/// What the record batches of a feed do to a table.
 #[derive(Clone, Copy, Debug, PartialEq, Eq)]
 pub enum Role {
-    /// Their rows come after all live rows of the main table.
+    /// Their rows are added to the main table, after all live rows.
     Append,
-    /// They name the keys of rows of the main table, which go away.
+    /// They name keys, and the rows of the main table with these keys are removed.
     Retract,
-    /// Their rows come to the side table of this number, and stand in the places of those with the same keys.
+    /// Their rows are added to the side table of this number, after the rows with the same keys are removed from it.
     Put(usize),
-    /// They name the keys of rows of the side table of this number, which go away.
+    /// They name keys, and the rows of the side table of this number with these keys are removed.
     Drop(usize),
 }
 
-/// A feed.
+/// A declared feed: its name, and what its batches do.
 #[derive(Debug, Drop)]
 pub struct FeedConfig {
     pub name: String,
@@ -71,7 +73,8 @@ impl Model for FeedConfig {
     ghost view = { λ f. record { name = string_bytes f.name; role = f.role } };
 }
 
-/// A main table, side tables, the feeds that change them, and the views that are written of them.
+/// A configuration: a main table, side tables, the feeds that change them, and the views that are written of them. Side
+/// tables are numbered from 0 in the order of `sides`.
 #[derive(Debug, Drop)]
 pub struct Config {
     pub main: Table,

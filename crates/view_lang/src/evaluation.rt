@@ -46,7 +46,7 @@ fn output(alloc: Global, outputs: &Outputs, mut rows: Vec<Row>) -> Result<Vec<Ro
     }
 }
 
-/// Leaves the first rows; all where no number is given.
+/// Keeps the first `first` rows, or all where no number is given.
 #[tactic(auto, using(crate::proofs::Showing::cut_steps))]
 fn cut(rows: &mut Vec<Row>, first: Option<usize>)
     ensures { rows_of rows.new.items ≡ first_of first (rows_of rows.old.items) }
@@ -57,7 +57,8 @@ fn cut(rows: &mut Vec<Row>, first: Option<usize>)
 }
 
 impl View {
-    /// A row of the main table with the cells of the side table's row, where there is one; `None` where it is left out.
+    /// Joins a row of the main table with the side table's row for it. Without one the side cells are null, or the row
+    /// is left out, which is `None`.
     pub fn join(
         &self,
         alloc: Global,
@@ -91,7 +92,7 @@ impl View {
         }
     }
 
-    /// What the view shows of the joined rows that it keeps, which come in the order of the main table's rows.
+    /// The rows that the view shows, made of the joined rows that its filter keeps, in the order of the main table.
     #[tactic(auto, unfolding(crate::specs::Views::shown_rows))]
     pub fn show(&self, alloc: Global, rows: Vec<Row>) -> Result<Vec<Row>, AllocError>
         requires { CanSum self.now.outputs (rows_of rows.items) }
@@ -101,7 +102,7 @@ impl View {
         self.arrange(made)
     }
 
-    /// Output rows in the view's order, of which the first are left. Rows that tie stay in their order.
+    /// Sorts output rows by the view's order and cuts them to the first. Rows that tie stay in their order.
     pub fn arrange(&self, mut rows: Vec<Row>) -> Result<Vec<Row>, AllocError>
         ensures { IfOk result (λ shown.
             rows_of shown.items ≡ first_of self.now.first (sorted (row_cmp self.now.order) (rows_of rows.items))) }

@@ -1,4 +1,4 @@
-//! Filters, and which rows they are true of.
+//! Filters, and their truth for a row.
 
 ghost use Rattle.std.specs.Prelude.{◌≡◌};
 ghost use Rattle.view_lang.specs.Filter.{parts_of};
@@ -16,12 +16,12 @@ use crate::cells::{cell_or, is_null, no_value};
 use std::marker::Model;
 use values::{Value, cmp_values};
 
-/// How two cells are compared.
+/// A comparison of two cells, by the order of values.
 #[derive(Clone, Copy, Debug, PartialEq, Eq)]
 pub enum Comparison {
-    /// `eq`: they are the same.
+    /// `eq`: the two are equal.
     Equal,
-    /// `ne`: they aren't the same.
+    /// `ne`: the two aren't equal.
     Different,
     /// `lt`: the first stands before the second.
     Below,
@@ -42,7 +42,7 @@ pub enum Operand {
     Column(usize),
 }
 
-/// A test of a row. Contracts see it as a `Filter` of `specs/Filter.antt`.
+/// A test of joined rows. Contracts see it as a `Filter` of `specs/Filter.antt`.
 #[cycle(filter)]
 #[derive(Debug, Drop)]
 pub struct Filter {
@@ -61,11 +61,11 @@ pub enum Test {
     },
     /// The cell of this column is null.
     IsNull(usize),
-    /// The filter isn't true; unknown where that is.
+    /// The filter is false: unknown where that filter is.
     Not(Box<Filter>),
-    /// All are true: false where one is false, else unknown where one is.
+    /// All are true: false where one is false, else unknown where one is unknown.
     And(Vec<Filter>),
-    /// One is true: else unknown where one is, else false.
+    /// At least one is true: otherwise unknown where one is unknown, else false.
     Or(Vec<Filter>),
 }
 
@@ -88,7 +88,7 @@ impl Model for Filter {
     ghost size_decreases = { λ f h. Prim.omega (arith, deep_le-filter_size f.test) };
 }
 
-/// Whether two cells compare so: `None` where one is null.
+/// The truth of a comparison of two cells; `None`, which is unknown, where one is null.
 fn compared(comparison: Comparison, a: &Value, b: &Value) -> Option<bool>
     ensures { result ≡ compared_by comparison a.now b.now }
 {
@@ -139,7 +139,7 @@ fn either(a: Option<bool>, b: Option<bool>) -> Option<bool>
 }
 
 impl Filter {
-    /// Whether the filter is true of a row: `None` where that is unknown, since a null is compared.
+    /// Whether the filter is true of a joined row: `None` where that is unknown, since a null is compared.
     #[cycle(truth)]
     #[tactic(auto, unfolding(crate::specs::Truth::truth))]
     pub fn truth(&self, row: &[Value]) -> Option<bool>

@@ -35,7 +35,7 @@ fn group_row(
     Ok(cells)
 }
 
-/// How many rows, from the first on, have the first one's tuple of grouping columns.
+/// How many rows, from the first on, have the same cells in the grouping columns as the first.
 fn run_len(by: &[usize], rows: &[Row]) -> usize
     ensures value { result ≡ prefix_len (like_first by.now (rows_of rows.now)) (rows_of rows.now) }
     ensures bound { result ≤ length rows.now }
@@ -47,7 +47,7 @@ fn run_len(by: &[usize], rows: &[Row]) -> usize
     len
 }
 
-/// The group rows of rows that are sorted by their tuples.
+/// The group rows of rows that are sorted by their grouping columns.
 fn group_runs(
     alloc: Global,
     by: &[usize],

@@ -48,13 +48,14 @@ use values::limits::{
     MAX_APPENDED_ROWS, MAX_COLUMNS, MAX_FEEDS, MAX_SIDE_ROWS, MAX_SIDE_TABLES, MAX_VIEWS,
 };
 
-/// The columns of a view that is right keep the rules of a table's columns.
+/// The columns of a view that keeps the rules of `specs/ConfigRules.antt` keep those of a table's columns.
 pub fn config_law()
     ensures views { ViewsAreTables }
 {}
 
-/// Rows that aren't too heavy keep the limit on rows. The sums of a view's groups can be made, and the rows of a view
-/// are rows of its columns, and not too many. What a view groups by, compares or orders by has keys.
+/// A row that isn't too heavy for an edit is within the limits on rows. Of such rows, at most as many as a table may
+/// have, the sums of a view's groups fit their type, and the rows that it shows are rows of its columns, and no more.
+/// What a view groups by, compares or orders by is neither a list nor a struct.
 pub fn rows_law()
     ensures light { RowsAreLight }
     ensures sums { ViewsCanSum }
@@ -64,7 +65,7 @@ pub fn rows_law()
     ensures ordered { ViewsOrderKeys }
 {}
 
-/// Each live row of a table has a key of its own, and none is null, after whatever edits that fit.
+/// After any edits that fit, the live rows of a table have distinct keys, none of them null.
 pub fn key_law()
     ensures none { NoRowsAreKeyed }
     ensures edits { KeysStayDistinct }
@@ -81,7 +82,7 @@ pub fn limits_law()
     ensures appended_rows { MAX_APPENDED_ROWS ≡ max_appended_rows }
 {}
 
-/// What some edits leave of two tables, what a view shows of them, and for each cause an edit that isn't taken then.
+/// What some edits leave of two tables, what a view shows of them, and for each cause an edit that is refused for it.
 pub fn sample_law()
     ensures tables { world sample_tables sample_edits ≡ sample_world }
     ensures view { view_of sample_tables sample_view sample_world ≡ sample_shown }

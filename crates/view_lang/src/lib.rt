@@ -1,11 +1,11 @@
 //! What is declared of tables and of views of them: a main table and side tables, the feeds that change their rows, and
 //! the views that are written of them.
 //!
-//! `specs/Config.antt` is a configuration as contracts see it, and `specs/ConfigRules.antt` says which configurations
-//! are right. `specs/Edits.antt` are the edits that feeds bring, `specs/World.antt` is what they leave of the tables, and
-//! `specs/Causes.antt` says why an edit isn't taken. `specs/Views.antt` says what a view shows: `Joined` of rows with
-//! what is looked up, `Truth` of filters, `Groups`, and the order of rows (`RowOrder`, `Sorted`). `specs/Laws.antt` and
-//! `specs/ViewLaws.antt` say what follows.
+//! `specs/Config.antt` is a configuration as contracts see it, and `specs/ConfigRules.antt` says which rules an
+//! accepted one keeps. `specs/Edits.antt` are the edits that feeds bring, `specs/World.antt` is what they leave of the
+//! tables, and `specs/Causes.antt` says why an edit isn't taken. `specs/Views.antt` says what a view shows: `Joined` of
+//! rows with what is looked up, `Truth` of filters, `Groups`, and the order of rows (`RowOrder`, `Sorted`).
+//! `specs/Laws.antt` and `specs/ViewLaws.antt` say what follows.
 #![tactic(auto)]
 
 mod aggregates;

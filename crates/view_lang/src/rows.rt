@@ -1,4 +1,4 @@
-//! Rows projected, compared and sorted.
+//! Projects, compares and sorts rows.
 
 ghost use Rattle.std.specs.Prelude.{◌≡◌, IfOk, OnOk, map};
 ghost use Rattle.std.specs.Ordering.{on};
@@ -13,7 +13,7 @@ use std::alloc::{AllocError, Global};
 use std::cmp::Ordering;
 use values::{Row, Value, cmp_values};
 
-/// What a view with these outputs shows of a joined row.
+/// The output row that a view with these outputs makes of a joined row.
 #[tactic(auto, using(crate::proofs::Projecting::cell_steps))]
 pub fn project(alloc: Global, outputs: &[Output], row: &[Value]) -> Result<Row, AllocError>
     ensures { IfOk result (λ shown. shown.items ≡ shown_row outputs.now row.now) }
@@ -26,7 +26,7 @@ pub fn project(alloc: Global, outputs: &[Output], row: &[Value]) -> Result<Row, 
     Ok(shown)
 }
 
-/// Puts what a view with these outputs shows of each row into the row's place.
+/// Replaces each joined row by its output row.
 pub(crate) fn project_all(
     alloc: Global,
     outputs: &[Output],
@@ -75,7 +75,7 @@ fn compare_rows(order: &[OrderBy], a: &[Value], b: &[Value]) -> Ordering
     Ordering::Equal
 }
 
-/// Which of two rows has the lesser tuple of grouping columns.
+/// Compares two rows by their grouping columns, in turn.
 #[tactic(auto, using(crate::proofs::Ranking::tuple_steps))]
 pub(crate) fn compare_tuples(by: &[usize], a: &[Value], b: &[Value]) -> Ordering
     ensures { result ≡ tuple_cmp (cells_at by.now a.now) (cells_at by.now b.now) }
@@ -97,7 +97,7 @@ pub(crate) fn sort_rows(rows: &mut Vec<Row>, order: &[OrderBy]) -> Result<(), Al
     rows.sort_by(|a, b| compare_rows(order, a, b))
 }
 
-/// Sorts rows by their tuples of grouping columns. Rows of one tuple stay in their order.
+/// Sorts rows by their grouping columns. Rows that are alike in these stay in their order.
 pub(crate) fn sort_tuples(rows: &mut Vec<Row>, by: &[usize]) -> Result<(), AllocError>
     ensures { OnOk result (rows_of rows.new.items ≡ sorted (on (cells_at by.now) tuple_cmp) (rows_of rows.old.items)) }
 {

@@ -220,7 +220,7 @@ impl Config {
         Schema::new(alloc, self.feed_fields(alloc, role)?)
     }
 
-    /// The columns of a view of these tables.
+    /// The columns of a view of this configuration's tables.
     fn view_fields(&self, alloc: Global, view: &View) -> Result<Vec<LogicalField>, AllocError>
         requires config { IsConfig self.now }
         requires view { IsView (tables_of self.now) view.now }
@@ -236,8 +236,8 @@ impl Config {
         }
     }
 
-    /// The columns of a view of these tables: the outputs' names, with the types of the columns that they show, int64 for
-    /// counts, and decimals of 38 digits for sums.
+    /// The schema of a view of this configuration's tables: the outputs' names, with the types of the columns that they
+    /// show, int64 for counts, and decimals of 38 digits for sums.
     pub fn view_schema(&self, alloc: Global, view: &View) -> Result<Schema, AllocError>
         requires config { IsConfig self.now }
         requires view { IsView (tables_of self.now) view.now }

@@ -1,9 +1,9 @@
-//! Why an edit isn't taken.
+//! Why an edit is refused.
 
 use values::Cause;
 
-/// Why an edit doesn't fit the table, in the order of the causes' numbers, 41 to 45. Where several stand, the first is
-/// told.
+/// Why an edit doesn't fit its table, in the order of the causes' numbers, 41 to 45. Where several stand, the first is
+/// reported.
 #[derive(Clone, Copy, Debug, PartialEq, Eq)]
 pub enum Unfit {
     /// A key is null.
@@ -12,7 +12,8 @@ pub enum Unfit {
     DuplicateKey,
     /// A retracted key isn't live.
     UnknownKey,
-    /// The table would have more than 2^24 live rows, or more than 2^62 rows would have been appended.
+    /// The main table would have more than 2^24 live rows, or a side table more than 2^20, or more than 2^62 rows would
+    /// have come to a table in all.
     TooManyRows,
     /// A cell weighs more than 2^20, or a row more than 2^26.
     CellTooHeavy,

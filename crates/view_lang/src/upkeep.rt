@@ -1,4 +1,4 @@
-//! What is kept of rows by their changes.
+//! States that are kept for rows, and follow their changes.
 
 ghost use Rattle.std.specs.Prelude.{OnOk};
 ghost use Rattle.view_lang.specs.Shifts.{Fits, IsFew, NumberedRows, patched};
@@ -6,12 +6,13 @@ ghost use Rattle.view_lang.specs.Shifts.{Fits, IsFew, NumberedRows, patched};
 use crate::change::Change;
 use std::alloc::AllocError;
 
-/// A state that is kept for rows, and brought up to date by their changes.
+/// A state that is made of numbered rows, and is kept current by the changes of these rows.
 pub trait Upkeep {
     /// The state is what these rows make.
     ghost keeps: { Self → NumberedRows → Type 0 };
 
-    /// Brings the state from the rows before a change to those after it. After an error it may be kept for no rows.
+    /// Brings the state from the rows before a change to those after it. After an error it may be the state of no rows
+    /// at all, neither of those before nor of those after.
     fn apply(&mut self, change: &Change) -> Result<(), AllocError>
         requires { (rows : NumberedRows)
             × (keeps self.old rows × (Fits rows change.now × IsFew rows change.now)) }

@@ -6,17 +6,17 @@
 use crate::filter::Filter;
 use std::marker::Model;
 
-/// A view: the rows of the main table are looked up, filtered, put into columns or grouped, sorted and cut, in this
-/// order.
+/// A view: the rows of the main table are joined with a side table's, filtered, projected or grouped, sorted, and cut
+/// to the first, in this order.
 #[derive(Debug, Drop)]
 pub struct View {
     pub name: String,
     pub lookup: Option<Lookup>,
     pub filter: Option<Filter>,
     pub outputs: Outputs,
-    /// By columns of the output. Rows that tie stay in their order.
+    /// The columns of the output by which rows are sorted, the first counting most. Rows that tie stay in their order.
     pub order: Vec<OrderBy>,
-    /// How many rows at most.
+    /// How many rows the view shows at most; all where there is no number.
     pub first: Option<usize>,
 }
 
@@ -43,40 +43,42 @@ impl Model for View {
 /// Which row of a side table a row is joined with: the one whose key is the cell of a column.
 #[derive(Clone, Copy, Debug)]
 pub struct Lookup {
-    /// The number of the side table.
+    /// The number of the side table, counted from 0.
     pub side: usize,
-    /// The number of the main table's column.
+    /// The number of the main table's column whose cells are looked up.
     pub on: usize,
     pub missing: Missing,
     /// How many columns the side table has.
     pub columns: usize,
 }
 
-/// What becomes of a row for which the side table has none.
+/// What becomes of a row of the main table for which the side table has no row.
 #[derive(Clone, Copy, Debug, PartialEq, Eq)]
 pub enum Missing {
-    /// Its side columns are null.
+    /// The columns of the side table are null.
     Null,
-    /// It is left out.
+    /// The row is left out.
     Drop,
 }
 
 /// The columns of a view.
 #[derive(Debug, Drop)]
 pub enum Outputs {
-    /// Columns of each row.
+    /// A row for each joined row, with these columns of it.
     Columns(Vec<Output>),
-    /// A row for each group of rows that are alike in the columns `by`; one row in all where there are no such columns.
+    /// A row for each group of joined rows that are alike in the columns `by`. Without such columns all rows are one
+    /// group, also where there are none.
     Groups {
         by: Vec<usize>,
         columns: Vec<GroupOutput>,
     },
 }
 
-/// A column of a view: its name, and the number of the column that it shows.
+/// A column of a view without groups.
 #[derive(Debug, Drop)]
 pub struct Output {
     pub name: String,
+    /// The number of the column of joined rows that it shows.
     pub column: usize,
 }
 
@@ -112,21 +114,24 @@ impl Model for GroupOutput {
 /// What is shown of a group.
 #[derive(Clone, Copy, Debug, PartialEq, Eq)]
 pub enum Aggregate {
-    /// The grouping column at this place among them.
+    /// The grouping column at this place in `by`.
     Key(usize),
-    /// How many rows it has.
+    /// How many rows the group has.
     Count,
-    /// In how many of its rows this column isn't null.
+    /// In how many of the group's rows this column isn't null.
     CountOf(usize),
-    /// The sum of this column, of which nulls are no part; null where nothing is left. So it is of the next two.
+    /// The sum of this column's values that aren't null; null where there is none.
     Sum(usize),
+    /// The least of this column's values that aren't null; null where there is none.
     Least(usize),
+    /// The greatest of this column's values that aren't null; null where there is none.
     Greatest(usize),
 }
 
 /// A column of the output by which rows are sorted.
 #[derive(Clone, Copy, Debug)]
 pub struct OrderBy {
+    /// The place of the column among the view's outputs.
     pub column: usize,
     pub direction: Direction,
 }

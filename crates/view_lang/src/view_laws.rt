@@ -46,7 +46,8 @@ ghost use Rattle.view_lang.specs.ViewSamples.{
 };
 ghost use Rattle.view_lang.specs.Views.{view_rows};
 
-/// What `not`, `and` and `or` mean where a part is unknown; and that a row without nulls leaves nothing unknown.
+/// What `not`, `and` and `or` mean where a part is unknown, and De Morgan's laws. A filter and its negation are never
+/// both true, and of a row without nulls each filter is true or false.
 #[tactic(auto, using(crate::proofs::TruthLaws::truth_laws))]
 pub fn truth_law()
     ensures unknown { UnknownStays }
@@ -59,14 +60,16 @@ pub fn truth_law()
     ensures two_valued { TwoValuedWithoutNulls }
 {}
 
-/// The sorted rows are the only rearrangement that is sorted and leaves ties as they stood.
+/// Any two rows are ranked, and the sorted rows are the only rearrangement that is sorted and leaves ties as they
+/// stood.
 #[tactic(auto, using(crate::proofs::OrderLaws::order_laws))]
 pub fn order_law()
     ensures ranked { RowsAreRanked }
     ensures only { SortedIsTheArrangement }
 {}
 
-/// There is a group for each tuple of the rows and no other, and the order of the rows has no part in it.
+/// There is one group for each tuple that a row has in the grouping columns, ascending; group rows don't depend on the
+/// order of the rows.
 #[tactic(auto, using(crate::proofs::Tuples::tuple_laws, crate::proofs::Multisets::multiset_laws))]
 pub fn group_law()
     ensures ascending { TuplesAscend }
@@ -76,7 +79,8 @@ pub fn group_law()
     ensures multiset { GroupsOfMultiset }
 {}
 
-/// What is shown can be made of sorted values and sorted rows, into which a row more is put in its place.
+/// Groups and orders can be kept: sums, least and greatest values are those of the sorted values, and another row is
+/// put into the sorted rows at its place.
 #[tactic(auto, using(crate::proofs::Keeping::keeping_laws))]
 pub fn keeping_law()
     ensures first { FirstOfSorted }
@@ -86,14 +90,16 @@ pub fn keeping_law()
     ensures inserted { RowInserted }
 {}
 
-/// What a view keeps and shows of rows is what it keeps and shows of each of them.
+/// Joining, filtering and projecting go row by row: the rows that a view is made of, and the plain rows that it shows,
+/// are those that it makes of each row.
 #[tactic(auto, using(crate::proofs::OneByOne::one_by_one_laws))]
 pub fn one_by_one_law()
     ensures kept { KeptOneByOne }
     ensures shown { ShownOneByOne }
 {}
 
-/// A change of rows is a change of what is made of each row.
+/// Where something is made of each row, a change of the rows is a change of what is made of them, and leads to what is
+/// made of the rows after it.
 #[tactic(auto, using(crate::proofs::Imaging::image_laws))]
 pub fn image_law()
     ensures fits { ImageFits }
@@ -102,7 +108,7 @@ pub fn image_law()
     ensures at { ImageAt }
 {}
 
-/// What some views show of a few rows.
+/// What some views show of a few rows, computed.
 pub fn worked_law()
     ensures unknown { view_rows not_at_least_zero no_side amounts ≡ (number 3 ∷ []) ∷ [] }
     ensures nulls_last { view_rows (falling None) no_side three_amounts
