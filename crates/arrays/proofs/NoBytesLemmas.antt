@@ -107,7 +107,8 @@ each-alike f d i zero same = refl
 each-alike f d i (suc n) same =
     ap (λ m. both cons m (each f (i + 1) n)) (same i) ∙ ap (λ m. both cons (Ok d) m) (each-alike f d (i + 1) n same)
 
-cells-empty : (b : List ℕ) (t : Rose ArrayData) → has_no_bytes t ≡ true → valid_of (cells b t) ≡ replicate (len_of t) (bytes [])
+cells-empty : (b : List ℕ) (t : Rose ArrayData) → has_no_bytes t ≡ true
+    → valid_of (cells b t) ≡ replicate (len_of t) (bytes [])
 unfolding cells
 cells-empty b t h = ap valid_of (each-alike (cell b t) (bytes []) 0 (len_of t) (λ k. cell-empty b t k h))
 

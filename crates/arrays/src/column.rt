@@ -150,8 +150,8 @@ impl Column {
         is_uniform(&self.root)
     }
 
-    /// Whether no cell has a byte in the body, which a header may claim any number of: of bytes of width 0, of which none
-    /// is null.
+    /// Whether no cell has a byte in the body, so that a header may claim any number of them: all are bytes of width 0,
+    /// and none is null.
     pub fn has_no_bytes(&self) -> bool
         ensures { result ≡ true → self.now.cells ≡ replicate (length self.now.cells) (bytes []) }
     {

@@ -129,7 +129,8 @@ rising-below k (e ∷ es) (suc i) d rising h =
     let here = rising.0 in
     omega (arith, there, here)
 
-rising-sorted : (k : ℕ) (es : List ℕ) (i j d : ℕ) → IsRising k es → i ≤ j → j < length es → get_or es i d ≤ get_or es j d
+rising-sorted : (k : ℕ) (es : List ℕ) (i j d : ℕ) → IsRising k es → i ≤ j → j < length es
+    → get_or es i d ≤ get_or es j d
 rising-sorted k [] i j d rising up h = absurd (omega (arith, h))
 rising-sorted k (e ∷ es) zero zero d rising up h = omega arith
 rising-sorted k (e ∷ es) zero (suc j) d rising up h = rising-below e es j d rising.1 (omega (arith, h))
@@ -196,7 +197,8 @@ get-from : (ds : List Datum) (k : ℕ) (es : List ℕ) (i : ℕ) → length es �
 get-from [] k es i size rising h = refl
 get-from (d ∷ ds) k [] i size rising h = absurd (omega (arith, size))
 get-from (d ∷ ds) k (e ∷ es) i size rising h =
-    get-step d ds k e es i (nat_le e i) refl rising.0 h (λ within. get-from ds e es i (omega (arith, size)) rising.1 within)
+    get-step d ds k e es i (nat_le e i) refl rising.0 h
+    (λ within. get-from ds e es i (omega (arith, size)) rising.1 within)
 
 spread-get : (ds : List Datum) (es : List ℕ) (i : ℕ) → AreRuns ds es
     → slice_get ds (prefix_len (λ x. nat_le x i) es) ≡ slice_get (spread 0 ds es) i

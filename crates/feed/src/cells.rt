@@ -44,7 +44,7 @@ fn empty_values(alloc: Global, count: usize) -> Result<ValueRuns, AllocError>
     ValueRuns::repeated(alloc, empty, count)
 }
 
-/// The cells of a column as values: where they have no bytes one stands for all, since any number of such may be claimed.
+/// The cells of a column as values: where they have no bytes, and so any number of them may be claimed, one is held.
 fn read_values(alloc: Global, column: &Column) -> Result<ValueRuns, AllocError>
     ensures cells { IfOk result (λ vs. vs ≡ column.now.cells) }
     ensures typed { IfOk result (λ vs. All (Holds column.now.layouts) vs) }
