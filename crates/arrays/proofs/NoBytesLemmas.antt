@@ -14,7 +14,6 @@ use Rattle.std.proofs.Common.{
   false,
   List,
   [],
-  ◌∷◌,
   length,
   replicate,
   take,
@@ -29,7 +28,7 @@ use Rattle.std.specs.Prelude.{Option, None, Some, Ok, if◌then◌else◌, slice
 use Rattle.std.proofs.lemmas.Bool.{eqb-true}
 use Rattle.std.proofs.lemmas.List.{length-replicate}
 use Rattle.values.specs.Datum.{Datum, bytes, null}
-use Rattle.values.specs.Reading.{Reading, both, cons, each, IsValid}
+use Rattle.values.specs.Reading.{Reading, both, cons, each}
 use Rattle.values.specs.Rose.{Rose, node}
 use Rattle.values.specs.declared.layout.Layout.{Layout}
 use Rattle.values.specs.declared.layout.Layout.TheVariants.{
