@@ -11,7 +11,10 @@ import tempfile
 import time
 
 sys.dont_write_bytecode = True
-from claims import END_MARK, FIXED, LIST, STRUCT, batch, empty_bytes, empty_struct, field, list_of, offsets, schema
+from claims import (
+    END_MARK, FIXED, LIST, STRUCT, batch, dictionary_batch, empty_bytes, empty_struct, field, fixed_bytes, list_of,
+    offsets, schema,
+)
 
 LV = "crates/lv/out/lv"
 MOST_ROWS = 1 << 24
@@ -19,7 +22,9 @@ MOST_NODE = (1 << 31) - 1
 # A list weighs 5 and each item without a byte 1.
 MOST_ITEMS = (1 << 20) - 5
 MEGABYTE = 1 << 20
-END, HEAVY = "end", "refused 45 CellTooHeavy"
+MOST_VALUES = 1 << 20
+END, HEAVY, WRITTEN = "end", "refused 45 CellTooHeavy", "wrote"
+LARGE = "refused 17 DictionaryTooLarge"
 
 
 def lists(item, counts):
@@ -54,6 +59,39 @@ def rows_of(fields, rows, buffers, again=()):
     return [schema(fields), batch(rows, nodes, buffers), *more, END_MARK]
 
 
+def coded(fields, dictionaries, count):
+    """Two rows that refer to the last and the first of the values, so many an id, that some dictionary batches bring."""
+    rows = [b"", offsets(count - 1, 0)] * len(fields)
+    return [schema(fields), *dictionaries, batch(2, [2] * len(fields), rows), END_MARK]
+
+
+def empty_values(number, count, is_delta=0):
+    return dictionary_batch(number, count, [b"", b""], is_delta)
+
+
+def one_null(number):
+    """A delta of one null."""
+    return dictionary_batch(number, 1, [b"\x00", b""], 1, nulls=1)
+
+
+def dictionary_claims():
+    """Dictionaries of values that have no byte, however many they are, and of values that have few."""
+    empty, most = [empty_bytes("d", 0)], MOST_VALUES
+    yield "a dictionary of 2^20 empty values", coded(empty, [empty_values(0, most)], most), END, WRITTEN
+    yield "a dictionary of one value more", coded(empty, [empty_values(0, most + 1)], most), LARGE, LARGE
+    for ids in (64, 1024):
+        fields = [empty_bytes(f"d{it}", it) for it in range(ids)]
+        brought = [empty_values(it, most) for it in range(ids)]
+        yield f"{ids} dictionaries of 2^20 empty values", coded(fields, brought, most), END, WRITTEN
+    yield "a dictionary replaced 1,000 times", coded(empty, [empty_values(0, most)] * 1000, most), END, WRITTEN
+    deltas = [empty_values(0, 1048, 1)] * 1000
+    yield "1,000 deltas of 1,048 empty values", coded(empty, deltas, 1048 * 1000), END, WRITTEN
+    turns = [empty_values(0, 1047, 1), one_null(0)] * 1000
+    yield "1,000 deltas of 1,047 empty values, and a null behind each", coded(empty, turns, 1048 * 1000), END, WRITTEN
+    singles = [dictionary_batch(0, 1, [b"", b"x"], 1)] * 1000
+    yield "1,000 deltas of one byte", coded([fixed_bytes("d", 1, 0)], singles, 1000), END, WRITTEN
+
+
 def claims():
     """The name, the stream, and the wanted last lines of inspect and, where it is run, of recast."""
     bare, empty = empty_struct("i"), empty_bytes("i")
@@ -69,6 +107,7 @@ def claims():
     yield "2^24 rows of no columns", rows_of([], MOST_ROWS, []), END, None
     many = [empty_bytes(f"c{it}") for it in range(1024)]
     yield "2^24 rows of 1,024 columns of empty bytes", rows_of(many, MOST_ROWS, [b"", b""] * 1024), END, None
+    yield from dictionary_claims()
 
 
 def limited(words, seconds, megabytes):

@@ -107,13 +107,17 @@ def integer(bits):
 
 
 def field(name, kind, of=None, children=(), dictionary=None):
-    encoding = None if dictionary is None else Table(("q", dictionary), integer(8))
+    encoding = None if dictionary is None else Table(("q", dictionary), integer(32))
     return Table(Text(name), ("B", 1), ("B", kind), of or Table(), encoding, Vector(*children))
+
+
+def fixed_bytes(name, width, dictionary=None):
+    return field(name, FIXED, Table(("i", width)), dictionary=dictionary)
 
 
 def empty_bytes(name, dictionary=None):
     """A field whose values have no byte."""
-    return field(name, FIXED, Table(("i", 0)), dictionary=dictionary)
+    return fixed_bytes(name, 0, dictionary)
 
 
 def empty_struct(name):
@@ -132,13 +136,13 @@ def filled(data):
     return data + bytes(-len(data) % 8)
 
 
-def batch_table(rows, nodes, buffers):
-    """A batch of so many rows: the length of each array, none of which has a null, and its buffers."""
+def batch_table(rows, nodes, buffers, nulls=0):
+    """A batch of so many rows: the length of each array, each of which has so many nulls, and its buffers."""
     body, ranges = b"", []
     for it in buffers:
         ranges += [len(body), len(it)]
         body += filled(it)
-    lengths = [number for length in nodes for number in (length, 0)]
+    lengths = [number for length in nodes for number in (length, nulls)]
     return Table(("q", rows), Numbers(lengths, 2), Numbers(ranges, 2)), body
 
 
@@ -146,8 +150,8 @@ def batch(rows, nodes, buffers):
     return message(RECORD_BATCH, *batch_table(rows, nodes, buffers))
 
 
-def dictionary_batch(number, count, buffers, is_delta=0):
-    header, body = batch_table(count, [count], buffers)
+def dictionary_batch(number, count, buffers, is_delta=0, nulls=0):
+    header, body = batch_table(count, [count], buffers, nulls)
     return message(DICTIONARY_BATCH, Table(("q", number), header, ("B", is_delta)), body)
 
 

@@ -13,3 +13,4 @@ pub mod WeightLaw
 pub mod UniformLemmas
 pub mod ReachLemmas
 pub mod HeldCells
+pub mod NoBytesLemmas

@@ -6,3 +6,4 @@ pub mod Reached
 pub mod Encoded
 pub mod Ranges
 pub mod Uniform
+pub mod NoBytes

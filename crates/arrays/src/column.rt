@@ -1,6 +1,7 @@
 //! A column of a record batch: validated once, then read cell by cell.
 
-ghost use Rattle.std.specs.Prelude.{◌≡◌, ◌<◌, All, length, slice_get, Some, IfOk, IfSome, Ok, true};
+ghost use Rattle.std.specs.Prelude.{◌≡◌, ◌<◌, All, [], length, replicate, slice_get, Some, IfOk, IfSome, Ok, true};
+ghost use Rattle.values.specs.Datum.{bytes};
 ghost use Rattle.values.specs.Reading.{Judges, Passes, IsValid};
 ghost use Rattle.values.specs.Layouts.{Holds, slot, weight};
 ghost use Rattle.values.specs.Rose.{node, kids_of};
@@ -11,6 +12,7 @@ ghost use Rattle.array_layout.specs.Typed.{IsTyped};
 ghost use Rattle.arrays.specs.Checked.{valid_of};
 ghost use Rattle.arrays.specs.Weights.{Says};
 
+use crate::no_bytes::has_no_bytes;
 use crate::read::read;
 use crate::uniform::is_uniform;
 use crate::validate::validate_items;
@@ -146,6 +148,14 @@ impl Column {
         ensures { result ≡ true → All (λ d. weight self.now.layouts d ≡ slot self.now.layouts) self.now.cells }
     {
         is_uniform(&self.root)
+    }
+
+    /// Whether no cell has a byte in the body, so that a header may claim any number of them: all are bytes of width 0,
+    /// and none is null.
+    pub fn has_no_bytes(&self) -> bool
+        ensures { result ≡ true → self.now.cells ≡ replicate (length self.now.cells) (bytes []) }
+    {
+        has_no_bytes(&self.root)
     }
 
     /// The weight of cell `i`, without copying it: exact up to the limit of a cell, and the limit plus 1 above it.

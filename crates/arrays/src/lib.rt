@@ -8,6 +8,7 @@ mod column;
 mod decimals;
 mod dictionary;
 mod laws;
+mod no_bytes;
 mod read;
 mod slots;
 #[cfg(test)]

@@ -8,7 +8,7 @@ ghost use Rattle.values.specs.Layouts.{IsNode, Holds};
 
 use crate::Column;
 use array_layout::{Array, ArrayData, BufferRange, DictionaryValues};
-use dictionaries::{Dictionary, Dicts};
+use dictionaries::{Dictionary, Dicts, ValueRuns};
 use std::alloc::{AllocError, Global};
 use std::rc::Rc;
 use std::test::Fail;
@@ -196,6 +196,36 @@ fn items_without_bytes_are_weighed_at_once(rt: HostRuntime) -> Result<(), Fail> 
     Ok(())
 }
 
+/// Three slots of so many bytes each, whose validity buffer has so many bytes.
+fn three_fixed(alloc: Global, width: u32, bits: usize) -> Result<Column, Fail> {
+    let body = Rc::new(alloc, vec![in alloc; 7, 1, 2, 3]?)?;
+    let own = ArrayData {
+        layout: Layout::FixedSizeBinary { width },
+        dictionary: None,
+        len: 3,
+        nulls: 0,
+        validity: BufferRange { from: 0, len: bits },
+        offsets: NOWHERE,
+        values: BufferRange { from: 1, len: 3 },
+    };
+    let root = Array {
+        own,
+        children: Vec::new(alloc),
+    };
+    Ok(Column::check(body, root)?)
+}
+
+#[test]
+fn empty_bytes_that_may_be_null_have_bits(rt: HostRuntime) -> Result<(), Fail> {
+    let alloc = rt.alloc();
+    let empty = three_fixed(alloc, 0, 0)?;
+    assert!(rt; empty.has_no_bytes());
+    assert!(rt; has_bytes(&empty, alloc, 2, &[])?);
+    assert!(rt; !three_fixed(alloc, 0, 1)?.has_no_bytes());
+    assert!(rt; !three_fixed(alloc, 1, 0)?.has_no_bytes());
+    Ok(())
+}
+
 fn bytes_value(alloc: Global, bytes: &[u8]) -> Result<Value, AllocError>
     ensures { IfOk result (λ v. Holds (node (Binary offset.Bits32) none) v) }
 {
@@ -211,7 +241,8 @@ fn dictionary(alloc: Global) -> Result<Dictionary, Fail>
     let short = bytes_value(alloc, &[1])?;
     let long = bytes_value(alloc, &[2, 3])?;
     let mut dictionaries = Dicts::new(alloc);
-    dictionaries.apply(7, false, vec![in alloc; short, long]?)?;
+    let values = ValueRuns::each(vec![in alloc; short, long]?);
+    dictionaries.apply(7, false, values)?;
     let dictionary = dictionaries.lookup(7).ok_or("none")?;
     Ok(dictionary.share()?)
 }

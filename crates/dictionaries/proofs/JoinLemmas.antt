@@ -51,12 +51,12 @@ joined-extended cs k ds =
     joined-push (take k cs) (joined (drop k cs) ++ ds) ∙ sym (append_assoc (joined (take k cs)) (joined (drop k cs)) ds)
     ∙ ap (λ r. r ++ ds) (sym (joined-append (take k cs) (drop k cs)) ∙ ap joined (take-append-drop k cs))
 
-slice_get-left : (xs ys : List Datum) (i : ℕ) → i < length xs → slice_get (xs ++ ys) i ≡ slice_get xs i
+pub slice_get-left : (xs ys : List Datum) (i : ℕ) → i < length xs → slice_get (xs ++ ys) i ≡ slice_get xs i
 slice_get-left [] ys i h = absurd (omega (arith, h))
 slice_get-left (x ∷ xs) ys zero h = refl
 slice_get-left (x ∷ xs) ys (suc i) h = slice_get-left xs ys i (omega (arith, h))
 
-slice_get-right : (xs ys : List Datum) (i j : ℕ) → i ≡ length xs + j → slice_get (xs ++ ys) i ≡ slice_get ys j
+pub slice_get-right : (xs ys : List Datum) (i j : ℕ) → i ≡ length xs + j → slice_get (xs ++ ys) i ≡ slice_get ys j
 slice_get-right [] ys i j e = ap (slice_get ys) (omega (arith, e))
 slice_get-right (x ∷ xs) ys zero j e = absurd (omega (arith, e))
 slice_get-right (x ∷ xs) ys (suc i) j e = slice_get-right xs ys i j (omega (arith, e))

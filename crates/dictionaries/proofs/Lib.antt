@@ -1,3 +1,4 @@
 pub mod JoinLemmas
+pub mod RunLemmas
 pub mod Batches
 pub mod Sample

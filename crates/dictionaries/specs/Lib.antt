@@ -1,4 +1,5 @@
 pub mod Joined
+pub mod Runs
 pub mod Batches
 pub mod Table
 pub mod Law

@@ -4,15 +4,16 @@ ghost use Rattle.std.specs.Prelude.{◌≡◌, ◌≤◌, ◌++◌, length, slic
 ghost use Rattle.std.specs.Option.{option_copied};
 ghost use Rattle.dictionaries.specs.Joined.{joined};
 
+use crate::value_runs::ValueRuns;
 use std::alloc::{AllocError, Global};
 use std::marker::Model;
 use std::rc::Rc;
-use values::{Value, copy_row};
+use values::Value;
 
 /// Some values in a row, in memory that is shared. Contracts see their list.
 #[derive(Drop)]
 pub struct Chunk {
-    values: Rc<Vec<Value>>,
+    values: Rc<ValueRuns>,
 }
 
 impl Model for Chunk {
@@ -24,12 +25,12 @@ impl Model for Chunk {
 
     ghost coded = { coded_list datum_code };
 
-    ghost view = { λ c. c.values.value.items };
+    ghost view = { λ c. c.values.value };
 }
 
 impl Chunk {
-    fn new(alloc: Global, values: Vec<Value>) -> Result<Chunk, AllocError>
-        ensures { IfOk result (λ c. c ≡ values.items) }
+    fn new(alloc: Global, values: ValueRuns) -> Result<Chunk, AllocError>
+        ensures { IfOk result (λ c. c ≡ values) }
     {
         let values = Rc::new(alloc, values)?;
         Ok(Chunk { values })
@@ -42,17 +43,11 @@ impl Chunk {
         Ok(Chunk { values })
     }
 
-    fn values(&self) -> &[Value]
+    fn values(&self) -> &ValueRuns
         ensures { result.now ≡ self.now }
     {
-        self.values.as_ref().as_slice()
+        self.values.as_ref()
     }
-}
-
-fn value_in(values: &[Value], i: usize) -> Option<&Value>
-    ensures { option_copied result ≡ slice_get values.now i }
-{
-    values.get(i)
 }
 
 /// Value `i` of the chunks in order, if there are more than `i`.
@@ -64,29 +59,29 @@ pub fn value_at(chunks: &[Chunk], i: usize) -> Option<&Value>
     for chunk in chunks {
         let values = chunk.values();
         if left < values.len() {
-            return value_in(values, left);
+            return values.get(left);
         }
         left -= values.len();
     }
     None
 }
 
-/// How many chunks stay as they are where `added` values come behind them: those behind are short, and are merged with
-/// what comes.
+/// How many chunks stay as they are where `added` held values come behind them: those behind are short, and are merged
+/// with what comes.
 ///
-/// So each chunk is more than twice as long as the next, there are few of them, and a value is copied a logarithmic
-/// number of times.
+/// So each chunk holds more than twice as many values as the next, there are few of them, and a held value is copied a
+/// logarithmic number of times.
 fn unmerged(chunks: &[Chunk], added: usize) -> usize
     ensures { result ≤ length chunks.now }
 {
     let mut unmerged = chunks.len();
     let mut merged = added;
     while unmerged > 0 {
-        let len = chunks[unmerged - 1].values().len();
-        if len > merged.saturating_mul(2) {
+        let held = chunks[unmerged - 1].values().held();
+        if held > merged.saturating_mul(2) {
             break;
         }
-        merged = merged.saturating_add(len);
+        merged = merged.saturating_add(held);
         unmerged -= 1;
     }
     unmerged
@@ -104,27 +99,25 @@ fn share_all(alloc: Global, chunks: &[Chunk]) -> Result<Vec<Chunk>, AllocError>
 
 /// The values of the chunks, and others behind them.
 #[tactic(auto, using(crate::proofs::JoinLemmas::merging))]
-fn merge(alloc: Global, chunks: &[Chunk], mut values: Vec<Value>) -> Result<Vec<Value>, AllocError>
-    ensures { IfOk result (λ all. all.items ≡ joined chunks.now ++ values.items) }
+fn merge(alloc: Global, chunks: &[Chunk], values: ValueRuns) -> Result<ValueRuns, AllocError>
+    ensures { IfOk result (λ all. all ≡ joined chunks.now ++ values) }
 {
     if chunks.is_empty() {
         return Ok(values);
     }
-    let mut all = Vec::new(alloc);
+    let mut all = ValueRuns::each(Vec::new(alloc));
     for chunk in chunks {
-        let mut copies = copy_row(alloc, chunk.values())?;
-        all.append(&mut copies)?;
+        all = all.join(alloc, chunk.values().copy(alloc)?)?;
     }
-    all.append(&mut values)?;
-    Ok(all)
+    all.join(alloc, values)
 }
 
 /// Chunks of the same values, and of others behind them.
 #[tactic(auto, using(crate::proofs::JoinLemmas::merging))]
-pub fn extend(alloc: Global, chunks: &[Chunk], values: Vec<Value>) -> Result<Vec<Chunk>, AllocError>
-    ensures { IfOk result (λ all. joined all.items ≡ joined chunks.now ++ values.items) }
+pub fn extend(alloc: Global, chunks: &[Chunk], values: ValueRuns) -> Result<Vec<Chunk>, AllocError>
+    ensures { IfOk result (λ all. joined all.items ≡ joined chunks.now ++ values) }
 {
-    let (unmerged, short) = chunks.split_at(unmerged(chunks, values.len()));
+    let (unmerged, short) = chunks.split_at(unmerged(chunks, values.held()));
     let mut all = share_all(alloc, unmerged)?;
     let merged = merge(alloc, short, values)?;
     all.push(Chunk::new(alloc, merged)?)?;

@@ -6,10 +6,10 @@ ghost use Rattle.dictionaries.specs.Batches.{batch};
 ghost use Rattle.dictionaries.specs.Table.{Changes, Takes, change_of, found, values_in, HasRoom};
 
 use crate::dictionary::Dictionary;
+use crate::value_runs::ValueRuns;
 use indexmap::IndexMap;
 use std::alloc::{AllocError, Global};
 use std::marker::Model;
-use values::Value;
 
 /// The dictionaries that dictionary batches brought, by id.
 ///
@@ -72,7 +72,7 @@ impl Dicts {
     {
         match self.lookup(id) {
             Some(dictionary) => dictionary.share(),
-            None => Dictionary::of(self.alloc, Vec::new(self.alloc)),
+            None => Dictionary::of(self.alloc, ValueRuns::each(Vec::new(self.alloc))),
         }
     }
 
@@ -81,10 +81,10 @@ impl Dicts {
         &mut self,
         id: i64,
         is_delta: bool,
-        values: Vec<Value>,
+        values: ValueRuns,
     ) -> Result<Ready, AllocError>
         ensures same { self.new.entries ≡ self.old.entries }
-        ensures ready { IfOk result (λ r. r ≡ change_of self.old (batch id is_delta values.items)) }
+        ensures ready { IfOk result (λ r. r ≡ change_of self.old (batch id is_delta values)) }
         ensures room { OnOk result (HasRoom self.new) }
     {
         let dictionary = match self.lookup(id) {
@@ -105,8 +105,8 @@ impl Dicts {
     }
 
     /// Takes a batch. A refusal changes no dictionary.
-    pub fn apply(&mut self, id: i64, is_delta: bool, values: Vec<Value>) -> Result<(), AllocError>
-        ensures taken { OnOk result (Takes self.old self.new (batch id is_delta values.items)) }
+    pub fn apply(&mut self, id: i64, is_delta: bool, values: ValueRuns) -> Result<(), AllocError>
+        ensures taken { OnOk result (Takes self.old self.new (batch id is_delta values)) }
         ensures unchanged { OnErr result (self.new.entries ≡ self.old.entries) }
     {
         let ready = self.prepare(id, is_delta, values)?;

@@ -4,6 +4,7 @@ ghost use Rattle.std.specs.Prelude.{◌≡◌, ◌++◌, length, nat_eq, slice_g
 ghost use Rattle.std.specs.Option.{option_copied};
 
 use crate::chunks::{Chunk, extend, value_at};
+use crate::value_runs::ValueRuns;
 use std::alloc::{AllocError, Global};
 use std::marker::Model;
 use std::rc::Rc;
@@ -35,8 +36,8 @@ impl Model for Dictionary {
 
 impl Dictionary {
     /// A dictionary of these values.
-    pub(crate) fn of(alloc: Global, values: Vec<Value>) -> Result<Dictionary, AllocError>
-        ensures { IfOk result (λ d. d ≡ values.items) }
+    pub(crate) fn of(alloc: Global, values: ValueRuns) -> Result<Dictionary, AllocError>
+        ensures { IfOk result (λ d. d ≡ values) }
     {
         let len = values.len();
         let chunks = extend(alloc, &[], values)?;
@@ -48,9 +49,9 @@ impl Dictionary {
     pub(crate) fn extended(
         &self,
         alloc: Global,
-        values: Vec<Value>,
+        values: ValueRuns,
     ) -> Result<Dictionary, AllocError>
-        ensures { IfOk result (λ d. d ≡ self.now ++ values.items) }
+        ensures { IfOk result (λ d. d ≡ self.now ++ values) }
     {
         let len = self.len.checked_add(values.len()).ok_or(AllocError)?;
         let chunks = extend(alloc, self.chunks.as_ref().as_slice(), values)?;

@@ -9,9 +9,12 @@ mod chunks;
 mod dictionaries;
 mod dictionary;
 mod laws;
+mod run_ends;
 #[cfg(test)]
 mod tests;
+mod value_runs;
 
 pub use dictionaries::{Dicts, Ready};
 pub use dictionary::Dictionary;
 pub use laws::batches_law;
+pub use value_runs::ValueRuns;

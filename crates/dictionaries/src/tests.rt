@@ -1,18 +1,18 @@
 //! Dictionaries that batches replace and add to.
 
-use crate::{Dictionary, Dicts};
+use crate::{Dictionary, Dicts, ValueRuns};
 use std::alloc::{AllocError, Global};
 use std::test::Fail;
 use values::{Kind, Value};
 
-fn numbers(alloc: Global, numbers: &[i128]) -> Result<Vec<Value>, AllocError> {
+fn numbers(alloc: Global, numbers: &[i128]) -> Result<ValueRuns, AllocError> {
     let mut values = Vec::new(alloc);
     for number in numbers {
         values.push(Value {
             kind: Kind::Int(*number),
         })?;
     }
-    Ok(values)
+    Ok(ValueRuns::each(values))
 }
 
 fn holds(dictionary: &Dictionary, numbers: &[i128]) -> bool {
@@ -68,9 +68,10 @@ fn a_batch_replaces_and_a_delta_adds(rt: HostRuntime) -> Result<(), Fail> {
 fn a_delta_may_be_the_first(rt: HostRuntime) -> Result<(), Fail> {
     let alloc = rt.alloc();
     let mut dictionaries = Dicts::new(alloc);
-    let mut values = numbers(alloc, &[5])?;
+    let mut values = Vec::new(alloc);
+    values.push(Value { kind: Kind::Int(5) })?;
     values.push(Value { kind: Kind::Null })?;
-    dictionaries.apply(7, true, values)?;
+    dictionaries.apply(7, true, ValueRuns::each(values))?;
     let dictionary = dictionaries.lookup(7).ok_or("none")?;
     assert_eq!(rt; dictionary.len(), 2);
     let second = dictionary.get(1).ok_or("one value")?;
@@ -132,5 +133,62 @@ fn many_small_deltas(rt: HostRuntime) -> Result<(), Fail> {
         bring(&mut dictionaries, alloc, 7, true, &[])?;
     }
     assert!(rt; stands(&dictionaries, 7, &all));
+    Ok(())
+}
+
+/// So many nulls.
+fn nulls(alloc: Global, count: usize) -> Result<ValueRuns, AllocError> {
+    ValueRuns::repeated(alloc, Value { kind: Kind::Null }, count)
+}
+
+fn is_null(dictionary: &Dictionary, i: usize) -> bool {
+    match dictionary.get(i) {
+        Some(value) => matches!(&value.kind, Kind::Null),
+        None => false,
+    }
+}
+
+fn is_number(dictionary: &Dictionary, i: usize, number: i128) -> bool {
+    match dictionary.get(i) {
+        Some(value) => matches!(&value.kind, Kind::Int(found) if *found == number),
+        None => false,
+    }
+}
+
+#[test]
+fn runs_and_values_in_turn(rt: HostRuntime) -> Result<(), Fail> {
+    let alloc = rt.alloc();
+    let mut dictionaries = Dicts::new(alloc);
+    dictionaries.apply(7, false, nulls(alloc, 1 << 19)?)?;
+    bring(&mut dictionaries, alloc, 7, true, &[1, 2])?;
+    dictionaries.apply(7, true, nulls(alloc, 1 << 19)?)?;
+    let dictionary = dictionaries.lookup(7).ok_or("none")?;
+    assert_eq!(rt; dictionary.len(), (1 << 20) + 2);
+    assert!(rt; is_null(dictionary, 0));
+    assert!(rt; is_null(dictionary, (1 << 19) - 1));
+    assert!(rt; is_number(dictionary, 1 << 19, 1));
+    assert!(rt; is_number(dictionary, (1 << 19) + 1, 2));
+    assert!(rt; is_null(dictionary, (1 << 19) + 2));
+    assert!(rt; is_null(dictionary, (1 << 20) + 1));
+    assert!(rt; dictionary.get((1 << 20) + 2).is_none());
+    Ok(())
+}
+
+#[test]
+fn runs_of_no_and_of_one_value(rt: HostRuntime) -> Result<(), Fail> {
+    let alloc = rt.alloc();
+    let mut dictionaries = Dicts::new(alloc);
+    for _ in 0..100u64 {
+        dictionaries.apply(7, true, nulls(alloc, 0)?)?;
+        dictionaries.apply(7, true, nulls(alloc, 1)?)?;
+        bring(&mut dictionaries, alloc, 7, true, &[3])?;
+    }
+    let dictionary = dictionaries.lookup(7).ok_or("none")?;
+    assert_eq!(rt; dictionary.len(), 200);
+    for i in 0..100usize {
+        assert!(rt; is_null(dictionary, 2 * i));
+        assert!(rt; is_number(dictionary, 2 * i + 1, 3));
+    }
+    assert!(rt; dictionary.get(200).is_none());
     Ok(())
 }

@@ -1,7 +1,8 @@
 //! Reads the values of a dictionary batch.
 
-ghost use Rattle.std.specs.Prelude.{◌≡◌, All, IfOk, length};
+ghost use Rattle.std.specs.Prelude.{◌≡◌, All, [], IfOk, length, replicate};
 ghost use Rattle.std.specs.Option.{option_copied};
+ghost use Rattle.values.specs.Datum.{bytes};
 ghost use Rattle.values.specs.Layouts.{Holds};
 ghost use Rattle.values.specs.Reading.{Answers};
 ghost use Rattle.values.specs.declared.col_type.ColType.{ColType};
@@ -14,10 +15,11 @@ ghost use Rattle.schema_meta.specs.Sound.{Fits, FitsValues};
 ghost use Rattle.feed.specs.Calls.{AreOfType};
 
 use arrays::Column;
+use dictionaries::ValueRuns;
 use schema_meta::{BatchHeader, DictionaryHeader, StreamSchema, place_law, place_values};
 use std::alloc::{AllocError, Global};
 use std::rc::Rc;
-use values::{ColType, StreamFault, Value};
+use values::{ColType, Kind, StreamFault, Value};
 
 /// Copies all cells of a column.
 #[tactic(auto, using(crate::proofs::GatherLemmas::reading_cells))]
@@ -30,6 +32,29 @@ fn read_cells(alloc: Global, column: &Column) -> Result<Vec<Value>, AllocError>
         cells.push(column.cell(alloc, i)?)?;
     }
     Ok(cells)
+}
+
+/// So many values of no bytes.
+fn empty_values(alloc: Global, count: usize) -> Result<ValueRuns, AllocError>
+    ensures { IfOk result (λ vs. vs ≡ replicate count (bytes [])) }
+{
+    let empty = Value {
+        kind: Kind::Binary(Vec::new(alloc)),
+    };
+    ValueRuns::repeated(alloc, empty, count)
+}
+
+/// The cells of a column as values: where they have no bytes, and so any number of them may be claimed, one is held.
+fn read_values(alloc: Global, column: &Column) -> Result<ValueRuns, AllocError>
+    ensures cells { IfOk result (λ vs. vs ≡ column.now.cells) }
+    ensures typed { IfOk result (λ vs. All (Holds column.now.layouts) vs) }
+{
+    // It does nothing: the proof takes from it that the layouts hold each cell.
+    column.law();
+    if column.has_no_bytes() {
+        return empty_values(alloc, column.len());
+    }
+    Ok(ValueRuns::each(read_cells(alloc, column)?))
 }
 
 /// Validates the column of a dictionary batch whose values have this type.
@@ -64,15 +89,15 @@ pub(crate) fn take_values(
     schema: &StreamSchema,
     header: &DictionaryHeader,
     body: Vec<u8>,
-) -> Result<Vec<Value>, StreamFault>
+) -> Result<ValueRuns, StreamFault>
     requires { FitsValues schema.now.fields.items (length body.items) header.now }
-    ensures reading { Answers (λ vs. vs.items) result
+    ensures reading { Answers (λ vs. vs) result
         (values_of schema.now.fields.items header.now body.items) }
-    ensures typed { IfOk result (λ vs. AreOfType schema.now.fields.items header.now vs.items) }
+    ensures typed { IfOk result (λ vs. AreOfType schema.now.fields.items header.now vs) }
 {
     let Some(stored) = value_type(schema, header) else {
         return Err(StreamFault::UnknownDictionary);
     };
     let column = check_values(alloc, stored, &header.batch, body)?;
-    Ok(read_cells(alloc, &column)?)
+    Ok(read_values(alloc, &column)?)
 }

@@ -16,11 +16,11 @@ use crate::cells::take_values;
 use crate::columns::take_columns;
 use crate::condition::Condition;
 use crate::event::FeedEvent;
-use dictionaries::{Dicts, Ready, batches_law};
+use dictionaries::{Dicts, Ready, ValueRuns, batches_law};
 use messages::Message;
 use schema_meta::{BatchHeader, DictionaryHeader, Header, StreamSchema};
 use std::alloc::{AllocError, Global};
-use values::{StreamFault, Value};
+use values::StreamFault;
 
 /// The event of a message and the change that it makes.
 #[derive(Drop)]
@@ -34,11 +34,11 @@ pub(crate) struct Coming {
 fn prepare_change(
     dicts: &mut Dicts,
     header: &DictionaryHeader,
-    values: Vec<Value>,
+    values: ValueRuns,
 ) -> Result<Ready, AllocError>
     ensures same { dicts.new.entries ≡ dicts.old.entries }
     ensures change { IfOk result
-        (λ r. r ≡ change_of dicts.old (values_batch header.now.id header.now.is_delta values.items)) }
+        (λ r. r ≡ change_of dicts.old (values_batch header.now.id header.now.is_delta values)) }
     ensures room { OnOk result (HasRoom dicts.new) }
 {
     dicts.prepare(header.id, header.is_delta, values)

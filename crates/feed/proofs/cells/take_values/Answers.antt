@@ -13,4 +13,4 @@ pub returns-clause-typed : goal.returns-clause-typed
 returns-clause-typed c =
     values-typed c.args.schema.now.fields.items c.args.header.now c.in-Some.stored.now c.in_ok-column.column.layouts _
     (sym c.value_type.ensures ∙ ap option_copied c.in-Some.is) c.in_ok-column.ensures.typed
-    c.in_ok-read_cells.ensures.typed
+    c.in_ok-read_values.ensures.typed

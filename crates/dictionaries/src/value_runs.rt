@@ -1,0 +1,106 @@
+//! Values of which some stand many times on end.
+
+ghost use Rattle.std.specs.Prelude.{◌≡◌, ◌++◌, IfOk, length, replicate, slice_get};
+ghost use Rattle.std.specs.Option.{option_copied};
+
+use crate::run_ends::RunEnds;
+use std::alloc::{AllocError, Global};
+use std::marker::Model;
+use values::{Value, copy_row};
+
+/// Values in a row, of which one that stands many times on end is held once.
+///
+/// Contracts see the list of all of them.
+#[derive(Drop)]
+pub struct ValueRuns {
+    held: Vec<Value>,
+    ends: RunEnds,
+}
+
+impl Model for ValueRuns {
+    ghost use Rattle.std.specs.Prelude.{List};
+    ghost use Rattle.std.specs.Coded.{coded_list};
+    ghost use Rattle.values.specs.Datum.{Datum, datum_code};
+    ghost use Rattle.dictionaries.specs.Runs.{AreRuns, ends_in, spread};
+
+    ghost Value = { List Datum };
+
+    ghost coded = { coded_list datum_code };
+
+    ghost view = { λ r. spread 0 r.held.items (ends_in r.ends) };
+
+    ghost invariant = { λ r. AreRuns r.held.items (ends_in r.ends) };
+}
+
+fn value_in(values: &[Value], i: usize) -> Option<&Value>
+    ensures { option_copied result ≡ slice_get values.now i }
+{
+    values.get(i)
+}
+
+#[tactic(auto, using(crate::proofs::RunLemmas::spreading))]
+impl ValueRuns {
+    /// These values, each of which is held.
+    pub fn each(values: Vec<Value>) -> ValueRuns
+        ensures { result ≡ values.items }
+    {
+        let ends = RunEnds::Single(values.len());
+        ValueRuns { held: values, ends }
+    }
+
+    /// One value, so many times on end.
+    pub fn repeated(alloc: Global, value: Value, count: usize) -> Result<ValueRuns, AllocError>
+        ensures { IfOk result (λ r. r ≡ replicate count value) }
+    {
+        let mut held = Vec::with_capacity(alloc, 1)?;
+        held.push(value)?;
+        let mut ends = Vec::with_capacity(alloc, 1)?;
+        ends.push(count)?;
+        Ok(ValueRuns {
+            held,
+            ends: RunEnds::At(ends),
+        })
+    }
+
+    /// The number of values.
+    pub fn len(&self) -> usize
+        ensures { result ≡ length self.now }
+    {
+        self.ends.len()
+    }
+
+    /// The number of values that are held.
+    pub(crate) fn held(&self) -> usize {
+        self.held.len()
+    }
+
+    /// Value `i`, if there are more than `i`.
+    pub(crate) fn get(&self, i: usize) -> Option<&Value>
+        ensures { option_copied result ≡ slice_get self.now i }
+    {
+        value_in(&self.held, self.ends.run_of(i))
+    }
+
+    /// The same values, in memory of their own.
+    pub(crate) fn copy(&self, alloc: Global) -> Result<ValueRuns, AllocError>
+        ensures { IfOk result (λ r. r ≡ self.now) }
+    {
+        let held = copy_row(alloc, &self.held)?;
+        let ends = self.ends.copy(alloc)?;
+        Ok(ValueRuns { held, ends })
+    }
+
+    /// These values, and others behind them.
+    pub(crate) fn join(self, alloc: Global, behind: ValueRuns) -> Result<ValueRuns, AllocError>
+        ensures { IfOk result (λ all. all ≡ self ++ behind) }
+    {
+        let ValueRuns { mut held, ends } = self;
+        let ValueRuns {
+            held: mut held_behind,
+            ends: ends_behind,
+        } = behind;
+        let ends = ends.join(alloc, ends_behind)?;
+        held.append(&mut held_behind)?;
+        Ok(ValueRuns { held, ends })
+    }
+}
