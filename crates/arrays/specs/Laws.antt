@@ -9,7 +9,7 @@ use Rattle.array_layout.specs.Sound.{IsSound}
 use Rattle.array_layout.specs.Cells.{cell, len_of}
 use Rattle.arrays.specs.Weights.{weight_at}
 
--- a cell weighs where it lies what its value weighs
+-- the weight of a cell where it lies is that of its value
 abbrev pub WeighsAsRead : Type 0
 WeighsAsRead =
     (body : List ℕ) (t : Rose ArrayData) (i : ℕ) (d : Datum) → IsSound body t → i < len_of t → cell body t i ≡ Ok d

@@ -78,7 +78,7 @@ OwnFault (Utf8 o) body p i c =
     (is_utf8 (slice_at o (bytes_of body p.offsets) (bytes_of body p.values) i) ≡ false) × (fault.NotUtf8 ≡ c)
 OwnFault l body p i c = ⊥
 
--- No value has this slot's index: it is negative, or there are no more values than it says.
+-- No value has this slot's index: it is negative, or not below the number of values.
 abbrev pub HasNoValue : Layout → List Datum → List ℕ → ℕ → Type 0
 HasNoValue (Int w s) values indices i =
     (number_at s (bytes_in w) indices i <ℤ pos 0) ⊎ (pos (length values) ≤ℤ number_at s (bytes_in w) indices i)

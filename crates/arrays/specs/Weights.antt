@@ -83,7 +83,7 @@ abbrev mutual
 unfoldable pub capped : ℕ → ℕ
 capped n = if nat_lt n (max_cell_weight + 1) then n else max_cell_weight + 1
 
--- r says the weight w: exactly where it is within the limit of a cell, and else that w is above it
+-- r is the weight w where that is within the limit of a cell, and else says that w is above it
 pub record Says (r w : ℕ) : Type 0 where
   pub exact : r ≤ max_cell_weight → r ≡ w
   pub heavy : max_cell_weight < r → max_cell_weight < w

@@ -23,7 +23,8 @@ use std::marker::Model;
 use std::rc::Rc;
 use values::{StreamFault, Value};
 
-/// A column whose buffers and cells were validated. Contracts see it as its layouts and the list of its cells.
+/// A column of a record batch whose buffers were checked and whose cells were validated. Contracts see its layouts and
+/// the list of its cells.
 ///
 /// It shares the body of its message with the other columns of the batch.
 #[derive(Drop)]
@@ -90,7 +91,7 @@ fn read_cell(alloc: Global, body: &[u8], array: &Array, i: usize) -> Result<Valu
     read(alloc, body, array, i)
 }
 
-/// The layouts hold each cell: a function that does nothing.
+/// Each cell is a value of the column's layout. It does nothing: its contract is the theorem.
 fn cells_law(body: &[u8], array: &Array)
     requires sound { IsSound body.now array.now }
     requires valid { IsValid (cells body.now array.now) }
@@ -100,7 +101,8 @@ fn cells_law(body: &[u8], array: &Array)
 
 #[tactic(auto, using(crate::proofs::ColumnCells::column_laws))]
 impl Column {
-    /// Checks the buffers and validates the cells of one column: 22 to 27.
+    /// Checks the buffers and validates the cells of one column. The error is `BufferShort`, `NullCount` or `Offsets`,
+    /// or where the buffers have no fault `NotUtf8`, `DictionaryIndex` or `DecimalRange`.
     pub fn check(body: Rc<Vec<u8>>, array: Array) -> Result<Column, StreamFault>
         requires placed { IsPlaced body.value.items array }
         requires dictionary { IsTyped array }
@@ -119,7 +121,7 @@ impl Column {
         self.root.own.len
     }
 
-    /// The layouts hold each cell: a function that does nothing.
+    /// Each cell is a value of the column's layout. It does nothing: its contract is the theorem.
     pub fn law(&self)
         ensures { All (λ d. Holds self.now.layouts d) self.now.cells }
     {
@@ -135,7 +137,7 @@ impl Column {
         read_cell(alloc, &self.body, &self.root, i)
     }
 
-    /// Where its cells lie.
+    /// The array and the body in which its cells lie.
     pub fn parts(&self) -> ColumnParts<'_>
         ensures sound { IsSound result.body.now (node result.own.now (kids_of result.children.now)) }
         ensures cells { cells result.body.now (node result.own.now (kids_of result.children.now)) ≡ Ok self.now.cells }
@@ -143,7 +145,7 @@ impl Column {
         parts_of(&self.body, &self.root)
     }
 
-    /// Whether all cells weigh the same, which is then what a null weighs.
+    /// Whether all cells weigh what a null weighs, whatever they hold: where this is true, no cell need be weighed.
     pub fn is_uniform(&self) -> bool
         ensures { result ≡ true → All (λ d. weight self.now.layouts d ≡ slot self.now.layouts) self.now.cells }
     {

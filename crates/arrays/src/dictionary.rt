@@ -54,7 +54,7 @@ pub fn find_value<'a>(
     }
 }
 
-/// Validates an index, by the number of values.
+/// Validates an index: `DictionaryIndex` where it is negative, or not below the number of values.
 #[tactic(auto, using(crate::proofs::DictionaryLemmas::bound_laws))]
 fn validate_index(dictionary: &DictionaryValues, index: i128) -> Result<(), StreamFault>
     ensures { Passes result (indexed dictionary.now.values index) }

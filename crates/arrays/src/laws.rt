@@ -3,7 +3,7 @@
 ghost use Rattle.arrays.specs.Laws.{WeighsAsRead};
 ghost use Rattle.arrays.specs.Reached.{FaultsAreReached, ReachedFaultsStand};
 
-/// A cell weighs where it lies what its value weighs.
+/// The weight that is counted of a cell where it lies is that of its value.
 #[tactic(auto, using(crate::proofs::WeightLaw::weights))]
 pub fn weight_law()
     ensures { WeighsAsRead }

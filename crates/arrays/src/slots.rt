@@ -42,7 +42,7 @@ pub(crate) fn bytes_slot<'a>(
     )
 }
 
-/// Copies bytes that are known to be UTF-8.
+/// Copies bytes, which must be UTF-8, as a string.
 #[tactic(auto, using(crate::proofs::Utf8Tests::text_tests))]
 pub(crate) fn text_from(alloc: Global, bytes: &[u8]) -> Result<String, AllocError>
     requires { is_utf8 bytes.now ≡ true }

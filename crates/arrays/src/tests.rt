@@ -150,7 +150,7 @@ fn a_text_under_a_null_is_not_reached(rt: HostRuntime) -> Result<(), Fail> {
     Ok(())
 }
 
-/// A list with as many items as there can be, none of which takes a byte.
+/// A list with the most items that an array can have, none of which takes a byte.
 fn list_of(alloc: Global, layout: Layout) -> Result<Column, Fail>
     requires { IsNode layout none }
 {

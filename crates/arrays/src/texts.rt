@@ -14,7 +14,8 @@ use array_layout::{is_null_at, offset, run_end, slice};
 use simdutf8::basic::from_utf8;
 use values::{OffsetWidth, StreamFault};
 
-/// Whether characters of the text begin where the slots from `from` to `to` do. The text begins with slot `from`.
+/// Whether each of the slots from `from` to `to` begins where a character of `text` does. The text begins with slot
+/// `from`.
 fn begin_characters(text: &str, offsets: &[u8], width: OffsetWidth, from: usize, to: usize) -> bool
     requires order { from ≤ to }
     requires room { offset_bytes width * (to + 1) ≤ length offsets.now }
@@ -102,7 +103,8 @@ fn validate_run(
     Ok(())
 }
 
-/// Validates the texts of the slots from `from` to `to`. Bytes under a null may be anything, and mostly are texts too.
+/// Validates the texts of the slots from `from` to `to`: all at once where that succeeds, else run by run, since the
+/// bytes of null slots need not be UTF-8.
 #[tactic(auto, using(crate::proofs::RangeLemmas::run_laws, crate::proofs::TextLemmas::text_laws))]
 pub(crate) fn validate_texts(
     bits: &[u8],

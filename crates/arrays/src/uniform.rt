@@ -1,4 +1,4 @@
-//! Arrays all of whose cells weigh the same: of fixed widths, and structs of such.
+//! Arrays all of whose cells weigh the same: those of a fixed width, and structs of such.
 
 ghost use Rattle.std.specs.Prelude.{◌≡◌};
 ghost use Rattle.arrays.specs.Uniform.{is_fixed, is_uniform, is_uniform_layout, is_uniform_data};

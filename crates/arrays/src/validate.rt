@@ -1,7 +1,7 @@
 //! Validates cells by ranges of slots: 25 NotUtf8, 26 DictionaryIndex and 27 DecimalRange.
 //!
-//! A slot's own faults, and those of all slots that it reaches, are looked for array by array. Arrays that can't be at
-//! fault take no step, however many slots are claimed for them.
+//! The faults of slots, and of all slots that they reach, are looked for array by array. No time is spent on arrays
+//! that can't be at fault, however many slots are claimed for them.
 
 ghost use Rattle.std.specs.Prelude.{◌≡◌, ◌+◌, ◌-◌, ◌<◌, ◌≤◌, None, length, get_or};
 ghost use Rattle.bitmaps.specs.Bits.{HasBits};
@@ -181,7 +181,7 @@ fn validate_rows(
     Ok(())
 }
 
-/// Validates the slots of a struct's child that the struct has no null above.
+/// Validates the slots of a struct's child that lie below valid slots of the struct.
 #[cycle(validate)]
 #[tactic(auto, using(crate::proofs::RangeLemmas::run_laws, crate::proofs::ValidationLemmas::child_laws))]
 fn validate_child(

@@ -29,7 +29,7 @@ use array_layout::{Array, ArrayData, DictionaryValues, buffer, offset};
 use values::limits::MAX_CELL_WEIGHT;
 use values::{Layout, OffsetWidth};
 
-/// One more than the limit of a cell, at which weights stop.
+/// One more than the limit of a cell's weight. Weights above the limit are counted as this.
 const TOO_HEAVY: u64 = MAX_CELL_WEIGHT + 1;
 
 #[tactic(auto, unfolding(crate::specs::Weights::capped))]
@@ -44,7 +44,7 @@ fn cap(weight: u64) -> u64
     }
 }
 
-/// How the values of the slots lie.
+/// The layout of the array's values: those of its dictionary, where it has one.
 fn value_layout(own: &ArrayData) -> Layout
     ensures { result ≡ layout_by own.now.dictionary own.now.layout }
 {
@@ -189,7 +189,7 @@ fn weigh_list(body: &[u8], own: &ArrayData, children: &[Array], width: OffsetWid
     )
 }
 
-/// The weight of a list slot with so many items, each of this weight.
+/// The weight of a list slot with `count` items of this weight each.
 fn weigh_alike(weight: u64, count: usize) -> u64
     ensures value { result ≡ capped (weight * count + 5) }
     ensures bound { result ≤ max_cell_weight + 1 }

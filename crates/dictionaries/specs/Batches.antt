@@ -4,7 +4,7 @@ use Rattle.std.specs.List.{list_any}
 use Rattle.std.specs.Ordering.{int_eq}
 use Rattle.values.specs.Datum.{Datum}
 
--- values for an id: in place of those before them or, in a delta, behind those
+-- a dictionary batch: values for an id, which replace those before them or, in a delta, come after those
 pub record DictionaryBatch : Type 0 where
   pub id : ℤ
   pub is_delta : Bool
@@ -25,7 +25,7 @@ abbrev pub since_last_whole : List DictionaryBatch → List DictionaryBatch
 since_last_whole [] = []
 since_last_whole (b ∷ bs) = if list_any is_whole bs then since_last_whole bs else b ∷ bs
 
--- the values of an id
+-- the values of an id after some batches
 abbrev pub dictionary_after : List DictionaryBatch → ℤ → List Datum
 dictionary_after bs id = flat_map (λ b. b.values) (since_last_whole (filter (is_of id) bs))
 

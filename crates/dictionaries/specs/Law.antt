@@ -1,4 +1,4 @@
--- Dictionaries that take each batch in turn stand as the definition says.
+-- Dictionaries to which batches are applied one after the other have the values of the definition.
 use Rattle.std.specs.Prelude.{◌≡◌, ℤ, List, [], ◌∷◌, ◌++◌, Some, if◌then◌else◌, unwrap_or}
 use Rattle.std.specs.Ordering.{int_eq}
 use Rattle.dictionaries.specs.Batches.{DictionaryBatch, dictionary_after, found_after}
@@ -23,7 +23,7 @@ OneMore =
     ≡ (if int_eq b.id id then Some (if b.is_delta then unwrap_or (found_after bs b.id) [] ++ b.values else b.values)
     else found_after bs id)
 
--- and what is handed out for it are these values
+-- The dictionary of an id that is looked up has these values.
 abbrev pub ValuesAfter : Type 0
 ValuesAfter = (bs : List DictionaryBatch) (t : Table) → StandsAfter bs t → (id : ℤ)
     → values_in t id ≡ dictionary_after bs id

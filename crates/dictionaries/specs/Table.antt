@@ -52,6 +52,6 @@ change_of t b = change b.id (if b.is_delta then values_in t b.id ++ b.values els
 abbrev pub Changes : Table → Table → Change → Type 0
 Changes old new c = (id : ℤ) → found new id ≡ (if int_eq c.id id then Some c.values else found old id)
 
--- the batch is taken
+-- the batch is applied
 abbrev pub Takes : Table → Table → DictionaryBatch → Type 0
 Takes old new b = Changes old new (change_of old b)

@@ -10,7 +10,7 @@ use std::marker::Model;
 use std::rc::Rc;
 use values::Value;
 
-/// Some values in a row, in memory that is shared. Contracts see their list.
+/// A run of a dictionary's values, in shared memory. Contracts see their list.
 #[derive(Drop)]
 pub struct Chunk {
     values: Rc<ValueRuns>,
@@ -66,10 +66,10 @@ pub fn value_at(chunks: &[Chunk], i: usize) -> Option<&Value>
     None
 }
 
-/// How many chunks stay as they are where `added` held values come behind them: those behind are short, and are merged
-/// with what comes.
+/// How many of the chunks stay as they are when a chunk that holds `added` values is appended. The ones after these hold
+/// few values, and are merged with it.
 ///
-/// So each chunk holds more than twice as many values as the next, there are few of them, and a held value is copied a
+/// So each chunk holds more than twice as many values as the next: there are few chunks, and a held value is copied a
 /// logarithmic number of times.
 fn unmerged(chunks: &[Chunk], added: usize) -> usize
     ensures { result ≤ length chunks.now }
@@ -97,7 +97,7 @@ fn share_all(alloc: Global, chunks: &[Chunk]) -> Result<Vec<Chunk>, AllocError>
     Ok(shared)
 }
 
-/// The values of the chunks, and others behind them.
+/// The values of the chunks, followed by `values`, in one list.
 #[tactic(auto, using(crate::proofs::JoinLemmas::merging))]
 fn merge(alloc: Global, chunks: &[Chunk], values: ValueRuns) -> Result<ValueRuns, AllocError>
     ensures { IfOk result (λ all. all ≡ joined chunks.now ++ values) }
@@ -112,7 +112,7 @@ fn merge(alloc: Global, chunks: &[Chunk], values: ValueRuns) -> Result<ValueRuns
     all.join(alloc, values)
 }
 
-/// Chunks of the same values, and of others behind them.
+/// Chunks of the same values followed by `values`. Long chunks are shared, short ones are merged with `values`.
 #[tactic(auto, using(crate::proofs::JoinLemmas::merging))]
 pub fn extend(alloc: Global, chunks: &[Chunk], values: ValueRuns) -> Result<Vec<Chunk>, AllocError>
     ensures { IfOk result (λ all. joined all.items ≡ joined chunks.now ++ values) }

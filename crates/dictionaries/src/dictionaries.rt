@@ -11,7 +11,7 @@ use indexmap::IndexMap;
 use std::alloc::{AllocError, Global};
 use std::marker::Model;
 
-/// The dictionaries that dictionary batches brought, by id.
+/// The values of the dictionaries of a stream, by id, as its dictionary batches made them.
 ///
 /// Contracts see a `Table`: the values by id, and the room for more of them.
 #[derive(Drop)]
@@ -31,7 +31,8 @@ impl Model for Dicts {
     ghost view = { λ d. table d.by_id.entries (spare d.by_id) };
 }
 
-/// What a batch changes, with all the memory for it. Contracts see a `Change`: the id and all its values.
+/// A prepared change of one dictionary, with all the memory for it. Contracts see a `Change`: the id and all values
+/// that it gets.
 #[derive(Drop)]
 pub struct Ready {
     id: i64,
@@ -49,7 +50,7 @@ impl Model for Ready {
 }
 
 impl Dicts {
-    /// No dictionaries yet.
+    /// No dictionaries. It takes no memory.
     pub fn new(alloc: Global) -> Dicts
         ensures { result.entries ≡ [] }
     {
@@ -66,7 +67,7 @@ impl Dicts {
         self.by_id.get(&id)
     }
 
-    /// The values of an id as they are now, for one more owner: none where no batch came for it.
+    /// The dictionary of an id as it is now, shared: empty where no batch came for it.
     pub fn share(&self, id: i64) -> Result<Dictionary, AllocError>
         ensures { IfOk result (λ d. d ≡ values_in self.now id) }
     {
@@ -76,7 +77,7 @@ impl Dicts {
         }
     }
 
-    /// Makes what `commit` needs to take a batch, and changes no dictionary.
+    /// Prepares the change that a batch makes, with all the memory for it. No dictionary is changed.
     pub fn prepare(
         &mut self,
         id: i64,
@@ -95,7 +96,7 @@ impl Dicts {
         Ok(Ready { id, dictionary })
     }
 
-    /// Makes the change that `prepare` made ready. It takes no memory.
+    /// Makes a prepared change. It takes no memory.
     pub fn commit(&mut self, ready: Ready)
         requires { HasRoom self.old }
         ensures { Changes self.old self.new ready }
@@ -104,7 +105,8 @@ impl Dicts {
         self.by_id.insert(id, dictionary).unwrap();
     }
 
-    /// Takes a batch. A refusal changes no dictionary.
+    /// Applies a dictionary batch: `values` replace those of the id, or are added to them if `is_delta`. If memory is
+    /// refused no dictionary is changed.
     pub fn apply(&mut self, id: i64, is_delta: bool, values: ValueRuns) -> Result<(), AllocError>
         ensures taken { OnOk result (Takes self.old self.new (batch id is_delta values)) }
         ensures unchanged { OnErr result (self.new.entries ≡ self.old.entries) }

@@ -45,7 +45,7 @@ impl Dictionary {
         Ok(Dictionary { chunks, len })
     }
 
-    /// A dictionary of its values and of these behind them, most of which it shares.
+    /// A dictionary of its values followed by these. It shares most of its values.
     pub(crate) fn extended(
         &self,
         alloc: Global,
@@ -59,7 +59,7 @@ impl Dictionary {
         Ok(Dictionary { chunks, len })
     }
 
-    /// The same dictionary, for one more owner. No value is copied.
+    /// The same dictionary, shared. No value is copied.
     pub fn share(&self) -> Result<Dictionary, AllocError>
         ensures { IfOk result (λ d. d ≡ self.now) }
     {

@@ -2,8 +2,8 @@
 
 ghost use Rattle.dictionaries.specs.Law.{NoneAtFirst, OneMore, TakingIsOneMore, ValuesAfter};
 
-/// With no batch there is no dictionary. Where some batches stand, taking one more leads to where all of them stand;
-/// and the values of each id are those after the batches.
+/// Without batches there are no dictionaries. After each further batch the dictionaries are those of all batches so
+/// far, and looking an id up gives its values after these.
 #[tactic(auto, using(crate::proofs::Batches::none_at_first))]
 pub fn batches_law()
     ensures none { NoneAtFirst }

@@ -6,16 +6,16 @@ ghost use Rattle.dictionaries.specs.Runs.{IsRising, counted, ends_in, last_end};
 
 use std::alloc::{AllocError, Global};
 
-/// Where runs of values end: the number of values up to the end of each.
+/// The ends of runs of equal values: for each run the number of values up to its end.
 #[derive(Drop)]
 pub(crate) enum RunEnds {
-    /// So many runs of one value.
+    /// This number of runs, each of length 1.
     Single(usize),
-    /// Runs that end at these places.
+    /// Runs with these ends.
     At(Vec<usize>),
 }
 
-/// The ends of so many runs of one value.
+/// The ends of `count` runs of length 1.
 #[tactic(auto, using(crate::proofs::RunLemmas::counting))]
 fn count_ends(alloc: Global, count: usize) -> Result<Vec<usize>, AllocError>
     ensures { IfOk result (λ ends. ends.items ≡ counted 0 count) }
@@ -27,7 +27,7 @@ fn count_ends(alloc: Global, count: usize) -> Result<Vec<usize>, AllocError>
     Ok(ends)
 }
 
-/// Adds the ends of runs that come behind `before` values.
+/// Appends the ends of runs that follow `before` values.
 #[tactic(auto, using(crate::proofs::RunLemmas::shifting))]
 fn push_ends(ends: &mut Vec<usize>, before: usize, added: &[usize]) -> Result<(), AllocError>
     ensures { OnOk result (ends.new.items ≡ ends.old.items ++ map (λ end. before + end) added.now) }
@@ -50,7 +50,7 @@ fn count_until(ends: &[usize], i: usize) -> usize
     )
 }
 
-/// The last of some ends: 0 where there is none.
+/// The last of the ends, 0 where there is none.
 #[tactic(auto, using(crate::proofs::RunLemmas::last))]
 fn last_of(ends: &[usize]) -> usize
     ensures { result ≡ last_end 0 ends.now }
@@ -73,7 +73,7 @@ impl RunEnds {
         }
     }
 
-    /// The run that value `i` stands in: as many as there are where no value `i` stands.
+    /// The number of the run that has value `i`; the number of runs where there is no value `i`.
     pub(crate) fn run_of(&self, i: usize) -> usize
         requires { IsRising 0 (ends_in self.now) }
         ensures { result ≡ prefix_len (λ end. nat_le end i) (ends_in self.now) }
@@ -84,7 +84,7 @@ impl RunEnds {
         }
     }
 
-    /// The same ends, in memory of their own.
+    /// A copy, in memory of its own.
     pub(crate) fn copy(&self, alloc: Global) -> Result<RunEnds, AllocError>
         ensures { IfOk result (λ ends. ends_in ends ≡ ends_in self.now) }
     {
@@ -103,7 +103,7 @@ impl RunEnds {
         }
     }
 
-    /// The ends of these runs, and of others behind them.
+    /// The ends of these runs, followed by others.
     pub(crate) fn join(self, alloc: Global, behind: RunEnds) -> Result<RunEnds, AllocError>
         ensures { IfOk result
             (λ all. ends_in all ≡ ends_in self ++ map (λ end. last_end 0 (ends_in self) + end) (ends_in behind)) }

@@ -1,4 +1,4 @@
-//! Values of which some stand many times on end.
+//! Lists of values that hold a repeated value once.
 
 ghost use Rattle.std.specs.Prelude.{◌≡◌, ◌++◌, IfOk, length, replicate, slice_get};
 ghost use Rattle.std.specs.Option.{option_copied};
@@ -8,9 +8,7 @@ use std::alloc::{AllocError, Global};
 use std::marker::Model;
 use values::{Value, copy_row};
 
-/// Values in a row, of which one that stands many times on end is held once.
-///
-/// Contracts see the list of all of them.
+/// A list of values that holds a repeated value once. Contracts see the whole list.
 #[derive(Drop)]
 pub struct ValueRuns {
     held: Vec<Value>,
@@ -40,7 +38,7 @@ fn value_in(values: &[Value], i: usize) -> Option<&Value>
 
 #[tactic(auto, using(crate::proofs::RunLemmas::spreading))]
 impl ValueRuns {
-    /// These values, each of which is held.
+    /// The list of these values, each of which is held.
     pub fn each(values: Vec<Value>) -> ValueRuns
         ensures { result ≡ values.items }
     {
@@ -48,7 +46,7 @@ impl ValueRuns {
         ValueRuns { held: values, ends }
     }
 
-    /// One value, so many times on end.
+    /// The list of `count` times the same value, which is held once.
     pub fn repeated(alloc: Global, value: Value, count: usize) -> Result<ValueRuns, AllocError>
         ensures { IfOk result (λ r. r ≡ replicate count value) }
     {
@@ -69,7 +67,7 @@ impl ValueRuns {
         self.ends.len()
     }
 
-    /// The number of values that are held.
+    /// The number of values that are held, one for each run.
     pub(crate) fn held(&self) -> usize {
         self.held.len()
     }
@@ -81,7 +79,7 @@ impl ValueRuns {
         value_in(&self.held, self.ends.run_of(i))
     }
 
-    /// The same values, in memory of their own.
+    /// A copy, in memory of its own.
     pub(crate) fn copy(&self, alloc: Global) -> Result<ValueRuns, AllocError>
         ensures { IfOk result (λ r. r ≡ self.now) }
     {
@@ -90,7 +88,7 @@ impl ValueRuns {
         Ok(ValueRuns { held, ends })
     }
 
-    /// These values, and others behind them.
+    /// These values, followed by others.
     pub(crate) fn join(self, alloc: Global, behind: ValueRuns) -> Result<ValueRuns, AllocError>
         ensures { IfOk result (λ all. all ≡ self ++ behind) }
     {

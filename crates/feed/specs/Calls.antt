@@ -1,4 +1,4 @@
--- Words for what the calls of a feed are said to do, from whatever state it shows.
+-- Definitions that the contracts of a feed name, from any state that it shows.
 use Rattle.std.specs.Prelude.{◌≡◌, ℕ, ℤ, ◌++◌, List, Option, Some, Result, Ok, Err, All, IfSome, IsSome, take}
 use Rattle.values.specs.Datum.{Datum}
 use Rattle.values.specs.Layouts.{Holds}
@@ -64,7 +64,7 @@ ShowsSchema f fields = (s : FeedState) → Shows f s → fields ≡ (retained_in
 abbrev pub IsTyped : Option (List (Rose Entry)) → Fed → Type 0
 IsTyped fields f = IfSome f.event (IsTypedEvent fields)
 
--- a message's event, in the definitions' words, and the dictionary batch that it brings
+-- a message's event, as the definitions have it, with the values of a dictionary batch
 abbrev pub coming_seen : Coming → Event
 coming_seen c = event_seen c.event
 
@@ -74,7 +74,7 @@ message_event m values = event_in m.schema values m.body m.header
 abbrev pub message_brings : MessageView → List DictionaryBatch
 message_brings m = brought_by m.schema m.body m.header
 
--- The feed goes on as the event says.
+-- The condition after a message: the end mark ends the stream, any other leaves it open.
 abbrev pub IsFollowed : Coming → Type 0
 IsFollowed c = c.next ≡ condition_after condition.Opened (Some (event_seen c.event))
 
@@ -86,7 +86,7 @@ Adds old new c more = (ds : List DictionaryBatch) → StandsAfter ds old → Wil
 abbrev pub AtEach : Stream → Table → (Retained → Type 0) → Type 0
 AtEach stream t claim = (k : Retained) → IsAt k stream t → claim k
 
--- What was checked of a piece leads there, whatever bytes came before it.
+-- A validated piece leads to this stream and these dictionaries, whatever bytes came before it.
 abbrev pub GoesTo : Stream → Table → List ℕ → Stream → Table → Validated → Type 0
 GoesTo old t piece new u j =
     (declared : Option (List (Rose NamedType))) (bytes : List ℕ) → IsAt (retained_of declared bytes) old t
@@ -98,7 +98,7 @@ HasNext fields t j = HasValues fields (values_next t (change_coming j.coming))
 abbrev pub IsTypedComing : Option (List (Rose Entry)) → Validated → Type 0
 IsTypedComing fields j = IfSome j.coming (λ c. IsTypedEvent fields c.event)
 
--- Where an event comes, memory might have run out too.
+-- Where an event is returned, the call might as well have run out of memory.
 abbrev pub MayLackFor : FeedParts → List ℕ → Fed → Type 0
 MayLackFor f piece fed = IsSome fed.event → MayAnswer f piece (Err fault.Memory)
 

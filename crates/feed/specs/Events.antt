@@ -1,4 +1,5 @@
--- What a piece gives where so much is kept: all of it is consumed, or it ends a message, which is an event.
+-- What a piece gives after the bytes of which this is kept: all of it is consumed, or it completes a message, which is
+-- an event.
 use Rattle.std.specs.Prelude.{ℕ, ℤ, Bool, ◌-◌, ◌++◌, List, Option, None, Some, Ok, length, slice_range}
 use Rattle.values.specs.Datum.{Datum}
 use Rattle.values.specs.Reading.{Reading, ◌>>=◌, mapped}
@@ -42,7 +43,7 @@ event_in fields values body (header.Dictionary d) = dictionary_event fields d bo
 event_in fields values body (header.Batch b) = batch_event values fields b body
 event_in fields values body header.End = Ok ended
 
--- the same where so much is known after it, and these dictionary batches came before it
+-- the same of a message after which this is known, and before which these dictionary batches came
 abbrev pub event_by : Known → List DictionaryBatch → List ℕ → Header → Reading Event
 event_by known ds body h = event_in (fields_of known) (dictionary_after ds) body h
 

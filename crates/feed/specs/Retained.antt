@@ -48,11 +48,11 @@ retained_after next known ds bytes (Ok (Some w)) =
 retained_after next known ds bytes (Ok None) = record { known = known; dictionaries = ds; held = bytes }
 retained_after next known ds bytes (Err fs) = record { known = known; dictionaries = ds; held = bytes }
 
--- what these bytes leave, of which no more than n messages are looked at
+-- what is kept after these bytes, of which at most n messages are read
 unfoldable pub retained : ℕ → Known → List DictionaryBatch → List ℕ → Retained
 retained zero known ds bytes = record { known = known; dictionaries = ds; held = bytes }
 retained (suc n) known ds bytes = retained_after (retained n) known ds bytes (first known bytes)
 
--- Each message has a byte at least.
+-- Each message has at least one byte, so there are no more messages than bytes.
 unfoldable pub retained_of : Option (List (Rose NamedType)) → List ℕ → Retained
 retained_of declared bytes = retained (length bytes) (before declared) [] bytes

@@ -1,4 +1,4 @@
--- What a feed keeps, by the messages that its framer hands on.
+-- What a feed keeps, by the messages that its framer returns.
 use Rattle.std.specs.Prelude.{◌≡◌, ℕ, List, Option, Ok, flat_map}
 use Rattle.values.specs.Logical.{NamedType}
 use Rattle.values.specs.Rose.{Rose}
@@ -9,7 +9,7 @@ use Rattle.messages.specs.Stream.{Stream}
 use Rattle.feed.specs.Calls.{message_brings}
 use Rattle.feed.specs.Retained.{Retained, retained_of}
 
--- the dictionary batches among these messages, and the stream behind them
+-- the dictionary batches among these messages, and the stream after them
 abbrev pub retained_by : List MessageView → Stream → Retained
 retained_by messages s = record { known = s.known; dictionaries = flat_map message_brings messages; held = s.held }
 

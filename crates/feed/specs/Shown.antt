@@ -1,4 +1,4 @@
--- What a feed in memory shows of a feed by its bytes.
+-- Which states, given by consumed bytes, a feed in memory shows.
 use Rattle.std.specs.Prelude.{
   ◌≡◌,
   ℕ,
@@ -46,7 +46,7 @@ use Rattle.feed.specs.Retained.{Retained, stream_in}
 use Rattle.feed.specs.Events.{Event, batch, dictionary, ended, schema, Given, given}
 use Rattle.feed.specs.States.{FeedState, is_broken, retained_in}
 
--- What a feed is made of: its framing, its dictionaries and its condition, and beside them what was made ready.
+-- What contracts see of a feed: its framing, its dictionaries and its condition, and the prepared change.
 pub record FeedParts : Type 0 where
   pub framing : Framing
   pub table : Table
@@ -62,14 +62,14 @@ parts_code =
     (λ p. record { framing = p.0; table = p.1.0; condition = p.1.1.0; change = p.1.1.1.0; next = p.1.1.1.1 })
     (λ _. refl)
 
--- an open feed stands where so much is kept
+-- an open feed has just what is kept
 abbrev pub IsAt : Retained → Stream → Table → Type 0
 IsAt k stream t = (stream ≡ stream_in k) × StandsAfter k.dictionaries t
 
 abbrev pub breaks : FeedParts → Bool
 breaks f = is_broken f.condition
 
--- It stands where this state is.
+-- The feed is in this state.
 pub record Shows (f : FeedParts) (s : FeedState) : Type 0 where
   pub stream : f.framing.current ≡ stream_in (retained_in s)
   pub dictionaries : StandsAfter (retained_in s).dictionaries f.table
@@ -87,17 +87,17 @@ values_next t (Some c) id = if int_eq c.id id then c.values else values_in t id
 abbrev pub WillStandAfter : List DictionaryBatch → Table → Option Change → Type 0
 WillStandAfter bs t c = (id : ℤ) → found_next t c id ≡ found_after bs id
 
--- an open feed will stand where so much is kept, once a change is made
+-- an open feed will have just what is kept, once a change is made
 abbrev pub WillBeAt : Retained → Stream → Table → Option Change → Type 0
 WillBeAt k stream t c = (stream ≡ stream_in k) × WillStandAfter k.dictionaries t c
 
--- It will, once what was made ready is done.
+-- The feed will be in this state, once the prepared change is committed.
 pub record Leads (f : FeedParts) (s : FeedState) : Type 0 where
   pub stream : f.framing.prepared ≡ stream_in (retained_in s)
   pub dictionaries : WillStandAfter (retained_in s).dictionaries f.table f.change
   pub condition : f.next ≡ s.condition
 
--- Nothing is made ready: it leads to where the feed stands.
+-- Nothing is prepared: a commit leads to the state in which the feed is.
 abbrev pub NothingPrepared : FeedParts → Type 0
 NothingPrepared f = (s : FeedState) → Shows f s → Leads f s
 
@@ -129,7 +129,7 @@ abbrev pub answer_seen : Result Fed StreamFault → Result Given StreamFault
 answer_seen (Ok f) = Ok (seen f)
 answer_seen (Err c) = Err c
 
--- what a piece comes to, in the feed's own words
+-- the effect of a piece, as an event of the definitions
 abbrev pub event_coming : Option Coming → Option Event
 event_coming None = None
 event_coming (Some c) = Some (event_seen c.event)
@@ -145,7 +145,7 @@ change_coming (Some c) = c.change
 abbrev pub HasColumns : List (Rose Entry) → List CheckedColumn → ℕ → Type 0
 HasColumns fields columns rows = (layouts_in columns ≡ layouts_of fields) × All (λ c. length c.cells ≡ rows) columns
 
--- Whatever comes of a message, the columns are known then.
+-- After any message the columns are known.
 abbrev pub IsTypedEvent : Option (List (Rose Entry)) → FeedEvent → Type 0
 IsTypedEvent fields (feed_event.Batch columns rows body) = IsSomeAnd fields (λ fs. HasColumns fs columns.items rows)
 IsTypedEvent fields _ = IsSome fields

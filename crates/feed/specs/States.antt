@@ -1,4 +1,4 @@
--- A feed by the bytes that it consumed, and what its calls make of it.
+-- The states of a feed, by the bytes that it consumed, and what its calls may answer and lead to.
 use Rattle.std.specs.Prelude.{
   ◌≡◌,
   ℕ,
@@ -51,7 +51,7 @@ is_broken condition.Opened = false
 is_broken condition.Ended = false
 is_broken condition.Finished = false
 
--- After the end nothing may come.
+-- After the end any byte is AfterEnd.
 abbrev pub closed : List ℕ → Reading Given
 closed [] = Ok (given 0 None)
 closed (b ∷ bs) = Err (one fault.AfterEnd)

@@ -1,4 +1,4 @@
--- What a feed's events tell of the whole stream: as the reading of the bytes that are left says.
+-- The reading of a whole stream, by the events of its feed.
 use Rattle.std.specs.Prelude.{◌≡◌, ℕ, ◌++◌, ◌<◌, List, [], ◌∷◌, Option, None, Some, Ok, Err, flat_map, length, drop}
 use Rattle.values.specs.Datum.{Datum}
 use Rattle.values.specs.Reading.{Faults, Reading, ◌>>=◌, one}
@@ -13,11 +13,11 @@ use Rattle.feed.specs.Events.{Event, batch, dictionary, ended, schema, given}
 use Rattle.feed.specs.States.{FeedState, after_push, finishing_when, fresh, gives, retained_in}
 use Rattle.feed.specs.Transcript.{Transcript, transcript}
 
--- what these bytes tell where so much is kept
+-- the reading of these bytes after those of which this is kept
 abbrev pub rest_story : Retained → List ℕ → Story
 rest_story k bytes = story (length bytes) k.known k.dictionaries bytes
 
--- an event, and then what the bytes behind it tell, where so much is kept after it
+-- an event, and then the reading of the bytes after it, where this is kept after it
 abbrev pub rest_story_from : Event → Retained → List ℕ → Story
 rest_story_from (schema fields) k rest = rest_story k rest
 rest_story_from (dictionary id delta values) k rest = rest_story k rest
@@ -35,14 +35,14 @@ EventTells =
     → rest_story (retained_in s) bytes ≡ rest_story_from e (retained_in (after_push s bytes (Ok (given used (Some e)))))
     (drop used bytes)
 
--- Nothing is held behind a message.
+-- Nothing is held after a message.
 abbrev pub NoneHeld : Type 0
 NoneHeld =
     (s : FeedState) (bytes : List ℕ) (used : ℕ) (e : Event) → s.condition ≡ condition.Opened
     → gives s bytes ≡ Ok (given used (Some e))
     → (retained_in (after_push s bytes (Ok (given used (Some e))))).held ≡ []
 
--- Without one, the piece is held behind the bytes that were.
+-- A piece that completes no message is held after the bytes that were held.
 abbrev pub PartialIsHeld : Type 0
 PartialIsHeld =
     (s : FeedState) (bytes : List ℕ) (used : ℕ) → s.condition ≡ condition.Opened → gives s bytes ≡ Ok (given used None)
@@ -53,7 +53,7 @@ FaultsTell =
     (s : FeedState) (bytes : List ℕ) (fs : Faults) → IsBetween s → gives s bytes ≡ Err fs
     → rest_story (retained_in s) bytes ≡ ends (retained_in s).known (Err fs)
 
--- A beginning of a message alone is no whole stream.
+-- An incomplete message alone is no whole stream: it is Truncated.
 abbrev pub PartialTells : Type 0
 PartialTells =
     (s : FeedState) (bytes : List ℕ) (used : ℕ) → IsBetween s → 0 < length bytes → gives s bytes ≡ Ok (given used None)

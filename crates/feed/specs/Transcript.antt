@@ -1,4 +1,4 @@
--- A stream as its feed hands it on: what all of its bytes give, event by event.
+-- What all bytes of a stream give, event by event.
 use Rattle.std.specs.Prelude.{ℕ, zero, suc, List, [], ◌∷◌, Option, None, Some, Ok, Err, drop, length}
 use Rattle.values.specs.Reading.{Reading}
 use Rattle.feed.specs.Events.{Event, Given}
@@ -21,7 +21,7 @@ abbrev pub transcript_by : (FeedState → List ℕ → Transcript) → FeedState
 transcript_by next s bytes (Ok g) = led_by g.event (next (after_push s bytes (Ok g)) (drop g.used bytes))
 transcript_by next s bytes (Err fs) = no_events (Err fs)
 
--- of bytes of which at most n messages are looked at
+-- the transcript of bytes of which at most n messages are read
 unfoldable pub transcript_of : ℕ → FeedState → List ℕ → Transcript
 transcript_of zero s bytes = no_events (Ok s)
 transcript_of (suc n) s [] = no_events (Ok s)

@@ -57,7 +57,7 @@ fn read_values(alloc: Global, column: &Column) -> Result<ValueRuns, AllocError>
     Ok(ValueRuns::each(read_cells(alloc, column)?))
 }
 
-/// Validates the column of a dictionary batch whose values have this type.
+/// Places and validates the one column of a dictionary batch whose values have this type.
 fn check_values(
     alloc: Global,
     stored: &ColType,
@@ -69,7 +69,7 @@ fn check_values(
         (column_of body.items (values_array stored.now header.now)) }
     ensures typed { IfOk result (λ c. c.layouts ≡ value_layout stored.now) }
 {
-    // It does nothing: the proof takes from it how the array lies.
+    // It does nothing: the proof takes from it that the array is as the check requires.
     place_law();
     let array = place_values(alloc, stored, header);
     Column::check(Rc::new(alloc, body)?, array)

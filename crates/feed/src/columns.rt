@@ -36,7 +36,7 @@ fn check_column(body: &Rc<Vec<u8>>, array: Array) -> Result<Column, StreamFault>
     Column::check(body.clone()?, array)
 }
 
-/// Validates the columns of a batch, each by itself: 22 to 27.
+/// Validates the columns of a batch, each by itself: `BufferShort` to `DecimalRange`.
 #[tactic(auto, using(crate::proofs::GatherLemmas::columns))]
 fn check_columns(
     alloc: Global,
@@ -57,7 +57,7 @@ fn check_columns(
     Ok(columns)
 }
 
-/// Reads the columns of a record batch, with the dictionaries as they stand now.
+/// Places and validates the columns of a record batch, with the dictionaries as they are now.
 pub(crate) fn take_columns(
     alloc: Global,
     schema: &StreamSchema,
@@ -72,7 +72,7 @@ pub(crate) fn take_columns(
         (batch_columns (values_in dicts.now) schema.now.fields.items header.now body.items) }
     ensures typed { IfOk result (λ cs. HasColumns schema.now.fields.items cs.items header.now.rows) }
 {
-    // It does nothing: the proof takes from it how the arrays lie.
+    // It does nothing: the proof takes from it that the arrays are as the check requires.
     place_law();
     let arrays = place_arrays(alloc, schema, header, dicts)?;
     let body = Rc::new(alloc, body)?;

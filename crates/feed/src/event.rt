@@ -21,7 +21,7 @@ pub enum FeedEvent {
         rows: usize,
         body: usize,
     },
-    /// The end of the stream.
+    /// The end mark.
     End,
 }
 

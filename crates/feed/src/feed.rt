@@ -28,17 +28,17 @@ use std::marker::Model;
 use std::rc::Rc;
 use values::{Schema, StreamFault};
 
-/// One stream, which comes in pieces.
+/// A stream that is pushed in pieces.
 ///
-/// What it keeps are its schema, its dictionaries and the bytes of a message that isn't whole yet. `prepare` checks a
-/// piece and makes room for what comes of it, and `commit` then makes the change; `push` is the two in turn.
+/// It keeps the stream's schema and dictionaries, and the bytes of an incomplete message. `prepare` checks a piece and
+/// makes the room that its change needs, and `commit` makes the change; `push` is the two in turn.
 #[derive(Drop)]
 pub struct Feed {
     alloc: Global,
     framer: Framer,
     dicts: Dicts,
     condition: Condition,
-    // What was made ready, beside what the framer has.
+    // The prepared change of a dictionary, if any, and the condition after it; the framer has its own prepared change.
     change: Option<Ready>,
     next: Condition,
 }
@@ -62,7 +62,7 @@ impl Model for Feed {
         (record { framing = f.framer; table = f.dicts; condition = f.condition; change = f.change; next = f.next }) };
 }
 
-/// Checks that the input may end here.
+/// Checks that the input may end here: `Truncated` inside a message, `NoSchema` before a schema.
 fn validate_end(condition: Condition, framer: &Framer) -> Result<(), StreamFault>
     ensures { Passes result (finishing_when condition framer.now.current) }
 {
@@ -79,7 +79,8 @@ fn validate_end(condition: Condition, framer: &Framer) -> Result<(), StreamFault
 }
 
 impl Feed {
-    /// Opens a feed that has consumed nothing. Where a schema is declared, that of the stream must have its columns.
+    /// Opens a feed to which nothing has come. Where a schema is declared the stream's must have the same logical
+    /// columns, and is otherwise refused as `SchemaMismatch`.
     pub fn open(alloc: Global, declared: Option<Schema>) -> Feed
         ensures shown { Shows result (fresh (option_map (λ s. s.fields.items) declared)) }
         ensures nothing_prepared { NothingPrepared result }
@@ -96,7 +97,7 @@ impl Feed {
         }
     }
 
-    /// Whether the stream was refused. A broken feed accepts nothing more.
+    /// Whether a fault broke the feed. `push`, `prepare` and `finish` may not be called then.
     pub fn is_broken(&self) -> bool
         ensures answer { result ≡ breaks self.now }
         ensures shown { (s : FeedState) → Shows self.now s → result ≡ is_broken s.condition }
@@ -112,7 +113,7 @@ impl Feed {
         self.framer.schema()
     }
 
-    /// Discards what `prepare` made ready.
+    /// Drops the prepared change.
     fn discard_prepared(&mut self)
         ensures framing { self.new.framing.current ≡ self.old.framing.current }
         ensures table { self.new.table ≡ self.old.table }
@@ -124,7 +125,7 @@ impl Feed {
         self.framer.discard();
     }
 
-    /// `prepare` while the stream goes on.
+    /// `prepare` of a feed that accepts more bytes.
     fn prepare_open(&mut self, piece: &[u8]) -> Result<Fed, StreamFault>
         requires { self.old.condition ≡ Condition.Opened }
         ensures answer { MayAnswer self.old piece.now (answer_seen result) }
@@ -157,7 +158,7 @@ impl Feed {
         })
     }
 
-    /// `prepare` after the end: an empty piece comes to nothing, and no other may come.
+    /// `prepare` after the end mark or `finish`: an empty piece has no effect, any other is `AfterEnd`.
     fn prepare_closed(&mut self, piece: &[u8]) -> Result<Fed, StreamFault>
         requires { self.old.condition ≡ Condition.Opened → ⊥ }
         ensures answer { MayAnswer self.old piece.now (answer_seen result) }
@@ -180,9 +181,9 @@ impl Feed {
         })
     }
 
-    /// Checks a piece, and makes the room for what comes of it: answers what `push` would answer, and changes nothing
-    /// but that a fault breaks the feed. `commit` makes the change, of a refusal none; another call of `prepare`,
-    /// `push` or `finish` drops it.
+    /// Checks a piece and makes the room that its change needs. It returns what `push` would return, and changes
+    /// nothing that a caller sees, but that a fault breaks the feed. `commit` then makes the change; another `prepare`,
+    /// a `push` or `finish` drops it. After an error nothing is prepared.
     pub fn prepare(&mut self, piece: &[u8]) -> Result<Fed, StreamFault>
         requires { breaks self.old ≡ false }
         ensures answer { MayAnswer self.old piece.now (answer_seen result) }
@@ -199,8 +200,7 @@ impl Feed {
         }
     }
 
-    /// Makes the change that `prepare` made ready, if nothing came between: else, and once it is made, it changes
-    /// nothing. It takes no memory.
+    /// Makes the prepared change, if there is one. It takes no memory.
     pub fn commit(&mut self)
         ensures change { (s : FeedState) → Leads self.old s → Shows self.new s }
         ensures nothing_prepared { NothingPrepared self.new }

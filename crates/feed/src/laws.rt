@@ -17,8 +17,8 @@ ghost use Rattle.feed.specs.StoryLaw.{
 use messages::first_message_law;
 
 /// However a stream is cut into pieces, a feed gives the same events, and the same faults stand: a piece without an
-/// event may be joined with the next, and more bytes change neither a whole message nor a fault. A whole message uses
-/// some of its piece.
+/// event may be joined with the next, and more bytes change neither a complete message nor the faults that stand. A
+/// complete message uses at least one byte of its piece.
 pub fn cut_law()
     ensures partial { PartialJoins }
     ensures whole { WholeStays }
@@ -29,10 +29,10 @@ pub fn cut_law()
     first_message_law();
 }
 
-/// However a stream is cut into pieces, pushing them gives the events of its bytes and leaves the feed where they lead,
-/// or a refusal names one of the faults that stand there; what a push leaves of a piece is pushed next. `none`, `push`
-/// and `refusal` say it of one push, `feed` of a list of pieces, `cuts` that two lists with the same bytes come to the
-/// same, and `end` that each list comes to an end.
+/// However a stream is cut into pieces, pushing them gives the events of its bytes and the state after these, or a
+/// refusal names one of the faults at which they end; what a push leaves of a piece is pushed next. `none`, `push` and
+/// `refusal` say it of one push, `feed` of a list of pieces, `cuts` that two lists with the same bytes give the same,
+/// and `end` that each list can be pushed to its end.
 pub fn pieces_law()
     ensures none { NothingLeft }
     ensures push { PushKeeps }
@@ -44,14 +44,13 @@ pub fn pieces_law()
     first_message_law();
 }
 
-/// What a feed keeps of its bytes is what the messages leave that the framer hands on: one list of messages, which is
-/// kept, and read.
+/// What a feed keeps of its bytes is what the messages leave that the framer returns of them.
 pub fn retained_law()
     ensures { RetainedByMessages }
 {}
 
-/// What the events of a feed tell of the whole stream: the reading of the bytes that are left, event by event; and
-/// `events`, of all of them.
+/// The events of a feed make the reading of the whole stream: event by event, that of the bytes that are left is the
+/// event and then the reading of the rest; and by `events`, the reading of a stream is that of all its events.
 pub fn story_law()
     ensures all { AllIsTold }
     ensures event { EventTells }

@@ -22,7 +22,7 @@ use schema_meta::{BatchHeader, DictionaryHeader, Header, StreamSchema};
 use std::alloc::{AllocError, Global};
 use values::StreamFault;
 
-/// The event of a message and the change that it makes.
+/// The effect of a message: its event, its change of a dictionary, and the condition after it.
 #[derive(Drop)]
 pub(crate) struct Coming {
     pub event: FeedEvent,
@@ -65,7 +65,7 @@ fn take_dictionary(
     ensures next { IfOk result IsFollowed }
     ensures typed { IfOk result (λ c. IsTypedEvent (Some schema.now.fields.items) c.event) }
 {
-    // It does nothing: the proof takes from it what an id has after a batch.
+    // It does nothing: the proof takes from it the values of an id after a batch.
     batches_law();
     let values = take_values(alloc, schema, header, body)?;
     let count = values.len();

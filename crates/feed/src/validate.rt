@@ -14,14 +14,14 @@ use schema_meta::place_law;
 use std::alloc::Global;
 use values::StreamFault;
 
-/// A validated piece, before its effect is committed.
+/// A validated piece: how many bytes are used, and the effect of the message that it completes, if it does.
 #[derive(Drop)]
 pub(crate) struct Validated {
     pub used: usize,
     pub coming: Option<Coming>,
 }
 
-/// Validates a piece of an open feed. The framer has its change prepared then; no dictionary is changed.
+/// Validates a piece of an open feed. It leaves the framer's change prepared, and changes no dictionary.
 pub(crate) fn validate(
     alloc: Global,
     framer: &mut Framer,
