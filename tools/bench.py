@@ -15,19 +15,12 @@ import sys
 import tempfile
 
 sys.dont_write_bytecode = True
-from streams import END_MARK, INT64_SCHEMA, batch, dictionary_batch, field, int64_batch, schema
+from streams import END_MARK, batch, dictionary_batch, field, schema
 
 LV = "crates/lv/out/lv"
 GNU_TIME = "/usr/bin/time"
 ROWS = 1 << 16
 MEGABYTE = 1_000_000
-
-
-def int64_stream(file, size):
-    file.write(INT64_SCHEMA)
-    for first in range(0, size // 8, ROWS):
-        file.write(int64_batch(ROWS, first))
-    file.write(END_MARK)
 
 
 def stream_of(fields, rows, arrays, dictionaries=b""):
@@ -68,18 +61,19 @@ DECIMALS = [integers(16, ROWS)]
 INDICES = [struct.pack(f"<{ROWS}i", *(row % 1000 for row in range(ROWS)))]
 LONG = ROWS // 32
 
+# A row is wide enough that the largest stream has fewer than 2^24 rows.
 SHAPES = {
-    "int64": int64_stream,
-    "int64, a twentieth null": stream_of([field(2, 64, 1)], ROWS, [with_nulls(NUMBERS, ROWS)]),
-    "int8, uint16, date, timestamp": stream_of(
-        [field(2, 8, 1), field(2, 16, 0), field(8, 0), field(10, 2)], ROWS, [[integers(width, ROWS)] for width in (1, 2, 4, 8)]
+    "4 of int64": stream_of([field(2, 64, 1)] * 4, ROWS, [NUMBERS] * 4),
+    "4 of int64, a twentieth null": stream_of([field(2, 64, 1)] * 4, ROWS, [with_nulls(NUMBERS, ROWS)] * 4),
+    "2 of int8, uint16, date, timestamp": stream_of(
+        [field(2, 8, 1), field(2, 16, 0), field(8, 0), field(10, 2)] * 2, ROWS, [[integers(width, ROWS)] for width in (1, 2, 4, 8)] * 2
     ),
-    "decimal, bool": stream_of([field(7, 38, 2), field(6)], ROWS, [DECIMALS, [b"\x55" * (ROWS // 8)]]),
+    "2 of decimal, bool": stream_of([field(7, 38, 2), field(6)] * 2, ROWS, [DECIMALS, [b"\x55" * (ROWS // 8)]] * 2),
     "texts of 32 bytes": stream_of([field(5)], ROWS, [texts(32, ROWS)]),
     "texts of 32 bytes, a twentieth null": stream_of([field(5)], ROWS, [with_nulls(texts(32, ROWS), ROWS)]),
     "texts of 1,000 bytes": stream_of([field(5)], LONG, [texts(1000, LONG)]),
-    "text of a dictionary of 1,000": stream_of(
-        [field(5, dictionary=1)], ROWS, [INDICES], dictionary_batch(1, [b"%032d" % number for number in range(1000)])
+    "8 texts of a dictionary of 1,000": stream_of(
+        [field(5, dictionary=1)] * 8, ROWS, [INDICES] * 8, dictionary_batch(1, [b"%08d" % number for number in range(1000)])
     ),
     "list of int64": stream_of(
         [field(12, children=[field(2, 64, 1)])], ROWS // 8, [[offsets(8, ROWS // 8)], (ROWS, NUMBERS)]

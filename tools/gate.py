@@ -33,6 +33,7 @@ RUNS = (
     "check-limits.py",
     "check-examples.sh",
     "check-outputs.sh",
+    "check-claims.py",
     "refuse-memory.sh",
     "refuse-run.py",
     "check-cuts.py",
