@@ -1,6 +1,6 @@
 #!/usr/bin/env python3
 """Processor time and memory of edits by `lv run`: rows that come in batches, beside `lv recast` of the same stream, and then edits of one row
-each over 10,000 and over 1,000,000 live rows; and of writing views of these. Rows are of int64, utf8 of 10 bytes and int64. Where valgrind is
+each over 10,000 and over 1,000,000 live rows; and of writing views of these. Rows are of int64, utf8 of 10 bytes, int64 and int64. Where valgrind is
 there, the instructions of an edit and of an undo too, which other work on the machine doesn't change."""
 
 import os
@@ -18,16 +18,14 @@ LV = "crates/lv/out/lv"
 GNU_TIME = "/usr/bin/time"
 TURNS = 3
 UNDOS = 64
+# How often rows are appended one by one and then retracted, by feeds of their own.
+ROUNDS = 4
 CONFIG = """
 [main]
 key = "i"
-columns = [["i", "int64"], ["n", "utf8"], ["a", "int64"]]
+columns = [["i", "int64"], ["n", "utf8"], ["a", "int64"], ["z", "int64"]]
 [feed.rows]
 role = "append"
-[feed.more]
-role = "append"
-[feed.gone]
-role = "retract"
 [view.all]
 columns = [["i", "col", "i"], ["n", "col", "n"], ["a", "col", "a"]]
 [view.sorted]
@@ -42,9 +40,14 @@ group = ["n"]
 columns = [["n", "col", "n"], ["rows", "count"], ["sum", "sum", "a"], ["most", "greatest", "a"]]
 order = [["sum", "desc"]]
 first = 10
-"""
+[view.zones]
+group = ["z"]
+columns = [["z", "col", "z"], ["rows", "count"], ["sum", "sum", "a"]]
+""" + "".join(f'[feed.more{it}]\nrole = "append"\n[feed.gone{it}]\nrole = "retract"\n' for it in range(ROUNDS))
+EDITS = [f"{kind}{it}" for it in range(ROUNDS) for kind in ("more", "gone")]
 NUMBER = field(2, 64, 1, name=b"i")
-SCHEMA = schema([NUMBER, field(5, name=b"n"), field(2, 64, 1, name=b"a")])
+SCHEMA = schema([NUMBER, field(5, name=b"n"), field(2, 64, 1, name=b"a"), field(2, 64, 1, name=b"z")])
+ZONES = 1000
 
 
 def integers(first, rows):
@@ -53,7 +56,8 @@ def integers(first, rows):
 
 def rows_from(first, rows):
     texts = [struct.pack(f"<{rows + 1}i", *range(0, 10 * (rows + 1), 10)), b"".join(b"%010d" % it for it in range(rows))]
-    return batch(rows, [[integers(first, rows)], texts, [integers(first, rows)]])
+    zones = struct.pack(f"<{rows}q", *(it % ZONES for it in range(first, first + rows)))
+    return batch(rows, [[integers(first, rows)], texts, [integers(first, rows)], [zones]])
 
 
 def keys_from(first, rows):
@@ -73,11 +77,13 @@ class Bench:
             file.write(data)
 
     def streams(self, live, edits):
-        """A stream of so many live rows in batches of 1,024, one of rows to come one by one, and one that takes them away again."""
+        """A stream of so many live rows in batches of 1,024, and for each round one of rows to come one by one, and one that retracts
+        them."""
         each = [rows_from(first, min(1024, live - first)) for first in range(0, live, 1024)]
         self.write("rows", SCHEMA + b"".join(each) + END_MARK)
-        self.write("more", SCHEMA + b"".join(rows_from(live + it, 1) for it in range(edits)) + END_MARK)
-        self.write("gone", schema([NUMBER]) + b"".join(keys_from(live + it, 1) for it in range(edits)) + END_MARK)
+        for turn in range(ROUNDS):
+            self.write(f"more{turn}", SCHEMA + b"".join(rows_from(live + it, 1) for it in range(edits)) + END_MARK)
+            self.write(f"gone{turn}", schema([NUMBER]) + b"".join(keys_from(live + it, 1) for it in range(edits)) + END_MARK)
 
     def command(self, feeds, views=(), undos=0):
         lines = [f"feed {it} {self.path(it)}" for it in feeds] + ["undo"] * undos + [f"write {it} {self.path('out')}" for it in views]
@@ -111,9 +117,9 @@ def instructions(words):
 
 
 def count_instructions(bench, edits):
-    rows, more = bench.instructions(["rows"]), bench.instructions(["rows", "more"])
-    gone = bench.instructions(["rows", "more", "gone"])
-    undone = (bench.instructions(["rows", "more"], UNDOS) - more, bench.instructions(["rows", "more", "gone"], UNDOS) - gone)
+    rows, more = bench.instructions(["rows"]), bench.instructions(["rows", "more0"])
+    gone = bench.instructions(["rows", "more0", "gone0"])
+    undone = (bench.instructions(["rows", "more0"], UNDOS) - more, bench.instructions(["rows", "more0", "gone0"], UNDOS) - gone)
     each = [(more - rows) / edits, (gone - more) / edits, undone[0] / UNDOS, undone[1] / UNDOS]
     print("  instructions of an append, a retract, and the undo of either: " + ", ".join(f"{it:,.0f}" for it in each))
 
@@ -125,21 +131,22 @@ def main():
     if not os.path.exists(GNU_TIME):
         print("bench of edits: skipped, since there is no GNU time")
         return
-    edits = 50_000
+    edits = 100_000
     with tempfile.TemporaryDirectory(prefix="lv-bench-") as folder:
         bench = Bench(folder)
         for live in (10_000, 1_000_000):
             bench.streams(live, edits)
             recast = measured([LV, "recast", bench.path("rows"), bench.path("out")])
-            rows, more, gone = bench.run(["rows"]), bench.run(["rows", "more"]), bench.run(["rows", "more", "gone"])
+            rows, all_edits = bench.run(["rows"]), bench.run(["rows", *EDITS])
             print(f"{live:,} rows in batches of 1,024: {rows[0]:.2f} s, {rows[1] / live:.0f} bytes a row; recast {recast[0]:.2f} s")
-            print(f"  then {edits:,} appends of one row: {1e6 * (more[0] - rows[0]) / edits:.1f} microseconds each")
-            print(f"  then {edits:,} retracts of one row: {1e6 * (gone[0] - more[0]) / edits:.1f} microseconds each")
-            for view in ("all", "sorted", "first", "groups"):
-                print(f"  view {view} written: {bench.run(['rows'], [view])[0] - rows[0]:.2f} s")
-            if shutil.which("valgrind"):
-                bench.streams(live, edits // 10)
-                count_instructions(bench, edits // 10)
+            each = 1e6 * (all_edits[0] - rows[0]) / (edits * ROUNDS)
+            print(f"  then {edits * ROUNDS:,} appends of one row, and the retract of each: {each:.1f} microseconds for both")
+            for view, writes in (("all", 1), ("sorted", 1), ("groups", 1), ("first", 200), ("zones", 200)):
+                written = bench.run(["rows"], [view] * writes)
+                print(f"  view {view} written: {1e3 * (written[0] - rows[0]) / writes:.1f} ms")
+            if live < 100_000 and shutil.which("valgrind"):
+                bench.streams(live, edits // 20)
+                count_instructions(bench, edits // 20)
 
 
 if __name__ == "__main__":

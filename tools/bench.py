@@ -75,6 +75,12 @@ SHAPES = {
     "8 texts of a dictionary of 1,000": stream_of(
         [field(5, dictionary=1)] * 8, ROWS, [INDICES] * 8, dictionary_batch(1, [b"%08d" % number for number in range(1000)])
     ),
+    "list of texts of a dictionary": stream_of(
+        [field(12, children=[field(5, dictionary=1)])],
+        ROWS // 8,
+        [[offsets(8, ROWS // 8)], (ROWS, INDICES)],
+        dictionary_batch(1, [b"%08d" % number for number in range(1000)]),
+    ),
     "list of int64": stream_of(
         [field(12, children=[field(2, 64, 1)])], ROWS // 8, [[offsets(8, ROWS // 8)], (ROWS, NUMBERS)]
     ),
