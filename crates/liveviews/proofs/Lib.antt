@@ -8,6 +8,7 @@ pub mod ReadBack
 pub mod Recasts
 pub mod TypeTexts
 pub mod LineTexts
+pub mod SourceLemmas
 pub mod Accounts
 pub mod Alike
 pub mod EndLemmas
