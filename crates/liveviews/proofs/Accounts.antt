@@ -157,7 +157,7 @@ goes-on s bytes used (Some e) before is goes =
     ap (λ c. condition_after c (Some e)) (state-opened s bytes used e is) ∙ event-ends e
 
 -- Some bytes are used.
-uses-some :
+pub uses-some :
     (all : PartialUses) (uses : WholeUses) (s : FeedState) (bytes : List ℕ) (used : ℕ) (o : Option Event)
     → 0 < length bytes
     → gives s bytes ≡ Ok (given used o) → (0 < used) × (used ≤ length bytes)
@@ -165,7 +165,7 @@ uses-some all uses s bytes used None some is =
     let whole : used ≡ length bytes = all s bytes used is in (omega (arith, some, whole), omega (arith, whole))
 uses-some all uses s bytes used (Some e) some is = uses s bytes used e is
 
-gave : (s : FeedState) (bytes : List ℕ) (f : Fed) → Gives s bytes (Ok (seen f)) → gives s bytes ≡ Ok (seen f)
+pub gave : (s : FeedState) (bytes : List ℕ) (f : Fed) → Gives s bytes (Ok (seen f)) → gives s bytes ≡ Ok (seen f)
 unfolding Gives
 gave s bytes f is = is
 
@@ -221,7 +221,7 @@ left-step law a old new pushed bytes later f answer after feed text marked l =
           ∙ ap (λ t. after_lines t rest) (sym text);
     }
 
-gives-fault : (s : FeedState) (bytes : List ℕ) (f : StreamFault) → Gives s bytes (Err f)
+pub gives-fault : (s : FeedState) (bytes : List ℕ) (f : StreamFault) → Gives s bytes (Err f)
     → (f ≡ fault.Memory) ⊎ Stands (gives s bytes) f
 unfolding Gives
 gives-fault s bytes fault.Memory h = inl refl
@@ -312,12 +312,12 @@ at-end-tells : (law : NothingLeft) (a : Account) (i : Inspection) → (l : IsLef
     → a ≡ after_lines (string_bytes i.text) (at_end l.state)
 at-end-tells law a i l = l.tells ∙ ap (λ t. after_lines (string_bytes i.text) (account_in t)) (law l.state)
 
-finish-valid : (s : FeedState) (u : Unit {0}) → Finishes s (Ok u)
+pub finish-valid : (s : FeedState) (u : Unit {0}) → Finishes s (Ok u)
     → (x : Unit {0}) × (finishing_when s.condition (stream_in (retained_in s)) ≡ Ok x)
 unfolding Finishes
 finish-valid s u h = valid_Ok (finishing_when s.condition (stream_in (retained_in s))) h
 
-finish-fault : (s : FeedState) (f : StreamFault) → Finishes s (Err f)
+pub finish-fault : (s : FeedState) (f : StreamFault) → Finishes s (Err f)
     → Stands (finishing_when s.condition (stream_in (retained_in s))) f
 unfolding Finishes
 finish-fault s f h = h

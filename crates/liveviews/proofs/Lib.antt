@@ -4,6 +4,7 @@ pub mod TakenLemmas
 pub mod BatchLemmas
 pub mod Stories
 pub mod Tables
+pub mod Inputs
 pub mod ReadBack
 pub mod Recasts
 pub mod TypeTexts
