@@ -354,7 +354,7 @@ goes-comes joins whole uses law held st rows old new piece later used v c g =
     whole g.state (g.held ++ piece) later (n + used) v joined in
     let next : FeedState = after_push t piece (Ok (given used (Some v))) in
     let P : FeedState → List ℕ → Type 0 = λ x xs. rest_story (retained_in g.state) all
-        ≡ rest_story_from v (retained_in x) xs in
+    ≡ rest_story_from v (retained_in x) xs in
     let told : P next (drop used piece ++ later) =
     subst (λ (x : FeedState). P x (drop used piece ++ later)) (after-joined g.state g.held piece later used v within)
     (subst (P (after_push g.state all (Ok (given (n + used) (Some v)))))

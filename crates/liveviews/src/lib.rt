@@ -21,4 +21,4 @@ pub use files::{FileFault, Files};
 pub use inspecting::{Inspected, inspect, inspect_from};
 pub use laws::{account_law, recast_law};
 pub use program::lv;
-pub use recasting::{RecastFault, recast};
+pub use recasting::{RecastFault, SourceFault, recast, recast_from};

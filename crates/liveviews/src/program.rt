@@ -31,7 +31,7 @@ ghost use Rattle.liveviews.specs.declared.program.Refusal.TheVariants.{CannotWri
 use crate::configuring::parse_config;
 use crate::files::{FileFault, Files};
 use crate::inspecting::{Inspected, inspect_from};
-use crate::recasting::{RecastFault, recast};
+use crate::recasting::{RecastFault, SourceFault, recast_from};
 use crate::running::run_script;
 use clap::error::ErrorKind;
 use clap::{Arg, ArgAction, ArgMatches, Command};
@@ -295,13 +295,14 @@ fn recast_file<'a, F: Files>(
 ) -> Result<u64, Refusal<'a>>
     ensures { Ends (F.content files.old from.now) (F.sunk files.old) (F.sunk files.new) (F.unmade files.new) result }
 {
-    let input = read_file(from, files)?;
+    let mut input = open_file(from, files)?;
     if let Err(fault) = files.create(to) {
         return Err(Refusal::unmade(fault, to));
     }
-    match recast(alloc, &input, files) {
+    match recast_from(alloc, &mut input, files) {
         Ok(written) => Ok(written),
-        Err(fault) => Err(stopped(files, fault, to)),
+        Err(SourceFault::Unreadable) => Err(Refusal::CannotRead(from)),
+        Err(SourceFault::Refused(fault)) => Err(stopped(files, fault, to)),
     }
 }
 

@@ -189,7 +189,10 @@ impl Table {
     /// The table that the whole stream of a source means, which is read piece by piece, as [`Table::read`] says.
     ///
     /// The outer error is a source that can't be read, or want of memory.
-    pub fn read_from<R: Read>(alloc: Global, source: &mut R) -> Result<Result<Table, Cause>, FileFault>
+    pub fn read_from<R: Read>(
+        alloc: Global,
+        source: &mut R,
+    ) -> Result<Result<Table, Cause>, FileFault>
         ensures read { IfOk result (λ read. OfSource (R.remaining source.old) (IsRead read)) }
         ensures within { IfOk result (λ read. IfOk read (λ t. IsTable t.schema.fields.items (taken_rows t.rows))) }
         ensures counted { IfOk result (λ read. IfOk read (λ t. IsCounted t.rows)) }
