@@ -15,8 +15,11 @@ use Rattle.std.proofs.Common.{
   Option,
   None,
   Some,
+  Result,
   Ok,
   Err,
+  OnOk,
+  IfErr,
   List,
   [],
   ◌∷◌,
@@ -74,7 +77,16 @@ use Rattle.liveviews.specs.Inspect.{
   last_line,
   refusal_line,
 }
-use Rattle.liveviews.specs.Inspecting.{Breaks, IsFresh, IsLeft, IsOpen, StopsAt, condition_when}
+use Rattle.liveviews.specs.Inspecting.{
+  Breaks,
+  HasRun,
+  HasTaken,
+  IsFresh,
+  IsLeft,
+  IsOpen,
+  StopsAt,
+  condition_when,
+}
 use Rattle.liveviews.specs.declared.inspecting.Inspection.{Inspection}
 use Rattle.liveviews.specs.Lines.{ended_after, given_lines, is_end}
 
@@ -104,14 +116,12 @@ account-led None t = refl
 account-led (Some e) t = refl
 
 push-step :
-    (law : PushKeeps) (s : FeedState) (bytes : List ℕ) (g : Given) → gives s bytes ≡ Ok g
-    → account_in (transcript s bytes) ≡ after_lines (given_lines g.event)
-    (account_in (transcript (after_push s bytes (Ok g)) (drop g.used bytes)))
-push-step law s bytes g is =
-    let next : FeedState = after_push s bytes (Ok g) in
-    ap (λ ys. account_in (transcript s ys)) (sym (append-nil bytes)) ∙ ap account_in (law s bytes [] g is)
-    ∙ ap (λ ys. account_in (led_by g.event (transcript next ys))) (append-nil (drop g.used bytes))
-    ∙ account-led g.event (transcript next (drop g.used bytes))
+    (law : PushKeeps) (s : FeedState) (bytes later : List ℕ) (g : Given) → gives s bytes ≡ Ok g
+    → account_in (transcript s (bytes ++ later)) ≡ after_lines (given_lines g.event)
+    (account_in (transcript (after_push s bytes (Ok g)) (drop g.used bytes ++ later)))
+push-step law s bytes later g is =
+    ap account_in (law s bytes later g is)
+    ∙ account-led g.event (transcript (after_push s bytes (Ok g)) (drop g.used bytes ++ later))
 
 closed-none : (bytes : List ℕ) (used : ℕ) (e : Event) → closed bytes ≡ Ok (given used (Some e)) → ⊥
 closed-none [] used e is =
@@ -147,7 +157,7 @@ goes-on s bytes used (Some e) before is goes =
     ap (λ c. condition_after c (Some e)) (state-opened s bytes used e is) ∙ event-ends e
 
 -- Some bytes are used.
-uses-some :
+pub uses-some :
     (all : PartialUses) (uses : WholeUses) (s : FeedState) (bytes : List ℕ) (used : ℕ) (o : Option Event)
     → 0 < length bytes
     → gives s bytes ≡ Ok (given used o) → (0 < used) × (used ≤ length bytes)
@@ -155,7 +165,7 @@ uses-some all uses s bytes used None some is =
     let whole : used ≡ length bytes = all s bytes used is in (omega (arith, some, whole), omega (arith, whole))
 uses-some all uses s bytes used (Some e) some is = uses s bytes used e is
 
-gave : (s : FeedState) (bytes : List ℕ) (f : Fed) → Gives s bytes (Ok (seen f)) → gives s bytes ≡ Ok (seen f)
+pub gave : (s : FeedState) (bytes : List ℕ) (f : Fed) → Gives s bytes (Ok (seen f)) → gives s bytes ≡ Ok (seen f)
 unfolding Gives
 gave s bytes f is = is
 
@@ -171,18 +181,33 @@ unfolding after_push
 after-shows s bytes g = refl
 
 -- A push was taken, and its lines were written.
+pub open-step :
+    (old new : Inspection) (pushed : FeedParts) (bytes : List ℕ) (f : Fed)
+    → ((t : FeedState) → Shows old.feed t → Gives t bytes (Ok (seen f)))
+    → ((t : FeedState) → Shows old.feed t → Shows pushed (after_push t bytes (Ok (seen f)))) → new.feed ≡ pushed
+    → new.ended ≡ ended_after old.ended (option_map event_seen f.event) → IsOpen old → IsOpen new
+open-step old new pushed bytes f answer after feed marked (s, shows, goes) =
+    let is : gives s bytes ≡ Ok (seen f) = gave s bytes f (answer s shows) in
+    let next : FeedState = after_push s bytes (Ok (seen f)) in (
+      next,
+      subst (λ (p : FeedParts). Shows p next) (sym feed) (after s shows),
+      after-shows s bytes (seen f)
+          ∙ goes-on s bytes f.used (option_map event_seen f.event) old.ended is goes
+          ∙ ap condition_when (sym marked),
+    )
+
 pub left-step :
-    (law : PushKeeps) (a : Account) (old new : Inspection) (pushed : FeedParts) (bytes : List ℕ) (f : Fed)
+    (law : PushKeeps) (a : Account) (old new : Inspection) (pushed : FeedParts) (bytes later : List ℕ) (f : Fed)
     → ((t : FeedState) → Shows old.feed t → Gives t bytes (Ok (seen f)))
     → ((t : FeedState) → Shows old.feed t → Shows pushed (after_push t bytes (Ok (seen f)))) → new.feed ≡ pushed
     → string_bytes new.text ≡ string_bytes old.text ++ given_lines (option_map event_seen f.event)
-    → new.ended ≡ ended_after old.ended (option_map event_seen f.event) → IsLeft a old bytes
-    → IsLeft a new (drop f.used bytes)
-left-step law a old new pushed bytes f answer after feed text marked l =
+    → new.ended ≡ ended_after old.ended (option_map event_seen f.event) → IsLeft a old (bytes ++ later)
+    → IsLeft a new (drop f.used bytes ++ later)
+left-step law a old new pushed bytes later f answer after feed text marked l =
     let o : Option Event = option_map event_seen f.event in
     let is : gives l.state bytes ≡ Ok (seen f) = gave l.state bytes f (answer l.state l.shows) in
     let next : FeedState = after_push l.state bytes (Ok (seen f)) in
-    let rest : Account = account_in (transcript next (drop f.used bytes)) in
+    let rest : Account = account_in (transcript next (drop f.used bytes ++ later)) in
     record {
       state = next;
       shows = subst (λ (p : FeedParts). Shows p next) (sym feed) (after l.state l.shows);
@@ -190,13 +215,13 @@ left-step law a old new pushed bytes f answer after feed text marked l =
           after-shows l.state bytes (seen f) ∙ goes-on l.state bytes f.used o old.ended is l.goes
           ∙ ap condition_when (sym marked);
       tells =
-          l.tells ∙ ap (after_lines (string_bytes old.text)) (push-step law l.state bytes (seen f) is)
+          l.tells ∙ ap (after_lines (string_bytes old.text)) (push-step law l.state bytes later (seen f) is)
           ∙ ap (λ t. record { lines = t; end = rest.end })
           (sym (append_assoc (string_bytes old.text) (given_lines o) rest.lines))
           ∙ ap (λ t. after_lines t rest) (sym text);
     }
 
-gives-fault : (s : FeedState) (bytes : List ℕ) (f : StreamFault) → Gives s bytes (Err f)
+pub gives-fault : (s : FeedState) (bytes : List ℕ) (f : StreamFault) → Gives s bytes (Err f)
     → (f ≡ fault.Memory) ⊎ Stands (gives s bytes) f
 unfolding Gives
 gives-fault s bytes fault.Memory h = inl refl
@@ -232,13 +257,13 @@ gives-fault s bytes fault.AfterEnd h = inr h
 gives-fault s bytes fault.Truncated h = inr h
 
 stops-at :
-    (law : RefusalEnds) (a : Account) (s : FeedState) (text bytes : List ℕ) (f : StreamFault) (m : Reading Given)
+    (law : RefusalEnds) (a : Account) (s : FeedState) (text bytes later : List ℕ) (f : StreamFault) (m : Reading Given)
     → 0 < length bytes
-    → a ≡ after_lines text (account_in (transcript s bytes)) → gives s bytes ≡ m → Stands m f → StopsAt a text f
-stops-at law a s text bytes f (Ok g) some tells is stands = absurd stands
-stops-at law a s text bytes f (Err fs) some tells is stands =
-    let none : transcript s bytes ≡ no_events (Err fs) =
-    ap (transcript s) (sym (append-nil bytes)) ∙ law s bytes [] fs some is in
+    → a ≡ after_lines text (account_in (transcript s (bytes ++ later))) → gives s bytes ≡ m → Stands m f
+    → StopsAt a text f
+stops-at law a s text bytes later f (Ok g) some tells is stands = absurd stands
+stops-at law a s text bytes later f (Err fs) some tells is stands =
+    let none : transcript s (bytes ++ later) ≡ no_events (Err fs) = law s bytes later fs some is in
     let here : a ≡ after_lines text (record { lines = []; end = Err fs }) =
     tells ∙ ap (λ t. after_lines text (account_in t)) none in
     record {
@@ -248,30 +273,36 @@ stops-at law a s text bytes f (Err fs) some tells is stands =
 
 -- A push was refused.
 pub left-breaks :
-    (law : RefusalEnds) (a : Account) (i : Inspection) (bytes : List ℕ) (f : StreamFault) → 0 < length bytes
-    → ((t : FeedState) → Shows i.feed t → Gives t bytes (Err f)) → IsLeft a i bytes → Breaks a (string_bytes i.text) f
-left-breaks law a i bytes f some answer l = elim (gives-fault l.state bytes f (answer l.state l.shows)) [
+    (law : RefusalEnds) (a : Account) (i : Inspection) (bytes later : List ℕ) (f : StreamFault) → 0 < length bytes
+    → ((t : FeedState) → Shows i.feed t → Gives t bytes (Err f)) → IsLeft a i (bytes ++ later)
+    → Breaks a (string_bytes i.text) f
+left-breaks law a i bytes later f some answer l = elim (gives-fault l.state bytes f (answer l.state l.shows)) [
   | inl memory ↦ inl memory
   | inr stands ↦ inr
-      (stops-at law a l.state (string_bytes i.text) bytes f (gives l.state bytes) some l.tells refl stands)
+      (stops-at law a l.state (string_bytes i.text) bytes later f (gives l.state bytes) some l.tells refl stands)
 ]
 
--- what is left, as the code has it
-pub left-rest : (a : Account) (i : Inspection) (bytes : List ℕ) (n : ℕ) → IsLeft a i (drop n bytes)
-    → IsLeft a i (take (length bytes - n) (drop n bytes))
-left-rest a i bytes n l =
+-- what is left of a piece, as the code has it
+pub left-rest : (a : Account) (i : Inspection) (bytes later : List ℕ) (n : ℕ) → IsLeft a i (drop n bytes ++ later)
+    → IsLeft a i (take (length bytes - n) (drop n bytes) ++ later)
+left-rest a i bytes later n l =
     let size : length (drop n bytes) ≡ length bytes - n = length-drop n bytes in
     let whole : take (length bytes - n) (drop n bytes) ≡ drop n bytes =
     take_all (length bytes - n) (drop n bytes) (omega (arith, size)) in
-    subst (IsLeft a i) (sym whole) l
+    subst (λ (xs : List ℕ). IsLeft a i (xs ++ later)) (sym whole) l
 
--- Nothing is left.
+-- Nothing is left of a piece.
 no-bytes : (bytes : List ℕ) → length bytes ≤ 0 → bytes ≡ []
 no-bytes [] none = refl
 no-bytes (b ∷ bs) none = absurd (omega (arith, none))
 
-pub left-all : (a : Account) (i : Inspection) (bytes : List ℕ) → length bytes ≤ 0 → IsLeft a i bytes → IsLeft a i []
-left-all a i bytes none l = subst (IsLeft a i) (no-bytes bytes none) l
+pub left-all : (a : Account) (i : Inspection) (bytes later : List ℕ) → length bytes ≤ 0
+    → IsLeft a i (bytes ++ later) → IsLeft a i later
+left-all a i bytes later none l = subst (λ (xs : List ℕ). IsLeft a i (xs ++ later)) (no-bytes bytes none) l
+
+-- A whole input is a piece behind which nothing comes.
+pub left-whole : (a : Account) (i : Inspection) (bytes : List ℕ) → IsLeft a i bytes → IsLeft a i (bytes ++ [])
+left-whole a i bytes l = subst (IsLeft a i) (sym (append-nil bytes)) l
 
 -- the end of the input
 abbrev at_end : FeedState → Account
@@ -281,12 +312,12 @@ at-end-tells : (law : NothingLeft) (a : Account) (i : Inspection) → (l : IsLef
     → a ≡ after_lines (string_bytes i.text) (at_end l.state)
 at-end-tells law a i l = l.tells ∙ ap (λ t. after_lines (string_bytes i.text) (account_in t)) (law l.state)
 
-finish-valid : (s : FeedState) (u : Unit {0}) → Finishes s (Ok u)
+pub finish-valid : (s : FeedState) (u : Unit {0}) → Finishes s (Ok u)
     → (x : Unit {0}) × (finishing_when s.condition (stream_in (retained_in s)) ≡ Ok x)
 unfolding Finishes
 finish-valid s u h = valid_Ok (finishing_when s.condition (stream_in (retained_in s))) h
 
-finish-fault : (s : FeedState) (f : StreamFault) → Finishes s (Err f)
+pub finish-fault : (s : FeedState) (f : StreamFault) → Finishes s (Err f)
     → Stands (finishing_when s.condition (stream_in (retained_in s))) f
 unfolding Finishes
 finish-fault s f h = h
@@ -352,3 +383,50 @@ pub written-none : (marked : Bool) (old : List ℕ) → marked ≡ true
     → old ≡ old ++ (if marked then [] else last_line condition.Opened)
 written-none true old is = sym (append-nil old)
 written-none false old is = absurd (cc)
+
+-- what came of a whole input
+pub has-run :
+    (text input : List ℕ) (ran : Result (Unit {0}) StreamFault) → OnOk ran (Tells (account_of input) text 0)
+    → IfErr ran (Breaks (account_of input) text) → HasRun text ran input
+has-run text input (Ok u) tells breaks = tells
+has-run text input (Err f) tells breaks = breaks
+
+-- A fault in a piece stands in the stream, whatever comes behind the piece.
+pub takes-more :
+    (i : Inspection) (piece : List ℕ) (new : Inspection)
+    → ((a : Account) (later : List ℕ) → IsLeft a i (piece ++ later) → IsLeft a new later) → (bytes : List ℕ)
+    → ((later : List ℕ) → IsLeft (account_of (bytes ++ later)) i later) → (later : List ℕ)
+    → IsLeft (account_of ((bytes ++ piece) ++ later)) new later
+takes-more i piece new goes bytes left later =
+    goes (account_of ((bytes ++ piece) ++ later)) later
+    (subst (λ (xs : List ℕ). IsLeft (account_of xs) i (piece ++ later)) (sym (append_assoc bytes piece later))
+    (left (piece ++ later)))
+
+pub takes-fault :
+    (i new : Inspection) (piece : List ℕ) (f : StreamFault)
+    → ((a : Account) (later : List ℕ) → IsLeft a i (piece ++ later) → Breaks a (string_bytes new.text) f)
+    → (bytes later : List ℕ) → ((later : List ℕ) → IsLeft (account_of (bytes ++ later)) i later)
+    → HasTaken new (Err f) ((bytes ++ piece) ++ later)
+takes-fault i new piece f stops bytes later left =
+    stops (account_of ((bytes ++ piece) ++ later)) later
+    (subst (λ (xs : List ℕ). IsLeft (account_of xs) i (piece ++ later)) (sym (append_assoc bytes piece later))
+    (left (piece ++ later)))
+
+pub takes-all :
+    (i : Inspection) (u : Unit {0}) (bytes : List ℕ) → ((later : List ℕ) → IsLeft (account_of (bytes ++ later)) i later)
+    → HasTaken i (Ok u) bytes
+takes-all i u bytes left = subst (λ (xs : List ℕ). IsLeft (account_of xs) i []) (append-nil bytes) (left [])
+
+-- A fault was told that isn't want of memory.
+breaks-tell :
+    (text input : List ℕ) (f : StreamFault) (all : List ℕ) → (f ≡ fault.Memory → ⊥) → Breaks (account_of input) text f
+    → all ≡ text ++ refusal_line f → Tells (account_of input) all 1
+breaks-tell text input f all other (inl memory) written = absurd (other memory)
+breaks-tell text input f all other (inr stops) written = stop-tells (account_of input) text f all stops written
+
+pub fault-told :
+    (text input : List ℕ) (ran : Result (Unit {0}) StreamFault) (f : StreamFault) (all : List ℕ) → ran ≡ Err f
+    → (f ≡ fault.Memory → ⊥) → HasRun text ran input → all ≡ text ++ refusal_line f → Tells (account_of input) all 1
+fault-told text input ran f all is other h written =
+    breaks-tell text input f all other
+    (subst (λ (r : Result (Unit {0}) StreamFault). HasRun text r input) is h) written

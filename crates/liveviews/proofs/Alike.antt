@@ -1,11 +1,13 @@
 -- An account ends as the reading of the whole stream does.
-use Rattle.std.proofs.Common.{◌≡◌, ℕ, None, Ok, Err, List, refl, ap, sym, ◌∙◌}
+use Rattle.std.proofs.Common.{◌≡◌, ℕ, Option, None, Ok, Err, List, refl, ap, sym, ◌∙◌}
 use Rattle.values.specs.Reading.{Reading, ◌>>=◌, mapped}
 use Rattle.schema_meta.specs.Story.{story_of}
 use Rattle.feed.specs.Retained.{stream_in}
 use Rattle.feed.specs.States.{FeedState, finishing_when, fresh, retained_in}
 use Rattle.feed.specs.StoryLaw.{EventsTellAll, input_end}
 use Rattle.feed.specs.Transcript.{transcript}
+use Rattle.liveviews.specs.Files.{InspectsFile}
+use Rattle.liveviews.specs.Source.{OfSource}
 use Rattle.liveviews.specs.Inspect.{Closes, EndsAlike, Tells, account_of, last_in, last_line, status_where}
 
 unsaid : (text : List ℕ) (m : Reading (Unit {0})) → mapped (λ (last : List ℕ). tt) (mapped (λ u. text) m) ≡ m
@@ -31,3 +33,15 @@ pub tells-status :
     → status ≡ status_where (story_of bytes).end
 tells-status alike bytes text status t =
     closes-status (account_of bytes).end t.last status t.closes ∙ ap status_where (alike bytes)
+
+-- what is told of a source's stream
+pub inspects-source :
+    (alike : EndsAlike) (held : Option (List ℕ)) (text : List ℕ) (status : ℕ) (HasRun : List ℕ → Type 0)
+    → OfSource held HasRun
+    → ((input : List ℕ) → HasRun input → Tells (account_of input) text status) → InspectsFile held text status
+inspects-source alike held text status HasRun source tells = record {
+  input = source.input;
+  read = source.read;
+  tells = tells source.input source.so;
+  valid = tells-status alike source.input text status (tells source.input source.so);
+}

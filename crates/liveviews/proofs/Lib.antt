@@ -4,10 +4,12 @@ pub mod TakenLemmas
 pub mod BatchLemmas
 pub mod Stories
 pub mod Tables
+pub mod Inputs
 pub mod ReadBack
 pub mod Recasts
 pub mod TypeTexts
 pub mod LineTexts
+pub mod SourceLemmas
 pub mod Accounts
 pub mod Alike
 pub mod EndLemmas

@@ -1,5 +1,5 @@
 -- From the table that was read to the bytes that are put.
-use Rattle.std.proofs.Common.{◌≡◌, inl, ℕ, List, Result, refl}
+use Rattle.std.proofs.Common.{◌≡◌, inl, ℕ, List, [], Option, None, Some, Result, Ok, Err, refl, subst}
 use Rattle.values.specs.Datum.{Datum}
 use Rattle.values.specs.Rose.{Rose}
 use Rattle.values.specs.Logical.{NamedType}
@@ -14,8 +14,15 @@ use Rattle.stream_writer.specs.Sinks.{Sunk, Writes}
 use Rattle.stream_writer.specs.Stream.{canon}
 use Rattle.stream_writer.specs.declared.faults.WriteFault.{WriteFault}
 use Rattle.liveviews.specs.ReadBack.{ReadBack}
-use Rattle.liveviews.specs.Steps.{AreTakenSo, Refuses}
-use Rattle.liveviews.specs.Recast.{WritesTable, IsUntouched, Stops}
+use Rattle.liveviews.specs.Files.{IsContent, RecastsFile, RecastsSource, source_fault_of}
+use Rattle.liveviews.specs.Kept.{taken_rows}
+use Rattle.liveviews.specs.Source.{HoldsFile, OfSource}
+use Rattle.liveviews.specs.Steps.{AreTakenSo, IsRead, Refuses}
+use Rattle.liveviews.specs.declared.files.FileFault.{FileFault}
+use Rattle.liveviews.specs.declared.files.FileFault.TheVariants as file
+use Rattle.liveviews.specs.declared.recasting.RecastFault.{RecastFault}
+use Rattle.liveviews.specs.declared.table.Table.{Table}
+use Rattle.liveviews.specs.Recast.{WritesTable, IsUntouched, Recasts, Stops}
 
 untouched : (old : Sunk) → IsUntouched old old 0
 untouched old = record { same = refl; none = refl }
@@ -116,3 +123,47 @@ written-table law old new answer input fields rows means taken writes =
     record { fields = fields; rows = rows; means = means; writes = writes; back = law input fields rows means taken }
 
 pub ruleset recasts = (refused-stops, written-table)
+
+-- the same of what was read of a source
+pub put-refused :
+    (old : Sunk) (input : List ℕ) (read : Result Table Cause) (c : Cause) → read ≡ Err c → IsRead read input
+    → Stops old old c 0 (story_of input)
+put-refused old input read c is h =
+    refused-stops old c (story_of input) (subst (λ (r : Result Table Cause). IsRead r input) is h)
+
+pub put-written :
+    (law : ReadBack) (old new : Sunk) (answer : Result ℕ WriteFault) (input : List ℕ) (read : Result Table Cause)
+    (t : Table) → read ≡ Ok t → IsRead read input
+    → Writes old new answer (canon t.schema.fields.items (taken_rows t.rows))
+    → WritesTable old new answer (story_of input)
+put-written law old new answer input read t is h writes =
+    let so : IsRead (Ok t) input = subst (λ (r : Result Table Cause). IsRead r input) is h in
+    written-table law old new answer input t.schema.fields.items (taken_rows t.rows) so.0 so.1 writes
+
+pub ruleset puts = (put-refused, put-written)
+
+pub recasts-source :
+    (held : Option (List ℕ)) (old new : Sunk) (read : Result Table Cause) (answer : Result ℕ RecastFault)
+    → OfSource held (IsRead read)
+    → ((input : List ℕ) → IsRead read input → Recasts old new answer (story_of input)) → RecastsFile held old new answer
+recasts-source held old new read answer source recasts =
+    record { input = source.input; read = source.read; recasts = recasts source.input source.so }
+
+-- Each source holds something.
+some-content : (held : Option (List ℕ)) → (input : List ℕ) × IsContent held input
+some-content None = ([], tt)
+some-content (Some bytes) = (bytes, refl)
+
+pub unread-source :
+    (held : Option (List ℕ)) (old : Sunk) (f : FileFault) → RecastsSource held old old (Err (source_fault_of f))
+unread-source held old file.Unusable = refl
+unread-source held old file.Memory =
+    let some = some-content held in
+    record { input = some.0; read = some.1; recasts = inl (untouched old) }
+
+-- What came of a source came of the file that it is.
+pub recasts-file :
+    (file source : Option (List ℕ)) (old new : Sunk) (answer : Result ℕ RecastFault) → HoldsFile file source
+    → RecastsFile source old new answer → RecastsFile file old new answer
+recasts-file file source old new answer holds r =
+    record { input = r.input; read = holds r.input r.read; recasts = r.recasts }

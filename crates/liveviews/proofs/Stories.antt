@@ -1,18 +1,27 @@
 -- What an event of a feed tells of its stream.
 use Rattle.std.proofs.Common.{
   ◌≡◌,
+  ◌⊎◌,
+  inl,
+  inr,
   ℕ,
   ◌+◌,
   ◌<◌,
   ◌≤◌,
+  Bool,
+  true,
+  false,
   Option,
   None,
   Some,
   Ok,
   Err,
   List,
+  [],
+  ◌∷◌,
   ◌++◌,
   length,
+  take,
   drop,
   Any,
   refl,
@@ -22,12 +31,14 @@ use Rattle.std.proofs.Common.{
   ◌∙◌,
   arith,
   append_assoc,
+  append-nil,
   length-append,
 }
 use Rattle.std.specs.Option.{IfSome, IsSome, IsSomeAnd, option_map}
-use Rattle.std.proofs.lemmas.List.{get_or_append_left, get_or-append-add}
+use Rattle.std.proofs.Math.Seq.{drop-append-add, drop-length, take-append-add, take-length}
+use Rattle.std.proofs.lemmas.List.{drop-append-le, get_or_append_left, get_or-append-add, take-append-le}
 use Rattle.values.specs.Datum.{Datum}
-use Rattle.values.specs.Reading.{Reading, Stands, one}
+use Rattle.values.specs.Reading.{Reading, Stands, ◌>>=◌, one}
 use Rattle.values.specs.Rose.{Rose, Roses}
 use Rattle.values.specs.declared.layout.Layout.{Layout}
 use Rattle.arrays.specs.Checked.{CheckedColumn}
@@ -38,23 +49,35 @@ use Rattle.values.specs.declared.causes.Cause.{Cause}
 use Rattle.values.specs.declared.causes.Cause.TheVariants as cause
 use Rattle.schema_meta.specs.Entry.{Entry}
 use Rattle.schema_meta.specs.FieldLayouts.{layouts_of}
+use Rattle.schema_meta.specs.Framing.{first}
 use Rattle.schema_meta.specs.Rows.{rows_in}
 use Rattle.schema_meta.specs.Story.{Story, after_rows, ends, at_end_mark}
+use Rattle.messages.specs.Laws.{NothingYet}
+use Rattle.feed.specs.declared.condition.Condition.{Condition}
 use Rattle.feed.specs.declared.condition.Condition.TheVariants as condition
 use Rattle.feed.specs.declared.event.Fed.{Fed}
 use Rattle.feed.specs.declared.event.FeedEvent.{FeedEvent}
 use Rattle.feed.specs.Columns.{cells_in, layouts_in}
-use Rattle.feed.specs.CutLaw.{WholeUses}
+use Rattle.feed.specs.CutLaw.{FaultsStay, PartialJoins, PartialUses, WholeStays, WholeUses, shifted}
 use Rattle.feed.specs.Retained.{Retained}
-use Rattle.feed.specs.Events.{Event, Given, batch, ended, given}
+use Rattle.feed.specs.Events.{Event, Given, batch, dictionary, ended, given, given_by, reading, schema}
 use Rattle.feed.specs.Shown.{FeedParts, HasColumns, IsTypedEvent, Shows, event_seen, seen}
-use Rattle.feed.specs.States.{FeedState, Gives, after_push, condition_after, gives, retained_in}
+use Rattle.feed.specs.States.{
+  FeedState,
+  Gives,
+  after_push,
+  closed,
+  condition_after,
+  given_when,
+  gives,
+  is_broken,
+  retained_in,
+}
 use Rattle.feed.specs.StoryLaw.{
   EventTells,
   FaultsTell,
   IsBetween,
   NoneHeld,
-  PartialTells,
   StoryKnowsSchema,
   rest_story,
   rest_story_from,
@@ -63,84 +86,181 @@ use Rattle.liveviews.specs.Heavy.{IsHeavy}
 use Rattle.liveviews.specs.Refused.{RefusesBatch}
 use Rattle.liveviews.specs.Kept.{IsKept, IsKeptSo}
 use Rattle.liveviews.specs.declared.taken.Taken.{Taken}
+use Rattle.liveviews.proofs.Accounts.{after-shows, gave, gives-fault, uses-some}
 use Rattle.liveviews.proofs.Counted.{as-many}
-use Rattle.liveviews.specs.Steps.{AreTakenSo, Ended, HasHeavyRow, IsOpen, Reached, Refuses, Tells}
+use Rattle.liveviews.proofs.Tables.{after-by}
+use Rattle.liveviews.specs.Steps.{AreTakenSo, Ended, GoesOn, HasHeavyRow, IsOpen, Reached, Refuses, Tells}
 use Rattle.liveviews.specs.Taken.{AreTaken}
 
--- a fault that a push names
-fault-refuses :
-    (st : Story) (t : FeedState) (bytes : List ℕ) (f : StreamFault) → Gives t bytes (Err f)
-    → ((c : StreamFault) → Stands (gives t bytes) c → Stands st.end c) → Refuses st (cause_of f)
-unfolding Gives
-fault-refuses st t bytes fault.Memory h g = tt
-fault-refuses st t bytes fault.NoContinuation h g = (fault.NoContinuation, refl, g _ h)
-fault-refuses st t bytes fault.BadSize h g = (fault.BadSize, refl, g _ h)
-fault-refuses st t bytes fault.BadTable h g = (fault.BadTable, refl, g _ h)
-fault-refuses st t bytes fault.BadName h g = (fault.BadName, refl, g _ h)
-fault-refuses st t bytes fault.Version h g = (fault.Version, refl, g _ h)
-fault-refuses st t bytes fault.HeaderKind h g = (fault.HeaderKind, refl, g _ h)
-fault-refuses st t bytes fault.BodySize h g = (fault.BodySize, refl, g _ h)
-fault-refuses st t bytes fault.NoSchema h g = (fault.NoSchema, refl, g _ h)
-fault-refuses st t bytes fault.SecondSchema h g = (fault.SecondSchema, refl, g _ h)
-fault-refuses st t bytes fault.BigEndian h g = (fault.BigEndian, refl, g _ h)
-fault-refuses st t bytes fault.UnsupportedType h g = (fault.UnsupportedType, refl, g _ h)
-fault-refuses st t bytes fault.BadType h g = (fault.BadType, refl, g _ h)
-fault-refuses st t bytes fault.TooManyFields h g = (fault.TooManyFields, refl, g _ h)
-fault-refuses st t bytes fault.Compressed h g = (fault.Compressed, refl, g _ h)
-fault-refuses st t bytes fault.DictionaryClash h g = (fault.DictionaryClash, refl, g _ h)
-fault-refuses st t bytes fault.UnknownDictionary h g = (fault.UnknownDictionary, refl, g _ h)
-fault-refuses st t bytes fault.DictionaryTooLarge h g = (fault.DictionaryTooLarge, refl, g _ h)
-fault-refuses st t bytes fault.NodeCount h g = (fault.NodeCount, refl, g _ h)
-fault-refuses st t bytes fault.BufferCount h g = (fault.BufferCount, refl, g _ h)
-fault-refuses st t bytes fault.BadLength h g = (fault.BadLength, refl, g _ h)
-fault-refuses st t bytes fault.BufferRange h g = (fault.BufferRange, refl, g _ h)
-fault-refuses st t bytes fault.BufferShort h g = (fault.BufferShort, refl, g _ h)
-fault-refuses st t bytes fault.NullCount h g = (fault.NullCount, refl, g _ h)
-fault-refuses st t bytes fault.Offsets h g = (fault.Offsets, refl, g _ h)
-fault-refuses st t bytes fault.NotUtf8 h g = (fault.NotUtf8, refl, g _ h)
-fault-refuses st t bytes fault.DictionaryIndex h g = (fault.DictionaryIndex, refl, g _ h)
-fault-refuses st t bytes fault.DecimalRange h g = (fault.DecimalRange, refl, g _ h)
-fault-refuses st t bytes fault.SchemaMismatch h g = (fault.SchemaMismatch, refl, g _ h)
-fault-refuses st t bytes fault.AfterEnd h g = (fault.AfterEnd, refl, g _ h)
-fault-refuses st t bytes fault.Truncated h g = (fault.Truncated, refl, g _ h)
+-- a fault that stands in a stream
+pub stands-refuses : (st : Story) (f : StreamFault) → Stands st.end f → Refuses st (cause_of f)
+stands-refuses st fault.Memory h = tt
+stands-refuses st fault.NoContinuation h = (fault.NoContinuation, refl, h)
+stands-refuses st fault.BadSize h = (fault.BadSize, refl, h)
+stands-refuses st fault.BadTable h = (fault.BadTable, refl, h)
+stands-refuses st fault.BadName h = (fault.BadName, refl, h)
+stands-refuses st fault.Version h = (fault.Version, refl, h)
+stands-refuses st fault.HeaderKind h = (fault.HeaderKind, refl, h)
+stands-refuses st fault.BodySize h = (fault.BodySize, refl, h)
+stands-refuses st fault.NoSchema h = (fault.NoSchema, refl, h)
+stands-refuses st fault.SecondSchema h = (fault.SecondSchema, refl, h)
+stands-refuses st fault.BigEndian h = (fault.BigEndian, refl, h)
+stands-refuses st fault.UnsupportedType h = (fault.UnsupportedType, refl, h)
+stands-refuses st fault.BadType h = (fault.BadType, refl, h)
+stands-refuses st fault.TooManyFields h = (fault.TooManyFields, refl, h)
+stands-refuses st fault.Compressed h = (fault.Compressed, refl, h)
+stands-refuses st fault.DictionaryClash h = (fault.DictionaryClash, refl, h)
+stands-refuses st fault.UnknownDictionary h = (fault.UnknownDictionary, refl, h)
+stands-refuses st fault.DictionaryTooLarge h = (fault.DictionaryTooLarge, refl, h)
+stands-refuses st fault.NodeCount h = (fault.NodeCount, refl, h)
+stands-refuses st fault.BufferCount h = (fault.BufferCount, refl, h)
+stands-refuses st fault.BadLength h = (fault.BadLength, refl, h)
+stands-refuses st fault.BufferRange h = (fault.BufferRange, refl, h)
+stands-refuses st fault.BufferShort h = (fault.BufferShort, refl, h)
+stands-refuses st fault.NullCount h = (fault.NullCount, refl, h)
+stands-refuses st fault.Offsets h = (fault.Offsets, refl, h)
+stands-refuses st fault.NotUtf8 h = (fault.NotUtf8, refl, h)
+stands-refuses st fault.DictionaryIndex h = (fault.DictionaryIndex, refl, h)
+stands-refuses st fault.DecimalRange h = (fault.DecimalRange, refl, h)
+stands-refuses st fault.SchemaMismatch h = (fault.SchemaMismatch, refl, h)
+stands-refuses st fault.AfterEnd h = (fault.AfterEnd, refl, h)
+stands-refuses st fault.Truncated h = (fault.Truncated, refl, h)
 
-fault-ends :
-    (law : FaultsTell) (st : Story) (rows : List (List Datum)) (t : FeedState) (bytes : List ℕ) (m : Reading Given)
+-- no byte is no message yet
+pub nothing-given : NothingYet → (t : FeedState) → IsBetween t → gives t [] ≡ Ok (given 0 None)
+unfolding gives reading
+nothing-given none t b =
+    let k : Retained = retained_in t in
+    ap (λ c. given_when c k []) b.goes_on ∙ ap (λ held. first k.known (held ++ []) >>= given_by k []) b.none_held
+    ∙ ap (λ m. m >>= given_by k []) (none k.known)
+
+pub after-none : (t : FeedState) → after_push t [] (Ok (given 0 None)) ≡ t
+unfolding after_push
+after-none t =
+    ap (λ bytes. record { declared = t.declared; bytes = bytes; condition = t.condition }) (append-nil t.bytes)
+
+-- A message may be begun in one piece and ended in the next.
+after-joined :
+    (t : FeedState) (held piece later : List ℕ) (used : ℕ) (v : Event) → used ≤ length piece
+    → after_push t ((held ++ piece) ++ later) (Ok (given (length held + used) (Some v)))
+    ≡ after_push (after_push t held (Ok (given (length held) None))) piece (Ok (given used (Some v)))
+unfolding after_push
+after-joined t held piece later used v within =
+    ap (λ bytes. record { declared = t.declared; bytes = bytes; condition = condition_after t.condition (Some v) })
+    (ap (λ xs. t.bytes ++ xs) front ∙ sym (append_assoc t.bytes held (take used piece))
+    ∙ ap (λ xs. (t.bytes ++ xs) ++ take used piece) (sym (take-length held))) where
+      front : take (length held + used) ((held ++ piece) ++ later) ≡ held ++ take used piece
+      front =
+          ap (take (length held + used)) (append_assoc held piece later)
+          ∙ take-append-add held (piece ++ later) used
+          ∙ ap (λ xs. held ++ xs) (take-append-le used piece later within)
+
+rest-joined :
+    (held piece later : List ℕ) (used : ℕ) → used ≤ length piece
+    → drop (length held + used) ((held ++ piece) ++ later) ≡ drop used piece ++ later
+rest-joined held piece later used within =
+    ap (drop (length held + used)) (append_assoc held piece later) ∙ drop-append-add held (piece ++ later) used
+    ∙ drop-append-le used piece later within
+
+after-more :
+    (t : FeedState) (held piece : List ℕ)
+    → after_push (after_push t held (Ok (given (length held) None))) piece (Ok (given (length piece) None))
+    ≡ after_push t (held ++ piece) (Ok (given (length (held ++ piece)) None))
+unfolding after_push
+after-more t held piece =
+    ap (λ bytes. record { declared = t.declared; bytes = bytes; condition = t.condition })
+    (ap (λ xs. (t.bytes ++ xs) ++ take (length piece) piece) (take-length held)
+    ∙ ap (λ xs. (t.bytes ++ held) ++ xs) (take-length piece) ∙ append_assoc t.bytes held piece
+    ∙ ap (λ xs. t.bytes ++ xs) (sym (take-length (held ++ piece))))
+
+-- After the end mark a feed takes nothing.
+closed-some : (piece : List ℕ) → 0 < length piece → closed piece ≡ Err (one fault.AfterEnd)
+closed-some [] some = absurd (omega (arith, some))
+closed-some (b ∷ bs) some = refl
+
+marked-shut :
+    (t : FeedState) (piece : List ℕ) → 0 < length piece → t.condition ≡ condition.Ended
+    → gives t piece ≡ Err (one fault.AfterEnd)
+unfolding gives
+marked-shut t piece some marked = ap (λ c. given_when c (retained_in t) piece) marked ∙ closed-some piece some
+
+marked-gives :
+    (t : FeedState) (piece : List ℕ) (g : Given) → 0 < length piece → t.condition ≡ condition.Ended
+    → gives t piece ≡ Ok g → ⊥
+marked-gives t piece g some marked is =
+    let both : Err (one fault.AfterEnd) ≡ Ok g = sym (marked-shut t piece some marked) ∙ is in absurd (cc)
+
+-- what a feed that goes on makes of a piece is what its last message leaves of all bytes since
+joined-gives :
+    (joins : PartialJoins) (t : FeedState) (held piece : List ℕ) (m : Reading Given)
+    → gives t held ≡ Ok (given (length held) None)
+    → gives (after_push t held (Ok (given (length held) None))) piece ≡ m
+    → gives t (held ++ piece) ≡ shifted (length held) m
+joined-gives joins t held piece m begun is =
+    joins t held piece (given (length held) None) begun refl ∙ ap (shifted (length held)) is
+
+-- A push was refused.
+goes-fault :
+    (joins : PartialJoins) (stay : FaultsStay) (law : FaultsTell) (st : Story) (rows : List (List Datum))
+    (old : FeedParts) (piece later : List ℕ) (g : GoesOn st old rows (piece ++ later)) (m : Reading Given)
     (c : StreamFault)
-    → IsBetween t → Tells st rows (retained_in t) bytes → gives t bytes ≡ m → Stands m c → Stands st.end c
-fault-ends law st rows t bytes (Ok g) c between tells is h = absurd h
-fault-ends law st rows t bytes (Err fs) c between tells is h =
-    let end : st.end ≡ Err fs = ap (λ x. x.end) tells ∙ ap (λ x. x.end) (law t bytes fs between is) in
-    subst (λ (m : Reading (Unit {0})). Stands m c) (sym end) h
+    → gives (after_push g.state g.held (Ok (given (length g.held) None))) piece ≡ m → Stands m c → Stands st.end c
+goes-fault joins stay law st rows old piece later g (Ok x) c is h = absurd h
+goes-fault joins stay law st rows old piece later g (Err fs) c is h =
+    let all : List ℕ = (g.held ++ piece) ++ later in
+    let joined : gives g.state (g.held ++ piece) ≡ Err fs =
+    joined-gives joins g.state g.held piece (Err fs) g.begun is in
+    let there : gives g.state all ≡ Err fs = stay g.state (g.held ++ piece) later fs joined in
+    let end : st.end ≡ Err fs =
+    ap (λ x. x.end) g.tells
+    ∙ ap (λ xs. (rest_story (retained_in g.state) xs).end) (sym (append_assoc g.held piece later))
+    ∙ ap (λ x. x.end) (law g.state all fs g.between there) in
+    subst (λ (x : Reading (Unit {0})). Stands x c) (sym end) h
+
+ended-fault :
+    (st : Story) (rows : List (List Datum)) (old : FeedParts) (piece later : List ℕ) (c : StreamFault)
+    → 0 < length piece → (e : Ended st old rows (piece ++ later)) → Stands (gives e.state piece) c → Stands st.end c
+ended-fault st rows old piece later c some e h =
+    let more : 0 < length (piece ++ later) =
+    let size : length (piece ++ later) ≡ length piece + length later = length-append piece later in
+    omega (arith, size, some) in
+    let end : st.end ≡ Err (one fault.AfterEnd) = ap (λ x. x.end) e.tells ∙ after-by (piece ++ later) more in
+    let here : Stands {X = Unit {0}} (Err (one fault.AfterEnd)) c =
+    subst (λ (x : Reading Given). Stands x c) (marked-shut e.state piece some e.marked) h in
+    subst (λ (x : Reading (Unit {0})). Stands x c) (sym end) here
+
+reached-fault :
+    (joins : PartialJoins) (stay : FaultsStay) (law : FaultsTell) (st : Story) (rows : List (List Datum))
+    (old : FeedParts) (piece later : List ℕ) (f : StreamFault) → 0 < length piece
+    → ((t : FeedState) → Shows old t → Gives t piece (Err f)) → Reached st old rows (piece ++ later)
+    → (f ≡ fault.Memory) ⊎ Stands st.end f
+reached-fault joins stay law st rows old piece later f some answer (inl g) =
+    let t : FeedState = after_push g.state g.held (Ok (given (length g.held) None)) in
+    elim (gives-fault t piece f (answer t g.shows)) [
+      | inl memory ↦ inl memory
+      | inr stands ↦ inr (goes-fault joins stay law st rows old piece later g (gives t piece) f refl stands)
+    ]
+reached-fault joins stay law st rows old piece later f some answer (inr e) =
+    elim (gives-fault e.state piece f (answer e.state e.shows)) [
+      | inl memory ↦ inl memory
+      | inr stands ↦ inr (ended-fault st rows old piece later f some e stands)
+    ]
 
 pub push-refused :
-    (law : FaultsTell) (st : Story) (rows : List (List Datum)) (old : FeedParts) (bytes : List ℕ) (f : StreamFault)
-    → ((t : FeedState) → Shows old t → Gives t bytes (Err f)) → Reached st old rows bytes → Refuses st (cause_of f)
-push-refused law st rows old bytes f answer r =
-    fault-refuses st r.state bytes f (answer r.state r.shows)
-    (λ c. fault-ends law st rows r.state bytes (gives r.state bytes) c r.between r.tells refl)
-
-given-none :
-    (t : FeedState) (bytes : List ℕ) (f : Fed) → Gives t bytes (Ok (seen f)) → f.event ≡ None
-    → gives t bytes ≡ Ok (given f.used None)
-unfolding Gives
-given-none t bytes f answer none = answer ∙ ap (λ o. Ok (given f.used (option_map event_seen o))) none
-
-pub push-partial :
-    (law : PartialTells) (st : Story) (rows : List (List Datum)) (old : FeedParts) (bytes : List ℕ) (f : Fed)
-    → 0 < length bytes
-    → ((t : FeedState) → Shows old t → Gives t bytes (Ok (seen f))) → f.event ≡ None → Reached st old rows bytes
-    → Refuses st cause.Truncated
-push-partial law st rows old bytes f some answer none r =
-    let is : gives r.state bytes ≡ Ok (given f.used None) = given-none r.state bytes f (answer r.state r.shows) none in
-    let end : st.end ≡ Err (one fault.Truncated) =
-    ap (λ x. x.end) r.tells ∙ ap (λ x. x.end) (law r.state bytes f.used r.between some is) in
-    (fault.Truncated, refl, subst (λ (m : Reading (Unit {0})). Stands m fault.Truncated) (sym end) refl)
+    (joins : PartialJoins) (stay : FaultsStay) (law : FaultsTell) (st : Story) (rows : List (List Datum))
+    (old : FeedParts) (piece later : List ℕ) (f : StreamFault) → 0 < length piece
+    → ((t : FeedState) → Shows old t → Gives t piece (Err f)) → Reached st old rows (piece ++ later)
+    → Refuses st (cause_of f)
+push-refused joins stay law st rows old piece later f some answer r =
+    elim (reached-fault joins stay law st rows old piece later f some answer r) [
+      | inl memory ↦ subst (λ (g : StreamFault). Refuses st (cause_of g)) (sym memory) tt
+      | inr stands ↦ stands-refuses st f stands
+    ]
 
 -- A push gave this event, of so many of these bytes.
-pub record Came (old new : FeedParts) (bytes : List ℕ) (used : ℕ) (v : Event) : Type 0 where
-  pub gave : (t : FeedState) → Shows old t → gives t bytes ≡ Ok (given used (Some v))
-  pub after : (t : FeedState) → Shows old t → Shows new (after_push t bytes (Ok (given used (Some v))))
+pub record Came (old new : FeedParts) (bytes : List ℕ) (used : ℕ) (o : Option Event) : Type 0 where
+  pub gave : (t : FeedState) → Shows old t → gives t bytes ≡ Ok (given used o)
+  pub after : (t : FeedState) → Shows old t → Shows new (after_push t bytes (Ok (given used o)))
 
 given-some :
     (t : FeedState) (bytes : List ℕ) (f : Fed) (o : Option Event) → Gives t bytes (Ok (seen f))
@@ -149,68 +269,188 @@ given-some :
 unfolding Gives
 given-some t bytes f o answer is = answer ∙ ap (λ x. Ok (given f.used x)) is
 
+came-by :
+    (old new : FeedParts) (bytes : List ℕ) (f : Fed) (o : Option Event)
+    → ((t : FeedState) → Shows old t → Gives t bytes (Ok (seen f)))
+    → ((t : FeedState) → Shows old t → Shows new (after_push t bytes (Ok (seen f))))
+    → option_map event_seen f.event ≡ o → Came old new bytes f.used o
+came-by old new bytes f o answer after same = record {
+  gave = λ t shows. given-some t bytes f o (answer t shows) same;
+  after = λ t shows. subst (λ (x : Option Event). Shows new (after_push t bytes (Ok (given f.used x)))) same
+      (after t shows);
+}
+
 pub came :
     (old new : FeedParts) (bytes : List ℕ) (f : Fed) (e : FeedEvent) (v : Event)
     → ((t : FeedState) → Shows old t → Gives t bytes (Ok (seen f)))
     → ((t : FeedState) → Shows old t → Shows new (after_push t bytes (Ok (seen f)))) → f.event ≡ Some e
     → event_seen e ≡ v
-    → Came old new bytes f.used v
+    → Came old new bytes f.used (Some v)
 came old new bytes f e v answer after there is =
-    let same : option_map event_seen f.event ≡ Some v = ap (option_map event_seen) there ∙ ap (λ x. Some x) is in
-    record {
-      gave = λ t shows. given-some t bytes f (Some v) (answer t shows) same;
-      after = λ t shows. subst (λ (o : Option Event). Shows new (after_push t bytes (Ok (given f.used o)))) same
-          (after t shows);
-    }
+    came-by old new bytes f (Some v) answer after
+    (ap (option_map event_seen) there ∙ ap (λ x. Some x) is)
+
+pub came-none :
+    (old new : FeedParts) (bytes : List ℕ) (f : Fed)
+    → ((t : FeedState) → Shows old t → Gives t bytes (Ok (seen f)))
+    → ((t : FeedState) → Shows old t → Shows new (after_push t bytes (Ok (seen f)))) → f.event ≡ None
+    → Came old new bytes f.used None
+came-none old new bytes f answer after none =
+    came-by old new bytes f None answer after (ap (option_map event_seen) none)
 
 -- Some bytes are used, and no more than there are.
-pub came-uses :
-    (law : WholeUses) (old new : FeedParts) (bytes : List ℕ) (used : ℕ) (v : Event) → Came old new bytes used v
+pub pushed-uses :
+    (all : PartialUses) (uses : WholeUses) (old : FeedParts) (bytes : List ℕ) (f : Fed) → 0 < length bytes
     → IsOpen old
-    → (0 < used) × (used ≤ length bytes)
-came-uses law old new bytes used v c (t, shows, between) = law t bytes used v (c.gave t shows)
+    → ((t : FeedState) → Shows old t → Gives t bytes (Ok (seen f))) → (0 < f.used) × (f.used ≤ length bytes)
+pushed-uses all uses old bytes f some (t, shows, goes) answer =
+    uses-some all uses t bytes f.used (option_map event_seen f.event) some (gave t bytes f (answer t shows))
+
+-- The feed goes on.
+unbroken-after : (c : Condition) (o : Option Event) → is_broken c ≡ false → is_broken (condition_after c o) ≡ false
+unbroken-after c None goes = goes
+unbroken-after c (Some (schema fields)) goes = goes
+unbroken-after c (Some (dictionary id delta values)) goes = goes
+unbroken-after c (Some (batch columns rows body)) goes = goes
+unbroken-after c (Some ended) goes = refl
+
+pub pushed-open :
+    (old new : FeedParts) (bytes : List ℕ) (f : Fed) → IsOpen old
+    → ((t : FeedState) → Shows old t → Shows new (after_push t bytes (Ok (seen f)))) → IsOpen new
+pushed-open old new bytes f (t, shows, goes) after = (
+  after_push t bytes (Ok (seen f)),
+  after t shows,
+  ap is_broken (after-shows t bytes (seen f))
+      ∙ unbroken-after t.condition (option_map event_seen f.event) goes,
+)
+
+-- An event came of a stream of which these rows were taken, and then these bytes come.
+pub record Comes (st : Story) (rows : List (List Datum)) (new : FeedParts) (v : Event) (rest : List ℕ) : Type 0 where
+  pub state : FeedState
+  pub shows : Shows new state
+  pub follows : state.condition ≡ condition_after condition.Opened (Some v)
+  pub none_held : (retained_in state).held ≡ []
+  pub taken : AreTakenSo st.schema rows
+  pub tells : st ≡ after_rows rows (rest_story_from v (retained_in state) rest)
+
+begun-goes : (t : FeedState) (held : List ℕ) → IsBetween t
+    → (after_push t held (Ok (given (length held) None))).condition ≡ condition.Opened
+begun-goes t held between = after-shows t held (given (length held) None) ∙ between.goes_on
+
+goes-comes :
+    (joins : PartialJoins) (whole : WholeStays) (uses : WholeUses) (law : EventTells) (held : NoneHeld) (st : Story)
+    (rows : List (List Datum)) (old new : FeedParts) (piece later : List ℕ) (used : ℕ) (v : Event)
+    → Came old new piece used (Some v) → GoesOn st old rows (piece ++ later)
+    → Comes st rows new v (drop used piece ++ later)
+goes-comes joins whole uses law held st rows old new piece later used v c g =
+    let n : ℕ = length g.held in
+    let t : FeedState = after_push g.state g.held (Ok (given n None)) in
+    let all : List ℕ = (g.held ++ piece) ++ later in
+    let gave : gives t piece ≡ Ok (given used (Some v)) = c.gave t g.shows in
+    let within : used ≤ length piece = (uses t piece used v gave).1 in
+    let joined : gives g.state (g.held ++ piece) ≡ Ok (given (n + used) (Some v)) =
+    joined-gives joins g.state g.held piece (Ok (given used (Some v))) g.begun gave in
+    let there : gives g.state all ≡ Ok (given (n + used) (Some v)) =
+    whole g.state (g.held ++ piece) later (n + used) v joined in
+    let next : FeedState = after_push t piece (Ok (given used (Some v))) in
+    let P : FeedState → List ℕ → Type 0 = λ x xs. rest_story (retained_in g.state) all
+    ≡ rest_story_from v (retained_in x) xs in
+    let told : P next (drop used piece ++ later) =
+    subst (λ (x : FeedState). P x (drop used piece ++ later)) (after-joined g.state g.held piece later used v within)
+    (subst (P (after_push g.state all (Ok (given (n + used) (Some v)))))
+    (rest-joined g.held piece later used within) (law g.state all (n + used) v g.between there)) in
+    let goes : t.condition ≡ condition.Opened = begun-goes g.state g.held g.between in
+    record {
+      state = next;
+      shows = c.after t g.shows;
+      follows = after-shows t piece (given used (Some v)) ∙ ap (λ k. condition_after k (Some v)) goes;
+      none_held = held t piece used v goes gave;
+      taken = g.taken;
+      tells = g.tells
+          ∙ ap (λ xs. after_rows rows (rest_story (retained_in g.state) xs)) (sym (append_assoc g.held piece later))
+          ∙ ap (after_rows rows) told;
+    }
+
+pub comes :
+    (joins : PartialJoins) (whole : WholeStays) (uses : WholeUses) (law : EventTells) (held : NoneHeld) (st : Story)
+    (rows : List (List Datum)) (old new : FeedParts) (piece later : List ℕ) (used : ℕ) (v : Event)
+    → 0 < length piece → Came old new piece used (Some v) → Reached st old rows (piece ++ later)
+    → Comes st rows new v (drop used piece ++ later)
+comes joins whole uses law held st rows old new piece later used v some c (inl g) =
+    goes-comes joins whole uses law held st rows old new piece later used v c g
+comes joins whole uses law held st rows old new piece later used v some c (inr e) =
+    absurd (marked-gives e.state piece (given used (Some v)) some e.marked (c.gave e.state e.shows))
+
+-- The piece ends within a message.
+goes-more :
+    (joins : PartialJoins) (all : PartialUses) (st : Story) (rows : List (List Datum)) (old new : FeedParts)
+    (piece later : List ℕ) (used : ℕ)
+    → Came old new piece used None → GoesOn st old rows (piece ++ later) → GoesOn st new rows (drop used piece ++ later)
+goes-more joins all st rows old new piece later used c g =
+    let n : ℕ = length g.held in
+    let t : FeedState = after_push g.state g.held (Ok (given n None)) in
+    let gave : gives t piece ≡ Ok (given used None) = c.gave t g.shows in
+    let whole : used ≡ length piece = all t piece used gave in
+    let none : drop used piece ≡ [] = ap (λ m. drop m piece) whole ∙ drop-length piece in
+    let joined : gives g.state (g.held ++ piece) ≡ Ok (given (n + used) None) =
+    joined-gives joins g.state g.held piece (Ok (given used None)) g.begun gave in
+    let size : n + used ≡ length (g.held ++ piece) =
+    ap (λ m. n + m) whole ∙ sym (length-append g.held piece) in
+    record {
+      state = g.state;
+      held = g.held ++ piece;
+      between = g.between;
+      begun = joined ∙ ap (λ m. Ok (given m None)) size;
+      shows = subst (Shows new)
+          (ap (λ m. after_push t piece (Ok (given m None))) whole ∙ after-more g.state g.held piece) (c.after t g.shows);
+      taken = g.taken;
+      tells = g.tells
+          ∙ ap (λ xs. after_rows rows (rest_story (retained_in g.state) xs))
+          (sym (append_assoc g.held piece later) ∙ ap (λ xs. (g.held ++ piece) ++ (xs ++ later)) (sym none));
+    }
+
+pub more-reached :
+    (joins : PartialJoins) (all : PartialUses) (st : Story) (rows : List (List Datum)) (old new : FeedParts)
+    (piece later : List ℕ) (used : ℕ) → 0 < length piece
+    → Came old new piece used None → Reached st old rows (piece ++ later)
+    → Reached st new rows (drop used piece ++ later)
+more-reached joins all st rows old new piece later used some c (inl g) =
+    inl (goes-more joins all st rows old new piece later used c g)
+more-reached joins all st rows old new piece later used some c (inr e) =
+    absurd (marked-gives e.state piece (given used None) some e.marked (c.gave e.state e.shows))
 
 -- an event after which the stream goes on
 pub record Passes (v : Event) : Type 0 where
   pub stays : condition_after condition.Opened (Some v) ≡ condition.Opened
 
-pub between-after :
-    (held : NoneHeld) (t : FeedState) (bytes : List ℕ) (used : ℕ) (v : Event) → Passes v → IsBetween t
-    → gives t bytes ≡ Ok (given used (Some v)) → IsBetween (after_push t bytes (Ok (given used (Some v))))
-unfolding after_push
-between-after held t bytes used v passes between is = record {
-  goes_on = ap (λ c. condition_after c (Some v)) between.goes_on ∙ passes.stays;
-  none_held = held t bytes used v between.goes_on is;
+-- between two messages
+pub between-goes :
+    (none : NothingYet) (st : Story) (rows : List (List Datum)) (f : FeedParts) (rest : List ℕ) (state : FeedState)
+    → IsBetween state → Shows f state → AreTakenSo st.schema rows → Tells st rows (retained_in state) rest
+    → GoesOn st f rows rest
+between-goes none st rows f rest state between shows taken tells = record {
+  state = state;
+  held = [];
+  between = between;
+  begun = nothing-given none state between;
+  shows = subst (Shows f) (sym (after-none state)) shows;
+  taken = taken;
+  tells = tells;
 }
 
-pub came-open :
-    (held : NoneHeld) (old new : FeedParts) (bytes : List ℕ) (used : ℕ) (v : Event) → Passes v
-    → Came old new bytes used v → IsOpen old → IsOpen new
-came-open held old new bytes used v passes c (t, shows, between) = (
-  after_push t bytes (Ok (given used (Some v))),
-  c.after t shows,
-  between-after held t bytes used v passes between (c.gave t shows),
-)
+comes-between : (st : Story) (rows : List (List Datum)) (new : FeedParts) (v : Event) (rest : List ℕ)
+    → Passes v → (c : Comes st rows new v rest) → IsBetween c.state
+comes-between st rows new v rest passes c = record { goes_on = c.follows ∙ passes.stays; none_held = c.none_held }
 
 -- a schema, or a dictionary batch
 pub next-reached :
-    (law : EventTells) (held : NoneHeld) (st : Story) (rows : List (List Datum)) (old new : FeedParts) (bytes : List ℕ)
-    (used : ℕ) (v : Event)
+    (none : NothingYet) (st : Story) (rows : List (List Datum)) (new : FeedParts) (v : Event) (rest : List ℕ)
     → Passes v → ((k : Retained) (rest : List ℕ) → rest_story_from v k rest ≡ rest_story k rest)
-    → Came old new bytes used v → Reached st old rows bytes
-    → Reached st new rows (drop used bytes)
-next-reached law held st rows old new bytes used v passes silent c r =
-    let gave : gives r.state bytes ≡ Ok (given used (Some v)) = c.gave r.state r.shows in
-    let next : FeedState = after_push r.state bytes (Ok (given used (Some v))) in
-    record {
-      state = next;
-      shows = c.after r.state r.shows;
-      between = between-after held r.state bytes used v passes r.between gave;
-      taken = r.taken;
-      tells = r.tells
-          ∙ ap (after_rows rows) (law r.state bytes used v r.between gave
-          ∙ silent (retained_in next) (drop used bytes));
-    }
+    → Comes st rows new v rest → Reached st new rows rest
+next-reached none st rows new v rest passes silent c =
+    inl
+    (between-goes none st rows new rest c.state (comes-between st rows new v rest passes c) c.shows c.taken
+    (c.tells ∙ ap (after_rows rows) (silent (retained_in c.state) rest)))
 
 some-fields : (o : Option (List (Rose Entry))) → IsSome o → (fields : List (Rose Entry)) × (o ≡ Some fields)
 some-fields None some = absurd (cc)
@@ -218,24 +458,19 @@ some-fields (Some fields) some = (fields, refl)
 
 -- the end mark
 pub end-reached :
-    (law : EventTells) (st : Story) (rows : List (List Datum)) (old new : FeedParts) (bytes : List ℕ) (used : ℕ)
-    → Came old new bytes used ended → IsSome new.framing.current.known.schema → Reached st old rows bytes
-    → Ended st new rows (drop used bytes)
-end-reached law st rows old new bytes used c typed r =
-    let gave : gives r.state bytes ≡ Ok (given used (Some ended)) = c.gave r.state r.shows in
-    let next : FeedState = after_push r.state bytes (Ok (given used (Some ended))) in
-    let here : rest_story (retained_in r.state) bytes ≡ ends (retained_in next).known (at_end_mark (drop used bytes)) =
-    law r.state bytes used ended r.between gave in
-    let shows : Shows new next = c.after r.state r.shows in
+    (st : Story) (rows : List (List Datum)) (new : FeedParts) (rest : List ℕ)
+    → IsSome new.framing.current.known.schema → Comes st rows new ended rest → Reached st new rows rest
+end-reached st rows new rest typed c =
     let there = some-fields new.framing.current.known.schema typed in
-    record {
-      state = next;
-      shows = shows;
-      taken = r.taken;
-      tells = r.tells ∙ ap (after_rows rows) here;
+    inr (record {
+      state = c.state;
+      shows = c.shows;
+      marked = c.follows;
+      taken = c.taken;
+      tells = c.tells;
       fields = there.0;
-      known = sym (ap (λ x. x.known.schema) shows.stream) ∙ there.1;
-    }
+      known = sym (ap (λ x. x.known.schema) c.shows.stream) ∙ there.1;
+    })
 
 -- a batch of rows: what the stream tells, and the columns that it has
 record TellsBatch (st : Story) (new : FeedParts) (rows got : List (List Datum)) (rest : List ℕ)
@@ -247,51 +482,41 @@ record TellsBatch (st : Story) (new : FeedParts) (rows got : List (List Datum)) 
   schema : (rest_story (retained_in state) rest).schema ≡ Some fields
 
 batch-tells :
-    (law : EventTells) (held : NoneHeld) (knows : StoryKnowsSchema) (st : Story) (rows : List (List Datum))
-    (old new : FeedParts) (bytes : List ℕ)
-    (used : ℕ) (columns : List (List Datum)) (n body : ℕ) (fields : List (Rose Entry))
-    → Came old new bytes used (batch columns n body)
-    → new.framing.current.known.schema ≡ Some fields → Reached st old rows bytes
-    → TellsBatch st new rows (rows_in n columns) (drop used bytes) fields
-batch-tells law held knows st rows old new bytes used columns n body fields c there r =
-    let v : Event = batch columns n body in
-    let gave : gives r.state bytes ≡ Ok (given used (Some v)) = c.gave r.state r.shows in
-    let next : FeedState = after_push r.state bytes (Ok (given used (Some v))) in
-    let shows : Shows new next = c.after r.state r.shows in
-    let known : (retained_in next).known.schema ≡ Some fields = sym (ap (λ x. x.known.schema) shows.stream) ∙ there in
+    (knows : StoryKnowsSchema) (st : Story) (rows : List (List Datum)) (new : FeedParts) (rest : List ℕ)
+    (columns : List (List Datum)) (n body : ℕ) (fields : List (Rose Entry))
+    → new.framing.current.known.schema ≡ Some fields → Comes st rows new (batch columns n body) rest
+    → TellsBatch st new rows (rows_in n columns) rest fields
+batch-tells knows st rows new rest columns n body fields there c =
+    let known : (retained_in c.state).known.schema ≡ Some fields =
+    sym (ap (λ x. x.known.schema) c.shows.stream) ∙ there in
     record {
-      state = next;
-      shows = shows;
-      between = between-after held r.state bytes used v (record { stays = refl }) r.between gave;
-      tells = r.tells ∙ ap (after_rows rows) (law r.state bytes used v r.between gave);
-      schema = knows (retained_in next) (drop used bytes) fields known;
+      state = c.state;
+      shows = c.shows;
+      between = comes-between st rows new (batch columns n body) rest (record { stays = refl }) c;
+      tells = c.tells;
+      schema = knows (retained_in c.state) rest fields known;
     }
 
 pub batch-reached :
-    (law : EventTells) (held : NoneHeld) (knows : StoryKnowsSchema) (st : Story) (rows taken : List (List Datum))
-    (old new : FeedParts)
-    (bytes : List ℕ) (used : ℕ) (columns : List (List Datum)) (n body : ℕ) (fields : List (Rose Entry))
-    → Came old new bytes used (batch columns n body) → new.framing.current.known.schema ≡ Some fields
-    → taken ≡ rows ++ rows_in n columns
-    → (AreTaken (layouts_of fields) rows → AreTaken (layouts_of fields) taken) → Reached st old rows bytes
-    → Reached st new taken (drop used bytes)
-batch-reached law held knows st rows taken old new bytes used columns n body fields c there all retained r =
-    let b = batch-tells law held knows st rows old new bytes used columns n body fields c there r in
-    let rest : Story = rest_story (retained_in b.state) (drop used bytes) in
+    (none : NothingYet) (knows : StoryKnowsSchema) (st : Story) (rows taken : List (List Datum)) (new : FeedParts)
+    (rest : List ℕ) (columns : List (List Datum)) (n body : ℕ) (fields : List (Rose Entry))
+    → new.framing.current.known.schema ≡ Some fields → taken ≡ rows ++ rows_in n columns
+    → (AreTaken (layouts_of fields) rows → AreTaken (layouts_of fields) taken)
+    → Comes st rows new (batch columns n body) rest → Reached st new taken rest
+batch-reached none knows st rows taken new rest columns n body fields there all retained c =
+    let b = batch-tells knows st rows new rest columns n body fields there c in
+    let more : Story = rest_story (retained_in b.state) rest in
     let schema : st.schema ≡ Some fields = ap (λ x. x.schema) b.tells ∙ b.schema in
     let before : AreTakenSo (Some fields) rows =
-    subst (λ (o : Option (List (Rose Entry))). AreTakenSo o rows) schema r.taken in
-    let joined : (rows ++ (rows_in n columns ++ rest.rows)) ≡ taken ++ rest.rows =
-    sym (append_assoc rows (rows_in n columns) rest.rows) ∙ ap (λ xs. xs ++ rest.rows) (sym all) in
-    record {
-      state = b.state;
-      shows = b.shows;
-      between = b.between;
-      taken = subst (λ (o : Option (List (Rose Entry))). AreTakenSo o taken) (sym schema) (retained before);
-      tells = b.tells ∙ ap (told_with rest.schema rest.end) joined;
-    } where
+    subst (λ (o : Option (List (Rose Entry))). AreTakenSo o rows) schema c.taken in
+    let joined : (rows ++ (rows_in n columns ++ more.rows)) ≡ taken ++ more.rows =
+    sym (append_assoc rows (rows_in n columns) more.rows) ∙ ap (λ xs. xs ++ more.rows) (sym all) in
+    inl
+    (between-goes none st taken new rest b.state b.between b.shows
+    (subst (λ (o : Option (List (Rose Entry))). AreTakenSo o taken) (sym schema) (retained before))
+    (b.tells ∙ ap (told_with more.schema more.end) joined)) where
       told_with : Option (List (Rose Entry)) → Reading (Unit {0}) → List (List Datum) → Story
-      told_with schema end xs = record { schema = schema; rows = xs; end = end }
+      told_with known end xs = record { schema = known; rows = xs; end = end }
 
 any-left : (P : List Datum → Type 0) (xs ys : List (List Datum)) → Any P xs → Any P (xs ++ ys)
 any-left P xs ys (k, x, below, is, holds) =
@@ -322,14 +547,14 @@ refused-by st new rows got rest fields cause.CellTooHeavy b heavy =
 refused-by st new rows got rest fields _ b h = absurd h
 
 pub batch-refused :
-    (law : EventTells) (held : NoneHeld) (knows : StoryKnowsSchema) (st : Story) (rows : List (List Datum))
-    (old new : FeedParts) (bytes : List ℕ)
-    (used : ℕ) (columns : List (List Datum)) (n body : ℕ) (fields : List (Rose Entry)) (c : Cause)
-    → Came old new bytes used (batch columns n body) → new.framing.current.known.schema ≡ Some fields
-    → RefusesBatch (layouts_of fields) (rows_in n columns) (length rows) c → Reached st old rows bytes → Refuses st c
-batch-refused law held knows st rows old new bytes used columns n body fields c came there refused r =
-    refused-by st new rows (rows_in n columns) (drop used bytes) fields c
-    (batch-tells law held knows st rows old new bytes used columns n body fields came there r) refused
+    (knows : StoryKnowsSchema) (st : Story) (rows : List (List Datum)) (new : FeedParts) (rest : List ℕ)
+    (columns : List (List Datum)) (n body : ℕ) (fields : List (Rose Entry)) (c : Cause)
+    → new.framing.current.known.schema ≡ Some fields
+    → RefusesBatch (layouts_of fields) (rows_in n columns) (length rows) c
+    → Comes st rows new (batch columns n body) rest → Refuses st c
+batch-refused knows st rows new rest columns n body fields c there refused came =
+    refused-by st new rows (rows_in n columns) rest fields c
+    (batch-tells knows st rows new rest columns n body fields there came) refused
 
 -- the same in the words of the code, which has the columns
 pub typed-event :
@@ -348,47 +573,41 @@ typed-fields None columns n typed = absurd typed
 typed-fields (Some fs) columns n typed = (fs, refl, typed.0)
 
 pub columns-reached :
-    (law : EventTells) (held : NoneHeld) (knows : StoryKnowsSchema) (st : Story) (rows taken : List (List Datum))
-    (old new : FeedParts)
-    (bytes : List ℕ) (used : ℕ) (columns : List CheckedColumn) (n body : ℕ)
-    → Came old new bytes used (batch (cells_in columns) n body)
+    (none : NothingYet) (knows : StoryKnowsSchema) (st : Story) (rows taken : List (List Datum)) (new : FeedParts)
+    (rest : List ℕ) (columns : List CheckedColumn) (n body : ℕ)
     → IsSomeAnd new.framing.current.known.schema (λ fs. HasColumns fs columns n)
     → taken ≡ rows ++ rows_in n (cells_in columns)
-    → (AreTaken (layouts_in columns) rows → AreTaken (layouts_in columns) taken) → Reached st old rows bytes
-    → Reached st new taken (drop used bytes)
-columns-reached law held knows st rows taken old new bytes used columns n body c typed all retained r =
+    → (AreTaken (layouts_in columns) rows → AreTaken (layouts_in columns) taken)
+    → Comes st rows new (batch (cells_in columns) n body) rest → Reached st new taken rest
+columns-reached none knows st rows taken new rest columns n body typed all retained c =
     let t = typed-fields new.framing.current.known.schema columns n typed in
-    batch-reached law held knows st rows taken old new bytes used (cells_in columns) n body t.0 c t.1 all
-    (subst (λ (ls : Roses Layout). AreTaken ls rows → AreTaken ls taken) t.2 retained) r
+    batch-reached none knows st rows taken new rest (cells_in columns) n body t.0 t.1 all
+    (subst (λ (ls : Roses Layout). AreTaken ls rows → AreTaken ls taken) t.2 retained) c
 
 pub columns-refused :
-    (law : EventTells) (held : NoneHeld) (knows : StoryKnowsSchema) (st : Story) (rows : List (List Datum))
-    (old new : FeedParts) (bytes : List ℕ)
-    (used : ℕ) (columns : List CheckedColumn) (n body before : ℕ) (k : Cause)
-    → Came old new bytes used (batch (cells_in columns) n body)
+    (knows : StoryKnowsSchema) (st : Story) (rows : List (List Datum)) (new : FeedParts) (rest : List ℕ)
+    (columns : List CheckedColumn) (n body before : ℕ) (k : Cause)
     → IsSomeAnd new.framing.current.known.schema (λ fs. HasColumns fs columns n) → before ≡ length rows
-    → RefusesBatch (layouts_in columns) (rows_in n (cells_in columns)) before k → Reached st old rows bytes
-    → Refuses st k
-columns-refused law held knows st rows old new bytes used columns n body before k c typed size refused r =
+    → RefusesBatch (layouts_in columns) (rows_in n (cells_in columns)) before k
+    → Comes st rows new (batch (cells_in columns) n body) rest → Refuses st k
+columns-refused knows st rows new rest columns n body before k typed size refused c =
     let t = typed-fields new.framing.current.known.schema columns n typed in
     let got : List (List Datum) = rows_in n (cells_in columns) in
     let sized : RefusesBatch (layouts_in columns) got (length rows) k =
     subst (λ (m : ℕ). RefusesBatch (layouts_in columns) got m k) size refused in
-    batch-refused law held knows st rows old new bytes used (cells_in columns) n body t.0 k c t.1
-    (subst (λ (ls : Roses Layout). RefusesBatch ls got (length rows) k) t.2 sized) r
+    batch-refused knows st rows new rest (cells_in columns) n body t.0 k t.1
+    (subst (λ (ls : Roses Layout). RefusesBatch ls got (length rows) k) t.2 sized) c
 
 -- what is kept beside the rows
 pub columns-kept :
-    (law : EventTells) (held : NoneHeld) (knows : StoryKnowsSchema) (st : Story) (rows : List (List Datum)) (old new :
-    FeedParts)
-    (bytes : List ℕ) (used : ℕ) (columns : List CheckedColumn) (n body : ℕ) (before after : Taken)
-    → Came old new bytes used (batch (cells_in columns) n body)
+    (knows : StoryKnowsSchema) (st : Story) (rows : List (List Datum)) (new : FeedParts) (rest : List ℕ)
+    (columns : List CheckedColumn) (n body : ℕ) (before after : Taken)
     → IsSomeAnd new.framing.current.known.schema (λ fs. HasColumns fs columns n)
     → (IsKept (length columns) (layouts_in columns) before → IsKept (length columns) (layouts_in columns) after)
-    → Reached st old rows bytes → IsKeptSo st.schema before → IsKeptSo st.schema after
-columns-kept law held knows st rows old new bytes used columns n body before after c typed keeps r kept =
+    → Comes st rows new (batch (cells_in columns) n body) rest → IsKeptSo st.schema before → IsKeptSo st.schema after
+columns-kept knows st rows new rest columns n body before after typed keeps c kept =
     let t = typed-fields new.framing.current.known.schema columns n typed in
-    let b = batch-tells law held knows st rows old new bytes used (cells_in columns) n body t.0 c t.1 r in
+    let b = batch-tells knows st rows new rest (cells_in columns) n body t.0 t.1 c in
     let schema : st.schema ≡ Some t.0 = ap (λ x. x.schema) b.tells ∙ b.schema in
     let many : length columns ≡ length t.0 = as-many columns t.0 t.2 in
     let P : Option (List (Rose Entry)) → Taken → Type 0 = IsKeptSo in

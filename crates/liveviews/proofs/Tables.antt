@@ -66,7 +66,7 @@ use Rattle.feed.specs.StoryLaw.{AllIsTold, IsBetween, rest_story}
 use Rattle.liveviews.specs.Taken.{AreTaken, IsTakenRow}
 use Rattle.liveviews.specs.Kept.{IsKept, IsKeptSo}
 use Rattle.liveviews.specs.declared.taken.Taken.{Taken}
-use Rattle.liveviews.specs.Steps.{AreTakenSo, Ended, IsOpen, Reached, Refuses, IsComplete}
+use Rattle.liveviews.specs.Steps.{AreTakenSo, IsComplete, Refuses}
 
 -- What is known of the logical columns is handed in: it is the contract of `logical_law`.
 module _ (trees : LogicalTrees) (fits : NarrowFits) (holds : NarrowHoldsEach) (weighs : NarrowRowWeighs) where
@@ -155,25 +155,9 @@ pub fresh-between : IsBetween (fresh None)
 unfolding retained_of retained
 fresh-between = record { goes_on = refl; none_held = refl }
 
-taken-none : (o : Option (List (Rose Entry))) → AreTakenSo o []
+pub taken-none : (o : Option (List (Rose Entry))) → AreTakenSo o []
 taken-none None = refl
 taken-none (Some fields) = record { few = omega arith; each = λ k d below. absurd (omega (arith, below)) }
-
-pub fresh-open : (f : FeedParts) → Shows f (fresh None) → IsOpen f
-fresh-open f shows = (fresh None, shows, fresh-between)
-
-pub reached-all :
-    (law : AllIsTold) (f : FeedParts) (rows : List (List Datum)) (bytes : List ℕ) → Shows f (fresh None) → rows ≡ []
-    → Reached (story_of bytes) f rows bytes
-reached-all law f rows bytes shows none =
-    let P : List (List Datum) → Type 0 = λ xs. Reached (story_of bytes) f xs bytes in
-    subst P (sym none) (record {
-      state = fresh None;
-      shows = shows;
-      between = fresh-between;
-      taken = taken-none (story_of bytes).schema;
-      tells = law bytes;
-    })
 
 -- the end of the input, where nothing is left
 pub nothing-tells : (k : Retained) (bytes : List ℕ) → length bytes ≤ 0
@@ -182,34 +166,10 @@ unfolding story
 nothing-tells k [] none = refl
 nothing-tells k (b ∷ bs) none = absurd (omega (arith, none))
 
-pub at-end : (s : Story) (f : FeedParts) (rows : List (List Datum)) (bytes : List ℕ) → length bytes ≤ 0
-    → Reached s f rows bytes → IsComplete s f rows
-at-end s f rows bytes none r = record {
-  state = r.state;
-  shows = r.shows;
-  taken = r.taken;
-  tells = r.tells ∙ ap (after_rows rows) (nothing-tells (retained_in r.state) bytes none);
-}
-
 -- the end mark, with nothing after it or something
 pub at-mark-by : (rest : List ℕ) → length rest ≡ 0 → at_end_mark rest ≡ Ok tt
 at-mark-by rest none = let P : ℕ
     → Type 0 = λ n. (if n == 0 then Ok tt else Err (one fault.AfterEnd)) ≡ Ok tt in subst P (sym none) refl
-
--- the end mark ends a stream like the end of its input
-pub mark-complete :
-    (s : Story) (f : FeedParts) (rows : List (List Datum)) (bytes : List ℕ) (n : ℕ) → length bytes ≤ n
-    → Ended s f rows (drop n bytes) → IsComplete s f rows
-mark-complete s f rows bytes n all r =
-    let none : length (drop n bytes) ≡ 0 = length-drop n bytes ∙ omega (arith, all) in
-    let input : at_input_end (retained_in r.state).known.schema ≡ Ok tt = ap at_input_end r.known in
-    record {
-      state = r.state;
-      shows = r.shows;
-      taken = r.taken;
-      tells = r.tells
-          ∙ ap (λ m. after_rows rows (ends (retained_in r.state).known m)) (at-mark-by (drop n bytes) none ∙ sym input);
-    }
 
 abbrev mark_by : Bool → Reading (Unit {0})
 mark_by t = if t then Ok tt else Err (one fault.AfterEnd)
@@ -220,26 +180,6 @@ after-test n true some is = let none : n ≡ 0 = eqb-true n 0 is in absurd (omeg
 
 pub after-by : (rest : List ℕ) → 0 < length rest → at_end_mark rest ≡ Err (one fault.AfterEnd)
 after-by rest some = after-test (length rest) (length rest == 0) some refl
-
-pub mark-before :
-    (s : Story) (f : FeedParts) (rows : List (List Datum)) (bytes : List ℕ) (n : ℕ) → n < length bytes
-    → Ended s f rows (drop n bytes)
-    → Refuses s cause.AfterEnd
-mark-before s f rows bytes n more r =
-    let some : 0 < length (drop n bytes) = let size : length (drop n bytes) ≡ length bytes - n = length-drop n bytes in
-    omega (arith, size, more) in
-    let end : s.end ≡ Err (one fault.AfterEnd) = ap (λ x. x.end) r.tells ∙ after-by (drop n bytes) some in
-    (fault.AfterEnd, refl, subst (λ (m : Reading (Unit {0})). Stands m fault.AfterEnd) (sym end) refl)
-
--- what is left, as the code has it
-pub reached-rest :
-    (s : Story) (f : FeedParts) (rows : List (List Datum)) (bytes : List ℕ) (n : ℕ) → Reached s f rows (drop n bytes)
-    → Reached s f rows (take (length bytes - n) (drop n bytes))
-reached-rest s f rows bytes n r =
-    let size : length (drop n bytes) ≡ length bytes - n = length-drop n bytes in
-    let whole : take (length bytes - n) (drop n bytes) ≡ drop n bytes =
-    take_all (length bytes - n) (drop n bytes) (omega (arith, size)) in
-    subst (Reached s f rows) (sym whole) r
 
 pub on_ok_always : {T E P : Type 0} (r : Result T E) → P → OnOk r P
 on_ok_always (Ok x) p = p

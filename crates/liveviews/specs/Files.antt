@@ -1,12 +1,15 @@
 -- What a command did to the files: what was read of one, and what was put to another.
-use Rattle.std.specs.Prelude.{◌≡◌, ℕ, List, Option, None, Some, Result, Err}
+use Rattle.std.specs.Prelude.{◌≡◌, ℕ, List, Option, None, Some, Result, Ok, Err}
 use Rattle.schema_meta.specs.Story.{story_of}
 use Rattle.stream_writer.specs.Sinks.{Sunk}
 use Rattle.values.specs.declared.causes.Cause.TheVariants as cause
 use Rattle.liveviews.specs.Inspect.{Tells, account_of, status_where}
 use Rattle.liveviews.specs.Recast.{Recasts}
 use Rattle.liveviews.specs.declared.files.FileFault.{FileFault}
+use Rattle.liveviews.specs.declared.files.FileFault.TheVariants as file
 use Rattle.liveviews.specs.declared.recasting.RecastFault.{RecastFault}
+use Rattle.liveviews.specs.declared.recasting.SourceFault.{SourceFault}
+use Rattle.liveviews.specs.declared.recasting.SourceFault.TheVariants as source
 
 -- what was read is what the file holds, where that is told
 abbrev pub IsContent : Option (List ℕ) → List ℕ → Type 0
@@ -18,6 +21,17 @@ pub record RecastsFile (held : Option (List ℕ)) (old new : Sunk) (answer : Res
   pub input : List ℕ
   pub read : IsContent held input
   pub recasts : Recasts old new answer (story_of input)
+
+-- a source that can't be read, or memory that ran out before anything was put
+abbrev pub source_fault_of : FileFault → SourceFault
+source_fault_of file.Unusable = source.Unreadable
+source_fault_of file.Memory = source.Refused (record { cause = cause.Memory; written = 0 })
+
+-- The same of a source that holds `held`. Where it can't be read nothing was put.
+abbrev pub RecastsSource : Option (List ℕ) → Sunk → Sunk → Result ℕ SourceFault → Type 0
+RecastsSource held old new (Ok n) = RecastsFile held old new (Ok n)
+RecastsSource held old new (Err source.Unreadable) = new ≡ old
+RecastsSource held old new (Err (source.Refused f)) = RecastsFile held old new (Err f)
 
 -- Putting failed, and the files tell that the one to be written could not be made.
 pub record MakesNone (held : Option (List ℕ)) (old new : Sunk) (unmade : Option FileFault) (why : FileFault) :

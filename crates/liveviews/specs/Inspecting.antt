@@ -1,5 +1,5 @@
 -- Where an inspection stands.
-use Rattle.std.specs.Prelude.{◌≡◌, ◌⊎◌, ℕ, Bool, false, List, [], None, if◌then◌else◌, string_bytes}
+use Rattle.std.specs.Prelude.{◌≡◌, ◌⊎◌, ℕ, Bool, false, List, [], None, Result, Ok, Err, if◌then◌else◌, string_bytes}
 use Rattle.values.specs.Reading.{Stands}
 use Rattle.values.specs.declared.faults.StreamFault.{StreamFault}
 use Rattle.values.specs.declared.faults.StreamFault.TheVariants as fault
@@ -8,7 +8,7 @@ use Rattle.feed.specs.declared.condition.Condition.TheVariants as condition
 use Rattle.feed.specs.Shown.{Shows}
 use Rattle.feed.specs.States.{FeedState, fresh}
 use Rattle.feed.specs.Transcript.{transcript}
-use Rattle.liveviews.specs.Inspect.{Account, account_in, after_lines}
+use Rattle.liveviews.specs.Inspect.{Account, Tells, account_in, account_of, after_lines}
 use Rattle.liveviews.specs.declared.inspecting.Inspection.{Inspection}
 
 pub record IsFresh (i : Inspection) : Type 0 where
@@ -36,3 +36,13 @@ pub record StopsAt (a : Account) (text : List ℕ) (f : StreamFault) : Type 0 wh
 
 abbrev pub Breaks : Account → List ℕ → StreamFault → Type 0
 Breaks a text f = (f ≡ fault.Memory) ⊎ StopsAt a text f
+
+-- What came of all messages of an input: their lines were written and nothing is left, or a fault stands behind them.
+abbrev pub HasTaken : Inspection → Result (Unit {0}) StreamFault → List ℕ → Type 0
+HasTaken i (Ok u) input = IsLeft (account_of input) i []
+HasTaken i (Err f) input = Breaks (account_of input) (string_bytes i.text) f
+
+-- the same once the line of the input's end was written
+abbrev pub HasRun : List ℕ → Result (Unit {0}) StreamFault → List ℕ → Type 0
+HasRun text (Ok u) input = Tells (account_of input) text 0
+HasRun text (Err f) input = Breaks (account_of input) text f

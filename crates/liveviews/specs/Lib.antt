@@ -8,6 +8,7 @@ pub mod Lines
 pub mod Inspect
 pub mod Inspecting
 pub mod Files
+pub mod Source
 pub mod Check
 pub mod Program
 pub mod Kept

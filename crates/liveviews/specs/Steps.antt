@@ -1,5 +1,5 @@
 -- What reading a stream event by event tells of the whole stream.
-use Rattle.std.specs.Prelude.{◌≡◌, ℕ, ◌<◌, List, [], Option, None, Some, Any, length, drop}
+use Rattle.std.specs.Prelude.{◌≡◌, ◌⊎◌, ℕ, ◌++◌, ◌<◌, false, List, [], Option, None, Some, Result, Ok, Err, Any, length}
 use Rattle.values.specs.Limits.{max_main_rows}
 use Rattle.values.specs.Datum.{Datum}
 use Rattle.values.specs.Rose.{Rose}
@@ -7,16 +7,20 @@ use Rattle.values.specs.declared.causes.Cause.{Cause}
 use Rattle.values.specs.declared.causes.Cause.TheVariants as cause
 use Rattle.schema_meta.specs.Entry.{Entry}
 use Rattle.schema_meta.specs.FieldLayouts.{layouts_of}
-use Rattle.schema_meta.specs.Story.{Story, after_rows, ends, at_end_mark, at_input_end}
+use Rattle.schema_meta.specs.Means.{Means}
+use Rattle.schema_meta.specs.Story.{Story, after_rows, ends, at_end_mark, at_input_end, story_of}
+use Rattle.feed.specs.declared.condition.Condition.TheVariants as condition
+use Rattle.feed.specs.Events.{given}
 use Rattle.feed.specs.Retained.{Retained}
 use Rattle.feed.specs.Shown.{FeedParts, Shows}
-use Rattle.feed.specs.States.{FeedState, retained_in}
+use Rattle.feed.specs.States.{FeedState, after_push, gives, is_broken, retained_in}
 use Rattle.feed.specs.StoryLaw.{IsBetween, rest_story}
 use Rattle.liveviews.specs.Heavy.{IsHeavy}
 use Rattle.liveviews.specs.Taken.{AreTaken}
 use Rattle.liveviews.specs.Refused.{StandsAs}
-use Rattle.liveviews.specs.declared.table.Step.{Step}
-use Rattle.liveviews.specs.declared.table.Step.TheVariants as step
+use Rattle.liveviews.specs.Kept.{IsKeptSo, taken_rows}
+use Rattle.liveviews.specs.declared.table.Table.{Table}
+use Rattle.liveviews.specs.declared.taken.Taken.{Taken}
 
 -- the stream tells these rows, and then what these bytes tell where so much is kept
 abbrev pub Tells : Story → List (List Datum) → Retained → List ℕ → Type 0
@@ -39,26 +43,37 @@ abbrev pub AreTakenSo : Option (List (Rose Entry)) → List (List Datum) → Typ
 AreTakenSo None rows = rows ≡ []
 AreTakenSo (Some fields) rows = AreTaken (layouts_of fields) rows
 
--- A feed stands between two messages of its stream.
+-- Pieces may be pushed to the feed.
 abbrev pub IsOpen : FeedParts → Type 0
-IsOpen f = (t : FeedState) × Shows f t × IsBetween t
+IsOpen f = (t : FeedState) × Shows f t × (is_broken t.condition ≡ false)
 
--- These rows of the stream were taken, its feed stands between two messages, and these bytes are left.
-pub record Reached (s : Story) (f : FeedParts) (rows : List (List Datum)) (bytes : List ℕ) : Type 0 where
+-- These rows of the stream were taken, its feed holds the beginning of the next message, and these bytes come.
+pub record GoesOn (s : Story) (f : FeedParts) (rows : List (List Datum)) (rest : List ℕ) : Type 0 where
+  -- behind the last message
   pub state : FeedState
-  pub shows : Shows f state
+  pub held : List ℕ
   pub between : IsBetween state
+  pub begun : gives state held ≡ Ok (given (length held) None)
+  pub shows : Shows f (after_push state held (Ok (given (length held) None)))
   pub taken : AreTakenSo s.schema rows
-  pub tells : Tells s rows (retained_in state) bytes
+  pub tells : Tells s rows (retained_in state) (held ++ rest)
 
 -- These rows were taken, and then the end mark came, before these bytes.
 pub record Ended (s : Story) (f : FeedParts) (rows : List (List Datum)) (rest : List ℕ) : Type 0 where
   pub state : FeedState
   pub shows : Shows f state
+  pub marked : state.condition ≡ condition.Ended
   pub taken : AreTakenSo s.schema rows
   pub tells : s ≡ after_rows rows (ends (retained_in state).known (at_end_mark rest))
   pub fields : List (Rose Entry)
   pub known : (retained_in state).known.schema ≡ Some fields
+
+abbrev pub Reached : Story → FeedParts → List (List Datum) → List ℕ → Type 0
+Reached s f rows rest = GoesOn s f rows rest ⊎ Ended s f rows rest
+
+-- The same of what was taken, and what is kept beside its rows is so.
+abbrev pub HasTaken : Story → FeedParts → Taken → List ℕ → Type 0
+HasTaken s f t rest = Reached s f (taken_rows t) rest × IsKeptSo s.schema t
 
 -- The stream told these rows and no more, and ends like an input.
 pub record IsComplete (s : Story) (f : FeedParts) (rows : List (List Datum)) : Type 0 where
@@ -67,16 +82,14 @@ pub record IsComplete (s : Story) (f : FeedParts) (rows : List (List Datum)) : T
   pub taken : AreTakenSo s.schema rows
   pub tells : s ≡ after_rows rows (ends (retained_in state).known (at_input_end (retained_in state).known.schema))
 
-abbrev pub length_of : Step → ℕ
-length_of (step.Next n) = n
-length_of (step.End n) = n
+-- What came of all messages of an input: they were taken, or it is refused.
+abbrev pub HasTakenAll : FeedParts → Taken → Result (Unit {0}) Cause → List ℕ → Type 0
+HasTakenAll f t (Ok u) input = HasTaken (story_of input) f t []
+HasTakenAll f t (Err c) input = Refuses (story_of input) c
 
--- A stream goes on, or its end mark came.
-abbrev pub GoesOn : FeedParts → Step → Type 0
-GoesOn f (step.Next n) = IsOpen f
-GoesOn f (step.End n) = Unit {0}
-
--- the same once the first message of these bytes was taken
-abbrev pub ReachedAfter : Story → FeedParts → List (List Datum) → List ℕ → Step → Type 0
-ReachedAfter s f rows bytes (step.Next n) = Reached s f rows (drop n bytes)
-ReachedAfter s f rows bytes (step.End n) = Ended s f rows (drop n bytes)
+-- A whole input means this table, or is refused.
+abbrev pub IsRead : Result Table Cause → List ℕ → Type 0
+IsRead (Ok t) input =
+    Means (story_of input) t.schema.fields.items (taken_rows t.rows)
+    × AreTakenSo (story_of input).schema (story_of input).rows
+IsRead (Err c) input = Refuses (story_of input) c

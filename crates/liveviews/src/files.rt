@@ -2,6 +2,8 @@
 
 ghost use Rattle.std.specs.Prelude.{IfOk, OnOk, None};
 
+use std::alloc::AllocError;
+use std::io::{Error, ErrorKind, Read};
 use stream_writer::Sink;
 
 /// Why a file could not be used.
@@ -13,6 +15,31 @@ pub enum FileFault {
     Memory,
 }
 
+impl From<Error> for FileFault {
+    ghost use Rattle.std.specs.IoError.{error_kind};
+    ghost use Rattle.liveviews.specs.Source.{IsFaultOf};
+
+    ghost from_gives = { λ error fault. IsFaultOf (error_kind error) fault };
+
+    fn from(error: Error) -> FileFault {
+        match error.kind() {
+            ErrorKind::OutOfMemory => FileFault::Memory,
+            _ => FileFault::Unusable,
+        }
+    }
+}
+
+impl From<AllocError> for FileFault {
+    ghost use Rattle.std.specs.Prelude.{◌≡◌};
+    ghost use Rattle.liveviews.specs.declared.files.FileFault.TheVariants.{Memory};
+
+    ghost from_gives = { λ _ fault. fault ≡ Memory };
+
+    fn from(_refused: AllocError) -> FileFault {
+        FileFault::Memory
+    }
+}
+
 /// The files that `lv` works on: those of the machine, or in a test those of a map.
 ///
 /// As a [`Sink`] it writes the file that `create` named last. That file is made, or emptied, at the first
@@ -21,7 +48,11 @@ pub enum FileFault {
 pub trait Files: Sink {
     ghost use Rattle.std.specs.Prelude.{◌≡◌, ℕ, List, Option};
     ghost use Rattle.liveviews.specs.Files.{IsContent};
+    ghost use Rattle.liveviews.specs.Source.{HoldsFile};
     ghost use Rattle.liveviews.specs.declared.files.FileFault.{FileFault as Fault};
+
+    /// A file that is open to be read. It is closed where it is dropped.
+    type Input: Read + Drop;
 
     /// What the file at a path holds, where the value can tell.
     ghost content: { Self → List ℕ → Option (List ℕ) };
@@ -33,6 +64,12 @@ pub trait Files: Sink {
     fn read(&mut self, path: &str) -> Result<Vec<u8>, FileFault>
         ensures sunk { Self.sunk self.new ≡ Self.sunk self.old }
         ensures content { IfOk result (λ bytes. IsContent (content self.old path.now) bytes.items) };
+
+    /// Opens the file at `path`, to be read piece by piece.
+    fn open(&mut self, path: &str) -> Result<Self::Input, FileFault>
+        ensures sunk { Self.sunk self.new ≡ Self.sunk self.old }
+        ensures content { IfOk result
+            (λ input. HoldsFile (content self.old path.now) (Self.Input.remaining input)) };
 
     /// Names the file that `put` makes and writes. An error leaves the one that was named before.
     fn create(&mut self, path: &str) -> Result<(), FileFault>

@@ -8,6 +8,7 @@ mod files;
 mod inspecting;
 mod laws;
 mod lines;
+mod pieces;
 mod program;
 mod recasting;
 mod running;
@@ -17,7 +18,7 @@ mod taken;
 mod types;
 
 pub use files::{FileFault, Files};
-pub use inspecting::{Inspected, inspect};
+pub use inspecting::{Inspected, inspect, inspect_from};
 pub use laws::{account_law, recast_law};
 pub use program::lv;
-pub use recasting::{RecastFault, recast};
+pub use recasting::{RecastFault, SourceFault, recast, recast_from};

@@ -4,6 +4,7 @@ ghost use Rattle.std.specs.Prelude.{◌≡◌, ◌≤◌, ◌⊎◌, IfErr, IfOk
 ghost use Rattle.clap.specs.Words.{found_of};
 ghost use Rattle.liveviews.specs.Check.{ChecksFile};
 ghost use Rattle.liveviews.specs.Files.{InspectsFile, IsContent};
+ghost use Rattle.liveviews.specs.Source.{HoldsFile};
 ghost use Rattle.liveviews.specs.Program.{
   AsksCheck,
   AsksInspect,
@@ -29,8 +30,8 @@ ghost use Rattle.liveviews.specs.declared.program.Refusal.TheVariants.{CannotWri
 
 use crate::configuring::parse_config;
 use crate::files::{FileFault, Files};
-use crate::inspecting::{Inspected, inspect};
-use crate::recasting::{RecastFault, recast};
+use crate::inspecting::{Inspected, inspect_from};
+use crate::recasting::{RecastFault, SourceFault, recast_from};
 use crate::running::run_script;
 use clap::error::ErrorKind;
 use clap::{Arg, ArgAction, ArgMatches, Command};
@@ -233,6 +234,16 @@ fn asked_run<'a>(given: &ArgMatches<'a>) -> Option<Asked<'a>> {
     })
 }
 
+/// The refusal of a file at `path` that could not be read.
+fn unreadable<'a>(fault: FileFault, path: &'a str) -> Refusal<'a>
+    ensures { IsUnreadable result }
+{
+    match fault {
+        FileFault::Unusable => Refusal::CannotRead(path),
+        FileFault::Memory => Refusal::Refused(Cause::Memory),
+    }
+}
+
 /// All bytes of the file at `path`.
 fn read_file<'a, F: Files>(path: &'a str, files: &mut F) -> Result<Vec<u8>, Refusal<'a>>
     ensures sunk { F.sunk files.new ≡ F.sunk files.old }
@@ -241,8 +252,19 @@ fn read_file<'a, F: Files>(path: &'a str, files: &mut F) -> Result<Vec<u8>, Refu
 {
     match files.read(path) {
         Ok(bytes) => Ok(bytes),
-        Err(FileFault::Unusable) => Err(Refusal::CannotRead(path)),
-        Err(FileFault::Memory) => Err(Refusal::Refused(Cause::Memory)),
+        Err(fault) => Err(unreadable(fault, path)),
+    }
+}
+
+/// Opens the file at `path`, to be read piece by piece.
+fn open_file<'a, F: Files>(path: &'a str, files: &mut F) -> Result<F::Input, Refusal<'a>>
+    ensures sunk { F.sunk files.new ≡ F.sunk files.old }
+    ensures content { IfOk result (λ input. HoldsFile (F.content files.old path.now) (F.Input.remaining input)) }
+    ensures unread { IfErr result IsUnreadable }
+{
+    match files.open(path) {
+        Ok(input) => Ok(input),
+        Err(fault) => Err(unreadable(fault, path)),
     }
 }
 
@@ -256,8 +278,11 @@ fn inspect_file<'a, F: Files>(
     ensures complete { IfOk result (λ i. InspectsFile (F.content files.old path.now) (string_bytes i.text) i.status) }
     ensures unread { IfErr result IsUnreadable }
 {
-    let input = read_file(path, files)?;
-    Ok(inspect(alloc, &input)?)
+    let mut input = open_file(path, files)?;
+    match inspect_from(alloc, &mut input) {
+        Ok(inspected) => Ok(inspected),
+        Err(fault) => Err(unreadable(fault, path)),
+    }
 }
 
 /// Recasts the file at `from`, and puts what comes of it to the file at `to`, which is made once there is something to
@@ -270,13 +295,14 @@ fn recast_file<'a, F: Files>(
 ) -> Result<u64, Refusal<'a>>
     ensures { Ends (F.content files.old from.now) (F.sunk files.old) (F.sunk files.new) (F.unmade files.new) result }
 {
-    let input = read_file(from, files)?;
+    let mut input = open_file(from, files)?;
     if let Err(fault) = files.create(to) {
         return Err(Refusal::unmade(fault, to));
     }
-    match recast(alloc, &input, files) {
+    match recast_from(alloc, &mut input, files) {
         Ok(written) => Ok(written),
-        Err(fault) => Err(stopped(files, fault, to)),
+        Err(SourceFault::Unreadable) => Err(Refusal::CannotRead(from)),
+        Err(SourceFault::Refused(fault)) => Err(stopped(files, fault, to)),
     }
 }
 

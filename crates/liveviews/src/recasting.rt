@@ -1,13 +1,18 @@
 //! `recast`: reads a stream and writes the canonical stream of the same rows.
 
 ghost use Rattle.schema_meta.specs.Story.{story_of};
-ghost use Rattle.std.specs.Prelude.{OnOk};
+ghost use Rattle.std.specs.Prelude.{ℕ, List, IfOk, OnOk};
+ghost use Rattle.stream_writer.specs.Table.{IsTable};
+ghost use Rattle.liveviews.specs.Files.{RecastsSource};
+ghost use Rattle.liveviews.specs.Kept.{IsCounted, IsWritable, taken_rows};
 ghost use Rattle.liveviews.specs.Recast.{Recasts};
-ghost use Rattle.liveviews.specs.Steps.{AreTakenSo};
+ghost use Rattle.liveviews.specs.Steps.{AreTakenSo, IsRead};
 
+use crate::files::FileFault;
 use crate::laws::recast_law;
 use crate::table::Table;
 use std::alloc::Global;
+use std::io::Read;
 use stream_writer::{Sink, WriteFault};
 use thiserror::Error;
 use values::Cause;
@@ -51,6 +56,29 @@ impl From<WriteFault> for RecastFault {
     }
 }
 
+/// Why the stream that a source holds was not recast.
+#[derive(Clone, Copy, Debug, PartialEq, Eq)]
+pub enum SourceFault {
+    /// The source can't be read. Nothing was put.
+    Unreadable,
+    /// The stream was refused, or could not be written.
+    Refused(RecastFault),
+}
+
+impl From<FileFault> for SourceFault {
+    ghost use Rattle.std.specs.Prelude.{◌≡◌};
+    ghost use Rattle.liveviews.specs.Files.{source_fault_of};
+
+    ghost from_gives = { λ file fault. fault ≡ source_fault_of file };
+
+    fn from(fault: FileFault) -> SourceFault {
+        match fault {
+            FileFault::Unusable => SourceFault::Unreadable,
+            FileFault::Memory => SourceFault::Refused(RecastFault::from(Cause::Memory)),
+        }
+    }
+}
+
 /// Reads a whole stream and puts the canonical stream of its rows; answers how many bytes went out.
 ///
 /// Nothing is put before all of the input was accepted. Where several causes stand, any of them may come.
@@ -66,4 +94,35 @@ pub fn recast<S: Sink>(alloc: Global, input: &[u8], sink: &mut S) -> Result<u64,
     let table = Table::read(alloc, input)?;
     let written = table.rows.write(alloc, sink, &table.schema)?;
     Ok(written)
+}
+
+/// Puts the canonical stream of the table that was read of a stream, if one was.
+#[tactic(auto, using(crate::proofs::Recasts::puts))]
+fn put<S: Sink>(alloc: Global, read: Result<Table, Cause>, sink: &mut S) -> Result<u64, RecastFault>
+    requires within { IfOk read (λ t. IsTable t.schema.fields.items (taken_rows t.rows)) }
+    requires counted { IfOk read (λ t. IsCounted t.rows) }
+    requires kept { IfOk read (λ t. IsWritable t.schema.fields.items t.rows) }
+    ensures { (input : List ℕ) → IsRead read input → Recasts (S.sunk sink.old) (S.sunk sink.new) result (story_of input) }
+{
+    // It does nothing: the proof takes from it that what is written is read back.
+    recast_law();
+    let table = read?;
+    Ok(table.rows.write(alloc, sink, &table.schema)?)
+}
+
+/// Recasts the whole stream that a source holds, as [`recast`] does, reading it piece by piece.
+///
+/// Where a cause stands, what is behind it may be left unread.
+pub fn recast_from<R: Read, S: Sink>(
+    alloc: Global,
+    source: &mut R,
+    sink: &mut S,
+) -> Result<u64, SourceFault>
+    ensures { RecastsSource (R.remaining source.old) (S.sunk sink.old) (S.sunk sink.new) result }
+{
+    let read = Table::read_from(alloc, source)?;
+    match put(alloc, read, sink) {
+        Ok(written) => Ok(written),
+        Err(fault) => Err(SourceFault::Refused(fault)),
+    }
 }

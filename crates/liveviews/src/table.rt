@@ -1,25 +1,21 @@
 //! Reads a whole stream into a table.
 
-ghost use Rattle.std.specs.Prelude.{◌≡◌, ◌≤◌, ◌<◌, ◌++◌, All, IfErr, IfOk, OnOk, length};
+ghost use Rattle.std.specs.Prelude.{◌≡◌, ◌≤◌, ◌<◌, ◌++◌, ℕ, List, [], All, IfErr, IfOk, OnOk, drop, length};
 ghost use Rattle.liveviews.specs.Kept.{IsCounted, IsKeptSo, IsWritable, taken_rows};
 ghost use Rattle.schema_meta.specs.Story.{Story, story_of};
 ghost use Rattle.schema_meta.specs.Means.{Means};
 ghost use Rattle.stream_writer.specs.Table.{IsTable};
-ghost use Rattle.liveviews.specs.Steps.{
-  AreTakenSo,
-  GoesOn,
-  IsOpen,
-  Reached,
-  ReachedAfter,
-  Refuses,
-  IsComplete,
-  length_of,
-};
+ghost use Rattle.liveviews.specs.Source.{OfSource};
+ghost use Rattle.liveviews.specs.Steps.{AreTakenSo, HasTaken, HasTakenAll, IsComplete, IsOpen, IsRead, Refuses};
 
+use crate::files::FileFault;
+use crate::pieces::{read_piece, room};
 use crate::taken::Taken;
 use feed::{Fed, Feed, FeedEvent, cut_law, story_law};
+use messages::first_message_law;
 use schema_meta::{fields_law, logical_law};
 use std::alloc::Global;
+use std::io::Read;
 use values::{Cause, Schema};
 
 /// A table: its columns and its rows.
@@ -29,50 +25,104 @@ pub(crate) struct Table {
     pub rows: Taken,
 }
 
-/// The number of bytes that the first message used, and whether the stream goes on.
-enum Step {
-    Next(usize),
-    End(usize),
-}
-
-/// Takes the first message of `bytes`, which are all that is left of a stream.
+/// Takes the first message of a piece, or all of the piece where it ends before the message does, and returns how many
+/// bytes were used.
 ///
-/// What it says is said of any stream of which these rows were taken, and these bytes are left.
-fn take_message(feed: &mut Feed, bytes: &[u8], rows: &mut Taken) -> Result<Step, Cause>
-    requires between { IsOpen feed.old }
-    requires some { 0 < length bytes.now }
+/// What it says is said of any stream of which these rows were taken, whatever bytes come behind the piece.
+fn take_message(feed: &mut Feed, piece: &[u8], rows: &mut Taken) -> Result<usize, Cause>
+    requires open { IsOpen feed.old }
+    requires some { 0 < length piece.now }
     requires counted { IsCounted rows.old }
-    ensures counted { IfOk result (λ step. IsCounted rows.new) }
-    ensures kept { IfOk result (λ step. (s : Story) → Reached s feed.old (taken_rows rows.old) bytes.now
-        → IsKeptSo s.schema rows.old → IsKeptSo s.schema rows.new) }
-    ensures used { IfOk result (λ step. (0 < length_of step) × (length_of step ≤ length bytes.now)) }
-    ensures goes_on { IfOk result (GoesOn feed.new) }
-    ensures reached { IfOk result (λ step. (s : Story) → Reached s feed.old (taken_rows rows.old) bytes.now
-        → ReachedAfter s feed.new (taken_rows rows.new) bytes.now step) }
-    ensures refused { IfErr result (λ c. (s : Story) → Reached s feed.old (taken_rows rows.old) bytes.now
-        → Refuses s c) }
+    ensures open { OnOk result (IsOpen feed.new) }
+    ensures counted { OnOk result (IsCounted rows.new) }
+    ensures used { IfOk result (λ n. (0 < n) × (n ≤ length piece.now)) }
+    ensures taken { IfOk result (λ n. (s : Story) (later : List ℕ) → HasTaken s feed.old rows.old (piece.now ++ later)
+        → HasTaken s feed.new rows.new (drop n piece.now ++ later)) }
+    ensures refused { IfErr result (λ c. (s : Story) (later : List ℕ)
+        → HasTaken s feed.old rows.old (piece.now ++ later) → Refuses s c) }
 {
     // They do nothing: the proof takes from them what an event tells of the stream, and that it uses some bytes.
+    first_message_law();
     story_law();
     cut_law();
-    let fed = feed.push(bytes)?;
+    let fed = feed.push(piece)?;
     let Fed { used, event } = fed;
     let Some(event) = event else {
-        return Err(Cause::Truncated);
+        return Ok(used);
     };
     match event {
-        FeedEvent::Schema(_) => Ok(Step::Next(used)),
-        FeedEvent::Dictionary { .. } => Ok(Step::Next(used)),
+        FeedEvent::Schema(_) => Ok(used),
+        FeedEvent::Dictionary { .. } => Ok(used),
         FeedEvent::Batch {
             columns,
             rows: count,
             ..
         } => {
             rows.take(columns, count)?;
-            Ok(Step::Next(used))
+            Ok(used)
         }
-        FeedEvent::End => Ok(Step::End(used)),
+        FeedEvent::End => Ok(used),
     }
+}
+
+/// Takes all messages of a piece, and what it has of one more.
+fn take_messages(feed: &mut Feed, piece: &[u8], rows: &mut Taken) -> Result<(), Cause>
+    requires open { IsOpen feed.old }
+    requires counted { IsCounted rows.old }
+    ensures open { OnOk result (IsOpen feed.new) }
+    ensures counted { OnOk result (IsCounted rows.new) }
+    ensures taken { OnOk result ((s : Story) (later : List ℕ) → HasTaken s feed.old rows.old (piece.now ++ later)
+        → HasTaken s feed.new rows.new later) }
+    ensures refused { IfErr result (λ c. (s : Story) (later : List ℕ)
+        → HasTaken s feed.old rows.old (piece.now ++ later) → Refuses s c) }
+{
+    let mut rest = piece;
+    while !rest.is_empty() {
+        let used = take_message(feed, rest, rows)?;
+        rest = &rest[used..];
+    }
+    Ok(())
+}
+
+/// Takes all messages of a source.
+fn take_source<R: Read>(
+    alloc: Global,
+    feed: &mut Feed,
+    source: &mut R,
+    rows: &mut Taken,
+) -> Result<Result<(), Cause>, FileFault>
+    requires open { IsOpen feed.old }
+    requires counted { IsCounted rows.old }
+    requires begins { (input : List ℕ) → HasTaken (story_of input) feed.old rows.old input }
+    ensures open { IfOk result (λ all. OnOk all (IsOpen feed.new)) }
+    ensures counted { IfOk result (λ all. OnOk all (IsCounted rows.new)) }
+    ensures taken { IfOk result (λ all. OfSource (R.remaining source.old) (HasTakenAll feed.new rows.new all)) }
+{
+    let mut room = room(alloc)?;
+    let room = room.as_mut_slice();
+    for _ in 0..u64::MAX {
+        let len = read_piece(source, room)?;
+        if len == 0 {
+            return Ok(Ok(()));
+        }
+        if let Err(cause) = take_messages(feed, &room[..len], rows) {
+            return Ok(Err(cause));
+        }
+    }
+    Err(FileFault::Unusable)
+}
+
+/// Ends the input of a feed.
+fn end(feed: &mut Feed) -> Result<(), Cause>
+    requires open { IsOpen feed.old }
+    ensures complete { OnOk result ((s : Story) (t : Taken) → HasTaken s feed.old t []
+        → IsComplete s feed.new (taken_rows t)) }
+    ensures refused { IfErr result (λ c. (s : Story) (t : Taken) → HasTaken s feed.old t [] → Refuses s c) }
+{
+    // It does nothing: the proof takes from it what a stream tells that ends within a message.
+    story_law();
+    feed.finish()?;
+    Ok(())
 }
 
 /// The table at the end of its stream, of which these rows were taken.
@@ -96,31 +146,22 @@ fn finish(alloc: Global, feed: &Feed, rows: Taken) -> Result<Table, Cause>
     Ok(Table { schema, rows })
 }
 
-/// Takes all messages of `input`, which are all that is left of a stream.
-fn take_messages(feed: &mut Feed, input: &[u8], rows: &mut Taken) -> Result<(), Cause>
-    requires between { IsOpen feed.old }
-    requires counted { IsCounted rows.old }
-    ensures counted { OnOk result (IsCounted rows.new) }
-    ensures kept { OnOk result ((s : Story) → Reached s feed.old (taken_rows rows.old) input.now
-        → IsKeptSo s.schema rows.old → IsKeptSo s.schema rows.new) }
-    ensures complete { OnOk result ((s : Story) → Reached s feed.old (taken_rows rows.old) input.now
-        → IsComplete s feed.new (taken_rows rows.new)) }
-    ensures refused { IfErr result (λ c. (s : Story) → Reached s feed.old (taken_rows rows.old) input.now
-        → Refuses s c) }
+/// The table of a stream of which all messages were taken.
+fn complete(alloc: Global, feed: &mut Feed, rows: Taken) -> Result<Table, Cause>
+    requires open { IsOpen feed.old }
+    requires counted { IsCounted rows }
+    ensures means { IfOk result (λ t. (s : Story) → HasTaken s feed.old rows []
+        → Means s t.schema.fields.items (taken_rows t.rows)) }
+    ensures within { IfOk result (λ t. (s : Story) → HasTaken s feed.old rows []
+        → IsTable t.schema.fields.items (taken_rows t.rows)) }
+    ensures counted { IfOk result (λ t. IsCounted t.rows) }
+    ensures kept { IfOk result (λ t. (s : Story) → HasTaken s feed.old rows []
+        → IsWritable t.schema.fields.items t.rows) }
+    ensures accepted { OnOk result ((s : Story) → HasTaken s feed.old rows [] → AreTakenSo s.schema s.rows) }
+    ensures refused { IfErr result (λ c. (s : Story) → HasTaken s feed.old rows [] → Refuses s c) }
 {
-    let mut rest = input;
-    while !rest.is_empty() {
-        match take_message(feed, rest, rows)? {
-            Step::Next(used) => rest = &rest[used..],
-            Step::End(used) => {
-                if used < rest.len() {
-                    return Err(Cause::AfterEnd);
-                }
-                return Ok(());
-            }
-        }
-    }
-    Ok(())
+    end(feed)?;
+    finish(alloc, feed, rows)
 }
 
 impl Table {
@@ -136,11 +177,36 @@ impl Table {
         ensures accepted { OnOk result (AreTakenSo (story_of input.now).schema (story_of input.now).rows) }
         ensures refused { IfErr result (Refuses (story_of input.now)) }
     {
-        // It does nothing: the proof takes from it that nothing is told before the first byte.
+        // They do nothing: the proof takes from them that nothing is told before the first byte.
+        first_message_law();
         story_law();
         let mut feed = Feed::open(alloc, None);
         let mut rows = Taken::new(alloc);
         take_messages(&mut feed, input, &mut rows)?;
-        finish(alloc, &feed, rows)
+        complete(alloc, &mut feed, rows)
+    }
+
+    /// The table that the whole stream of a source means, which is read piece by piece, as [`Table::read`] says.
+    ///
+    /// The outer error is a source that can't be read, or want of memory.
+    pub fn read_from<R: Read>(
+        alloc: Global,
+        source: &mut R,
+    ) -> Result<Result<Table, Cause>, FileFault>
+        ensures read { IfOk result (λ read. OfSource (R.remaining source.old) (IsRead read)) }
+        ensures within { IfOk result (λ read. IfOk read (λ t. IsTable t.schema.fields.items (taken_rows t.rows))) }
+        ensures counted { IfOk result (λ read. IfOk read (λ t. IsCounted t.rows)) }
+        ensures kept { IfOk result (λ read. IfOk read (λ t. IsWritable t.schema.fields.items t.rows)) }
+    {
+        // They do nothing: the proof takes from them that nothing is told before the first byte.
+        first_message_law();
+        story_law();
+        let mut feed = Feed::open(alloc, None);
+        let mut rows = Taken::new(alloc);
+        let taken = take_source(alloc, &mut feed, source, &mut rows)?;
+        match taken {
+            Ok(()) => Ok(complete(alloc, &mut feed, rows)),
+            Err(cause) => Ok(Err(cause)),
+        }
     }
 }

@@ -5,7 +5,7 @@ ghost use Rattle.std.specs.Io.KnownBytes.{WriteAppends};
 
 use liveviews::{FileFault, Files};
 use std::fs;
-use std::io::{Error, ErrorKind, Write};
+use std::io::{Error, Write};
 use stream_writer::{DeviceFault, Sink};
 
 /// The machine's files. `put` writes the one that was named last, and makes it first.
@@ -40,7 +40,7 @@ impl<'a, R: std::rt::Files> Disk<'a, R> {
 
 impl<R: std::rt::Files + AllocGlobal> Disk<'_, R> {
     /// Makes the file that was named, if it is not there yet.
-    fn open(&mut self)
+    fn make(&mut self)
         ensures { self.new.failures ≡ self.old.failures }
     {
         let Output::Named(path) = &self.output else {
@@ -65,7 +65,7 @@ impl<R: std::rt::Files + AllocGlobal> Sink for Disk<'_, R> {
         if piece.is_empty() {
             return Ok(0);
         }
-        self.open();
+        self.make();
         let answer = match &mut self.output {
             Output::Open(file) => write_to(file, piece),
             _ => Err(DeviceFault),
@@ -84,8 +84,14 @@ impl<R: std::rt::Files + AllocGlobal> Files for Disk<'_, R> {
 
     ghost unmade = { λ s. s.fault };
 
+    type Input = R::File;
+
     fn read(&mut self, path: &str) -> Result<Vec<u8>, FileFault> {
         fs::read(self.runtime, path).map_err(fault_of)
+    }
+
+    fn open(&mut self, path: &str) -> Result<R::File, FileFault> {
+        fs::open(self.runtime, path).map_err(fault_of)
     }
 
     fn create(&mut self, path: &str) -> Result<(), FileFault> {
@@ -116,8 +122,5 @@ fn write_to<F: Write>(file: &mut F, piece: &[u8]) -> Result<usize, DeviceFault>
 }
 
 fn fault_of(error: Error) -> FileFault {
-    match error.kind() {
-        ErrorKind::OutOfMemory => FileFault::Memory,
-        _ => FileFault::Unusable,
-    }
+    FileFault::from(error)
 }

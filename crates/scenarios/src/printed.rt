@@ -5,6 +5,8 @@ ghost use Rattle.std.specs.Prelude.{◌≡◌};
 use crate::sample::SAMPLE;
 use liveviews::{FileFault, Files, lv};
 use std::alloc::Global;
+use std::io;
+use std::io::Read;
 use std::process::Abort;
 use std::test::Fail;
 use stream_writer::{DeviceFault, Sink};
@@ -60,12 +62,31 @@ impl Sink for Shelf<'_> {
     }
 }
 
-impl Files for Shelf<'_> {
+/// A file that is read a few bytes at a time.
+#[derive(Drop)]
+struct Bites<'a> {
+    left: &'a [u8],
+}
+
+impl Read for Bites<'_> {
+    ghost use Rattle.std.specs.Prelude.{Some};
+
+    ghost remaining = { λ b. Some b.left.now };
+
+    fn read(&mut self, room: &mut [u8]) -> io::Result<usize> {
+        let most = room.len().min(7);
+        self.left.read(&mut room[..most])
+    }
+}
+
+impl<'a> Files for Shelf<'a> {
     ghost use Rattle.std.specs.Prelude.{Some};
 
     ghost content = { λ s _. Some s.input.now };
 
     ghost unmade = { λ s. s.fault };
+
+    type Input = Bites<'a>;
 
     fn read(&mut self, path: &str) -> Result<Vec<u8>, FileFault> {
         if path != "in" {
@@ -76,6 +97,13 @@ impl Files for Shelf<'_> {
             Ok(()) => Ok(bytes),
             Err(_) => Err(FileFault::Memory),
         }
+    }
+
+    fn open(&mut self, path: &str) -> Result<Bites<'a>, FileFault> {
+        if path != "in" {
+            return Err(FileFault::Unusable);
+        }
+        Ok(Bites { left: self.input })
     }
 
     fn create(&mut self, path: &str) -> Result<(), FileFault> {

@@ -1,0 +1,40 @@
+//! A source of bytes that is read piece by piece.
+
+ghost use Rattle.std.specs.Prelude.{◌≡◌, ◌<◌, ◌≤◌, IfOk, length, take};
+ghost use Rattle.std.specs.Io.KnownBytes.{Consumes, IsAtEnd};
+
+use crate::files::FileFault;
+use std::alloc::{AllocError, Global};
+use std::io::{ErrorKind, Read};
+
+/// How many bytes a piece has at most.
+const PIECE_LEN: usize = 1 << 22;
+
+/// Makes the room that each piece of a source is read into.
+pub(crate) fn room(alloc: Global) -> Result<Vec<u8>, AllocError>
+    ensures { IfOk result (λ room. 0 < length room.items) }
+{
+    vec![in alloc; 0; PIECE_LEN]
+}
+
+/// Reads the next bytes of a source to the front of `room`, and answers how many. In some room there are none only at
+/// the source's end.
+pub(crate) fn read_piece<R: Read>(source: &mut R, room: &mut [u8]) -> Result<usize, FileFault>
+    ensures within { IfOk result (λ n. n ≤ length room.new) }
+    ensures took { IfOk result
+        (λ n. Consumes (R.remaining source.old) (R.remaining source.new) (take n room.new)) }
+    ensures end { IfOk result (λ n. n ≡ 0 → 0 < length room.old → IsAtEnd (R.remaining source.new)) }
+{
+    // A read that a signal interrupts takes nothing, and is tried again.
+    for _ in 0..u64::MAX {
+        match source.read(room) {
+            Ok(len) => return Ok(len),
+            Err(error) => {
+                if error.kind() != ErrorKind::Interrupted {
+                    return Err(FileFault::from(error));
+                }
+            }
+        }
+    }
+    Err(FileFault::Unusable)
+}
