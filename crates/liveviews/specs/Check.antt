@@ -13,12 +13,12 @@ use Rattle.view_config.specs.declared.faults.ConfigFault.{ConfigFault}
 abbrev pub MeansConfig : List ℕ → Config → Type 0
 MeansConfig bytes c = text_means bytes ≡ Ok c
 
--- A cause for which they mean none: they are no text, or a fault stands in it, or memory ran out.
+-- A cause for which bytes mean none: they aren't UTF-8, or a fault stands in the text, or memory ran out.
 abbrev pub RefusesConfig : List ℕ → Cause → Type 0
 RefusesConfig bytes c = ((c ≡ cause.NotToml) × ¬ (IsUtf8 bytes))
     ⊎ ((f : ConfigFault) × (c ≡ cause_of f) × Fails f (text_means bytes))
 
--- A file, where it tells what it holds, has a configuration with so many feeds and views.
+-- A file has a configuration with this many feeds and views, where it is known what it holds.
 abbrev pub ChecksFile : Option (List ℕ) → ℕ → ℕ → Type 0
 ChecksFile None feeds views = Unit {0}
 ChecksFile (Some bytes) feeds views =

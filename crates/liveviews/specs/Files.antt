@@ -11,7 +11,7 @@ use Rattle.liveviews.specs.declared.recasting.RecastFault.{RecastFault}
 use Rattle.liveviews.specs.declared.recasting.SourceFault.{SourceFault}
 use Rattle.liveviews.specs.declared.recasting.SourceFault.TheVariants as source
 
--- what was read is what the file holds, where that is told
+-- what was read is what the file holds, where that is known
 abbrev pub IsContent : Option (List ℕ) → List ℕ → Type 0
 IsContent None bytes = Unit {0}
 IsContent (Some held) bytes = bytes ≡ held
@@ -40,7 +40,7 @@ pub record MakesNone (held : Option (List ℕ)) (old new : Sunk) (unmade : Optio
   pub written : ℕ
   pub recasts : RecastsFile held old new (Err (record { cause = cause.Device; written = written }))
 
--- These bytes were read of a file that holds `held`, and this text and this status tell them.
+-- These bytes were read of a file that holds `held`, and this text and this status are those of their lines.
 pub record InspectsFile (held : Option (List ℕ)) (text : List ℕ) (status : ℕ) : Type 0 where
   pub input : List ℕ
   pub read : IsContent held input

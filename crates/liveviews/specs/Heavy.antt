@@ -7,7 +7,7 @@ use Rattle.values.specs.Rose.{Roses, none, more}
 use Rattle.values.specs.declared.layout.Layout.{Layout}
 use Rattle.arrays.specs.Checked.{CheckedColumn}
 
--- the weight of a row of columns that lie so: the sum of its cells
+-- the weight of a row of columns of these layouts: the sum of its cells
 abbrev pub row_weight : Roses Layout → List Datum → ℕ
 row_weight ls row = items_weight ls (items_of row)
 

@@ -31,7 +31,7 @@ last_line _ = []
 abbrev pub last_in : FeedState → Reading (List ℕ)
 last_in s = mapped (λ u. last_line s.condition) (finishing_when s.condition (stream_in (retained_in s)))
 
--- what is told of a transcript: the lines of its events, in their order
+-- the account of a transcript: the lines of its events, in their order, and its end
 abbrev pub account_in : Transcript → Account
 account_in t = record { lines = flat_map event_lines t.events; end = t.end >>= last_in }
 
@@ -56,7 +56,7 @@ status_where (Err fs) = 1
 abbrev pub EndsAlike : Type 0
 EndsAlike = (bytes : List ℕ) → mapped (λ last. tt) (account_of bytes).end ≡ (story_of bytes).end
 
--- This text and this status tell the account.
+-- This text and this status are those of the account.
 pub record Tells (a : Account) (text : List ℕ) (status : ℕ) : Type 0 where
   pub last : List ℕ
   pub whole : text ≡ a.lines ++ last

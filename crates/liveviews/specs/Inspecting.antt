@@ -1,4 +1,4 @@
--- Where an inspection stands.
+-- How far an inspection has come.
 use Rattle.std.specs.Prelude.{◌≡◌, ◌⊎◌, ℕ, Bool, false, List, [], None, Result, Ok, Err, if◌then◌else◌, string_bytes}
 use Rattle.values.specs.Reading.{Stands}
 use Rattle.values.specs.declared.faults.StreamFault.{StreamFault}

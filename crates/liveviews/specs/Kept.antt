@@ -1,4 +1,4 @@
--- What is kept of a stream beside its rows.
+-- What holds of the batches that were taken of a stream.
 use Rattle.std.specs.Prelude.{◌≡◌, ℕ, ◌<◌, ◌≤◌, All, List, length, Option, None, Some}
 use Rattle.values.specs.Datum.{Datum}
 use Rattle.values.specs.Rose.{Rose, Roses}
@@ -34,7 +34,7 @@ AreLightUpTo ls columns n most = (k : ℕ) → k < n → IsLight ls (row_at colu
 abbrev pub HasSizes : Batch → Type 0
 HasSizes b = All (λ (c : CheckedColumn). length c.cells ≡ b.rows) b.columns.items
 
--- each batch has so many columns, and no row is heavier than is said
+-- each batch has n columns, and no row is heavier than `heaviest`
 pub record IsKept (n : ℕ) (ls : Roses Layout) (t : Taken) : Type 0 where
   pub sized : All (IsSized n) t.batches.items
   pub light : All (λ (row : List Datum). row_weight ls row ≤ t.heaviest) (taken_rows t)

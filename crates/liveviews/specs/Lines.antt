@@ -26,13 +26,13 @@ use Rattle.schema_meta.specs.Entry.{Entry}
 use Rattle.schema_meta.specs.declared.encoding.DictionaryEncoding.{DictionaryEncoding}
 use Rattle.feed.specs.Events.{Event, batch, dictionary, ended, schema}
 
--- a type's text says what stands below it
+-- a type whose text has those of its children
 abbrev pub is_nested : ColType → Bool
 is_nested (stored.List o) = true
 is_nested stored.Struct = true
 is_nested _ = false
 
--- A struct's parts are named, a list's items aren't.
+-- The children of a struct are named, the items of a list aren't.
 abbrev pub label_text : ColType → List ℕ → List ℕ
 label_text stored.Struct name = name ++ codes ": "
 label_text _ name = []

@@ -40,7 +40,7 @@ use Rattle.liveviews.specs.declared.program.Refusal.{Refusal}
 use Rattle.liveviews.specs.declared.program.Refusal.TheVariants as refusal
 use Rattle.liveviews.specs.declared.recasting.RecastFault.{RecastFault}
 
--- what is asked is of the file, or the files, that the words give
+-- the command is over the file, or the files, that the arguments name
 abbrev pub AsksInspect : Found → FileCommand → Type 0
 AsksInspect words (command.Inspect file) = first_value words (codes "FILE") ≡ Some file.now
 AsksInspect words _ = ⊥
@@ -54,17 +54,17 @@ abbrev pub AsksCheck : Found → FileCommand → Type 0
 AsksCheck words (command.Check config) = first_value words (codes "CONFIG") ≡ Some config.now
 AsksCheck words _ = ⊥
 
--- the first word is `run`
+-- the first argument is `run`
 abbrev pub AsksRun : {Z : Type 0} → List (String Z) → Type 0
 AsksRun [] = ⊥
 AsksRun (w ∷ ws) = string_bytes w ≡ codes "run"
 
--- A script is run only where the words ask for it.
+-- A script is run only where the arguments ask for it.
 abbrev pub IsAllowed : {Z : Type 0} → List (String Z) → Asked → Type 0
 IsAllowed words (asked.File c) = Unit {0}
 IsAllowed words (asked.Script config script) = AsksRun words
 
--- words that ask for nothing, or memory was refused before a file was read
+-- arguments that are no command, or memory was refused before a file was read
 abbrev pub IsUnread : Refusal → Type 0
 IsUnread refusal.WrongUse = Unit {0}
 IsUnread (refusal.Refused c) = c ≡ cause.Memory
@@ -83,15 +83,14 @@ IsUnreadable (refusal.Refused c) = c ≡ cause.Memory
 IsUnreadable (refusal.CannotRead path) = Unit {0}
 IsUnreadable (refusal.CannotWrite path) = ⊥
 
--- Words that can't be read: for want of memory, or else they ask for nothing.
+-- arguments that can't be read: for want of memory, or they are no command
 abbrev pub IsRefusedAs : ErrorKind → Refusal → Type 0
 IsRefusedAs kind r =
     ((kind ≡ kinds.OutOfMemory) × (r ≡ refusal.Refused cause.Memory))
     ⊎ ((kind ≢ kinds.OutOfMemory) × (r ≡ refusal.WrongUse))
 
 -- A cause that the command names: memory was refused outside of recasting, or it stands in a configuration, or
--- recasting
--- stopped for it.
+-- recasting stopped for it.
 abbrev pub StopsFor : Option (List ℕ) → Sunk → Sunk → Option FileFault → Cause → Type 0
 StopsFor held old new unmade c =
     ((c ≡ cause.Memory) × (new ≡ old)) ⊎ (RefusesFile held c × (new ≡ old)) ⊎ ((c ≡ cause.Memory)
@@ -147,11 +146,11 @@ status_of (refusal.CannotRead path) = 1
 status_of (refusal.CannotWrite path) = 1
 status_of (refusal.Refused c) = 1
 
--- what is printed where so many bytes were put
+-- the line that is printed where n bytes were put
 abbrev pub line_of : ℕ → List ℕ
 line_of n = codes "wrote " ++ decimal n ++ 10 ∷ []
 
--- the line of a configuration with so many feeds and views
+-- the line of a configuration with these numbers of feeds and views
 abbrev pub counts_of : ℕ → ℕ → List ℕ
 counts_of feeds views = codes "ok: " ++ (decimal feeds ++ (codes " feeds, " ++ (decimal views ++ (codes " views" ++ 10
     ∷ []))))
@@ -166,7 +165,7 @@ status_after (outcome.Inspected i) = i.status
 status_after (outcome.Recast n) = 0
 status_after (outcome.Checked feeds views) = 0
 
--- the words asked for nothing
+-- the arguments were no command
 abbrev pub IsWrongUse : Result Outcome Refusal → Type 0
 IsWrongUse (Err refusal.WrongUse) = Unit {0}
 IsWrongUse _ = ⊥

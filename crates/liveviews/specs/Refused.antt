@@ -1,4 +1,4 @@
--- Why the rows of a batch, or of a whole stream, are not taken.
+-- Why the rows of a batch, or of a whole stream, are refused.
 use Rattle.std.specs.Prelude.{◌≡◌, ℕ, ◌+◌, ◌<◌, List, length, Any}
 use Rattle.values.specs.Limits.{max_main_rows}
 use Rattle.values.specs.Datum.{Datum}

@@ -1,4 +1,4 @@
--- What reading a stream event by event tells of the whole stream.
+-- A stream that is read event by event, and the reading of the whole.
 use Rattle.std.specs.Prelude.{◌≡◌, ◌⊎◌, ℕ, ◌++◌, ◌<◌, false, List, [], Option, None, Some, Result, Ok, Err, Any, length}
 use Rattle.values.specs.Limits.{max_main_rows}
 use Rattle.values.specs.Datum.{Datum}
@@ -22,7 +22,7 @@ use Rattle.liveviews.specs.Kept.{IsKeptSo, taken_rows}
 use Rattle.liveviews.specs.declared.table.Table.{Table}
 use Rattle.liveviews.specs.declared.taken.Taken.{Taken}
 
--- the stream tells these rows, and then what these bytes tell where so much is kept
+-- the reading of the stream is these rows, and then the reading of these bytes after those of which this is kept
 abbrev pub Tells : Story → List (List Datum) → Retained → List ℕ → Type 0
 Tells s rows k bytes = s ≡ after_rows rows (rest_story k bytes)
 
@@ -75,7 +75,7 @@ Reached s f rows rest = GoesOn s f rows rest ⊎ Ended s f rows rest
 abbrev pub HasTaken : Story → FeedParts → Taken → List ℕ → Type 0
 HasTaken s f t rest = Reached s f (taken_rows t) rest × IsKeptSo s.schema t
 
--- The stream told these rows and no more, and ends like an input.
+-- The stream has these rows and no more, and its input may end here.
 pub record IsComplete (s : Story) (f : FeedParts) (rows : List (List Datum)) : Type 0 where
   pub state : FeedState
   pub shows : Shows f state

@@ -1,4 +1,4 @@
--- Rows that are taken from a batch, and rows that are refused.
+-- Rows of a batch that are accepted, and rows that are refused.
 use Rattle.std.specs.Prelude.{ℕ, ◌<◌, ◌≤◌, All, List, length, map, Vec}
 use Rattle.std.specs.declared.alloc.Global.{Global}
 use Rattle.values.specs.Limits.{max_main_rows}

@@ -15,7 +15,7 @@ use std::alloc::{AllocError, Global};
 use values::Row;
 use values::limits::{MAX_CELL_WEIGHT, MAX_ROW_WEIGHT};
 
-/// Row `index`.
+/// A copy of row `index` of these columns.
 #[tactic(auto, using(crate::proofs::Batches::cells))]
 pub(crate) fn read_row(alloc: Global, columns: &[Column], index: usize) -> Result<Row, AllocError>
     requires { All (λ c. index < length c.cells) columns.now }
@@ -29,7 +29,8 @@ pub(crate) fn read_row(alloc: Global, columns: &[Column], index: usize) -> Resul
     Ok(row)
 }
 
-/// The weight of row `index`, or `None` if a cell of it or the row as a whole is above the limit. Nothing is copied for it.
+/// The weight of row `index`, or `None` if one of its cells is above the limit of a cell, or the row is above that of a
+/// row. Nothing is copied.
 #[tactic(auto, using(crate::proofs::WeightLemmas::weighing))]
 fn weigh_row(columns: &[Column], index: usize) -> Option<u64>
     requires { All (λ c. index < length c.cells) columns.now }
@@ -50,7 +51,7 @@ fn weigh_row(columns: &[Column], index: usize) -> Option<u64>
     Some(sum)
 }
 
-/// Whether in each column all cells weigh the same.
+/// Whether all rows weigh the same: in each column all cells do.
 fn are_uniform(columns: &[Column]) -> bool
     ensures { result ≡ true → All IsUniform columns.now }
 {
@@ -73,7 +74,7 @@ fn weigh_alike(columns: &[Column], count: usize) -> Option<u64>
     weigh_row(columns, 0)
 }
 
-/// A weight that none of the first `count` rows passes, or `None` if one of them is too heavy.
+/// A weight that none of the first `count` rows is above, or `None` if one of them is too heavy.
 pub(crate) fn heaviest_row(columns: &[Column], count: usize) -> Option<u64>
     requires { All (λ c. length c.cells ≡ count) columns.now }
     ensures heavy { result ≡ None → HasHeavyRow (layouts_in columns.now) (cells_in columns.now) count }
@@ -109,7 +110,7 @@ pub(crate) fn copy_rows(
     Ok(())
 }
 
-/// The layouts of the columns hold their cells: a function that does nothing.
+/// Each cell is a value of its column's layout. It does nothing: its contract is the theorem.
 #[tactic(auto, using(crate::proofs::KeptLemmas::holding))]
 pub(crate) fn columns_law(columns: &[Column])
     ensures { All HoldsCells columns.now }

@@ -9,7 +9,8 @@ use values::Cause;
 use view_config::read_config;
 use view_lang::Config;
 
-/// Reads a configuration from the bytes of a file. Bytes that aren't UTF-8 are `NotToml` too.
+/// Reads a configuration from the bytes of a file. The error is the cause of a fault of the text, `NotToml` also for
+/// bytes that aren't UTF-8, or `Memory`.
 pub(crate) fn parse_config(alloc: Global, bytes: &[u8]) -> Result<Config, Cause>
     ensures means { IfOk result (MeansConfig bytes.now) }
     ensures rules { IfOk result IsConfig }

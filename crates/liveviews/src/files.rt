@@ -42,9 +42,9 @@ impl From<AllocError> for FileFault {
 
 /// The files that `lv` works on: those of the machine, or in a test those of a map.
 ///
-/// As a [`Sink`] it writes the file that `create` named last. That file is made, or emptied, at the first
-/// put of some bytes, so that one that nothing is put to is left as it was. Where it can't be made, that put fails,
-/// and `fault` says why.
+/// As a [`Sink`] it writes the file that `create` named last. That file is made, or emptied, when the first bytes are
+/// put, so that a file to which nothing is put is left as it was. Where it can't be made, that put fails, and `fault`
+/// says why.
 pub trait Files: Sink {
     ghost use Rattle.std.specs.Prelude.{◌≡◌, ℕ, List, Option};
     ghost use Rattle.liveviews.specs.Files.{IsContent};
@@ -71,7 +71,8 @@ pub trait Files: Sink {
         ensures content { IfOk result
             (λ input. HoldsFile (content self.old path.now) (Self.Input.remaining input)) };
 
-    /// Names the file that `put` makes and writes. An error leaves the one that was named before.
+    /// Names the file that the following puts make and write. After an error the file that was named before stays
+    /// named.
     fn create(&mut self, path: &str) -> Result<(), FileFault>
         ensures sunk { Self.sunk self.new ≡ Self.sunk self.old }
         ensures named { OnOk result (unmade self.new ≡ None) };

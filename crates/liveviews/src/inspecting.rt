@@ -64,7 +64,7 @@ impl Inspection {
     }
 
     /// Takes the first message of a piece, or all of the piece where it ends before the message does, and returns how
-    /// many bytes were used. What is said holds whatever bytes come behind the piece.
+    /// many bytes were used. What is said holds whatever bytes come after the piece.
     fn take(&mut self, piece: &[u8]) -> Result<usize, StreamFault>
         requires open { IsOpen self.old }
         requires some { 0 < length piece.now }
@@ -129,7 +129,7 @@ impl Inspection {
         ensures fault { IfErr result (λ f. (a : Account) → IsLeft a self.old []
             → Breaks a (string_bytes self.new.text) f) }
     {
-        // It does nothing: the proof takes from it that nothing is told where no byte is left.
+        // It does nothing: the proof takes from it that there is no event where no byte is left.
         pieces_law();
         self.feed.finish()?;
         if !self.ended {
@@ -138,7 +138,7 @@ impl Inspection {
         Ok(())
     }
 
-    /// Takes a whole stream, and writes the line of its end.
+    /// Writes the lines of a whole stream, with the line of its end.
     fn run(&mut self, input: &[u8]) -> Result<(), StreamFault>
         requires fresh { IsFresh self.old }
         ensures complete { OnOk result (Tells (account_of input.now) (string_bytes self.new.text) 0) }
@@ -193,8 +193,8 @@ fn told(mut text: String, ran: Result<(), StreamFault>) -> Result<Inspected, All
 
 /// Describes each message of a whole stream.
 ///
-/// Where a fault stands, the lines of the messages before it come first. Nothing is said of rows that are too many or
-/// too heavy for `recast`. The error is want of memory.
+/// Where a fault stands, the lines of the messages before it come first. The limits on rows and on their weights, 44
+/// and 45, are not checked. The error is want of memory.
 pub fn inspect(alloc: Global, input: &[u8]) -> Result<Inspected, AllocError>
     ensures tells { IfOk result (λ i. Tells (account_of input.now) (string_bytes i.text) i.status) }
     ensures status { IfOk result (λ i. i.status ≡ status_where (story_of input.now).end) }

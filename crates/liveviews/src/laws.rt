@@ -8,7 +8,7 @@ use messages::message_law;
 use schema_meta::{fields_law, logical_law};
 use stream_writer::canon_law;
 
-/// The account of a stream ends with the faults that stand in its reading, or with none.
+/// The lines of a stream end with a fault exactly where one stands in its reading, and with one of those that stand.
 pub fn account_law()
     ensures { EndsAlike }
 {

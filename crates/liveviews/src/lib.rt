@@ -1,5 +1,5 @@
-//! `recast`, `inspect`, and the program `lv` over words and files that its caller hands in: those two, `check` of a configuration, and
-//! `run` of a script over a session.
+//! The commands of the program `lv`, over arguments, files and an output that its caller gives: `recast` and `inspect`
+//! of a stream, `check` of a configuration, and `run` of a script over a session.
 #![tactic(auto)]
 
 mod batch;

@@ -21,7 +21,7 @@ use feed::{Fed, FeedEvent};
 use schema_meta::{DictionaryEncoding, Field, StreamSchema};
 use std::alloc::AllocError;
 
-/// Writes the dictionary of a column, if it has one.
+/// Writes ` dict=` and the id of a column's dictionary, if it has one.
 fn write_encoding(text: &mut String, encoding: Option<DictionaryEncoding>) -> Result<(), AllocError>
     ensures { OnOk result (string_bytes text.new ≡ string_bytes text.old ++ encoding_text encoding) }
 {
@@ -106,7 +106,7 @@ pub(crate) fn write_fed(text: &mut String, fed: &Fed) -> Result<(), AllocError>
     }
 }
 
-/// Whether the end mark has come, where it had come before or not.
+/// Whether the end mark has come: before, or with this push.
 pub(crate) fn is_ended(before: bool, fed: &Fed) -> bool
     ensures { result ≡ ended_after before (option_map event_seen fed.now.event) }
 {

@@ -1,4 +1,4 @@
-//! The program `lv`, over words, files and an output that its caller hands in.
+//! The program `lv`, over arguments, files and an output that its caller gives.
 
 ghost use Rattle.std.specs.Prelude.{◌≡◌, ◌≤◌, ◌⊎◌, IfErr, IfOk, IfSome, string_bytes, true};
 ghost use Rattle.clap.specs.Words.{found_of};
@@ -93,7 +93,7 @@ impl fmt::Display for Outcome {
     }
 }
 
-/// Why a command did not do what was asked. It displays as the line that `lv` prints.
+/// Why a command failed. Its text is the line that `lv` prints.
 #[derive(Debug, Drop, Error)]
 enum Refusal<'a> {
     #[error("wrong use")]
@@ -117,7 +117,7 @@ impl<'a> Refusal<'a> {
         }
     }
 
-    /// The refusal of a file at `path` that could not be made.
+    /// The refusal where the file at `path` could not be made.
     fn unmade(fault: FileFault, path: &'a str) -> Refusal<'a>
         ensures { result ≡ unmade_for (CannotWrite path.entry) fault }
     {
@@ -154,7 +154,7 @@ impl<'a> From<clap::Error> for Refusal<'a> {
     }
 }
 
-/// The commands and their words, as `clap` reads them.
+/// The commands and their arguments, for `clap`.
 fn command<'a>(alloc: Global) -> Result<Command<'a>, AllocError> {
     let inspect = Command::new(alloc, "inspect").arg(required(alloc, "FILE"))?;
     let recast = Command::new(alloc, "recast")
@@ -177,7 +177,7 @@ fn required<'a>(alloc: Global, name: &'a str) -> Arg<'a> {
     Arg::new(alloc, name).required(true).action(ArgAction::Set)
 }
 
-/// Whether the first word is `run`.
+/// Whether the first argument is `run`.
 fn is_run(words: &[String]) -> bool
     ensures { result ≡ true → AsksRun words.now }
 {
@@ -268,7 +268,7 @@ fn open_file<'a, F: Files>(path: &'a str, files: &mut F) -> Result<F::Input, Ref
     }
 }
 
-/// Says of the file at `path` what it holds, message by message.
+/// Inspects the file at `path`.
 fn inspect_file<'a, F: Files>(
     alloc: Global,
     path: &'a str,
@@ -285,8 +285,7 @@ fn inspect_file<'a, F: Files>(
     }
 }
 
-/// Recasts the file at `from`, and puts what comes of it to the file at `to`, which is made once there is something to
-/// put.
+/// Recasts the file at `from` to the file at `to`, which is made when the first bytes are put.
 fn recast_file<'a, F: Files>(
     alloc: Global,
     from: &'a str,
@@ -306,7 +305,7 @@ fn recast_file<'a, F: Files>(
     }
 }
 
-/// The refusal of a recast that stopped: a file that could not be made is named.
+/// The refusal of a recast that failed: `CannotWrite` where the file at `to` could not be made.
 fn stopped<'a, F: Files>(files: &F, fault: RecastFault, to: &'a str) -> Refusal<'a>
     ensures { IsStopped (CannotWrite to.entry) (F.unmade files.now) fault.cause result }
 {
@@ -373,7 +372,7 @@ fn open_script<'a, F: Files>(
     Ok((session, read_file(script, files)?))
 }
 
-/// Prints what a command came to, and answers the program's exit status.
+/// Prints the outcome of a command, and returns the program's exit status.
 fn end<W: Write>(came: Result<Outcome, Refusal>, out: &mut W) -> u8
     requires { IfOk came (λ o. status_after o ≤ 1) }
     ensures done { result ≡ 0 → IsPrinted came.entry (W.contents out.old) (W.contents out.new) }
@@ -390,11 +389,11 @@ fn end<W: Write>(came: Result<Outcome, Refusal>, out: &mut W) -> u8
     }
 }
 
-/// Does what `words` ask for (the program's arguments without its own name), and prints to `out`: the lines of
-/// `inspect` or of a script, or one line.
+/// Runs the command that `words`, the program's arguments without its own name, ask for. It prints to `out`: the lines
+/// of `inspect` or of a script, or one line.
 ///
-/// Answers the program's exit status: 0 done, 1 refused or a print that failed, 2 words that ask for nothing that `lv`
-/// does, or a script with a wrong line.
+/// Returns the program's exit status: 0 where all was done, 1 where something was refused or could not be printed, 2
+/// for arguments that are no command, or a script with a wrong line.
 pub fn lv<F: Files, W: Write>(alloc: Global, words: &[String], files: &mut F, out: &mut W) -> u8
     ensures done { result ≡ 0 → AsksRun words.now
         ⊎ IsDone (F.content files.old) (F.sunk files.old) (F.sunk files.new) (W.contents out.old) (W.contents out.new) }

@@ -17,7 +17,7 @@ use stream_writer::{Sink, WriteFault};
 use thiserror::Error;
 use values::Cause;
 
-/// Why a stream was not recast. `written` bytes of the output went out before, a beginning of it.
+/// Why a stream was not recast. The sink took the first `written` bytes of the canonical stream.
 #[derive(Clone, Copy, Debug, PartialEq, Eq, Error)]
 #[error("refused {number} {name}", number = .cause.number(), name = .cause)]
 pub struct RecastFault {
@@ -25,7 +25,7 @@ pub struct RecastFault {
     pub written: u64,
 }
 
-/// A cause before anything was put.
+/// The fault of a cause that stands before anything is put.
 impl From<Cause> for RecastFault {
     ghost use Rattle.std.specs.Prelude.{◌≡◌};
 
@@ -79,9 +79,10 @@ impl From<FileFault> for SourceFault {
     }
 }
 
-/// Reads a whole stream and puts the canonical stream of its rows; answers how many bytes went out.
+/// Reads a whole stream, puts the canonical stream of its table, and returns how many bytes that has.
 ///
-/// Nothing is put before all of the input was accepted. Where several causes stand, any of them may come.
+/// The error is a fault of the stream, `TooManyRows`, `CellTooHeavy`, `Memory` or `Device`; where several stand, any of
+/// them. Nothing is put before all of the input was accepted.
 #[tactic(auto, using(crate::proofs::Recasts::recasts))]
 pub fn recast<S: Sink>(alloc: Global, input: &[u8], sink: &mut S) -> Result<u64, RecastFault>
     ensures recasts { Recasts (S.sunk sink.old) (S.sunk sink.new) result (story_of input.now) }

@@ -1,4 +1,4 @@
-//! `run`: does what the lines of a script ask of a session.
+//! `run`: runs a script over a session.
 
 ghost use Rattle.std.specs.Prelude.{◌≡◌, ◌≤◌};
 
@@ -23,7 +23,7 @@ enum Answer<'a> {
 }
 
 impl Answer<'_> {
-    /// Whether the command did what it was asked for.
+    /// Whether the command succeeded.
     fn is_done(&self) -> bool {
         match self {
             Answer::Event(_) | Answer::Finished | Answer::Undone | Answer::Wrote(_) => true,
@@ -52,7 +52,8 @@ impl fmt::Display for Answer<'_> {
     }
 }
 
-/// A run of a script: its session, the number of the line at work, and whether all lines did what they were asked for.
+/// A run of a script: its session, the number of the current line, and whether all commands and prints so far
+/// succeeded.
 #[derive(Drop)]
 struct Run {
     session: Session,
@@ -67,8 +68,8 @@ impl Run {
         self.is_clean = self.is_clean && is_printed && answer.is_done();
     }
 
-    /// Pushes a piece. Answers how many of its bytes were used, where the pushing goes on: after an event, and after an edit that
-    /// doesn't fit.
+    /// Pushes a piece and prints what it gives. Returns how many of its bytes were used, or `None` after a refusal that
+    /// used none.
     fn push_piece<W: Write>(&mut self, feed: &str, piece: &[u8], out: &mut W) -> Option<usize> {
         match self.session.push(feed, piece) {
             Ok(Pushed { used, event }) => {
@@ -87,7 +88,7 @@ impl Run {
     /// Pushes bytes to a feed, at least once, until all are used or they are refused.
     fn push_all<W: Write>(&mut self, feed: &str, bytes: &[u8], out: &mut W) {
         let mut left = bytes;
-        // Each push but the last uses a byte at least.
+        // Each push but the last uses at least one byte.
         for _ in 0..bytes.len().saturating_add(1) {
             let Some(used) = self.push_piece(feed, left, out) else {
                 return;
@@ -163,7 +164,7 @@ impl Run {
     }
 }
 
-/// The bytes from a place on, at most so many of them, cut at the end.
+/// The bytes from place `part.0` on, at most `part.1` of them.
 fn cut(bytes: &[u8], part: (u64, u64)) -> &[u8] {
     let (from, len) = part;
     let start = from.min(bytes.len() as u64);
@@ -183,7 +184,7 @@ fn first_wrong_line(script: &[u8]) -> Option<usize> {
     None
 }
 
-/// Does what the lines of a script ask for, and prints what each comes to. Answers the program's exit status: 2 where a line is
+/// Runs the lines of a script, and prints the answers to each. Returns the program's exit status: 2 where a line is
 /// wrong, which is then all that is printed, 1 where a command was refused or a print failed, and 0 otherwise.
 pub(crate) fn run_script<F: Files, W: Write>(
     session: Session,

@@ -1,8 +1,8 @@
-//! Scripts: what each line asks for.
+//! Reads the lines of scripts.
 
 use std::str::Split;
 
-/// What a line of a script asks for.
+/// A command of a script.
 #[derive(Clone, Copy, Debug, PartialEq, Eq)]
 pub(crate) enum Command<'a> {
     /// Pushes a file to a feed until all of it is used.
@@ -10,7 +10,7 @@ pub(crate) enum Command<'a> {
         name: &'a str,
         path: &'a str,
     },
-    /// The same with `len` bytes of the file from place `from` on, cut at its end.
+    /// Pushes the `len` bytes of the file from place `from` on, or as many as it has.
     Piece {
         name: &'a str,
         path: &'a str,
@@ -21,7 +21,7 @@ pub(crate) enum Command<'a> {
     Finish {
         name: &'a str,
     },
-    /// Takes the latest edit back.
+    /// Undoes the latest accepted edit.
     Undo,
     /// Writes a view to a file.
     Write {
@@ -33,7 +33,7 @@ pub(crate) enum Command<'a> {
 /// A line of a script.
 #[derive(Clone, Copy, Debug, PartialEq, Eq)]
 pub(crate) enum Line<'a> {
-    /// An empty line, or one that begins with `#`: it asks for nothing, and isn't read.
+    /// An empty line, or one that begins with `#`, which is skipped.
     Blank,
     Command(Command<'a>),
     /// A line of another form, or one that isn't UTF-8.
@@ -54,7 +54,7 @@ pub(crate) fn read_line(line: &[u8]) -> Line<'_> {
     }
 }
 
-/// The command that words parted by single spaces are; `None` where they are none.
+/// Reads a command, whose words are separated by single spaces; `None` where the text is none.
 fn read_command(text: &str) -> Option<Command<'_>> {
     let mut words = text.split(' ');
     let verb = words.next()?;
@@ -90,7 +90,7 @@ fn read_command(text: &str) -> Option<Command<'_>> {
     }
 }
 
-/// The next word, which has a letter at least.
+/// The next word; `None` where it is empty or there is none.
 fn word<'a>(words: &mut Split<'a, char>) -> Option<&'a str> {
     match words.next() {
         Some(word) if !word.is_empty() => Some(word),

@@ -28,7 +28,7 @@ pub(crate) struct Table {
 /// Takes the first message of a piece, or all of the piece where it ends before the message does, and returns how many
 /// bytes were used.
 ///
-/// What it says is said of any stream of which these rows were taken, whatever bytes come behind the piece.
+/// What it says is said of any stream of which these rows were taken, whatever bytes come after the piece.
 fn take_message(feed: &mut Feed, piece: &[u8], rows: &mut Taken) -> Result<usize, Cause>
     requires open { IsOpen feed.old }
     requires some { 0 < length piece.now }
@@ -41,7 +41,7 @@ fn take_message(feed: &mut Feed, piece: &[u8], rows: &mut Taken) -> Result<usize
     ensures refused { IfErr result (λ c. (s : Story) (later : List ℕ)
         → HasTaken s feed.old rows.old (piece.now ++ later) → Refuses s c) }
 {
-    // They do nothing: the proof takes from them what an event tells of the stream, and that it uses some bytes.
+    // They do nothing: the proof takes from them what an event says of the stream, and that it uses some bytes.
     first_message_law();
     story_law();
     cut_law();
@@ -125,7 +125,7 @@ fn end(feed: &mut Feed) -> Result<(), Cause>
     Ok(())
 }
 
-/// The table at the end of its stream, of which these rows were taken.
+/// The table of a stream that has ended, of which these rows were taken.
 fn finish(alloc: Global, feed: &Feed, rows: Taken) -> Result<Table, Cause>
     ensures means { IfOk result (λ t. (s : Story) → IsComplete s feed.now (taken_rows rows)
         → Means s t.schema.fields.items (taken_rows t.rows)) }
@@ -165,9 +165,9 @@ fn complete(alloc: Global, feed: &mut Feed, rows: Taken) -> Result<Table, Cause>
 }
 
 impl Table {
-    /// The table that a whole stream means: its columns, and the rows of all its batches.
+    /// Reads a whole stream: its columns, and the rows of all its batches.
     ///
-    /// The error is a fault of the stream, 44 above 2^24 rows, 45 for a cell or a row that is too heavy, or `Memory`.
+    /// The error is a fault of the stream, `TooManyRows` above 2^24 rows, `CellTooHeavy` or `Memory`.
     /// Where several stand, any of them may come.
     pub fn read(alloc: Global, input: &[u8]) -> Result<Table, Cause>
         ensures means { IfOk result (λ t. Means (story_of input.now) t.schema.fields.items (taken_rows t.rows)) }

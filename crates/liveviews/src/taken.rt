@@ -19,10 +19,10 @@ use stream_writer::{Sink, WriteFault, write_batches, write_table};
 use values::limits::MAX_MAIN_ROWS;
 use values::{Cause, Row, Schema};
 
-/// Rows that weigh no more than this fill each batch that is written.
+/// Of rows that weigh no more than this, 1,024 are within the limit on a written batch's weight.
 const MAX_LIGHT_ROW: u64 = 1 << 17;
 
-/// The batches that were taken of a stream, with the number of their rows, and a weight that none of them passes.
+/// The batches of a stream so far, with the number of their rows, and a weight that none of the rows is above.
 #[derive(Drop)]
 pub(crate) struct Taken {
     pub batches: Vec<Batch>,
@@ -43,7 +43,7 @@ fn rows_in_batches(alloc: Global, batches: &[Batch]) -> Result<Vec<Row>, AllocEr
 }
 
 impl Taken {
-    /// None yet.
+    /// No batches.
     pub fn new(alloc: Global) -> Taken
         ensures counted { IsCounted result }
         ensures none { result.batches.items ≡ [] }
@@ -55,7 +55,8 @@ impl Taken {
         }
     }
 
-    /// Takes a batch of `count` rows: 44 where there would be too many rows, 45 where one is too heavy.
+    /// Adds a batch of `count` rows: `TooManyRows` where there would be too many, `CellTooHeavy` where one is too
+    /// heavy.
     pub fn take(&mut self, columns: Vec<Column>, count: usize) -> Result<(), Cause>
         requires cells { All (λ c. length c.cells ≡ count) columns.items }
         requires counted { IsCounted self.old }

@@ -8,14 +8,14 @@ use schema_meta::Field;
 use std::alloc::AllocError;
 use values::ColType;
 
-/// Whether a type's text says what stands below it.
+/// Whether the text of a type has those of its children: it is a list or a struct.
 fn is_nested(stored: &ColType) -> bool
     ensures { result ≡ is_nested stored.now }
 {
     matches!(stored, ColType::List { .. } | ColType::Struct)
 }
 
-/// Writes the name of a part of a type: a struct's parts are named, a list's items aren't.
+/// Writes the name of a child and a colon below a struct, and nothing below a list.
 fn write_label(text: &mut String, parent: &ColType, name: &str) -> Result<(), AllocError>
     ensures { OnOk result (string_bytes text.new ≡ string_bytes text.old ++ label_text parent.now name.now) }
 {

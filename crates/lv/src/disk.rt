@@ -8,7 +8,7 @@ use std::fs;
 use std::io::{Error, Write};
 use stream_writer::{DeviceFault, Sink};
 
-/// The machine's files. `put` writes the one that was named last, and makes it first.
+/// The files of the machine. `put` writes the file that was named last; the first put makes or empties it.
 #[derive(Drop)]
 pub struct Disk<'a, R: std::rt::Files> {
     runtime: &'a R,
@@ -110,7 +110,8 @@ impl<R: std::rt::Files + AllocGlobal> Files for Disk<'_, R> {
     }
 }
 
-/// Writes some first bytes of a piece that isn't empty, and answers how many the file took. None is a failure.
+/// Writes some first bytes of a piece that isn't empty, and returns how many the file took. Where it took none, that is
+/// a failure.
 fn write_to<F: Write>(file: &mut F, piece: &[u8]) -> Result<usize, DeviceFault>
     ensures bound { IfOk result (λ n. (1 ≤ n) × (n ≤ length piece.now)) }
     ensures took { WriteAppends (F.contents file.old) (F.contents file.new) result piece.now }

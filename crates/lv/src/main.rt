@@ -1,4 +1,4 @@
-//! The program `lv`: `liveviews::lv` over the process's words, its files and its standard output.
+//! The program `lv`: `liveviews::lv` over the process's arguments, its files and its standard output.
 #![tactic(auto)]
 
 mod disk;
@@ -21,7 +21,7 @@ fn main(rt: HostRuntime) -> ExitCode {
     ExitCode::from(status)
 }
 
-/// The words after the program's own name. Where they can't be held, the program has none to go by.
+/// The arguments after the program's own name. `main` takes an error as no arguments.
 fn words(rt: &HostRuntime, alloc: Global) -> io::Result<Vec<String>> {
     let words = env::args(rt)?.skip(1).collect(alloc)?;
     Ok(words)

@@ -2,10 +2,10 @@
 
 use std::{fs, io};
 
-/// Descriptors that hold the places of standard streams that were closed.
+/// Descriptors that take the numbers of standard streams that were closed.
 ///
-/// A file takes the least number that is free, so without them a file that is opened would stand in the place of a
-/// closed standard output, and what is printed would be written to it. Printing to one of these fails.
+/// A file that is opened gets the least free number. Without these descriptors it could get that of a closed standard
+/// output, and what is printed would be written to it. Printing to one of these descriptors fails.
 #[derive(Drop)]
 pub struct Held<F> {
     _files: [F; 3],
