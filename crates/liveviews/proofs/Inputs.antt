@@ -45,33 +45,20 @@ use Rattle.values.specs.declared.faults.StreamFault.{StreamFault}
 use Rattle.values.specs.declared.faults.StreamFault.TheVariants as fault
 use Rattle.values.specs.declared.causes.Cause.{Cause}
 use Rattle.schema_meta.specs.Means.{Means}
-use Rattle.schema_meta.specs.Story.{Story, after_rows, at_end_mark, at_input_end, ends, story_of}
+use Rattle.schema_meta.specs.Story.{Story, after_rows, at_input_end, ends, story_of}
 use Rattle.messages.specs.Laws.{NothingYet}
-use Rattle.feed.specs.declared.condition.Condition.{Condition}
 use Rattle.feed.specs.declared.condition.Condition.TheVariants as condition
 use Rattle.feed.specs.Events.{given}
 use Rattle.feed.specs.Retained.{Retained, stream_in}
 use Rattle.feed.specs.Shown.{FeedParts, Shows}
-use Rattle.feed.specs.States.{
-  FeedState,
-  Finishes,
-  after_finish,
-  after_push,
-  at_finish,
-  finishing_when,
-  fresh,
-  gives,
-  is_broken,
-  retained_in,
-}
+use Rattle.feed.specs.States.{FeedState, Finishes, after_finish, after_push, finishing_when, fresh, gives, retained_in}
 use Rattle.feed.specs.StoryLaw.{AllIsTold, IsBetween, PartialIsHeld, PartialTells, rest_story}
-use Rattle.liveviews.specs.Kept.{IsKeptSo, taken_rows}
+use Rattle.liveviews.specs.Kept.{taken_rows}
 use Rattle.liveviews.specs.Source.{OfSource}
 use Rattle.liveviews.specs.declared.table.Table.{Table}
 use Rattle.liveviews.specs.declared.taken.Taken.{Taken}
 use Rattle.liveviews.specs.Steps.{
   AreTakenSo,
-  Ended,
   GoesOn,
   HasTaken,
   HasTakenAll,

@@ -32,7 +32,6 @@ use Rattle.std.proofs.lemmas.Bool.{cases_lt}
 use Rattle.std.proofs.lemmas.List.{drop_more, drop_all, length-map}
 use Rattle.std.proofs.lemmas.List.Concat.{flat_map-append}
 use Rattle.std.proofs.lemmas.List.Elements.{All-append, All-cons, All-nil, All-head, All-tail, All-get_or, All-weaker}
-use Rattle.values.specs.Limits.{max_main_rows}
 use Rattle.values.specs.Datum.{Datum, null, items_of}
 use Rattle.values.specs.Layouts.{Holds, HoldsEach}
 use Rattle.values.specs.Rose.{Rose, Roses}
@@ -42,8 +41,8 @@ use Rattle.arrays.specs.Checked.{CheckedColumn}
 use Rattle.schema_meta.specs.Entry.{Entry}
 use Rattle.schema_meta.specs.FieldLayouts.{layouts_of}
 use Rattle.schema_meta.specs.Logical.{logical_field}
-use Rattle.schema_meta.specs.LogicalLaw.{LogicalTrees, NarrowRowWeighs, logical_trees, narrow_trees}
-use Rattle.schema_meta.specs.Rows.{row_at, rows_from, rows_in}
+use Rattle.schema_meta.specs.LogicalLaw.{LogicalTrees, NarrowRowWeighs, narrow_trees}
+use Rattle.schema_meta.specs.Rows.{row_at, rows_from}
 use Rattle.feed.specs.Columns.{cells_in, layouts_in}
 use Rattle.row_keys.specs.Batches.{HoldsCells}
 use Rattle.column_writer.specs.declared.batch.Batch.{Batch}
@@ -51,10 +50,10 @@ use Rattle.column_writer.specs.Batches.{IsSized, batch_rows, rows_of}
 use Rattle.stream_writer.specs.Stream.{trees}
 use Rattle.stream_writer.specs.BatchRows.{AreLightRows, max_light_row}
 use Rattle.liveviews.specs.Heavy.{IsLight, row_weight}
-use Rattle.liveviews.specs.Taken.{AreFit, AreTaken, IsTakenRow, cells_of_rows}
+use Rattle.liveviews.specs.Taken.{AreFit}
 use Rattle.liveviews.specs.Kept.{AreLightUpTo, HasSizes, IsKept, IsKeptSo, IsLightAs, IsWritable, taken_rows}
 use Rattle.liveviews.specs.declared.taken.Taken.{Taken}
-use Rattle.liveviews.proofs.BatchLemmas.{taken-rows, rows_from-length}
+use Rattle.liveviews.proofs.BatchLemmas.{rows_from-length}
 
 -- the columns from one on: what is left to say
 abbrev pub Rest : List CheckedColumn → ℕ → Type 0

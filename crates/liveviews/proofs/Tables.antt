@@ -2,7 +2,6 @@
 use Rattle.std.proofs.Common.{
   ◌≡◌,
   ℕ,
-  ◌-◌,
   ◌<◌,
   ◌≤◌,
   Bool,
@@ -19,8 +18,6 @@ use Rattle.std.proofs.Common.{
   [],
   ◌∷◌,
   length,
-  take,
-  drop,
   map,
   refl,
   ap,
@@ -29,11 +26,9 @@ use Rattle.std.proofs.Common.{
   ◌∙◌,
   arith,
   append-nil,
-  length-drop,
 }
 use Rattle.std.specs.Prelude.{if◌then◌else◌, ◌==◌}
 use Rattle.std.specs.Option.{option_map}
-use Rattle.std.proofs.lemmas.List.{take_all}
 use Rattle.std.proofs.lemmas.Bool.{eqb-true}
 use Rattle.values.specs.Limits.{max_row_weight}
 use Rattle.values.specs.Datum.{Datum, items_of}
@@ -56,13 +51,13 @@ use Rattle.schema_meta.specs.LogicalLaw.{
   logical_trees,
   narrow_trees,
 }
-use Rattle.schema_meta.specs.Story.{Story, story, story_of, ends, at_input_end, at_end_mark, after_rows}
+use Rattle.schema_meta.specs.Story.{Story, story, ends, at_input_end, at_end_mark}
 use Rattle.schema_meta.specs.Means.{Means}
 use Rattle.stream_writer.specs.Table.{IsRow, IsTable}
 use Rattle.feed.specs.Retained.{Retained, retained, retained_of}
 use Rattle.feed.specs.Shown.{FeedParts, Shows}
 use Rattle.feed.specs.States.{FeedState, fresh, retained_in}
-use Rattle.feed.specs.StoryLaw.{AllIsTold, IsBetween, rest_story}
+use Rattle.feed.specs.StoryLaw.{IsBetween, rest_story}
 use Rattle.liveviews.specs.Taken.{AreTaken, IsTakenRow}
 use Rattle.liveviews.specs.Kept.{IsKept, IsKeptSo}
 use Rattle.liveviews.specs.declared.taken.Taken.{Taken}

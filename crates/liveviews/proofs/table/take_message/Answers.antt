@@ -1,8 +1,5 @@
-use Rattle.std.proofs.Common.{Vec, length, ap, sym, refl}
-use Rattle.std.specs.declared.alloc.Global.{Global}
-use Rattle.std.proofs.lemmas.List.{length-map}
+use Rattle.std.proofs.Common.{ap, refl}
 use Rattle.std.proofs.lemmas.Result.{err_from_is_err_and}
-use Rattle.values.specs.Datum.{Datum}
 use Rattle.feed.specs.Shown.{event_seen}
 use Rattle.liveviews.specs.Kept.{taken_rows}
 use Rattle.liveviews.proofs.Stories.{

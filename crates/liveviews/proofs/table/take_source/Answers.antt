@@ -1,6 +1,6 @@
 use Rattle.std.proofs.Common.{rules, take}
 use Rattle.liveviews.proofs.Inputs.{source-all, source-fault, source-more}
-use Rattle.liveviews.proofs.SourceLemmas.{read-end, read-more, read-none, read-stop}
+use Rattle.liveviews.proofs.SourceLemmas.{read-end, read-more, read-stop}
 use Rattle.liveviews.proofs.table.take_source.Goals as goal
 
 pub returns-then-len-eq0-clause-taken : goal.returns-then-len-eq0-clause-taken

@@ -1,5 +1,4 @@
 use Rattle.std.proofs.lemmas.Result.{err_from_is_err_and}
-use Rattle.liveviews.proofs.Accounts.{left-all, left-rest}
 use Rattle.liveviews.proofs.inspecting.Inspection.take_all.Goals as goal
 
 pub returns-in_err-used-clause-fault : goal.returns-in_err-used-clause-fault

@@ -1,6 +1,6 @@
 use Rattle.std.proofs.Common.{rules, [], take}
-use Rattle.liveviews.proofs.Accounts.{fresh-left, left-open, takes-all, takes-fault, takes-more}
-use Rattle.liveviews.proofs.SourceLemmas.{read-end, read-more, read-none, read-stop}
+use Rattle.liveviews.proofs.Accounts.{left-open, takes-all, takes-fault, takes-more}
+use Rattle.liveviews.proofs.SourceLemmas.{read-end, read-more, read-stop}
 use Rattle.liveviews.proofs.inspecting.Inspection.take_source.Goals as goal
 
 pub returns-then-len-eq0 : goal.returns-then-len-eq0

@@ -2,7 +2,7 @@ use Rattle.std.proofs.Common.{[], ap}
 use Rattle.std.proofs.lemmas.Result.{err_from_is_err_and, IfErr-weaker, IfOk-weaker}
 use Rattle.schema_meta.specs.Story.{story_of}
 use Rattle.column_writer.specs.Batches.{rows_of}
-use Rattle.liveviews.proofs.Inputs.{begins, fresh-open, taken-whole}
+use Rattle.liveviews.proofs.Inputs.{begins, taken-whole}
 use Rattle.liveviews.proofs.table.Table.read.Goals as goal
 
 pub returns-in_err-take_messages-clause-refused : goal.returns-in_err-take_messages-clause-refused

@@ -1,7 +1,7 @@
 use Rattle.std.proofs.Common.{ap}
 use Rattle.std.proofs.lemmas.Result.{IfOk-weaker}
 use Rattle.column_writer.specs.Batches.{rows_of}
-use Rattle.liveviews.proofs.Inputs.{begins, fresh-open, source-read, source-story}
+use Rattle.liveviews.proofs.Inputs.{begins, source-read, source-story}
 use Rattle.liveviews.proofs.table.Table.read_from.Goals as goal
 
 pub take_source-requires-clause-begins : goal.take_source-requires-clause-begins

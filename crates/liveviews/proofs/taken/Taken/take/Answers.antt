@@ -1,4 +1,4 @@
-use Rattle.std.proofs.Common.{◌≡◌, ◌+◌, ◌≤◌, ◌++◌, List, length, All, arith, refl, subst}
+use Rattle.std.proofs.Common.{◌+◌, List, All, arith, refl, subst}
 use Rattle.values.specs.declared.causes.Cause.TheVariants as cause
 use Rattle.arrays.specs.Checked.{CheckedColumn}
 use Rattle.feed.specs.Columns.{cells_in, layouts_in}
