@@ -1,6 +1,6 @@
 //! Columns over bytes that were written by hand.
 
-ghost use Rattle.std.specs.Prelude.{All, IfOk};
+ghost use Rattle.std.specs.Prelude.{◌≤◌, All, IfOk};
 ghost use Rattle.values.specs.Rose.{node, none};
 ghost use Rattle.values.specs.declared.layout.OffsetWidth.TheVariants as offset;
 ghost use Rattle.values.specs.declared.layout.Layout.TheVariants.{Binary};
@@ -197,7 +197,9 @@ fn items_without_bytes_are_weighed_at_once(rt: HostRuntime) -> Result<(), Fail> 
 }
 
 /// Three slots of so many bytes each, whose validity buffer has so many bytes.
-fn three_fixed(alloc: Global, width: u32, bits: usize) -> Result<Column, Fail> {
+fn three_fixed(alloc: Global, width: u32, bits: usize) -> Result<Column, Fail>
+    requires { bits ≤ 4 }
+{
     let body = Rc::new(alloc, vec![in alloc; 7, 1, 2, 3]?)?;
     let own = ArrayData {
         layout: Layout::FixedSizeBinary { width },
