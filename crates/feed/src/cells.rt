@@ -34,7 +34,7 @@ fn read_cells(alloc: Global, column: &Column) -> Result<Vec<Value>, AllocError>
     Ok(cells)
 }
 
-/// So many values of no bytes.
+/// A list of `count` values of width 0, of which one is held.
 fn empty_values(alloc: Global, count: usize) -> Result<ValueRuns, AllocError>
     ensures { IfOk result (λ vs. vs ≡ replicate count (bytes [])) }
 {

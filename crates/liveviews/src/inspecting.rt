@@ -209,8 +209,8 @@ pub fn inspect(alloc: Global, input: &[u8]) -> Result<Inspected, AllocError>
 
 /// Describes each message of the whole stream that a source holds, as [`inspect`] does, reading it piece by piece.
 ///
-/// The error is a source that can't be read, or want of memory. Where a fault stands, what is behind it may be left
-/// unread.
+/// The error is a source that can't be read, or want of memory. Where a fault stands, the rest of the source may be
+/// left unread.
 pub fn inspect_from<R: Read>(alloc: Global, source: &mut R) -> Result<Inspected, FileFault>
     ensures { IfOk result (λ i. InspectsFile (R.remaining source.old) (string_bytes i.text) i.status) }
 {

@@ -17,8 +17,8 @@ pub(crate) fn room(alloc: Global) -> Result<Vec<u8>, AllocError>
     vec![in alloc; 0; PIECE_LEN]
 }
 
-/// Reads the next bytes of a source to the front of `room`, and answers how many. In some room there are none only at
-/// the source's end.
+/// Reads the next bytes of a source to the front of `room`, and returns how many. Where `room` isn't empty, 0 means the
+/// end of the source.
 pub(crate) fn read_piece<R: Read>(source: &mut R, room: &mut [u8]) -> Result<usize, FileFault>
     ensures within { IfOk result (λ n. n ≤ length room.new) }
     ensures took { IfOk result

@@ -113,7 +113,7 @@ fn put<S: Sink>(alloc: Global, read: Result<Table, Cause>, sink: &mut S) -> Resu
 
 /// Recasts the whole stream that a source holds, as [`recast`] does, reading it piece by piece.
 ///
-/// Where a cause stands, what is behind it may be left unread.
+/// Where the stream is refused, the rest of the source may be left unread.
 pub fn recast_from<R: Read, S: Sink>(
     alloc: Global,
     source: &mut R,
