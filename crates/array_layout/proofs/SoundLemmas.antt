@@ -93,7 +93,7 @@ sound_end W b ts k all left =
 
 -- the loop over the children, as one fact
 pub record Left (b : List ℕ) (rest : Roses ArrayData) (t : Rose ArrayData) : Type 0 where
-  pub judged : Decides (faults_below b rest) (faults_in b t)
+  pub decided : Decides (faults_below b rest) (faults_in b t)
   pub known : AreSound b rest → IsSound b t
 
 left_first :
@@ -102,7 +102,7 @@ left_first :
     → (0 < p.validity.len → p.len ≤ 8 * p.validity.len) → HasRoom p.layout b p (first_len kids)
     → Left b kids (node p kids)
 left_first b p kids placed valid bits room = record {
-  judged = below_start b p kids valid;
+  decided = below_start b p kids valid;
   known = λ rest. sound_start b p kids placed bits room rest;
 }
 
@@ -127,7 +127,7 @@ pub left_step :
     → IsSound b e → Left b (kids_of (drop k ts)) t → Left b (kids_of (drop (k + 1) ts)) t
 left_step b ts k e d t is below valid sound left =
     record {
-      judged = below_step b ts k e d (faults_in b t) is below valid left.judged;
+      decided = below_step b ts k e d (faults_in b t) is below valid left.decided;
       known = sound_step (IsSound b t) b ts k e d is below sound left.known;
     }
 
@@ -135,12 +135,12 @@ pub left_fault :
     (b : List ℕ) (ts : List (Rose ArrayData)) (k : ℕ) (e d t : Rose ArrayData) (c : StreamFault) → e ≡ get_or ts k d
     → k < length ts
     → Stands (faults_in b e) c → Left b (kids_of (drop k ts)) t → Stands (faults_in b t) c
-left_fault b ts k e d t c is below stands left = below_fault b ts k e d (faults_in b t) c is below stands left.judged
+left_fault b ts k e d t c is below stands left = below_fault b ts k e d (faults_in b t) c is below stands left.decided
 
 pub left_valid :
     (b : List ℕ) (ts : List (Rose ArrayData)) (k : ℕ) (t : Rose ArrayData) → length ts ≤ k
     → Left b (kids_of (drop k ts)) t → IsValid (faults_in b t)
-left_valid b ts k t all left = below_end b ts k (faults_in b t) all left.judged
+left_valid b ts k t all left = below_end b ts k (faults_in b t) all left.decided
 
 pub left_sound :
     (b : List ℕ) (ts : List (Rose ArrayData)) (k : ℕ) (t : Rose ArrayData) → length ts ≤ k

@@ -2,7 +2,7 @@
 
 ghost use Rattle.std.specs.Prelude.{◌≡◌, ◌<◌, All, [], length, replicate, slice_get, Some, IfOk, IfSome, Ok, true};
 ghost use Rattle.values.specs.Datum.{bytes};
-ghost use Rattle.values.specs.Reading.{Judges, Passes, IsValid};
+ghost use Rattle.values.specs.Reading.{Yields, Passes, IsValid};
 ghost use Rattle.values.specs.Layouts.{Holds, slot, weight};
 ghost use Rattle.values.specs.Rose.{node, kids_of};
 ghost use Rattle.array_layout.specs.Placing.{layout_of};
@@ -106,7 +106,7 @@ impl Column {
     pub fn check(body: Rc<Vec<u8>>, array: Array) -> Result<Column, StreamFault>
         requires placed { IsPlaced body.value.items array }
         requires dictionary { IsTyped array }
-        ensures reading { Judges (λ c. c.cells) result (column_of body.value.items array) }
+        ensures reading { Yields (λ c. c.cells) result (column_of body.value.items array) }
         ensures typed { IfOk result (λ c. c.layouts ≡ layout_of array) }
     {
         check_layout(&body, &array)?;

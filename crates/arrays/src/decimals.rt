@@ -24,7 +24,7 @@ fn validate_decimal(number: i128, precision: u8, bound: u128) -> Result<(), Stre
 }
 
 /// Validates the decimals of the slots from `from` to `to`.
-#[tactic(auto, using(values::proofs::Readings::judging, crate::proofs::RangeLemmas::slot_laws, crate::proofs::Powers::powers))]
+#[tactic(auto, using(values::proofs::Readings::deciding, crate::proofs::RangeLemmas::slot_laws, crate::proofs::Powers::powers))]
 pub(crate) fn validate_decimals(
     bits: &[u8],
     values: &[u8],

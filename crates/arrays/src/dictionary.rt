@@ -94,7 +94,7 @@ fn validate_slot(
 }
 
 /// Validates the indices of the slots from `from` to `to`. No value is looked at.
-#[tactic(auto, using(values::proofs::Readings::judging, crate::proofs::RangeLemmas::slot_laws, crate::proofs::DictionaryLemmas::indices_until))]
+#[tactic(auto, using(values::proofs::Readings::deciding, crate::proofs::RangeLemmas::slot_laws, crate::proofs::DictionaryLemmas::indices_until))]
 pub(crate) fn validate_indices(
     bits: &[u8],
     indices: &[u8],

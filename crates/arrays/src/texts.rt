@@ -82,7 +82,7 @@ fn validate_text(bytes: &[u8]) -> Result<(), StreamFault>
 }
 
 /// Validates a run of valid slots: their bytes at once, or else text by text.
-#[tactic(auto, using(values::proofs::Readings::judging, crate::proofs::RangeLemmas::each_fault, crate::proofs::TextLemmas::text_laws))]
+#[tactic(auto, using(values::proofs::Readings::deciding, crate::proofs::RangeLemmas::each_fault, crate::proofs::TextLemmas::text_laws))]
 fn validate_run(
     offsets: &[u8],
     values: &[u8],

@@ -52,7 +52,8 @@ pair_ranges = refl
 
 pair_bytes :
     buffers pair
-    pairs ≡ (1 ∷ []) ∷ (1 ∷ []) ∷ (5 ∷ 0 ∷ []) ∷ (1 ∷ []) ∷ (0 ∷ 0 ∷ 0 ∷ 0 ∷ 1 ∷ 0 ∷ 0 ∷ 0 ∷ 1 ∷ 0 ∷ 0 ∷ 0 ∷ []) ∷ (120 ∷ []) ∷ []
+    pairs ≡ (1 ∷ []) ∷ (1 ∷ []) ∷ (5 ∷ 0 ∷ []) ∷ (1 ∷ []) ∷ (0 ∷ 0 ∷ 0 ∷ 0 ∷ 1 ∷ 0 ∷ 0 ∷ 0 ∷ 1 ∷ 0 ∷ 0 ∷ 0 ∷ []) ∷
+    (120 ∷ []) ∷ []
 unfolding bytes_of validity numbers offsets_from joined offsets
 pair_bytes = refl
 

@@ -31,9 +31,12 @@ fn column_cells<'a>(
 #[tactic(auto, using(crate::proofs::Rows::batch), unfolding(crate::specs::Batch::body_nodes, crate::specs::Batch::body_ranges, crate::specs::Batch::body_bytes))]
 pub fn write_body(alloc: Global, layouts: &[LayoutTree], rows: &[Row]) -> Result<Body, AllocError>
     requires { IsBatch (kids_of layouts.now) (map (λ r. r.items) rows.now) }
-    ensures nodes { IfOk result (λ body. body.nodes.items ≡ body_nodes (kids_of layouts.now) (map (λ r. r.items) rows.now)) }
-    ensures ranges { IfOk result (λ body. body.ranges.items ≡ body_ranges (kids_of layouts.now) (map (λ r. r.items) rows.now)) }
-    ensures bytes { IfOk result (λ body. body.bytes.items ≡ body_bytes (kids_of layouts.now) (map (λ r. r.items) rows.now)) }
+    ensures nodes { IfOk result
+        (λ body. body.nodes.items ≡ body_nodes (kids_of layouts.now) (map (λ r. r.items) rows.now)) }
+    ensures ranges { IfOk result
+        (λ body. body.ranges.items ≡ body_ranges (kids_of layouts.now) (map (λ r. r.items) rows.now)) }
+    ensures bytes { IfOk result
+        (λ body. body.bytes.items ≡ body_bytes (kids_of layouts.now) (map (λ r. r.items) rows.now)) }
     ensures size { IfOk result (λ body. length body.bytes.items ≤ max_body_size) }
 {
     let mut body = Body::new(alloc);

@@ -66,8 +66,8 @@ pub fn value_at(chunks: &[Chunk], i: usize) -> Option<&Value>
     None
 }
 
-/// How many of the chunks stay as they are when a chunk that holds `added` values is appended. The ones after these hold
-/// few values, and are merged with it.
+/// How many of the chunks stay as they are when a chunk that holds `added` values is appended. The ones after these
+/// hold few values, and are merged with it.
 ///
 /// So each chunk holds more than twice as many values as the next: there are few chunks, and a held value is copied a
 /// logarithmic number of times.

@@ -55,7 +55,7 @@ use Rattle.schema_meta.specs.DictionaryBatch.{value_layout, value_layouts}
 use Rattle.schema_meta.specs.FieldLayouts.{slot_layouts_of}
 use Rattle.schema_meta.specs.FieldsLaw.{AreFields}
 use Rattle.schema_meta.specs.Parts.{arrays_of}
-use Rattle.schema_meta.specs.PlaceLaw.{AreValues, HaveLength, PlaceLaw, WordsLaw}
+use Rattle.schema_meta.specs.PlaceLaw.{AreValues, HaveLength, PlaceLaw, TypedArraysLaw}
 use Rattle.schema_meta.specs.Rows.{columns_in}
 use Rattle.schema_meta.specs.Sound.{Fits, FitsValues}
 use Rattle.feed.specs.Columns.{cells_in, layouts_in}
@@ -71,7 +71,8 @@ batch-placed law values body fields head ts fits is =
     subst (ArePlaced body) (sym is) (law values fields body head fits).0
 
 pub batch-dictionary :
-    (law : WordsLaw) (values : ℤ → List Datum) (fields : List (Rose Entry)) (head : BatchHead) (ts : Roses ArrayData)
+    (law : TypedArraysLaw) (values : ℤ → List Datum) (fields : List (Rose Entry)) (head : BatchHead)
+    (ts : Roses ArrayData)
     → AreFields fields → AreValues fields values → ts ≡ arrays_of values fields head → AreTyped ts
 batch-dictionary law values fields head ts read typed is = subst AreTyped (sym is) (law values fields head read typed)
 

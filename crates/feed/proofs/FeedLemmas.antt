@@ -45,7 +45,7 @@ use Rattle.values.specs.Logical.{NamedType}
 use Rattle.schema_meta.specs.DictionaryBatch.{value_layout}
 use Rattle.schema_meta.specs.Entry.{Entry}
 use Rattle.schema_meta.specs.SchemaLaw.{before}
-use Rattle.messages.specs.Stream.{Framing}
+use Rattle.messages.specs.Stream.{FramerState}
 use Rattle.feed.specs.declared.condition.Condition.{Condition}
 use Rattle.feed.specs.declared.condition.Condition.TheVariants as condition
 use Rattle.feed.specs.declared.message.Coming.{Coming}
@@ -86,12 +86,12 @@ use Rattle.feed.specs.Shown.{
   values_next,
 }
 
-abbrev parts : Framing → Table → Condition → Option Change → Condition → FeedParts
+abbrev parts : FramerState → Table → Condition → Option Change → Condition → FeedParts
 parts framing table c change next =
     record { framing = framing; table = table; condition = c; change = change; next = next }
 
 pub open-shows :
-    (law : NoneAtFirst) (declared : Option (List (Rose NamedType))) (framing : Framing) (table : Table)
+    (law : NoneAtFirst) (declared : Option (List (Rose NamedType))) (framing : FramerState) (table : Table)
     (change : Option Change) (next : Condition)
     → framing.current ≡ record { known = before declared; held = [] } → table.entries ≡ []
     → Shows (parts framing table condition.Opened change next) (fresh declared)
@@ -115,7 +115,7 @@ stands-same bs t u same stands = λ id. ap (λ es. lookup (int_eq id) es) same �
 
 -- a feed that nothing happened to but its condition
 pub shows-in :
-    (f : FeedParts) (s : FeedState) (framing : Framing) (table : Table) (c : Condition) (change : Option Change)
+    (f : FeedParts) (s : FeedState) (framing : FramerState) (table : Table) (c : Condition) (change : Option Change)
     (next : Condition) → Shows f s
     → framing.current ≡ f.framing.current → table.entries ≡ f.table.entries
     → Shows (parts framing table c change next) (in_condition s c)
@@ -193,7 +193,7 @@ gives-fault f s piece c is shows some fails =
 
 -- where a piece leads
 pub leads-to :
-    (f : FeedParts) (s : FeedState) (piece : List ℕ) (g : Given) (framing : Framing) (table : Table) (c : Condition)
+    (f : FeedParts) (s : FeedState) (piece : List ℕ) (g : Given) (framing : FramerState) (table : Table) (c : Condition)
     (change : Option Change) (next : Condition)
     → Shows f s → WillBeAt (retained_of s.declared (s.bytes ++ take g.used piece)) framing.prepared table change
     → next ≡ condition_after f.condition g.event → Leads (parts framing table c change next) (after_push s piece (Ok g))
@@ -205,7 +205,7 @@ leads-to f s piece g framing table c change next shows at is = record {
 }
 
 pub after-fault :
-    (f : FeedParts) (s : FeedState) (piece : List ℕ) (e : StreamFault) (framing : Framing) (table : Table)
+    (f : FeedParts) (s : FeedState) (piece : List ℕ) (e : StreamFault) (framing : FramerState) (table : Table)
     (c : Condition) (change : Option Change)
     (next : Condition) → Shows f s → framing.current ≡ f.framing.current → table.entries ≡ f.table.entries
     → c ≡ condition_faulty e f.condition
@@ -230,7 +230,7 @@ pub read-some :
 read-some k piece j c some read = read ∙ ap (λ m. Ok (given j.used (event_coming m))) some
 
 pub leads-none :
-    (f : FeedParts) (s : FeedState) (piece : List ℕ) (j : Validated) (framing : Framing) (table : Table)
+    (f : FeedParts) (s : FeedState) (piece : List ℕ) (j : Validated) (framing : FramerState) (table : Table)
     → j.coming ≡ None → Shows f s
     → WillBeAt (retained_of s.declared (s.bytes ++ take j.used piece)) framing.prepared table (change_coming j.coming)
     → Leads (parts framing table f.condition None f.condition) (after_push s piece (Ok (given j.used None)))
@@ -240,7 +240,8 @@ leads-none f s piece j framing table none shows at =
     (change_coming m)) none at) refl
 
 pub leads-validated :
-    (f : FeedParts) (s : FeedState) (piece : List ℕ) (j : Validated) (c : Coming) (framing : Framing) (table : Table)
+    (f : FeedParts) (s : FeedState) (piece : List ℕ) (j : Validated) (c : Coming) (framing : FramerState)
+    (table : Table)
     → j.coming ≡ Some c
     → f.condition ≡ condition.Opened → Shows f s
     → WillBeAt (retained_of s.declared (s.bytes ++ take j.used piece)) framing.prepared table (change_coming j.coming)
@@ -288,7 +289,7 @@ closed-some f s (x ∷ xs) empty shut is some shows =
     subst (λ m. Stands m fault.AfterEnd) (sym (gives-closed f s (x ∷ xs) shut shows)) refl
 
 pub closed-fault :
-    (f : FeedParts) (s : FeedState) (piece : List ℕ) (framing : Framing) (change : Option Change) (next : Condition)
+    (f : FeedParts) (s : FeedState) (piece : List ℕ) (framing : FramerState) (change : Option Change) (next : Condition)
     → Shows f s
     → framing.current ≡ f.framing.current
     → Shows (parts framing f.table condition.Broken change next) (after_push s piece (Err fault.AfterEnd))
@@ -325,7 +326,7 @@ shows-same f g s framing table c shows = record {
 
 -- a change that is made
 pub committed :
-    (f : FeedParts) (s : FeedState) (framing : Framing) (table : Table) (change : Option Change) (c : Change)
+    (f : FeedParts) (s : FeedState) (framing : FramerState) (table : Table) (change : Option Change) (c : Change)
     → Leads f s
     → framing.current ≡ f.framing.prepared → f.change ≡ Some c → Changes f.table table c
     → Shows (parts framing table f.next change f.next) s
@@ -336,7 +337,7 @@ committed f s framing table change c leads stream is changes = record {
 }
 
 pub uncommitted :
-    (f : FeedParts) (s : FeedState) (framing : Framing) (change : Option Change) → Leads f s
+    (f : FeedParts) (s : FeedState) (framing : FramerState) (change : Option Change) → Leads f s
     → framing.current ≡ f.framing.prepared → f.change ≡ None
     → Shows (parts framing f.table f.next change f.next) s
 uncommitted f s framing change leads stream is = record {
@@ -366,7 +367,7 @@ has-committed (Some fields) old new c changes has = (
 
 -- what holds of every feed holds once it is made
 pub feed-uncommitted :
-    (f : FeedParts) (framing : Framing) (c next : Condition) (change : Option Change) → IsFeed f
+    (f : FeedParts) (framing : FramerState) (c next : Condition) (change : Option Change) → IsFeed f
     → framing.current ≡ f.framing.prepared
     → framing.prepared ≡ f.framing.prepared → f.change ≡ None → change ≡ None
     → IsFeed (parts framing f.table c change next)
@@ -380,7 +381,8 @@ feed-uncommitted f framing c next change is done nothing_prepared none gone =
     })
 
 pub feed-committed :
-    (f : FeedParts) (framing : Framing) (table : Table) (c next : Condition) (change : Option Change) (made : Change)
+    (f : FeedParts) (framing : FramerState) (table : Table) (c next : Condition) (change : Option Change)
+    (made : Change)
     → IsFeed f
     → framing.current ≡ f.framing.prepared → framing.prepared ≡ f.framing.prepared → f.change ≡ Some made
     → change ≡ None → Changes f.table table made

@@ -120,7 +120,8 @@ schema-by now o b ds body (header.Dictionary d) e known br is = by_values (value
   by_values (Err fs) at = absurd (cc)
 schema-by now o b ds body (header.Batch head) e known br is =
     by_columns (columns_in body (arrays_of (dictionary_after ds) (fields_of now) head)) is where
-      by_columns : (cs : Reading (List (List Datum))) → mapped (λ columns. batch columns head.rows (length body)) cs ≡ Ok e
+      by_columns : (cs : Reading (List (List Datum)))
+          → mapped (λ columns. batch columns head.rows (length body)) cs ≡ Ok e
           → SchemaAfter e o (schema_after o b)
       by_columns (Ok columns) at =
           let seen : batch columns head.rows (length body) ≡ e =

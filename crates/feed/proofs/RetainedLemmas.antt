@@ -172,8 +172,10 @@ module _ (laws : FirstMessageLaw) where
             → retained n k es (xs ++ more) ≡ resumed n (retained n k es xs) more)
             → (r : Reading (Option Whole)) → first known bytes ≡ r
             → retained (suc n) known ds (bytes ++ more) ≡ resumed (suc n) (retained (suc n) known ds bytes) more
-        by_reading join (Err fs) is = ap (λ k. resumed (suc n) k more) (sym (retained-step n known ds bytes (Err fs) is))
-        by_reading join (Ok None) is = ap (λ k. resumed (suc n) k more) (sym (retained-step n known ds bytes (Ok None) is))
+        by_reading join (Err fs) is =
+            ap (λ k. resumed (suc n) k more) (sym (retained-step n known ds bytes (Err fs) is))
+        by_reading join (Ok None) is =
+            ap (λ k. resumed (suc n) k more) (sym (retained-step n known ds bytes (Ok None) is))
         by_reading join (Ok (Some w)) is =
             let m : IsMessage known bytes w = laws.message known bytes w is in
             let size = length-append bytes more in
@@ -188,7 +190,8 @@ module _ (laws : FirstMessageLaw) where
             let body : slice_range (bytes ++ more) w.front (end_of w) ≡ slice_range bytes w.front (end_of w) =
             same-range bytes more w.front (end_of w) (front-below w) m.within in
             retained-step n known ds (bytes ++ more) (Ok (Some w)) (laws.whole known bytes more w is)
-            ∙ ap (λ b. retained n now (ds ++ brought_by (fields_of now) b w.meta.header) (drop (end_of w) (bytes ++ more)))
+            ∙ ap (λ b. retained n now (ds ++ brought_by (fields_of now) b w.meta.header)
+            (drop (end_of w) (bytes ++ more)))
             body
             ∙ ap (λ xs. retained n now es xs) (drop-append-le (end_of w) bytes more m.within)
             ∙ join now es rest (omega (arith, small, size, size_rest, less))

@@ -364,7 +364,8 @@ module _ (laws : FirstMessageLaw) where
             → rest_story k bytes ≡ rest_story_from e (retained_in (after_push s bytes (Ok (given used (Some e)))))
             (drop used bytes)
         of_whole w found m size =
-            let here : first k.known bytes ≡ Ok (Some w) = first-between k bytes (Ok (Some w)) between.none_held found in
+            let here : first k.known bytes ≡ Ok (Some w) =
+            first-between k bytes (Ok (Some w)) between.none_held found in
             let now : Known = after k.known w.meta in
             let body : List ℕ = slice_range bytes w.front (end_of w) in
             let same_body : slice_range (k.held ++ bytes) w.front (end_of w) ≡ body =

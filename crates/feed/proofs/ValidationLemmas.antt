@@ -39,7 +39,7 @@ use Rattle.schema_meta.specs.Entry.{Entry}
 use Rattle.schema_meta.specs.declared.header.Header.{Header}
 use Rattle.schema_meta.specs.declared.header.Header.TheVariants as header
 use Rattle.schema_meta.specs.Framing.{first}
-use Rattle.schema_meta.specs.PlaceLaw.{SameWords}
+use Rattle.schema_meta.specs.PlaceLaw.{SameArraysLaw}
 use Rattle.schema_meta.specs.Rows.{columns_in}
 use Rattle.schema_meta.specs.Sound.{after, schema_after}
 use Rattle.schema_meta.specs.Stage.{Known, Whole, end_of}
@@ -151,7 +151,7 @@ came k old new t piece f m at frames some =
 
 -- an event uses no more of the dictionaries than their values
 event-same :
-    (law : SameWords) (fields : List (Rose Entry)) (values others : ℤ → List Datum) (body : List ℕ) (h : Header)
+    (law : SameArraysLaw) (fields : List (Rose Entry)) (values others : ℤ → List Datum) (body : List ℕ) (h : Header)
     → ((id : ℤ) → values id ≡ others id)
     → event_in fields values body h ≡ event_in fields others body h
 event-same law fields values others body header.Schema same = refl
@@ -163,7 +163,8 @@ event-same law fields values others body header.End same = refl
 
 -- the piece, by the event of its message
 read-came :
-    (law : SameWords) (batches : ValuesAfter) (k : Retained) (old new : Stream) (t : Table) (piece : List ℕ) (used : ℕ)
+    (law : SameArraysLaw) (batches : ValuesAfter) (k : Retained) (old new : Stream) (t : Table) (piece : List ℕ)
+    (used : ℕ)
     (m : MessageView)
     → IsAt k old t → Came k piece used m new
     → reading k piece ≡ mapped (λ e. given used (Some e)) (message_event m (values_in t))
@@ -180,7 +181,8 @@ read-came law batches k old new t piece used m at c =
     (batches k.dictionaries t at.1)))
 
 pub validated-event :
-    (law : SameWords) (batches : ValuesAfter) (k : Retained) (old new : Stream) (t : Table) (piece : List ℕ) (used : ℕ)
+    (law : SameArraysLaw) (batches : ValuesAfter) (k : Retained) (old new : Stream) (t : Table) (piece : List ℕ)
+    (used : ℕ)
     (m : MessageView) (e : Event)
     → IsAt k old t → Came k piece used m new → message_event m (values_in t) ≡ Ok e
     → reading k piece ≡ Ok (given used (Some e))
@@ -188,7 +190,8 @@ validated-event law batches k old new t piece used m e at c is =
     read-came law batches k old new t piece used m at c ∙ ap (λ r. mapped (λ x. given used (Some x)) r) is
 
 pub validated-body :
-    (law : SameWords) (batches : ValuesAfter) (k : Retained) (old new : Stream) (t : Table) (piece : List ℕ) (used : ℕ)
+    (law : SameArraysLaw) (batches : ValuesAfter) (k : Retained) (old new : Stream) (t : Table) (piece : List ℕ)
+    (used : ℕ)
     (m : MessageView)
     (c : StreamFault) → IsAt k old t → Came k piece used m new → Fails c (message_event m (values_in t))
     → Fails c (reading k piece)
@@ -270,4 +273,4 @@ pub has-same : (o : Option (List (Rose Entry))) (t u : Table) → u.entries ≡ 
     → HasValues o (values_in u)
 has-same o t u same has = subst (λ es. HasValues o (λ id. unwrap_or (lookup (int_eq id) es) [])) (sym same) has
 
-pub ruleset judging = (validated-fault)
+pub ruleset deciding = (validated-fault)

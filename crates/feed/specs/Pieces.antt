@@ -1,7 +1,7 @@
 -- A feed whose stream comes in pieces: however it is cut, the events are the same, and the faults.
 use Rattle.std.specs.Prelude.{◌≡◌, ℕ, ◌<◌, ◌++◌, List, [], ◌∷◌, Option, None, Some, Result, Ok, Err, drop, length}
 use Rattle.std.specs.List.{concat}
-use Rattle.values.specs.Reading.{Faults, Judges, Stands}
+use Rattle.values.specs.Reading.{Faults, Yields, Stands}
 use Rattle.values.specs.declared.faults.StreamFault.{StreamFault}
 use Rattle.messages.specs.Laws.{AgreeIn}
 use Rattle.feed.specs.Events.{Event, Given}
@@ -53,7 +53,7 @@ RefusalEnds =
 -- these events and this end are those of a transcript
 pub record Follows (events : List Event) (end : End) (t : Transcript) : Type 0 where
   pub same : t.events ≡ events
-  pub left : Judges (λ s. s) end t.end
+  pub left : Yields (λ s. s) end t.end
 
 -- Pushing pieces gives the events of all their bytes, and leaves the feed where they lead, or a refusal names one of
 -- the faults that stand there.

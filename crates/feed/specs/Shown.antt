@@ -33,7 +33,7 @@ use Rattle.schema_meta.specs.Entry.{Entry}
 use Rattle.schema_meta.specs.FieldLayouts.{layouts_of}
 use Rattle.schema_meta.specs.FieldsLaw.{AreFields}
 use Rattle.schema_meta.specs.PlaceLaw.{AreValues}
-use Rattle.messages.specs.Stream.{Framing, Stream, framing_code}
+use Rattle.messages.specs.Stream.{FramerState, Stream, framer_code}
 use Rattle.feed.specs.declared.condition.Condition.{Condition}
 use Rattle.feed.specs.contracts.condition.Condition.{the_row}
 use Rattle.feed.specs.declared.event.FeedEvent.{FeedEvent}
@@ -48,7 +48,7 @@ use Rattle.feed.specs.States.{FeedState, is_broken, retained_in}
 
 -- What contracts see of a feed: its framing, its dictionaries and its condition, and the prepared change.
 pub record FeedParts : Type 0 where
-  pub framing : Framing
+  pub framing : FramerState
   pub table : Table
   pub condition : Condition
   pub change : Option Change
@@ -56,8 +56,8 @@ pub record FeedParts : Type 0 where
 
 abbrev pub parts_code : Coded FeedParts
 parts_code =
-    code_by (Framing × (Table × (Condition × (Option Change × Condition))))
-    (coded× framing_code (coded× table_code (coded× the_row.coded (coded× (coded_option change_code) the_row.coded))))
+    code_by (FramerState × (Table × (Condition × (Option Change × Condition))))
+    (coded× framer_code (coded× table_code (coded× the_row.coded (coded× (coded_option change_code) the_row.coded))))
     (λ f. (f.framing, (f.table, (f.condition, (f.change, f.next)))))
     (λ p. record { framing = p.0; table = p.1.0; condition = p.1.1.0; change = p.1.1.1.0; next = p.1.1.1.1 })
     (λ _. refl)

@@ -1,6 +1,6 @@
 //! The indices into a dictionary: Schema.fbs, table `Int` in a `DictionaryEncoding`.
 
-ghost use Rattle.values.specs.Reading.{Judges};
+ghost use Rattle.values.specs.Reading.{Yields};
 ghost use Rattle.field_types.specs.Types.{index_of};
 
 use crate::parameters::read_width;
@@ -20,7 +20,7 @@ pub struct IndexType {
 /// `BadTable`.
 #[tactic(auto, using(crate::proofs::Faults::faults), unfolding(crate::specs::Types::index_of))]
 pub fn read_index_type(table: &TableRef) -> Result<IndexType, StreamFault>
-    ensures { Judges (λ t. t) result (index_of table.now) }
+    ensures { Yields (λ t. t) result (index_of table.now) }
 {
     let width = read_width(table)?;
     let signed = read_bool(table, INT_IS_SIGNED)?;

@@ -1,7 +1,7 @@
 //! The kinds of types: Schema.fbs, union `Type`.
 
 ghost use Rattle.std.specs.Prelude.{◌≡◌};
-ghost use Rattle.values.specs.Reading.{Judges};
+ghost use Rattle.values.specs.Reading.{Yields};
 ghost use Rattle.field_types.specs.Kinds.{kind_of, kind_of_type, may_have as may_have_children};
 
 use crate::reads::read_byte;
@@ -55,7 +55,7 @@ impl TypeKind {
 /// Reads the kind of a field's type. A kind that is not taken is `UnsupportedType`, an unreadable one `BadTable`.
 #[tactic(auto, unfolding(crate::specs::Kinds::kind_of, crate::specs::Kinds::kind_numbered))]
 pub fn read_kind(field: &TableRef) -> Result<TypeKind, StreamFault>
-    ensures { Judges (λ k. k) result (kind_of field.now) }
+    ensures { Yields (λ k. k) result (kind_of field.now) }
 {
     let (small, large) = (OffsetWidth::Bits32, OffsetWidth::Bits64);
     match read_byte(field, FIELD_TYPE_KIND)? {

@@ -2,7 +2,7 @@
 
 ghost use Rattle.std.specs.Prelude.{◌≤◌, pos, ◌≤ℤ◌, IfOk};
 ghost use Rattle.values.specs.Limits.{max_precision};
-ghost use Rattle.values.specs.Reading.{Judges};
+ghost use Rattle.values.specs.Reading.{Yields};
 ghost use Rattle.field_types.specs.Types.{
   checked_zone,
   date_unit_numbered,
@@ -26,7 +26,7 @@ use values::{DateUnit, IntWidth, StreamFault, TimeUnit};
 /// The number, where it is from `low` to `high`; otherwise `BadType`.
 pub(crate) fn ranged(low: i32, high: i32, number: i32) -> Result<u32, StreamFault>
     requires { pos 0 ≤ℤ low }
-    ensures exact { Judges (λ n. n) result (ranged_between low high number) }
+    ensures exact { Yields (λ n. n) result (ranged_between low high number) }
     ensures within { IfOk result (λ n. pos n ≤ℤ high) }
 {
     if low <= number && number <= high {
@@ -38,7 +38,7 @@ pub(crate) fn ranged(low: i32, high: i32, number: i32) -> Result<u32, StreamFaul
 
 #[tactic(auto, using(crate::proofs::Faults::faults), unfolding(crate::specs::Types::width_of))]
 pub(crate) fn read_width(table: &TableRef) -> Result<IntWidth, StreamFault>
-    ensures { Judges (λ w. w) result (width_of table.now) }
+    ensures { Yields (λ w. w) result (width_of table.now) }
 {
     match read_i32(table, INT_BIT_WIDTH, 0)? {
         8 => Ok(IntWidth::Bits8),
@@ -51,7 +51,7 @@ pub(crate) fn read_width(table: &TableRef) -> Result<IntWidth, StreamFault>
 
 #[tactic(auto, using(crate::proofs::Faults::faults), unfolding(crate::specs::Types::precision_of))]
 pub(crate) fn read_precision(table: &TableRef) -> Result<u8, StreamFault>
-    ensures exact { Judges (λ n. n) result (precision_of table.now) }
+    ensures exact { Yields (λ n. n) result (precision_of table.now) }
     ensures within { IfOk result (λ n. n ≤ max_precision) }
 {
     let precision = read_i32(table, DECIMAL_PRECISION, 0)?;
@@ -62,7 +62,7 @@ pub(crate) fn read_precision(table: &TableRef) -> Result<u8, StreamFault>
 /// Refuses decimals of a width other than 128 bits, as `UnsupportedType`.
 #[tactic(auto, using(crate::proofs::Faults::faults), unfolding(crate::specs::Types::wide_of))]
 pub(crate) fn check_decimal_bits(table: &TableRef) -> Result<(), StreamFault>
-    ensures { Judges (λ u. u) result (wide_of table.now) }
+    ensures { Yields (λ u. u) result (wide_of table.now) }
 {
     if read_i32(table, DECIMAL_BIT_WIDTH, 128)? == 128 {
         Ok(())
@@ -72,7 +72,7 @@ pub(crate) fn check_decimal_bits(table: &TableRef) -> Result<(), StreamFault>
 }
 
 pub(crate) fn date_unit(number: i16) -> Result<DateUnit, StreamFault>
-    ensures { Judges (λ u. u) result (date_unit_numbered number) }
+    ensures { Yields (λ u. u) result (date_unit_numbered number) }
 {
     match number {
         0 => Ok(DateUnit::Day),
@@ -82,7 +82,7 @@ pub(crate) fn date_unit(number: i16) -> Result<DateUnit, StreamFault>
 }
 
 fn time_unit(number: i16) -> Result<TimeUnit, StreamFault>
-    ensures { Judges (λ u. u) result (time_unit_numbered number) }
+    ensures { Yields (λ u. u) result (time_unit_numbered number) }
 {
     match number {
         0 => Ok(TimeUnit::Second),
@@ -96,7 +96,7 @@ fn time_unit(number: i16) -> Result<TimeUnit, StreamFault>
 /// The unit of a time, a timestamp or a duration: each has it in its first slot.
 #[tactic(auto, using(crate::proofs::Faults::faults), unfolding(crate::specs::Types::time_unit_of))]
 pub(crate) fn read_time_unit(table: &TableRef, default: i16) -> Result<TimeUnit, StreamFault>
-    ensures { Judges (λ u. u) result (time_unit_of table.now default) }
+    ensures { Yields (λ u. u) result (time_unit_of table.now default) }
 {
     time_unit(read_short(table, UNIT, default)?)
 }
@@ -104,7 +104,7 @@ pub(crate) fn read_time_unit(table: &TableRef, default: i16) -> Result<TimeUnit,
 /// The name of a timestamp's zone, empty where it is absent, borrowed from the buffer.
 #[tactic(auto, using(crate::proofs::Faults::faults), unfolding(crate::specs::Types::zone_of))]
 pub(crate) fn read_zone<'a>(table: &TableRef<'a>) -> Result<&'a str, StreamFault>
-    ensures { Judges (λ name. name.now) result (zone_of table.now) }
+    ensures { Yields (λ name. name.now) result (zone_of table.now) }
 {
     match readable(table.text(TIMESTAMP_ZONE))? {
         None => Ok(""),
@@ -114,7 +114,7 @@ pub(crate) fn read_zone<'a>(table: &TableRef<'a>) -> Result<&'a str, StreamFault
 
 #[tactic(auto, using(crate::proofs::Texts::texts))]
 fn check_zone(bytes: &[u8]) -> Result<&str, StreamFault>
-    ensures { Judges (λ name. name.now) result (checked_zone bytes.now) }
+    ensures { Yields (λ name. name.now) result (checked_zone bytes.now) }
 {
     if bytes.len() > MAX_NAME_LEN {
         return Err(StreamFault::BadType);

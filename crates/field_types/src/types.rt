@@ -1,6 +1,6 @@
 //! Reads the type of a field: Schema.fbs, union `Type`.
 
-ghost use Rattle.values.specs.Reading.{Answers, Judges};
+ghost use Rattle.values.specs.Reading.{Answers, Yields};
 ghost use Rattle.values.specs.ColTypes.{IsType};
 ghost use Rattle.field_types.specs.Types.{
   date_of,
@@ -65,7 +65,7 @@ fn read_parameters(alloc: Global, kind: TypeKind, table: &TableRef) -> Result<Co
 
 #[tactic(auto, using(crate::proofs::Faults::faults), unfolding(crate::specs::Types::int_of))]
 fn read_int(table: &TableRef) -> Result<ColType, StreamFault>
-    ensures { Judges (λ t. t) result (int_of table.now) }
+    ensures { Yields (λ t. t) result (int_of table.now) }
 {
     let width = read_width(table)?;
     let signed = read_bool(table, INT_IS_SIGNED)?;
@@ -74,7 +74,7 @@ fn read_int(table: &TableRef) -> Result<ColType, StreamFault>
 
 #[tactic(auto, using(crate::proofs::Faults::faults), unfolding(crate::specs::Types::decimal_of))]
 fn read_decimal(table: &TableRef) -> Result<ColType, StreamFault>
-    ensures { Judges (λ t. t) result (decimal_of table.now) }
+    ensures { Yields (λ t. t) result (decimal_of table.now) }
 {
     let stored = read_digits(table)?;
     check_decimal_bits(table)?;
@@ -83,7 +83,7 @@ fn read_decimal(table: &TableRef) -> Result<ColType, StreamFault>
 
 #[tactic(auto, using(crate::proofs::Faults::faults), unfolding(crate::specs::Types::digits_of))]
 fn read_digits(table: &TableRef) -> Result<ColType, StreamFault>
-    ensures { Judges (λ t. t) result (digits_of table.now) }
+    ensures { Yields (λ t. t) result (digits_of table.now) }
 {
     let precision = read_precision(table)?;
     let scale = ranged(0, precision as i32, read_i32(table, DECIMAL_SCALE, 0)?)?;
@@ -95,7 +95,7 @@ fn read_digits(table: &TableRef) -> Result<ColType, StreamFault>
 
 #[tactic(auto, using(crate::proofs::Faults::faults), unfolding(crate::specs::Types::date_of))]
 fn read_date(table: &TableRef) -> Result<ColType, StreamFault>
-    ensures { Judges (λ t. t) result (date_of table.now) }
+    ensures { Yields (λ t. t) result (date_of table.now) }
 {
     let unit = date_unit(read_short(table, UNIT, 1)?)?;
     Ok(ColType::Date { unit })
@@ -103,7 +103,7 @@ fn read_date(table: &TableRef) -> Result<ColType, StreamFault>
 
 #[tactic(auto, using(crate::proofs::Faults::faults), unfolding(crate::specs::Types::time_of))]
 fn read_time(table: &TableRef) -> Result<ColType, StreamFault>
-    ensures { Judges (λ t. t) result (time_of table.now) }
+    ensures { Yields (λ t. t) result (time_of table.now) }
 {
     let unit = read_time_unit(table, 1)?;
     let bits = read_i32(table, TIME_BIT_WIDTH, 32)?;
@@ -128,7 +128,7 @@ fn read_timestamp(alloc: Global, table: &TableRef) -> Result<ColType, StreamFaul
 
 #[tactic(auto, using(crate::proofs::Faults::faults), unfolding(crate::specs::Types::duration_of))]
 fn read_duration(table: &TableRef) -> Result<ColType, StreamFault>
-    ensures { Judges (λ t. t) result (duration_of table.now) }
+    ensures { Yields (λ t. t) result (duration_of table.now) }
 {
     let unit = read_time_unit(table, 1)?;
     Ok(ColType::Duration { unit })
@@ -136,7 +136,7 @@ fn read_duration(table: &TableRef) -> Result<ColType, StreamFault>
 
 #[tactic(auto, using(crate::proofs::Faults::faults), unfolding(crate::specs::Types::fixed_of))]
 fn read_fixed(table: &TableRef) -> Result<ColType, StreamFault>
-    ensures { Judges (λ t. t) result (fixed_of table.now) }
+    ensures { Yields (λ t. t) result (fixed_of table.now) }
 {
     let width = read_i32(table, FIXED_BYTE_WIDTH, 0)?;
     let width = ranged(0, MAX_FIXED_WIDTH as i32, width)?;

@@ -221,7 +221,8 @@ mutual
       let far = objects_end-le (object_end at x) r f.1 in
       let answer : element_place start i ≡ slot_answer p x = ap (λ n. Some (Some n)) e ∙ reference-answer p x refer.0 in
       let P : List ℕ → Type 0 = λ l. At b p l in
-      let field : At b p (content p at x) = subst P (reference-content p at x refer.0) (At-front b p mine others own) in (
+      let field : At b p (content p at x) =
+      subst P (reference-content p at x refer.0) (At-front b p mine others own) in (
         node-held b p at (element_place start i) x f.0 answer field
             (At-front b at (object at x) (objects (object_end at x) r) below) (omega (arith, le))
             (omega (arith, far, short)),

@@ -1,4 +1,4 @@
-//! Numbers of rows.
+//! NumberSet of rows.
 
 ghost use Rattle.lookups.specs.Refers.{is_among};
 ghost use Rattle.std.specs.List.Sorted.{IsStrictlySortedBy};
@@ -9,13 +9,13 @@ use std::alloc::{AllocError, Global};
 use std::collections::BTreeSet;
 use std::marker::Model;
 
-/// Numbers of rows, each once. Contracts see the list of them, which ascends.
+/// NumberSet of rows, each once. Contracts see the list of them, which ascends.
 #[derive(Debug, Drop)]
-pub(crate) struct Numbers {
+pub(crate) struct NumberSet {
     numbers: BTreeSet<usize>,
 }
 
-impl Model for Numbers {
+impl Model for NumberSet {
     ghost use Rattle.std.specs.Prelude.{List, ℕ};
 
     ghost Value = { List ℕ };
@@ -23,26 +23,26 @@ impl Model for Numbers {
     ghost view = { λ n. n.numbers.keys };
 }
 
-impl Numbers {
-    pub(crate) fn none(alloc: Global) -> Numbers
+impl NumberSet {
+    pub(crate) fn none(alloc: Global) -> NumberSet
         ensures { result ≡ [] }
     {
-        Numbers {
+        NumberSet {
             numbers: BTreeSet::new(alloc),
         }
     }
 
-    pub(crate) fn one(alloc: Global, number: usize) -> Result<Numbers, AllocError>
+    pub(crate) fn one(alloc: Global, number: usize) -> Result<NumberSet, AllocError>
         ensures value { IfOk result (λ numbers. numbers ≡ number ∷ []) }
         ensures ascending { IfOk result (λ numbers. IsStrictlySortedBy nat_cmp numbers) }
     {
         let mut numbers = BTreeSet::new(alloc);
         numbers.insert(number)?;
-        Ok(Numbers { numbers })
+        Ok(NumberSet { numbers })
     }
 
     /// The set of these numbers, which must ascend.
-    pub(crate) fn of(alloc: Global, numbers: Vec<usize>) -> Result<Numbers, AllocError>
+    pub(crate) fn of(alloc: Global, numbers: Vec<usize>) -> Result<NumberSet, AllocError>
         requires { IsStrictlySortedBy nat_cmp numbers.items }
         ensures value { IfOk result (λ made. made ≡ numbers.items) }
     {
@@ -50,7 +50,7 @@ impl Numbers {
         for number in numbers {
             made.insert(number)?;
         }
-        Ok(Numbers { numbers: made })
+        Ok(NumberSet { numbers: made })
     }
 
     /// Adds a number. If memory is refused, nothing has changed.
@@ -64,7 +64,7 @@ impl Numbers {
     }
 
     /// Adds all numbers of another set. If memory is refused, some of them may have been added.
-    pub(crate) fn add_all(&mut self, others: &Numbers) -> Result<(), AllocError>
+    pub(crate) fn add_all(&mut self, others: &NumberSet) -> Result<(), AllocError>
         ensures { OnOk result ((n : ℕ) → is_among self.new n ≡ (is_among self.old n || is_among others.now n)) }
     {
         for number in others.numbers.iter() {

@@ -22,7 +22,7 @@ ghost use Rattle.values.specs.declared.key.Key.{Key};
 ghost use Rattle.view_lang.specs.Shifts.{NumberedRows, row_at, with_at};
 
 use crate::held::key_held;
-use crate::numbers::Numbers;
+use crate::numbers::NumberSet;
 use crate::parts::{KeyNumbers, ReferrersParts};
 use std::alloc::{AllocError, Global};
 use std::collections::{BTreeMap, BTreeSet};
@@ -36,7 +36,7 @@ use view_lang::{Change, RowChange, Upkeep};
 #[derive(Debug, Drop)]
 pub struct Referrers {
     alloc: Global,
-    rows: BTreeMap<Key, Numbers>,
+    rows: BTreeMap<Key, NumberSet>,
 }
 
 impl Model for Referrers {
@@ -82,7 +82,7 @@ impl Referrers {
     {
         let mut rows = BTreeMap::new(alloc);
         for KeyNumbers { key, numbers } in parts.keys {
-            rows.insert(key, Numbers::of(alloc, numbers)?)?;
+            rows.insert(key, NumberSet::of(alloc, numbers)?)?;
         }
         Ok(Referrers { alloc, rows })
     }
@@ -128,7 +128,7 @@ impl Referrers {
         ensures ascending { IfOk result (λ numbers. IsStrictlySortedBy nat_cmp numbers.items) }
     {
         let mut seen = BTreeSet::new(alloc);
-        let mut numbers = Numbers::none(alloc);
+        let mut numbers = NumberSet::none(alloc);
         for key in keys {
             if seen.insert(key)? {
                 self.gather(&mut numbers, key)?;
@@ -138,7 +138,7 @@ impl Referrers {
     }
 
     /// Adds the numbers of the rows that hold a key.
-    fn gather(&self, numbers: &mut Numbers, key: &Key) -> Result<(), AllocError>
+    fn gather(&self, numbers: &mut NumberSet, key: &Key) -> Result<(), AllocError>
         ensures { OnOk result
             ((n : ℕ) → is_among numbers.new n ≡ (is_among numbers.old n || refers self.now key.now n)) }
     {
@@ -204,7 +204,7 @@ impl Upkeep for Referrers {
 
 /// Adds a number under a key. If memory is refused, nothing has changed.
 fn put_number(
-    rows: &mut BTreeMap<Key, Numbers>,
+    rows: &mut BTreeMap<Key, NumberSet>,
     alloc: Global,
     key: Key,
     number: usize,
@@ -220,13 +220,13 @@ fn put_number(
         numbers.insert(number)?;
         return Ok(());
     }
-    rows.insert(key, Numbers::one(alloc, number)?)?;
+    rows.insert(key, NumberSet::one(alloc, number)?)?;
     Ok(())
 }
 
 /// Removes a number from those under a key, and the key with its last number.
 #[tactic(auto, using(crate::proofs::Ascending::none_ascends))]
-fn take_number(rows: &mut BTreeMap<Key, Numbers>, key: &Key, number: usize)
+fn take_number(rows: &mut BTreeMap<Key, NumberSet>, key: &Key, number: usize)
     ensures here { (n : ℕ) → refers rows.new.entries key.now n
         ≡ cond (n == number) false (refers rows.old.entries key.now n) }
     ensures not_bare { is_bare (found_at rows.new.entries key.now) ≡ false }

@@ -35,7 +35,7 @@ use Rattle.std.proofs.Common.{
 use Rattle.std.specs.List.{concat}
 use Rattle.std.proofs.Math.Seq.{drop-length}
 use Rattle.values.specs.declared.faults.StreamFault.{StreamFault}
-use Rattle.values.specs.Reading.{Faults, IsAmong, Judges, Reading, Stands, one, several}
+use Rattle.values.specs.Reading.{Faults, IsAmong, Yields, Reading, Stands, one, several}
 use Rattle.messages.specs.declared.headers.Framed.{Framed}
 use Rattle.messages.specs.Handed.{MessageView}
 use Rattle.schema_meta.specs.Stage.{Known, Whole, end_of}
@@ -239,8 +239,8 @@ feed_law old pieces messages end p h =
     (feed_follows old pieces messages end h (length bytes) p (omega arith))
 
 pub agree :
-    {S : Type 0} (rest : Reading S) (end other : Result S StreamFault) → Judges (λ s. s) end rest
-    → Judges (λ s. s) other rest
+    {S : Type 0} (rest : Reading S) (end other : Result S StreamFault) → Yields (λ s. s) end rest
+    → Yields (λ s. s) other rest
     → AgreeIn rest end other
 agree {S} rest (Ok s) (Ok t) h k = let e : Ok s ≡ Ok t = sym h ∙ k in cc
 agree {S} rest (Err c) (Err d) h k = (h, k)

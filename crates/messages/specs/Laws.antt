@@ -2,7 +2,7 @@
 use Rattle.std.specs.Prelude.{◌≡◌, ℕ, suc, ◌≤◌, List, [], ◌++◌, length, take, drop, None, Some, Result, Ok, Err}
 use Rattle.std.specs.List.{concat}
 use Rattle.values.specs.declared.faults.StreamFault.{StreamFault}
-use Rattle.values.specs.Reading.{Faults, Judges, Reading, Stands}
+use Rattle.values.specs.Reading.{Faults, Yields, Reading, Stands}
 use Rattle.schema_meta.specs.Stage.{Known, Whole, end_of}
 use Rattle.schema_meta.specs.Framing.{first}
 use Rattle.messages.specs.declared.headers.Framed.{Framed}
@@ -73,7 +73,7 @@ RefusalEndsRun =
 -- these messages and this end are those of a run
 pub record Follows (messages : List MessageView) (end : End) (r : Run) : Type 0 where
   pub same : r.messages ≡ messages
-  pub left : Judges (λ s. s) end r.rest
+  pub left : Yields (λ s. s) end r.rest
 
 -- Feeding pieces hands on the messages of all the bytes, and leaves what the bytes leave, or a refusal names a fault at
 -- which they end.

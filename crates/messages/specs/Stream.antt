@@ -52,12 +52,12 @@ stream_code =
     (λ p. record { known = record { declared = p.0; schema = p.1.0; counts = p.1.1.0 }; held = p.1.1.1 }) (λ _. refl)
 
 -- a stream now, and as it will be once the prepared change is committed
-pub record Framing : Type 0 where
+pub record FramerState : Type 0 where
   pub current : Stream
   pub prepared : Stream
 
-abbrev pub framing_code : Coded Framing
-framing_code =
+abbrev pub framer_code : Coded FramerState
+framer_code =
     code_by (Stream × Stream) (coded× stream_code stream_code) (λ f. (f.current, f.prepared))
     (λ p. record { current = p.0; prepared = p.1 }) (λ _. refl)
 

@@ -2,7 +2,7 @@
 
 ghost use Rattle.std.specs.Prelude.{◌≡◌, ◌+◌, ◌*◌, ◌<◌, ◌≤◌, length};
 ghost use Rattle.values.specs.Limits.{max_body_size};
-ghost use Rattle.values.specs.Reading.{Answers, Judges};
+ghost use Rattle.values.specs.Reading.{Answers, Yields};
 ghost use Rattle.messages.specs.Columns.{AreRead, layouts_wanted};
 ghost use Rattle.schema_meta.specs.Batch.{
   batch_of,
@@ -42,7 +42,7 @@ fn long_at(bytes: &[u8], place: usize) -> u64
 /// Reads node `index`. A negative length, or one above 2^31 - 1, is `BadLength`.
 fn node_at(bytes: &[u8], index: usize) -> Result<FieldNode, StreamFault>
     requires { 16 * index + 16 ≤ length bytes.now }
-    ensures { Judges (λ n. n) result (node_of bytes.now index) }
+    ensures { Yields (λ n. n) result (node_of bytes.now index) }
 {
     let place = 16 * index;
     let length = long_at(bytes, place);
@@ -60,7 +60,7 @@ fn node_at(bytes: &[u8], index: usize) -> Result<FieldNode, StreamFault>
 fn range_at(bytes: &[u8], index: usize, body: usize) -> Result<BufferRange, StreamFault>
     requires in_bytes { 16 * index + 16 ≤ length bytes.now }
     requires in_range { body ≤ max_body_size }
-    ensures { Judges (λ s. s) result (range_of body bytes.now index) }
+    ensures { Yields (λ s. s) result (range_of body bytes.now index) }
 {
     let place = 16 * index;
     let from = long_at(bytes, place);
@@ -114,7 +114,7 @@ fn structs<'a>(
     count: usize,
     fault: StreamFault,
 ) -> Result<&'a [u8], StreamFault>
-    ensures { Judges (λ s. s.now) result (structs_in fault count table.now slot) }
+    ensures { Yields (λ s. s.now) result (structs_in fault count table.now slot) }
 {
     let bytes: &[u8] = match table.structs(slot, 16) {
         Err(BadTable) => return Err(StreamFault::BadTable),
@@ -162,14 +162,14 @@ fn ranges_of(
 }
 
 fn rows_of(table: &TableRef) -> Result<usize, StreamFault>
-    ensures { Judges (λ n. n) result (rows_of table.now) }
+    ensures { Yields (λ n. n) result (rows_of table.now) }
 {
     let length = read_long(table, BATCH_LENGTH)?;
     checked(StreamFault::BadLength, MAX_BATCH_LENGTH, length)
 }
 
 fn check_uncompressed(table: &TableRef) -> Result<(), StreamFault>
-    ensures { Judges (λ u. u) result (plain table.now) }
+    ensures { Yields (λ u. u) result (plain table.now) }
 {
     if readable(table.has(BATCH_COMPRESSION))? {
         return Err(StreamFault::Compressed);

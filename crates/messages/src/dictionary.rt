@@ -2,7 +2,7 @@
 
 ghost use Rattle.std.specs.Prelude.{◌≤◌};
 ghost use Rattle.values.specs.Limits.{max_body_size};
-ghost use Rattle.values.specs.Reading.{Answers, Judges};
+ghost use Rattle.values.specs.Reading.{Answers, Yields};
 ghost use Rattle.schema_meta.specs.DictionaryBatch.{data_of, dictionary_of, id_of, limited, values_batch};
 
 use crate::batch::read_batch_header;
@@ -20,14 +20,14 @@ use values::limits::MAX_DICTIONARY_VALUES;
 use values::{ColType, StreamFault};
 
 fn id_of(table: &TableRef) -> Result<i64, StreamFault>
-    ensures { Judges (λ id. id) result (id_of table.now) }
+    ensures { Yields (λ id. id) result (id_of table.now) }
 {
     read_long(table, DICTIONARY_BATCH_ID)
 }
 
 /// The table of the record batch of a dictionary batch; an absent one is `BadTable`.
 fn data_of<'a>(table: &TableRef<'a>) -> Result<TableRef<'a>, StreamFault>
-    ensures { Judges (λ t. t) result (data_of table.now) }
+    ensures { Yields (λ t. t) result (data_of table.now) }
 {
     match readable(table.table(DICTIONARY_BATCH_DATA))? {
         None => Err(StreamFault::BadTable),
@@ -59,7 +59,7 @@ fn values_batch(
 
 /// Refuses a batch after which its dictionary would have too many values, as `DictionaryTooLarge`.
 fn check_count(counts: &IndexMap<i64, usize>, header: &DictionaryHeader) -> Result<(), StreamFault>
-    ensures { Judges (λ u. header.now) result (limited counts.now.entries header.now) }
+    ensures { Yields (λ u. header.now) result (limited counts.now.entries header.now) }
 {
     let before = count_before(counts, header);
     let rows = header.batch.rows;

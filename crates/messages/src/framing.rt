@@ -2,7 +2,7 @@
 
 ghost use Rattle.std.specs.Prelude.{◌≤◌, ◌+◌, Some, length, slice_range, IfOk};
 ghost use Rattle.values.specs.Limits.{max_metadata_size};
-ghost use Rattle.values.specs.Reading.{Answers, Judges};
+ghost use Rattle.values.specs.Reading.{Answers, Yields};
 ghost use Rattle.schema_meta.specs.Framing.{end_mark, first, framed, message_at};
 ghost use Rattle.schema_meta.specs.Message.{meta_of};
 ghost use Rattle.messages.specs.State.{IsRead, known_of, progress_seen, whole_seen};
@@ -35,7 +35,7 @@ pub(crate) enum Progress {
 /// Checks the first 8 bytes of a message, given as two numbers, and returns the size of its metadata.
 #[tactic(auto, unfolding(schema_meta::specs::Framing::framed))]
 fn metadata_size(mark: u32, size: u32) -> Result<usize, StreamFault>
-    ensures value { Judges (λ n. n) result (framed mark size) }
+    ensures value { Yields (λ n. n) result (framed mark size) }
     ensures small { IfOk result (λ n. n ≤ max_metadata_size) }
 {
     if mark != u32::MAX {
@@ -48,7 +48,7 @@ fn metadata_size(mark: u32, size: u32) -> Result<usize, StreamFault>
 }
 
 fn end_mark(state: &State) -> Result<Found, StreamFault>
-    ensures { Judges (λ f. Some (whole_seen f)) result (end_mark (known_of state.now)) }
+    ensures { Yields (λ f. Some (whole_seen f)) result (end_mark (known_of state.now)) }
 {
     if state.schema.is_none() {
         return Err(StreamFault::NoSchema);

@@ -3,7 +3,7 @@
 ghost use Rattle.std.specs.Prelude.{◌≤◌, length, IfOk};
 ghost use Rattle.std.specs.Option.{option_map};
 ghost use Rattle.values.specs.Limits.{max_body_size};
-ghost use Rattle.values.specs.Reading.{Answers, Judges};
+ghost use Rattle.values.specs.Reading.{Answers, Yields};
 ghost use Rattle.schema_meta.specs.Message.{
   body_of,
   dictionary_batch,
@@ -48,7 +48,7 @@ pub(crate) struct Metadata {
 }
 
 fn check_version(message: &TableRef) -> Result<(), StreamFault>
-    ensures { Judges (λ u. u) result (version_of message.now) }
+    ensures { Yields (λ u. u) result (version_of message.now) }
 {
     match read_short(message, MESSAGE_VERSION, 0)? {
         V5 => Ok(()),
@@ -57,7 +57,7 @@ fn check_version(message: &TableRef) -> Result<(), StreamFault>
 }
 
 fn kind_of(message: &TableRef) -> Result<MessageKind, StreamFault>
-    ensures { Judges (λ k. k) result (kind_of message.now) }
+    ensures { Yields (λ k. k) result (kind_of message.now) }
 {
     match read_byte(message, MESSAGE_HEADER_KIND)? {
         HEADER_SCHEMA => Ok(MessageKind::Schema),
@@ -68,7 +68,7 @@ fn kind_of(message: &TableRef) -> Result<MessageKind, StreamFault>
 }
 
 fn header_table<'a>(message: &TableRef<'a>) -> Result<TableRef<'a>, StreamFault>
-    ensures { Judges (λ t. t) result (header_table message.now) }
+    ensures { Yields (λ t. t) result (header_table message.now) }
 {
     match readable(message.table(MESSAGE_HEADER))? {
         None => Err(StreamFault::BadTable),
@@ -77,7 +77,7 @@ fn header_table<'a>(message: &TableRef<'a>) -> Result<TableRef<'a>, StreamFault>
 }
 
 fn body_of(message: &TableRef) -> Result<usize, StreamFault>
-    ensures value { Judges (λ n. n) result (body_of message.now) }
+    ensures value { Yields (λ n. n) result (body_of message.now) }
     ensures small { IfOk result (λ n. n ≤ max_body_size) }
 {
     let length = read_long(message, MESSAGE_BODY_LENGTH)?;

@@ -35,14 +35,14 @@ pub struct Framer {
 }
 
 impl Model for Framer {
-    ghost use Rattle.messages.specs.Stream.{Framing, framing_code};
+    ghost use Rattle.messages.specs.Stream.{FramerState, framer_code};
     ghost use Rattle.messages.specs.Ready.{IsFramer, promised, standing};
     ghost use Rattle.messages.specs.State.{known_of};
     ghost use Rattle.indexmap.specs.IndexMap.{spare};
 
-    ghost Value = { Framing };
+    ghost Value = { FramerState };
 
-    ghost coded = { framing_code };
+    ghost coded = { framer_code };
 
     ghost view = { λ f. record {
       current = standing (known_of f.state) f.bytes.items f.len;

@@ -53,11 +53,11 @@ use Rattle.view_lang.specs.Contents.{Contents, key_in, keys_in}
 use Rattle.view_lang.specs.Edits.{append}
 use Rattle.view_lang.specs.TableRules.{IsTable, type_of}
 use Rattle.view_lang.specs.declared.unfit.Unfit.TheVariants as unfit
-use Rattle.row_keys.specs.declared.batches.Place.{Place}
+use Rattle.row_keys.specs.declared.batches.RowLocation.{RowLocation}
 use Rattle.row_keys.specs.declared.faults.EditFault.{EditFault}
 use Rattle.row_keys.specs.declared.faults.EditFault.TheVariants as fault
 use Rattle.row_keys.specs.Batches.{AreAlike, HoldsCells, IsAlike, IsBatch, batch_rows, cells_in, layouts_in}
-use Rattle.row_keys.specs.Judged.{RefusesRows, are_many}
+use Rattle.row_keys.specs.RefusedRows.{RefusesRows, are_many}
 use Rattle.row_keys.specs.KeyColumns.{HoldsKeys, PushesKeys, RefusesKeys, fresh}
 use Rattle.row_keys.specs.Numbers.{Numbered, live_count}
 use Rattle.row_keys.specs.Slots.{CanTakeBack, Slot, live, new_slot, taken_back, contents_of}
@@ -70,7 +70,7 @@ use Rattle.row_keys.specs.Stored.{
   IsStored,
   joined,
   live_keys,
-  places_from,
+  locations_from,
   rows_by,
 }
 use Rattle.row_keys.proofs.Batching.{none_heavy, placed_joined, rows_joined}
@@ -211,10 +211,10 @@ keyed_new t (r ∷ rs) [] h = absurd (cc h)
 keyed_new t (r ∷ rs) (k ∷ ks) h = (cc h, keyed_new t rs ks (cc h))
 
 pub slots_appended :
-    (t : Table) (bs : List (List CheckedColumn)) (ps : List Place) (xs new : List Numbered)
+    (t : Table) (bs : List (List CheckedColumn)) (ps : List RowLocation) (xs new : List Numbered)
     (columns : List CheckedColumn) (n : ℕ)
     → IsStored t bs ps xs → PushesKeys (keys_in t (batch_rows n columns)) xs new
-    → joined (rows_by (bs ++ columns ∷ []) (ps ++ places_from (length bs) 0 n)) new
+    → joined (rows_by (bs ++ columns ∷ []) (ps ++ locations_from (length bs) 0 n)) new
     ≡ joined (rows_by bs ps) xs ++ map new_slot (batch_rows n columns)
 slots_appended t bs ps xs new columns n is p =
     ap (λ rs. joined rs new) (rows_joined t bs columns ps n is.placed)
@@ -241,12 +241,12 @@ none_null t (r ∷ rs) h =
     All-cons (HasKey t) r rs a.0 (none_null t rs a.1)
 
 pub stored_appended :
-    (t : Table) (bs : List (List CheckedColumn)) (ps : List Place) (xs new : List Numbered)
+    (t : Table) (bs : List (List CheckedColumn)) (ps : List RowLocation) (xs new : List Numbered)
     (columns : List CheckedColumn) (n appended : ℕ)
     → IsStored t bs ps xs → IsBatch t n columns → PushesKeys (keys_in t (batch_rows n columns)) xs new
     → are_many t.max_rows (live_count xs) appended n ≡ false → any_heavy (layouts_in columns) (batch_rows n columns) ≡
     false → All HoldsCells columns
-    → IsStored t (bs ++ columns ∷ []) (ps ++ places_from (length bs) 0 n) new
+    → IsStored t (bs ++ columns ∷ []) (ps ++ locations_from (length bs) 0 n) new
 stored_appended t bs ps xs new columns n appended is batch p few light holds =
     let rows = rows_joined t bs columns ps n is.placed in
     let P : List (List Datum) → Type 0 = λ rs. All (IsLightRow t) rs in
@@ -315,12 +315,12 @@ unfolding cause_of
 cause_heavy t w rows a b c d = rw (a, b, c, d) refl
 
 pub live_keys_are :
-    (t : Table) (bs : List (List CheckedColumn)) (ps : List Place) (xs : List Numbered) → IsStored t bs ps xs
+    (t : Table) (bs : List (List CheckedColumn)) (ps : List RowLocation) (xs : List Numbered) → IsStored t bs ps xs
     → live_keys xs ≡ keys_in t (live (joined (rows_by bs ps) xs))
 live_keys_are t bs ps xs is = sym (keys_live t (rows_by bs ps) xs is.keyed)
 
 pub keys_unfit :
-    (t : Table) (bs : List (List CheckedColumn)) (ps : List Place) (xs : List Numbered) (rows : List (List Datum))
+    (t : Table) (bs : List (List CheckedColumn)) (ps : List RowLocation) (xs : List Numbered) (rows : List (List Datum))
     (e : EditFault) → IsStored t bs ps xs
     → RefusesKeys (keys_in t rows) xs e → Refuses (cause_of t (contents_of (joined (rows_by bs ps) xs)) (append rows)) e
 keys_unfit t bs ps xs rows (fault.Unfit unfit.NullKey) is h = cause_null t (contents_of (joined (rows_by bs ps) xs))
@@ -333,7 +333,8 @@ keys_unfit t bs ps xs rows fault.Memory is h = tt
 keys_unfit t bs ps xs rows (fault.Unfit u) is h = absurd h
 
 single_keys :
-    (t : Table) (bs : List (List CheckedColumn)) (ps : List Place) (xs new : List Numbered) (rows : List (List Datum))
+    (t : Table) (bs : List (List CheckedColumn)) (ps : List RowLocation) (xs new : List Numbered)
+    (rows : List (List Datum))
     → IsStored t bs ps xs
     → PushesKeys (keys_in t rows) xs new
     → (has_repeated (keys_in t rows)
@@ -343,7 +344,8 @@ single_keys t bs ps xs new rows is p =
     ∙ ap (λ ks. any_among (keys_in t rows) ks) (sym (live_keys_are t bs ps xs is)) ∙ p.unused
 
 many_same :
-    (t : Table) (bs : List (List CheckedColumn)) (ps : List Place) (xs : List Numbered) (columns : List CheckedColumn)
+    (t : Table) (bs : List (List CheckedColumn)) (ps : List RowLocation) (xs : List Numbered)
+    (columns : List CheckedColumn)
     (n : ℕ) (b : Bool) → IsStored t bs ps xs
     → are_many t.max_rows (live_count xs) (length xs) n ≡ b
     → are_many t.max_rows (length (live (joined (rows_by bs ps) xs))) (length (joined (rows_by bs ps) xs))
@@ -356,7 +358,7 @@ many_same t bs ps xs columns n b is h =
     ∙ ap (λ m. are_many t.max_rows (live_count xs) (length xs) m) (batch_counted columns n) ∙ h
 
 pub batch_fits :
-    (t : Table) (bs : List (List CheckedColumn)) (ps : List Place) (xs new : List Numbered)
+    (t : Table) (bs : List (List CheckedColumn)) (ps : List RowLocation) (xs new : List Numbered)
     (columns : List CheckedColumn) (n : ℕ) → IsStored t bs ps xs
     → IsBatch t n columns → PushesKeys (keys_in t (batch_rows n columns)) xs new
     → are_many t.max_rows (live_count xs) (length xs) n ≡ false
@@ -369,7 +371,7 @@ batch_fits t bs ps xs new columns n is batch p few light =
     (alike_any (layouts_of t) (layouts_in columns) (batch_rows n columns) batch.alike ∙ light)
 
 pub rows_unfit :
-    (t : Table) (bs : List (List CheckedColumn)) (ps : List Place) (xs new : List Numbered)
+    (t : Table) (bs : List (List CheckedColumn)) (ps : List RowLocation) (xs new : List Numbered)
     (columns : List CheckedColumn) (n : ℕ) (e : EditFault)
     → IsStored t bs ps xs → IsBatch t n columns → PushesKeys (keys_in t (batch_rows n columns)) xs new
     → RefusesRows t.max_rows (live_count xs) (length xs) n columns e

@@ -47,7 +47,7 @@ use Rattle.view_lang.specs.Edits.{retract}
 use Rattle.view_lang.specs.TableRules.{IsTable}
 use Rattle.view_lang.specs.ViewColumns.{no_field}
 use Rattle.view_lang.specs.declared.unfit.Unfit.TheVariants as unfit
-use Rattle.row_keys.specs.declared.batches.Place.{Place}
+use Rattle.row_keys.specs.declared.batches.RowLocation.{RowLocation}
 use Rattle.row_keys.specs.declared.faults.EditFault.{EditFault}
 use Rattle.row_keys.specs.declared.faults.EditFault.TheVariants as fault
 use Rattle.row_keys.specs.Batches.{AreKeys, IsAlike}
@@ -193,7 +193,7 @@ twice_named cells h = elim (either (has_repeated cells) (any_among cells []) h) 
 ]
 
 pub found_fits :
-    (t : Table) (bs : List (List CheckedColumn)) (ps : List Place) (xs seen : List Numbered) (cells : List Datum)
+    (t : Table) (bs : List (List CheckedColumn)) (ps : List RowLocation) (xs seen : List Numbered) (cells : List Datum)
     (ns : List ℕ) → IsStored t bs ps xs
     → PushesKeys cells [] seen → FindsAll cells xs ns
     → cause_of t (contents_of (joined (rows_by bs ps) xs)) (retract cells) ≡ None
@@ -204,7 +204,7 @@ found_fits t bs ps xs seen cells ns is p all =
     rw (p.given, p.single, among) refl
 
 pub keys_unknown :
-    (t : Table) (bs : List (List CheckedColumn)) (ps : List Place) (xs seen : List Numbered) (cells : List Datum)
+    (t : Table) (bs : List (List CheckedColumn)) (ps : List RowLocation) (xs seen : List Numbered) (cells : List Datum)
     (e : EditFault) → IsStored t bs ps xs
     → PushesKeys cells [] seen → MissesKey cells xs e
     → Refuses (cause_of t (contents_of (joined (rows_by bs ps) xs)) (retract cells)) e

@@ -45,11 +45,11 @@ use Rattle.row_keys.specs.Batches.{AreAlike, cells_in, layouts_in}
 use Rattle.row_keys.proofs.KeyFacts.{or_left, or_none, or_right}
 
 -- what is left to weigh of a row, after cells of this weight
-unfoldable pub judged : ℕ → Roses Layout → List Datum → Bool
-judged sum ls row = nat_lt max_row_weight (sum + row_weight ls (items_of row)) || has_heavy_cell ls row
+unfoldable pub is_heavy_rest : ℕ → Roses Layout → List Datum → Bool
+is_heavy_rest sum ls row = nat_lt max_row_weight (sum + row_weight ls (items_of row)) || has_heavy_cell ls row
 
-abbrev pub judged_rest : ℕ → List CheckedColumn → ℕ → Bool
-judged_rest sum columns k = judged sum (layouts_in columns) (row_at (cells_in columns) k)
+abbrev pub is_heavy_from : ℕ → List CheckedColumn → ℕ → Bool
+is_heavy_from sum columns k = is_heavy_rest sum (layouts_in columns) (row_at (cells_in columns) k)
 
 split_at :
     (columns : List CheckedColumn) (i : ℕ) (c : CheckedColumn) → c ≡ get_or columns i c → i < length columns
@@ -61,8 +61,8 @@ is_over : (m n : ℕ) → m < n → nat_lt m n ≡ true
 is_over m n h = grind (arith, h)
 
 pub judged_start : (columns : List CheckedColumn) (k : ℕ)
-    → judged_rest 0 columns k ≡ is_heavy (layouts_in columns) (row_at (cells_in columns) k)
-unfolding judged is_heavy
+    → is_heavy_from 0 columns k ≡ is_heavy (layouts_in columns) (row_at (cells_in columns) k)
+unfolding is_heavy_rest is_heavy
 judged_start columns k =
     let e : 0 + row_weight (layouts_in columns) (items_of (row_at (cells_in columns) k)) ≡ row_weight
     (layouts_in columns) (items_of (row_at (cells_in columns) k)) = omega arith in
@@ -88,11 +88,11 @@ pub judged_heavy :
     → i < length columns
     → All (λ x. k < length x.cells) columns → IfSome (slice_get c.cells k) (λ d. Says w (weight c.layouts d))
     → max_cell_weight < w
-    → judged_rest sum (drop i columns) k ≡ all → true ≡ all
-unfolding judged has_heavy_cell
+    → is_heavy_from sum (drop i columns) k ≡ all → true ≡ all
+unfolding is_heavy_rest has_heavy_cell
 judged_heavy columns i k sum w c all is below there says heavy h =
     let said = weight_said c k w (cell_there columns i k c is below there) says in
-    sym (ap (λ cs. judged_rest sum cs k) (split_at columns i c is below)
+    sym (ap (λ cs. is_heavy_from sum cs k) (split_at columns i c is below)
     ∙ or_right
     (nat_lt max_row_weight
     (sum + row_weight (layouts_in (c ∷ drop (i + 1) columns))
@@ -107,8 +107,8 @@ pub judged_more :
     → i < length columns
     → All (λ x. k < length x.cells) columns → IfSome (slice_get c.cells k) (λ d. Says w (weight c.layouts d))
     → w ≤ max_cell_weight
-    → judged_rest sum (drop i columns) k ≡ all → judged_rest (sum + w) (drop (i + 1) columns) k ≡ all
-unfolding judged has_heavy_cell
+    → is_heavy_from sum (drop i columns) k ≡ all → is_heavy_from (sum + w) (drop (i + 1) columns) k ≡ all
+unfolding is_heavy_rest has_heavy_cell
 judged_more columns i k sum w c all is below there says light h =
     let said = weight_said c k w (cell_there columns i k c is below there) says in
     let same : w ≡ weight c.layouts (get_or c.cells k null) = said.exact light in
@@ -122,11 +122,11 @@ judged_more columns i k sum w c all is below there says light h =
     ∙ ap (λ b. nat_lt max_row_weight (sum + (weight c.layouts (get_or c.cells k null) + rest))
     || (b || has_heavy_cell (layouts_in (drop (i + 1) columns)) (row_at (cells_in (drop (i + 1) columns)) k)))
     (sym fine)
-    ∙ sym (ap (λ cs. judged_rest sum cs k) (split_at columns i c is below)) ∙ h
+    ∙ sym (ap (λ cs. is_heavy_from sum cs k) (split_at columns i c is below)) ∙ h
 
 pub judged_over : (columns : List CheckedColumn) (i k sum : ℕ) (all : Bool) → max_row_weight < sum
-    → judged_rest sum (drop i columns) k ≡ all → true ≡ all
-unfolding judged
+    → is_heavy_from sum (drop i columns) k ≡ all → true ≡ all
+unfolding is_heavy_rest
 judged_over columns i k sum all over h =
     sym (or_left
     (nat_lt max_row_weight
@@ -137,13 +137,13 @@ judged_over columns i k sum all over h =
     (omega (arith, over)))) ∙ h
 
 pub judged_end : (columns : List CheckedColumn) (i k sum : ℕ) (all : Bool) → length columns ≤ i → sum ≤ max_row_weight
-    → judged_rest sum (drop i columns) k ≡ all → false ≡ all
-unfolding judged has_heavy_cell
+    → is_heavy_from sum (drop i columns) k ≡ all → false ≡ all
+unfolding is_heavy_rest has_heavy_cell
 judged_end columns i k sum all end below h =
     let rest : drop i columns ≡ [] = drop_all i columns end in
     let light : nat_lt max_row_weight (sum + 0) ≡ false = le-ltb max_row_weight (sum + 0) (omega (arith, below)) in
-    let here : judged_rest sum [] k ≡ false = or_none (nat_lt max_row_weight (sum + 0)) false light refl in
-    let P : List CheckedColumn → Type 0 = λ cs. judged_rest sum cs k ≡ all in
+    let here : is_heavy_from sum [] k ≡ false = or_none (nat_lt max_row_weight (sum + 0)) false light refl in
+    let P : List CheckedColumn → Type 0 = λ cs. is_heavy_from sum cs k ≡ all in
     sym here ∙ subst P rest h
 
 -- row after row

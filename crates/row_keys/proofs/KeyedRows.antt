@@ -9,7 +9,7 @@ use Rattle.view_lang.specs.Cells.{is_null}
 use Rattle.view_lang.specs.Config.{Table}
 use Rattle.view_lang.specs.Contents.{key_in, keys_in}
 use Rattle.view_lang.specs.Laws.{AreKeyed}
-use Rattle.row_keys.specs.declared.batches.Place.{Place}
+use Rattle.row_keys.specs.declared.batches.RowLocation.{RowLocation}
 use Rattle.row_keys.specs.Numbers.{AreDistinct, Numbered}
 use Rattle.row_keys.specs.Slots.{contents_of, live}
 use Rattle.row_keys.specs.Stored.{HasKey, IsStored, joined, rows_by}
@@ -31,7 +31,7 @@ live_given t (r ∷ rs) (x ∷ xs) all =
     by false e h = h
 
 pub stored_keyed :
-    (t : Table) (bs : List (List CheckedColumn)) (ps : List Place) (xs : List Numbered) → IsStored t bs ps xs
+    (t : Table) (bs : List (List CheckedColumn)) (ps : List RowLocation) (xs : List Numbered) → IsStored t bs ps xs
     → AreDistinct xs → AreKeyed t (contents_of (joined (rows_by bs ps) xs))
 stored_keyed t bs ps xs is distinct = record {
   not_null = live_given t (rows_by bs ps) xs is.given;
@@ -39,6 +39,6 @@ stored_keyed t bs ps xs is distinct = record {
 }
 
 pub stored_few :
-    (t : Table) (bs : List (List CheckedColumn)) (ps : List Place) (xs : List Numbered) → IsStored t bs ps xs
+    (t : Table) (bs : List (List CheckedColumn)) (ps : List RowLocation) (xs : List Numbered) → IsStored t bs ps xs
     → length (live (joined (rows_by bs ps) xs)) ≤ t.max_rows
 stored_few t bs ps xs is = let many = live_counted t (rows_by bs ps) xs is.keyed in omega (arith, many, is.few)

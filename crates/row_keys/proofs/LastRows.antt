@@ -30,7 +30,7 @@ use Rattle.std.proofs.Common.{
 use Rattle.std.specs.Prelude.{nat_lt}
 use Rattle.std.specs.List.{range_with_len}
 use Rattle.values.specs.declared.key.Key.{Key}
-use Rattle.row_keys.specs.declared.batches.Place.{Place}
+use Rattle.row_keys.specs.declared.batches.RowLocation.{RowLocation}
 use Rattle.arrays.specs.Checked.{CheckedColumn}
 use Rattle.view_lang.specs.Config.{Table}
 use Rattle.row_keys.specs.Numbers.{AreLive, CanRevive, IsAt, IsUnused, Numbered, revived, turned, turned_off}
@@ -114,7 +114,7 @@ revived_none end rows = sym (ap (λ ms. revived ms rows) (from_end end end (omeg
 
 -- The last numbers of a store are those from a number on.
 pub from_last :
-    (t : Table) (bs : List (List CheckedColumn)) (ps : List Place) (xs : List Numbered) (n len : ℕ)
+    (t : Table) (bs : List (List CheckedColumn)) (ps : List RowLocation) (xs : List Numbered) (n len : ℕ)
     → IsStored t bs ps xs → CanTakeBack n (joined (rows_by bs ps) xs) → len ≡ length xs
     → from (len - n) (length xs) ≡ last_numbers n (joined (rows_by bs ps) xs)
 unfolding CanTakeBack
@@ -124,7 +124,7 @@ from_last t bs ps xs n len is few long =
     let left : length xs - (len - n) ≡ n = omega (arith, many, long, few) in
     ap (λ k. range_with_len (len - n) k) left ∙ ap (λ k. range_with_len k n) first
 
-module _ (t : Table) (bs : List (List CheckedColumn)) (ps : List Place) (xs : List Numbered) (n len : ℕ) where
+module _ (t : Table) (bs : List (List CheckedColumn)) (ps : List RowLocation) (xs : List Numbered) (n len : ℕ) where
   pub live_last : IsStored t bs ps xs → CanTakeBack n (joined (rows_by bs ps) xs) → len ≡ length xs
       → CanRetract (last_numbers n (joined (rows_by bs ps) xs)) (joined (rows_by bs ps) xs)
       → AreLive (from (len - n) (length xs)) xs

@@ -1,4 +1,4 @@
--- Rows that take the places of those with their keys.
+-- Rows that take the locations of those with their keys.
 use Rattle.std.proofs.Common.{
   ◌≡◌,
   ℕ,
@@ -39,7 +39,7 @@ use Rattle.view_lang.specs.Config.{Table}
 use Rattle.view_lang.specs.Contents.{Contents, applied, is_among, key_in, keys_in, same_key, without}
 use Rattle.view_lang.specs.Edits.{append, put, retract}
 use Rattle.view_lang.specs.declared.unfit.Unfit.TheVariants as unfit
-use Rattle.row_keys.specs.declared.batches.Place.{Place}
+use Rattle.row_keys.specs.declared.batches.RowLocation.{RowLocation}
 use Rattle.row_keys.specs.declared.faults.EditFault.{EditFault}
 use Rattle.row_keys.specs.declared.faults.EditFault.TheVariants as fault
 use Rattle.arrays.specs.Checked.{CheckedColumn}
@@ -156,7 +156,7 @@ without_some t p ks (r ∷ rs) stay =
 -- rows that are replaced
 
 pub replaced_can :
-    (t : Table) (bs : List (List CheckedColumn)) (ps : List Place) (xs : List Numbered) (cells : List Datum)
+    (t : Table) (bs : List (List CheckedColumn)) (ps : List RowLocation) (xs : List Numbered) (cells : List Datum)
     (ns : List ℕ) → IsStored t bs ps xs → FindsAll (known_keys cells xs) xs ns → has_repeated cells ≡ false
     → CanRetract ns (joined (rows_by bs ps) xs)
 replaced_can t bs ps xs cells ns is all single =
@@ -164,7 +164,7 @@ replaced_can t bs ps xs cells ns is all single =
     (repeated_some (λ d. is_among d (live_keys xs)) cells single)
 
 pub replaced_gone :
-    (t : Table) (bs : List (List CheckedColumn)) (ps : List Place) (xs : List Numbered) (cells : List Datum)
+    (t : Table) (bs : List (List CheckedColumn)) (ps : List RowLocation) (xs : List Numbered) (cells : List Datum)
     (ns : List ℕ) → IsStored t bs ps xs → FindsAll (known_keys cells xs) xs ns
     → without t (keys_at t ns (joined (rows_by bs ps) xs)) (live (joined (rows_by bs ps) xs))
     ≡ without t cells (live (joined (rows_by bs ps) xs))
@@ -186,7 +186,7 @@ put_refused t c rows fault.Memory h = tt
 put_refused t c rows (fault.Unfit u) h = absurd h
 
 -- The causes against rows that are put are those against rows that come once those with their keys are gone.
-pub put_judged :
+pub put_refusal :
     (old mid : Store) (rows : List (List Datum)) (ns ms : List ℕ)
     → mid ≡ with_slots old (retracted ms old.slots)
     → contents_of mid.slots ≡ applied old.table (retract (keys_at old.table ms old.slots)) (contents_of old.slots)
@@ -195,7 +195,7 @@ pub put_judged :
     ≡ without old.table (keys_in old.table rows) (live old.slots)
     → cause_of old.table (contents_of old.slots) (put rows) ≡ cause_of mid.table (contents_of mid.slots) (append rows)
 unfolding cause_of
-put_judged old mid rows ns ms is same named rest =
+put_refusal old mid rows ns ms is same named rest =
     let table : mid.table ≡ old.table = ap (λ (s : Store). s.table) is in
     sym (ap (λ u. cause_of u (contents_of mid.slots) (append rows)) table
     ∙ ap (λ c. cause_of old.table c (append rows)) same

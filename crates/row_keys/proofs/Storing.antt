@@ -42,7 +42,7 @@ use Rattle.view_lang.specs.Config.{Table}
 use Rattle.view_lang.specs.Contents.{applied, is_among}
 use Rattle.view_lang.specs.Edits.{retract}
 use Rattle.view_lang.specs.Rows.{IsRow}
-use Rattle.row_keys.specs.declared.batches.Place.{Place}
+use Rattle.row_keys.specs.declared.batches.RowLocation.{RowLocation}
 use Rattle.row_keys.specs.Batches.{AreAlike, cells_in}
 use Rattle.row_keys.specs.Numbers.{
   AreDistinct,
@@ -107,11 +107,11 @@ use Rattle.row_keys.proofs.TurnedRows.{
 abbrev Batches : Type 0
 Batches = List (List CheckedColumn)
 
-abbrev store_of : Table → Batches → List Place → List Numbered → ℕ → Store
+abbrev store_of : Table → Batches → List RowLocation → List Numbered → ℕ → Store
 store_of t bs ps xs v = record { table = t; slots = joined (rows_by bs ps) xs; visits = v }
 
 pub found_in :
-    (t : Table) (bs : Batches) (ps : List Place) (xs : List Numbered) (v : ℕ) (k : Key) (r : Option ℕ)
+    (t : Table) (bs : Batches) (ps : List RowLocation) (xs : List Numbered) (v : ℕ) (k : Key) (r : Option ℕ)
     → IsStored t bs ps xs
     → MatchOption r (IsUnused xs k) (λ n. IsAt xs n k true)
     → MatchOption r (IsAbsent (store_of t bs ps xs v) k) (IsFound (store_of t bs ps xs v) k)
@@ -119,7 +119,8 @@ found_in t bs ps xs v k None is unused =
     ap (λ ks. is_among (datum_of_key k) ks) (keys_live t (rows_by bs ps) xs is.keyed) ∙ unused_among xs k unused
 found_in t bs ps xs v k (Some n) is at = joined_at t (rows_by bs ps) xs n k true is.keyed at
 
-pub stored_off : (t : Table) (bs : Batches) (ps : List Place) (xs : List Numbered) (ns : List ℕ) → IsStored t bs ps xs
+pub stored_off : (t : Table) (bs : Batches) (ps : List RowLocation) (xs : List Numbered) (ns : List ℕ)
+    → IsStored t bs ps xs
     → AreLive ns xs → IsStored t bs ps (turned_off ns xs)
 stored_off t bs ps xs ns is are = record {
   table = is.table;
@@ -132,7 +133,7 @@ stored_off t bs ps xs ns is are = record {
 }
 
 pub off_world :
-    (t : Table) (bs : Batches) (ps : List Place) (xs ys : List Numbered) (ns : List ℕ) → IsStored t bs ps xs
+    (t : Table) (bs : Batches) (ps : List RowLocation) (xs ys : List Numbered) (ns : List ℕ) → IsStored t bs ps xs
     → AreDistinct xs
     → CanRetract ns (joined (rows_by bs ps) xs) → ys ≡ turned_off ns xs
     → contents_of (joined (rows_by bs ps) ys) ≡ applied t (retract (keys_at t ns (joined (rows_by bs ps) xs)))
@@ -142,7 +143,7 @@ off_world t bs ps xs ys ns is distinct can same =
     ∙ world_retracted t ns (joined (rows_by bs ps) xs) can (proper_joined t (rows_by bs ps) xs is.keyed distinct)
 
 pub off_can :
-    (t : Table) (bs : Batches) (ps : List Place) (xs ys : List Numbered) (ns : List ℕ) → IsStored t bs ps xs
+    (t : Table) (bs : Batches) (ps : List RowLocation) (xs ys : List Numbered) (ns : List ℕ) → IsStored t bs ps xs
     → AreDistinct xs
     → CanRetract ns (joined (rows_by bs ps) xs) → ys ≡ turned_off ns xs → CanPutBack t ns (joined (rows_by bs ps) ys)
 off_can t bs ps xs ys ns is distinct can same =
@@ -155,7 +156,8 @@ off_can t bs ps xs ys ns is distinct can same =
     (omega (arith, counted, is.few)))
 
 pub off_back :
-    (bs : Batches) (ps : List Place) (xs ys : List Numbered) (ns : List ℕ) → CanRetract ns (joined (rows_by bs ps) xs)
+    (bs : Batches) (ps : List RowLocation) (xs ys : List Numbered) (ns : List ℕ)
+    → CanRetract ns (joined (rows_by bs ps) xs)
     → ys ≡ turned_off ns xs
     → put_back ns (joined (rows_by bs ps) ys) ≡ joined (rows_by bs ps) xs
 off_back bs ps xs ys ns can same =
@@ -164,13 +166,13 @@ off_back bs ps xs ys ns can same =
     ∙ put_back_undoes ns (joined (rows_by bs ps) xs) can
 
 pub revive_can :
-    (t : Table) (bs : Batches) (ps : List Place) (xs : List Numbered) (ns : List ℕ) → IsStored t bs ps xs
+    (t : Table) (bs : Batches) (ps : List RowLocation) (xs : List Numbered) (ns : List ℕ) → IsStored t bs ps xs
     → CanPutBack t ns (joined (rows_by bs ps) xs) → CanRevive ns xs
 unfolding CanPutBack
 revive_can t bs ps xs ns is can = can_revive t (rows_by bs ps) ns xs is.keyed can.0
 
 pub stored_revived :
-    (t : Table) (bs : Batches) (ps : List Place) (xs : List Numbered) (ns : List ℕ) → IsStored t bs ps xs
+    (t : Table) (bs : Batches) (ps : List RowLocation) (xs : List Numbered) (ns : List ℕ) → IsStored t bs ps xs
     → CanPutBack t ns (joined (rows_by bs ps) xs) → IsStored t bs ps (revived ns xs)
 unfolding CanPutBack
 stored_revived t bs ps xs ns is can =
@@ -192,7 +194,7 @@ stored_revived t bs ps xs ns is can =
     }
 
 pub revived_can :
-    (t : Table) (bs : Batches) (ps : List Place) (xs ys : List Numbered) (ns : List ℕ)
+    (t : Table) (bs : Batches) (ps : List RowLocation) (xs ys : List Numbered) (ns : List ℕ)
     → CanPutBack t ns (joined (rows_by bs ps) xs) → ys ≡ revived ns xs → CanRetract ns (joined (rows_by bs ps) ys)
 unfolding CanPutBack
 revived_can t bs ps xs ys ns can same =
@@ -202,7 +204,7 @@ revived_can t bs ps xs ys ns can same =
     subst P (sym slots) (can_retract_again t ns (joined (rows_by bs ps) xs) can.0)
 
 pub revived_back :
-    (t : Table) (bs : Batches) (ps : List Place) (xs ys : List Numbered) (ns : List ℕ)
+    (t : Table) (bs : Batches) (ps : List RowLocation) (xs ys : List Numbered) (ns : List ℕ)
     → CanPutBack t ns (joined (rows_by bs ps) xs) → ys ≡ revived ns xs
     → retracted ns (joined (rows_by bs ps) ys) ≡ joined (rows_by bs ps) xs
 unfolding CanPutBack
@@ -223,7 +225,7 @@ count_taken (suc k) (x ∷ xs) = by x.live (count_taken k xs)
     by true h = omega (arith, h)
     by false h = h
 
-pub stored_taken : (t : Table) (bs : Batches) (ps : List Place) (xs : List Numbered) (k : ℕ) → IsStored t bs ps xs
+pub stored_taken : (t : Table) (bs : Batches) (ps : List RowLocation) (xs : List Numbered) (k : ℕ) → IsStored t bs ps xs
     → IsStored t bs (take k ps) (take k xs)
 stored_taken t bs ps xs k is =
     let rows : take k (rows_by bs ps) ≡ rows_by bs (take k ps) = take-map (row_by bs) k ps in
@@ -242,7 +244,7 @@ stored_taken t bs ps xs k is =
     }
 
 pub taken_slots :
-    (t : Table) (bs : Batches) (ps : List Place) (xs : List Numbered) (n : ℕ) → IsStored t bs ps xs
+    (t : Table) (bs : Batches) (ps : List RowLocation) (xs : List Numbered) (n : ℕ) → IsStored t bs ps xs
     → joined (rows_by bs (take (length xs - n) ps)) (take (length xs - n) xs) ≡ taken_back n (joined (rows_by bs ps) xs)
 unfolding taken_back
 taken_slots t bs ps xs n is =
@@ -251,7 +253,7 @@ taken_slots t bs ps xs n is =
     ∙ ap (λ m. take (m - n) (joined (rows_by bs ps) xs)) (sym (keyed_length t (rows_by bs ps) xs is.keyed).1)
 
 pub can_take :
-    (t : Table) (bs : Batches) (ps : List Place) (xs : List Numbered) (n : ℕ) → IsStored t bs ps xs
+    (t : Table) (bs : Batches) (ps : List RowLocation) (xs : List Numbered) (n : ℕ) → IsStored t bs ps xs
     → CanTakeBack n (joined (rows_by bs ps) xs) → n ≤ length xs
 unfolding CanTakeBack
 can_take t bs ps xs n is can = let many = (keyed_length t (rows_by bs ps) xs is.keyed).1 in omega (arith, many, can)
@@ -259,7 +261,7 @@ can_take t bs ps xs n is can = let many = (keyed_length t (rows_by bs ps) xs is.
 -- a row that is opened
 
 pub number_within :
-    (t : Table) (bs : Batches) (ps : List Place) (xs : List Numbered) (n : ℕ) → IsStored t bs ps xs
+    (t : Table) (bs : Batches) (ps : List RowLocation) (xs : List Numbered) (n : ℕ) → IsStored t bs ps xs
     → n < length (joined (rows_by bs ps) xs)
     → (n < length ps) × (n < length xs)
 number_within t bs ps xs n is below =
@@ -274,30 +276,33 @@ row_joined (r ∷ rs) [] n d same below = absurd (omega (arith, same))
 row_joined (r ∷ rs) (x ∷ xs) zero d same below = refl
 row_joined (r ∷ rs) (x ∷ xs) (suc n) d same below = row_joined rs xs n d (omega (arith, same)) (omega (arith, below))
 
-get_map : (bs : Batches) (ps : List Place) (n : ℕ) (p : Place) (d : List Datum) → n < length ps
+get_map : (bs : Batches) (ps : List RowLocation) (n : ℕ) (p : RowLocation) (d : List Datum) → n < length ps
     → get_or (rows_by bs ps) n d ≡ row_by bs (get_or ps n p)
 get_map bs [] n p d below = absurd (omega (arith, below))
 get_map bs (q ∷ ps) zero p d below = refl
 get_map bs (q ∷ ps) (suc n) p d below = get_map bs ps n p d (omega (arith, below))
 
-pub row_at_place :
-    (t : Table) (bs : Batches) (ps : List Place) (xs : List Numbered) (n : ℕ) (p : Place) → IsStored t bs ps xs
+pub row_at_location :
+    (t : Table) (bs : Batches) (ps : List RowLocation) (xs : List Numbered) (n : ℕ) (p : RowLocation)
+    → IsStored t bs ps xs
     → n < length ps → p ≡ get_or ps n p
     → row_of (joined (rows_by bs ps) xs) n ≡ row_by bs p
-row_at_place t bs ps xs n p is below read =
+row_at_location t bs ps xs n p is below read =
     let all = keyed_length t (rows_by bs ps) xs is.keyed in
     let rows : length (rows_by bs ps) ≡ length ps = length-map ps (row_by bs) in
     row_joined (rows_by bs ps) xs n [] all.0 (omega (arith, rows, below)) ∙ get_map bs ps n p [] below
     ∙ ap (row_by bs) (sym read)
 
-pub place_known :
-    (t : Table) (bs : Batches) (ps : List Place) (xs : List Numbered) (n : ℕ) (p : Place) → IsStored t bs ps xs
+pub location_known :
+    (t : Table) (bs : Batches) (ps : List RowLocation) (xs : List Numbered) (n : ℕ) (p : RowLocation)
+    → IsStored t bs ps xs
     → n < length ps → p ≡ get_or ps n p
     → IsPlaced t bs p
-place_known t bs ps xs n p is below read = let P : Place
+location_known t bs ps xs n p is below read = let P : RowLocation
     → Type 0 = λ q. IsPlaced t bs q in subst P (sym read) (All-get_or (IsPlaced t bs) ps n p below is.placed)
 
-row_light : (t : Table) (bs : Batches) (ps : List Place) (xs : List Numbered) (n : ℕ) (p : Place) → IsStored t bs ps xs
+row_light : (t : Table) (bs : Batches) (ps : List RowLocation) (xs : List Numbered) (n : ℕ) (p : RowLocation)
+    → IsStored t bs ps xs
     → n < length ps → p ≡ get_or ps n p → IsLightRow t (row_by bs p)
 row_light t bs ps xs n p is below read =
     let rows : length (rows_by bs ps) ≡ length ps = length-map ps (row_by bs) in
@@ -314,7 +319,8 @@ held_alike (more t ts) none ds alike held = absurd alike
 held_alike (more t ts) (more u us) [] alike held = held
 held_alike (more t ts) (more u us) (d ∷ ds) alike held = (alike.0.holds d held.0, held_alike ts us ds alike.1 held.1)
 
-row_held : (t : Table) (bs : Batches) (ps : List Place) (xs : List Numbered) (n : ℕ) (p : Place) → IsStored t bs ps xs
+row_held : (t : Table) (bs : Batches) (ps : List RowLocation) (xs : List Numbered) (n : ℕ) (p : RowLocation)
+    → IsStored t bs ps xs
     → n < length ps → p ≡ get_or ps n p → HoldsRow t (row_by bs p)
 row_held t bs ps xs n p is below read =
     let rows : length (rows_by bs ps) ≡ length ps = length-map ps (row_by bs) in
@@ -324,7 +330,8 @@ row_held t bs ps xs n p is below read =
 
 -- a row where it lies
 pub row_lies :
-    (t : Table) (bs : Batches) (ps : List Place) (xs : List Numbered) (n : ℕ) (p : Place) (columns : List CheckedColumn)
+    (t : Table) (bs : Batches) (ps : List RowLocation) (xs : List Numbered) (n : ℕ) (p : RowLocation)
+    (columns : List CheckedColumn)
     → IsStored t bs ps xs → n < length ps → p ≡ get_or ps n p → columns ≡ columns_of bs p
     → (row_at (cells_in columns) p.index ≡ row_of (joined (rows_by bs ps) xs) n)
     × IsRow t.columns (row_at (cells_in columns) p.index)
@@ -336,10 +343,10 @@ row_lies t bs ps xs n p columns is below read same =
       held = row_held t bs ps xs n p is below read;
       light = row_light t bs ps xs n p is below read;
     } in
-    (here ∙ sym (row_at_place t bs ps xs n p is below read), subst P (sym here) right)
+    (here ∙ sym (row_at_location t bs ps xs n p is below read), subst P (sym here) right)
 
 pub columns_read :
-    (bs : Batches) (p : Place) (cs : List CheckedColumn) → p.batch < length bs → cs ≡ get_or bs p.batch cs
+    (bs : Batches) (p : RowLocation) (cs : List CheckedColumn) → p.batch < length bs → cs ≡ get_or bs p.batch cs
     → cs ≡ columns_of bs p
 columns_read bs p cs below read =
     read ∙ sym (get_or_from_slice_get bs p.batch (get_or bs p.batch cs) [] (slice_get-get_or bs p.batch cs below))

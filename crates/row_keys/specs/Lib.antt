@@ -9,5 +9,5 @@ pub mod Numbers
 pub mod Index
 pub mod Stored
 pub mod KeyColumns
-pub mod Judged
+pub mod RefusedRows
 pub mod Found

@@ -27,24 +27,24 @@ use Rattle.view_lang.specs.Cells.{is_null}
 use Rattle.view_lang.specs.Config.{Table}
 use Rattle.view_lang.specs.Contents.{key_in}
 use Rattle.view_lang.specs.TableRules.{IsTable}
-use Rattle.row_keys.specs.declared.batches.Place.{Place}
+use Rattle.row_keys.specs.declared.batches.RowLocation.{RowLocation}
 use Rattle.row_keys.specs.Batches.{AreAlike, cells_in, layouts_in}
 use Rattle.row_keys.specs.Numbers.{Numbered, live_count}
 use Rattle.row_keys.specs.Slots.{Slot, slot}
 
-abbrev pub columns_of : List (List CheckedColumn) → Place → List CheckedColumn
+abbrev pub columns_of : List (List CheckedColumn) → RowLocation → List CheckedColumn
 columns_of batches p = get_or batches p.batch []
 
-abbrev pub row_by : List (List CheckedColumn) → Place → List Datum
+abbrev pub row_by : List (List CheckedColumn) → RowLocation → List Datum
 row_by batches p = row_at (cells_in (columns_of batches p)) p.index
 
-abbrev pub rows_by : List (List CheckedColumn) → List Place → List (List Datum)
-rows_by batches places = map (row_by batches) places
+abbrev pub rows_by : List (List CheckedColumn) → List RowLocation → List (List Datum)
+rows_by batches locations = map (row_by batches) locations
 
--- the places of n rows of a batch, the first of them row i
-unfoldable pub places_from : ℕ → ℕ → ℕ → List Place
-places_from batch i zero = []
-places_from batch i (suc n) = record { batch = batch; index = i } ∷ places_from batch (i + 1) n
+-- the locations of n rows of a batch, the first of them row i
+unfoldable pub locations_from : ℕ → ℕ → ℕ → List RowLocation
+locations_from batch i zero = []
+locations_from batch i (suc n) = record { batch = batch; index = i } ∷ locations_from batch (i + 1) n
 
 -- the rows, each live or retracted
 abbrev pub joined : List (List Datum) → List Numbered → List Slot
@@ -53,7 +53,7 @@ joined (r ∷ rs) [] = []
 joined (r ∷ rs) (n ∷ ns) = slot r n.live ∷ joined rs ns
 
 -- a place in a batch of the table
-pub record IsPlaced (t : Table) (batches : List (List CheckedColumn)) (p : Place) : Type 0 where
+pub record IsPlaced (t : Table) (batches : List (List CheckedColumn)) (p : RowLocation) : Type 0 where
   pub there : p.batch < length batches
   pub long : All (λ c. p.index < length c.cells) (columns_of batches p)
   pub alike : AreAlike (layouts_of t) (layouts_in (columns_of batches p))
@@ -74,14 +74,14 @@ HoldsRow t row = HoldsEach (layouts_of t) (items_of row)
 abbrev pub HasKey : Table → List Datum → Type 0
 HasKey t row = is_null (key_in t row) ≡ false
 
-pub record IsStored (t : Table) (batches : List (List CheckedColumn)) (places : List Place) (numbers : List Numbered) :
-    Type 0 where
+pub record IsStored (t : Table) (batches : List (List CheckedColumn)) (locations : List RowLocation)
+    (numbers : List Numbered) : Type 0 where
   pub table : IsTable t
-  pub placed : All (IsPlaced t batches) places
-  pub held : All (HoldsRow t) (rows_by batches places)
-  pub light : All (IsLightRow t) (rows_by batches places)
-  pub given : All (HasKey t) (rows_by batches places)
-  pub keyed : AreKeyed t (rows_by batches places) numbers
+  pub placed : All (IsPlaced t batches) locations
+  pub held : All (HoldsRow t) (rows_by batches locations)
+  pub light : All (IsLightRow t) (rows_by batches locations)
+  pub given : All (HasKey t) (rows_by batches locations)
+  pub keyed : AreKeyed t (rows_by batches locations) numbers
   pub few : live_count numbers ≤ t.max_rows
 
 -- the keys of the live rows

@@ -1,4 +1,4 @@
-//! The columns of batches, and the places of rows in them.
+//! The columns of batches, and the locations of rows in them.
 
 ghost use Rattle.std.specs.Prelude.{◌≡◌, ◌<◌, ◌++◌, [], ◌∷◌, All, IfErr, IfOk, OnErr, OnOk, length, false};
 ghost use Rattle.values.specs.Datum.{items_of};
@@ -6,8 +6,8 @@ ghost use Rattle.values.specs.Layouts.{HoldsEach};
 ghost use Rattle.schema_meta.specs.Rows.{row_at};
 ghost use Rattle.view_lang.specs.Causes.{any_heavy};
 ghost use Rattle.row_keys.specs.Batches.{HoldsCells, batch_rows, cells_in, layouts_in};
-ghost use Rattle.row_keys.specs.Judged.{RefusesRows, are_many};
-ghost use Rattle.row_keys.specs.Stored.{places_from};
+ghost use Rattle.row_keys.specs.RefusedRows.{RefusesRows, are_many};
+ghost use Rattle.row_keys.specs.Stored.{locations_from};
 
 use crate::faults::EditFault;
 use crate::weighing::has_heavy_row;
@@ -20,11 +20,11 @@ use view_lang::{Table, Unfit};
 
 /// The checked columns of a batch, which a store keeps as they came. Contracts see their list.
 #[derive(Drop)]
-pub(crate) struct Batch {
+pub(crate) struct StoredBatch {
     pub columns: Vec<Column>,
 }
 
-impl Model for Batch {
+impl Model for StoredBatch {
     ghost use Rattle.std.specs.Prelude.{List};
     ghost use Rattle.std.specs.Coded.{coded_list};
     ghost use Rattle.arrays.specs.Checked.{CheckedColumn, column_code};
@@ -38,7 +38,7 @@ impl Model for Batch {
 
 /// Where a row is stored: the number of its batch, and its index in that batch.
 #[derive(Clone, Copy, Debug)]
-pub(crate) struct Place {
+pub(crate) struct RowLocation {
     pub batch: usize,
     pub index: usize,
 }
@@ -53,38 +53,43 @@ fn columns_law(columns: &[Column])
     }
 }
 
-/// Adds the places of the `rows` rows of a batch. If memory is refused, the places are as they were.
+/// Adds the locations of the `rows` rows of a batch. If memory is refused, the locations are as they were.
 #[tactic(auto, using(crate::proofs::Batching::placing))]
-fn push_places(places: &mut Vec<Place>, batch: usize, rows: usize) -> Result<(), AllocError>
-    ensures ok { OnOk result (places.new.items ≡ places.old.items ++ places_from batch 0 rows) }
-    ensures err { OnErr result (places.new.items ≡ places.old.items) }
+fn push_locations(
+    locations: &mut Vec<RowLocation>,
+    batch: usize,
+    rows: usize,
+) -> Result<(), AllocError>
+    ensures ok { OnOk result (locations.new.items ≡ locations.old.items ++ locations_from batch 0 rows) }
+    ensures err { OnErr result (locations.new.items ≡ locations.old.items) }
 {
-    let before = places.len();
+    let before = locations.len();
     for index in 0..rows {
-        if let Err(refused) = places.push(Place { batch, index }) {
-            places.truncate(before);
+        if let Err(refused) = locations.push(RowLocation { batch, index }) {
+            locations.truncate(before);
             return Err(AllocError::from(refused));
         }
     }
     Ok(())
 }
 
-/// Adds the columns of a batch, with the places of its `rows` rows. If memory is refused, nothing has changed.
+/// Adds the columns of a batch, with the locations of its `rows` rows. If memory is refused, nothing has changed.
 #[tactic(auto, using(crate::proofs::Batching::placing))]
 pub(crate) fn keep_batch(
-    batches: &mut Vec<Batch>,
-    places: &mut Vec<Place>,
+    batches: &mut Vec<StoredBatch>,
+    locations: &mut Vec<RowLocation>,
     columns: Vec<Column>,
     rows: usize,
 ) -> Result<(), AllocError>
     ensures batches { OnOk result (batches.new.items ≡ batches.old.items ++ columns.items ∷ []) }
-    ensures places { OnOk result (places.new.items ≡ places.old.items ++ places_from (length batches.old.items) 0 rows) }
+    ensures locations { OnOk result (locations.new.items ≡ locations.old.items
+        ++ locations_from (length batches.old.items) 0 rows) }
     ensures same_batches { OnErr result (batches.new.items ≡ batches.old.items) }
-    ensures same_places { OnErr result (places.new.items ≡ places.old.items) }
+    ensures same_locations { OnErr result (locations.new.items ≡ locations.old.items) }
 {
     batches.reserve(1)?;
-    push_places(places, batches.len(), rows)?;
-    batches.push(Batch { columns }).unwrap();
+    push_locations(locations, batches.len(), rows)?;
+    batches.push(StoredBatch { columns }).unwrap();
     Ok(())
 }
 
@@ -92,8 +97,8 @@ pub(crate) fn keep_batch(
 /// where there would be too many, `CellTooHeavy` where one is too heavy. On an error nothing has changed.
 pub(crate) fn keep_rows(
     table: &Table,
-    batches: &mut Vec<Batch>,
-    places: &mut Vec<Place>,
+    batches: &mut Vec<StoredBatch>,
+    locations: &mut Vec<RowLocation>,
     columns: Vec<Column>,
     rows: usize,
     live: usize,
@@ -101,13 +106,14 @@ pub(crate) fn keep_rows(
 ) -> Result<(), EditFault>
     requires { All (λ c. length c.cells ≡ rows) columns.items }
     ensures batches { OnOk result (batches.new.items ≡ batches.old.items ++ columns.items ∷ []) }
-    ensures places { OnOk result (places.new.items ≡ places.old.items ++ places_from (length batches.old.items) 0 rows) }
+    ensures locations { OnOk result (locations.new.items ≡ locations.old.items
+        ++ locations_from (length batches.old.items) 0 rows) }
     ensures held { OnOk result (All HoldsCells columns.items) }
     ensures few { OnOk result (are_many table.now.max_rows live appended rows ≡ false) }
     ensures light { OnOk result (any_heavy (layouts_in columns.items) (batch_rows rows columns.items) ≡ false) }
     ensures refused { IfErr result (RefusesRows table.now.max_rows live appended rows columns.items) }
     ensures same_batches { OnErr result (batches.new.items ≡ batches.old.items) }
-    ensures same_places { OnErr result (places.new.items ≡ places.old.items) }
+    ensures same_locations { OnErr result (locations.new.items ≡ locations.old.items) }
 {
     if has_many(table.max_rows, live, appended, rows) {
         return Err(EditFault::Unfit(Unfit::TooManyRows));
@@ -116,7 +122,7 @@ pub(crate) fn keep_rows(
         return Err(EditFault::Unfit(Unfit::CellTooHeavy));
     }
     columns_law(&columns);
-    keep_batch(batches, places, columns, rows)?;
+    keep_batch(batches, locations, columns, rows)?;
     Ok(())
 }
 

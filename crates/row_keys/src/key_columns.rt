@@ -123,7 +123,8 @@ pub(crate) fn push_batch(
 ) -> Result<(), EditFault>
     requires table { IsTable table.now }
     requires batch { IsBatch table.now rows columns.now }
-    ensures pushed { OnOk result (PushesKeys (keys_in table.now (batch_rows rows columns.now)) numbers.old numbers.new) }
+    ensures pushed { OnOk result
+        (PushesKeys (keys_in table.now (batch_rows rows columns.now)) numbers.old numbers.new) }
     ensures refused { IfErr result (RefusesKeys (keys_in table.now (batch_rows rows columns.now)) numbers.old) }
     ensures err { OnErr result (numbers.new ≡ numbers.old) }
 {

@@ -38,8 +38,8 @@ impl KeyTable {
         }
     }
 
-    /// No key stands at two places. It does nothing: its contract is the theorem.
-    pub(crate) fn apart(&self)
+    /// No key stands at two locations. It does nothing: its contract is the theorem.
+    pub(crate) fn distinct_law(&self)
         ensures { AreApart self.now }
     {
         let _keys = &self.keys;

@@ -156,10 +156,10 @@ impl Numbers {
     }
 
     /// Two live rows have different keys. It does nothing: its contract is the theorem.
-    pub(crate) fn distinct(&self)
+    pub(crate) fn distinct_law(&self)
         ensures { AreDistinct self.now }
     {
-        self.keys.apart();
+        self.keys.distinct_law();
         let _live = self.live;
     }
 
@@ -167,7 +167,7 @@ impl Numbers {
     pub(crate) fn find(&self, key: &Key) -> Option<usize>
         ensures { MatchOption result (IsUnused self.now key.now) (λ n. IsAt self.now n key.now true) }
     {
-        self.keys.apart();
+        self.keys.distinct_law();
         match self.keys.find(key) {
             Some(place) => holder(&self.holders, &self.entries, place),
             None => None,
@@ -179,7 +179,7 @@ impl Numbers {
         ensures pushed { IfOk result (λ added. Pushes self.old key added self.new) }
         ensures err { OnErr result (self.new ≡ self.old) }
     {
-        self.keys.apart();
+        self.keys.distinct_law();
         self.entries.reserve(1)?;
         self.holders.reserve(1)?;
         let place = self.keys.insert(key)?;

@@ -63,7 +63,7 @@ ghost use Rattle.row_keys.specs.Store.{
   with_slots,
 };
 
-use crate::batches::{Batch, Place, keep_rows};
+use crate::batches::{RowLocation, StoredBatch, keep_rows};
 use crate::faults::EditFault;
 use crate::key_columns::{find_batch, find_keys, push_batch, push_keys};
 use crate::numbers::Numbers;
@@ -83,9 +83,9 @@ use view_lang::Table;
 pub struct RowStore {
     alloc: Global,
     table: Table,
-    batches: Vec<Batch>,
+    batches: Vec<StoredBatch>,
     // Where each row is stored, by its number.
-    places: Vec<Place>,
+    locations: Vec<RowLocation>,
     numbers: Numbers,
     visits: u128,
 }
@@ -100,11 +100,11 @@ impl Model for RowStore {
 
     ghost view = { λ s. record {
       table = s.table;
-      slots = joined (rows_by s.batches.items s.places.items) s.numbers;
+      slots = joined (rows_by s.batches.items s.locations.items) s.numbers;
       visits = s.visits;
     } };
 
-    ghost invariant = { λ s. IsStored s.table s.batches.items s.places.items s.numbers };
+    ghost invariant = { λ s. IsStored s.table s.batches.items s.locations.items s.numbers };
 }
 
 impl RowStore {
@@ -117,7 +117,7 @@ impl RowStore {
             alloc,
             table,
             batches: Vec::new(alloc),
-            places: Vec::new(alloc),
+            locations: Vec::new(alloc),
             numbers: Numbers::new(alloc),
             visits: 0,
         }
@@ -139,7 +139,7 @@ impl RowStore {
         ensures keyed { AreKeyed self.now.table (contents_of self.now.slots) }
     {
         let _table = &self.table;
-        self.numbers.distinct();
+        self.numbers.distinct_law();
     }
 
     /// The number of live rows, at most 2^24. It takes no memory.
@@ -194,7 +194,7 @@ impl RowStore {
         match keep_rows(
             &self.table,
             &mut self.batches,
-            &mut self.places,
+            &mut self.locations,
             columns,
             rows,
             live,
@@ -214,7 +214,7 @@ impl RowStore {
         ensures { self.new ≡ with_slots self.old (taken_back count self.old.slots) }
     {
         let left = self.numbers.len() - count;
-        self.places.truncate(left);
+        self.locations.truncate(left);
         self.numbers.truncate(left);
     }
 
@@ -327,7 +327,7 @@ impl RowStore {
         ensures can_go_back { CanPutBack self.old.table (last_numbers count self.old.slots) self.new.slots }
         ensures back { put_back (last_numbers count self.old.slots) self.new.slots ≡ self.old.slots }
     {
-        self.numbers.distinct();
+        self.numbers.distinct_law();
         let first = self.numbers.len() - count;
         retract_from(&mut self.numbers, first);
     }
@@ -351,7 +351,7 @@ impl RowStore {
         ensures can_go_back { CanPutBack self.old.table numbers.now self.new.slots }
         ensures back { put_back numbers.now self.new.slots ≡ self.old.slots }
     {
-        self.numbers.distinct();
+        self.numbers.distinct_law();
         retract_all(&mut self.numbers, numbers);
     }
 
@@ -371,7 +371,7 @@ impl RowStore {
         ensures row { result ≡ row_of self.now.slots number }
         ensures held { IsRow self.now.table.columns result }
     {
-        let place = self.places[number];
+        let place = self.locations[number];
         let batch = &self.batches[place.batch];
         StoredRow::new(&batch.columns, place.index)
     }
@@ -393,7 +393,7 @@ impl RowStore {
             (IsKnown self.now (datum_of_key key.now)) }
     {
         let numbers = &self.numbers;
-        numbers.distinct();
+        numbers.distinct_law();
         numbers.find(key)
     }
 

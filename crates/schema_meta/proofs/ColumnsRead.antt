@@ -13,9 +13,9 @@ use Rattle.schema_meta.specs.Entry.{Entry}
 use Rattle.field_types.specs.Reads.{needs, checked}
 use Rattle.schema_meta.specs.Fields.{forest}
 use Rattle.schema_meta.specs.FieldLayouts.{are_within_slot, layouts_of}
-use Rattle.schema_meta.specs.Dictionaries.{is_clear}
+use Rattle.schema_meta.specs.Dictionaries.{are_consistent}
 use Rattle.schema_meta.specs.Totals.{total}
-use Rattle.schema_meta.specs.Schema.{columns_of, judged}
+use Rattle.schema_meta.specs.Schema.{columns_of, validated_fields}
 use Rattle.schema_meta.proofs.Faults.{bind_right, needs_stands, checked_stands}
 use Rattle.schema_meta.proofs.FieldFacts.{few_read}
 
@@ -23,7 +23,7 @@ pub too_many : (v : Vector) → max_fields < total max_depth v → Stands (colum
 unfolding columns_of
 too_many v many =
     both_left second (needs fault.TooManyFields (nat_le (total max_depth v) max_fields)) (forest max_depth v
-    >>= judged) fault.TooManyFields
+    >>= validated_fields) fault.TooManyFields
     (needs_stands fault.TooManyFields (nat_le (total max_depth v) max_fields) fault.TooManyFields
     (lt-leb (total max_depth v) max_fields many) refl)
 
@@ -31,43 +31,44 @@ pub not_read : (v : Vector) (c : StreamFault) → Fails c (forest max_depth v) �
 unfolding columns_of
 not_read v c fails =
     fails_right second (needs fault.TooManyFields (nat_le (total max_depth v) max_fields)) (forest max_depth v
-    >>= judged) c
-    (fails_first (forest max_depth v) judged c fails)
+    >>= validated_fields) c
+    (fails_first (forest max_depth v) validated_fields c fails)
 
 abbrev slot_test : List (Rose Entry) → Reading (Unit {0})
 slot_test fs = needs fault.BadType (are_within_slot (layouts_of fs))
 
 abbrev clear_test : List (Rose Entry) → Reading (List (Rose Entry))
-clear_test fs = checked fault.DictionaryClash (is_clear fs) fs
+clear_test fs = checked fault.DictionaryClash (are_consistent fs) fs
 
-misjudged : (v : Vector) (c : StreamFault) (fs : List (Rose Entry)) → forest max_depth v ≡ Ok fs → Stands (judged fs) c
+invalid_fields : (v : Vector) (c : StreamFault) (fs : List (Rose Entry)) → forest max_depth v ≡ Ok fs
+    → Stands (validated_fields fs) c
     → Stands (columns_of v) c
 unfolding columns_of
-misjudged v c fs read h =
+invalid_fields v c fs read h =
     both_right second (needs fault.TooManyFields (nat_le (total max_depth v) max_fields)) (forest max_depth v
-    >>= judged) c (bind_right (forest max_depth v) judged c fs read h)
+    >>= validated_fields) c (bind_right (forest max_depth v) validated_fields c fs read h)
 
 pub too_wide : (v : Vector) (fs : List (Rose Entry)) → forest max_depth v ≡ Ok fs
     → are_within_slot (layouts_of fs) ≡ false → Stands (columns_of v) fault.BadType
-unfolding judged
+unfolding validated_fields
 too_wide v fs read wide =
-    misjudged v fault.BadType fs read
+    invalid_fields v fault.BadType fs read
     (both_left second (slot_test fs) (clear_test fs) fault.BadType
     (needs_stands fault.BadType (are_within_slot (layouts_of fs)) fault.BadType wide refl))
 
-pub clashing : (v : Vector) (fs : List (Rose Entry)) → forest max_depth v ≡ Ok fs → is_clear fs ≡ false
+pub clashing : (v : Vector) (fs : List (Rose Entry)) → forest max_depth v ≡ Ok fs → are_consistent fs ≡ false
     → Stands (columns_of v) fault.DictionaryClash
-unfolding judged
+unfolding validated_fields
 clashing v fs read unclear =
-    misjudged v fault.DictionaryClash fs read
+    invalid_fields v fault.DictionaryClash fs read
     (both_right second (slot_test fs) (clear_test fs) fault.DictionaryClash
-    (checked_stands fault.DictionaryClash (is_clear fs) fs fault.DictionaryClash unclear refl))
+    (checked_stands fault.DictionaryClash (are_consistent fs) fs fault.DictionaryClash unclear refl))
 
 pub all_read :
     (v : Vector) (fs : List (Rose Entry)) (left : ℕ) → left + total max_depth v ≡ max_fields
     → forest max_depth v ≡ Ok fs → are_within_slot (layouts_of fs) ≡ true
-    → is_clear fs ≡ true → columns_of v ≡ Ok fs
-unfolding columns_of judged
+    → are_consistent fs ≡ true → columns_of v ≡ Ok fs
+unfolding columns_of validated_fields
 all_read v fs left few read within_slot-is clear-is =
     let test : nat_le (total max_depth v) max_fields ≡ true =
     le-leb (total max_depth v) max_fields (omega (arith, few)) in

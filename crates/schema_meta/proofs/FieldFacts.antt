@@ -54,9 +54,9 @@ use Rattle.schema_meta.specs.FieldLayouts.{
   are_within_slot,
 }
 use Rattle.schema_meta.specs.declared.encoding.DictionaryEncoding.{DictionaryEncoding}
-use Rattle.schema_meta.specs.Dictionaries.{is_clear}
-use Rattle.schema_meta.specs.Encoding.{field_encoding_of, coded_by, encoding_of, may_be_coded}
-use Rattle.schema_meta.specs.FieldsLaw.{AreFields, FieldsLaw, IsCoded, IsGoodField, AreGoodFields}
+use Rattle.schema_meta.specs.Dictionaries.{are_consistent}
+use Rattle.schema_meta.specs.Encoding.{field_encoding_of, coded_by, encoding_of, may_be_encoded}
+use Rattle.schema_meta.specs.FieldsLaw.{AreFields, FieldsLaw, IsEncoded, IsGoodField, AreGoodFields}
 use Rattle.std.specs.Str.{is_utf8}
 use Rattle.std.proofs.lemmas.Str.{is_utf8-from_IsUtf8, IsUtf8-from_ascii}
 use Rattle.field_types.specs.SchemaFbs as fbs
@@ -85,7 +85,7 @@ use Rattle.schema_meta.specs.Fields.{
   forest,
 }
 use Rattle.schema_meta.specs.Totals.{sum_from, total, total_at, total_in}
-use Rattle.schema_meta.specs.Schema.{columns_of, endianness_of, schema_of, judged}
+use Rattle.schema_meta.specs.Schema.{columns_of, endianness_of, schema_of, validated_fields}
 use Rattle.schema_meta.proofs.Faults.{needed, passed}
 
 -- the children that a kind may have are those that the layouts of its types want
@@ -108,7 +108,7 @@ fit_node k t s kids read may =
     (children-fit s is.0 kids).1 (subst P (sym is.1) may)
 
 -- lists and structs have no dictionary
-single : (s : ColType) → may_be_coded (kind_of_type s) ≡ true → IsSingle s
+single : (s : ColType) → may_be_encoded (kind_of_type s) ≡ true → IsSingle s
 single stored.Bool e = tt
 single (stored.Int w s) e = tt
 single (stored.Decimal p s) e = tt
@@ -123,19 +123,19 @@ single (stored.List o) e = absurd (cc)
 single stored.Struct e = absurd (cc)
 
 coded_valid : (k : TypeKind) (o : Option Table) (s : ColType) (c : Option DictionaryEncoding) → coded_by k o ≡ Ok c
-    → kind_of_type s ≡ k → IsCoded c s
+    → kind_of_type s ≡ k → IsEncoded c s
 coded_valid k None s c e is = let none : None ≡ c = cc in let P : Option DictionaryEncoding
-    → Type 0 = λ d. IsCoded d s in subst P none tt
+    → Type 0 = λ d. IsEncoded d s in subst P none tt
 coded_valid k (Some t) s c e is =
-    let parts = both_Ok second (needs fault.UnsupportedType (may_be_coded k)) (mapped Some (encoding_of t)) c e in
-    let may = needed fault.UnsupportedType (may_be_coded k) parts.0 parts.2 in
+    let parts = both_Ok second (needs fault.UnsupportedType (may_be_encoded k)) (mapped Some (encoding_of t)) c e in
+    let may = needed fault.UnsupportedType (may_be_encoded k) parts.0 parts.2 in
     let made = mapped_Ok Some (encoding_of t) parts.1 parts.3 in
-    let P : Option DictionaryEncoding → Type 0 = λ d. IsCoded d s in
-    let Q : TypeKind → Type 0 = λ j. may_be_coded j ≡ true in
+    let P : Option DictionaryEncoding → Type 0 = λ d. IsEncoded d s in
+    let Q : TypeKind → Type 0 = λ j. may_be_encoded j ≡ true in
     subst P (made.2 ∙ parts.4) (single s (subst Q (sym is) may))
 
 encoding_valid : (k : TypeKind) (t : Table) (s : ColType) (c : Option DictionaryEncoding) → field_encoding_of k t ≡ Ok c
-    → kind_of_type s ≡ k → IsCoded c s
+    → kind_of_type s ≡ k → IsEncoded c s
 unfolding field_encoding_of
 encoding_valid k t s c e is =
     let read = bind_Ok (readable (subtable_of t fbs.dictionary)) (coded_by k) c e in coded_valid k read.0 s c read.2 is
@@ -157,7 +157,7 @@ single_node (stored.FixedSizeBinary v) w b (more t ts) is h = h
 single_node (stored.List o) w b (more t ts) is h = absurd is
 single_node stored.Struct w b (more t ts) is h = absurd is
 
-slot_node : (c : Option DictionaryEncoding) (s : ColType) (kids : Roses Layout) → IsCoded c s
+slot_node : (c : Option DictionaryEncoding) (s : ColType) (kids : Roses Layout) → IsEncoded c s
     → IsNode (layout_by s) kids → IsNode (slot_layout c s) kids
 slot_node None s kids is h = h
 slot_node (Some c) s kids is h = single_node s c.index.width c.index.signed kids is h
@@ -366,14 +366,14 @@ pub few_read : (v : Vector) (fs : List (Rose Entry)) (left room : ℕ) → fores
     → left + total max_depth v ≡ room → roses_size (kids_of fs) ≤ room
 few_read v fs left room read count = omega (arith, (forest_known max_depth v fs read).size, count)
 
-judged_is : (fs gs : List (Rose Entry)) → judged fs ≡ Ok gs
-    → (are_within_slot (layouts_of fs) ≡ true) × (is_clear fs ≡ true) × (fs ≡ gs)
-unfolding judged
+judged_is : (fs gs : List (Rose Entry)) → validated_fields fs ≡ Ok gs
+    → (are_within_slot (layouts_of fs) ≡ true) × (are_consistent fs ≡ true) × (fs ≡ gs)
+unfolding validated_fields
 judged_is fs gs e =
     let parts =
     both_Ok second (needs fault.BadType (are_within_slot (layouts_of fs)))
-    (checked fault.DictionaryClash (is_clear fs) fs) gs e in
-    let clear = passed fault.DictionaryClash (is_clear fs) fs parts.1 parts.3 in
+    (checked fault.DictionaryClash (are_consistent fs) fs) gs e in
+    let clear = passed fault.DictionaryClash (are_consistent fs) fs parts.1 parts.3 in
     (needed fault.BadType (are_within_slot (layouts_of fs)) parts.0 parts.2, clear.0, clear.1 ∙ parts.4)
 
 columns_known : (v : Vector) (fs : List (Rose Entry)) → columns_of v ≡ Ok fs → AreFields fs
@@ -381,11 +381,11 @@ unfolding columns_of
 columns_known v fs e =
     let parts =
     both_Ok second (needs fault.TooManyFields (nat_le (total max_depth v) max_fields)) (forest max_depth v
-    >>= judged) fs e in
+    >>= validated_fields) fs e in
     let few : total max_depth v ≤ max_fields =
     leb-true (total max_depth v) max_fields
     (needed fault.TooManyFields (nat_le (total max_depth v) max_fields) parts.0 parts.2) in
-    let read = bind_Ok (forest max_depth v) judged parts.1 parts.3 in
+    let read = bind_Ok (forest max_depth v) validated_fields parts.1 parts.3 in
     let known = forest_known max_depth v read.0 read.1 in
     let are = judged_is read.0 parts.1 read.2 in
     let P : List (Rose Entry) → Type 0 = λ gs. AreFields gs in
@@ -400,7 +400,7 @@ columns_known v fs e =
     })
 
 in_known : (o : Option Vector) (fs : List (Rose Entry)) → fields_in columns_of o ≡ Ok fs → AreFields fs
-unfolding is_clear
+unfolding are_consistent
 in_known None fs e =
     let none : [] ≡ fs = cc in
     let P : List (Rose Entry) → Type 0 = λ gs. AreFields gs in

@@ -35,7 +35,7 @@ use Rattle.schema_meta.specs.Dictionaries.{
   own_agrees,
   agrees,
   agree,
-  is_clear,
+  are_consistent,
 }
 use Rattle.schema_meta.specs.Entry.{Entry}
 use Rattle.schema_meta.specs.ClashLaw.{IsOwn, Uses, UsesBelow, HaveOneType, ClashLaw, TypeLaw}
@@ -132,8 +132,8 @@ mutual
   are-known known id s (more f fs) h (inr b) =
       are-known known id s fs (and_parts (agrees known f) (agree known fs) h).1 b
 
-one-type : (fields : List (Rose Entry)) → is_clear fields ≡ true → HaveOneType fields
-unfolding is_clear
+one-type : (fields : List (Rose Entry)) → are_consistent fields ≡ true → HaveOneType fields
+unfolding are_consistent
 one-type fields clear id s t a b =
     let first = are-known (value_type fields) id s (kids_of fields) clear a in
     let second = are-known (value_type fields) id t (kids_of fields) clear b in
@@ -172,8 +172,8 @@ found-is fields id s one u =
     let found = are-found id s (kids_of fields) u in
     found.1 ∙ ap (λ t. Some t) (one id found.0 s (types-used id found.0 (kids_of fields) found.1) u)
 
-clear-of : (fields : List (Rose Entry)) → HaveOneType fields → is_clear fields ≡ true
-unfolding is_clear
+clear-of : (fields : List (Rose Entry)) → HaveOneType fields → are_consistent fields ≡ true
+unfolding are_consistent
 clear-of fields one = all-agree (value_type fields) (kids_of fields) (λ id s u. found-is fields id s one u)
 
 pub clash-law : ClashLaw

@@ -43,7 +43,7 @@ use Rattle.field_types.specs.Reads.{readable, needs, checked, bool_of}
 use Rattle.field_types.specs.Kinds.{kind_of, may_have}
 use Rattle.field_types.specs.Types.{type_of}
 use Rattle.schema_meta.specs.FieldLayouts.{are_within_slot, layouts_of}
-use Rattle.schema_meta.specs.Dictionaries.{is_clear}
+use Rattle.schema_meta.specs.Dictionaries.{are_consistent}
 use Rattle.schema_meta.specs.Encoding.{field_encoding_of}
 use Rattle.schema_meta.specs.Fields.{
   name_of,
@@ -64,7 +64,7 @@ use Rattle.schema_meta.specs.Fields.{
   child_at,
 }
 use Rattle.schema_meta.specs.Totals.{total}
-use Rattle.schema_meta.specs.Schema.{endianness_of, columns_of, schema_of, judged}
+use Rattle.schema_meta.specs.Schema.{endianness_of, columns_of, schema_of, validated_fields}
 use Rattle.schema_meta.specs.Paths.{
   FaultOfField,
   FaultOfEntry,
@@ -239,21 +239,21 @@ abbrev slot_test : List (Rose Entry) → Reading (Unit {0})
 slot_test fs = needs fault.BadType (are_within_slot (layouts_of fs))
 
 abbrev clear_test : List (Rose Entry) → Reading (List (Rose Entry))
-clear_test fs = checked fault.DictionaryClash (is_clear fs) fs
+clear_test fs = checked fault.DictionaryClash (are_consistent fs) fs
 
 judged_found :
-    (fs : List (Rose Entry)) (c : StreamFault) → Stands (judged fs) c
+    (fs : List (Rose Entry)) (c : StreamFault) → Stands (validated_fields fs) c
     → ((are_within_slot (layouts_of fs) ≡ false) × (fault.BadType ≡ c))
-    ⊎ ((is_clear fs ≡ false) × (fault.DictionaryClash ≡ c))
-unfolding judged
+    ⊎ ((are_consistent fs ≡ false) × (fault.DictionaryClash ≡ c))
+unfolding validated_fields
 judged_found fs c h =
     elim (stands_both second (slot_test fs) (clear_test fs) c h) [
       | inl a ↦ inl (needs_found fault.BadType (are_within_slot (layouts_of fs)) c a)
-      | inr b ↦ inr (checked_found fault.DictionaryClash (is_clear fs) fs c b)
+      | inr b ↦ inr (checked_found fault.DictionaryClash (are_consistent fs) fs c b)
     ]
 
 judged_columns : (v : Vector) (fs : List (Rose Entry)) (c : StreamFault) → forest max_depth v ≡ Ok fs
-    → Stands (judged fs) c → FaultOfColumns v c
+    → Stands (validated_fields fs) c → FaultOfColumns v c
 judged_columns v fs c read h =
     elim (judged_found fs c h) [ inl a ↦ by_slot fs read a.0 a.1 | inr b ↦ by_clash fs read b.0 b.1 ]
 
@@ -261,11 +261,11 @@ columns_found : (v : Vector) (c : StreamFault) → Stands (columns_of v) c → F
 unfolding columns_of
 columns_found v c h =
     elim (stands_both second (needs fault.TooManyFields (nat_le (total max_depth v) max_fields)) (forest max_depth v
-    >>= judged) c h) [
+    >>= validated_fields) c h) [
       | inl a ↦ let n = needs_found fault.TooManyFields (nat_le (total max_depth v) max_fields) c a in
           by_count (above (total max_depth v) max_fields n.0) n.1
       | inr b ↦
-          elim (bind_found (forest max_depth v) judged c b) [
+          elim (bind_found (forest max_depth v) validated_fields c b) [
             | inl p ↦ elim (forest_found max_depth v c p) [ inl x ↦ by_path x | inr y ↦ by_depth y.0 y.1 ]
             | inr q ↦ judged_columns v q.0 c q.1 q.2
           ]
@@ -431,24 +431,24 @@ depth_stands (j ∷ p) (suc depth) v w l e n =
     (depth_stands p depth l.1.0 w l.1.2 (omega (arith, e)) n))
 
 within_slot_stands : (fs : List (Rose Entry)) (c : StreamFault) → are_within_slot (layouts_of fs) ≡ false
-    → fault.BadType ≡ c → Stands (judged fs) c
-unfolding judged
+    → fault.BadType ≡ c → Stands (validated_fields fs) c
+unfolding validated_fields
 within_slot_stands fs c wide e =
     both_left second (slot_test fs) (clear_test fs) c
     (needs_stands fault.BadType (are_within_slot (layouts_of fs)) c wide e)
 
-clash_stands : (fs : List (Rose Entry)) (c : StreamFault) → is_clear fs ≡ false → fault.DictionaryClash ≡ c
-    → Stands (judged fs) c
-unfolding judged
+clash_stands : (fs : List (Rose Entry)) (c : StreamFault) → are_consistent fs ≡ false → fault.DictionaryClash ≡ c
+    → Stands (validated_fields fs) c
+unfolding validated_fields
 clash_stands fs c unclear e =
     both_right second (slot_test fs) (clear_test fs) c
-    (checked_stands fault.DictionaryClash (is_clear fs) fs c unclear e)
+    (checked_stands fault.DictionaryClash (are_consistent fs) fs c unclear e)
 
 in_forest : (v : Vector) (c : StreamFault) → Stands (forest max_depth v) c → Stands (columns_of v) c
 unfolding columns_of
 in_forest v c h =
     both_right second (needs fault.TooManyFields (nat_le (total max_depth v) max_fields)) (forest max_depth v
-    >>= judged) c (bind_left (forest max_depth v) judged c h)
+    >>= validated_fields) c (bind_left (forest max_depth v) validated_fields c h)
 
 columns_stands : (v : Vector) (c : StreamFault) → FaultOfColumns v c → Stands (columns_of v) c
 unfolding columns_of
@@ -459,17 +459,17 @@ columns_stands v c (by_depth s e) =
     in_forest v c (subst P e (depth_stands s.path max_depth v s.end s.leads s.long s.some))
 columns_stands v c (by_count m e) =
     both_left second (needs fault.TooManyFields (nat_le (total max_depth v) max_fields)) (forest max_depth v
-    >>= judged) c
+    >>= validated_fields) c
     (needs_stands fault.TooManyFields (nat_le (total max_depth v) max_fields) c
     (not_above (total max_depth v) max_fields m) e)
 columns_stands v c (by_slot fs read wide e) =
     both_right second (needs fault.TooManyFields (nat_le (total max_depth v) max_fields)) (forest max_depth v
-    >>= judged) c
-    (bind_right (forest max_depth v) judged c fs read (within_slot_stands fs c wide e))
+    >>= validated_fields) c
+    (bind_right (forest max_depth v) validated_fields c fs read (within_slot_stands fs c wide e))
 columns_stands v c (by_clash fs read unclear e) =
     both_right second (needs fault.TooManyFields (nat_le (total max_depth v) max_fields)) (forest max_depth v
-    >>= judged) c
-    (bind_right (forest max_depth v) judged c fs read (clash_stands fs c unclear e))
+    >>= validated_fields) c
+    (bind_right (forest max_depth v) validated_fields c fs read (clash_stands fs c unclear e))
 
 pub stands_by_paths : (t : Table) (c : StreamFault) → FaultOfSchema t c → Stands (schema_of t) c
 unfolding schema_of

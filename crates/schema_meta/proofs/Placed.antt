@@ -70,7 +70,7 @@ use Rattle.schema_meta.proofs.OneType.{known-type}
 use Rattle.array_layout.specs.Sound.{LiesIn, AreLong, IsPlaced, ArePlaced}
 use Rattle.schema_meta.specs.Batch.{least, is_long, are_long, columns_fit, lengths_fit}
 use Rattle.schema_meta.specs.declared.encoding.DictionaryEncoding.{DictionaryEncoding}
-use Rattle.schema_meta.specs.Dictionaries.{own_agrees, agrees, agree, value_type, is_clear}
+use Rattle.schema_meta.specs.Dictionaries.{own_agrees, agrees, agree, value_type, are_consistent}
 use Rattle.schema_meta.specs.DictionaryBatch.{value_layout, value_layouts}
 use Rattle.schema_meta.specs.Entry.{Entry}
 use Rattle.schema_meta.specs.FieldLayouts.{
@@ -81,7 +81,7 @@ use Rattle.schema_meta.specs.FieldLayouts.{
   slot_layouts_below,
 }
 use Rattle.schema_meta.specs.Parts.{dictionary_values, decoded, decoded_all, arrays_of, values_array}
-use Rattle.schema_meta.specs.PlaceLaw.{HaveLength, PlaceLaw, AreValues, WordsLaw, SameWords, ValuesLaw}
+use Rattle.schema_meta.specs.PlaceLaw.{HaveLength, PlaceLaw, AreValues, TypedArraysLaw, SameArraysLaw, ValuesLaw}
 
 -- the layouts of what is placed are those that it is placed for
 mutual
@@ -407,8 +407,8 @@ mutual
       let parts = and_parts (agrees (value_type fields) f) (agree (value_type fields) fs) h in
       (array-typed values fields f t are parts.0, arrays-typed values fields fs ts are parts.1)
 
-pub dictionary-law : WordsLaw
-unfolding arrays_of is_clear
+pub dictionary-law : TypedArraysLaw
+unfolding arrays_of are_consistent
 dictionary-law values fields head known are =
     arrays-typed values fields (kids_of fields) (slots_placed head.nodes head.ranges 0 0 (kids_of fields)) are
     known.clear
@@ -434,7 +434,7 @@ mutual
   arrays-same values others (more f fs) (more t ts) same =
       rw (array-same values others f t same, arrays-same values others fs ts same) refl
 
-pub same-dictionary : SameWords
+pub same-dictionary : SameArraysLaw
 unfolding arrays_of
 same-dictionary values others fields head same =
     arrays-same values others (kids_of fields) (slots_placed head.nodes head.ranges 0 0 (kids_of fields)) same

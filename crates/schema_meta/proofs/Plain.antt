@@ -7,7 +7,7 @@ use Rattle.array_layout.specs.declared.array.BufferRange.{BufferRange}
 use Rattle.array_layout.specs.Placing.{placed, placed_all, ranges_in}
 use Rattle.values.specs.Logical.{NamedType, tree_of, trees_of}
 use Rattle.values.specs.declared.col_type.ColType.{ColType}
-use Rattle.schema_meta.specs.Dictionaries.{agree, is_clear, value_type}
+use Rattle.schema_meta.specs.Dictionaries.{agree, are_consistent, value_type}
 use Rattle.schema_meta.specs.FieldLayouts.{slot_layout_of, slot_layouts_below, slot_layouts_of}
 use Rattle.schema_meta.specs.Parts.{decoded, decoded_all, arrays_of}
 use Rattle.schema_meta.specs.PlainLaw.{PlainSlots, PlainArrays}
@@ -60,8 +60,8 @@ plain-agree : (known : ℤ → Option ColType) (fs : Roses NamedType) → agree 
 plain-agree known none = refl
 plain-agree known (more (node f kids) fs) = rw (plain-agree known kids, plain-agree known fs) refl
 
-pub plain-clear : (fs : List (Rose NamedType)) → is_clear (stored_fields fs) ≡ true
-unfolding is_clear
+pub plain-clear : (fs : List (Rose NamedType)) → are_consistent (stored_fields fs) ≡ true
+unfolding are_consistent
 plain-clear fs =
     ap (agree (value_type (stored_fields fs))) (stored-kids fs)
     ∙ plain-agree (value_type (stored_fields fs)) (kids_of fs)

@@ -54,8 +54,8 @@ use Rattle.field_types.specs.Types.{width_of, int_of, index_of, type_of}
 use Rattle.schema_meta.specs.Entry.{Entry}
 use Rattle.schema_meta.specs.Fields.{name_of, children_of, label_of, content_of, field_of, entry_by, child_at, forest}
 use Rattle.schema_meta.specs.Totals.{sum_from, total_at, total}
-use Rattle.schema_meta.specs.Schema.{endianness_of, judged, columns_of, schema_of}
-use Rattle.schema_meta.specs.Dictionaries.{value_type, is_clear}
+use Rattle.schema_meta.specs.Schema.{endianness_of, validated_fields, columns_of, schema_of}
+use Rattle.schema_meta.specs.Dictionaries.{value_type, are_consistent}
 use Rattle.schema_meta.specs.Encoding.{id_of, index_type_of, dense_of, encoding_of, field_encoding_of}
 
 abbrev metadata : List ℕ
@@ -101,8 +101,8 @@ pub sample :
     × (schema_in (slice_set metadata 140 65) ≡ Err (one fault.BadType))
 unfolding number_at signed_at target_at bytes_at block_at place_of_vtable vtable_at table_at root_of slot_of number_of
     signed_of structs_of subtable_of vector_at vector_of entry_of each bool_of short_of i32_of kind_numbered kind_of
-    width_of int_of type_of name_of field_encoding_of judged value_type is_clear children_of label_of content_of
-    field_of entry_by child_at forest sum_from total_at total endianness_of columns_of schema_of
+    width_of int_of type_of name_of field_encoding_of validated_fields value_type are_consistent children_of label_of
+    content_of field_of entry_by child_at forest sum_from total_at total endianness_of columns_of schema_of
 sample = rw (letter 107 (omega arith), letter 118 (omega arith)) (refl, refl, refl, refl, refl)
 
 -- The table of a field with a dictionary, laid out by hand: name, nullable, Utf8, and { id 7, indices of 16 bits with a

@@ -293,23 +293,23 @@ are-such o offsets n limit bytes are =
     let last : nat_le (offset_at o offsets n) limit ≡ true = le-leb _ _ (omega (arith, ints, is, most)) in
     rw (rises, low, last) refl
 
-judged : Bool → Reading (Unit {0})
-judged such = if such then Ok tt else Err (one fault.Offsets)
+tested : Bool → Reading (Unit {0})
+tested such = if such then Ok tt else Err (one fault.Offsets)
 
-offsets-judged :
+offsets-tested :
     (o : OffsetWidth) (offsets : List ℕ) (n limit : ℕ) → 0 < n → offset_bytes o * (n + 1) ≤ length offsets
-    → offsets_of o offsets n limit ≡ judged (is-such o offsets n limit)
-unfolding offsets_of is-such half-of judged
-offsets-judged o offsets n limit some room =
+    → offsets_of o offsets n limit ≡ tested (is-such o offsets n limit)
+unfolding offsets_of is-such half-of tested
+offsets-tested o offsets n limit some room =
     rw (ne_eqb n 0 (λ e. omega (arith, e, some)), le-ltb (length offsets) (offset_bytes o * (n + 1)) room) refl
 
 Says : Reading (Unit {0}) → Type 0 → Type 0
 Says m are = ((m ≡ Ok tt) ↔ are) × (Stands m fault.Offsets ↔ ¬ are)
 
-judged-says : (such : Bool) (are : Type 0) → (such ≡ true → are) → (are → such ≡ true) → Says (judged such) are
-unfolding judged Says
-judged-says true are to from = ((λ e. to refl, λ a. refl), (λ stands. absurd stands, λ never. absurd (never (to refl))))
-judged-says false are to from = (
+tested-says : (such : Bool) (are : Type 0) → (such ≡ true → are) → (are → such ≡ true) → Says (tested such) are
+unfolding tested Says
+tested-says true are to from = ((λ e. to refl, λ a. refl), (λ stands. absurd stands, λ never. absurd (never (to refl))))
+tested-says false are to from = (
   (λ e. absurd (cc), λ a. let never : false ≡ true = from a in absurd (cc)),
   (λ stands a. let never : false ≡ true = from a in absurd (cc), λ never. refl),
 )
@@ -318,6 +318,6 @@ pub signed-arrays : SignedArrays
 unfolding Says
 signed-arrays o offsets n limit bytes some room =
     let P : Reading (Unit {0}) → Type 0 = λ m. Says m (AreOffsets o offsets n limit) in
-    subst P (sym (offsets-judged o offsets n limit some room))
-    (judged-says (is-such o offsets n limit) (AreOffsets o offsets n limit) (such-are o offsets n limit bytes)
+    subst P (sym (offsets-tested o offsets n limit some room))
+    (tested-says (is-such o offsets n limit) (AreOffsets o offsets n limit) (such-are o offsets n limit bytes)
     (are-such o offsets n limit bytes))

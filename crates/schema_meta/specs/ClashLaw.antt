@@ -3,7 +3,7 @@ use Rattle.std.specs.Prelude.{◌≡◌, ◌⊎◌, ◌↔◌, ℤ, true, List, 
 use Rattle.values.specs.Rose.{Rose, node, Roses, none, more, kids_of}
 use Rattle.values.specs.declared.col_type.ColType.{ColType}
 use Rattle.schema_meta.specs.declared.encoding.DictionaryEncoding.{DictionaryEncoding}
-use Rattle.schema_meta.specs.Dictionaries.{is_clear, value_type}
+use Rattle.schema_meta.specs.Dictionaries.{are_consistent, value_type}
 use Rattle.schema_meta.specs.Entry.{Entry}
 
 -- the dictionary has this id, and its values this type
@@ -25,10 +25,10 @@ HaveOneType fields =
     (id : ℤ) (s t : ColType) → UsesBelow id s (kids_of fields) → UsesBelow id t (kids_of fields) → s ≡ t
 
 abbrev pub ClashLaw : Type 0
-ClashLaw = (fields : List (Rose Entry)) → (is_clear fields ≡ true) ↔ HaveOneType fields
+ClashLaw = (fields : List (Rose Entry)) → (are_consistent fields ≡ true) ↔ HaveOneType fields
 
 -- the type that is found for an id is that of a field with the id, if there is one
 abbrev pub TypeLaw : Type 0
 TypeLaw =
-    (fields : List (Rose Entry)) (id : ℤ) (s : ColType) → is_clear fields ≡ true
+    (fields : List (Rose Entry)) (id : ℤ) (s : ColType) → are_consistent fields ≡ true
     → (value_type fields id ≡ Some s) ↔ UsesBelow id s (kids_of fields)

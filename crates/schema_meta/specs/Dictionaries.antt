@@ -48,5 +48,5 @@ abbrev mutual
   agree known (more f fs) = agrees known f && agree known fs
 
 -- No two fields use one id with different types: each has the type of the first with its id.
-unfoldable pub is_clear : List (Rose Entry) → Bool
-is_clear fields = agree (value_type fields) (kids_of fields)
+unfoldable pub are_consistent : List (Rose Entry) → Bool
+are_consistent fields = agree (value_type fields) (kids_of fields)

@@ -37,14 +37,14 @@ unfoldable pub encoding_of : Table → Reading DictionaryEncoding
 encoding_of t = both first (both encoding (id_of t) (index_type_of t)) (dense_of t)
 
 -- Lists and structs stand in no dictionary.
-abbrev pub may_be_coded : TypeKind → Bool
-may_be_coded (kind.List o) = false
-may_be_coded kind.Struct = false
-may_be_coded k = true
+abbrev pub may_be_encoded : TypeKind → Bool
+may_be_encoded (kind.List o) = false
+may_be_encoded kind.Struct = false
+may_be_encoded k = true
 
 abbrev pub coded_by : TypeKind → Option Table → Reading (Option DictionaryEncoding)
 coded_by k None = Ok None
-coded_by k (Some t) = both second (needs fault.UnsupportedType (may_be_coded k)) (mapped Some (encoding_of t))
+coded_by k (Some t) = both second (needs fault.UnsupportedType (may_be_encoded k)) (mapped Some (encoding_of t))
 
 -- the dictionary of a field of this kind, if it has one
 unfoldable pub field_encoding_of : TypeKind → Table → Reading (Option DictionaryEncoding)

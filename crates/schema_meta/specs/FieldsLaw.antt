@@ -8,7 +8,7 @@ use Rattle.values.specs.Layouts.{AreLayouts}
 use Rattle.values.specs.ColTypes.{IsSingle, IsType}
 use Rattle.values.specs.declared.col_type.ColType.{ColType}
 use Rattle.schema_meta.specs.declared.encoding.DictionaryEncoding.{DictionaryEncoding}
-use Rattle.schema_meta.specs.Dictionaries.{is_clear}
+use Rattle.schema_meta.specs.Dictionaries.{are_consistent}
 use Rattle.schema_meta.specs.Entry.{Entry}
 use Rattle.schema_meta.specs.FieldLayouts.{are_within_slot, layouts_of, slot_layouts_of}
 use Rattle.schema_meta.specs.Logical.{logical_field}
@@ -17,15 +17,15 @@ use Rattle.schema_meta.specs.SchemaTree.{AreColumns}
 use Rattle.schema_meta.specs.SchemaLaw.{AreNamed}
 
 -- the values of a dictionary are no lists or structs
-abbrev pub IsCoded : Option DictionaryEncoding → ColType → Type 0
-IsCoded None s = Unit {0}
-IsCoded (Some c) s = IsSingle s
+abbrev pub IsEncoded : Option DictionaryEncoding → ColType → Type 0
+IsEncoded None s = Unit {0}
+IsEncoded (Some c) s = IsSingle s
 
 -- names that are short texts, and types within their bounds, at all levels
 abbrev mutual
   pub IsGoodField : Rose Entry → Type 0
   IsGoodField (node e kids) = (length e.name ≤ max_name_len) × (is_utf8 e.name ≡ true) × IsType e.stored
-      × IsCoded e.encoding e.stored × AreGoodFields kids
+      × IsEncoded e.encoding e.stored × AreGoodFields kids
 
   pub AreGoodFields : Roses Entry → Type 0
   AreGoodFields none = Unit {0}
@@ -39,7 +39,7 @@ pub record AreFields (fields : List (Rose Entry)) : Type 0 where
   pub layouts : AreLayouts (layouts_of fields)
   pub slots : AreLayouts (slot_layouts_of fields)
   pub within_slot : are_within_slot (layouts_of fields) ≡ true
-  pub clear : is_clear fields ≡ true
+  pub clear : are_consistent fields ≡ true
   pub valid : AreGoodFields (kids_of fields)
 
 abbrev pub FieldsLaw : Type 0

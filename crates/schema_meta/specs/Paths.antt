@@ -13,7 +13,7 @@ use Rattle.field_types.specs.Reads.{readable, bool_of}
 use Rattle.field_types.specs.Kinds.{kind_of, may_have}
 use Rattle.field_types.specs.Types.{type_of}
 use Rattle.schema_meta.specs.FieldLayouts.{are_within_slot, layouts_of}
-use Rattle.schema_meta.specs.Dictionaries.{is_clear}
+use Rattle.schema_meta.specs.Dictionaries.{are_consistent}
 use Rattle.schema_meta.specs.Encoding.{field_encoding_of}
 use Rattle.schema_meta.specs.Fields.{name_of, count_in, child_at, forest}
 use Rattle.schema_meta.specs.Totals.{total}
@@ -67,7 +67,8 @@ pub data FaultOfColumns (v : Vector) (c : StreamFault) : Type 0 where
   by_count : max_fields < total max_depth v → fault.TooManyFields ≡ c → FaultOfColumns v c
   by_slot : (fs : List (Rose Entry)) → forest max_depth v ≡ Ok fs → are_within_slot (layouts_of fs) ≡ false
       → fault.BadType ≡ c → FaultOfColumns v c
-  by_clash : (fs : List (Rose Entry)) → forest max_depth v ≡ Ok fs → is_clear fs ≡ false → fault.DictionaryClash ≡ c
+  by_clash : (fs : List (Rose Entry)) → forest max_depth v ≡ Ok fs → are_consistent fs ≡ false
+      → fault.DictionaryClash ≡ c
       → FaultOfColumns v c
 
 pub data FaultOfSchema (t : Table) (c : StreamFault) : Type 0 where

@@ -38,15 +38,15 @@ AreValues fields values = (id : ℤ) (s : ColType) → value_type fields id ≡ 
     → All (Holds (value_layout s)) (values id)
 
 -- Then the values of the arrays' dictionaries are of their types too.
-abbrev pub WordsLaw : Type 0
-WordsLaw =
+abbrev pub TypedArraysLaw : Type 0
+TypedArraysLaw =
     (values : ℤ → List Datum) (fields : List (Rose Entry)) (head : BatchHead) → AreFields fields
     → AreValues fields values
     → AreTyped (arrays_of values fields head)
 
 -- Arrays depend on the values of dictionaries alone: where these are the same for each id, so are the arrays.
-abbrev pub SameWords : Type 0
-SameWords =
+abbrev pub SameArraysLaw : Type 0
+SameArraysLaw =
     (values others : ℤ → List Datum) (fields : List (Rose Entry)) (head : BatchHead)
     → ((id : ℤ) → values id ≡ others id)
     → arrays_of values fields head ≡ arrays_of others fields head

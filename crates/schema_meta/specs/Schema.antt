@@ -10,7 +10,7 @@ use Rattle.schema_meta.specs.Entry.{Entry}
 use Rattle.field_types.specs.SchemaFbs as fbs
 use Rattle.field_types.specs.Reads.{readable, needs, checked, short_of}
 use Rattle.schema_meta.specs.FieldLayouts.{layouts_of, are_within_slot}
-use Rattle.schema_meta.specs.Dictionaries.{is_clear}
+use Rattle.schema_meta.specs.Dictionaries.{are_consistent}
 use Rattle.schema_meta.specs.Fields.{forest, fields_in}
 use Rattle.schema_meta.specs.Totals.{total}
 
@@ -20,15 +20,16 @@ endianness_of t =
     short_of t fbs.endianness (pos 0) >>= λ e. needs fault.BigEndian (int_eq e (pos fbs.little_endian))
 
 -- The slots of fields, and whether ids clash, are checked where all types are known.
-unfoldable pub judged : List (Rose Entry) → Reading (List (Rose Entry))
-judged fields =
+unfoldable pub validated_fields : List (Rose Entry) → Reading (List (Rose Entry))
+validated_fields fields =
     both second (needs fault.BadType (are_within_slot (layouts_of fields)))
-    (checked fault.DictionaryClash (is_clear fields) fields)
+    (checked fault.DictionaryClash (are_consistent fields) fields)
 
 -- At most 1,024 fields at all levels, of at most 16 levels.
 unfoldable pub columns_of : Vector → Reading (List (Rose Entry))
 columns_of v =
-    both second (needs fault.TooManyFields (nat_le (total max_depth v) max_fields)) (forest max_depth v >>= judged)
+    both second (needs fault.TooManyFields (nat_le (total max_depth v) max_fields))
+    (forest max_depth v >>= validated_fields)
 
 -- the columns that a Schema table means
 unfoldable pub schema_of : Table → Reading (List (Rose Entry))

@@ -1,13 +1,13 @@
 //! Dictionary encoding of fields: Schema.fbs, table `DictionaryEncoding`.
 ghost use Rattle.std.specs.Prelude.{◌≡◌};
-ghost use Rattle.values.specs.Reading.{Judges};
+ghost use Rattle.values.specs.Reading.{Yields};
 ghost use Rattle.schema_meta.specs.Encoding.{
   field_encoding_of,
   dense_of,
   encoding_of,
   id_of,
   index_type_of,
-  may_be_coded,
+  may_be_encoded,
 };
 
 use field_types::schema_fbs::{
@@ -26,13 +26,13 @@ pub struct DictionaryEncoding {
 }
 
 fn read_id(encoding: &TableRef) -> Result<i64, StreamFault>
-    ensures { Judges (λ id. id) result (id_of encoding.now) }
+    ensures { Yields (λ id. id) result (id_of encoding.now) }
 {
     read_long(encoding, DICTIONARY_ID)
 }
 
 fn read_index(encoding: &TableRef) -> Result<IndexType, StreamFault>
-    ensures { Judges (λ index. index) result (index_type_of encoding.now) }
+    ensures { Yields (λ index. index) result (index_type_of encoding.now) }
 {
     match readable(encoding.table(DICTIONARY_INDEX_TYPE))? {
         None => Ok(IndexType {
@@ -44,7 +44,7 @@ fn read_index(encoding: &TableRef) -> Result<IndexType, StreamFault>
 }
 
 fn check_dense(encoding: &TableRef) -> Result<(), StreamFault>
-    ensures { Judges (λ u. u) result (dense_of encoding.now) }
+    ensures { Yields (λ u. u) result (dense_of encoding.now) }
 {
     match read_short(encoding, DICTIONARY_KIND, 0)? {
         DENSE_ARRAY => Ok(()),
@@ -54,7 +54,7 @@ fn check_dense(encoding: &TableRef) -> Result<(), StreamFault>
 
 #[tactic(auto, using(crate::proofs::Faults::faults), unfolding(crate::specs::Encoding::encoding_of))]
 fn read_encoding(encoding: &TableRef) -> Result<DictionaryEncoding, StreamFault>
-    ensures { Judges (λ c. c) result (encoding_of encoding.now) }
+    ensures { Yields (λ c. c) result (encoding_of encoding.now) }
 {
     let id = read_id(encoding)?;
     let index = read_index(encoding)?;
@@ -63,8 +63,8 @@ fn read_encoding(encoding: &TableRef) -> Result<DictionaryEncoding, StreamFault>
 }
 
 /// Whether a dictionary may have values of this kind: any but lists and structs.
-fn may_be_coded(kind: TypeKind) -> bool
-    ensures { result ≡ may_be_coded kind }
+fn may_be_encoded(kind: TypeKind) -> bool
+    ensures { result ≡ may_be_encoded kind }
 {
     match kind {
         TypeKind::List { .. } | TypeKind::Struct => false,
@@ -78,12 +78,12 @@ pub(crate) fn read_field_encoding(
     kind: TypeKind,
     field: &TableRef,
 ) -> Result<Option<DictionaryEncoding>, StreamFault>
-    ensures { Judges (λ c. c) result (field_encoding_of kind field.now) }
+    ensures { Yields (λ c. c) result (field_encoding_of kind field.now) }
 {
     let Some(encoding) = readable(field.table(FIELD_DICTIONARY))? else {
         return Ok(None);
     };
-    if !may_be_coded(kind) {
+    if !may_be_encoded(kind) {
         return Err(StreamFault::UnsupportedType);
     }
     Ok(Some(read_encoding(&encoding)?))

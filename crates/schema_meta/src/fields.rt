@@ -1,6 +1,6 @@
 //! Reads fields: Schema.fbs, table `Field`.
 ghost use Rattle.std.specs.Prelude.{◌<◌};
-ghost use Rattle.values.specs.Reading.{Answers, Judges};
+ghost use Rattle.values.specs.Reading.{Answers, Yields};
 ghost use Rattle.schema_meta.specs.Fields.{checked_name, children_of, entry_by, field_of, forest, name_of};
 
 use crate::encoding::read_field_encoding;
@@ -94,7 +94,7 @@ fn read_children(
 
 /// A field's name, borrowed from the buffer; empty where it is absent.
 fn read_name<'a>(table: &TableRef<'a>) -> Result<&'a str, StreamFault>
-    ensures { Judges (λ name. name.now) result (name_of table.now) }
+    ensures { Yields (λ name. name.now) result (name_of table.now) }
 {
     match readable(table.text(FIELD_NAME))? {
         None => Ok(""),
@@ -104,7 +104,7 @@ fn read_name<'a>(table: &TableRef<'a>) -> Result<&'a str, StreamFault>
 
 #[tactic(auto, using(crate::proofs::Names::texts))]
 fn check_name(bytes: &[u8]) -> Result<&str, StreamFault>
-    ensures { Judges (λ name. name.now) result (checked_name bytes.now) }
+    ensures { Yields (λ name. name.now) result (checked_name bytes.now) }
 {
     if bytes.len() > MAX_NAME_LEN {
         return Err(StreamFault::BadName);

@@ -9,7 +9,7 @@ ghost use Rattle.schema_meta.specs.LogicalLaw.{
   NarrowRowWeighs,
   NarrowWeighs,
 };
-ghost use Rattle.schema_meta.specs.PlaceLaw.{PlaceLaw, SameWords, ValuesLaw, WordsLaw};
+ghost use Rattle.schema_meta.specs.PlaceLaw.{PlaceLaw, SameArraysLaw, ValuesLaw, TypedArraysLaw};
 ghost use Rattle.schema_meta.specs.PlainLaw.{PlainArrays, PlainSlots};
 ghost use Rattle.schema_meta.specs.Paths.{FoundByPaths, StandsByPaths};
 ghost use Rattle.schema_meta.specs.SchemaLaw.{ColumnsLaw, SchemaLaw};
@@ -81,8 +81,8 @@ pub fn logical_law()
 /// value, and is of the layout of the values' type.
 pub fn place_law()
     ensures placed { PlaceLaw }
-    ensures dictionary { WordsLaw }
-    ensures same { SameWords }
+    ensures dictionary { TypedArraysLaw }
+    ensures same { SameArraysLaw }
     ensures values { ValuesLaw }
 {}
 

@@ -1,6 +1,6 @@
 //! Reads a schema: Schema.fbs, table `Schema`.
 ghost use Rattle.std.specs.Prelude.{◌≡◌, IfErr, IfOk, OnOk, map};
-ghost use Rattle.values.specs.Reading.{Answers, Fails, IsValid, Judges};
+ghost use Rattle.values.specs.Reading.{Answers, Fails, IsValid, Yields};
 ghost use Rattle.schema_meta.specs.Logical.{logical_field};
 ghost use Rattle.schema_meta.specs.Schema.{columns_of, endianness_of, schema_of};
 
@@ -8,7 +8,7 @@ use crate::count::count;
 use crate::field::{Field, named_fields};
 use crate::fields::read_fields;
 use crate::slot::slots_of;
-use crate::value_types::is_clear;
+use crate::value_types::are_consistent;
 use field_types::schema_fbs::{LITTLE_ENDIAN, SCHEMA_ENDIANNESS, SCHEMA_FIELDS};
 use field_types::{read_short, readable};
 use flatbuf::{TableRef, VectorRef};
@@ -63,14 +63,14 @@ fn read_columns(alloc: Global, columns: &VectorRef) -> Result<Vec<Field>, Stream
     let Some(_) = slots_of(&fields) else {
         return Err(StreamFault::BadType);
     };
-    if !is_clear(&fields) {
+    if !are_consistent(&fields) {
         return Err(StreamFault::DictionaryClash);
     }
     Ok(fields)
 }
 
 fn check_endianness(schema: &TableRef) -> Result<(), StreamFault>
-    ensures { Judges (λ u. u) result (endianness_of schema.now) }
+    ensures { Yields (λ u. u) result (endianness_of schema.now) }
 {
     match read_short(schema, SCHEMA_ENDIANNESS, 0)? {
         LITTLE_ENDIAN => Ok(()),

@@ -2,7 +2,15 @@
 ghost use Rattle.std.specs.Prelude.{◌≡◌};
 ghost use Rattle.std.specs.Option.{option_copied};
 ghost use Rattle.values.specs.Rose.{kids_of};
-ghost use Rattle.schema_meta.specs.Dictionaries.{agree, agrees, is_clear, own_agrees, type_below, type_in, value_type};
+ghost use Rattle.schema_meta.specs.Dictionaries.{
+  agree,
+  agrees,
+  are_consistent,
+  own_agrees,
+  type_below,
+  type_in,
+  value_type,
+};
 
 use crate::encoding::DictionaryEncoding;
 use crate::field::Field;
@@ -86,8 +94,8 @@ fn agree(all: &[Field], fields: &[Field]) -> bool
 }
 
 /// Whether no two of these fields, or of those below them, have dictionaries of one id and of different types.
-pub(crate) fn is_clear(fields: &[Field]) -> bool
-    ensures { result ≡ is_clear fields.now }
+pub(crate) fn are_consistent(fields: &[Field]) -> bool
+    ensures { result ≡ are_consistent fields.now }
 {
     agree(fields, fields)
 }

@@ -46,7 +46,7 @@ use Rattle.session.specs.Steps.{
   edited,
   given_answer,
   given_past,
-  judged,
+  edit_answer,
   kind_of,
   message_answer,
   message_past,
@@ -63,7 +63,7 @@ use Rattle.session.specs.declared.calls.Pushed.{Pushed}
 
 -- an edit that is refused isn't made
 edit_refused : (past : Past) (used : ℕ) (kind : Event) (e : Edit) (o : Option Unfit) (f : Fault)
-    → Err f ≡ judged used kind o → edited past e o ≡ past
+    → Err f ≡ edit_answer used kind o → edited past e o ≡ past
 edit_refused past used kind e None f h = absurd (cc)
 edit_refused past used kind e (Some u) f h = refl
 
@@ -148,7 +148,7 @@ unfit_is_told unfit.UnknownKey h = cc
 unfit_is_told unfit.TooManyRows h = cc
 unfit_is_told unfit.CellTooHeavy h = cc
 
-judged_by_memory : (used : ℕ) (kind : Event) (o : Option Unfit) (f : Fault) → Err f ≡ judged used kind o
+judged_by_memory : (used : ℕ) (kind : Event) (o : Option Unfit) (f : Fault) → Err f ≡ edit_answer used kind o
     → f.cause ≡ cause.Memory → ⊥
 judged_by_memory used kind None f h m = cc
 judged_by_memory used kind (Some u) f h m =

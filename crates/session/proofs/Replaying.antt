@@ -88,7 +88,7 @@ use Rattle.session.specs.Steps.{
   WritesView,
   edit_in,
   end_answer,
-  judged,
+  edit_answer,
   kind_of,
   message_answer,
   moved,
@@ -347,7 +347,8 @@ follows-set roles ends messages new streams left channels k c fed follows there 
           × Stand
           (ends k) x.fed (left k)) found ((follows k c there).0, at, heir, stand))
 
-      other : (j ≡ k → ⊥) → (d.role ≡ roles j) × (new j ≡ (transcript d.fed (left j)).events) × Heir (ends j) d.fed (left j)
+      other : (j ≡ k → ⊥) → (d.role ≡ roles j) × (new j ≡ (transcript d.fed (left j)).events)
+          × Heir (ends j) d.fed (left j)
           × Stand (ends j) d.fed (left j)
       other e =
           let found : slice_get channels j ≡ Some d = sym (get-other channels k j (with_feed c fed) e) ∙ is in
@@ -432,7 +433,7 @@ no-fault : (tables : List Table) (past : Past) (used : ℕ) (kind : Kind) (e : O
     → IsFault (message_answer tables past used kind e) f → ⊥
 no-fault tables past used kind None f h = h
 no-fault tables past used kind (Some e) f h = by_unfit (unfit_in tables past e) h where
-  by_unfit : (o : Option Unfit) → IsFault (judged used kind o) f → ⊥
+  by_unfit : (o : Option Unfit) → IsFault (edit_answer used kind o) f → ⊥
   by_unfit None g = g
   by_unfit (Some u) g = unfit-stream u f g
 
@@ -522,7 +523,8 @@ event-completes : (tables : List Table) (past : Past) (used : ℕ) (kind : Kind)
     (used_of (message_answer tables past used kind e) ≡ used)
 event-completes tables past used kind None = (refl, refl)
 event-completes tables past used kind (Some e) = by_unfit (unfit_in tables past e) where
-  by_unfit : (o : Option Unfit) → (completes (judged used kind o) ≡ true) × (used_of (judged used kind o) ≡ used)
+  by_unfit : (o : Option Unfit) → (completes (edit_answer used kind o) ≡ true)
+      × (used_of (edit_answer used kind o) ≡ used)
   by_unfit None = (refl, refl)
   by_unfit (Some u) = (unfit-told u, refl)
 
@@ -552,7 +554,7 @@ event-heard : (tables : List Table) (past : Past) (used : ℕ) (kind : Kind) (e 
     → IfAnswered (message_answer tables past used kind e) claim → claim
 event-heard tables past used kind None claim h = h
 event-heard tables past used kind (Some e) claim h = by_unfit (unfit_in tables past e) h where
-  by_unfit : (o : Option Unfit) → IfAnswered (judged used kind o) claim → claim
+  by_unfit : (o : Option Unfit) → IfAnswered (edit_answer used kind o) claim → claim
   by_unfit None g = g
   by_unfit (Some u) g = heard-if (is_unheard (named u)) claim (unfit-heard u) g
 

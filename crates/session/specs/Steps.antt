@@ -114,13 +114,13 @@ kind_of (batch columns rows body) = event.Batch
 kind_of ended = event.End
 
 -- what a push answers for a message whose edit fits, or has this cause
-abbrev pub judged : ℕ → Event → Option Unfit → Result Pushed Fault
-judged used e None = Ok (pushed used (Some e))
-judged used e (Some u) = Err (record { cause = named u; used = used })
+abbrev pub edit_answer : ℕ → Event → Option Unfit → Result Pushed Fault
+edit_answer used e None = Ok (pushed used (Some e))
+edit_answer used e (Some u) = Err (record { cause = named u; used = used })
 
 abbrev pub message_answer : List Table → Past → ℕ → Event → Option Edit → Result Pushed Fault
 message_answer tables past used kind None = Ok (pushed used (Some kind))
-message_answer tables past used kind (Some e) = judged used kind (unfit_in tables past e)
+message_answer tables past used kind (Some e) = edit_answer used kind (unfit_in tables past e)
 
 abbrev pub given_answer : List Table → Role → Past → ℕ → Option Message → Result Pushed Fault
 given_answer tables role past used None = Ok (pushed used None)

@@ -21,13 +21,13 @@ pub(crate) struct BatchRows<'a> {
 
 /// A row of some batches: row `from` of them, counted through all.
 #[derive(Clone, Copy)]
-struct Place<'a> {
+struct Position<'a> {
     batches: &'a [Batch],
     from: usize,
 }
 
 /// The place of row `from`, counted through all batches, within the one in which it lies.
-fn place_at<'a>(batches: &'a [Batch], from: usize) -> Place<'a>
+fn position_at<'a>(batches: &'a [Batch], from: usize) -> Position<'a>
     ensures rows { drop result.from (rows_of result.batches.now) ≡ drop from (rows_of batches.now) }
     ensures sized { (n : ℕ) → All (IsSized n) batches.now → All (IsSized n) result.batches.now }
     ensures bound { result.from ≤ from }
@@ -36,14 +36,14 @@ fn place_at<'a>(batches: &'a [Batch], from: usize) -> Place<'a>
     for i in 0..batches.len() {
         let rows = batches[i].rows;
         if start < rows {
-            return Place {
+            return Position {
                 batches: &batches[i..],
                 from: start,
             };
         }
         start -= rows;
     }
-    Place {
+    Position {
         batches: &batches[batches.len()..],
         from: start,
     }
@@ -107,7 +107,7 @@ impl<'a> RowSource for BatchRows<'a> {
     }
 
     fn skip(&mut self, count: usize) {
-        let place = place_at(self.batches, self.from + count);
+        let place = position_at(self.batches, self.from + count);
         self.batches = place.batches;
         self.from = place.from;
         self.left -= count;

@@ -51,9 +51,10 @@ impl Sink for MemorySink {
 
     /// Takes what its portion leaves of the piece. It fails after its last put, and where memory is refused.
     fn put(&mut self, piece: &[u8]) -> Result<usize, DeviceFault>
-        ensures puts { Puts (sunk_of self.old.bytes.items self.old.failed) (sunk_of self.new.bytes.items self.new.failed) result
-            piece.now }
-        ensures portion { IfOk result (λ n. (n ≡ min (length piece.now) self.old.portion) × (self.old.puts ≡ self.new.puts + 1)) }
+        ensures puts { Puts (sunk_of self.old.bytes.items self.old.failed)
+            (sunk_of self.new.bytes.items self.new.failed) result piece.now }
+        ensures portion { IfOk result
+            (λ n. (n ≡ min (length piece.now) self.old.portion) × (self.old.puts ≡ self.new.puts + 1)) }
         ensures limits { IfErr result (λ _. self.new.puts ≡ self.old.puts) × (self.new.portion ≡ self.old.portion) }
     {
         let failed = self.failed;

@@ -41,9 +41,12 @@ pub(crate) trait RowSource {
         requires fits { fits self.now layouts.now }
         requires within { count ≤ length (rows self.now) }
         requires batch { IsBatch (kids_of layouts.now) (take count (rows self.now)) }
-        ensures nodes { IfOk result (λ body. body.nodes.items ≡ body_nodes (kids_of layouts.now) (take count (rows self.now))) }
-        ensures ranges { IfOk result (λ body. body.ranges.items ≡ body_ranges (kids_of layouts.now) (take count (rows self.now))) }
-        ensures bytes { IfOk result (λ body. body.bytes.items ≡ body_bytes (kids_of layouts.now) (take count (rows self.now))) }
+        ensures nodes { IfOk result
+            (λ body. body.nodes.items ≡ body_nodes (kids_of layouts.now) (take count (rows self.now))) }
+        ensures ranges { IfOk result
+            (λ body. body.ranges.items ≡ body_ranges (kids_of layouts.now) (take count (rows self.now))) }
+        ensures bytes { IfOk result
+            (λ body. body.bytes.items ≡ body_bytes (kids_of layouts.now) (take count (rows self.now))) }
         ensures size { IfOk result (λ body. length body.bytes.items ≤ max_body_size) };
 
     /// Drops the first `count` rows.

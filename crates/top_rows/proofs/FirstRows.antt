@@ -20,44 +20,44 @@ use Rattle.view_lang.specs.declared.view.Direction.{Direction}
 use Rattle.view_lang.specs.declared.view.Direction.TheVariants as direction
 use Rattle.view_lang.specs.declared.view.OrderBy.{OrderBy}
 use Rattle.top_rows.specs.OrderedPlaces.{OrderedPlaces}
-use Rattle.top_rows.specs.Parts.{part_of, parts_of}
-use Rattle.top_rows.specs.PlaceOrder.{RowPlace, part_cmp, place_cmp}
+use Rattle.top_rows.specs.SortKeys.{sort_key_of, sort_keys_of}
+use Rattle.top_rows.specs.PlaceOrder.{RowPlace, sort_key_cmp, place_cmp}
 use Rattle.top_rows.specs.Places.{place_of}
 use Rattle.top_rows.specs.SortedPlaces.{sorted_places}
 use Rattle.top_rows.specs.ViewOrder.{AreFirst, IsKeptFor, OrdersKeys}
 use Rattle.view_lang.proofs.OwnEntries.{HasOwn, own-entries}
 use Rattle.top_rows.proofs.Sorting.{are_sorted}
 
-part-cmp : (d : Direction) (a b : Datum) → IsKeyCell a → IsKeyCell b
-    → part_cmp (part_of d a) (part_of d b) ≡ cell_cmp d a b
-part-cmp direction.Descending (list es) b x y = absurd (true≢false (sym x))
-part-cmp direction.Descending (structure es) b x y = absurd (true≢false (sym x))
-part-cmp direction.Ascending (list es) b x y = absurd (true≢false (sym x))
-part-cmp direction.Ascending (structure es) b x y = absurd (true≢false (sym x))
-part-cmp direction.Descending a (list es) x y = absurd (true≢false (sym y))
-part-cmp direction.Descending a (structure es) x y = absurd (true≢false (sym y))
-part-cmp direction.Ascending a (list es) x y = absurd (true≢false (sym y))
-part-cmp direction.Ascending a (structure es) x y = absurd (true≢false (sym y))
-part-cmp direction.Ascending (truth true) (truth true) x y = refl
-part-cmp direction.Ascending (truth true) (truth false) x y = refl
-part-cmp direction.Ascending (truth false) (truth true) x y = refl
-part-cmp direction.Ascending (truth false) (truth false) x y = refl
-part-cmp direction.Descending (truth true) (truth true) x y = refl
-part-cmp direction.Descending (truth true) (truth false) x y = refl
-part-cmp direction.Descending (truth false) (truth true) x y = refl
-part-cmp direction.Descending (truth false) (truth false) x y = refl
-part-cmp direction.Descending null null x y = refl
-part-cmp direction.Ascending null null x y = refl
-part-cmp direction.Descending a b x y = refl
-part-cmp direction.Ascending a b x y = refl
+sort-key-cmp : (d : Direction) (a b : Datum) → IsKeyCell a → IsKeyCell b
+    → sort_key_cmp (sort_key_of d a) (sort_key_of d b) ≡ cell_cmp d a b
+sort-key-cmp direction.Descending (list es) b x y = absurd (true≢false (sym x))
+sort-key-cmp direction.Descending (structure es) b x y = absurd (true≢false (sym x))
+sort-key-cmp direction.Ascending (list es) b x y = absurd (true≢false (sym x))
+sort-key-cmp direction.Ascending (structure es) b x y = absurd (true≢false (sym x))
+sort-key-cmp direction.Descending a (list es) x y = absurd (true≢false (sym y))
+sort-key-cmp direction.Descending a (structure es) x y = absurd (true≢false (sym y))
+sort-key-cmp direction.Ascending a (list es) x y = absurd (true≢false (sym y))
+sort-key-cmp direction.Ascending a (structure es) x y = absurd (true≢false (sym y))
+sort-key-cmp direction.Ascending (truth true) (truth true) x y = refl
+sort-key-cmp direction.Ascending (truth true) (truth false) x y = refl
+sort-key-cmp direction.Ascending (truth false) (truth true) x y = refl
+sort-key-cmp direction.Ascending (truth false) (truth false) x y = refl
+sort-key-cmp direction.Descending (truth true) (truth true) x y = refl
+sort-key-cmp direction.Descending (truth true) (truth false) x y = refl
+sort-key-cmp direction.Descending (truth false) (truth true) x y = refl
+sort-key-cmp direction.Descending (truth false) (truth false) x y = refl
+sort-key-cmp direction.Descending null null x y = refl
+sort-key-cmp direction.Ascending null null x y = refl
+sort-key-cmp direction.Descending a b x y = refl
+sort-key-cmp direction.Ascending a b x y = refl
 
-parts-cmp : (order : List OrderBy) (a b : List Datum) → OrdersKeys order a → OrdersKeys order b
-    → slice_cmp part_cmp (parts_of order a) (parts_of order b) ≡ row_cmp order a b
+sort-keys-cmp : (order : List OrderBy) (a b : List Datum) → OrdersKeys order a → OrdersKeys order b
+    → slice_cmp sort_key_cmp (sort_keys_of order a) (sort_keys_of order b) ≡ row_cmp order a b
 unfolding row_cmp
-parts-cmp [] a b x y = refl
-parts-cmp (o ∷ os) a b x y =
-    ap₂ ordering_then (part-cmp o.direction (cell_at a o.column) (cell_at b o.column) x.0 y.0)
-    (parts-cmp os a b x.1 y.1)
+sort-keys-cmp [] a b x y = refl
+sort-keys-cmp (o ∷ os) a b x y =
+    ap₂ ordering_then (sort-key-cmp o.direction (cell_at a o.column) (cell_at b o.column) x.0 y.0)
+    (sort-keys-cmp os a b x.1 y.1)
 
 all-placed : {X : Type 0} (c : X → X → Ordering) (P : X → Type 0) (x : X) (xs : List X) → P x → AllByRecursion P xs
     → AllByRecursion P (placed c x xs)
@@ -84,7 +84,7 @@ module _ (order : List OrderBy) where
 
   place-cmp : (a b : ℕ × List Datum) → Fine a → Fine b → nat_cmp a.0 b.0 ≡ Less
       → place_cmp (placing a) (placing b) ≡ ordering_then (row_cmp order a.1 b.1) Less
-  place-cmp a b x y l = ap₂ ordering_then (parts-cmp order a.1 b.1 x y) l
+  place-cmp a b x y l = ap₂ ordering_then (sort-keys-cmp order a.1 b.1 x y) l
 
   abbrev IsPlaced : ℕ × List Datum → NumberedRows → Type 0
   IsPlaced e ys = insert_key place_cmp (map placing ys) (placing e) ≡ map placing (placed by e ys)

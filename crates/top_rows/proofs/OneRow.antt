@@ -12,10 +12,10 @@ use Rattle.values.specs.Datum.{Datum}
 use Rattle.view_lang.specs.Counted.{lookup-with_at}
 use Rattle.view_lang.specs.Shifts.{NumberedRows, row_at, with_at}
 use Rattle.view_lang.specs.declared.view.OrderBy.{OrderBy}
-use Rattle.top_rows.specs.Keeping.{Keeps, has_parts}
+use Rattle.top_rows.specs.Keeping.{Keeps, has_sort_keys}
 use Rattle.top_rows.specs.OrderedPlaces.{OrderedPlaces}
-use Rattle.top_rows.specs.Parts.{parts_of}
-use Rattle.top_rows.specs.PlaceOrder.{RowPlace, part_cmp}
+use Rattle.top_rows.specs.SortKeys.{sort_keys_of}
+use Rattle.top_rows.specs.PlaceOrder.{RowPlace, sort_key_cmp}
 use Rattle.top_rows.specs.Places.{is_place_of, stands}
 
 and_true : (a : Bool) → (a && true) ≡ a
@@ -27,20 +27,20 @@ and_false true = refl
 and_false false = refl
 
 module _ (order : List OrderBy) (n : ℕ) (p : RowPlace) where
-  -- at the row's own number the parts decide, at others nothing stands
+  -- at the row's own number the sort keys decide, at others nothing stands
   some-by : (a : Option (List Datum)) (b : Bool) → is_at (nat_cmp n) p.1 ≡ b
-      → is_place_of order n a p ≡ (has_parts order p.0 a && b)
+      → is_place_of order n a p ≡ (has_sort_keys order p.0 a && b)
   some-by None b h = refl
   some-by (Some row) b h =
-      sym (tied_then (slice_cmp part_cmp (parts_of order row) p.0) (nat_cmp n p.1))
-      ∙ ap (λ c. is_at (slice_cmp part_cmp (parts_of order row)) p.0 && c) h
+      sym (tied_then (slice_cmp sort_key_cmp (sort_keys_of order row) p.0) (nat_cmp n p.1))
+      ∙ ap (λ c. is_at (slice_cmp sort_key_cmp (sort_keys_of order row)) p.0 && c) h
 
   pub some-here : (a : Option (List Datum)) → is_at (nat_cmp n) p.1 ≡ true
-      → is_place_of order n a p ≡ has_parts order p.0 a
-  some-here a h = some-by a true h ∙ and_true (has_parts order p.0 a)
+      → is_place_of order n a p ≡ has_sort_keys order p.0 a
+  some-here a h = some-by a true h ∙ and_true (has_sort_keys order p.0 a)
 
   pub some-there : (a : Option (List Datum)) → is_at (nat_cmp n) p.1 ≡ false → is_place_of order n a p ≡ false
-  some-there a h = some-by a false h ∙ and_false (has_parts order p.0 a)
+  some-there a h = some-by a false h ∙ and_false (has_sort_keys order p.0 a)
 
   own : (x y : Bool) → cond x true (cond y false y) ≡ x
   own true y = refl
@@ -54,17 +54,18 @@ module _ (order : List OrderBy) (n : ℕ) (p : RowPlace) where
   module _ (before after : Option (List Datum)) (rows : NumberedRows)
       (s : IsStrictlySortedBy nat_cmp (keys_of rows)) (is : row_at n rows ≡ before) where
     one-by : (b : Bool) → is_at (nat_cmp n) p.1 ≡ b
-        → moved before after (has_parts order p.0 (row_at p.1 rows))
-        ≡ has_parts order p.0 (cond b after (row_at p.1 rows))
+        → moved before after (has_sort_keys order p.0 (row_at p.1 rows))
+        ≡ has_sort_keys order p.0 (cond b after (row_at p.1 rows))
     one-by true h =
         let same : n ≡ p.1 = exact_unsigned n p.1 ((Equal-is (nat_cmp n p.1)).0 h) in
         let there : row_at p.1 rows ≡ before = subst (λ (m : ℕ). row_at m rows ≡ before) same is in
-        rw (some-here after h, some-here before h, there) (own (has_parts order p.0 after) (has_parts order p.0 before))
+        rw (some-here after h, some-here before h, there)
+        (own (has_sort_keys order p.0 after) (has_sort_keys order p.0 before))
     one-by false h = rw (some-there after h, some-there before h) refl
 
-    pub one : moved before after (has_parts order p.0 (row_at p.1 rows))
-        ≡ has_parts order p.0 (row_at p.1 (with_at n after rows))
-    one = one-by (is_at (nat_cmp n) p.1) refl ∙ ap (has_parts order p.0) (sym (lookup-with_at n p.1 after rows s))
+    pub one : moved before after (has_sort_keys order p.0 (row_at p.1 rows))
+        ≡ has_sort_keys order p.0 (row_at p.1 (with_at n after rows))
+    one = one-by (is_at (nat_cmp n) p.1) refl ∙ ap (has_sort_keys order p.0) (sym (lookup-with_at n p.1 after rows s))
 
 pub keeps-one : (old mid new : OrderedPlaces) (n : ℕ) (before after : Option (List Datum)) (rows : NumberedRows)
     → mid.order ≡ old.order → new.order ≡ mid.order
@@ -79,5 +80,5 @@ keeps-one old mid new n before after rows c d f g s is k = record {
       ∙ ap (λ b. cond (is_place_of old.order n after p) true b)
       (f p ∙ ap (λ b. cond (is_place_of old.order n before p) false b) (k.places_are p))
       ∙ one old.order n p before after rows s is
-      ∙ ap (λ o. has_parts o p.0 (row_at p.1 (with_at n after rows))) (sym (d ∙ c));
+      ∙ ap (λ o. has_sort_keys o p.0 (row_at p.1 (with_at n after rows))) (sym (d ∙ c));
 }

@@ -12,7 +12,7 @@ use Rattle.std.proofs.lemmas.Map.Keys.{sorted_tail, IsDistinct-from_sorted}
 use Rattle.values.specs.Datum.{Datum}
 use Rattle.view_lang.specs.Shifts.{NumberedRows, row_at}
 use Rattle.view_lang.specs.declared.view.OrderBy.{OrderBy}
-use Rattle.top_rows.specs.Keeping.{has_parts}
+use Rattle.top_rows.specs.Keeping.{has_sort_keys}
 use Rattle.top_rows.specs.PlaceOrder.{RowPlace, place_cmp, place_total}
 use Rattle.top_rows.specs.Places.{is_place, place_of, stands}
 use Rattle.top_rows.specs.SortedPlaces.{PlacesAreSorted, sorted_places}
@@ -29,19 +29,19 @@ module _ (order : List OrderBy) where
       sorted-insert_key place_total (place_of order e.0 e.1) (sorted_places order es) (sorted-places es)
 
   abbrev Stands : NumberedRows → RowPlace → Type 0
-  Stands rows p = stands (sorted_places order rows) p ≡ has_parts order p.0 (row_at p.1 rows)
+  Stands rows p = stands (sorted_places order rows) p ≡ has_sort_keys order p.0 (row_at p.1 rows)
 
   stands-by : (e : ℕ × List Datum) (es : NumberedRows) → IsStrictlySortedBy nat_cmp (keys_of (e ∷ es))
       → (p : RowPlace) → Stands es p → (b : Bool) → is_at (nat_cmp p.1) e.0 ≡ b
       → cond (is_place order e.0 e.1 p) true (stands (sorted_places order es) p)
-      ≡ has_parts order p.0 (cond b (Some e.1) (row_at p.1 es))
+      ≡ has_sort_keys order p.0 (cond b (Some e.1) (row_at p.1 es))
   stands-by e es s p h true x =
       let y : is_at (nat_cmp e.0) p.1 ≡ true = (eq_by_cmp_equiv nat_cmp_total).symm e.0 p.1 ∙ x in
       let distinct = IsDistinct-from_sorted nat_cmp (keys_of (e ∷ es)) s in
       let past = none_past_head (eq_by_cmp_equiv nat_cmp_total) p.1 e es distinct x in
-      let none = h ∙ ap (has_parts order p.0) (lookup-none (is_at (nat_cmp p.1)) es past) in
+      let none = h ∙ ap (has_sort_keys order p.0) (lookup-none (is_at (nat_cmp p.1)) es past) in
       rw (some-here order e.0 p (Some e.1) y, none)
-      (elim (has_parts order p.0 (Some e.1)) as (λ b. cond b true false ≡ b) [ true ↦ refl | false ↦ refl ])
+      (elim (has_sort_keys order p.0 (Some e.1)) as (λ b. cond b true false ≡ b) [ true ↦ refl | false ↦ refl ])
   stands-by e es s p h false x =
       let y : is_at (nat_cmp e.0) p.1 ≡ false = (eq_by_cmp_equiv nat_cmp_total).symm e.0 p.1 ∙ x in
       rw (some-there order e.0 p (Some e.1) y) h

@@ -1,7 +1,7 @@
 pub mod Keeping
 pub mod OrderParts
 pub mod OrderedPlaces
-pub mod Parts
+pub mod SortKeys
 pub mod PlaceOrder
 pub mod Places
 pub mod SortedPlaces

@@ -8,7 +8,7 @@ use Rattle.top_rows.specs.declared.parts.PlaceParts.{PlaceParts}
 
 -- the place that has these parts
 abbrev pub place_with : PlaceParts → RowPlace
-place_with p = (p.values.items, p.number)
+place_with p = (p.sort_keys.items, p.number)
 
 -- what is kept that has these parts
 abbrev pub ordered_with : OrderedParts → OrderedPlaces

@@ -4,12 +4,12 @@ use Rattle.std.specs.BTreeMap.{is_at}
 use Rattle.std.specs.List.{list_any}
 use Rattle.values.specs.Datum.{Datum}
 use Rattle.view_lang.specs.declared.view.OrderBy.{OrderBy}
-use Rattle.top_rows.specs.Parts.{parts_of}
+use Rattle.top_rows.specs.SortKeys.{sort_keys_of}
 use Rattle.top_rows.specs.PlaceOrder.{RowPlace, place_cmp}
 
 -- the place of a row that has a number
 abbrev pub place_of : List OrderBy → ℕ → List Datum → RowPlace
-place_of order n row = (parts_of order row, n)
+place_of order n row = (sort_keys_of order row, n)
 
 -- whether a place is among some
 abbrev pub stands : List RowPlace → RowPlace → Bool

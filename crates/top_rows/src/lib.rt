@@ -1,18 +1,18 @@
 //! Orders of rows, kept current by changes of the rows: the numbers of the rows, sorted by some of their columns.
 //!
-//! `specs/Keeping.antt` says when an order is that of some rows, over `Places` and `Parts` (what a row is ordered by),
-//! and `specs/ViewOrder.antt` that its first places are the first rows of a view.
+//! `specs/Keeping.antt` says when an order is that of some rows, over `Places` and `SortKeys` (what a row is ordered
+//! by), and `specs/ViewOrder.antt` that its first places are the first rows of a view.
 #![tactic(auto)]
 
 mod laws;
 mod ordered;
-mod part;
 mod parts;
 mod place;
+mod sort_key;
 #[cfg(test)]
 mod tests;
 
 pub use laws::order_law;
 pub use ordered::Ordered;
-pub use part::Part;
 pub use parts::{OrderedParts, PlaceParts};
+pub use sort_key::SortKey;

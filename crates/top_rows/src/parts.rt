@@ -1,6 +1,6 @@
 //! The parts of an `Ordered`, as plain lists.
 
-use crate::part::Part;
+use crate::sort_key::SortKey;
 use view_lang::OrderBy;
 
 /// All that an `Ordered` keeps: an order, and the places of the rows in it, ascending.
@@ -10,9 +10,9 @@ pub struct OrderedParts {
     pub places: Vec<PlaceParts>,
 }
 
-/// The place of a row: what it is ordered by in each of the order's columns, and its number.
+/// The place of a row: its sort key for each of the order's columns, and its number.
 #[derive(Debug, Drop)]
 pub struct PlaceParts {
-    pub values: Vec<Part>,
+    pub sort_keys: Vec<SortKey>,
     pub number: usize,
 }

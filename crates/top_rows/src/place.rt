@@ -4,19 +4,19 @@ ghost use Rattle.std.specs.Prelude.{◌≡◌, IfOk};
 ghost use Rattle.top_rows.specs.OrderParts.{place_with};
 ghost use Rattle.top_rows.specs.Places.{place_of};
 
-use crate::part::Part;
 use crate::parts::PlaceParts;
+use crate::sort_key::SortKey;
 use std::alloc::{AllocError, Global};
 use std::cmp::Ordering;
 use std::marker::Model;
 use values::Value;
 use view_lang::OrderBy;
 
-/// The place of a row in an order: what it is ordered by, and its number, by which ties are broken. Contracts see the
-/// pair of both.
+/// The place of a row in an order: its sort keys, one for each of the order's columns, and its number, by which ties
+/// are broken. Contracts see the pair of both.
 #[derive(Debug, Drop)]
 pub(crate) struct Place {
-    parts: Vec<Part>,
+    sort_keys: Vec<SortKey>,
     number: usize,
 }
 
@@ -25,7 +25,7 @@ impl Model for Place {
 
     ghost Value = { RowPlace };
 
-    ghost view = { λ p. (p.parts.items, p.number) };
+    ghost view = { λ p. (p.sort_keys.items, p.number) };
 }
 
 impl PartialEq for Place {
@@ -76,8 +76,8 @@ impl Ord for Place {
     ghost matches_eq = { λ x y. refl };
 
     fn cmp(&self, other: &Place) -> Ordering {
-        self.parts
-            .cmp(&other.parts)
+        self.sort_keys
+            .cmp(&other.sort_keys)
             .then(self.number.cmp(&other.number))
     }
 }
@@ -92,18 +92,18 @@ impl Place {
     ) -> Result<Place, AllocError>
         ensures { IfOk result (λ place. place ≡ place_of order.now number row.now) }
     {
-        let mut parts = Vec::with_capacity(alloc, order.len())?;
+        let mut sort_keys = Vec::with_capacity(alloc, order.len())?;
         for by in order {
-            parts.push(Part::of(alloc, row, by)?)?;
+            sort_keys.push(SortKey::of(alloc, row, by)?)?;
         }
-        Ok(Place { parts, number })
+        Ok(Place { sort_keys, number })
     }
 
     pub(crate) fn from_parts(parts: PlaceParts) -> Place
         ensures { result ≡ place_with parts }
     {
         Place {
-            parts: parts.values,
+            sort_keys: parts.sort_keys,
             number: parts.number,
         }
     }
@@ -112,7 +112,7 @@ impl Place {
         ensures { place_with result ≡ self }
     {
         PlaceParts {
-            values: self.parts,
+            sort_keys: self.sort_keys,
             number: self.number,
         }
     }

@@ -79,7 +79,7 @@ pub(crate) fn make_row(
 
 /// What is kept of one row of the main table for a view: what the view makes of it, and the cell that is looked up.
 #[derive(Drop)]
-struct Taken {
+struct ViewedRow {
     made: Option<Row>,
     referring: Option<Row>,
 }
@@ -90,7 +90,7 @@ fn take_row(
     stores: &mut Vec<RowStore>,
     view: &View,
     number: usize,
-) -> Result<Taken, AllocError>
+) -> Result<ViewedRow, AllocError>
     requires view { IsView (tables_in stores.old.items) view.now }
     requires main { 0 < length stores.old.items }
     requires there { number < length (rows_at (rows_in stores.old.items) 0) }
@@ -106,7 +106,7 @@ fn take_row(
     let row = stores[0].open_row(number)?;
     let referring = referring_by(alloc, view.lookup, &row)?;
     let made = make_from(alloc, stores, view, row)?;
-    Ok(Taken { made, referring })
+    Ok(ViewedRow { made, referring })
 }
 
 /// The changes that rows of the main table that come or go make in what is kept of a view: in what the view makes of
@@ -129,7 +129,7 @@ impl TurnedRows {
     }
 
     /// Adds the changes of a row that comes, or goes.
-    fn push(&mut self, turn: Turn, number: usize, taken: Taken) -> Result<(), AllocError>
+    fn push(&mut self, turn: Turn, number: usize, taken: ViewedRow) -> Result<(), AllocError>
         ensures made { OnOk result (self.new.made ≡ self.old.made
             ++ turned_by turn number (option_map (λ r. r.items) taken.made) ∷ []) }
         ensures referring { OnOk result (self.new.referring ≡ self.old.referring
@@ -173,7 +173,7 @@ fn turn_row(
     ensures visits { visits_in stores.new.items ≤ visits_in stores.old.items + 1 }
 {
     let taken = if turn == Turn::Go && !stores[0].is_live(number) {
-        Taken {
+        ViewedRow {
             made: None,
             referring: None,
         }

@@ -1,6 +1,23 @@
 //! Tables, and views of them that are kept current.
 
-ghost use Rattle.std.specs.Prelude.{◌≡◌, ℕ, ◌<◌, ◌≤◌, ◌+◌, [], false, count_by, get_or, IfOk, OnErr, OnOk, length, map, slice_set, true};
+ghost use Rattle.std.specs.Prelude.{
+  ◌≡◌,
+  ℕ,
+  ◌<◌,
+  ◌≤◌,
+  ◌+◌,
+  [],
+  false,
+  count_by,
+  get_or,
+  IfOk,
+  OnErr,
+  OnOk,
+  length,
+  map,
+  slice_set,
+  true,
+};
 ghost use Rattle.view_lang.specs.Cells.{rows_of};
 ghost use Rattle.view_lang.specs.Edits.{table_of};
 ghost use Rattle.view_lang.specs.Laws.{Viewed};

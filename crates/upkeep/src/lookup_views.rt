@@ -117,7 +117,8 @@ fn follow_lookup(
     ensures rows { rows_in stores.new.items ≡ rows_in stores.old.items }
     ensures visits { visits_in stores.new.items ≤ visits_in stores.old.items
         + 2 * count_by (refers_by view.now.lookup table
-        (named_keys (table_at (tables_in stores.old.items) table) change.now (rows_at (rows_in stores.old.items) table)))
+        (named_keys (table_at (tables_in stores.old.items) table) change.now
+        (rows_at (rows_in stores.old.items) table)))
         (live (rows_at (rows_in stores.old.items) 0)) }
 {
     // They do nothing: the proof takes from them what a view makes of the rows that refer to the keys.
@@ -168,7 +169,8 @@ fn follow_lookups_of(
     ensures rows { rows_in stores.new.items ≡ rows_in stores.old.items }
     ensures visits { visits_in stores.new.items ≤ visits_in stores.old.items + 2 * (length views.now
         * count_by (refers views.now table
-        (named_keys (table_at (tables_in stores.old.items) table) change.now (rows_at (rows_in stores.old.items) table)))
+        (named_keys (table_at (tables_in stores.old.items) table) change.now
+        (rows_at (rows_in stores.old.items) table)))
         (live (rows_at (rows_in stores.old.items) 0))) }
 {
     for place in 0..views.len() {
@@ -222,7 +224,8 @@ pub(crate) fn follow_lookups(
     ensures rows { rows_in stores.new.items ≡ rows_in stores.old.items }
     ensures visits { visits_in stores.new.items ≤ visits_in stores.old.items + 2 * (length views.now
         * count_by (refers views.now table
-        (named_keys (table_at (tables_in stores.old.items) table) change.now (rows_at (rows_in stores.old.items) table)))
+        (named_keys (table_at (tables_in stores.old.items) table) change.now
+        (rows_at (rows_in stores.old.items) table)))
         (live (rows_at (rows_in stores.old.items) 0))) }
 {
     let keys = match named_keys(alloc, &stores[table], change, turn) {

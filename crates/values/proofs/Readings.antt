@@ -332,4 +332,4 @@ decides_end f i n w h d =
     let e : Decides (Ok []) w = subst Q (each_none f i n h) d in
     e.valid tt
 
-pub ruleset judging = (decides_self, decides_both, decides_both_fault, decides_step, decides_fault, decides_end)
+pub ruleset deciding = (decides_self, decides_both, decides_both_fault, decides_step, decides_fault, decides_end)

@@ -106,9 +106,9 @@ Fails c m = Stands m c
 
 -- What a call answers that reads without taking memory: `Ok` exactly where no fault stands, and then the value
 -- as contracts see it; otherwise a fault that stands.
-abbrev pub Judges : {F X Y : Type 0} → (X → Y) → Result X F → ReadingOf F Y → Type 0
-Judges view (Ok x) m = m ≡ Ok (view x)
-Judges view (Err c) m = Stands m c
+abbrev pub Yields : {F X Y : Type 0} → (X → Y) → Result X F → ReadingOf F Y → Type 0
+Yields view (Ok x) m = m ≡ Ok (view x)
+Yields view (Err c) m = Stands m c
 
 -- the same of a call that takes memory, which may run out
 abbrev pub Answers : {X Y : Type 0} → (X → Y) → Result X StreamFault → Reading Y → Type 0

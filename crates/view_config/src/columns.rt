@@ -3,7 +3,7 @@
 ghost use Rattle.std.specs.Prelude.{◌≡◌, ◌<◌, IfSome, length, option_map, map};
 ghost use Rattle.std.specs.Bool.{Decides};
 ghost use Rattle.values.specs.ColTypes.{IsSingle};
-ghost use Rattle.values.specs.Reading.{Judges};
+ghost use Rattle.values.specs.Reading.{Yields};
 ghost use Rattle.view_config.specs.Columns.{find, has_order, name_of, ordered};
 ghost use Rattle.view_config.specs.Tree.{is_one_of, repeats};
 
@@ -24,7 +24,7 @@ pub(crate) fn ordered<'a>(
     number: usize,
     column: &'a LogicalField,
 ) -> Result<(usize, &'a LogicalField), ConfigFault>
-    ensures { Judges (λ c. (c.0, c.1.now)) result (ordered (number, column.now)) }
+    ensures { Yields (λ c. (c.0, c.1.now)) result (ordered (number, column.now)) }
 {
     if has_order(&column.col_type) {
         Ok((number, column))

@@ -2,7 +2,7 @@
 
 ghost use Rattle.std.specs.Prelude.{◌≡◌};
 ghost use Rattle.toml.specs.View.{table_view};
-ghost use Rattle.values.specs.Reading.{Judges};
+ghost use Rattle.values.specs.Reading.{Yields};
 ghost use Rattle.view_config.specs.Entries.{are_name_bytes, entry_name, few_entries, is_name_byte};
 
 use crate::faults::ConfigFault;
@@ -30,7 +30,7 @@ fn are_name_bytes(bytes: &[u8]) -> bool
 
 /// The name of a side table, a feed or a view, or `Shape` where it doesn't have 1 to 64 such bytes.
 pub(crate) fn check_entry_name(name: &str) -> Result<&str, ConfigFault>
-    ensures { Judges (λ n. n.now) result (entry_name name.now) }
+    ensures { Yields (λ n. n.now) result (entry_name name.now) }
 {
     if are_name_bytes(name.as_bytes()) && 1 <= name.len() && name.len() <= MAX_ENTRY_NAME_LEN {
         Ok(name)
@@ -42,7 +42,7 @@ pub(crate) fn check_entry_name(name: &str) -> Result<&str, ConfigFault>
 /// Refuses more than `most` entries, as `OverLimit`.
 #[tactic(auto, using(crate::proofs::Arrays::counts))]
 pub(crate) fn check_few_entries(entries: &Entries, most: usize) -> Result<(), ConfigFault>
-    ensures { Judges (λ u. u) result (few_entries most (table_view entries.now)) }
+    ensures { Yields (λ u. u) result (few_entries most (table_view entries.now)) }
 {
     if entries.len() > most {
         return Err(ConfigFault::OverLimit);

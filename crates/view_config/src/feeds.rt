@@ -2,7 +2,7 @@
 
 ghost use Rattle.std.specs.Prelude.{◌≡◌};
 ghost use Rattle.toml.specs.View.{table_view, view};
-ghost use Rattle.values.specs.Reading.{Judges};
+ghost use Rattle.values.specs.Reading.{Yields};
 ghost use Rattle.view_config.specs.Feeds.{feed_of, feeds_of, role_by, role_of, side_number, sideless};
 ghost use Rattle.view_config.specs.Reading.{Answers};
 ghost use Rattle.view_config.specs.Tree.{each_member};
@@ -18,7 +18,7 @@ use view_lang::{FeedConfig, Role, SideTable};
 
 /// A role for which the feed must not name a side table; one that does is `Shape`.
 fn sideless(role: Role, entries: &Entries) -> Result<Role, ConfigFault>
-    ensures { Judges (λ r. r) result (sideless role (table_view entries.now)) }
+    ensures { Yields (λ r. r) result (sideless role (table_view entries.now)) }
 {
     check_names(entries, &["role"])?;
     Ok(role)
@@ -27,7 +27,7 @@ fn sideless(role: Role, entries: &Entries) -> Result<Role, ConfigFault>
 /// The number of the side table that a feed names with `side`.
 #[tactic(auto, using(crate::proofs::Causes::causes), unfolding(crate::specs::Feeds::side_number))]
 fn side_number(sides: &[SideTable], entries: &Entries) -> Result<usize, ConfigFault>
-    ensures { Judges (λ n. n) result (side_number sides.now (table_view entries.now)) }
+    ensures { Yields (λ n. n) result (side_number sides.now (table_view entries.now)) }
 {
     let name = text_in(entry(entries, "side")?)?;
     let (number, _) = side_called(sides, name)?;
@@ -36,7 +36,7 @@ fn side_number(sides: &[SideTable], entries: &Entries) -> Result<usize, ConfigFa
 
 #[tactic(auto, using(crate::proofs::Causes::causes), unfolding(crate::specs::Feeds::role_by))]
 fn role_by(sides: &[SideTable], entries: &Entries, word: &str) -> Result<Role, ConfigFault>
-    ensures { Judges (λ r. r) result (role_by sides.now (table_view entries.now) word.now) }
+    ensures { Yields (λ r. r) result (role_by sides.now (table_view entries.now) word.now) }
 {
     if word == "append" {
         sideless(Role::Append, entries)
@@ -53,7 +53,7 @@ fn role_by(sides: &[SideTable], entries: &Entries, word: &str) -> Result<Role, C
 
 #[tactic(auto, using(crate::proofs::Causes::causes), unfolding(crate::specs::Feeds::role_of))]
 fn read_role(sides: &[SideTable], entries: &Entries) -> Result<Role, ConfigFault>
-    ensures { Judges (λ r. r) result (role_of sides.now (table_view entries.now)) }
+    ensures { Yields (λ r. r) result (role_of sides.now (table_view entries.now)) }
 {
     role_by(sides, entries, text_in(entry(entries, "role")?)?)
 }

@@ -8,7 +8,7 @@ ghost use Rattle.view_config.specs.Filters.{filters_in, negation_of, null_of, op
 ghost use Rattle.view_config.specs.Limits.{IsRoomAfter};
 ghost use Rattle.view_config.specs.Reading.{Answers};
 ghost use Rattle.view_config.specs.Tree.{each_item};
-ghost use Rattle.values.specs.Reading.{Judges};
+ghost use Rattle.values.specs.Reading.{Yields};
 
 use crate::constants::read_constant;
 use crate::faults::ConfigFault;
@@ -88,7 +88,7 @@ fn read_comparison(
 /// Reads `["is_null", REF]`.
 #[tactic(auto, using(crate::proofs::Causes::causes), unfolding(crate::specs::Filters::null_of))]
 fn null_test(scope: &Scope, values: &[Value]) -> Result<Filter, ConfigFault>
-    ensures { Judges (λ f. f) result (null_of scope.now (items values.now)) }
+    ensures { Yields (λ f. f) result (null_of scope.now (items values.now)) }
 {
     let (number, _) = reference(scope, sole(values).ok_or(ConfigFault::Shape)?)?;
     Ok(Filter {

@@ -3,7 +3,7 @@
 ghost use Rattle.std.specs.Prelude.{◌≡◌};
 ghost use Rattle.std.specs.Bool.{Decides};
 ghost use Rattle.toml.specs.View.{items_view, view};
-ghost use Rattle.values.specs.Reading.{Judges};
+ghost use Rattle.values.specs.Reading.{Yields};
 ghost use Rattle.view_lang.specs.ConfigRules.{IsAddable};
 ghost use Rattle.view_config.specs.Outputs.{aggregate_by, can_be_summed, count_by, distinct_numbers, group_of};
 ghost use Rattle.view_config.specs.Outputs.{grouping_column, is_number_in, key_of_group, place_of, repeats_number};
@@ -59,7 +59,7 @@ fn place_of(number: usize, numbers: &[usize]) -> Option<usize>
 
 /// Refuses a column that stands twice, as `DuplicateColumn`.
 pub(crate) fn check_distinct_numbers(numbers: &[usize]) -> Result<(), ConfigFault>
-    ensures { Judges (λ u. u) result (distinct_numbers numbers.now) }
+    ensures { Yields (λ u. u) result (distinct_numbers numbers.now) }
 {
     if repeats_number(numbers) {
         return Err(ConfigFault::DuplicateColumn);
@@ -69,7 +69,7 @@ pub(crate) fn check_distinct_numbers(numbers: &[usize]) -> Result<(), ConfigFaul
 
 #[tactic(auto, using(crate::proofs::Causes::causes), unfolding(crate::specs::Outputs::grouping_column))]
 fn grouping_column(scope: &Scope, value: &Value) -> Result<usize, ConfigFault>
-    ensures { Judges (λ n. n) result (grouping_column scope.now (view value.now)) }
+    ensures { Yields (λ n. n) result (grouping_column scope.now (view value.now)) }
 {
     let (number, _) = ordered_reference(scope, value)?;
     Ok(number)
@@ -109,7 +109,7 @@ pub(crate) fn sole_reference<'a>(
     scope: &Scope<'a>,
     values: &[Value],
 ) -> Result<(usize, &'a LogicalField), ConfigFault>
-    ensures { Judges (λ c. (c.0, c.1.now)) result (sole_reference scope.now (items_view values.now)) }
+    ensures { Yields (λ c. (c.0, c.1.now)) result (sole_reference scope.now (items_view values.now)) }
 {
     reference(scope, sole(values).ok_or(ConfigFault::Shape)?)
 }
@@ -119,13 +119,13 @@ fn sole_ordered<'a>(
     scope: &Scope<'a>,
     values: &[Value],
 ) -> Result<(usize, &'a LogicalField), ConfigFault>
-    ensures { Judges (λ c. (c.0, c.1.now)) result (sole_ordered scope.now (items_view values.now)) }
+    ensures { Yields (λ c. (c.0, c.1.now)) result (sole_ordered scope.now (items_view values.now)) }
 {
     ordered_reference(scope, sole(values).ok_or(ConfigFault::Shape)?)
 }
 
 fn key_of_group(by: &[usize], number: usize) -> Result<Aggregate, ConfigFault>
-    ensures { Judges (λ a. a) result (key_of_group by.now number) }
+    ensures { Yields (λ a. a) result (key_of_group by.now number) }
 {
     match place_of(number, by) {
         Some(place) => Ok(Aggregate::Key(place)),
@@ -135,7 +135,7 @@ fn key_of_group(by: &[usize], number: usize) -> Result<Aggregate, ConfigFault>
 
 #[tactic(auto, using(crate::proofs::Causes::causes, crate::proofs::Arrays::counts))]
 fn count_by(scope: &Scope, values: &[Value]) -> Result<Aggregate, ConfigFault>
-    ensures { Judges (λ a. a) result (count_by scope.now (items_view values.now)) }
+    ensures { Yields (λ a. a) result (count_by scope.now (items_view values.now)) }
 {
     if values.is_empty() {
         return Ok(Aggregate::Count);
@@ -157,7 +157,7 @@ fn can_be_summed(col_type: &ColType) -> bool
 }
 
 fn sum_of(number: usize, column: &LogicalField) -> Result<Aggregate, ConfigFault>
-    ensures { Judges (λ a. a) result (sum_of_column (number, column.now)) }
+    ensures { Yields (λ a. a) result (sum_of_column (number, column.now)) }
 {
     if can_be_summed(&column.col_type) {
         Ok(Aggregate::Sum(number))
@@ -174,7 +174,7 @@ pub(crate) fn aggregate_by(
     word: &str,
     values: &[Value],
 ) -> Result<Aggregate, ConfigFault>
-    ensures { Judges (λ a. a) result (aggregate_by scope.now by.now word.now (items_view values.now)) }
+    ensures { Yields (λ a. a) result (aggregate_by scope.now by.now word.now (items_view values.now)) }
 {
     if word == "col" {
         let (number, _) = sole_reference(scope, values)?;

@@ -3,7 +3,7 @@
 ghost use Rattle.std.specs.Prelude.{◌≡◌, ◌≤◌, ◌*◌, IfSome, map};
 ghost use Rattle.values.specs.Limits.{max_fields, max_slot};
 ghost use Rattle.values.specs.Logical.{tree_of, trees_of};
-ghost use Rattle.values.specs.Reading.{Judges};
+ghost use Rattle.values.specs.Reading.{Yields};
 ghost use Rattle.values.specs.Rose.{kids_of, rose_size, roses_size};
 ghost use Rattle.view_config.specs.Columns.{name_of};
 ghost use Rattle.view_config.specs.Limits.{AreSlotsOf, IsRoomAfter, IsSlotOf, column_limits, column_name, distinct};
@@ -35,7 +35,7 @@ pub(crate) const MAX_FIRST: i64 = 1 << 24;
 
 /// The name of a column, of an output or of a struct's child, or `OverLimit` where it doesn't have 1 to 255 bytes.
 pub(crate) fn check_name(name: &str) -> Result<&str, ConfigFault>
-    ensures { Judges (λ n. n.now) result (column_name name.now) }
+    ensures { Yields (λ n. n.now) result (column_name name.now) }
 {
     if 1 <= name.len() && name.len() <= MAX_COLUMN_NAME_LEN {
         Ok(name)
@@ -46,7 +46,7 @@ pub(crate) fn check_name(name: &str) -> Result<&str, ConfigFault>
 
 /// Refuses two fields with the same name, as `DuplicateColumn`.
 pub(crate) fn check_distinct(fields: &[LogicalField]) -> Result<(), ConfigFault>
-    ensures { Judges (λ u. u) result (distinct (map name_of fields.now)) }
+    ensures { Yields (λ u. u) result (distinct (map name_of fields.now)) }
 {
     if repeats(fields) {
         return Err(ConfigFault::DuplicateColumn);
@@ -77,7 +77,7 @@ fn room_after_all(fields: &[LogicalField], room: u32) -> Option<u32>
 
 /// Refuses more than 1,024 fields at all levels, as `OverLimit`.
 pub(crate) fn check_count(fields: &[LogicalField]) -> Result<(), ConfigFault>
-    ensures { Judges (λ u. u) result (few_fields fields.now) }
+    ensures { Yields (λ u. u) result (few_fields fields.now) }
 {
     match room_after_all(fields, MAX_FIELDS) {
         Some(_) => Ok(()),
@@ -124,7 +124,7 @@ fn slots_of(fields: &[LogicalField]) -> Option<u64>
 /// Refuses columns above the limits of a table, as `OverLimit`, or two with the same name, as `DuplicateColumn`.
 #[tactic(auto, using(crate::proofs::Causes::causes), unfolding(crate::specs::Limits::column_limits))]
 pub(crate) fn check_columns(columns: &[LogicalField]) -> Result<(), ConfigFault>
-    ensures { Judges (λ u. u) result (column_limits columns.now) }
+    ensures { Yields (λ u. u) result (column_limits columns.now) }
 {
     check_count(columns)?;
     if slots_of(columns).is_none() {

@@ -2,7 +2,7 @@
 
 ghost use Rattle.std.specs.Prelude.{◌≡◌};
 ghost use Rattle.toml.specs.View.{view};
-ghost use Rattle.values.specs.Reading.{Judges};
+ghost use Rattle.values.specs.Reading.{Yields};
 ghost use Rattle.view_config.specs.Lookups.{has_key_of, lookup_of, missing_by};
 
 use crate::faults::ConfigFault;
@@ -42,7 +42,7 @@ pub(crate) fn read_lookup<'a>(
     sides: &'a [SideTable],
     value: &Value,
 ) -> Result<(Lookup, &'a SideTable), ConfigFault>
-    ensures { Judges (λ l. (l.0, l.1.now)) result (lookup_of main.now sides.now (view value.now)) }
+    ensures { Yields (λ l. (l.0, l.1.now)) result (lookup_of main.now sides.now (view value.now)) }
 {
     let entries = members_in(value)?;
     check_names(entries, &["side", "on", "missing"])?;

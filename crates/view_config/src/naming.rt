@@ -1,7 +1,7 @@
 //! Looks names up among others.
 
 ghost use Rattle.std.specs.Prelude.{◌≡◌, map};
-ghost use Rattle.values.specs.Reading.{Judges};
+ghost use Rattle.values.specs.Reading.{Yields};
 ghost use Rattle.view_config.specs.Columns.{find_name};
 ghost use Rattle.view_config.specs.Limits.{distinct};
 ghost use Rattle.view_config.specs.Tree.{repeats};
@@ -23,7 +23,7 @@ fn repeats(names: &[&str]) -> bool
 
 /// Refuses a name that stands twice, as `DuplicateColumn`.
 pub(crate) fn check_distinct_names(names: &[&str]) -> Result<(), ConfigFault>
-    ensures { Judges (λ u. u) result (distinct (map (λ n. n.now) names.now)) }
+    ensures { Yields (λ u. u) result (distinct (map (λ n. n.now) names.now)) }
 {
     if repeats(names) {
         return Err(ConfigFault::DuplicateColumn);

@@ -2,7 +2,7 @@
 
 ghost use Rattle.std.specs.Prelude.{◌≡◌, IfOk, map};
 ghost use Rattle.toml.specs.View.{items_view as items, view};
-ghost use Rattle.values.specs.Reading.{Judges};
+ghost use Rattle.values.specs.Reading.{Yields};
 ghost use Rattle.view_lang.specs.OutputsSeen.{outputs_of as seen};
 ghost use Rattle.view_config.specs.Outputs.{names_of, shown_in};
 ghost use Rattle.view_config.specs.Reading.{Answers};
@@ -44,7 +44,7 @@ fn sorting_column(
     name: &str,
 ) -> Result<usize, ConfigFault>
     requires { map (λ n. n.now) names.now ≡ names_of (seen outputs.now) }
-    ensures { Judges (λ n. n) result (key_of (shown_in scope.now outputs.now) name.now) }
+    ensures { Yields (λ n. n) result (key_of (shown_in scope.now outputs.now) name.now) }
 {
     let Some(place) = find_name(names, name) else {
         return Err(ConfigFault::UnknownName);
@@ -65,7 +65,7 @@ fn read_order_by(
     value: &Value,
 ) -> Result<OrderBy, ConfigFault>
     requires { map (λ n. n.now) names.now ≡ names_of (seen outputs.now) }
-    ensures { Judges (λ o. o) result (sorts (shown_in scope.now outputs.now) (view value.now)) }
+    ensures { Yields (λ o. o) result (sorts (shown_in scope.now outputs.now) (view value.now)) }
 {
     let (name, word) = pair_in(value).ok_or(ConfigFault::Shape)?;
     let name = name.as_str().ok_or(ConfigFault::Shape)?;
@@ -136,7 +136,7 @@ pub(crate) fn read_order_at(
 }
 
 fn first_of(value: &Value) -> Result<usize, ConfigFault>
-    ensures { Judges (λ n. n) result (first_of (view value.now)) }
+    ensures { Yields (λ n. n) result (first_of (view value.now)) }
 {
     match value {
         Value::Integer(number) => {
@@ -153,7 +153,7 @@ fn first_of(value: &Value) -> Result<usize, ConfigFault>
 /// Reads how many rows a view shows at most, if it says so.
 #[tactic(auto, using(crate::proofs::Causes::causes))]
 pub(crate) fn read_first(value: Option<&Value>) -> Result<Option<usize>, ConfigFault>
-    ensures { Judges (λ n. n) result (perhaps first_of (data_of value.entry)) }
+    ensures { Yields (λ n. n) result (perhaps first_of (data_of value.entry)) }
 {
     match value {
         Some(value) => Ok(Some(first_of(value)?)),

@@ -2,7 +2,7 @@
 
 ghost use Rattle.std.specs.Prelude.{◌≡◌, IfOk, map, option_map};
 ghost use Rattle.toml.specs.View.{items_view, view};
-ghost use Rattle.values.specs.Reading.{Judges};
+ghost use Rattle.values.specs.Reading.{Yields};
 ghost use Rattle.view_lang.specs.OutputsSeen.{outputs_of as seen};
 ghost use Rattle.view_config.specs.Outputs.{group_output_of, names_of, output_limits, output_of, outputs_in};
 ghost use Rattle.view_config.specs.Outputs.{outputs_of, shown_by};
@@ -25,7 +25,7 @@ use view_lang::{GroupOutput, Output, Outputs};
 /// Reads which column an output of a view without groups shows, by its word, as a number in joined rows.
 #[tactic(auto, using(crate::proofs::Causes::causes))]
 fn shown_by(scope: &Scope, word: &str, values: &[Value]) -> Result<usize, ConfigFault>
-    ensures { Judges (λ n. n) result (shown_by scope.now word.now (items_view values.now)) }
+    ensures { Yields (λ n. n) result (shown_by scope.now word.now (items_view values.now)) }
 {
     if word != "col" {
         return Err(ConfigFault::Shape);

@@ -2,7 +2,7 @@
 
 ghost use Rattle.std.specs.Prelude.{◌≡◌, ◌<◌, option_map, slice_get};
 ghost use Rattle.toml.specs.View.{items_view, view};
-ghost use Rattle.values.specs.Reading.{Judges};
+ghost use Rattle.values.specs.Reading.{Yields};
 ghost use Rattle.view_config.specs.Scope.{fields_of, main_column, ordered_reference, reference, reference_in};
 ghost use Rattle.view_config.specs.Scope.{side_column};
 
@@ -44,13 +44,13 @@ pub(crate) fn column_at<'a>(scope: &Scope<'a>, number: usize) -> Option<&'a Logi
 }
 
 fn main_column<'a>(scope: &Scope<'a>, name: &str) -> Result<(usize, &'a LogicalField), ConfigFault>
-    ensures { Judges (λ c. (c.0, c.1.now)) result (main_column scope.now name.now) }
+    ensures { Yields (λ c. (c.0, c.1.now)) result (main_column scope.now name.now) }
 {
     find(scope.main, name).ok_or(ConfigFault::UnknownName)
 }
 
 fn side_column<'a>(scope: &Scope<'a>, name: &str) -> Result<(usize, &'a LogicalField), ConfigFault>
-    ensures { Judges (λ c. (c.0, c.1.now)) result (side_column scope.now name.now) }
+    ensures { Yields (λ c. (c.0, c.1.now)) result (side_column scope.now name.now) }
 {
     let (number, column) = find(scope.side, name).ok_or(ConfigFault::UnknownName)?;
     Ok((scope.main.len() + number, column))
@@ -62,7 +62,7 @@ fn reference_in<'a>(
     scope: &Scope<'a>,
     values: &[Value],
 ) -> Result<(usize, &'a LogicalField), ConfigFault>
-    ensures { Judges (λ c. (c.0, c.1.now)) result (reference_in scope.now (items_view values.now)) }
+    ensures { Yields (λ c. (c.0, c.1.now)) result (reference_in scope.now (items_view values.now)) }
 {
     let (word, name) = pair(values).ok_or(ConfigFault::Shape)?;
     let word = word.as_str().ok_or(ConfigFault::Shape)?;
@@ -82,7 +82,7 @@ pub(crate) fn reference<'a>(
     scope: &Scope<'a>,
     value: &Value,
 ) -> Result<(usize, &'a LogicalField), ConfigFault>
-    ensures { Judges (λ c. (c.0, c.1.now)) result (reference scope.now (view value.now)) }
+    ensures { Yields (λ c. (c.0, c.1.now)) result (reference scope.now (view value.now)) }
 {
     match value {
         Value::String(name) => main_column(scope, name.as_str()),
@@ -97,7 +97,7 @@ pub(crate) fn ordered_reference<'a>(
     scope: &Scope<'a>,
     value: &Value,
 ) -> Result<(usize, &'a LogicalField), ConfigFault>
-    ensures { Judges (λ c. (c.0, c.1.now)) result (ordered_reference scope.now (view value.now)) }
+    ensures { Yields (λ c. (c.0, c.1.now)) result (ordered_reference scope.now (view value.now)) }
 {
     let (number, column) = reference(scope, value)?;
     ordered(number, column)

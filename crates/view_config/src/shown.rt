@@ -1,7 +1,7 @@
 //! The columns that outputs show: how many fields they have, and whether their values have an order.
 
 ghost use Rattle.std.specs.Prelude.{◌≡◌, [], get_or};
-ghost use Rattle.values.specs.Reading.{Judges};
+ghost use Rattle.values.specs.Reading.{Yields};
 ghost use Rattle.values.specs.Rose.{rose_size};
 ghost use Rattle.view_lang.specs.Outputs.{columns as columns_seen, groups as groups_seen};
 ghost use Rattle.view_lang.specs.TableRules.{type_of};
@@ -83,7 +83,7 @@ fn room_after_group_outputs(
 
 /// Refuses outputs with more than 1,024 fields at all levels, as `OverLimit`.
 pub(crate) fn check_fields(scope: &Scope, outputs: &Outputs) -> Result<(), ConfigFault>
-    ensures { Judges (λ u. u) result (few_fields (shown_in scope.now outputs.now)) }
+    ensures { Yields (λ u. u) result (few_fields (shown_in scope.now outputs.now)) }
 {
     let left = match outputs {
         Outputs::Columns(outputs) => room_after_outputs(scope, outputs, MAX_FIELDS),

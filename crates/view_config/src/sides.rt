@@ -2,7 +2,7 @@
 
 ghost use Rattle.std.specs.Prelude.{◌≡◌, option_map};
 ghost use Rattle.toml.specs.View.{table_view, view};
-ghost use Rattle.values.specs.Reading.{Judges};
+ghost use Rattle.values.specs.Reading.{Yields};
 ghost use Rattle.view_config.specs.Reading.{Answers};
 ghost use Rattle.view_config.specs.Sides.{find_side, side_called, side_of, sides_of};
 ghost use Rattle.view_config.specs.Tree.{each_member};
@@ -70,7 +70,7 @@ pub(crate) fn side_called<'a>(
     sides: &'a [SideTable],
     name: &str,
 ) -> Result<(usize, &'a SideTable), ConfigFault>
-    ensures { Judges (λ s. (s.0, s.1.now)) result (side_called sides.now name.now) }
+    ensures { Yields (λ s. (s.0, s.1.now)) result (side_called sides.now name.now) }
 {
     find_side(sides, name).ok_or(ConfigFault::UnknownName)
 }

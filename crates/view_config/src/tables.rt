@@ -2,7 +2,7 @@
 
 ghost use Rattle.std.specs.Prelude.{◌≡◌};
 ghost use Rattle.toml.specs.View.{items_view, table_view, view};
-ghost use Rattle.values.specs.Reading.{Judges};
+ghost use Rattle.values.specs.Reading.{Yields};
 ghost use Rattle.view_config.specs.Reading.{Answers};
 ghost use Rattle.view_config.specs.Tables.{column_of, columns_of, few_columns, main_of, ordered_column, table_of};
 ghost use Rattle.view_config.specs.Tree.{each_item};
@@ -42,7 +42,7 @@ fn read_each_column(alloc: Global, values: &[Value]) -> Result<Vec<LogicalField>
 /// Refuses no columns, and more than 64, as `OverLimit`.
 #[tactic(auto, using(crate::proofs::Arrays::counts))]
 pub(crate) fn check_few(values: &[Value]) -> Result<(), ConfigFault>
-    ensures { Judges (λ u. u) result (few_columns (items_view values.now)) }
+    ensures { Yields (λ u. u) result (few_columns (items_view values.now)) }
 {
     if 1 <= values.len() && values.len() <= MAX_COLUMNS {
         Ok(())
@@ -69,7 +69,7 @@ pub(crate) fn ordered_column<'a>(
     columns: &'a [LogicalField],
     name: &str,
 ) -> Result<(usize, &'a LogicalField), ConfigFault>
-    ensures { Judges (λ c. (c.0, c.1.now)) result (ordered_column columns.now name.now) }
+    ensures { Yields (λ c. (c.0, c.1.now)) result (ordered_column columns.now name.now) }
 {
     let (number, column) = find(columns, name).ok_or(ConfigFault::UnknownName)?;
     ordered(number, column)

@@ -1,7 +1,7 @@
 //! Helpers for the values of a TOML document. A value of another kind than is asked for is `Shape`.
 
 ghost use Rattle.std.specs.Prelude.{◌≡◌, map, option_map};
-ghost use Rattle.values.specs.Reading.{Judges};
+ghost use Rattle.values.specs.Reading.{Yields};
 ghost use Rattle.toml.specs.Data.{get_member};
 ghost use Rattle.toml.specs.View.{items_view, table_view, view};
 ghost use Rattle.view_config.specs.Tree.{has_only, headed, is_one_of, items_in, members_in, needed, only, pair};
@@ -12,7 +12,7 @@ use toml::{Table as Entries, Value};
 
 /// The value of an entry that must be there; a missing one is `Shape`.
 pub(crate) fn entry<'a>(table: &'a Entries, key: &str) -> Result<&'a Value, ConfigFault>
-    ensures { Judges (λ v. view v.now) result (needed key.now (table_view table.now)) }
+    ensures { Yields (λ v. view v.now) result (needed key.now (table_view table.now)) }
 {
     entry_at(table, key).ok_or(ConfigFault::Shape)
 }
@@ -39,7 +39,7 @@ pub(crate) fn headed(values: &[Value]) -> Option<(&str, &[Value])>
 }
 
 pub(crate) fn text_in(value: &Value) -> Result<&str, ConfigFault>
-    ensures { Judges (λ s. s.now) result (text_in (view value.now)) }
+    ensures { Yields (λ s. s.now) result (text_in (view value.now)) }
 {
     match value {
         Value::String(text) => Ok(text.as_str()),
@@ -48,7 +48,7 @@ pub(crate) fn text_in(value: &Value) -> Result<&str, ConfigFault>
 }
 
 pub(crate) fn items_in(value: &Value) -> Result<&[Value], ConfigFault>
-    ensures { Judges (λ vs. items_view vs.now) result (items_in (view value.now)) }
+    ensures { Yields (λ vs. items_view vs.now) result (items_in (view value.now)) }
 {
     match value {
         Value::Array(values) => Ok(values.as_slice()),
@@ -57,7 +57,7 @@ pub(crate) fn items_in(value: &Value) -> Result<&[Value], ConfigFault>
 }
 
 pub(crate) fn members_in(value: &Value) -> Result<&Entries, ConfigFault>
-    ensures { Judges (λ t. table_view t.now) result (members_in (view value.now)) }
+    ensures { Yields (λ t. table_view t.now) result (members_in (view value.now)) }
 {
     match value {
         Value::Table(table) => Ok(table),
@@ -122,7 +122,7 @@ pub(crate) fn is_one_of(names: &[&str], name: &str) -> bool
 
 /// Refuses entries with other names than these, as `Shape`.
 pub(crate) fn check_names(entries: &Entries, names: &[&str]) -> Result<(), ConfigFault>
-    ensures { Judges (λ u. u) result (only (map (λ n. n.now) names.now) (table_view entries.now)) }
+    ensures { Yields (λ u. u) result (only (map (λ n. n.now) names.now) (table_view entries.now)) }
 {
     if has_only(entries, names) {
         Ok(())

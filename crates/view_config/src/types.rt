@@ -1,7 +1,7 @@
 //! Reads the types of columns. What is no type is `TypeText`.
 
 ghost use Rattle.std.specs.Prelude.{◌≡◌, ◌≤◌, ◌<◌, ◌^◌, pos, IfOk};
-ghost use Rattle.values.specs.Reading.{Judges};
+ghost use Rattle.values.specs.Reading.{Yields};
 ghost use Rattle.toml.specs.View.{items_view, view};
 ghost use Rattle.view_config.specs.Reading.{Answers};
 ghost use Rattle.view_config.specs.Tree.{each_item};
@@ -83,7 +83,7 @@ fn unit_of(word: &str) -> Option<TimeUnit>
 }
 
 fn unit_in(value: &Value) -> Result<TimeUnit, ConfigFault>
-    ensures { Judges (λ u. u) result (unit_in (view value.now)) }
+    ensures { Yields (λ u. u) result (unit_in (view value.now)) }
 {
     match value {
         Value::String(word) => unit_of(word.as_str()).ok_or(ConfigFault::TypeText),
@@ -93,7 +93,7 @@ fn unit_in(value: &Value) -> Result<TimeUnit, ConfigFault>
 
 /// Reads a whole number from `low` to `high`.
 fn number_in(low: u32, high: u32, value: &Value) -> Result<u32, ConfigFault>
-    ensures exact { Judges (λ n. n) result (number_in low high (view value.now)) }
+    ensures exact { Yields (λ n. n) result (number_in low high (view value.now)) }
     ensures bound { IfOk result (λ n. n ≤ high) }
 {
     match value {
@@ -105,7 +105,7 @@ fn number_in(low: u32, high: u32, value: &Value) -> Result<u32, ConfigFault>
 }
 
 fn zone_in(value: &Value) -> Result<&str, ConfigFault>
-    ensures { Judges (λ z. z.now) result (zone_in (view value.now)) }
+    ensures { Yields (λ z. z.now) result (zone_in (view value.now)) }
 {
     match value {
         Value::String(zone) if 1 <= zone.len() && zone.len() <= MAX_ZONE_LEN => Ok(zone.as_str()),
@@ -115,7 +115,7 @@ fn zone_in(value: &Value) -> Result<&str, ConfigFault>
 
 #[tactic(auto, using(crate::proofs::Causes::causes), unfolding(crate::specs::ColumnTypes::decimal_of))]
 fn decimal_of(values: &[Value]) -> Result<ColType, ConfigFault>
-    ensures { Judges (λ t. t) result (decimal_of (items_view values.now)) }
+    ensures { Yields (λ t. t) result (decimal_of (items_view values.now)) }
 {
     let (precision, scale) = pair(values).ok_or(ConfigFault::TypeText)?;
     let precision = number_in(1, u32::from(MAX_PRECISION), precision)?;

@@ -2,7 +2,7 @@
 
 ghost use Rattle.std.specs.Prelude.{◌≡◌, option_map};
 ghost use Rattle.toml.specs.View.{table_view, view};
-ghost use Rattle.values.specs.Reading.{Judges};
+ghost use Rattle.values.specs.Reading.{Yields};
 ghost use Rattle.view_config.specs.Filters.{whole_filter};
 ghost use Rattle.view_config.specs.Lookups.{lookup_of as reads};
 ghost use Rattle.view_config.specs.Outputs.{group_of};
@@ -30,7 +30,7 @@ fn read_lookup_at<'a>(
     sides: &'a [SideTable],
     value: Option<&Value>,
 ) -> Result<Option<(Lookup, &'a SideTable)>, ConfigFault>
-    ensures { Judges (option_map (λ l. (l.0, l.1.now))) result (perhaps (reads main.now sides.now) (told value.entry)) }
+    ensures { Yields (option_map (λ l. (l.0, l.1.now))) result (perhaps (reads main.now sides.now) (told value.entry)) }
 {
     match value {
         Some(value) => Ok(Some(read_lookup(main, sides, value)?)),

@@ -1,5 +1,26 @@
 -- Cells that the columns of a row hold, each light enough.
-use Rattle.std.proofs.Common.{◌≡◌, ℕ, zero, suc, Bool, true, false, ◌||◌, List, [], ◌∷◌, ◌++◌, ◌*◌, ◌<◌, ◌≤◌, length, replicate, refl, arith, true≢false}
+use Rattle.std.proofs.Common.{
+  ◌≡◌,
+  ℕ,
+  zero,
+  suc,
+  Bool,
+  true,
+  false,
+  ◌||◌,
+  List,
+  [],
+  ◌∷◌,
+  ◌++◌,
+  ◌*◌,
+  ◌<◌,
+  ◌≤◌,
+  length,
+  replicate,
+  refl,
+  arith,
+  true≢false,
+}
 use Rattle.std.proofs.lemmas.Bool.{le-ltb, ltb-false}
 use Rattle.values.specs.Datum.{Datum, null, items_of}
 use Rattle.values.specs.Layouts.{Holds, HoldsEach, row_weight, slot, weight}

@@ -1,5 +1,24 @@
 -- The columns of a view are columns as a table's are.
-use Rattle.std.proofs.Common.{ℕ, zero, suc, List, [], ◌∷◌, ◌++◌, ◌<◌, ◌≤◌, All, None, Option, Some, get_or, length, map, refl, arith}
+use Rattle.std.proofs.Common.{
+  ℕ,
+  zero,
+  suc,
+  List,
+  [],
+  ◌∷◌,
+  ◌++◌,
+  ◌<◌,
+  ◌≤◌,
+  All,
+  None,
+  Option,
+  Some,
+  get_or,
+  length,
+  map,
+  refl,
+  arith,
+}
 use Rattle.std.proofs.lemmas.List.Elements.{All-get_or, All-head, All-tail}
 use Rattle.values.specs.ColTypes.{IsType}
 use Rattle.values.specs.declared.col_type.ColType.{ColType}
@@ -22,7 +41,18 @@ use Rattle.view_lang.specs.ConfigRules.{
 use Rattle.view_lang.specs.Laws.{ViewsAreTables}
 use Rattle.view_lang.specs.Outputs.{GroupOutput, Output, Outputs, columns, groups}
 use Rattle.view_lang.specs.TableRules.{AreColumns, AreSlim, AreWithin, IsSlim, IsTable, IsWithin, type_of}
-use Rattle.view_lang.specs.ViewColumns.{aggregate_field, count_type, field_at, joined_columns, output_field, output_fields, renamed, simple_field, sum_type, view_columns}
+use Rattle.view_lang.specs.ViewColumns.{
+  aggregate_field,
+  count_type,
+  field_at,
+  joined_columns,
+  output_field,
+  output_fields,
+  renamed,
+  simple_field,
+  sum_type,
+  view_columns,
+}
 use Rattle.view_lang.specs.World.{table_at}
 use Rattle.view_lang.specs.declared.view.Aggregate.{Aggregate}
 use Rattle.view_lang.specs.declared.view.Aggregate.TheVariants as aggregate

@@ -1,5 +1,24 @@
 -- Fields below a field, columns that are logical, and tables by number.
-use Rattle.std.proofs.Common.{◌≡◌, ℕ, zero, suc, Some, List, [], ◌∷◌, ◌<◌, ◌≤◌, All, get_or, length, map, refl, ap, arith, ◌∙◌}
+use Rattle.std.proofs.Common.{
+  ◌≡◌,
+  ℕ,
+  zero,
+  suc,
+  Some,
+  List,
+  [],
+  ◌∷◌,
+  ◌<◌,
+  ◌≤◌,
+  All,
+  get_or,
+  length,
+  map,
+  refl,
+  ap,
+  arith,
+  ◌∙◌,
+}
 use Rattle.std.proofs.lemmas.List.Elements.{All-cons, All-get_or, All-map}
 use Rattle.std.proofs.lemmas.Option.{none-some, slice_get_within}
 use Rattle.std.specs.Prelude.{slice_get}

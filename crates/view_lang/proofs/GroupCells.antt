@@ -1,5 +1,30 @@
 -- What is shown of a group is held by its column.
-use Rattle.std.proofs.Common.{ℕ, Bool, true, false, not, List, [], ◌∷◌, ◌*◌, ◌<◌, ◌≤◌, ◌^◌, ℤ, pos, negsuc, neg_ℤ, nat_abs, ◌≤ℤ◌, All, cond, get_or, length, map, arith}
+use Rattle.std.proofs.Common.{
+  ℕ,
+  Bool,
+  true,
+  false,
+  not,
+  List,
+  [],
+  ◌∷◌,
+  ◌*◌,
+  ◌<◌,
+  ◌≤◌,
+  ◌^◌,
+  ℤ,
+  pos,
+  negsuc,
+  neg_ℤ,
+  nat_abs,
+  ◌≤ℤ◌,
+  All,
+  cond,
+  get_or,
+  length,
+  map,
+  arith,
+}
 use Rattle.std.proofs.lemmas.Int.{ints}
 use Rattle.std.proofs.lemmas.List.{length-map}
 use Rattle.std.proofs.lemmas.List.Elements.{All-filter, All-head, All-map, All-tail, All-weaker}

@@ -1,5 +1,29 @@
 -- The rows that a view is made of hold the columns of joined rows, and are at most as many as the main table's.
-use Rattle.std.proofs.Common.{ℕ, suc, Bool, true, false, List, [], ◌∷◌, ◌++◌, ◌≤◌, All, IfSome, None, Option, Some, filter, filter_map, if◌then◌else◌, length, replicate, sym, arith, subst}
+use Rattle.std.proofs.Common.{
+  ℕ,
+  suc,
+  Bool,
+  true,
+  false,
+  List,
+  [],
+  ◌∷◌,
+  ◌++◌,
+  ◌≤◌,
+  All,
+  IfSome,
+  None,
+  Option,
+  Some,
+  filter,
+  filter_map,
+  if◌then◌else◌,
+  length,
+  replicate,
+  sym,
+  arith,
+  subst,
+}
 use Rattle.std.proofs.lemmas.List.Elements.{All-cons, All-filter, All-get_or, All-head, All-nil, All-tail}
 use Rattle.std.specs.List.{cons_option}
 use Rattle.std.specs.Option.{option_map}

@@ -1,5 +1,25 @@
 -- The keys of live rows stay distinct.
-use Rattle.std.proofs.Common.{◌≡◌, Bool, true, false, not, cond, ◌||◌, List, [], ◌∷◌, ◌++◌, None, Some, filter, refl, ap, sym, ◌∙◌, true≢false}
+use Rattle.std.proofs.Common.{
+  ◌≡◌,
+  Bool,
+  true,
+  false,
+  not,
+  cond,
+  ◌||◌,
+  List,
+  [],
+  ◌∷◌,
+  ◌++◌,
+  None,
+  Some,
+  filter,
+  refl,
+  ap,
+  sym,
+  ◌∙◌,
+  true≢false,
+}
 use Rattle.std.specs.Prelude.{find}
 use Rattle.std.proofs.lemmas.List.{map-append}
 use Rattle.std.proofs.lemmas.Option.{none-some}

@@ -12,6 +12,6 @@ slots_of-requires c =
 pub returns : goal.returns
 returns c =
     let within_slot = rw c.deref.ensures.value at c.in-Some-slots_of.ensures.value.0 in
-    let clear = rw (c.is_clear.ensures, c.deref-2.ensures.value) at c.if-not-is_clear.false in
+    let clear = rw (c.are_consistent.ensures, c.deref-2.ensures.value) at c.if-not-are_consistent.false in
     all_read c.args.columns.now c.in_ok-fields.fields.items c.in-Some.field-0 c.in-Some.ensures c.in_ok-fields.ensures
     within_slot clear

@@ -21,7 +21,7 @@ returns-in-Some c =
     subst R c.self.view_is
     (found_row c.self.inside.keys c.self.inside.holders.items c.self.inside.entries.items c.self.inside.live
     c.in-Some.place c.args.key.now
-    c.holder.result c.self.invariant c.apart.ensures c.in-Some.ensures
+    c.holder.result c.self.invariant c.distinct_law.ensures c.in-Some.ensures
     (subst Q c.deref-in-Some.ensures.value (subst P c.deref.ensures.value c.holder.ensures)))
 
 pub returns-in-None : goal.returns-in-None

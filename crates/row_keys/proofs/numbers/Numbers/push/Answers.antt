@@ -58,7 +58,7 @@ returns-clause-pushed c = (
   subst (λ xs. IsUnused xs c.args.key) c.self.view_is
       (unused_before c.self.inside.keys c.insert.new.self c.self.inside.holders.items c.self.inside.entries.items
       c.self.inside.live
-      c.in_ok-place.place c.args.key c.self.invariant c.apart.ensures c.in_ok-place.ensures.place (free c)),
+      c.in_ok-place.place c.args.key c.self.invariant c.distinct_law.ensures c.in_ok-place.ensures.place (free c)),
   ap (λ es. seen_all c.insert.new.self es) (pushed c)
       ∙ rows_pushed c.self.inside.keys c.insert.new.self c.self.inside.holders.items c.hold.new.holders.items
       c.self.inside.entries.items

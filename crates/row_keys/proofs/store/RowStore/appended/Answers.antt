@@ -7,6 +7,6 @@ use Rattle.row_keys.proofs.store.RowStore.appended.Goals as goal
 pub returns : goal.returns
 returns c =
     c.len.ensures.value
-    ∙ sym (keyed_length c.self.inside.table (rows_by c.self.inside.batches.items c.self.inside.places.items)
+    ∙ sym (keyed_length c.self.inside.table (rows_by c.self.inside.batches.items c.self.inside.locations.items)
     c.self.inside.numbers c.self.invariant.keyed).1
     ∙ ap (λ (s : Store). length s.slots) c.self.view_is

@@ -22,9 +22,9 @@ returns-in-Ok-clause-numbers c =
     subst P c.self.view_is
     (if_ok (λ (ns : Vec ℕ Global). FindsAll c.args.keys.now.cells c.self.inside.numbers ns.items)
     (λ ns. CanRetract ns.items
-    (joined (rows_by c.self.inside.batches.items c.self.inside.places.items) c.self.inside.numbers))
+    (joined (rows_by c.self.inside.batches.items c.self.inside.locations.items) c.self.inside.numbers))
     c.find_keys.result
-    (λ ns h. found_can c.self.inside.table (rows_by c.self.inside.batches.items c.self.inside.places.items)
+    (λ ns h. found_can c.self.inside.table (rows_by c.self.inside.batches.items c.self.inside.locations.items)
     c.args.keys.now.cells c.self.inside.numbers ns.items c.self.invariant.keyed h pushed.single)
     c.find_keys.ensures.found)
 
@@ -35,9 +35,9 @@ returns-in-Ok-clause-keys c =
     subst P c.self.view_is
     (if_ok (λ (ns : Vec ℕ Global). FindsAll c.args.keys.now.cells c.self.inside.numbers ns.items)
     (λ ns. keys_at c.self.inside.table ns.items
-    (joined (rows_by c.self.inside.batches.items c.self.inside.places.items)
+    (joined (rows_by c.self.inside.batches.items c.self.inside.locations.items)
     c.self.inside.numbers) ≡ c.args.keys.now.cells) c.find_keys.result
-    (λ ns h. found_keys c.self.inside.table (rows_by c.self.inside.batches.items c.self.inside.places.items)
+    (λ ns h. found_keys c.self.inside.table (rows_by c.self.inside.batches.items c.self.inside.locations.items)
     c.args.keys.now.cells c.self.inside.numbers ns.items c.self.invariant.keyed h)
     c.find_keys.ensures.found)
 
@@ -52,10 +52,10 @@ returns-in-Ok-clause-fits c =
     subst P c.self.view_is
     (on_ok (λ (ns : Vec ℕ Global). FindsAll c.args.keys.now.cells c.self.inside.numbers ns.items)
     (cause_of c.self.inside.table
-    (contents_of (joined (rows_by c.self.inside.batches.items c.self.inside.places.items) c.self.inside.numbers))
+    (contents_of (joined (rows_by c.self.inside.batches.items c.self.inside.locations.items) c.self.inside.numbers))
     (retract c.args.keys.now.cells) ≡ None) c.find_keys.result
-    (λ ns h. found_fits c.self.inside.table c.self.inside.batches.items c.self.inside.places.items c.self.inside.numbers
-    c.push_keys.new.numbers c.args.keys.now.cells ns.items c.self.invariant pushed h)
+    (λ ns h. found_fits c.self.inside.table c.self.inside.batches.items c.self.inside.locations.items
+    c.self.inside.numbers c.push_keys.new.numbers c.args.keys.now.cells ns.items c.self.invariant pushed h)
     c.find_keys.ensures.found)
 
 pub returns-in-Ok-clause-refused : goal.returns-in-Ok-clause-refused
@@ -70,10 +70,10 @@ returns-in-Ok-clause-refused c =
     (if_err (MissesKey c.args.keys.now.cells c.self.inside.numbers)
     (Refuses
     (cause_of c.self.inside.table
-    (contents_of (joined (rows_by c.self.inside.batches.items c.self.inside.places.items) c.self.inside.numbers))
+    (contents_of (joined (rows_by c.self.inside.batches.items c.self.inside.locations.items) c.self.inside.numbers))
     (retract c.args.keys.now.cells)))
     c.find_keys.result
-    (λ e h. keys_unknown c.self.inside.table c.self.inside.batches.items c.self.inside.places.items
+    (λ e h. keys_unknown c.self.inside.table c.self.inside.batches.items c.self.inside.locations.items
     c.self.inside.numbers c.push_keys.new.numbers c.args.keys.now.cells e c.self.invariant pushed h)
     c.find_keys.ensures.missed)
 

@@ -7,6 +7,6 @@ use Rattle.row_keys.proofs.store.RowStore.len.Goals as goal
 pub returns-clause-value : goal.returns-clause-value
 returns-clause-value c =
     c.live.ensures
-    ∙ sym (live_counted c.self.inside.table (rows_by c.self.inside.batches.items c.self.inside.places.items)
+    ∙ sym (live_counted c.self.inside.table (rows_by c.self.inside.batches.items c.self.inside.locations.items)
     c.self.inside.numbers c.self.invariant.keyed)
     ∙ ap (λ s. length (live_in s)) c.self.view_is

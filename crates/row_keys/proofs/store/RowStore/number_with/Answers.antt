@@ -11,6 +11,6 @@ returns c =
     let P : Store → Type 0 = λ s. MatchOption c.find.result (IsUnknown s (datum_of_key c.args.key.now))
     (IsKnown s (datum_of_key c.args.key.now)) in
     subst P c.self.view_is
-    (key_known c.self.inside.table (rows_by c.self.inside.batches.items c.self.inside.places.items)
+    (key_known c.self.inside.table (rows_by c.self.inside.batches.items c.self.inside.locations.items)
     c.self.inside.numbers c.self.inside.visits c.args.key.now c.find.result c.self.invariant.keyed
-    c.distinct.ensures c.self.invariant.given c.find.ensures)
+    c.distinct_law.ensures c.self.invariant.given c.find.ensures)

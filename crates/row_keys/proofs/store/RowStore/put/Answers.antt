@@ -5,7 +5,7 @@ use Rattle.row_keys.specs.Batches.{batch_rows}
 use Rattle.row_keys.specs.Slots.{CanPutBack, Slot, keys_at, live, new_slot, retracted}
 use Rattle.row_keys.specs.Store.{Refuses, Store}
 use Rattle.row_keys.proofs.Hiding.{can_hide_new}
-use Rattle.row_keys.proofs.Replacing.{put_judged}
+use Rattle.row_keys.proofs.Replacing.{put_refusal}
 use Rattle.row_keys.proofs.store.RowStore.put.Goals as goal
 
 pub returns-in-Ok-clause-fits : goal.returns-in-Ok-clause-fits
@@ -14,7 +14,7 @@ returns-in-Ok-clause-fits c =
     let P : List CheckedColumn → Type 0 = λ cs.
     without s.table (keys_at s.table c.in_ok-replaced.replaced.items s.slots) (live s.slots)
     ≡ without s.table (keys_in s.table (batch_rows c.args.rows cs)) (live s.slots) in
-    put_judged c.args.self.now c.retract.new.self (batch_rows c.args.rows c.args.columns.items)
+    put_refusal c.args.self.now c.retract.new.self (batch_rows c.args.rows c.args.columns.items)
     c.in_ok-replaced.replaced.items c.deref-2.result.now c.retract.ensures.slots c.retract.ensures.contents
     c.deref-2.ensures.value (subst P c.deref.ensures.value c.in_ok-replaced.ensures.rest)
     ∙ c.in-Ok.ensures.fits
@@ -43,7 +43,7 @@ returns-in-Err-clause-refused c =
     without s.table (keys_at s.table c.in_ok-replaced.replaced.items s.slots) (live s.slots)
     ≡ without s.table (keys_in s.table (batch_rows c.args.rows cs)) (live s.slots) in
     subst (λ o. Refuses o c.in-Err.fault)
-    (sym (put_judged c.args.self.now c.retract.new.self (batch_rows c.args.rows c.args.columns.items)
+    (sym (put_refusal c.args.self.now c.retract.new.self (batch_rows c.args.rows c.args.columns.items)
     c.in_ok-replaced.replaced.items c.deref-2.result.now c.retract.ensures.slots c.retract.ensures.contents
     c.deref-2.ensures.value (subst P c.deref.ensures.value c.in_ok-replaced.ensures.rest)))
     c.in-Err.ensures.refused

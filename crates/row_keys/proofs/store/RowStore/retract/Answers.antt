@@ -12,7 +12,7 @@ use Rattle.row_keys.proofs.store.RowStore.retract.Goals as goal
 pub retract_all-requires : goal.retract_all-requires
 retract_all-requires c =
     let P : Store → Type 0 = λ s. CanRetract c.args.numbers.now s.slots in
-    are_live c.self.inside.table (rows_by c.self.inside.batches.items c.self.inside.places.items) c.args.numbers.now
+    are_live c.self.inside.table (rows_by c.self.inside.batches.items c.self.inside.locations.items) c.args.numbers.now
     c.self.inside.numbers
     c.self.invariant.keyed (subst P (sym c.self.view_is) c.requires)
 
@@ -20,26 +20,26 @@ pub invariant_of-self : goal.invariant_of-self
 invariant_of-self c =
     let P : Store → Type 0 = λ s. CanRetract c.args.numbers.now s.slots in
     let are : AreLive c.args.numbers.now c.self.inside.numbers =
-    are_live c.self.inside.table (rows_by c.self.inside.batches.items c.self.inside.places.items) c.args.numbers.now
+    are_live c.self.inside.table (rows_by c.self.inside.batches.items c.self.inside.locations.items) c.args.numbers.now
     c.self.inside.numbers
     c.self.invariant.keyed (subst P (sym c.self.view_is) c.requires) in
     let Q : List Numbered → Type 0 =
-    λ xs. IsStored c.self.inside.table c.self.inside.batches.items c.self.inside.places.items xs in
+    λ xs. IsStored c.self.inside.table c.self.inside.batches.items c.self.inside.locations.items xs in
     subst Q (sym c.retract_all.ensures)
-    (stored_off c.self.inside.table c.self.inside.batches.items c.self.inside.places.items c.self.inside.numbers
+    (stored_off c.self.inside.table c.self.inside.batches.items c.self.inside.locations.items c.self.inside.numbers
     c.args.numbers.now c.self.invariant are)
 
 pub returns-clause-slots : goal.returns-clause-slots
 returns-clause-slots c =
     ap (λ xs. record {
       table = c.self.inside.table;
-      slots = joined (rows_by c.self.inside.batches.items c.self.inside.places.items) xs;
+      slots = joined (rows_by c.self.inside.batches.items c.self.inside.locations.items) xs;
       visits =
           c.self.inside.visits;
     })
     c.retract_all.ensures
     ∙ ap (λ ss. record { table = c.self.inside.table; slots = ss; visits = c.self.inside.visits })
-    (joined_off (rows_by c.self.inside.batches.items c.self.inside.places.items) c.args.numbers.now
+    (joined_off (rows_by c.self.inside.batches.items c.self.inside.locations.items) c.args.numbers.now
     c.self.inside.numbers)
     ∙ ap (λ (s : Store). with_slots s (retracted c.args.numbers.now s.slots)) c.self.view_is
 
@@ -47,12 +47,12 @@ pub returns-clause-contents : goal.returns-clause-contents
 returns-clause-contents c =
     let P : Store → Type 0 = λ s. CanRetract c.args.numbers.now s.slots in
     let Q : Store → Type 0 = λ s.
-    contents_of (joined (rows_by c.self.inside.batches.items c.self.inside.places.items) c.retract_all.new.rows)
+    contents_of (joined (rows_by c.self.inside.batches.items c.self.inside.locations.items) c.retract_all.new.rows)
     ≡ applied s.table (retract (keys_at s.table c.args.numbers.now s.slots)) (contents_of s.slots) in
     subst Q c.self.view_is
-    (off_world c.self.inside.table c.self.inside.batches.items c.self.inside.places.items c.self.inside.numbers
+    (off_world c.self.inside.table c.self.inside.batches.items c.self.inside.locations.items c.self.inside.numbers
     c.retract_all.new.rows
-    c.args.numbers.now c.self.invariant c.distinct.ensures (subst P (sym c.self.view_is) c.requires)
+    c.args.numbers.now c.self.invariant c.distinct_law.ensures (subst P (sym c.self.view_is) c.requires)
     c.retract_all.ensures)
 
 pub returns-clause-can_go_back : goal.returns-clause-can_go_back
@@ -60,17 +60,17 @@ returns-clause-can_go_back c =
     let P : Store → Type 0 = λ s. CanRetract c.args.numbers.now s.slots in
     let Q : Store → Type 0 = λ s.
     CanPutBack s.table c.args.numbers.now
-    (joined (rows_by c.self.inside.batches.items c.self.inside.places.items) c.retract_all.new.rows) in
+    (joined (rows_by c.self.inside.batches.items c.self.inside.locations.items) c.retract_all.new.rows) in
     subst Q c.self.view_is
-    (off_can c.self.inside.table c.self.inside.batches.items c.self.inside.places.items c.self.inside.numbers
+    (off_can c.self.inside.table c.self.inside.batches.items c.self.inside.locations.items c.self.inside.numbers
     c.retract_all.new.rows
-    c.args.numbers.now c.self.invariant c.distinct.ensures (subst P (sym c.self.view_is) c.requires)
+    c.args.numbers.now c.self.invariant c.distinct_law.ensures (subst P (sym c.self.view_is) c.requires)
     c.retract_all.ensures)
 
 pub returns-clause-back : goal.returns-clause-back
 returns-clause-back c =
     let P : Store → Type 0 = λ s. CanRetract c.args.numbers.now s.slots in
-    off_back c.self.inside.batches.items c.self.inside.places.items c.self.inside.numbers c.retract_all.new.rows
+    off_back c.self.inside.batches.items c.self.inside.locations.items c.self.inside.numbers c.retract_all.new.rows
     c.args.numbers.now
     (subst P (sym c.self.view_is) c.requires) c.retract_all.ensures
     ∙ ap (λ (s : Store). s.slots) c.self.view_is

@@ -12,19 +12,19 @@ pub returns-clause-held : goal.returns-clause-held
 returns-clause-held c =
     let P : Store → Type 0 = λ s. All (λ x. IsRow s.table.columns x.row) s.slots in
     subst P c.self.view_is
-    (rows_right c.self.inside.table (rows_by c.self.inside.batches.items c.self.inside.places.items)
+    (rows_right c.self.inside.table (rows_by c.self.inside.batches.items c.self.inside.locations.items)
     c.self.inside.numbers c.self.invariant.held c.self.invariant.light)
 
 pub returns-clause-few : goal.returns-clause-few
 returns-clause-few c =
     let P : Store → Type 0 = λ s. length (live_in s) ≤ s.table.max_rows in
     subst P c.self.view_is
-    (stored_few c.self.inside.table c.self.inside.batches.items c.self.inside.places.items c.self.inside.numbers
+    (stored_few c.self.inside.table c.self.inside.batches.items c.self.inside.locations.items c.self.inside.numbers
     c.self.invariant)
 
 pub returns-clause-keyed : goal.returns-clause-keyed
 returns-clause-keyed c =
     let P : Store → Type 0 = λ s. AreKeyed s.table (contents_of s.slots) in
     subst P c.self.view_is
-    (stored_keyed c.self.inside.table c.self.inside.batches.items c.self.inside.places.items c.self.inside.numbers
-    c.self.invariant c.distinct.ensures)
+    (stored_keyed c.self.inside.table c.self.inside.batches.items c.self.inside.locations.items c.self.inside.numbers
+    c.self.invariant c.distinct_law.ensures)

@@ -9,14 +9,14 @@ pub overflow_sub-left : goal.overflow_sub-left
 overflow_sub-left c =
     let P : Store → Type 0 = λ s. CanTakeBack c.args.count s.slots in
     let below =
-    can_take c.self.inside.table c.self.inside.batches.items c.self.inside.places.items c.self.inside.numbers
+    can_take c.self.inside.table c.self.inside.batches.items c.self.inside.locations.items c.self.inside.numbers
     c.args.count c.self.invariant (subst P (sym c.self.view_is) c.requires) in
     omega (arith, below, c.len.ensures.value)
 
 pub invariant_of-self : goal.invariant_of-self
 invariant_of-self c =
     rw (c.truncate.ensures.items, c.truncate-2.ensures)
-    (stored_taken c.self.inside.table c.self.inside.batches.items c.self.inside.places.items c.self.inside.numbers
+    (stored_taken c.self.inside.table c.self.inside.batches.items c.self.inside.locations.items c.self.inside.numbers
     (c.len.result - c.args.count) c.self.invariant)
 
 pub returns : goal.returns
@@ -30,18 +30,18 @@ returns c =
     ∙ ap (λ xs. record {
       table = c.self.inside.table;
       slots = joined
-          (rows_by c.self.inside.batches.items (take (c.len.result - c.args.count) c.self.inside.places.items)) xs;
+          (rows_by c.self.inside.batches.items (take (c.len.result - c.args.count) c.self.inside.locations.items)) xs;
       visits = c.self.inside.visits;
     })
     c.truncate-2.ensures
     ∙ ap (λ n. record {
       table = c.self.inside.table;
-      slots = joined (rows_by c.self.inside.batches.items (take (n - c.args.count) c.self.inside.places.items))
+      slots = joined (rows_by c.self.inside.batches.items (take (n - c.args.count) c.self.inside.locations.items))
           (take (n - c.args.count) c.self.inside.numbers);
       visits = c.self.inside.visits;
     })
     c.len.ensures.value
     ∙ ap (λ ss. record { table = c.self.inside.table; slots = ss; visits = c.self.inside.visits })
-    (taken_slots c.self.inside.table c.self.inside.batches.items c.self.inside.places.items c.self.inside.numbers
+    (taken_slots c.self.inside.table c.self.inside.batches.items c.self.inside.locations.items c.self.inside.numbers
     c.args.count c.self.invariant)
     ∙ ap (λ (s : Store). with_slots s (taken_back c.args.count s.slots)) c.self.view_is

@@ -9,13 +9,13 @@ returns-clause-fits c = λ ls fits.
     let rows = rows_of c.args.self.now.batches.now in
     let from = c.args.self.now.from in
     let n = c.args.count in
-    let place = c.place_at-place.result in
-    let behind = skipped rows from n (drop place.from (rows_of place.batches.now)) c.place_at-place.ensures.rows in
+    let place = c.position_at-place.result in
+    let behind = skipped rows from n (drop place.from (rows_of place.batches.now)) c.position_at-place.ensures.rows in
     let size = ap length behind ∙ length-drop n (drop from rows) in
     record {
-      sized = c.place_at-place.ensures.sized (length ls) fits.sized;
+      sized = c.position_at-place.ensures.sized (length ls) fits.sized;
       light = light-left (kids_of ls) (drop from rows) (drop place.from (rows_of place.batches.now)) n behind
           fits.light;
       left = omega (arith, size, fits.left);
-      small = omega (arith, fits.small, fits.left, c.place_at-place.ensures.bound, c.requires.within);
+      small = omega (arith, fits.small, fits.left, c.position_at-place.ensures.bound, c.requires.within);
     }

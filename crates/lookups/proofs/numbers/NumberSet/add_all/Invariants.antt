@@ -1,7 +1,7 @@
 use Rattle.lookups.specs.Refers.{is_among}
 use Rattle.std.proofs.Common.{◌≡◌, ◌||◌, ℕ, map}
 use Rattle.std.specs.Map.Iter.{deref}
-use Rattle.lookups.proofs.numbers.Numbers.add_all.Given as goal
+use Rattle.lookups.proofs.numbers.NumberSet.add_all.Given as goal
 
 abbrev pub invariant-loop-number : goal.invariant-loop-number
 invariant-loop-number l =

@@ -1,5 +1,5 @@
 use Rattle.view_lang.proofs.LastEntries.{key-next}
-use Rattle.lookups.proofs.numbers.Numbers.of.Goals as goal
+use Rattle.lookups.proofs.numbers.NumberSet.of.Goals as goal
 use Rattle.std.proofs.Common.{◌≡◌, ◌++◌, ◌∷◌, rules, ap, sym, ◌∙◌, List, ℕ}
 use Rattle.std.specs.Cmp.{nat_cmp_total}
 use Rattle.std.specs.Ordering.{nat_cmp}

@@ -1,5 +1,5 @@
 use Rattle.std.proofs.Common.{◌≡◌, ◌++◌}
-use Rattle.lookups.proofs.numbers.Numbers.of.Given as goal
+use Rattle.lookups.proofs.numbers.NumberSet.of.Given as goal
 
 abbrev pub invariant-loop-number : goal.invariant-loop-number
 invariant-loop-number l = l.made.keys ++ l.number-iterator.rest.items ≡ l.fn.numbers.items

@@ -2,7 +2,7 @@
 
 ghost use Rattle.std.specs.Prelude.{◌≡◌, IfOk};
 ghost use Rattle.view_lang.specs.Cells.{cell_at};
-ghost use Rattle.top_rows.specs.Parts.{part_of};
+ghost use Rattle.top_rows.specs.SortKeys.{sort_key_of};
 
 use std::alloc::{AllocError, Global};
 use std::cmp::Reverse;
@@ -11,27 +11,27 @@ use view_lang::{Direction, OrderBy};
 
 /// What a row is ordered by in one column of an order. A missing value comes last in both directions.
 #[derive(Debug, Drop, PartialEq, Eq, PartialOrd, Ord)]
-pub enum Part {
+pub enum SortKey {
     Ascending(Key),
     Descending(Reverse<Key>),
     /// Null, a list or a struct.
     Missing,
 }
 
-impl Part {
-    /// The part of a row in one column of an order.
-    pub(crate) fn of(alloc: Global, row: &[Value], by: &OrderBy) -> Result<Part, AllocError>
-        ensures { IfOk result (λ part. part ≡ part_of by.now.direction (cell_at row.now by.now.column)) }
+impl SortKey {
+    /// The sort key of a row for one column of an order.
+    pub(crate) fn of(alloc: Global, row: &[Value], by: &OrderBy) -> Result<SortKey, AllocError>
+        ensures { IfOk result (λ key. key ≡ sort_key_of by.now.direction (cell_at row.now by.now.column)) }
     {
         let Some(value) = row.get(by.column) else {
-            return Ok(Part::Missing);
+            return Ok(SortKey::Missing);
         };
         match Key::of(alloc, value)? {
-            None => Ok(Part::Missing),
-            Some(Key::Null) => Ok(Part::Missing),
+            None => Ok(SortKey::Missing),
+            Some(Key::Null) => Ok(SortKey::Missing),
             Some(key) => match by.direction {
-                Direction::Ascending => Ok(Part::Ascending(key)),
-                Direction::Descending => Ok(Part::Descending(Reverse(key))),
+                Direction::Ascending => Ok(SortKey::Ascending(key)),
+                Direction::Descending => Ok(SortKey::Descending(Reverse(key))),
             },
         }
     }

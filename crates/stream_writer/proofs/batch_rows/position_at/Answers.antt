@@ -1,6 +1,6 @@
 use Rattle.std.proofs.Common.{arith, ap, get_or}
 use Rattle.stream_writer.proofs.BatchRowLemmas.{place-step}
-use Rattle.stream_writer.proofs.batch_rows.place_at.Goals as goal
+use Rattle.stream_writer.proofs.batch_rows.position_at.Goals as goal
 
 pub loop-i-preserved : goal.loop-i-preserved
 loop-i-preserved c =

@@ -1,6 +1,6 @@
 use Rattle.std.proofs.Common.{◌≡◌, ◌≤◌, drop}
 use Rattle.column_writer.specs.Batches.{rows_of}
-use Rattle.stream_writer.proofs.batch_rows.place_at.Given as goal
+use Rattle.stream_writer.proofs.batch_rows.position_at.Given as goal
 
 abbrev pub invariant-loop-i : goal.invariant-loop-i
 invariant-loop-i l = record {

@@ -1,10 +1,10 @@
 use Rattle.std.proofs.Common.{subst}
 use Rattle.row_keys.specs.Numbers.{AreDistinct}
 use Rattle.row_keys.proofs.Indexes.{rows_distinct}
-use Rattle.row_keys.proofs.numbers.Numbers.distinct.Goals as goal
+use Rattle.row_keys.proofs.numbers.Numbers.distinct_law.Goals as goal
 
 pub returns : goal.returns
 returns c =
     subst AreDistinct c.self.view_is
     (rows_distinct c.self.inside.keys c.self.inside.holders.items c.self.inside.entries.items c.self.inside.live
-    c.self.invariant c.apart.ensures)
+    c.self.invariant c.distinct_law.ensures)
