@@ -145,7 +145,8 @@ class Checked:
     def __init__(self, crate, ran):
         self.crate, self.ran, self.lines = crate, ran, ran.text.split("\n")
         self.functions = dict(it.groups() for it in map(re.compile(r"fn (\S+): (.+)").match, self.lines) if it)
-        self.verdict = next((it.split()[0] for it in self.lines if it.startswith("logic=")), "")
+        # Over stale kept work the crates below are checked before, each with a line of its own.
+        self.verdict = next((it.split()[0] for it in reversed(self.lines) if it.startswith("logic=")), "")
         read_wrongly = r"error\b|(\./)?(src|specs)/\S+:\d+:\d+: error"
         self.is_readable = not any(re.match(read_wrongly, it) for it in self.lines)
 
