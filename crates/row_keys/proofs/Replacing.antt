@@ -1,4 +1,4 @@
--- Rows that take the locations of those with their keys.
+-- Rows that take the places of those with their keys.
 use Rattle.std.proofs.Common.{
   ◌≡◌,
   ℕ,

@@ -10,7 +10,7 @@ keys_code = coded_list the_row.coded
 abbrev pub IsNew : List Key → Key → Type 0
 IsNew keys k = (p : ℕ) → slice_get keys p ≡ Some k → ⊥
 
--- no key stands at two locations
+-- no key stands at two places
 abbrev pub AreApart : List Key → Type 0
 AreApart keys = (p q : ℕ) (k : Key) → slice_get keys p ≡ Some k → slice_get keys q ≡ Some k → p ≡ q
 

@@ -38,7 +38,7 @@ impl KeyTable {
         }
     }
 
-    /// No key stands at two locations. It does nothing: its contract is the theorem.
+    /// No key stands at two places. It does nothing: its contract is the theorem.
     pub(crate) fn distinct_law(&self)
         ensures { AreApart self.now }
     {

@@ -10,7 +10,7 @@ use std::alloc::{AllocError, Global};
 use std::marker::Model;
 use values::Row;
 
-/// A row of a store where it lies: the columns of its batch, and its place in them.
+/// A row of a store where it lies: the columns of its batch, and its index in them.
 ///
 /// Contracts see the list of its cells.
 #[derive(Drop)]
