@@ -1,4 +1,4 @@
--- NumberSet that are gathered key by key.
+-- Numbers that are gathered key by key.
 use Rattle.lookups.proofs.Exactness.{key_total}
 use Rattle.view_lang.proofs.ExactKeys.{key_exact}
 use Rattle.lookups.specs.Refers.{key_cmp}

@@ -1,4 +1,4 @@
-//! NumberSet of rows.
+//! Sets of row numbers.
 
 ghost use Rattle.lookups.specs.Refers.{is_among};
 ghost use Rattle.std.specs.List.Sorted.{IsStrictlySortedBy};
@@ -9,7 +9,7 @@ use std::alloc::{AllocError, Global};
 use std::collections::BTreeSet;
 use std::marker::Model;
 
-/// NumberSet of rows, each once. Contracts see the list of them, which ascends.
+/// Numbers of rows, each once. Contracts see the list of them, which ascends.
 #[derive(Debug, Drop)]
 pub(crate) struct NumberSet {
     numbers: BTreeSet<usize>,
