@@ -5,7 +5,6 @@ use Rattle.std.proofs.Common.{
   zero,
   suc,
   ◌<◌,
-  ◌≤◌,
   List,
   [],
   ◌∷◌,
@@ -13,7 +12,6 @@ use Rattle.std.proofs.Common.{
   get_or,
   None,
   All,
-  refl,
   ap,
   sym,
   subst,
@@ -22,22 +20,28 @@ use Rattle.std.proofs.Common.{
   inl,
   inr,
 }
+use Rattle.std.specs.Prelude.{true, false, is_some}
 use Rattle.std.proofs.lemmas.List.Elements.{All-weaker}
-use Rattle.values.specs.Rose.{Rose, node, Roses, none, more, kids_of}
+use Rattle.values.specs.Rose.{Rose, node, Roses, kids_of}
 use Rattle.values.specs.declared.layout.OffsetWidth.{OffsetWidth}
 use Rattle.values.specs.declared.layout.Layout.{Layout}
-use Rattle.values.specs.declared.layout.Layout.TheVariants.{Utf8, Binary, List as Listed, Struct}
+use Rattle.values.specs.declared.layout.Layout.TheVariants.{Utf8, Binary, List as Listed}
 use Rattle.array_layout.specs.declared.array.ArrayData.{ArrayData}
 use Rattle.column_writer.specs.declared.piece.Piece.{Piece}
 use Rattle.column_writer.specs.declared.piece.Piece.TheVariants.{Slots, Nulls}
 use Rattle.column_writer.specs.declared.piece.SlotRange.{SlotRange}
 use Rattle.column_writer.specs.Pieces.{
   with_offsets,
+  HasDictionary,
+  IsAlike,
   Lies,
   AllLie,
   RangeLies,
   LiesAs,
+  LiesBelow,
+  IsChecked,
   IsPlain,
+  IsEncoded,
   HasLayout,
   HasStarts,
   HasRuns,
@@ -46,19 +50,67 @@ use Rattle.column_writer.specs.Pieces.{
   ChildLies,
 }
 
-range-layout : (l : Layout) (kids : Roses Layout) (r : SlotRange) → RangeLies (node l kids) r → HasLayout l r
-range-layout l kids r lies = record {
-  plain = record { checked = lies.width.checked; plain = lies.lies.0 };
-  layout = lies.lies.1 ∙ ap (λ o. with_offsets o l) (sym lies.width.offsets);
+-- two arrays, both with a dictionary or both without
+
+false-true : false ≡ true → ⊥
+false-true e = cc
+
+has-none : (p : ArrayData) → p.dictionary ≡ None → HasDictionary p → ⊥
+has-none p is has = false-true (sym (ap is_some is) ∙ has)
+
+both-encoded : (l : Layout) (kids : Roses Layout) (m p : ArrayData) (models arrays : Roses ArrayData) → HasDictionary m
+    → Lies (node l kids) (node m models) (node p arrays) → HasDictionary p
+both-encoded l kids m p models arrays has (inl both) = both.1
+both-encoded l kids m p models arrays has (inr neither) = absurd (has-none m neither.0 has)
+
+both-plain : (l : Layout) (kids : Roses Layout) (m p : ArrayData) (models arrays : Roses ArrayData)
+    → is_some m.dictionary ≡ false → Lies (node l kids) (node m models) (node p arrays)
+    → (p.dictionary ≡ None) × IsAlike l p.layout × AllLie kids models arrays
+both-plain l kids m p models arrays bare (inl both) = absurd (false-true (sym bare ∙ both.0))
+both-plain l kids m p models arrays bare (inr neither) = (neither.1, neither.2, neither.3)
+
+range-encoded : (t : Rose Layout) (m : ArrayData) (models : Roses ArrayData) → HasDictionary m → (r : SlotRange)
+    → RangeLies t (node m models) r → IsEncoded r
+range-encoded (node l kids) m models has r lies = record {
+  checked = lies.width.checked;
+  encoded = both-encoded l kids m r.parts.own.now models (kids_of r.parts.children.now) has lies.lies;
 }
 
-own-layout : (l : Layout) (kids : Roses Layout) (p : Piece) → LiesAs (node l kids) p → OfSlots (HasLayout l) p
-own-layout l kids (Slots r) lies = range-layout l kids r lies
-own-layout l kids (Nulls n) lies = tt
+piece-encoded : (t : Rose Layout) (m : ArrayData) (models : Roses ArrayData) → HasDictionary m → (p : Piece)
+    → LiesAs t (node m models) p → OfSlots IsEncoded p
+piece-encoded t m models has (Slots r) lies = range-encoded t m models has r lies
+piece-encoded t m models has (Nulls n) lies = tt
 
-pub own-layouts : (l : Layout) (kids : Roses Layout) (ps : List Piece) → All (LiesAs (node l kids)) ps
-    → All (OfSlots (HasLayout l)) ps
-own-layouts l kids ps all = All-weaker (LiesAs (node l kids)) (OfSlots (HasLayout l)) (own-layout l kids) ps all
+pub all-encoded : (t : Rose Layout) (m : ArrayData) (models : Roses ArrayData) (ps : List Piece) → HasDictionary m
+    → All (LiesAs t (node m models)) ps → All (OfSlots IsEncoded) ps
+all-encoded t m models ps has all =
+    All-weaker (LiesAs t (node m models)) (OfSlots IsEncoded) (piece-encoded t m models has) ps all
+
+range-below : (l : Layout) (kids : Roses Layout) (m : ArrayData) (models : Roses ArrayData)
+    → is_some m.dictionary ≡ false → (r : SlotRange)
+    → RangeLies (node l kids) (node m models) r → LiesBelow l kids models r
+range-below l kids m models bare r lies =
+    let plain = both-plain l kids m r.parts.own.now models (kids_of r.parts.children.now) bare lies.lies in
+    record {
+      own = record {
+        plain = record { checked = lies.width.checked; plain = plain.0 };
+        layout = plain.1 ∙ ap (λ o. with_offsets o l) (sym lies.width.offsets);
+      };
+      below = plain.2;
+    }
+
+piece-below : (l : Layout) (kids : Roses Layout) (m : ArrayData) (models : Roses ArrayData)
+    → is_some m.dictionary ≡ false → (p : Piece)
+    → LiesAs (node l kids) (node m models) p → OfSlots (LiesBelow l kids models) p
+piece-below l kids m models bare (Slots r) lies = range-below l kids m models bare r lies
+piece-below l kids m models bare (Nulls n) lies = tt
+
+pub all-below : (l : Layout) (kids : Roses Layout) (m : ArrayData) (models : Roses ArrayData) (ps : List Piece)
+    → is_some m.dictionary ≡ false → All (LiesAs (node l kids) (node m models)) ps
+    → All (OfSlots (LiesBelow l kids models)) ps
+all-below l kids m models ps bare all =
+    All-weaker (LiesAs (node l kids) (node m models)) (OfSlots (LiesBelow l kids models))
+    (piece-below l kids m models bare) ps all
 
 of-slots : (P Q : SlotRange → Type 0) → ((r : SlotRange) → P r → Q r) → (p : Piece) → OfSlots P p → OfSlots Q p
 of-slots P Q f (Slots r) h = f r h
@@ -68,8 +120,18 @@ all-slots : (P Q : SlotRange → Type 0) → ((r : SlotRange) → P r → Q r) �
     → All (OfSlots Q) ps
 all-slots P Q f ps all = All-weaker (OfSlots P) (OfSlots Q) (of-slots P Q f) ps all
 
+pub own-layouts : (l : Layout) (kids : Roses Layout) (models : Roses ArrayData) (ps : List Piece)
+    → All (OfSlots (LiesBelow l kids models)) ps → All (OfSlots (HasLayout l)) ps
+own-layouts l kids models ps all = all-slots (LiesBelow l kids models) (HasLayout l) (λ r h. h.own) ps all
+
 pub all-plain : (l : Layout) (ps : List Piece) → All (OfSlots (HasLayout l)) ps → All (OfSlots IsPlain) ps
 all-plain l ps all = all-slots (HasLayout l) IsPlain (λ r h. h.plain) ps all
+
+pub all-checked : (l : Layout) (ps : List Piece) → All (OfSlots (HasLayout l)) ps → All (OfSlots IsChecked) ps
+all-checked l ps all = all-slots (HasLayout l) IsChecked (λ r h. h.plain.checked) ps all
+
+pub encoded-checked : (ps : List Piece) → All (OfSlots IsEncoded) ps → All (OfSlots IsChecked) ps
+encoded-checked ps all = all-slots IsEncoded IsChecked (λ r h. h.checked) ps all
 
 pub text-runs : (o : OffsetWidth) (ps : List Piece) → All (OfSlots (HasLayout (Utf8 o))) ps → All (OfSlots HasRuns) ps
 text-runs o ps all = all-slots (HasLayout (Utf8 o)) HasRuns (λ r h. record { plain = h.plain; layout = inl h.layout })
@@ -94,46 +156,41 @@ list-starts o ps all = all-slots (HasLayout (Listed o)) HasStarts (λ r h. recor
 
 -- children
 
-child-in : (ts : List (Rose Layout)) (arrays : List (Rose ArrayData)) (j : ℕ) → AllLie (kids_of ts) (kids_of arrays)
-    → j < length ts
-    → j < length arrays
-child-in [] arrays j all h = absurd (omega (arith, h))
-child-in (t ∷ ts) [] j all h = absurd all
-child-in (t ∷ ts) (a ∷ arrays) zero all h = omega arith
-child-in (t ∷ ts) (a ∷ arrays) (suc j) all h = let rest = child-in ts arrays j all.1 (omega (arith, h)) in omega
-    (arith, rest)
+pub models-many : (ts : List (Rose Layout)) (models arrays : List (Rose ArrayData)) (j : ℕ)
+    → AllLie (kids_of ts) (kids_of models) (kids_of arrays) → j < length ts → (j < length models) × (j < length arrays)
+models-many [] models arrays j all h = absurd (omega (arith, h))
+models-many (t ∷ ts) [] arrays j all h = absurd all
+models-many (t ∷ ts) (m ∷ models) [] j all h = absurd all
+models-many (t ∷ ts) (m ∷ models) (a ∷ arrays) zero all h = (omega arith, omega arith)
+models-many (t ∷ ts) (m ∷ models) (a ∷ arrays) (suc j) all h =
+    let rest = models-many ts models arrays j all.1 (omega (arith, h)) in (omega (arith, rest.0), omega (arith, rest.1))
 
-child-lies : (ts : List (Rose Layout)) (arrays : List (Rose ArrayData)) (j : ℕ) (t : Rose Layout) (a : Rose ArrayData)
-    → AllLie (kids_of ts) (kids_of arrays) → j < length ts → t ≡ get_or ts j t → a ≡ get_or arrays j a → Lies t a
-child-lies [] arrays j t a all h is at = absurd (omega (arith, h))
-child-lies (u ∷ ts) [] j t a all h is at = absurd all
-child-lies (u ∷ ts) (b ∷ arrays) zero t a all h is at =
-    subst (λ x. Lies x a) (sym is) (subst (Lies u) (sym at) all.0)
-child-lies (u ∷ ts) (b ∷ arrays) (suc j) t a all h is at = child-lies ts arrays j t a all.1 (omega (arith, h)) is at
+pub child-lies : (ts : List (Rose Layout)) (models arrays : List (Rose ArrayData)) (j : ℕ) (t : Rose Layout)
+    (m a : Rose ArrayData) → AllLie (kids_of ts) (kids_of models) (kids_of arrays) → j < length ts
+    → t ≡ get_or ts j t → m ≡ get_or models j m → a ≡ get_or arrays j a → Lies t m a
+child-lies [] models arrays j t m a all h is like at = absurd (omega (arith, h))
+child-lies (u ∷ ts) [] arrays j t m a all h is like at = absurd all
+child-lies (u ∷ ts) (n ∷ models) [] j t m a all h is like at = absurd all
+child-lies (u ∷ ts) (n ∷ models) (b ∷ arrays) zero t m a all h is like at =
+    subst (λ x. Lies x m a) (sym is) (subst (λ x. Lies u x a) (sym like) (subst (Lies u n) (sym at) all.0))
+child-lies (u ∷ ts) (n ∷ models) (b ∷ arrays) (suc j) t m a all h is like at =
+    child-lies ts models arrays j t m a all.1 (omega (arith, h)) is like at
 
-has-child : (l : Layout) (ts : List (Rose Layout)) (j : ℕ) → j < length ts → (p : Piece)
-    → LiesAs (node l (kids_of ts)) p
-    → OfSlots (HasChild l j) p
-has-child l ts j h (Slots r) lies = record {
-  own = range-layout l (kids_of ts) r lies;
-  below = child-in ts r.parts.children.now j lies.lies.2 h;
+has-child : (l : Layout) (ts : List (Rose Layout)) (models : List (Rose ArrayData)) (j : ℕ) → j < length ts
+    → (r : SlotRange) → LiesBelow l (kids_of ts) (kids_of models) r → HasChild l j r
+has-child l ts models j h r lies = record {
+  own = lies.own;
+  below = (models-many ts models r.parts.children.now j lies.below h).1;
 }
-has-child l ts j h (Nulls n) lies = tt
 
-pub have-child : (l : Layout) (ts : List (Rose Layout)) (j : ℕ) (ps : List Piece) → j < length ts
-    → All (LiesAs (node l (kids_of ts))) ps
-    → All (OfSlots (HasChild l j)) ps
-have-child l ts j ps h all = All-weaker (LiesAs (node l (kids_of ts))) (OfSlots (HasChild l j)) (has-child l ts j h) ps
-    all
+pub have-child : (l : Layout) (ts : List (Rose Layout)) (models : List (Rose ArrayData)) (j : ℕ) (ps : List Piece)
+    → j < length ts → All (OfSlots (LiesBelow l (kids_of ts) (kids_of models))) ps → All (OfSlots (HasChild l j)) ps
+have-child l ts models j ps h all =
+    all-slots (LiesBelow l (kids_of ts) (kids_of models)) (HasChild l j) (has-child l ts models j h) ps all
 
-lies-below : (l : Layout) (ts : List (Rose Layout)) (j : ℕ) (t : Rose Layout) → j < length ts → t ≡ get_or ts j t
-    → (p : Piece)
-    → LiesAs (node l (kids_of ts)) p → OfSlots (ChildLies t j) p
-lies-below l ts j t h is (Slots r) lies = λ a at. child-lies ts r.parts.children.now j t a lies.lies.2 h is at
-lies-below l ts j t h is (Nulls n) lies = tt
-
-pub lie-below : (l : Layout) (ts : List (Rose Layout)) (j : ℕ) (t : Rose Layout) (ps : List Piece) → j < length ts
-    → t ≡ get_or ts j t
-    → All (LiesAs (node l (kids_of ts))) ps → All (OfSlots (ChildLies t j)) ps
-lie-below l ts j t ps h is all =
-    All-weaker (LiesAs (node l (kids_of ts))) (OfSlots (ChildLies t j)) (lies-below l ts j t h is) ps all
+pub lie-below : (l : Layout) (ts : List (Rose Layout)) (models : List (Rose ArrayData)) (j : ℕ) (t : Rose Layout)
+    (m : Rose ArrayData) (ps : List Piece) → j < length ts → t ≡ get_or ts j t → m ≡ get_or models j m
+    → All (OfSlots (LiesBelow l (kids_of ts) (kids_of models))) ps → All (OfSlots (ChildLies t m j)) ps
+lie-below l ts models j t m ps h is like all =
+    all-slots (LiesBelow l (kids_of ts) (kids_of models)) (ChildLies t m j)
+    (λ r lies a at. child-lies ts models r.parts.children.now j t m a lies.below h is like at) ps all

@@ -1,5 +1,5 @@
 -- Cells that lie in several arrays, or are nulls that lie in none.
-use Rattle.std.specs.Prelude.{◌≡◌, ◌⊎◌, ℕ, ◌-◌, ◌<◌, ◌≤◌, List, None, get_or, length, replicate}
+use Rattle.std.specs.Prelude.{◌≡◌, ◌⊎◌, ℕ, ◌-◌, ◌<◌, ◌≤◌, true, List, None, get_or, is_some, length, replicate}
 use Rattle.std.specs.List.{flat_map}
 use Rattle.values.specs.Rose.{Rose, node, Roses, none, more, kids_of}
 use Rattle.values.specs.Datum.{Datum, null}
@@ -11,6 +11,7 @@ use Rattle.values.specs.declared.layout.Layout.TheVariants.{Utf8, Binary, List a
 use Rattle.array_layout.specs.declared.array.ArrayData.{ArrayData}
 use Rattle.array_layout.specs.Sound.{IsSound}
 use Rattle.array_layout.specs.Cells.{cell}
+use Rattle.arrays.specs.declared.column.ColumnParts.{ColumnParts}
 use Rattle.column_writer.specs.Runs.{slots, HasOffsets, HasBytes}
 use Rattle.column_writer.specs.declared.piece.Piece.{Piece}
 use Rattle.column_writer.specs.declared.piece.Piece.TheVariants.{Slots, Nulls}
@@ -52,16 +53,26 @@ offset_width l = offset.Bits32
 abbrev pub IsAlike : Layout → Layout → Type 0
 IsAlike l m = m ≡ with_offsets (offset_width m) l
 
--- an array of this layout, but for the width of offsets, without a dictionary; and so are those below it
-abbrev mutual
-  pub Lies : Rose Layout → Rose ArrayData → Type 0
-  Lies (node l kids) (node p arrays) = (p.dictionary ≡ None) × IsAlike l p.layout × AllLie kids arrays
+-- the array that parts are of
+abbrev pub array_of : ColumnParts → Rose ArrayData
+array_of parts = node parts.own.now (kids_of parts.children.now)
 
-  pub AllLie : Roses Layout → Roses ArrayData → Type 0
-  AllLie none none = Unit {0}
-  AllLie none (more a rest) = ⊥
-  AllLie (more t ts) none = ⊥
-  AllLie (more t ts) (more a rest) = Lies t a × AllLie ts rest
+-- its slots stand for values of a dictionary
+abbrev pub HasDictionary : ArrayData → Type 0
+HasDictionary p = is_some p.dictionary ≡ true
+
+-- An array of the form of another one: it has a dictionary where that has one. Where both have none, it is of the
+-- layout, but for the width of offsets, and the arrays below it are of the forms of those below the other.
+abbrev mutual
+  pub Lies : Rose Layout → Rose ArrayData → Rose ArrayData → Type 0
+  Lies (node l kids) (node m models) (node p arrays) =
+      (HasDictionary m × HasDictionary p)
+      ⊎ ((m.dictionary ≡ None) × (p.dictionary ≡ None) × IsAlike l p.layout × AllLie kids models arrays)
+
+  pub AllLie : Roses Layout → Roses ArrayData → Roses ArrayData → Type 0
+  AllLie none none none = Unit {0}
+  AllLie (more t ts) (more m models) (more a arrays) = Lies t m a × AllLie ts models arrays
+  AllLie _ _ _ = ⊥
 
 -- what holds of the slots of a piece, if it is of slots
 abbrev pub OfSlots : (SlotRange → Type 0) → Piece → Type 0
@@ -72,20 +83,24 @@ pub record HasWidth (r : SlotRange) : Type 0 where
   pub checked : IsChecked r
   pub offsets : r.offsets ≡ offset_width r.parts.own.now.layout
 
--- slots of an array of this layout
-pub record RangeLies (t : Rose Layout) (r : SlotRange) : Type 0 where
+-- slots of an array of this one's form
+pub record RangeLies (t : Rose Layout) (m : Rose ArrayData) (r : SlotRange) : Type 0 where
   pub width : HasWidth r
-  pub lies : Lies t (node r.parts.own.now (kids_of r.parts.children.now))
+  pub lies : Lies t m (node r.parts.own.now (kids_of r.parts.children.now))
 
-abbrev pub LiesAs : Rose Layout → Piece → Type 0
-LiesAs t (Slots r) = RangeLies t r
-LiesAs t (Nulls n) = Unit {0}
+abbrev pub LiesAs : Rose Layout → Rose ArrayData → Piece → Type 0
+LiesAs t m (Slots r) = RangeLies t m r
+LiesAs t m (Nulls n) = Unit {0}
 
 -- what is known of slots without a look below their array
 
 pub record IsPlain (r : SlotRange) : Type 0 where
   pub checked : IsChecked r
   pub plain : r.parts.own.now.dictionary ≡ None
+
+pub record IsEncoded (r : SlotRange) : Type 0 where
+  pub checked : IsChecked r
+  pub encoded : HasDictionary r.parts.own.now
 
 -- slots of this layout, but for the width of offsets
 pub record HasLayout (l : Layout) (r : SlotRange) : Type 0 where
@@ -107,6 +122,11 @@ pub record HasChild (l : Layout) (j : ℕ) (r : SlotRange) : Type 0 where
   pub own : HasLayout l r
   pub below : j < length r.parts.children.now
 
--- child j of the array is of this layout
-abbrev pub ChildLies : Rose Layout → ℕ → SlotRange → Type 0
-ChildLies t j r = (a : Rose ArrayData) → a ≡ get_or r.parts.children.now j a → Lies t a
+-- child j of the array is of this one's form
+abbrev pub ChildLies : Rose Layout → Rose ArrayData → ℕ → SlotRange → Type 0
+ChildLies t m j r = (a : Rose ArrayData) → a ≡ get_or r.parts.children.now j a → Lies t m a
+
+-- slots of this layout, of an array whose children are of these forms
+pub record LiesBelow (l : Layout) (ts : Roses Layout) (models : Roses ArrayData) (r : SlotRange) : Type 0 where
+  pub own : HasLayout l r
+  pub below : AllLie ts models (kids_of r.parts.children.now)

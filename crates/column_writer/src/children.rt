@@ -6,6 +6,7 @@ ghost use Rattle.std.specs.List.{flat_map};
 ghost use Rattle.values.specs.Rose.{Rose, node, kids_of};
 ghost use Rattle.values.specs.declared.layout.Layout.{Layout as Layouts};
 ghost use Rattle.values.specs.declared.layout.Layout.TheVariants.{List as Listed, Struct};
+ghost use Rattle.array_layout.specs.declared.array.ArrayData.{ArrayData};
 ghost use Rattle.array_layout.specs.Placing.{bytes_of};
 ghost use Rattle.array_layout.specs.Buffers.{is_null};
 ghost use Rattle.array_layout.specs.Cells.{cell};
@@ -19,7 +20,7 @@ use array_layout::{Array, buffer, is_null_at, offset, run_end};
 use std::alloc::{AllocError, Global};
 use values::Layout;
 
-fn child_at(children: &[Array], j: usize) -> &Array
+pub(crate) fn child_at(children: &[Array], j: usize) -> &Array
     requires { j < length children.now }
     ensures { result.now ≡ get_or children.now j result.now }
 {
@@ -36,7 +37,7 @@ fn run_items<'a>(range: &SlotRange<'a>, at: usize, end: usize) -> Piece<'a>
         → is_null (bytes_of range.now.parts.body.now range.now.parts.own.now.validity) k ≡ false }
     ensures cells { piece_cells result ≡ flat_map items_in
         (slots (cell range.now.parts.body.now (node range.now.parts.own.now (kids_of range.now.parts.children.now))) at (end - at)) }
-    ensures lies { (t : Rose Layouts) → ChildLies t 0 range.now → LiesAs t result }
+    ensures lies { (t : Rose Layouts) (m : Rose ArrayData) → ChildLies t m 0 range.now → LiesAs t m result }
 {
     let parts = range.parts;
     let offsets = buffer(parts.body, &parts.own.offsets);
@@ -52,8 +53,8 @@ fn run_items<'a>(range: &SlotRange<'a>, at: usize, end: usize) -> Piece<'a>
 fn push_items<'a>(all: &mut Vec<Piece<'a>>, range: &SlotRange<'a>) -> Result<(), AllocError>
     requires { HasChild (Listed range.now.offsets) 0 range.now }
     ensures cells { OnOk result (pieces_cells all.new.items ≡ pieces_cells all.old.items ++ flat_map items_in (range_cells range.now)) }
-    ensures lies { OnOk result ((t : Rose Layouts) → ChildLies t 0 range.now → All (LiesAs t) all.old.items
-        → All (LiesAs t) all.new.items) }
+    ensures lies { OnOk result ((t : Rose Layouts) (m : Rose ArrayData) → ChildLies t m 0 range.now
+        → All (LiesAs t m) all.old.items → All (LiesAs t m) all.new.items) }
 {
     let bits = buffer(range.parts.body, &range.parts.own.validity);
     let mut at = range.from;
@@ -76,7 +77,7 @@ fn run_part<'a>(range: &SlotRange<'a>, j: usize, at: usize, end: usize) -> Piece
     requires alike { AreAlike (bytes_of range.now.parts.body.now range.now.parts.own.now.validity) at end }
     ensures cells { piece_cells result ≡ map (part j)
         (slots (cell range.now.parts.body.now (node range.now.parts.own.now (kids_of range.now.parts.children.now))) at (end - at)) }
-    ensures lies { (t : Rose Layouts) → ChildLies t j range.now → LiesAs t result }
+    ensures lies { (t : Rose Layouts) (m : Rose ArrayData) → ChildLies t m j range.now → LiesAs t m result }
 {
     let parts = range.parts;
     if is_null_at(buffer(parts.body, &parts.own.validity), at) {
@@ -93,8 +94,8 @@ fn push_parts<'a>(
 ) -> Result<(), AllocError>
     requires { HasChild Struct j range.now }
     ensures cells { OnOk result (pieces_cells all.new.items ≡ pieces_cells all.old.items ++ map (part j) (range_cells range.now)) }
-    ensures lies { OnOk result ((t : Rose Layouts) → ChildLies t j range.now → All (LiesAs t) all.old.items
-        → All (LiesAs t) all.new.items) }
+    ensures lies { OnOk result ((t : Rose Layouts) (m : Rose ArrayData) → ChildLies t m j range.now
+        → All (LiesAs t m) all.old.items → All (LiesAs t m) all.new.items) }
 {
     let bits = buffer(range.parts.body, &range.parts.own.validity);
     let mut at = range.from;
@@ -115,8 +116,8 @@ fn push_below<'a>(
 ) -> Result<(), AllocError>
     requires { HasChild layout j range.now }
     ensures cells { OnOk result (pieces_cells all.new.items ≡ pieces_cells all.old.items ++ child_cells layout j (range_cells range.now)) }
-    ensures lies { OnOk result ((t : Rose Layouts) → ChildLies t j range.now → All (LiesAs t) all.old.items
-        → All (LiesAs t) all.new.items) }
+    ensures lies { OnOk result ((t : Rose Layouts) (m : Rose ArrayData) → ChildLies t m j range.now
+        → All (LiesAs t m) all.old.items → All (LiesAs t m) all.new.items) }
 {
     match layout {
         Layout::List { .. } => push_items(all, range),
@@ -137,7 +138,8 @@ fn push_below_nulls<'a>(
     count: usize,
 ) -> Result<(), AllocError>
     ensures cells { OnOk result ((j : ℕ) → pieces_cells all.new.items ≡ pieces_cells all.old.items ++ child_cells layout j (replicate count null)) }
-    ensures lies { OnOk result ((t : Rose Layouts) → All (LiesAs t) all.old.items → All (LiesAs t) all.new.items) }
+    ensures lies { OnOk result ((t : Rose Layouts) (m : Rose ArrayData) → All (LiesAs t m) all.old.items
+        → All (LiesAs t m) all.new.items) }
 {
     match layout {
         Layout::Struct => {
@@ -163,8 +165,8 @@ fn push_child<'a>(
 ) -> Result<(), AllocError>
     requires { OfSlots (HasChild layout j) piece.now }
     ensures cells { OnOk result (pieces_cells all.new.items ≡ pieces_cells all.old.items ++ child_cells layout j (piece_cells piece.now)) }
-    ensures lies { OnOk result ((t : Rose Layouts) → OfSlots (ChildLies t j) piece.now → All (LiesAs t) all.old.items
-        → All (LiesAs t) all.new.items) }
+    ensures lies { OnOk result ((t : Rose Layouts) (m : Rose ArrayData) → OfSlots (ChildLies t m j) piece.now
+        → All (LiesAs t m) all.old.items → All (LiesAs t m) all.new.items) }
 {
     match piece {
         Piece::Slots(range) => push_below(all, layout, range, j),
@@ -181,7 +183,8 @@ pub(crate) fn child_pieces<'a>(
 ) -> Result<Vec<Piece<'a>>, AllocError>
     requires { All (OfSlots (HasChild layout j)) pieces.now }
     ensures cells { IfOk result (λ below. pieces_cells below.items ≡ child_cells layout j (pieces_cells pieces.now)) }
-    ensures lies { IfOk result (λ below. (t : Rose Layouts) → All (OfSlots (ChildLies t j)) pieces.now → All (LiesAs t) below.items) }
+    ensures lies { IfOk result (λ below. (t : Rose Layouts) (m : Rose ArrayData)
+        → All (OfSlots (ChildLies t m j)) pieces.now → All (LiesAs t m) below.items) }
 {
     let mut below = Vec::new(alloc);
     for piece in pieces {

@@ -1,11 +1,12 @@
-//! Cells of columns with a dictionary, as references to the values that their indices stand for.
+//! Cells of arrays with a dictionary, as references to the values that their indices stand for.
 
-ghost use Rattle.std.specs.Prelude.{◌≡◌, ◌<◌, ◌≤◌, ◌++◌, All, IfOk, IfSome, OnOk, Some};
+ghost use Rattle.std.specs.Prelude.{◌≡◌, ◌<◌, ◌≤◌, ◌++◌, All, IfOk, OnOk, Some, replicate};
+ghost use Rattle.values.specs.Datum.{null};
 ghost use Rattle.values.specs.Rose.{node, kids_of};
 ghost use Rattle.array_layout.specs.Cells.{cell};
 ghost use Rattle.body_writer.specs.Slots.{cell_of, cells_of};
 ghost use Rattle.column_writer.specs.Runs.{cell_in};
-ghost use Rattle.column_writer.specs.Pieces.{HasWidth, IsChecked, OfSlots, pieces_cells, range_cells};
+ghost use Rattle.column_writer.specs.Pieces.{IsChecked, IsEncoded, OfSlots, piece_cells, pieces_cells, range_cells};
 
 use crate::piece::{Piece, SlotRange};
 use array_layout::{DictionaryValues, buffer, is_null_at};
@@ -49,23 +50,52 @@ fn push_encoded<'a>(
     Ok(())
 }
 
-/// References to the values of these cells; `None` where not all of them lie in arrays with a dictionary.
+/// Appends a reference for each slot of an array with a dictionary.
+fn push_slots<'a>(
+    cells: &mut Vec<Option<&'a Value>>,
+    range: &SlotRange<'a>,
+) -> Result<(), AllocError>
+    requires { IsEncoded range.now }
+    ensures { OnOk result (cells_of cells.new.items ≡ cells_of cells.old.items ++ range_cells range.now) }
+{
+    let Some(dictionary) = &range.parts.own.dictionary else {
+        return Ok(());
+    };
+    push_encoded(cells, range, dictionary)
+}
+
+fn push_nulls(cells: &mut Vec<Option<&Value>>, count: usize) -> Result<(), AllocError>
+    ensures { OnOk result (cells_of cells.new.items ≡ cells_of cells.old.items ++ replicate count null) }
+{
+    for _ in 0..count {
+        cells.push(None)?;
+    }
+    Ok(())
+}
+
+/// Appends a reference for each cell of a piece.
+fn push_piece<'a>(cells: &mut Vec<Option<&'a Value>>, piece: &Piece<'a>) -> Result<(), AllocError>
+    requires { OfSlots IsEncoded piece.now }
+    ensures { OnOk result (cells_of cells.new.items ≡ cells_of cells.old.items ++ piece_cells piece.now) }
+{
+    match piece {
+        Piece::Slots(range) => push_slots(cells, range),
+        Piece::Nulls(count) => push_nulls(cells, *count),
+    }
+}
+
+/// References to the values of these cells, `len` of them, whose arrays have dictionaries; `None` for a null.
 pub(crate) fn encoded_cells<'a>(
     alloc: Global,
     pieces: &[Piece<'a>],
-) -> Result<Option<Vec<Option<&'a Value>>>, AllocError>
-    requires { All (OfSlots HasWidth) pieces.now }
-    ensures { IfOk result (λ found. IfSome found (λ cells. cells_of cells.items ≡ pieces_cells pieces.now)) }
+    len: usize,
+) -> Result<Vec<Option<&'a Value>>, AllocError>
+    requires { All (OfSlots IsEncoded) pieces.now }
+    ensures { IfOk result (λ cells. cells_of cells.items ≡ pieces_cells pieces.now) }
 {
-    let mut cells = Vec::new(alloc);
+    let mut cells = Vec::with_capacity(alloc, len)?;
     for piece in pieces {
-        let Piece::Slots(range) = piece else {
-            return Ok(None);
-        };
-        let Some(dictionary) = &range.parts.own.dictionary else {
-            return Ok(None);
-        };
-        push_encoded(&mut cells, range, dictionary)?;
+        push_piece(&mut cells, piece)?;
     }
-    Ok(Some(cells))
+    Ok(cells)
 }

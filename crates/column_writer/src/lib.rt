@@ -3,9 +3,10 @@
 //!
 //! Slots that lie one after the other and are all valid are copied at once (`specs/Runs.antt`). The cells of a column
 //! of a batch may lie in several arrays (`specs/Pieces.antt`), since its rows may come from several batches
-//! (`specs/Batches.antt`). The pieces of a child follow from the runs of the array above it. Columns with a dictionary
-//! are written from references to its values (`src/encoded.rt`), and columns with arrays of another layout from copies
-//! of their cells.
+//! (`specs/Batches.antt`). The pieces of a child follow from the runs of the array above it. Where arrays have a
+//! dictionary, below lists and structs too, cells are written from references to its values (`src/encoded.rt`). Columns
+//! with arrays of another layout, or with dictionaries in some of their batches alone, are written from copies of their
+//! cells.
 #![tactic(auto)]
 
 mod batch;

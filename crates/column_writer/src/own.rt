@@ -16,7 +16,7 @@ ghost use Rattle.body_writer.specs.Columns.{
 };
 ghost use Rattle.body_writer.specs.Grows.{Appends, Grows};
 ghost use Rattle.column_writer.specs.Runs.{slot_bytes};
-ghost use Rattle.column_writer.specs.Pieces.{HasLayout, HasRuns, HasStarts, IsPlain, OfSlots, pieces_cells};
+ghost use Rattle.column_writer.specs.Pieces.{HasLayout, HasRuns, HasStarts, IsChecked, IsPlain, OfSlots, pieces_cells};
 
 use crate::byte_runs::push_offset;
 use crate::piece::Piece;
@@ -32,8 +32,8 @@ use std::alloc::{AllocError, Global};
 use values::{Layout, OffsetWidth};
 
 /// How many cells there are.
-fn count_cells(pieces: &[Piece]) -> usize
-    requires plain { All (OfSlots IsPlain) pieces.now }
+pub(crate) fn count_cells(pieces: &[Piece]) -> usize
+    requires checked { All (OfSlots IsChecked) pieces.now }
     requires few { length (pieces_cells pieces.now) < 2 ^ 31 }
     ensures { result ≡ length (pieces_cells pieces.now) }
 {

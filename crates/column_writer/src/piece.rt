@@ -4,6 +4,7 @@ ghost use Rattle.std.specs.Prelude.{◌≡◌, ℕ, ◌-◌, ◌<◌, ◌≤◌}
 ghost use Rattle.values.specs.Rose.{Rose};
 ghost use Rattle.values.specs.Reading.{IsValid};
 ghost use Rattle.values.specs.declared.layout.Layout.{Layout as Layouts};
+ghost use Rattle.array_layout.specs.declared.array.ArrayData.{ArrayData};
 ghost use Rattle.array_layout.specs.Sound.{IsSound};
 ghost use Rattle.array_layout.specs.Cells.{cell, len_of};
 ghost use Rattle.column_writer.specs.Runs.{slots};
@@ -58,7 +59,7 @@ pub(crate) fn array_slots<'a>(
     requires within { to ≤ len_of array.now }
     ensures checked { IsChecked result }
     ensures cells { range_cells result ≡ slots (cell body.now array.now) from (to - from) }
-    ensures lies { (t : Rose Layouts) → Lies t array.now → RangeLies t result }
+    ensures lies { (t : Rose Layouts) (m : Rose ArrayData) → Lies t m array.now → RangeLies t m result }
 {
     SlotRange {
         parts: ColumnParts {

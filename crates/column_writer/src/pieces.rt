@@ -7,7 +7,7 @@ ghost use Rattle.values.specs.declared.layout.Layout.TheVariants.{Bool as Boolea
 ghost use Rattle.body_writer.specs.Columns.{joined, offsets_from};
 ghost use Rattle.body_writer.specs.Slots.{is_valid, length_in, null_count, total_length, truth_in};
 ghost use Rattle.column_writer.specs.Runs.{slot_bytes};
-ghost use Rattle.column_writer.specs.Pieces.{HasLayout, HasRuns, HasStarts, IsPlain, OfSlots, piece_cells};
+ghost use Rattle.column_writer.specs.Pieces.{HasLayout, HasRuns, HasStarts, IsChecked, IsPlain, OfSlots, piece_cells};
 
 use crate::bit_runs::{nulls_in, push_truths, push_validity};
 use crate::byte_runs::{push_joined, push_offset, push_starts};
@@ -20,7 +20,7 @@ use values::{Layout, OffsetWidth};
 /// How many cells a piece has.
 #[tactic(auto, using(crate::proofs::NullLemmas::null_laws))]
 pub(crate) fn cells_in(piece: &Piece) -> usize
-    requires { OfSlots IsPlain piece.now }
+    requires { OfSlots IsChecked piece.now }
     ensures { result ≡ length (piece_cells piece.now) }
 {
     match piece {

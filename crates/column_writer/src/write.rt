@@ -8,16 +8,17 @@ ghost use Rattle.values.specs.Weights.{weights};
 ghost use Rattle.body_writer.specs.Columns.{nodes, nodes_below, buffers, buffers_below};
 ghost use Rattle.body_writer.specs.Grows.{Grows};
 ghost use Rattle.body_writer.specs.Batch.{IsBatch, body_bytes, body_nodes, body_ranges};
-ghost use Rattle.column_writer.specs.Pieces.{LiesAs, pieces_cells};
+ghost use Rattle.column_writer.specs.Pieces.{AllLie, IsEncoded, Lies, LiesAs, LiesBelow, OfSlots, pieces_cells};
 ghost use Rattle.column_writer.specs.Batches.{HasColumn, IsRange, column_in, ranges_rows};
 
 use crate::batch::RowRange;
-use crate::children::child_pieces;
+use crate::children::{child_at, child_pieces};
 use crate::encoded::encoded_cells;
 use crate::gather::{pieces_of, refs_of, values_of};
-use crate::kinds::all_lie_as;
-use crate::own::write_own;
+use crate::kinds::model_of;
+use crate::own::{count_cells, write_own};
 use crate::piece::Piece;
+use array_layout::{Array, ArrayData};
 use body_writer::Body;
 use std::alloc::{AllocError, Global};
 use values::{Layout, LayoutTree};
@@ -42,18 +43,39 @@ fn write_values(
     body_writer::write_column(alloc, layout, &cells, body)
 }
 
-/// Appends the columns of the children of an array with this layout and these cells.
+/// Appends the column of these cells, which stand for values of dictionaries, from references to the values.
+fn write_encoded(
+    alloc: Global,
+    layout: &LayoutTree,
+    pieces: &[Piece],
+    body: &mut Body,
+) -> Result<(), AllocError>
+    requires layouts { IsLayout layout.now }
+    requires encoded { All (OfSlots IsEncoded) pieces.now }
+    requires held { All (Holds layout.now) (pieces_cells pieces.now) }
+    requires light { weights layout.now (pieces_cells pieces.now) < 2 ^ 31 }
+    ensures { OnOk result (Grows body.old body.new (nodes layout.now (pieces_cells pieces.now))
+        (buffers layout.now (pieces_cells pieces.now))) }
+{
+    let cells = encoded_cells(alloc, pieces, count_cells(pieces))?;
+    body_writer::write_column(alloc, layout, &cells, body)
+}
+
+/// Appends the columns of the children of an array with this layout and these cells. The children's arrays are of the
+/// forms of `models`.
 #[cycle(column)]
 fn write_children(
     alloc: Global,
     layout: Layout,
     children: &[LayoutTree],
+    models: &[Array],
     pieces: &[Piece],
     body: &mut Body,
 ) -> Result<(), AllocError>
     requires own { IsNode layout (kids_of children.now) }
     requires layouts { AreLayouts (kids_of children.now) }
-    requires lie { All (LiesAs (node layout (kids_of children.now))) pieces.now }
+    requires models { AllLie (kids_of children.now) (kids_of models.now) (kids_of models.now) }
+    requires lie { All (OfSlots (LiesBelow layout (kids_of children.now) (kids_of models.now))) pieces.now }
     requires held { All (Holds (node layout (kids_of children.now))) (pieces_cells pieces.now) }
     requires light { weights (node layout (kids_of children.now)) (pieces_cells pieces.now) < 2 ^ 31 }
     ensures { OnOk result (Grows body.old body.new (nodes_below layout 0 (kids_of children.now) (pieces_cells pieces.now))
@@ -61,29 +83,37 @@ fn write_children(
 {
     for j in 0..children.len() {
         let child = &children[j];
+        let model = child_at(models, j);
         let below = child_pieces(alloc, layout, pieces, j)?;
-        write_pieces(alloc, child, &below, body)?;
+        write_pieces(alloc, child, &model.own, &model.children, &below, body)?;
     }
     Ok(())
 }
 
-/// Appends the column whose cells lie in these pieces, with its children.
+/// Appends the column whose cells lie in these pieces, with its children. Their arrays are of the form of `model`, with
+/// `models` below it.
 #[cycle(column)]
 fn write_pieces(
     alloc: Global,
     layout: &LayoutTree,
+    model: &ArrayData,
+    models: &[Array],
     pieces: &[Piece],
     body: &mut Body,
 ) -> Result<(), AllocError>
     requires layouts { IsLayout layout.now }
-    requires lie { All (LiesAs layout.now) pieces.now }
+    requires model { Lies layout.now (node model.now (kids_of models.now)) (node model.now (kids_of models.now)) }
+    requires lie { All (LiesAs layout.now (node model.now (kids_of models.now))) pieces.now }
     requires held { All (Holds layout.now) (pieces_cells pieces.now) }
     requires light { weights layout.now (pieces_cells pieces.now) < 2 ^ 31 }
     ensures { OnOk result
         (Grows body.old body.new (nodes layout.now (pieces_cells pieces.now)) (buffers layout.now (pieces_cells pieces.now))) }
 {
+    if model.dictionary.is_some() {
+        return write_encoded(alloc, layout, pieces, body);
+    }
     write_own(alloc, layout.layout, pieces, body)?;
-    write_children(alloc, layout.layout, &layout.children, pieces, body)
+    write_children(alloc, layout.layout, &layout.children, models, pieces, body)
 }
 
 /// Appends column `j` of these rows.
@@ -102,13 +132,10 @@ fn write_column(
         (Grows body.old body.new (nodes layout.now (column_in j ranges.now)) (buffers layout.now (column_in j ranges.now))) }
 {
     let pieces = pieces_of(alloc, ranges, j)?;
-    if all_lie_as(&pieces, layout) {
-        return write_pieces(alloc, layout, &pieces, body);
+    match model_of(&pieces, layout) {
+        Some(model) => write_pieces(alloc, layout, model.own, model.children, &pieces, body),
+        None => write_values(alloc, layout, ranges, j, body),
     }
-    if let Some(cells) = encoded_cells(alloc, &pieces)? {
-        return body_writer::write_column(alloc, layout, &cells, body);
-    }
-    write_values(alloc, layout, ranges, j, body)
 }
 
 /// The body of a record batch of these rows, in columns of these layouts, as `body_writer::write_body` makes it of the

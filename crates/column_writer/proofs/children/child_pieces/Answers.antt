@@ -9,10 +9,10 @@ loop-piece-preserved c = record {
       (pieces_cells c.loop-piece.below.items) (pieces_cells c.push_child.new.all.items) _ c.loop-piece-test.true
       c.piece-item.is
       c.in_ok-push_child.ensures.cells c.loop-piece.invariant.cells;
-  lies = λ t all. c.in_ok-push_child.ensures.lies t
-      (at-piece (OfSlots (ChildLies t c.args.j)) c.args.pieces.now c.loop-piece.piece-index c.piece-item.result
+  lies = λ t m all. c.in_ok-push_child.ensures.lies t m
+      (at-piece (OfSlots (ChildLies t m c.args.j)) c.args.pieces.now c.loop-piece.piece-index c.piece-item.result
       c.loop-piece-test.true
-      c.piece-item.is all) (c.loop-piece.invariant.lies t all);
+      c.piece-item.is all) (c.loop-piece.invariant.lies t m all);
 }
 
 pub returns-clause-cells : goal.returns-clause-cells

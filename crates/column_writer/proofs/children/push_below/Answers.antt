@@ -1,6 +1,7 @@
 use Rattle.std.proofs.Common.{◌≡◌, ◌++◌, ℕ, OnOk, All, sym, subst}
 use Rattle.values.specs.Rose.{Rose}
 use Rattle.values.specs.declared.layout.Layout.{Layout}
+use Rattle.array_layout.specs.declared.array.ArrayData.{ArrayData}
 use Rattle.body_writer.specs.Columns.{items, child_cells}
 use Rattle.column_writer.specs.Pieces.{ChildLies, LiesAs, pieces_cells, range_cells}
 use Rattle.column_writer.proofs.ChildLemmas.{first-only}
@@ -17,7 +18,7 @@ returns-in-List-clause-cells c =
 pub returns-in-List-clause-lies : goal.returns-in-List-clause-lies
 returns-in-List-clause-lies c =
     let P : ℕ → Type 0 = λ j. OnOk c.push_items.result
-    ((t : Rose Layout) → ChildLies t j c.args.range.now → All (LiesAs t) c.args.all.now.items
-    → All (LiesAs t) c.push_items.new.all.items) in
+    ((t : Rose Layout) (m : Rose ArrayData) → ChildLies t m j c.args.range.now → All (LiesAs t m) c.args.all.now.items
+    → All (LiesAs t m) c.push_items.new.all.items) in
     subst P (first-only c.args.layout c.in-List.offsets c.args.j c.args.range.now c.requires c.in-List.is)
     c.push_items.ensures.lies

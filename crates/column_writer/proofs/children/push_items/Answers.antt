@@ -24,9 +24,9 @@ loop-at-preserved-in_ok-push c =
           c.args.range.now.to (pieces_cells c.loop-at.all.items) (pieces_cells c.push.new.self.items) _ _ up run.within
           c.run_items.ensures.cells
           (ap pieces_cells c.in_ok-push.ensures.items ∙ pieces-more c.loop-at.all.items c.run_items.result) inv.cells;
-      lies = λ t below old. subst (All (LiesAs t)) (sym c.in_ok-push.ensures.items)
-          (all-more (LiesAs t) c.loop-at.all.items c.run_items.result (inv.lies t below old) (c.run_items.ensures.lies
-          t below));
+      lies = λ t m below old. subst (All (LiesAs t m)) (sym c.in_ok-push.ensures.items)
+          (all-more (LiesAs t m) c.loop-at.all.items c.run_items.result (inv.lies t m below old)
+          (c.run_items.ensures.lies t m below));
     }
 
 pub loop-at-preserved : goal.loop-at-preserved

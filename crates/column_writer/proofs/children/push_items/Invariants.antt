@@ -3,6 +3,7 @@ use Rattle.std.specs.List.{flat_map}
 use Rattle.body_writer.specs.Slots.{items_in}
 use Rattle.values.specs.Rose.{Rose, node, kids_of}
 use Rattle.values.specs.declared.layout.Layout.{Layout}
+use Rattle.array_layout.specs.declared.array.ArrayData.{ArrayData}
 use Rattle.array_layout.specs.Cells.{cell}
 use Rattle.column_writer.specs.Runs.{slots}
 use Rattle.column_writer.specs.Pieces.{pieces_cells, ChildLies, LiesAs}
@@ -18,7 +19,8 @@ invariant-loop-at l = record {
       ≡ pieces_cells l.fn.all.items
       ++ flat_map items_in (slots (cell l.range.parts.body.now (node l.range.parts.own.now (kids_of
       l.range.parts.children.now))) l.range.from (l.range.to - l.range.from));
-  lies : (t : Rose Layout) → ChildLies t 0 l.range → All (LiesAs t) l.fn.all.items → All (LiesAs t) l.all.items;
+  lies : (t : Rose Layout) (m : Rose ArrayData) → ChildLies t m 0 l.range → All (LiesAs t m) l.fn.all.items
+      → All (LiesAs t m) l.all.items;
 }
 
 abbrev pub decreases-loop-at : goal.decreases-loop-at

@@ -23,9 +23,9 @@ loop-at-preserved c =
           c.push.new.self.items) _ _ up run.within
           c.run_part.ensures.cells (ap pieces_cells c.in_ok-push.ensures.items
           ∙ pieces-more c.loop-at.all.items c.run_part.result) inv.cells;
-      lies = λ t below old. subst (All (LiesAs t)) (sym c.in_ok-push.ensures.items)
-          (all-more (LiesAs t) c.loop-at.all.items c.run_part.result (inv.lies t below old) (c.run_part.ensures.lies t
-          below));
+      lies = λ t m below old. subst (All (LiesAs t m)) (sym c.in_ok-push.ensures.items)
+          (all-more (LiesAs t m) c.loop-at.all.items c.run_part.result (inv.lies t m below old)
+          (c.run_part.ensures.lies t m below));
     }
 
 pub returns-clause-cells : goal.returns-clause-cells

@@ -4,6 +4,7 @@ use Rattle.values.specs.Reading.{IsValid}
 use Rattle.array_layout.specs.declared.array.ArrayData.{ArrayData}
 use Rattle.array_layout.specs.Cells.{cell}
 use Rattle.column_writer.specs.Runs.{slots}
+use Rattle.column_writer.specs.Pieces.{Lies}
 use Rattle.column_writer.proofs.ChildLemmas.{list-run, run-order, run-valid, run-cells}
 use Rattle.column_writer.proofs.children.run_items.Goals as goal
 
@@ -40,3 +41,8 @@ returns-clause-cells c =
     ∙ ap (λ (t : Rose ArrayData). slots (cell c.args.range.now.parts.body.now t) c.offset.result (c.offset-2.result -
     c.offset.result)) (sym c.index-parts-0.is)
     ∙ run-cells _ _ _ _ _ _ _ _ _ run
+
+pub returns-clause-lies : goal.returns-clause-lies
+returns-clause-lies c = λ t m lies.
+    c.array_slots.ensures.lies t m
+    (subst (Lies t m) c.index-parts-0.is (lies c.index-parts-0.result c.index-parts-0.is))

@@ -50,3 +50,6 @@ returns-clause-cells c =
     c.requires.order c.requires.within c.buffer.ensures (search rules) c.requires.alike c.child_at.ensures in
     c.array_slots.ensures.cells
     ∙ run.cells
+
+pub returns-clause-lies : goal.returns-clause-lies
+returns-clause-lies c = λ t m lies. c.array_slots.ensures.lies t m (lies c.child_at.result.now c.child_at.ensures)

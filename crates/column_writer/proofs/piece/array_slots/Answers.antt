@@ -19,7 +19,7 @@ returns-clause-checked c =
     }
 
 pub returns-clause-lies : goal.returns-clause-lies
-returns-clause-lies c = λ t lies.
+returns-clause-lies c = λ t m lies.
     let body = c.args.body.now in
     let same = sym c.array.view_is ∙ ap (λ cs. node c.array.inside.own (kids_of cs)) (sym c.deref.ensures.value) in
     record {
@@ -32,5 +32,5 @@ returns-clause-lies c = λ t lies.
         };
         offsets = c.offset_width.ensures;
       };
-      lies = subst (Lies t) same lies;
+      lies = subst (Lies t m) same lies;
     }
