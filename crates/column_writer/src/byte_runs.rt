@@ -1,6 +1,24 @@
 //! Copies the bytes that offsets point to, and makes their new offsets.
 
-ghost use Rattle.std.specs.Prelude.{◌≡◌, ℕ, ◌+◌, ◌-◌, ◌*◌, ◌<◌, ◌≤◌, ◌++◌, ◌^◌, List, OnOk, IfOk, None, if◌then◌else◌, map, length, slice_range};
+ghost use Rattle.std.specs.Prelude.{
+  ◌≡◌,
+  ℕ,
+  ◌+◌,
+  ◌-◌,
+  ◌*◌,
+  ◌<◌,
+  ◌≤◌,
+  ◌++◌,
+  ◌^◌,
+  List,
+  OnOk,
+  IfOk,
+  None,
+  if◌then◌else◌,
+  map,
+  length,
+  slice_range,
+};
 ghost use Rattle.bitmaps.specs.Bits.{HasBits};
 ghost use Rattle.byteorder.specs.Endian.{little_bytes};
 ghost use Rattle.values.specs.Rose.{node, kids_of};
@@ -82,7 +100,8 @@ fn slot_len(bits: &[u8], offsets: &[u8], width: OffsetWidth, i: usize) -> usize
     requires bits { 0 < length bits.now → HasBits bits.now (i + 1) }
     requires room { offset_bytes width * (i + 2) ≤ length offsets.now }
     requires rising { offset_at width offsets.now i ≤ offset_at width offsets.now (i + 1) }
-    ensures { result ≡ (if is_null bits.now i then 0 else offset_at width offsets.now (i + 1) - offset_at width offsets.now i) }
+    ensures { result
+        ≡ (if is_null bits.now i then 0 else offset_at width offsets.now (i + 1) - offset_at width offsets.now i) }
 {
     if is_null_at(bits, i) {
         0

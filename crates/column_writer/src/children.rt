@@ -1,6 +1,21 @@
 //! Where the cells of children lie, from where those of the array above them do.
 
-ghost use Rattle.std.specs.Prelude.{◌≡◌, ℕ, ◌-◌, ◌<◌, ◌≤◌, ◌++◌, All, IfOk, OnOk, false, get_or, length, map, replicate};
+ghost use Rattle.std.specs.Prelude.{
+  ◌≡◌,
+  ℕ,
+  ◌-◌,
+  ◌<◌,
+  ◌≤◌,
+  ◌++◌,
+  All,
+  IfOk,
+  OnOk,
+  false,
+  get_or,
+  length,
+  map,
+  replicate,
+};
 ghost use Rattle.values.specs.Datum.{null};
 ghost use Rattle.std.specs.List.{flat_map};
 ghost use Rattle.values.specs.Rose.{Rose, node, kids_of};
@@ -13,7 +28,15 @@ ghost use Rattle.array_layout.specs.Cells.{cell};
 ghost use Rattle.body_writer.specs.Slots.{items_in, part};
 ghost use Rattle.body_writer.specs.Columns.{child_cells, items as items_of};
 ghost use Rattle.column_writer.specs.Runs.{slots, AreAlike};
-ghost use Rattle.column_writer.specs.Pieces.{ChildLies, HasChild, LiesAs, OfSlots, piece_cells, pieces_cells, range_cells};
+ghost use Rattle.column_writer.specs.Pieces.{
+  ChildLies,
+  HasChild,
+  LiesAs,
+  OfSlots,
+  piece_cells,
+  pieces_cells,
+  range_cells,
+};
 
 use crate::piece::{Piece, SlotRange, array_slots};
 use array_layout::{Array, buffer, is_null_at, offset, run_end};
@@ -36,7 +59,8 @@ fn run_items<'a>(range: &SlotRange<'a>, at: usize, end: usize) -> Piece<'a>
     requires valid { (k : ℕ) → at ≤ k → k < end
         → is_null (bytes_of range.now.parts.body.now range.now.parts.own.now.validity) k ≡ false }
     ensures cells { piece_cells result ≡ flat_map items_in
-        (slots (cell range.now.parts.body.now (node range.now.parts.own.now (kids_of range.now.parts.children.now))) at (end - at)) }
+        (slots (cell range.now.parts.body.now (node range.now.parts.own.now (kids_of range.now.parts.children.now)))
+        at (end - at)) }
     ensures lies { (t : Rose Layouts) (m : Rose ArrayData) → ChildLies t m 0 range.now → LiesAs t m result }
 {
     let parts = range.parts;
@@ -52,7 +76,8 @@ fn run_items<'a>(range: &SlotRange<'a>, at: usize, end: usize) -> Piece<'a>
 /// Appends the items of these lists.
 fn push_items<'a>(all: &mut Vec<Piece<'a>>, range: &SlotRange<'a>) -> Result<(), AllocError>
     requires { HasChild (Listed range.now.offsets) 0 range.now }
-    ensures cells { OnOk result (pieces_cells all.new.items ≡ pieces_cells all.old.items ++ flat_map items_in (range_cells range.now)) }
+    ensures cells { OnOk result (pieces_cells all.new.items ≡ pieces_cells all.old.items
+        ++ flat_map items_in (range_cells range.now)) }
     ensures lies { OnOk result ((t : Rose Layouts) (m : Rose ArrayData) → ChildLies t m 0 range.now
         → All (LiesAs t m) all.old.items → All (LiesAs t m) all.new.items) }
 {
@@ -76,7 +101,8 @@ fn run_part<'a>(range: &SlotRange<'a>, j: usize, at: usize, end: usize) -> Piece
     requires within { end ≤ range.now.to }
     requires alike { AreAlike (bytes_of range.now.parts.body.now range.now.parts.own.now.validity) at end }
     ensures cells { piece_cells result ≡ map (part j)
-        (slots (cell range.now.parts.body.now (node range.now.parts.own.now (kids_of range.now.parts.children.now))) at (end - at)) }
+        (slots (cell range.now.parts.body.now (node range.now.parts.own.now (kids_of range.now.parts.children.now)))
+        at (end - at)) }
     ensures lies { (t : Rose Layouts) (m : Rose ArrayData) → ChildLies t m j range.now → LiesAs t m result }
 {
     let parts = range.parts;
@@ -93,7 +119,8 @@ fn push_parts<'a>(
     j: usize,
 ) -> Result<(), AllocError>
     requires { HasChild Struct j range.now }
-    ensures cells { OnOk result (pieces_cells all.new.items ≡ pieces_cells all.old.items ++ map (part j) (range_cells range.now)) }
+    ensures cells { OnOk result (pieces_cells all.new.items ≡ pieces_cells all.old.items
+        ++ map (part j) (range_cells range.now)) }
     ensures lies { OnOk result ((t : Rose Layouts) (m : Rose ArrayData) → ChildLies t m j range.now
         → All (LiesAs t m) all.old.items → All (LiesAs t m) all.new.items) }
 {
@@ -115,7 +142,8 @@ fn push_below<'a>(
     j: usize,
 ) -> Result<(), AllocError>
     requires { HasChild layout j range.now }
-    ensures cells { OnOk result (pieces_cells all.new.items ≡ pieces_cells all.old.items ++ child_cells layout j (range_cells range.now)) }
+    ensures cells { OnOk result (pieces_cells all.new.items ≡ pieces_cells all.old.items
+        ++ child_cells layout j (range_cells range.now)) }
     ensures lies { OnOk result ((t : Rose Layouts) (m : Rose ArrayData) → ChildLies t m j range.now
         → All (LiesAs t m) all.old.items → All (LiesAs t m) all.new.items) }
 {
@@ -137,7 +165,8 @@ fn push_below_nulls<'a>(
     layout: Layout,
     count: usize,
 ) -> Result<(), AllocError>
-    ensures cells { OnOk result ((j : ℕ) → pieces_cells all.new.items ≡ pieces_cells all.old.items ++ child_cells layout j (replicate count null)) }
+    ensures cells { OnOk result ((j : ℕ) → pieces_cells all.new.items ≡ pieces_cells all.old.items
+        ++ child_cells layout j (replicate count null)) }
     ensures lies { OnOk result ((t : Rose Layouts) (m : Rose ArrayData) → All (LiesAs t m) all.old.items
         → All (LiesAs t m) all.new.items) }
 {
@@ -164,7 +193,8 @@ fn push_child<'a>(
     j: usize,
 ) -> Result<(), AllocError>
     requires { OfSlots (HasChild layout j) piece.now }
-    ensures cells { OnOk result (pieces_cells all.new.items ≡ pieces_cells all.old.items ++ child_cells layout j (piece_cells piece.now)) }
+    ensures cells { OnOk result (pieces_cells all.new.items ≡ pieces_cells all.old.items
+        ++ child_cells layout j (piece_cells piece.now)) }
     ensures lies { OnOk result ((t : Rose Layouts) (m : Rose ArrayData) → OfSlots (ChildLies t m j) piece.now
         → All (LiesAs t m) all.old.items → All (LiesAs t m) all.new.items) }
 {

@@ -137,7 +137,8 @@ fn append_runs(
     requires starts { All (OfSlots HasStarts) pieces.now }
     requires short { total_length (pieces_cells pieces.now) < 2 ^ 31 }
     ensures { OnOk result
-        (Appends body.old body.new (offsets_of width (pieces_cells pieces.now) ∷ joined_of (pieces_cells pieces.now) ∷ [])) }
+        (Appends body.old body.new
+        (offsets_of width (pieces_cells pieces.now) ∷ joined_of (pieces_cells pieces.now) ∷ [])) }
 {
     body.append(&offsets(alloc, pieces, width)?)?;
     body.append(&joined(alloc, pieces)?)
@@ -180,7 +181,8 @@ pub(crate) fn write_own(
     requires few { length (pieces_cells pieces.now) < 2 ^ 31 }
     requires short { total_length (pieces_cells pieces.now) < 2 ^ 31 }
     ensures { OnOk result
-        (Grows body.old body.new (own_node (pieces_cells pieces.now) ∷ []) (own_buffers layout (pieces_cells pieces.now))) }
+        (Grows body.old body.new (own_node (pieces_cells pieces.now) ∷ [])
+        (own_buffers layout (pieces_cells pieces.now))) }
 {
     let len = count_cells(pieces);
     let nulls = count_nulls(pieces);

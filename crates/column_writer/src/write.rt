@@ -36,7 +36,8 @@ fn write_values(
     requires held { All (Holds layout.now) (column_in j ranges.now) }
     requires light { weights layout.now (column_in j ranges.now) < 2 ^ 31 }
     ensures { OnOk result
-        (Grows body.old body.new (nodes layout.now (column_in j ranges.now)) (buffers layout.now (column_in j ranges.now))) }
+        (Grows body.old body.new (nodes layout.now (column_in j ranges.now))
+        (buffers layout.now (column_in j ranges.now))) }
 {
     let values = values_of(alloc, ranges, j)?;
     let cells = refs_of(alloc, &values)?;
@@ -78,7 +79,8 @@ fn write_children(
     requires lie { All (OfSlots (LiesBelow layout (kids_of children.now) (kids_of models.now))) pieces.now }
     requires held { All (Holds (node layout (kids_of children.now))) (pieces_cells pieces.now) }
     requires light { weights (node layout (kids_of children.now)) (pieces_cells pieces.now) < 2 ^ 31 }
-    ensures { OnOk result (Grows body.old body.new (nodes_below layout 0 (kids_of children.now) (pieces_cells pieces.now))
+    ensures { OnOk result
+        (Grows body.old body.new (nodes_below layout 0 (kids_of children.now) (pieces_cells pieces.now))
         (buffers_below layout 0 (kids_of children.now) (pieces_cells pieces.now))) }
 {
     for j in 0..children.len() {
@@ -107,7 +109,8 @@ fn write_pieces(
     requires held { All (Holds layout.now) (pieces_cells pieces.now) }
     requires light { weights layout.now (pieces_cells pieces.now) < 2 ^ 31 }
     ensures { OnOk result
-        (Grows body.old body.new (nodes layout.now (pieces_cells pieces.now)) (buffers layout.now (pieces_cells pieces.now))) }
+        (Grows body.old body.new (nodes layout.now (pieces_cells pieces.now))
+        (buffers layout.now (pieces_cells pieces.now))) }
 {
     if model.dictionary.is_some() {
         return write_encoded(alloc, layout, pieces, body);
@@ -129,7 +132,8 @@ fn write_column(
     requires held { All (Holds layout.now) (column_in j ranges.now) }
     requires light { weights layout.now (column_in j ranges.now) < 2 ^ 31 }
     ensures { OnOk result
-        (Grows body.old body.new (nodes layout.now (column_in j ranges.now)) (buffers layout.now (column_in j ranges.now))) }
+        (Grows body.old body.new (nodes layout.now (column_in j ranges.now))
+        (buffers layout.now (column_in j ranges.now))) }
 {
     let pieces = pieces_of(alloc, ranges, j)?;
     match model_of(&pieces, layout) {
@@ -140,7 +144,7 @@ fn write_column(
 
 /// The body of a record batch of these rows, in columns of these layouts, as `body_writer::write_body` makes it of the
 /// rows' values.
-#[tactic(auto, using(body_writer::proofs::Rows::batch), unfolding(body_writer::specs::Batch::body_nodes, body_writer::specs::Batch::body_ranges, body_writer::specs::Batch::body_bytes))]
+#[tactic(auto, using(body_writer::proofs::Rows::batch), unfolding(body_writer::specs::Batch::body_nodes, body_writer::specs::Batch::body_ranges, body_writer::specs::Batch::body_bytes,),)]
 pub fn write_body(
     alloc: Global,
     layouts: &[LayoutTree],
@@ -149,7 +153,8 @@ pub fn write_body(
     requires ranges { All (IsRange (length layouts.now)) ranges.now }
     requires batch { IsBatch (kids_of layouts.now) (ranges_rows ranges.now) }
     ensures nodes { IfOk result (λ body. body.nodes.items ≡ body_nodes (kids_of layouts.now) (ranges_rows ranges.now)) }
-    ensures ranges { IfOk result (λ body. body.ranges.items ≡ body_ranges (kids_of layouts.now) (ranges_rows ranges.now)) }
+    ensures ranges { IfOk result
+        (λ body. body.ranges.items ≡ body_ranges (kids_of layouts.now) (ranges_rows ranges.now)) }
     ensures bytes { IfOk result (λ body. body.bytes.items ≡ body_bytes (kids_of layouts.now) (ranges_rows ranges.now)) }
     ensures size { IfOk result (λ body. length body.bytes.items ≤ max_body_size) }
 {

@@ -56,7 +56,7 @@ use Rattle.schema_meta.specs.FieldLayouts.{
 use Rattle.schema_meta.specs.declared.encoding.DictionaryEncoding.{DictionaryEncoding}
 use Rattle.schema_meta.specs.Dictionaries.{are_consistent}
 use Rattle.schema_meta.specs.Encoding.{field_encoding_of, coded_by, encoding_of, may_be_encoded}
-use Rattle.schema_meta.specs.FieldsLaw.{AreFields, FieldsLaw, IsEncoded, IsGoodField, AreGoodFields}
+use Rattle.schema_meta.specs.FieldsLaw.{AreFields, FieldsLaw, IsDictionaryType, IsGoodField, AreGoodFields}
 use Rattle.std.specs.Str.{is_utf8}
 use Rattle.std.proofs.lemmas.Str.{is_utf8-from_IsUtf8, IsUtf8-from_ascii}
 use Rattle.field_types.specs.SchemaFbs as fbs
@@ -123,19 +123,19 @@ single (stored.List o) e = absurd (cc)
 single stored.Struct e = absurd (cc)
 
 coded_valid : (k : TypeKind) (o : Option Table) (s : ColType) (c : Option DictionaryEncoding) → coded_by k o ≡ Ok c
-    → kind_of_type s ≡ k → IsEncoded c s
+    → kind_of_type s ≡ k → IsDictionaryType c s
 coded_valid k None s c e is = let none : None ≡ c = cc in let P : Option DictionaryEncoding
-    → Type 0 = λ d. IsEncoded d s in subst P none tt
+    → Type 0 = λ d. IsDictionaryType d s in subst P none tt
 coded_valid k (Some t) s c e is =
     let parts = both_Ok second (needs fault.UnsupportedType (may_be_encoded k)) (mapped Some (encoding_of t)) c e in
     let may = needed fault.UnsupportedType (may_be_encoded k) parts.0 parts.2 in
     let made = mapped_Ok Some (encoding_of t) parts.1 parts.3 in
-    let P : Option DictionaryEncoding → Type 0 = λ d. IsEncoded d s in
+    let P : Option DictionaryEncoding → Type 0 = λ d. IsDictionaryType d s in
     let Q : TypeKind → Type 0 = λ j. may_be_encoded j ≡ true in
     subst P (made.2 ∙ parts.4) (single s (subst Q (sym is) may))
 
 encoding_valid : (k : TypeKind) (t : Table) (s : ColType) (c : Option DictionaryEncoding) → field_encoding_of k t ≡ Ok c
-    → kind_of_type s ≡ k → IsEncoded c s
+    → kind_of_type s ≡ k → IsDictionaryType c s
 unfolding field_encoding_of
 encoding_valid k t s c e is =
     let read = bind_Ok (readable (subtable_of t fbs.dictionary)) (coded_by k) c e in coded_valid k read.0 s c read.2 is
@@ -157,7 +157,7 @@ single_node (stored.FixedSizeBinary v) w b (more t ts) is h = h
 single_node (stored.List o) w b (more t ts) is h = absurd is
 single_node stored.Struct w b (more t ts) is h = absurd is
 
-slot_node : (c : Option DictionaryEncoding) (s : ColType) (kids : Roses Layout) → IsEncoded c s
+slot_node : (c : Option DictionaryEncoding) (s : ColType) (kids : Roses Layout) → IsDictionaryType c s
     → IsNode (layout_by s) kids → IsNode (slot_layout c s) kids
 slot_node None s kids is h = h
 slot_node (Some c) s kids is h = single_node s c.index.width c.index.signed kids is h

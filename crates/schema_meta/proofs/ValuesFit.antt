@@ -10,7 +10,7 @@ use Rattle.schema_meta.specs.ClashLaw.{IsOwn, Uses, UsesBelow}
 use Rattle.schema_meta.specs.Dictionaries.{value_type}
 use Rattle.schema_meta.specs.DictionaryBatch.{value_layouts}
 use Rattle.schema_meta.specs.Entry.{Entry}
-use Rattle.schema_meta.specs.FieldsLaw.{AreFields, IsEncoded, IsGoodField, AreGoodFields}
+use Rattle.schema_meta.specs.FieldsLaw.{AreFields, IsDictionaryType, IsGoodField, AreGoodFields}
 use Rattle.schema_meta.proofs.OneType.{used}
 
 single-node : (s : ColType) → IsSingle s → IsType s → IsNode (layout_by s) none
@@ -27,7 +27,7 @@ single-node (stored.FixedSizeBinary w) is t = tt
 single-node (stored.List o) is t = absurd is
 single-node stored.Struct is t = absurd is
 
-own-node : (id : ℤ) (s : ColType) (c : Option DictionaryEncoding) (t : ColType) → IsEncoded c t → IsType t
+own-node : (id : ℤ) (s : ColType) (c : Option DictionaryEncoding) (t : ColType) → IsDictionaryType c t → IsType t
     → IsOwn id s c t → IsNode (layout_by s) none
 own-node id s None t is type u = absurd u
 own-node id s (Some c) t is type u = let same = u.1 in rw same (single-node t is type)

@@ -17,15 +17,15 @@ use Rattle.schema_meta.specs.SchemaTree.{AreColumns}
 use Rattle.schema_meta.specs.SchemaLaw.{AreNamed}
 
 -- the values of a dictionary are no lists or structs
-abbrev pub IsEncoded : Option DictionaryEncoding → ColType → Type 0
-IsEncoded None s = Unit {0}
-IsEncoded (Some c) s = IsSingle s
+abbrev pub IsDictionaryType : Option DictionaryEncoding → ColType → Type 0
+IsDictionaryType None s = Unit {0}
+IsDictionaryType (Some c) s = IsSingle s
 
 -- names that are short texts, and types within their bounds, at all levels
 abbrev mutual
   pub IsGoodField : Rose Entry → Type 0
   IsGoodField (node e kids) = (length e.name ≤ max_name_len) × (is_utf8 e.name ≡ true) × IsType e.stored
-      × IsEncoded e.encoding e.stored × AreGoodFields kids
+      × IsDictionaryType e.encoding e.stored × AreGoodFields kids
 
   pub AreGoodFields : Roses Entry → Type 0
   AreGoodFields none = Unit {0}
