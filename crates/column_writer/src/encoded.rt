@@ -58,9 +58,7 @@ fn push_slots<'a>(
     requires { IsEncoded range.now }
     ensures { OnOk result (cells_of cells.new.items ≡ cells_of cells.old.items ++ range_cells range.now) }
 {
-    let Some(dictionary) = &range.parts.own.dictionary else {
-        return Ok(());
-    };
+    let dictionary = range.parts.own.dictionary.as_ref().unwrap();
     push_encoded(cells, range, dictionary)
 }
 

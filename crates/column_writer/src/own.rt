@@ -111,13 +111,19 @@ fn joined(alloc: Global, pieces: &[Piece]) -> Result<Vec<u8>, AllocError>
     Ok(buffer)
 }
 
-/// The offsets: where the bytes or the items of each cell start, and where the last ones end.
-fn offsets(alloc: Global, pieces: &[Piece], width: OffsetWidth) -> Result<Vec<u8>, AllocError>
+/// The offsets of `len` cells: where the bytes or the items of each one start, and where the last ones end.
+fn offsets(
+    alloc: Global,
+    pieces: &[Piece],
+    width: OffsetWidth,
+    len: usize,
+) -> Result<Vec<u8>, AllocError>
     requires layout { All (OfSlots HasStarts) pieces.now }
     requires short { total_length (pieces_cells pieces.now) < 2 ^ 31 }
     ensures { IfOk result (λ buffer. buffer.items ≡ offsets_of width (pieces_cells pieces.now)) }
 {
-    let mut buffer = Vec::new(alloc);
+    let room = width.bytes().saturating_mul(len.saturating_add(1));
+    let mut buffer = Vec::with_capacity(alloc, room)?;
     let mut end = 0;
     for piece in pieces {
         end = push_piece_starts(&mut buffer, piece, width, end)?;
@@ -131,6 +137,7 @@ fn append_runs(
     alloc: Global,
     width: OffsetWidth,
     pieces: &[Piece],
+    len: usize,
     body: &mut Body,
 ) -> Result<(), AllocError>
     requires runs { All (OfSlots HasRuns) pieces.now }
@@ -140,7 +147,7 @@ fn append_runs(
         (Appends body.old body.new
         (offsets_of width (pieces_cells pieces.now) ∷ joined_of (pieces_cells pieces.now) ∷ [])) }
 {
-    body.append(&offsets(alloc, pieces, width)?)?;
+    body.append(&offsets(alloc, pieces, width, len)?)?;
     body.append(&joined(alloc, pieces)?)
 }
 
@@ -163,9 +170,9 @@ fn append_values(
         Layout::Int { .. } => body.append(&slots(alloc, layout, pieces, len)?),
         Layout::Decimal { .. } => body.append(&slots(alloc, layout, pieces, len)?),
         Layout::FixedSizeBinary { .. } => body.append(&slots(alloc, layout, pieces, len)?),
-        Layout::Utf8 { offsets } => append_runs(alloc, offsets, pieces, body),
-        Layout::Binary { offsets } => append_runs(alloc, offsets, pieces, body),
-        Layout::List { offsets: width } => body.append(&offsets(alloc, pieces, width)?),
+        Layout::Utf8 { offsets } => append_runs(alloc, offsets, pieces, len, body),
+        Layout::Binary { offsets } => append_runs(alloc, offsets, pieces, len, body),
+        Layout::List { offsets: width } => body.append(&offsets(alloc, pieces, width, len)?),
         Layout::Struct => Ok(()),
     }
 }
