@@ -140,7 +140,13 @@ put-written law old new answer input read t is h writes =
     let so : IsRead (Ok t) input = subst (λ (r : Result Table Cause). IsRead r input) is h in
     written-table law old new answer input t.schema.fields.items (taken_rows t.rows) so.0 so.1 writes
 
-pub ruleset puts = (put-refused, put-written)
+pub put-accepted :
+    (input : List ℕ) (read : Result Table Cause) (t : Table) → read ≡ Ok t → IsRead read input
+    → AreTakenSo (story_of input).schema (story_of input).rows
+put-accepted input read t is h =
+    let so : IsRead (Ok t) input = subst (λ (r : Result Table Cause). IsRead r input) is h in so.1
+
+pub ruleset puts = (put-refused, put-written, put-accepted)
 
 pub recasts-source :
     (held : Option (List ℕ)) (old new : Sunk) (read : Result Table Cause) (answer : Result ℕ RecastFault)

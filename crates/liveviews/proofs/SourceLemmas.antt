@@ -99,6 +99,13 @@ read-stop held old new piece P Q r took goes =
     read-enough held new Stays Q (read-more held old new piece P Stays r took (λ bytes so later. goes bytes later so))
     (λ bytes later so. so later)
 
+-- What follows of the bytes of a source.
+pub source-weaker :
+    (held : Option (List ℕ)) (P Q : List ℕ → Type 0) → OfSource held P → ((input : List ℕ) → P input → Q input)
+    → OfSource held Q
+source-weaker held P Q source goes =
+    record { input = source.input; read = source.read; so = goes source.input source.so }
+
 -- What is told of a source is told of the file that it is.
 pub inspects-file :
     (file source : Option (List ℕ)) (text : List ℕ) (status : ℕ) → HoldsFile file source

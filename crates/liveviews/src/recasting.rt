@@ -6,6 +6,7 @@ ghost use Rattle.stream_writer.specs.Table.{IsTable};
 ghost use Rattle.liveviews.specs.Files.{RecastsSource};
 ghost use Rattle.liveviews.specs.Kept.{IsCounted, IsWritable, taken_rows};
 ghost use Rattle.liveviews.specs.Recast.{Recasts};
+ghost use Rattle.liveviews.specs.Source.{OfSource};
 ghost use Rattle.liveviews.specs.Steps.{AreTakenSo, IsRead};
 
 use crate::files::FileFault;
@@ -57,11 +58,13 @@ impl From<WriteFault> for RecastFault {
 }
 
 /// Why the stream that a source holds was not recast.
-#[derive(Clone, Copy, Debug, PartialEq, Eq)]
+#[derive(Clone, Copy, Debug, PartialEq, Eq, Error)]
 pub enum SourceFault {
     /// The source can't be read. Nothing was put.
+    #[error("cannot read")]
     Unreadable,
     /// The stream was refused, or could not be written.
+    #[error(transparent)]
     Refused(RecastFault),
 }
 
@@ -103,7 +106,10 @@ fn put<S: Sink>(alloc: Global, read: Result<Table, Cause>, sink: &mut S) -> Resu
     requires within { IfOk read (λ t. IsTable t.schema.fields.items (taken_rows t.rows)) }
     requires counted { IfOk read (λ t. IsCounted t.rows) }
     requires kept { IfOk read (λ t. IsWritable t.schema.fields.items t.rows) }
-    ensures { (input : List ℕ) → IsRead read input → Recasts (S.sunk sink.old) (S.sunk sink.new) result (story_of input) }
+    ensures recasts { (input : List ℕ) → IsRead read input
+        → Recasts (S.sunk sink.old) (S.sunk sink.new) result (story_of input) }
+    ensures accepted { OnOk result ((input : List ℕ) → IsRead read input
+        → AreTakenSo (story_of input).schema (story_of input).rows) }
 {
     // It does nothing: the proof takes from it that what is written is read back.
     recast_law();
@@ -119,11 +125,32 @@ pub fn recast_from<R: Read, S: Sink>(
     source: &mut R,
     sink: &mut S,
 ) -> Result<u64, SourceFault>
-    ensures { RecastsSource (R.remaining source.old) (S.sunk sink.old) (S.sunk sink.new) result }
+    ensures recasts { RecastsSource (R.remaining source.old) (S.sunk sink.old) (S.sunk sink.new) result }
+
+    // On Ok no limit is passed either, as `recast` says it.
+    ensures accepted { OnOk result (OfSource (R.remaining source.old)
+        (λ input. AreTakenSo (story_of input).schema (story_of input).rows)) }
 {
     let read = Table::read_from(alloc, source)?;
     match put(alloc, read, sink) {
         Ok(written) => Ok(written),
         Err(fault) => Err(SourceFault::Refused(fault)),
+    }
+}
+
+#[cfg(test)]
+mod tests {
+    use super::*;
+    use std::test::Fail;
+
+    /// The faults of a source have the texts that `lv` prints, but for the path, which a source has none of.
+    #[test]
+    fn source_faults_are_told(rt: HostRuntime) -> Result<(), Fail> {
+        let unreadable = format!(in rt.alloc(); "{}", SourceFault::Unreadable)?;
+        assert_eq!(rt; unreadable.as_str(), "cannot read");
+        let fault = RecastFault::from(Cause::Offsets);
+        let refused = format!(in rt.alloc(); "{}", SourceFault::Refused(fault))?;
+        assert_eq!(rt; refused.as_str(), "refused 24 Offsets");
+        Ok(())
     }
 }
