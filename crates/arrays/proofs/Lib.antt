@@ -11,6 +11,7 @@ pub mod TypeLemmas
 pub mod WeightLemmas
 pub mod WeightLaw
 pub mod UniformLemmas
+pub mod BoundLemmas
 pub mod ReachLemmas
 pub mod HeldCells
 pub mod NoBytesLemmas

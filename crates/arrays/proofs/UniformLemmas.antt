@@ -5,7 +5,6 @@ use Rattle.std.proofs.Common.{
   List,
   ◌+◌,
   ◌*◌,
-  ◌-◌,
   ◌<◌,
   ◌≤◌,
   Bool,
@@ -18,17 +17,12 @@ use Rattle.std.proofs.Common.{
   refl,
   ap,
   sym,
-  subst,
   arith,
   ◌∙◌,
-  All,
 }
 use Rattle.std.specs.Prelude.{Option, None, Some, Ok, Err, zero, suc, min, if◌then◌else◌}
-use Rattle.std.proofs.lemmas.Option.{get_or_from_slice_get}
-use Rattle.values.specs.Limits.{max_cell_weight}
-use Rattle.values.specs.Reading.{Reading, IsValid}
-use Rattle.values.proofs.Readings.{each_length, each_get}
-use Rattle.values.specs.Datum.{Datum, null, truth, whole, text, bytes, list, structure}
+use Rattle.values.specs.Reading.{Reading}
+use Rattle.values.specs.Datum.{Datum}
 use Rattle.values.specs.declared.layout.Layout.{Layout}
 use Rattle.values.specs.declared.layout.Layout.TheVariants.{
   Bool as Booleans,
@@ -47,10 +41,8 @@ use Rattle.array_layout.specs.declared.array.DictionaryValues.{DictionaryValues}
 use Rattle.array_layout.specs.declared.array.ArrayData.{ArrayData}
 use Rattle.array_layout.specs.Placing.{bytes_of, layout_by, layout_of, layouts_of}
 use Rattle.array_layout.specs.Buffers.{is_null}
-use Rattle.array_layout.specs.Sound.{IsSound}
-use Rattle.array_layout.specs.Cells.{cell, cells, coded_by, len_of}
+use Rattle.array_layout.specs.Cells.{coded_by}
 use Rattle.arrays.specs.Uniform.{is_fixed, is_uniform, are_uniform, is_uniform_layout, is_uniform_data}
-use Rattle.arrays.specs.Checked.{CheckedColumn, valid_of}
 use Rattle.arrays.specs.Weights.{
   capped,
   sum_from,
@@ -62,7 +54,6 @@ use Rattle.arrays.specs.Weights.{
   first_weight,
   weight_beside,
 }
-use Rattle.arrays.proofs.WeightLaw.{cell_weighs}
 
 and_true : (a b c : Bool) → a ≡ true → (a && b) ≡ c → b ≡ c
 and_true true b c h e = e
@@ -117,7 +108,7 @@ fixed-slot (Binary o) kids h = cc
 fixed-slot (Listed o) kids h = cc
 fixed-slot Struct kids h = cc
 
-encoded-fixed : (l : Layout) (kids : Roses Layout) (m : Reading Datum) → is_fixed l ≡ true → encoded_weight l m ≡ slot (node l kids)
+pub encoded-fixed : (l : Layout) (kids : Roses Layout) (m : Reading Datum) → is_fixed l ≡ true → encoded_weight l m ≡ slot (node l kids)
 encoded-fixed l kids (Ok d) h = fixed-weight l kids d h
 encoded-fixed l kids (Err fs) h = fixed-slot l kids h
 
@@ -184,33 +175,6 @@ items-alike b t i n s r even is e =
     let w : ℕ = slot (layout_of t) in
     e ∙ ap (λ k. capped (k * n + 5)) is ∙ capped-times w n
     ∙ ap (λ k. capped (5 + k)) (sym (sum-alike (weight_at b t) w i n (λ k. uniform-weight b t k even)))
-
--- all cells of a column
-pub uniform-cells :
-    (b : List ℕ) (t : Rose ArrayData) (ds : List Datum) → IsSound b t → cells b t ≡ Ok ds → is_uniform t ≡ true
-    → All (λ d. weight (layout_of t) d ≡ slot (layout_of t)) ds
-unfolding cells
-uniform-cells b t ds sound is even = λ i d l.
-    let size = each_length (cell b t) 0 (len_of t) ds is in
-    let within : i < len_of t = omega (arith, l, size) in
-    let got = each_get (cell b t) 0 (len_of t) ds is i within in
-    let same : 0 + i ≡ i = omega arith in
-    let read : cell b t i ≡ Ok got.0 = ap (cell b t) (sym same) ∙ got.2 in
-    let P : Datum → Type 0 = λ x. weight (layout_of t) x ≡ slot (layout_of t) in
-    subst P (sym (get_or_from_slice_get ds i got.0 d got.1))
-    (sym (cell_weighs b t i got.0 sound within read) ∙ uniform-weight b t i even)
-
-valid-is : (m : Reading (List Datum)) → IsValid m → m ≡ Ok (valid_of m)
-valid-is (Ok ds) valid = refl
-valid-is (Err fs) valid = absurd valid
-
-pub uniform-column :
-    (b : List ℕ) (t : Rose ArrayData) (c : CheckedColumn) → c.layouts ≡ layout_of t → c.cells ≡ valid_of (cells b t) → IsSound b t
-    → IsValid (cells b t) → is_uniform t ≡ true → All (λ d. weight c.layouts d ≡ slot c.layouts) c.cells
-uniform-column b t c typed are sound valid even =
-    let P : Rose Layout → List Datum → Type 0 = λ l ds. All (λ d. weight l d ≡ slot l) ds in
-    let there = uniform-cells b t (valid_of (cells b t)) sound (valid-is (cells b t) valid) even in
-    subst (λ l. P l c.cells) (sym typed) (subst (P (layout_of t)) (sym are) there)
 
 -- numbers of 64 bits that stop at the greatest
 pub saturated-sum : (x m s : ℕ) → m ≡ min x 18446744073709551615 → s ≡ min (m + 5) 18446744073709551615 → capped s ≡ capped (x + 5)

@@ -1,6 +1,7 @@
 pub mod AlwaysValid
 pub mod Checked
 pub mod Weights
+pub mod Bounds
 pub mod Laws
 pub mod Reached
 pub mod Encoded

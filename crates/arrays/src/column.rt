@@ -1,9 +1,10 @@
 //! A column of a record batch: validated once, then read cell by cell.
 
-ghost use Rattle.std.specs.Prelude.{◌≡◌, ◌<◌, All, [], length, replicate, slice_get, Some, IfOk, IfSome, Ok, true};
+ghost use Rattle.std.specs.Prelude.{◌≡◌, ◌+◌, ◌<◌, ◌≤◌, All, [], length, replicate, slice_get, Some, IfOk, IfSome, Ok, true};
 ghost use Rattle.values.specs.Datum.{bytes};
+ghost use Rattle.values.specs.Limits.{max_cell_weight};
 ghost use Rattle.values.specs.Reading.{Yields, Passes, IsValid};
-ghost use Rattle.values.specs.Layouts.{Holds, slot, weight};
+ghost use Rattle.values.specs.Layouts.{Holds, weight};
 ghost use Rattle.values.specs.Rose.{node, kids_of};
 ghost use Rattle.array_layout.specs.Placing.{layout_of};
 ghost use Rattle.array_layout.specs.Sound.{IsPlaced, IsSound};
@@ -12,9 +13,9 @@ ghost use Rattle.array_layout.specs.Typed.{IsTyped};
 ghost use Rattle.arrays.specs.Checked.{valid_of};
 ghost use Rattle.arrays.specs.Weights.{Says};
 
+use crate::bounds::weight_bound;
 use crate::no_bytes::has_no_bytes;
 use crate::read::read;
-use crate::uniform::is_uniform;
 use crate::validate::validate_items;
 use crate::weigh::weigh;
 use array_layout::{Array, ArrayData, check_layout};
@@ -145,13 +146,6 @@ impl Column {
         parts_of(&self.body, &self.root)
     }
 
-    /// Whether all cells weigh what a null weighs, whatever they hold: where this is true, no cell need be weighed.
-    pub fn is_uniform(&self) -> bool
-        ensures { result ≡ true → All (λ d. weight self.now.layouts d ≡ slot self.now.layouts) self.now.cells }
-    {
-        is_uniform(&self.root)
-    }
-
     /// Whether no cell has a byte in the body, so that a header may claim any number of them: all are bytes of width 0,
     /// and none is null.
     pub fn has_no_bytes(&self) -> bool
@@ -166,5 +160,14 @@ impl Column {
         ensures { IfSome (slice_get self.now.cells i) (λ d. Says result (weight self.now.layouts d)) }
     {
         weigh(&self.body, &self.root, i)
+    }
+
+    /// A weight that no cell is above, exact or too large; the limit of a cell plus 1 where nothing is known. Finding it
+    /// goes through no buffer more than once.
+    pub fn weight_bound(&self) -> u64
+        ensures each { result ≤ max_cell_weight → All (λ d. weight self.now.layouts d ≤ result) self.now.cells }
+        ensures most { result ≤ max_cell_weight + 1 }
+    {
+        weight_bound(&self.body, &self.root)
     }
 }

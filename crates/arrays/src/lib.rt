@@ -4,6 +4,7 @@
 #![tactic(auto)]
 
 mod always_valid;
+mod bounds;
 mod column;
 mod decimals;
 mod dictionary;

@@ -384,3 +384,15 @@ fn bytes_under_a_null_may_be_no_text(rt: HostRuntime) -> Result<(), Fail> {
     assert!(rt; two_texts(alloc, 0, 2, 2, bytes)?.is_ok());
     Ok(())
 }
+
+#[test]
+fn no_cell_is_above_the_bound(rt: HostRuntime) -> Result<(), Fail> {
+    let alloc = rt.alloc();
+    let texts = two_texts(alloc, 3, 0, 1, WITH_ACCENT)??;
+    assert_eq!(rt; texts.weight_bound(), 8);
+    let encoded = coded(alloc, 3, 0, 1, 0)??;
+    assert_eq!(rt; encoded.weight_bound(), 7);
+    let lists = list_of(alloc, Layout::FixedSizeBinary { width: 0 })?;
+    assert!(rt; lists.weight_bound() > MAX_CELL_WEIGHT);
+    Ok(())
+}

@@ -6,7 +6,7 @@ ghost use Rattle.arrays.specs.Uniform.{is_fixed, is_uniform, is_uniform_layout, 
 use array_layout::{Array, ArrayData};
 use values::Layout;
 
-fn is_fixed(layout: Layout) -> bool
+pub(crate) fn is_fixed(layout: Layout) -> bool
     ensures { result ≡ is_fixed layout }
 {
     match layout {

@@ -33,7 +33,7 @@ use values::{Layout, OffsetWidth};
 const TOO_HEAVY: u64 = MAX_CELL_WEIGHT + 1;
 
 #[tactic(auto, unfolding(crate::specs::Weights::capped))]
-fn cap(weight: u64) -> u64
+pub(crate) fn cap(weight: u64) -> u64
     ensures value { result ≡ capped weight }
     ensures bound { result ≤ max_cell_weight + 1 }
 {
@@ -65,7 +65,7 @@ fn slot(array: &Array) -> u64
 
 #[cycle(slot)]
 #[tactic(auto, using(crate::proofs::WeightLemmas::own_laws))]
-fn slot_of(layout: Layout, children: &[Array]) -> u64
+pub(crate) fn slot_of(layout: Layout, children: &[Array]) -> u64
     ensures value { result ≡ capped (slot (node layout (layouts_of (kids_of children.now)))) }
     ensures bound { result ≤ max_cell_weight + 1 }
 {
@@ -90,7 +90,12 @@ fn slots(children: &[Array]) -> u64
 
 /// The weight of a dictionary-encoded slot.
 #[tactic(auto, using(crate::proofs::DictionaryLemmas::weight_laws))]
-fn weigh_encoded(body: &[u8], own: &ArrayData, dictionary: &DictionaryValues, i: usize) -> u64
+pub(crate) fn weigh_encoded(
+    body: &[u8],
+    own: &ArrayData,
+    dictionary: &DictionaryValues,
+    i: usize,
+) -> u64
     requires lies { LiesIn body.now own.now.values }
     requires room { HasIndex own.now.layout own.now i }
     ensures value { result ≡ capped
@@ -189,8 +194,8 @@ fn weigh_list(body: &[u8], own: &ArrayData, children: &[Array], width: OffsetWid
     )
 }
 
-/// The weight of a list slot with `count` items of this weight each.
-fn weigh_alike(weight: u64, count: usize) -> u64
+/// The weight of a slot with `count` bytes or items of this weight each.
+pub(crate) fn weigh_alike(weight: u64, count: usize) -> u64
     ensures value { result ≡ capped (weight * count + 5) }
     ensures bound { result ≤ max_cell_weight + 1 }
 {

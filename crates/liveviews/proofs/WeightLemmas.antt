@@ -19,13 +19,11 @@ use Rattle.std.proofs.Common.{
   sym,
   subst,
   arith,
-  refl,
-  ◌∙◌,
 }
-use Rattle.std.specs.Prelude.{Option, None, Some}
+use Rattle.std.specs.Prelude.{Option, Some}
 use Rattle.std.proofs.lemmas.List.{drop_more, drop_all}
 use Rattle.std.proofs.lemmas.Option.{slice_get-get_or}
-use Rattle.std.proofs.lemmas.List.Elements.{All-get_or, All-head, All-tail, All-cons, All-weaker}
+use Rattle.std.proofs.lemmas.List.Elements.{All-get_or, All-weaker}
 use Rattle.values.specs.Limits.{max_cell_weight, max_row_weight}
 use Rattle.values.specs.Datum.{null}
 use Rattle.values.specs.Layouts.{weight}
@@ -33,8 +31,8 @@ use Rattle.arrays.specs.Checked.{CheckedColumn}
 use Rattle.arrays.specs.Weights.{Says}
 use Rattle.schema_meta.specs.Rows.{row_at}
 use Rattle.feed.specs.Columns.{cells_in, layouts_in}
-use Rattle.liveviews.specs.Kept.{IsLightAs, AreLightUpTo}
-use Rattle.liveviews.specs.Heavy.{row_weight, HasHeavyCell, AreLightCells, IsHeavy, IsLight, IsUniform}
+use Rattle.liveviews.specs.Kept.{IsLightAs, AreLightUpTo, IsRowBound}
+use Rattle.liveviews.specs.Heavy.{row_weight, HasHeavyCell, AreLightCells, IsHeavy, IsLight}
 
 abbrev weight_left : List CheckedColumn → ℕ → ℕ
 weight_left cs k = row_weight (layouts_in cs) (row_at (cells_in cs) k)
@@ -134,41 +132,50 @@ weighs-end sum i k columns whole all left =
     let here : Weighs sum [] whole k = subst P (drop_all i columns all) left in
     record { light = here.light tt (omega (arith, here.below)); exact = omega (arith, here.exact) }
 
--- rows of columns all of whose cells weigh the same
+-- Rows by bounds on the cells of their columns: what the sum of the bounds so far and the columns that are left weigh.
+pub record Covers (sum : ℕ) (rest columns : List CheckedColumn) : Type 0 where
+  pub cells : (k : ℕ) → All (λ (c : CheckedColumn). k < length c.cells) columns → light_left rest k → light_left columns k
+  pub whole : (k : ℕ) → All (λ (c : CheckedColumn). k < length c.cells) columns
+      → weight_left columns k ≤ sum + weight_left rest k
 
-all_before : (cs : List CheckedColumn) (i : ℕ) (c : CheckedColumn) → i < length cs → c ≡ get_or cs i c → IsUniform c
-    → All IsUniform (drop (i + 1) cs) → All IsUniform (drop i cs)
-all_before cs i c below is here rest =
-    subst (All IsUniform) (sym (split_at cs i c is below)) (All-cons IsUniform c (drop (i + 1) cs) here rest)
+pub covers_all : (columns : List CheckedColumn) → Covers 0 columns columns
+covers_all columns = record { cells = λ k there h. h; whole = λ k there. omega arith }
 
-pub uniform-step : (cs : List CheckedColumn) (i : ℕ) (c : CheckedColumn) → i < length cs → c ≡ get_or cs i c → IsUniform c
-    → (All IsUniform (drop i cs) → All IsUniform cs) → All IsUniform (drop (i + 1) cs) → All IsUniform cs
-uniform-step cs i c below is here so_far rest = so_far (all_before cs i c below is here rest)
+-- the cell of a column whose cells are within a bound
+cell_within : (c : CheckedColumn) (k w : ℕ) → k < length c.cells → All (λ d. weight c.layouts d ≤ w) c.cells
+    → weight c.layouts (get_or c.cells k null) ≤ w
+cell_within c k w inside within = within k null inside
 
-same_cell : (c : CheckedColumn) (i k : ℕ) → IsUniform c → i < length c.cells → k < length c.cells
-    → weight c.layouts (get_or c.cells i null) ≡ weight c.layouts (get_or c.cells k null)
-same_cell c i k even hi hk = even i null hi ∙ sym (even k null hk)
+covers_next :
+    (sum w : ℕ) (c : CheckedColumn) (rest columns : List CheckedColumn)
+    → ((k : ℕ) → All (λ (x : CheckedColumn). k < length x.cells) columns → k < length c.cells) → w ≤ max_cell_weight
+    → All (λ d. weight c.layouts d ≤ w) c.cells → Covers sum (c ∷ rest) columns → Covers (sum + w) rest columns
+covers_next sum w c rest columns inside light within left = record {
+  cells = λ k there h.
+      let here = cell_within c k w (inside k there) within in left.cells k there (omega (arith, here, light), h);
+  whole = λ k there.
+      let here = cell_within c k w (inside k there) within in
+      let all = left.whole k there in
+      omega (arith, here, all);
+}
 
-same_weight : (cs : List CheckedColumn) (i k : ℕ) → All IsUniform cs → All (λ c. i < length c.cells) cs → All (λ c. k < length c.cells) cs
-    → weight_left cs i ≡ weight_left cs k
-same_weight [] i k even hi hk = refl
-same_weight (c ∷ cs) i k even hi hk =
-    let I : CheckedColumn → Type 0 = λ x. i < length x.cells in
-    let K : CheckedColumn → Type 0 = λ x. k < length x.cells in
-    let here = same_cell c i k (All-head IsUniform c cs even) (All-head I c cs hi) (All-head K c cs hk) in
-    let rest = same_weight cs i k (All-tail IsUniform c cs even) (All-tail I c cs hi) (All-tail K c cs hk) in
-    omega (arith, here, rest)
+pub covers_more :
+    (sum i w : ℕ) (columns : List CheckedColumn) (c : CheckedColumn) → c ≡ get_or columns i c → i < length columns
+    → (w ≤ max_cell_weight → All (λ d. weight c.layouts d ≤ w) c.cells) → w ≤ max_cell_weight
+    → Covers sum (drop i columns) columns → Covers (sum + w) (drop (i + 1) columns) columns
+covers_more sum i w columns c is below within light left =
+    let P : List CheckedColumn → Type 0 = λ cs. Covers sum cs columns in
+    covers_next sum w c (drop (i + 1) columns) columns (λ k there. cell_there columns i k c is below there) light
+    (within light) (subst P (split_at columns i c is below) left)
 
-same_light : (cs : List CheckedColumn) (i k : ℕ) → All IsUniform cs → All (λ c. i < length c.cells) cs → All (λ c. k < length c.cells) cs
-    → light_left cs i → light_left cs k
-same_light [] i k even hi hk light = tt
-same_light (c ∷ cs) i k even hi hk light =
-    let I : CheckedColumn → Type 0 = λ x. i < length x.cells in
-    let K : CheckedColumn → Type 0 = λ x. k < length x.cells in
-    let here = same_cell c i k (All-head IsUniform c cs even) (All-head I c cs hi) (All-head K c cs hk) in (
-      subst (λ n. n ≤ max_cell_weight) here light.0,
-      same_light cs i k (All-tail IsUniform c cs even) (All-tail I c cs hi) (All-tail K c cs hk) light.1,
-    )
+pub covers_end :
+    (sum i : ℕ) (columns : List CheckedColumn) → length columns ≤ i → sum ≤ max_row_weight
+    → Covers sum (drop i columns) columns → IsRowBound columns sum
+covers_end sum i columns all light left = λ k there.
+    let P : List CheckedColumn → Type 0 = λ cs. Covers sum cs columns in
+    let here : Covers sum [] columns = subst P (drop_all i columns all) left in
+    let whole = here.whole k there in
+    (record { cells = here.cells k there tt; whole = omega (arith, whole, light) }, omega (arith, whole))
 
 pub rows_there : (cs : List CheckedColumn) (n k : ℕ) → k < n → All (λ (c : CheckedColumn). length c.cells ≡ n) cs
     → All (λ (c : CheckedColumn). k < length c.cells) cs
@@ -177,20 +184,14 @@ rows_there cs n k below all =
     let K : CheckedColumn → Type 0 = λ x. k < length x.cells in
     All-weaker N K (λ c h. omega (arith, h, below)) cs all
 
-pub rows-alike :
-    (cs : List CheckedColumn) (n most : ℕ) → 0 < n → All IsUniform cs → All (λ (c : CheckedColumn). length c.cells ≡ n) cs
-    → IsLightAs (layouts_in cs) (row_at (cells_in cs) 0) most → AreLightUpTo (layouts_in cs) (cells_in cs) n most
-rows-alike cs n most some even long first = λ k below.
-    let hi = rows_there cs n 0 some long in
-    let hk = rows_there cs n k below long in
-    let same = same_weight cs 0 k even hi hk in
-    let whole = first.light.whole in
-    (record { cells = same_light cs 0 k even hi hk first.light.cells; whole = omega (arith, whole, same) }, omega (arith, first.exact, same))
-
-pub all-alike :
-    (o : Option ℕ) (cs : List CheckedColumn) (n : ℕ) → 0 < n → All IsUniform cs → All (λ (c : CheckedColumn). length c.cells ≡ n) cs
-    → IfSome o (IsLightAs (layouts_in cs) (row_at (cells_in cs) 0)) → IfSome o (AreLightUpTo (layouts_in cs) (cells_in cs) n)
-all-alike None cs n some even long first = tt
-all-alike (Some w) cs n some even long first = rows-alike cs n w some even long first
+pub rows_bounded :
+    (o : Option ℕ) (cs : List CheckedColumn) (n most : ℕ) → o ≡ Some most → IfSome o (IsRowBound cs)
+    → All (λ (c : CheckedColumn). length c.cells ≡ n) cs → AreLightUpTo (layouts_in cs) (cells_in cs) n most
+rows_bounded o cs n most is bound sized = λ k below.
+    let P : Option ℕ → Type 0 = λ x. IfSome x (IsRowBound cs) in
+    let here : IsRowBound cs most = subst P is bound in
+    here k (rows_there cs n k below sized)
 
 pub ruleset weighing = (weighs-all, weighs-heavy, weighs-over, weighs-more, weighs-end)
+
+pub ruleset bounding = (covers_all, covers_end)

@@ -1,11 +1,10 @@
 -- Rows that are too heavy to be taken: a cell of more than 2^20, or a row of more than 2^26.
-use Rattle.std.specs.Prelude.{◌≡◌, ℕ, ◌<◌, ◌≤◌, ◌⊎◌, All, List, [], ◌∷◌}
+use Rattle.std.specs.Prelude.{ℕ, ◌<◌, ◌≤◌, ◌⊎◌, List, [], ◌∷◌}
 use Rattle.values.specs.Limits.{max_cell_weight, max_row_weight}
 use Rattle.values.specs.Datum.{Datum, items_of}
-use Rattle.values.specs.Layouts.{slot, weight, row_weight as items_weight}
+use Rattle.values.specs.Layouts.{weight, row_weight as items_weight}
 use Rattle.values.specs.Rose.{Roses, none, more}
 use Rattle.values.specs.declared.layout.Layout.{Layout}
-use Rattle.arrays.specs.Checked.{CheckedColumn}
 
 -- the weight of a row of columns of these layouts: the sum of its cells
 abbrev pub row_weight : Roses Layout → List Datum → ℕ
@@ -27,7 +26,3 @@ IsHeavy ls row = HasHeavyCell ls row ⊎ (max_row_weight < row_weight ls row)
 pub record IsLight (ls : Roses Layout) (row : List Datum) : Type 0 where
   pub cells : AreLightCells ls row
   pub whole : row_weight ls row ≤ max_row_weight
-
--- a column all of whose cells weigh the same
-abbrev pub IsUniform : CheckedColumn → Type 0
-IsUniform c = All (λ d. weight c.layouts d ≡ slot c.layouts) c.cells

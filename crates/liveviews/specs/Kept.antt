@@ -8,6 +8,7 @@ use Rattle.arrays.specs.Checked.{CheckedColumn}
 use Rattle.schema_meta.specs.Entry.{Entry}
 use Rattle.schema_meta.specs.FieldLayouts.{layouts_of}
 use Rattle.schema_meta.specs.Rows.{row_at}
+use Rattle.feed.specs.Columns.{cells_in, layouts_in}
 use Rattle.column_writer.specs.declared.batch.Batch.{Batch}
 use Rattle.column_writer.specs.Batches.{IsSized, rows_of}
 use Rattle.stream_writer.specs.Stream.{trees}
@@ -29,6 +30,12 @@ pub record IsLightAs (ls : Roses Layout) (row : List Datum) (weight : ℕ) : Typ
 abbrev pub AreLightUpTo : Roses Layout → List (List Datum) → ℕ → ℕ → Type 0
 AreLightUpTo ls columns n most = (k : ℕ) → k < n → IsLight ls (row_at columns k)
     × (row_weight ls (row_at columns k) ≤ most)
+
+-- no row of these columns is too heavy, or heavier than this
+abbrev pub IsRowBound : List CheckedColumn → ℕ → Type 0
+IsRowBound columns most = (k : ℕ) → All (λ (c : CheckedColumn). k < length c.cells) columns
+    → IsLight (layouts_in columns) (row_at (cells_in columns) k)
+    × (row_weight (layouts_in columns) (row_at (cells_in columns) k) ≤ most)
 
 -- each column has a cell a row
 abbrev pub HasSizes : Batch → Type 0

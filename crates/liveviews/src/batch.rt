@@ -1,15 +1,16 @@
 //! Weighs and copies the rows of a record batch.
 
-ghost use Rattle.std.specs.Prelude.{◌≡◌, ◌<◌, ◌++◌, All, IfOk, IfSome, OnOk, None, length, true};
+ghost use Rattle.std.specs.Prelude.{◌≡◌, ◌<◌, ◌++◌, All, IfOk, IfSome, OnOk, None, length};
 ghost use Rattle.values.specs.Datum.{items_of};
 ghost use Rattle.values.specs.Layouts.{HoldsEach};
 ghost use Rattle.schema_meta.specs.Rows.{row_at, rows_in};
 ghost use Rattle.feed.specs.Columns.{cells_in, layouts_in};
-ghost use Rattle.liveviews.specs.Heavy.{IsHeavy, IsUniform};
+ghost use Rattle.liveviews.specs.Heavy.{IsHeavy};
 ghost use Rattle.liveviews.specs.Taken.{HasHeavyRow, cells_of_rows};
-ghost use Rattle.liveviews.specs.Kept.{AreLightUpTo, IsLightAs};
+ghost use Rattle.liveviews.specs.Kept.{AreLightUpTo, IsLightAs, IsRowBound};
 ghost use Rattle.row_keys.specs.Batches.{HoldsCells};
 
+use crate::taken::MAX_LIGHT_ROW;
 use arrays::Column;
 use std::alloc::{AllocError, Global};
 use values::Row;
@@ -51,27 +52,20 @@ fn weigh_row(columns: &[Column], index: usize) -> Option<u64>
     Some(sum)
 }
 
-/// Whether all rows weigh the same: in each column all cells do.
-fn are_uniform(columns: &[Column]) -> bool
-    ensures { result ≡ true → All IsUniform columns.now }
+/// A weight that no row is above, by bounds on the cells of each column, or `None` where it isn't that of a light row.
+/// No row is looked at by itself.
+#[tactic(auto, using(crate::proofs::WeightLemmas::bounding))]
+fn bound_rows(columns: &[Column]) -> Option<u64>
+    ensures { IfSome result (IsRowBound columns.now) }
 {
+    let mut sum = 0;
     for column in columns {
-        if !column.is_uniform() {
-            return false;
+        sum += column.weight_bound();
+        if sum > MAX_LIGHT_ROW {
+            return None;
         }
     }
-    true
-}
-
-/// The weight of each of `count` rows that weigh the same, or `None` if they are too heavy.
-fn weigh_alike(columns: &[Column], count: usize) -> Option<u64>
-    requires some { 0 < count }
-    requires sized { All (λ c. length c.cells ≡ count) columns.now }
-    requires uniform { All IsUniform columns.now }
-    ensures heavy { result ≡ None → HasHeavyRow (layouts_in columns.now) (cells_in columns.now) count }
-    ensures light { IfSome result (AreLightUpTo (layouts_in columns.now) (cells_in columns.now) count) }
-{
-    weigh_row(columns, 0)
+    Some(sum)
 }
 
 /// A weight that none of the first `count` rows is above, or `None` if one of them is too heavy.
@@ -80,8 +74,8 @@ pub(crate) fn heaviest_row(columns: &[Column], count: usize) -> Option<u64>
     ensures heavy { result ≡ None → HasHeavyRow (layouts_in columns.now) (cells_in columns.now) count }
     ensures light { IfSome result (AreLightUpTo (layouts_in columns.now) (cells_in columns.now) count) }
 {
-    if count > 0 && are_uniform(columns) {
-        return weigh_alike(columns, count);
+    if let Some(bound) = bound_rows(columns) {
+        return Some(bound);
     }
     let mut most = 0;
     for index in 0..count {

@@ -20,7 +20,7 @@ use values::limits::MAX_MAIN_ROWS;
 use values::{Cause, Row, Schema};
 
 /// Of rows that weigh no more than this, 1,024 are within the limit on a written batch's weight.
-const MAX_LIGHT_ROW: u64 = 1 << 17;
+pub(crate) const MAX_LIGHT_ROW: u64 = 1 << 17;
 
 /// The batches of a stream so far, with the number of their rows, and a weight that none of the rows is above.
 #[derive(Drop)]
