@@ -142,7 +142,8 @@ bounds_same r bare n is = record {
 }
 
 -- under a weight that may be above that of a null
-bounds_over : (f : ℕ → ℕ) (s x t low bare n : ℕ) → IsBound s low n f → x ≡ capped bare → t ≡ max x s → IsBound t bare n f
+bounds_over : (f : ℕ → ℕ) (s x t low bare n : ℕ) → IsBound s low n f → x ≡ capped bare → t ≡ max x s
+    → IsBound t bare n f
 bounds_over f s x t low bare n h is most = record {
   null = λ small. under bare x t is (omega (arith, most)) small;
   each = λ small i below. let k = h.each (omega (arith, most, small)) i below in omega (arith, k, most);
@@ -355,12 +356,14 @@ pub ruleset row_laws = (covers_start, covers_end, kid_sound, kid_smaller)
 abbrev BoundsBy : ℕ → List ℕ → ArrayData → Roses ArrayData → Layout → Type 0
 BoundsBy r b p kids l =
     IsBound r (slot (node l (layouts_of kids))) p.len
-    (λ i. weight_by l b p (slot (node l (layouts_of kids))) (λ j. first_weight b kids j) (λ j. weight_beside b kids j) i)
+    (λ i. weight_by l b p (slot (node l (layouts_of kids))) (λ j. first_weight b kids j)
+    (λ j. weight_beside b kids j) i)
 
 fixed_layout :
     (l : Layout)
     → (l ≡ Booleans)
-    ⊎ (((w : IntWidth) × (s : Bool) × (l ≡ Int w s)) ⊎ (((d : ℕ) × (l ≡ Decimal d)) ⊎ ((w : ℕ) × (l ≡ FixedSizeBinary w))))
+    ⊎ (((w : IntWidth) × (s : Bool) × (l ≡ Int w s))
+    ⊎ (((d : ℕ) × (l ≡ Decimal d)) ⊎ ((w : ℕ) × (l ≡ FixedSizeBinary w))))
     → is_fixed l ≡ true
 fixed_layout l one = elim one [
   | inl is ↦ ap is_fixed is
@@ -479,7 +482,8 @@ pub value_there : (o : Option (Bor Datum)) (ds : List Datum) (k : ℕ) → optio
 value_there o ds k found below = copied_some o (get_or ds k null) (found ∙ slice_get-get_or ds k null below)
 
 pub value_counted :
-    (l : Layout) (ds : List Datum) (k w x : ℕ) (o : Option (Bor Datum)) (v : Bor Datum) → option_copied o ≡ slice_get ds k
+    (l : Layout) (ds : List Datum) (k w x : ℕ) (o : Option (Bor Datum)) (v : Bor Datum)
+    → option_copied o ≡ slice_get ds k
     → o ≡ Some v → w ≡ weight (node l none) v.now → x ≡ capped w → x ≡ capped (weight (node l none) (get_or ds k null))
 value_counted l ds k w x o v found is weighs counted =
     let same : get_or ds k null ≡ v.now = get_or_from_slice_get ds k v.now null (sym found ∙ ap option_copied is) in

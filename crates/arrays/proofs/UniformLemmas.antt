@@ -77,7 +77,8 @@ uniform_stop ts k e d all is below uneven left =
     and_false (is_uniform e) (are_uniform (kids_of (drop (k + 1) ts))) all uneven
     (sym (ap are_uniform (kids_step ts k e d is below)) ∙ left)
 
-pub uniform_end : (ts : List (Rose ArrayData)) (k : ℕ) (all : Bool) → length ts ≤ k → are_uniform (kids_of (drop k ts)) ≡ all
+pub uniform_end : (ts : List (Rose ArrayData)) (k : ℕ) (all : Bool) → length ts ≤ k
+    → are_uniform (kids_of (drop k ts)) ≡ all
     → all ≡ true
 uniform_end ts k all past left = sym (sym (ap are_uniform (kids_end ts k past)) ∙ left)
 
@@ -88,7 +89,8 @@ both_true true b h = (refl, h)
 both_true false b h = cc
 
 -- what a value of a fixed width weighs
-fixed-weight : (l : Layout) (kids : Roses Layout) (d : Datum) → is_fixed l ≡ true → weight (node l none) d ≡ slot (node l kids)
+fixed-weight : (l : Layout) (kids : Roses Layout) (d : Datum) → is_fixed l ≡ true
+    → weight (node l none) d ≡ slot (node l kids)
 fixed-weight Booleans kids d h = refl
 fixed-weight (Int w s) kids d h = refl
 fixed-weight (Decimal p) kids d h = refl
@@ -108,12 +110,14 @@ fixed-slot (Binary o) kids h = cc
 fixed-slot (Listed o) kids h = cc
 fixed-slot Struct kids h = cc
 
-pub encoded-fixed : (l : Layout) (kids : Roses Layout) (m : Reading Datum) → is_fixed l ≡ true → encoded_weight l m ≡ slot (node l kids)
+pub encoded-fixed : (l : Layout) (kids : Roses Layout) (m : Reading Datum) → is_fixed l ≡ true
+    → encoded_weight l m ≡ slot (node l kids)
 encoded-fixed l kids (Ok d) h = fixed-weight l kids d h
 encoded-fixed l kids (Err fs) h = fixed-slot l kids h
 
 plain-uniform :
-    (l : Layout) (b : List ℕ) (p : ArrayData) (kids : Roses Layout) (here beside : ℕ → ℕ) (i : ℕ) → is_uniform_layout l ≡ true
+    (l : Layout) (b : List ℕ) (p : ArrayData) (kids : Roses Layout) (here beside : ℕ → ℕ) (i : ℕ)
+    → is_uniform_layout l ≡ true
     → beside i ≡ slots kids → weight_by l b p (slot (node l kids)) here beside i ≡ slot (node l kids)
 plain-uniform Booleans b p kids here beside i h e = refl
 plain-uniform (Int w s) b p kids here beside i h e = refl
@@ -127,9 +131,11 @@ plain-uniform Struct b p kids here beside i h e = ap (λ n. 1 + n) e
 slot-uniform :
     (d : Option DictionaryValues) (b : List ℕ) (p : ArrayData) (kids : Roses Layout) (here beside : ℕ → ℕ) (i : ℕ)
     → is_uniform_data d p.layout ≡ true → beside i ≡ slots kids
-    → slot_weight d b p (slot (node (layout_by d p.layout) kids)) here beside i ≡ slot (node (layout_by d p.layout) kids)
+    → slot_weight d b p (slot (node (layout_by d p.layout) kids)) here beside i
+    ≡ slot (node (layout_by d p.layout) kids)
 slot-uniform None b p kids here beside i h e = plain-uniform p.layout b p kids here beside i h e
-slot-uniform (Some w) b p kids here beside i h e = encoded-fixed w.layout kids (coded_by p.layout w.values (bytes_of b p.values) i) h
+slot-uniform (Some w) b p kids here beside i h e =
+    encoded-fixed w.layout kids (coded_by p.layout w.values (bytes_of b p.values) i) h
 
 either : (n : Bool) (x y : ℕ) → y ≡ x → (if n then x else y) ≡ x
 either true x y e = refl
@@ -138,14 +144,17 @@ either false x y e = e
 mutual
   unfolding weight_in
 
-  pub uniform-weight : (b : List ℕ) (t : Rose ArrayData) (i : ℕ) → is_uniform t ≡ true → weight_at b t i ≡ slot (layout_of t)
+  pub uniform-weight : (b : List ℕ) (t : Rose ArrayData) (i : ℕ) → is_uniform t ≡ true
+      → weight_at b t i ≡ slot (layout_of t)
   uniform-weight b (node p kids) i h =
       let parts = both_true (is_uniform_data p.dictionary p.layout) (are_uniform kids) h in
       either (is_null (bytes_of b p.validity) i) (slot (node (layout_by p.dictionary p.layout) (layouts_of kids))) _
-      (slot-uniform p.dictionary b p (layouts_of kids) (λ j. first_weight b kids j) (λ j. weight_beside b kids j) i parts.0
+      (slot-uniform p.dictionary b p (layouts_of kids) (λ j. first_weight b kids j) (λ j. weight_beside b kids j) i
+      parts.0
       (uniform-beside b kids i parts.1))
 
-  uniform-beside : (b : List ℕ) (ts : Roses ArrayData) (i : ℕ) → are_uniform ts ≡ true → weight_beside b ts i ≡ slots (layouts_of ts)
+  uniform-beside : (b : List ℕ) (ts : Roses ArrayData) (i : ℕ) → are_uniform ts ≡ true
+      → weight_beside b ts i ≡ slots (layouts_of ts)
   uniform-beside b none i h = refl
   uniform-beside b (more t ts) i h =
       let parts = both_true (is_uniform t) (are_uniform ts) h in
@@ -169,7 +178,8 @@ capped-times w (suc n) = grind arith
 
 -- items that weigh the same
 pub items-alike :
-    (b : List ℕ) (t : Rose ArrayData) (i n s r : ℕ) → is_uniform t ≡ true → s ≡ capped (slot (layout_of t)) → r ≡ capped (s * n + 5)
+    (b : List ℕ) (t : Rose ArrayData) (i n s r : ℕ) → is_uniform t ≡ true → s ≡ capped (slot (layout_of t))
+    → r ≡ capped (s * n + 5)
     → r ≡ capped (5 + sum_from (weight_at b t) i n)
 items-alike b t i n s r even is e =
     let w : ℕ = slot (layout_of t) in
@@ -177,6 +187,7 @@ items-alike b t i n s r even is e =
     ∙ ap (λ k. capped (5 + k)) (sym (sum-alike (weight_at b t) w i n (λ k. uniform-weight b t k even)))
 
 -- numbers of 64 bits that stop at the greatest
-pub saturated-sum : (x m s : ℕ) → m ≡ min x 18446744073709551615 → s ≡ min (m + 5) 18446744073709551615 → capped s ≡ capped (x + 5)
+pub saturated-sum : (x m s : ℕ) → m ≡ min x 18446744073709551615 → s ≡ min (m + 5) 18446744073709551615
+    → capped s ≡ capped (x + 5)
 unfolding capped
 saturated-sum x m s a b = grind (arith, a, b)

@@ -14,7 +14,15 @@ ghost use Rattle.array_layout.specs.Buffers.{offset_at};
 ghost use Rattle.array_layout.specs.Cells.{coded_by, len_of};
 ghost use Rattle.arrays.specs.Encoded.{HasIndex};
 ghost use Rattle.arrays.specs.Bounds.{IsBound};
-ghost use Rattle.arrays.specs.Weights.{extent, first_weight, sum_from, weight_at, weight_beside, weight_by, encoded_weight};
+ghost use Rattle.arrays.specs.Weights.{
+  extent,
+  first_weight,
+  sum_from,
+  weight_at,
+  weight_beside,
+  weight_by,
+  encoded_weight,
+};
 
 use crate::uniform::is_fixed;
 use crate::validate::items_array;
@@ -44,11 +52,13 @@ fn longest_extent(offsets: &[u8], width: OffsetWidth, count: usize) -> usize
 /// A bound for slots of so many bytes or items as their offsets say, each of which weighs at most `weight`.
 fn extents_bound(body: &[u8], own: &ArrayData, width: OffsetWidth, weight: u64) -> u64
     requires offsets { LiesIn body.now own.now.offsets }
-    requires room { 0 < own.now.len → offset_bytes width * (own.now.len + 1) ≤ length (bytes_of body.now own.now.offsets) }
+    requires room { 0 < own.now.len
+        → offset_bytes width * (own.now.len + 1) ≤ length (bytes_of body.now own.now.offsets) }
     requires rising { (i : ℕ) → i < own.now.len
         → offset_at width (bytes_of body.now own.now.offsets) i
         ≤ offset_at width (bytes_of body.now own.now.offsets) (i + 1) }
-    ensures value { IsBound result 5 own.now.len (λ i. 5 + weight * extent width (bytes_of body.now own.now.offsets) i) }
+    ensures value { IsBound result 5 own.now.len
+        (λ i. 5 + weight * extent width (bytes_of body.now own.now.offsets) i) }
     ensures bound { result ≤ max_cell_weight + 1 }
 {
     weigh_alike(

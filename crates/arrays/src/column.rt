@@ -1,6 +1,21 @@
 //! A column of a record batch: validated once, then read cell by cell.
 
-ghost use Rattle.std.specs.Prelude.{◌≡◌, ◌+◌, ◌<◌, ◌≤◌, All, [], length, replicate, slice_get, Some, IfOk, IfSome, Ok, true};
+ghost use Rattle.std.specs.Prelude.{
+  ◌≡◌,
+  ◌+◌,
+  ◌<◌,
+  ◌≤◌,
+  All,
+  [],
+  length,
+  replicate,
+  slice_get,
+  Some,
+  IfOk,
+  IfSome,
+  Ok,
+  true,
+};
 ghost use Rattle.values.specs.Datum.{bytes};
 ghost use Rattle.values.specs.Limits.{max_cell_weight};
 ghost use Rattle.values.specs.Reading.{Yields, Passes, IsValid};
@@ -162,8 +177,8 @@ impl Column {
         weigh(&self.body, &self.root, i)
     }
 
-    /// A weight that no cell is above, exact or too large; the limit of a cell plus 1 where nothing is known. Finding it
-    /// goes through no buffer more than once.
+    /// A weight that no cell is above, exact or too large; the limit of a cell plus 1 where nothing is known. Finding
+    /// it goes through no buffer more than once.
     pub fn weight_bound(&self) -> u64
         ensures each { result ≤ max_cell_weight → All (λ d. weight self.now.layouts d ≤ result) self.now.cells }
         ensures most { result ≤ max_cell_weight + 1 }

@@ -56,7 +56,7 @@ use Rattle.feed.specs.StoryLaw.{AllIsTold, IsBetween, PartialIsHeld, PartialTell
 use Rattle.liveviews.specs.Kept.{taken_rows}
 use Rattle.liveviews.specs.Source.{OfSource}
 use Rattle.liveviews.specs.declared.table.Table.{Table}
-use Rattle.liveviews.specs.declared.taken.Taken.{Taken}
+use Rattle.liveviews.specs.declared.kept_batches.KeptBatches.{KeptBatches}
 use Rattle.liveviews.specs.Steps.{
   AreTakenSo,
   GoesOn,
@@ -78,7 +78,7 @@ fresh-open f shows = (fresh None, shows, refl)
 
 -- where reading begins
 pub begins :
-    (none : NothingYet) (law : AllIsTold) (f : FeedParts) (t : Taken) → Shows f (fresh None)
+    (none : NothingYet) (law : AllIsTold) (f : FeedParts) (t : KeptBatches) → Shows f (fresh None)
     → taken_rows t ≡ [] → t.batches.items ≡ [] → (input : List ℕ) → HasTaken (story_of input) f t input
 begins none law f t shows no-rows no-batches input =
     let s : Story = story_of input in
@@ -89,12 +89,12 @@ begins none law f t shows no-rows no-batches input =
     )
 
 -- A whole input is a piece behind which nothing comes.
-pub taken-whole : (s : Story) (f : FeedParts) (t : Taken) (input : List ℕ) → HasTaken s f t input
+pub taken-whole : (s : Story) (f : FeedParts) (t : KeptBatches) (input : List ℕ) → HasTaken s f t input
     → HasTaken s f t (input ++ [])
 taken-whole s f t input h = subst (HasTaken s f t) (sym (append-nil input)) h
 
 -- what is left of a piece, as the code has it
-pub taken-rest : (s : Story) (f : FeedParts) (t : Taken) (bytes later : List ℕ) (n : ℕ)
+pub taken-rest : (s : Story) (f : FeedParts) (t : KeptBatches) (bytes later : List ℕ) (n : ℕ)
     → HasTaken s f t (drop n bytes ++ later)
     → HasTaken s f t (take (length bytes - n) (drop n bytes) ++ later)
 taken-rest s f t bytes later n h =
@@ -108,14 +108,14 @@ no-bytes [] none = refl
 no-bytes (b ∷ bs) none = absurd (omega (arith, none))
 
 -- Nothing is left of a piece.
-pub taken-all : (s : Story) (f : FeedParts) (t : Taken) (bytes later : List ℕ) → length bytes ≤ 0
+pub taken-all : (s : Story) (f : FeedParts) (t : KeptBatches) (bytes later : List ℕ) → length bytes ≤ 0
     → HasTaken s f t (bytes ++ later) → HasTaken s f t later
 taken-all s f t bytes later none h =
     subst (λ (xs : List ℕ). HasTaken s f t (xs ++ later)) (no-bytes bytes none) h
 
 -- the same of bytes that are read of a source
 pub source-more :
-    (f new : FeedParts) (t after : Taken) (piece : List ℕ)
+    (f new : FeedParts) (t after : KeptBatches) (piece : List ℕ)
     → ((s : Story) (later : List ℕ) → HasTaken s f t (piece ++ later) → HasTaken s new after later) → (bytes : List ℕ)
     → ((later : List ℕ) → HasTaken (story_of (bytes ++ later)) f t later) → (later : List ℕ)
     → HasTaken (story_of ((bytes ++ piece) ++ later)) new after later
@@ -125,7 +125,7 @@ source-more f new t after piece goes bytes taken later =
     (taken (piece ++ later)))
 
 pub source-fault :
-    (f new : FeedParts) (t after : Taken) (piece : List ℕ) (c : Cause)
+    (f new : FeedParts) (t after : KeptBatches) (piece : List ℕ) (c : Cause)
     → ((s : Story) (later : List ℕ) → HasTaken s f t (piece ++ later) → Refuses s c) → (bytes later : List ℕ)
     → ((later : List ℕ) → HasTaken (story_of (bytes ++ later)) f t later)
     → HasTakenAll new after (Err c) ((bytes ++ piece) ++ later)
@@ -135,7 +135,7 @@ source-fault f new t after piece c stops bytes later taken =
     (taken (piece ++ later)))
 
 pub source-all :
-    (f : FeedParts) (t : Taken) (u : Unit {0}) (bytes : List ℕ)
+    (f : FeedParts) (t : KeptBatches) (u : Unit {0}) (bytes : List ℕ)
     → ((later : List ℕ) → HasTaken (story_of (bytes ++ later)) f t later) → HasTakenAll f t (Ok u) bytes
 source-all f t u bytes taken =
     subst (λ (xs : List ℕ). HasTaken (story_of xs) f t []) (append-nil bytes) (taken [])
@@ -225,7 +225,7 @@ reached-refused tells keeps s f rows c answer (inr e) =
     (subst (λ (m : Reading (Unit {0})). Stands m c) none (finish-fault e.state c (answer e.state e.shows)))
 
 pub end-refused :
-    (tells : PartialTells) (keeps : PartialIsHeld) (s : Story) (f : FeedParts) (t : Taken) (c : StreamFault)
+    (tells : PartialTells) (keeps : PartialIsHeld) (s : Story) (f : FeedParts) (t : KeptBatches) (c : StreamFault)
     → ((u : FeedState) → Shows f u → Finishes u (Err c)) → HasTaken s f t [] → Refuses s (cause_of c)
 end-refused tells keeps s f t c answer h =
     stands-refuses s c (reached-refused tells keeps s f (taken_rows t) c answer h.0)
@@ -263,7 +263,7 @@ reached-complete tells keeps s f new rows u answer after (inr e) =
     }
 
 pub end-complete :
-    (tells : PartialTells) (keeps : PartialIsHeld) (s : Story) (f new : FeedParts) (t : Taken) (u : Unit {0})
+    (tells : PartialTells) (keeps : PartialIsHeld) (s : Story) (f new : FeedParts) (t : KeptBatches) (u : Unit {0})
     → ((x : FeedState) → Shows f x → Finishes x (Ok u))
     → ((x : FeedState) → Shows f x → Shows new (after_finish x (Ok u))) → HasTaken s f t []
     → IsComplete s new (taken_rows t)
@@ -272,7 +272,7 @@ end-complete tells keeps s f new t u answer after h =
 
 -- the table of all bytes of a source, or why there is none
 read-so :
-    (f : FeedParts) (rows : Taken) (read : Result Table Cause)
+    (f : FeedParts) (rows : KeptBatches) (read : Result Table Cause)
     → IfOk read (λ t. (s : Story) → HasTaken s f rows [] → Means s t.schema.fields.items (taken_rows t.rows))
     → OnOk read ((s : Story) → HasTaken s f rows [] → AreTakenSo s.schema s.rows)
     → IfErr read (λ c. (s : Story) → HasTaken s f rows [] → Refuses s c)
@@ -282,13 +282,13 @@ read-so f rows (Ok t) means accepted refused input taken =
 read-so f rows (Err c) means accepted refused input taken = refused (story_of input) taken
 
 taken-so :
-    (f : FeedParts) (rows : Taken) (all : Result (Unit {0}) Cause) (u : Unit {0}) (input : List ℕ) → all ≡ Ok u
+    (f : FeedParts) (rows : KeptBatches) (all : Result (Unit {0}) Cause) (u : Unit {0}) (input : List ℕ) → all ≡ Ok u
     → HasTakenAll f rows all input → HasTaken (story_of input) f rows []
 taken-so f rows all u input is h =
     subst (λ (r : Result (Unit {0}) Cause). HasTakenAll f rows r input) is h
 
 pub source-read :
-    (held : Option (List ℕ)) (f : FeedParts) (rows : Taken) (all : Result (Unit {0}) Cause) (u : Unit {0})
+    (held : Option (List ℕ)) (f : FeedParts) (rows : KeptBatches) (all : Result (Unit {0}) Cause) (u : Unit {0})
     (read : Result Table Cause) → all ≡ Ok u → OfSource held (HasTakenAll f rows all)
     → IfOk read (λ t. (s : Story) → HasTaken s f rows [] → Means s t.schema.fields.items (taken_rows t.rows))
     → OnOk read ((s : Story) → HasTaken s f rows [] → AreTakenSo s.schema s.rows)
@@ -300,7 +300,7 @@ source-read held f rows all u read is source means accepted refused = record {
 }
 
 pub source-story :
-    (held : Option (List ℕ)) (f : FeedParts) (rows : Taken) (all : Result (Unit {0}) Cause) (u : Unit {0})
+    (held : Option (List ℕ)) (f : FeedParts) (rows : KeptBatches) (all : Result (Unit {0}) Cause) (u : Unit {0})
     → all ≡ Ok u → OfSource held (HasTakenAll f rows all) → (s : Story) × HasTaken s f rows []
 source-story held f rows all u is source =
     (story_of source.input, taken-so f rows all u source.input is source.so)

@@ -52,7 +52,7 @@ use Rattle.stream_writer.specs.BatchRows.{AreLightRows, max_light_row}
 use Rattle.liveviews.specs.Heavy.{IsLight, row_weight}
 use Rattle.liveviews.specs.Taken.{AreFit}
 use Rattle.liveviews.specs.Kept.{AreLightUpTo, HasSizes, IsKept, IsKeptSo, IsLightAs, IsWritable, taken_rows}
-use Rattle.liveviews.specs.declared.taken.Taken.{Taken}
+use Rattle.liveviews.specs.declared.kept_batches.KeptBatches.{KeptBatches}
 use Rattle.liveviews.proofs.BatchLemmas.{rows_from-length}
 
 -- the columns from one on: what is left to say
@@ -129,7 +129,7 @@ count-more bs new b rows next is counted e =
     let size = rows_from-length (cells_in b.columns.items) 0 b.rows in
     omega (arith, joined, size, counted, e)
 
-pub kept-more : (ls : Roses Layout) (old new : Taken) (b : Batch) (most : ℕ)
+pub kept-more : (ls : Roses Layout) (old new : KeptBatches) (b : Batch) (most : ℕ)
     → new.batches.items ≡ old.batches.items ++ b ∷ []
     → All (λ (c : CheckedColumn). length c.cells ≡ b.rows) b.columns.items
     → AreLightUpTo ls (cells_in b.columns.items) b.rows most → old.heaviest ≤ new.heaviest → most ≤ new.heaviest
@@ -153,20 +153,20 @@ kept-more ls old new b most is long light grown above kept =
           (All-append W (rows_of old.batches.items) (batch_rows b) before here);
     }
 
-pub kept-none : (n : ℕ) (ls : Roses Layout) (t : Taken) → t.batches.items ≡ [] → IsKept n ls t
+pub kept-none : (n : ℕ) (ls : Roses Layout) (t : KeptBatches) → t.batches.items ≡ [] → IsKept n ls t
 kept-none n ls t is = record {
   sized = subst (All (IsSized n)) (sym is) (All-nil (IsSized n));
   light = subst (λ (bs : List Batch). All (λ (row : List Datum). row_weight ls row ≤ t.heaviest) (rows_of bs)) (sym is)
       (All-nil (λ (row : List Datum). row_weight ls row ≤ t.heaviest));
 }
 
-pub kept-so-none : (o : Option (List (Rose Entry))) (t : Taken) → t.batches.items ≡ [] → IsKeptSo o t
+pub kept-so-none : (o : Option (List (Rose Entry))) (t : KeptBatches) → t.batches.items ≡ [] → IsKeptSo o t
 kept-so-none None t is = tt
 kept-so-none (Some fs) t is = kept-none (length fs) (layouts_of fs) t is
 
 -- the same of the logical columns
 pub writable : (law : LogicalTrees) (weighs : NarrowRowWeighs) (fs : List (Rose Entry)) (fields : List (Rose
-    NamedType)) (t : Taken)
+    NamedType)) (t : KeptBatches)
     → fields ≡ map logical_field fs → IsKept (length fs) (layouts_of fs) t → IsWritable fields t
 writable law weighs fs fields t named kept =
     let ls : Roses Layout = layouts_of fs in
@@ -185,7 +185,7 @@ writable law weighs fs fields t named kept =
 
 -- for writing
 
-pub light-rows : (ls : Roses Layout) (t : Taken) → All (λ (row : List Datum). row_weight ls row ≤ t.heaviest)
+pub light-rows : (ls : Roses Layout) (t : KeptBatches) → All (λ (row : List Datum). row_weight ls row ≤ t.heaviest)
     (taken_rows t)
     → t.heaviest ≤ max_light_row → AreLightRows ls (taken_rows t)
 light-rows ls t light below =

@@ -1,5 +1,22 @@
 -- What is so of bytes that are read of a source, piece by piece.
-use Rattle.std.proofs.Common.{◌≡◌, ℕ, Option, None, Some, List, [], ◌++◌, take, ap, sym, subst, ◌∙◌, refl, append_assoc, append-nil}
+use Rattle.std.proofs.Common.{
+  ◌≡◌,
+  ℕ,
+  Option,
+  None,
+  Some,
+  List,
+  [],
+  ◌++◌,
+  take,
+  ap,
+  sym,
+  subst,
+  ◌∙◌,
+  refl,
+  append_assoc,
+  append-nil,
+}
 use Rattle.std.specs.Io.KnownBytes.{Consumes, IsAtEnd, Keeps}
 use Rattle.liveviews.specs.Files.{InspectsFile, IsContent}
 use Rattle.liveviews.specs.Source.{HoldsFile, OfRead, OfSource}

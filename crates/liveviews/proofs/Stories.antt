@@ -83,7 +83,7 @@ use Rattle.feed.specs.StoryLaw.{
 use Rattle.liveviews.specs.Heavy.{IsHeavy}
 use Rattle.liveviews.specs.Refused.{RefusesBatch}
 use Rattle.liveviews.specs.Kept.{IsKept, IsKeptSo}
-use Rattle.liveviews.specs.declared.taken.Taken.{Taken}
+use Rattle.liveviews.specs.declared.kept_batches.KeptBatches.{KeptBatches}
 use Rattle.liveviews.proofs.Accounts.{after-shows, gave, gives-fault, uses-some}
 use Rattle.liveviews.proofs.Counted.{as-many}
 use Rattle.liveviews.proofs.Tables.{after-by}
@@ -400,7 +400,8 @@ goes-more joins all st rows old new piece later used c g =
       between = g.between;
       begun = joined ∙ ap (λ m. Ok (given m None)) size;
       shows = subst (Shows new)
-          (ap (λ m. after_push t piece (Ok (given m None))) whole ∙ after-more g.state g.held piece) (c.after t g.shows);
+          (ap (λ m. after_push t piece (Ok (given m None))) whole ∙ after-more g.state g.held piece)
+          (c.after t g.shows);
       taken = g.taken;
       tells = g.tells
           ∙ ap (λ xs. after_rows rows (rest_story (retained_in g.state) xs))
@@ -599,7 +600,7 @@ columns-refused knows st rows new rest columns n body before k typed size refuse
 -- what is kept beside the rows
 pub columns-kept :
     (knows : StoryKnowsSchema) (st : Story) (rows : List (List Datum)) (new : FeedParts) (rest : List ℕ)
-    (columns : List CheckedColumn) (n body : ℕ) (before after : Taken)
+    (columns : List CheckedColumn) (n body : ℕ) (before after : KeptBatches)
     → IsSomeAnd new.framing.current.known.schema (λ fs. HasColumns fs columns n)
     → (IsKept (length columns) (layouts_in columns) before → IsKept (length columns) (layouts_in columns) after)
     → Comes st rows new (batch (cells_in columns) n body) rest → IsKeptSo st.schema before → IsKeptSo st.schema after
@@ -608,7 +609,7 @@ columns-kept knows st rows new rest columns n body before after typed keeps c ke
     let b = batch-tells knows st rows new rest (cells_in columns) n body t.0 t.1 c in
     let schema : st.schema ≡ Some t.0 = ap (λ x. x.schema) b.tells ∙ b.schema in
     let many : length columns ≡ length t.0 = as-many columns t.0 t.2 in
-    let P : Option (List (Rose Entry)) → Taken → Type 0 = IsKeptSo in
+    let P : Option (List (Rose Entry)) → KeptBatches → Type 0 = IsKeptSo in
     let goes : IsKept (length t.0) (layouts_of t.0) before → IsKept (length t.0) (layouts_of t.0) after =
     subst (λ (ls : Roses Layout). IsKept (length t.0) ls before → IsKept (length t.0) ls after) t.2
     (subst (λ (m : ℕ). IsKept m (layouts_in columns) before → IsKept m (layouts_in columns) after) many keeps) in

@@ -60,7 +60,7 @@ use Rattle.feed.specs.States.{FeedState, fresh, retained_in}
 use Rattle.feed.specs.StoryLaw.{IsBetween, rest_story}
 use Rattle.liveviews.specs.Taken.{AreTaken, IsTakenRow}
 use Rattle.liveviews.specs.Kept.{IsKept, IsKeptSo}
-use Rattle.liveviews.specs.declared.taken.Taken.{Taken}
+use Rattle.liveviews.specs.declared.kept_batches.KeptBatches.{KeptBatches}
 use Rattle.liveviews.specs.Steps.{AreTakenSo, IsComplete, Refuses}
 
 -- What is known of the logical columns is handed in: it is the contract of `logical_law`.
@@ -122,7 +122,7 @@ complete-taken s f rows fs shown complete =
 
 -- what is kept beside it
 pub complete-kept :
-    (s : Story) (f : FeedParts) (rows : List (List Datum)) (fs : List (Rose Entry)) (t : Taken)
+    (s : Story) (f : FeedParts) (rows : List (List Datum)) (fs : List (Rose Entry)) (t : KeptBatches)
     → ((u : FeedState) → Shows f u → Some fs ≡ (retained_in u).known.schema)
     → IsComplete s f rows → IsKeptSo s.schema t → IsKept (length fs) (layouts_of fs) t
 complete-kept s f rows fs t shown complete kept =

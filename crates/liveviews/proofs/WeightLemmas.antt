@@ -134,7 +134,8 @@ weighs-end sum i k columns whole all left =
 
 -- Rows by bounds on the cells of their columns: what the sum of the bounds so far and the columns that are left weigh.
 pub record Covers (sum : ℕ) (rest columns : List CheckedColumn) : Type 0 where
-  pub cells : (k : ℕ) → All (λ (c : CheckedColumn). k < length c.cells) columns → light_left rest k → light_left columns k
+  pub cells : (k : ℕ) → All (λ (c : CheckedColumn). k < length c.cells) columns → light_left rest k
+      → light_left columns k
   pub whole : (k : ℕ) → All (λ (c : CheckedColumn). k < length c.cells) columns
       → weight_left columns k ≤ sum + weight_left rest k
 

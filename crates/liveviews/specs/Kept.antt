@@ -13,12 +13,12 @@ use Rattle.column_writer.specs.declared.batch.Batch.{Batch}
 use Rattle.column_writer.specs.Batches.{IsSized, rows_of}
 use Rattle.stream_writer.specs.Stream.{trees}
 use Rattle.liveviews.specs.Heavy.{IsLight, row_weight}
-use Rattle.liveviews.specs.declared.taken.Taken.{Taken}
+use Rattle.liveviews.specs.declared.kept_batches.KeptBatches.{KeptBatches}
 
-abbrev pub taken_rows : Taken → List (List Datum)
+abbrev pub taken_rows : KeptBatches → List (List Datum)
 taken_rows t = rows_of t.batches.items
 
-abbrev pub IsCounted : Taken → Type 0
+abbrev pub IsCounted : KeptBatches → Type 0
 IsCounted t = t.rows ≡ length (taken_rows t)
 
 -- a row that isn't too heavy, and its weight
@@ -42,13 +42,13 @@ abbrev pub HasSizes : Batch → Type 0
 HasSizes b = All (λ (c : CheckedColumn). length c.cells ≡ b.rows) b.columns.items
 
 -- each batch has n columns, and no row is heavier than `heaviest`
-pub record IsKept (n : ℕ) (ls : Roses Layout) (t : Taken) : Type 0 where
+pub record IsKept (n : ℕ) (ls : Roses Layout) (t : KeptBatches) : Type 0 where
   pub sized : All (IsSized n) t.batches.items
   pub light : All (λ (row : List Datum). row_weight ls row ≤ t.heaviest) (taken_rows t)
 
-abbrev pub IsKeptSo : Option (List (Rose Entry)) → Taken → Type 0
+abbrev pub IsKeptSo : Option (List (Rose Entry)) → KeptBatches → Type 0
 IsKeptSo None t = Unit {0}
 IsKeptSo (Some fields) t = IsKept (length fields) (layouts_of fields) t
 
-abbrev pub IsWritable : List (Rose NamedType) → Taken → Type 0
+abbrev pub IsWritable : List (Rose NamedType) → KeptBatches → Type 0
 IsWritable fields t = IsKept (length fields) (trees fields) t

@@ -20,7 +20,7 @@ use Rattle.liveviews.specs.Taken.{AreTaken}
 use Rattle.liveviews.specs.Refused.{StandsAs}
 use Rattle.liveviews.specs.Kept.{IsKeptSo, taken_rows}
 use Rattle.liveviews.specs.declared.table.Table.{Table}
-use Rattle.liveviews.specs.declared.taken.Taken.{Taken}
+use Rattle.liveviews.specs.declared.kept_batches.KeptBatches.{KeptBatches}
 
 -- the reading of the stream is these rows, and then the reading of these bytes after those of which this is kept
 abbrev pub Tells : Story → List (List Datum) → Retained → List ℕ → Type 0
@@ -72,7 +72,7 @@ abbrev pub Reached : Story → FeedParts → List (List Datum) → List ℕ → 
 Reached s f rows rest = GoesOn s f rows rest ⊎ Ended s f rows rest
 
 -- The same of what was taken, and what is kept beside its rows is so.
-abbrev pub HasTaken : Story → FeedParts → Taken → List ℕ → Type 0
+abbrev pub HasTaken : Story → FeedParts → KeptBatches → List ℕ → Type 0
 HasTaken s f t rest = Reached s f (taken_rows t) rest × IsKeptSo s.schema t
 
 -- The stream has these rows and no more, and its input may end here.
@@ -83,7 +83,7 @@ pub record IsComplete (s : Story) (f : FeedParts) (rows : List (List Datum)) : T
   pub tells : s ≡ after_rows rows (ends (retained_in state).known (at_input_end (retained_in state).known.schema))
 
 -- What came of all messages of an input: they were taken, or it is refused.
-abbrev pub HasTakenAll : FeedParts → Taken → Result (Unit {0}) Cause → List ℕ → Type 0
+abbrev pub HasTakenAll : FeedParts → KeptBatches → Result (Unit {0}) Cause → List ℕ → Type 0
 HasTakenAll f t (Ok u) input = HasTaken (story_of input) f t []
 HasTakenAll f t (Err c) input = Refuses (story_of input) c
 

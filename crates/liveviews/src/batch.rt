@@ -10,7 +10,7 @@ ghost use Rattle.liveviews.specs.Taken.{HasHeavyRow, cells_of_rows};
 ghost use Rattle.liveviews.specs.Kept.{AreLightUpTo, IsLightAs, IsRowBound};
 ghost use Rattle.row_keys.specs.Batches.{HoldsCells};
 
-use crate::taken::MAX_LIGHT_ROW;
+use crate::kept_batches::MAX_LIGHT_ROW;
 use arrays::Column;
 use std::alloc::{AllocError, Global};
 use values::Row;
@@ -96,7 +96,8 @@ pub(crate) fn copy_rows(
     rows: &mut Vec<Row>,
 ) -> Result<(), AllocError>
     requires { All (λ c. length c.cells ≡ count) columns.now }
-    ensures { OnOk result (cells_of_rows rows.new.items ≡ cells_of_rows rows.old.items ++ rows_in count (cells_in columns.now)) }
+    ensures { OnOk result (cells_of_rows rows.new.items ≡ cells_of_rows rows.old.items
+        ++ rows_in count (cells_in columns.now)) }
 {
     for index in 0..count {
         rows.push(read_row(alloc, columns, index)?)?;

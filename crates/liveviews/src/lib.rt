@@ -6,6 +6,7 @@ mod batch;
 mod configuring;
 mod files;
 mod inspecting;
+mod kept_batches;
 mod laws;
 mod lines;
 mod pieces;
@@ -14,7 +15,6 @@ mod recasting;
 mod running;
 mod script;
 mod table;
-mod taken;
 mod types;
 
 pub use files::{FileFault, Files};

@@ -9,8 +9,8 @@ ghost use Rattle.liveviews.specs.Source.{OfSource};
 ghost use Rattle.liveviews.specs.Steps.{AreTakenSo, HasTaken, HasTakenAll, IsComplete, IsOpen, IsRead, Refuses};
 
 use crate::files::FileFault;
+use crate::kept_batches::KeptBatches;
 use crate::pieces::{read_piece, room};
-use crate::taken::Taken;
 use feed::{Fed, Feed, FeedEvent, cut_law, story_law};
 use messages::first_message_law;
 use schema_meta::{fields_law, logical_law};
@@ -22,14 +22,14 @@ use values::{Cause, Schema};
 #[derive(Drop)]
 pub(crate) struct Table {
     pub schema: Schema,
-    pub rows: Taken,
+    pub rows: KeptBatches,
 }
 
 /// Takes the first message of a piece, or all of the piece where it ends before the message does, and returns how many
 /// bytes were used.
 ///
 /// What it says is said of any stream of which these rows were taken, whatever bytes come after the piece.
-fn take_message(feed: &mut Feed, piece: &[u8], rows: &mut Taken) -> Result<usize, Cause>
+fn take_message(feed: &mut Feed, piece: &[u8], rows: &mut KeptBatches) -> Result<usize, Cause>
     requires open { IsOpen feed.old }
     requires some { 0 < length piece.now }
     requires counted { IsCounted rows.old }
@@ -66,7 +66,7 @@ fn take_message(feed: &mut Feed, piece: &[u8], rows: &mut Taken) -> Result<usize
 }
 
 /// Takes all messages of a piece, and what it has of one more.
-fn take_messages(feed: &mut Feed, piece: &[u8], rows: &mut Taken) -> Result<(), Cause>
+fn take_messages(feed: &mut Feed, piece: &[u8], rows: &mut KeptBatches) -> Result<(), Cause>
     requires open { IsOpen feed.old }
     requires counted { IsCounted rows.old }
     ensures open { OnOk result (IsOpen feed.new) }
@@ -89,7 +89,7 @@ fn take_source<R: Read>(
     alloc: Global,
     feed: &mut Feed,
     source: &mut R,
-    rows: &mut Taken,
+    rows: &mut KeptBatches,
 ) -> Result<Result<(), Cause>, FileFault>
     requires open { IsOpen feed.old }
     requires counted { IsCounted rows.old }
@@ -115,9 +115,9 @@ fn take_source<R: Read>(
 /// Ends the input of a feed.
 fn end(feed: &mut Feed) -> Result<(), Cause>
     requires open { IsOpen feed.old }
-    ensures complete { OnOk result ((s : Story) (t : Taken) → HasTaken s feed.old t []
+    ensures complete { OnOk result ((s : Story) (t : KeptBatches) → HasTaken s feed.old t []
         → IsComplete s feed.new (taken_rows t)) }
-    ensures refused { IfErr result (λ c. (s : Story) (t : Taken) → HasTaken s feed.old t [] → Refuses s c) }
+    ensures refused { IfErr result (λ c. (s : Story) (t : KeptBatches) → HasTaken s feed.old t [] → Refuses s c) }
 {
     // It does nothing: the proof takes from it what a stream tells that ends within a message.
     story_law();
@@ -126,7 +126,7 @@ fn end(feed: &mut Feed) -> Result<(), Cause>
 }
 
 /// The table of a stream that has ended, of which these rows were taken.
-fn finish(alloc: Global, feed: &Feed, rows: Taken) -> Result<Table, Cause>
+fn finish(alloc: Global, feed: &Feed, rows: KeptBatches) -> Result<Table, Cause>
     ensures means { IfOk result (λ t. (s : Story) → IsComplete s feed.now (taken_rows rows)
         → Means s t.schema.fields.items (taken_rows t.rows)) }
     ensures within { IfOk result (λ t. (s : Story) → IsComplete s feed.now (taken_rows rows)
@@ -147,7 +147,7 @@ fn finish(alloc: Global, feed: &Feed, rows: Taken) -> Result<Table, Cause>
 }
 
 /// The table of a stream of which all messages were taken.
-fn complete(alloc: Global, feed: &mut Feed, rows: Taken) -> Result<Table, Cause>
+fn complete(alloc: Global, feed: &mut Feed, rows: KeptBatches) -> Result<Table, Cause>
     requires open { IsOpen feed.old }
     requires counted { IsCounted rows }
     ensures means { IfOk result (λ t. (s : Story) → HasTaken s feed.old rows []
@@ -181,7 +181,7 @@ impl Table {
         first_message_law();
         story_law();
         let mut feed = Feed::open(alloc, None);
-        let mut rows = Taken::new(alloc);
+        let mut rows = KeptBatches::new(alloc);
         take_messages(&mut feed, input, &mut rows)?;
         complete(alloc, &mut feed, rows)
     }
@@ -202,7 +202,7 @@ impl Table {
         first_message_law();
         story_law();
         let mut feed = Feed::open(alloc, None);
-        let mut rows = Taken::new(alloc);
+        let mut rows = KeptBatches::new(alloc);
         let taken = take_source(alloc, &mut feed, source, &mut rows)?;
         match taken {
             Ok(()) => Ok(complete(alloc, &mut feed, rows)),

@@ -16,7 +16,9 @@ pub loop-k-preserved : goal.loop-k-preserved
 loop-k-preserved c =
     let here =
     value_counted c.args.dictionary.now.layout c.args.dictionary.now.values c.loop-k.k c.own_weight.result c.cap.result
-    c.get.result c.unwrap-value.result c.get.ensures c.unwrap-value.ensures c.own_weight.ensures c.cap.ensures.value in (
-      bounds_more _ c.loop-k.most c.cap.result c.max-most.result _ c.loop-k.k c.loop-k.invariant.0 here c.max-most.ensures,
+    c.get.result c.unwrap-value.result c.get.ensures c.unwrap-value.ensures c.own_weight.ensures
+    c.cap.ensures.value in (
+      bounds_more _ c.loop-k.most c.cap.result c.max-most.result _ c.loop-k.k c.loop-k.invariant.0 here
+          c.max-most.ensures,
       omega (arith, c.loop-k.invariant.1, c.cap.ensures.bound, c.max-most.ensures),
     )

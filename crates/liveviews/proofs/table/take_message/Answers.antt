@@ -136,10 +136,12 @@ returns-in-Batch-clause-taken c =
     let kept = c.in_ok-take-in-Batch.ensures.kept in
     λ s later taken.
     let come =
-    comes cut.partial cut.whole cut.uses law.event law.held s (taken_rows c.args.rows.now) _ _ c.args.piece.now later _ _
+    comes cut.partial cut.whole cut.uses law.event law.held s
+    (taken_rows c.args.rows.now) _ _ c.args.piece.now later _ _
     c.requires.some event taken.0 in (
       columns-reached c.first_message_law.ensures.none law.knows s (taken_rows c.args.rows.now)
-          (taken_rows c.take.new.self) _ _ c.in-Batch.columns.items c.in-Batch.count c.in-Batch.body typed rows fit come,
+          (taken_rows c.take.new.self) _ _ c.in-Batch.columns.items c.in-Batch.count c.in-Batch.body
+          typed rows fit come,
       columns-kept law.knows s (taken_rows c.args.rows.now) _ _ c.in-Batch.columns.items c.in-Batch.count
           c.in-Batch.body c.args.rows.now c.take.new.self typed kept come taken.1,
     )

@@ -24,7 +24,7 @@ pub(crate) const MAX_LIGHT_ROW: u64 = 1 << 17;
 
 /// The batches of a stream so far, with the number of their rows, and a weight that none of the rows is above.
 #[derive(Drop)]
-pub(crate) struct Taken {
+pub(crate) struct KeptBatches {
     pub batches: Vec<Batch>,
     pub rows: usize,
     pub heaviest: u64,
@@ -42,13 +42,13 @@ fn rows_in_batches(alloc: Global, batches: &[Batch]) -> Result<Vec<Row>, AllocEr
     Ok(rows)
 }
 
-impl Taken {
+impl KeptBatches {
     /// No batches.
-    pub fn new(alloc: Global) -> Taken
+    pub fn new(alloc: Global) -> KeptBatches
         ensures counted { IsCounted result }
         ensures none { result.batches.items ≡ [] }
     {
-        Taken {
+        KeptBatches {
             batches: Vec::new(alloc),
             rows: 0,
             heaviest: 0,
@@ -61,7 +61,8 @@ impl Taken {
         requires cells { All (λ c. length c.cells ≡ count) columns.items }
         requires counted { IsCounted self.old }
         ensures counted { OnOk result (IsCounted self.new) }
-        ensures rows { OnOk result (taken_rows self.new ≡ taken_rows self.old ++ rows_in count (cells_in columns.items)) }
+        ensures rows { OnOk result (taken_rows self.new ≡ taken_rows self.old
+            ++ rows_in count (cells_in columns.items)) }
         ensures taken { OnOk result (AreTaken (layouts_in columns.items) (taken_rows self.old)
             → AreTaken (layouts_in columns.items) (taken_rows self.new)) }
         ensures kept { OnOk result (IsKept (length columns.items) (layouts_in columns.items) self.old
@@ -96,7 +97,8 @@ impl Taken {
         requires table { IsTable schema.now.fields.items (taken_rows self.now) }
         requires counted { IsCounted self.now }
         requires kept { IsWritable schema.now.fields.items self.now }
-        ensures { Writes (S.sunk sink.old) (S.sunk sink.new) result (canon schema.now.fields.items (taken_rows self.now)) }
+        ensures { Writes (S.sunk sink.old) (S.sunk sink.new) result
+            (canon schema.now.fields.items (taken_rows self.now)) }
     {
         if self.heaviest <= MAX_LIGHT_ROW {
             return write_batches(alloc, sink, schema, &self.batches, self.rows);

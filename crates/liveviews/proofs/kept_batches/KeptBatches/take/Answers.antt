@@ -6,10 +6,10 @@ use Rattle.row_keys.specs.Batches.{HoldsCells}
 use Rattle.column_writer.specs.declared.batch.Batch.{Batch}
 use Rattle.liveviews.specs.Taken.{HasHeavyRow}
 use Rattle.liveviews.specs.Kept.{AreLightUpTo, taken_rows}
-use Rattle.liveviews.specs.declared.taken.Taken.{Taken}
+use Rattle.liveviews.specs.declared.kept_batches.KeptBatches.{KeptBatches}
 use Rattle.liveviews.proofs.BatchLemmas.{rows-many, rows-refused, taken-rows}
 use Rattle.liveviews.proofs.KeptLemmas.{count-more, fit-rows, kept-more, one-more}
-use Rattle.liveviews.proofs.taken.Taken.take.Goals as goal
+use Rattle.liveviews.proofs.kept_batches.KeptBatches.take.Goals as goal
 
 pub returns-then-count-saturating_sub-clause-refused : goal.returns-then-count-saturating_sub-clause-refused
 returns-then-count-saturating_sub-clause-refused c =
@@ -51,7 +51,7 @@ pub returns-clause-kept : goal.returns-clause-kept
 returns-clause-kept c = λ kept.
     let columns = c.args.columns.items in
     let batch : Batch = record { columns = c.args.columns; rows = c.args.count } in
-    let next : Taken = record {
+    let next : KeptBatches = record {
       batches = c.push.new.self;
       rows = c.args.self.now.rows + c.args.count;
       heaviest = c.max-self.result;
