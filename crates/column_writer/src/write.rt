@@ -144,7 +144,7 @@ fn write_column(
 
 /// The body of a record batch of these rows, in columns of these layouts, as `body_writer::write_body` makes it of the
 /// rows' values.
-#[tactic(auto, using(body_writer::proofs::Rows::batch), unfolding(body_writer::specs::Batch::body_nodes, body_writer::specs::Batch::body_ranges, body_writer::specs::Batch::body_bytes,))]
+#[tactic(auto, using(body_writer::proofs::Rows::batch), unfolding(body_writer::specs::Batch::body_nodes, body_writer::specs::Batch::body_ranges, body_writer::specs::Batch::body_bytes))]
 pub fn write_body(
     alloc: Global,
     layouts: &[LayoutTree],
