@@ -129,16 +129,16 @@ Does held old new unmade (Err r) = StopsSo held old new unmade r
 abbrev pub DoesSomewhere : (List ℕ → Option (List ℕ)) → Sunk → Sunk → Option FileFault → Result Outcome Refusal → Type 0
 DoesSomewhere content old new unmade answer = (path : List ℕ) × Does (content path) old new unmade answer
 
--- the refusal where the file to be written, whose refusal is named, could not be made
-abbrev pub unmade_for : Refusal → FileFault → Refusal
-unmade_for named file.Unusable = named
-unmade_for named file.Memory = refusal.Refused cause.Memory
+-- the refusal where a file can't be read or made: this one, which names the file, or for want of memory
+abbrev pub refusal_for : Refusal → FileFault → Refusal
+refusal_for named file.Unusable = named
+refusal_for named file.Memory = refusal.Refused cause.Memory
 
 -- A cause is named as it is, or it is the device's where the file could not be made.
 abbrev pub IsStopped : Refusal → Option FileFault → Cause → Refusal → Type 0
 IsStopped named unmade c answer =
     (answer ≡ refusal.Refused c)
-    ⊎ ((why : FileFault) × (c ≡ cause.Device) × (unmade ≡ Some why) × (answer ≡ unmade_for named why))
+    ⊎ ((why : FileFault) × (c ≡ cause.Device) × (unmade ≡ Some why) × (answer ≡ refusal_for named why))
 
 abbrev pub status_of : Refusal → ℕ
 status_of refusal.WrongUse = 2

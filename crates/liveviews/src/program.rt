@@ -22,11 +22,11 @@ ghost use Rattle.liveviews.specs.Program.{
   IsStopped,
   IsUnread,
   IsUnreadable,
+  refusal_for,
   status_after,
   status_of,
-  unmade_for,
 };
-ghost use Rattle.liveviews.specs.declared.program.Refusal.TheVariants.{CannotWrite};
+ghost use Rattle.liveviews.specs.declared.program.Refusal.TheVariants.{CannotRead, CannotWrite};
 
 use crate::configuring::parse_config;
 use crate::files::{FileFault, Files};
@@ -119,7 +119,7 @@ impl<'a> Refusal<'a> {
 
     /// The refusal where the file at `path` could not be made.
     fn unmade(fault: FileFault, path: &'a str) -> Refusal<'a>
-        ensures { result ≡ unmade_for (CannotWrite path.entry) fault }
+        ensures { result ≡ refusal_for (CannotWrite path.entry) fault }
     {
         match fault {
             FileFault::Unusable => Refusal::CannotWrite(path),
@@ -236,7 +236,8 @@ fn asked_run<'a>(given: &ArgMatches<'a>) -> Option<Asked<'a>> {
 
 /// The refusal of a file at `path` that could not be read.
 fn unreadable<'a>(fault: FileFault, path: &'a str) -> Refusal<'a>
-    ensures { IsUnreadable result }
+    ensures value { result ≡ refusal_for (CannotRead path.entry) fault }
+    ensures unread { IsUnreadable result }
 {
     match fault {
         FileFault::Unusable => Refusal::CannotRead(path),

@@ -6,13 +6,13 @@ use crate::sample::SAMPLE;
 use liveviews::{FileFault, Files, lv};
 use std::alloc::Global;
 use std::io;
-use std::io::Read;
+use std::io::{ErrorKind, Read};
 use std::process::Abort;
 use std::test::Fail;
 use stream_writer::{DeviceFault, Sink};
 
-/// The file `in` with these bytes, and the file `out` once it is made, with what was put to it. Nothing else can be
-/// read or made.
+/// The file `in` with these bytes, the same files `interrupted` and `broken` with reads that fail, and the file `out`
+/// once it is made, with what was put to it. Nothing else can be read or made.
 #[derive(Drop)]
 struct Shelf<'a> {
     alloc: Global,
@@ -62,10 +62,22 @@ impl Sink for Shelf<'_> {
     }
 }
 
+/// How reads of a file end besides at its end.
+#[derive(Clone, Copy, PartialEq, Eq)]
+enum Trouble {
+    Nothing,
+    /// Each read is interrupted once before it gives bytes.
+    Interrupted,
+    /// No read gives bytes once fewer than 300 are left.
+    Broken,
+}
+
 /// A file that is read a few bytes at a time.
 #[derive(Drop)]
 struct Bites<'a> {
     left: &'a [u8],
+    trouble: Trouble,
+    is_due: bool,
 }
 
 impl Read for Bites<'_> {
@@ -74,6 +86,13 @@ impl Read for Bites<'_> {
     ghost remaining = { λ b. Some b.left.now };
 
     fn read(&mut self, room: &mut [u8]) -> io::Result<usize> {
+        self.is_due = !self.is_due;
+        if self.trouble == Trouble::Interrupted && self.is_due {
+            return Err(io::Error::from(ErrorKind::Interrupted));
+        }
+        if self.trouble == Trouble::Broken && self.left.len() < 300 {
+            return Err(io::Error::from(ErrorKind::Other));
+        }
         let most = room.len().min(7);
         self.left.read(&mut room[..most])
     }
@@ -100,10 +119,17 @@ impl<'a> Files for Shelf<'a> {
     }
 
     fn open(&mut self, path: &str) -> Result<Bites<'a>, FileFault> {
-        if path != "in" {
-            return Err(FileFault::Unusable);
-        }
-        Ok(Bites { left: self.input })
+        let trouble = match path {
+            "in" => Trouble::Nothing,
+            "interrupted" => Trouble::Interrupted,
+            "broken" => Trouble::Broken,
+            _ => return Err(FileFault::Unusable),
+        };
+        Ok(Bites {
+            left: self.input,
+            trouble,
+            is_due: false,
+        })
     }
 
     fn create(&mut self, path: &str) -> Result<(), FileFault> {
@@ -221,6 +247,43 @@ fn inspect_prints_its_lines(rt: HostRuntime) -> Result<(), Fail> {
         &SAMPLE,
         &["inspect", "gone"],
         "cannot read gone\n",
+        1,
+        None,
+    )?;
+    Ok(())
+}
+
+#[test]
+fn reads_that_fail_are_told(rt: HostRuntime) -> Result<(), Fail> {
+    run(
+        &rt,
+        &SAMPLE,
+        &["recast", "interrupted", "out"],
+        "wrote 504\n",
+        0,
+        Some(504),
+    )?;
+    run(
+        &rt,
+        &SAMPLE,
+        &["recast", "broken", "out"],
+        "cannot read broken\n",
+        1,
+        None,
+    )?;
+    run(
+        &rt,
+        &SAMPLE,
+        &["inspect", "interrupted"],
+        "schema fields=2\nfield k int64\nfield v int64\nbatch rows=3 body=56\nend\n",
+        0,
+        None,
+    )?;
+    run(
+        &rt,
+        &SAMPLE,
+        &["inspect", "broken"],
+        "cannot read broken\n",
         1,
         None,
     )?;
