@@ -1,9 +1,10 @@
 #!/usr/bin/env python3
-"""Processor time and peak memory of `lv recast` and `lv inspect`, beside `cat` of the same file.
+"""Processor time and peak memory of `lv recast` and `lv inspect`, beside two programs that copy the same file: `cat`, and
+one that holds all of it in memory before it writes, as `recast` must, and does nothing else.
 
   tools/bench.py [--sizes 25,100,400] [--turns 3] [SHAPE..]
 
-Makes a stream of each shape and size, runs the three in turn, prints the least time of each, and removes what it made. Times are of the
+Makes a stream of each shape and size, runs the four in turn, prints the least time of each, and removes what it made. Times are of the
 processor, in user code and in the system, so other work on the machine bears on them less than on the clock.
 """
 
@@ -19,6 +20,14 @@ from streams import END_MARK, batch, dictionary_batch, field, schema
 
 LV = "crates/lv/out/lv"
 GNU_TIME = "/usr/bin/time"
+# Reads a file in pieces of 4 MiB, keeps them, and then writes all in pieces of 32 KiB, about as long as a message of `recast`.
+HOLD = """
+import sys
+source, target = open(sys.argv[1], "rb", buffering=0), open(sys.argv[2], "wb", buffering=0)
+for piece in list(iter(lambda: source.read(1 << 22), b"")):
+    for start in range(0, len(piece), 1 << 15):
+        target.write(piece[start : start + (1 << 15)])
+"""
 ROWS = 1 << 16
 MEGABYTE = 1_000_000
 
@@ -103,6 +112,7 @@ def row(name, write, size, turns, folder):
     with open(source, "wb") as file:
         write(file, size * MEGABYTE)
     programs = {"recast": [LV, "recast", source, target], "inspect": [LV, "inspect", source], "cat": ["cat", source]}
+    programs["hold"] = [sys.executable, "-I", "-S", "-c", HOLD, source, target]
     runs = {it: [] for it in programs}
     for _ in range(turns):
         for it, words in programs.items():
@@ -113,7 +123,7 @@ def row(name, write, size, turns, folder):
     whole = os.path.getsize(source) / MEGABYTE
     print(
         f"| {name} | {whole:.0f} MB | {seconds['recast']:.2f} s | {peak['recast'] / whole:.2f} | {seconds['inspect']:.2f} s"
-        f" | {peak['inspect'] / whole:.2f} | {seconds['cat']:.2f} s |",
+        f" | {peak['inspect'] / whole:.2f} | {seconds['hold']:.2f} s | {seconds['cat']:.2f} s |",
         flush=True,
     )
 
@@ -128,8 +138,8 @@ def main():
     for needed, how in ((LV, "make lv builds it"), (GNU_TIME, "GNU time measures peaks")):
         if not os.path.exists(needed):
             sys.exit(f"bench: {needed} is not there; {how}")
-    print("| columns of | size | recast | peak over size | inspect | peak over size | cat |")
-    print("|---|---|---|---|---|---|---|")
+    print("| columns of | size | recast | peak over size | inspect | peak over size | hold | cat |")
+    print("|---|---|---|---|---|---|---|---|")
     for name in words.shapes or SHAPES:
         for size in map(int, words.sizes.split(",")):
             with tempfile.TemporaryDirectory(prefix="lv-bench-") as folder:
