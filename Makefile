@@ -40,7 +40,7 @@ ci: need-rt
 limits: lv need-python
 	@tools/limits.py
 
-# Time and memory of recasting about 100 MB, beside `cat` of the same file.
+# Time and memory of recasting 25 to 400 MB, beside `cat` of the same file.
 bench: lv need-python
 	@tools/bench.py
 	@tools/bench-edits.py
