@@ -104,8 +104,8 @@ def measured(words):
         ran = subprocess.run([GNU_TIME, "-f", "%U %S %M", *words], stdout=subprocess.DEVNULL, stderr=subprocess.PIPE, text=True)
         if ran.returncode != 0:
             sys.exit(f"bench: {words} ended with {ran.returncode}")
-        user, system, kilobytes = ran.stderr.split()
-        runs.append((float(user) + float(system), 1000 * int(kilobytes)))
+        user, system, kibibytes = ran.stderr.split()
+        runs.append((float(user) + float(system), 1024 * int(kibibytes)))
     return min(runs)
 
 

@@ -103,8 +103,8 @@ SHAPES = {
 def measured(words, output):
     """The seconds of processor time and the peak memory in MB of one run, whose standard output goes to a file."""
     run = subprocess.run([GNU_TIME, "-f", "%U %S %M", *words], stdout=output, stderr=subprocess.PIPE, check=True, text=True)
-    user, system, kilobytes = run.stderr.split()
-    return float(user) + float(system), int(kilobytes) / 1000
+    user, system, kibibytes = run.stderr.split()
+    return float(user) + float(system), int(kibibytes) * 1024 / MEGABYTE
 
 
 def row(name, write, size, turns, folder):

@@ -77,6 +77,7 @@ enum Trouble {
 struct Bites<'a> {
     left: &'a [u8],
     trouble: Trouble,
+    /// Whether the read is one that `trouble` may interrupt: every other one.
     is_due: bool,
 }
 
