@@ -1,12 +1,15 @@
 #!/usr/bin/env python3
 """The merge gate. The last line is 'N passed, M failed'.
 
-In a copy of the tree, which holds nothing of an earlier run:
-1. `rt all check` proves every crate from nothing.
-2. Over that proof, in lanes: each crate is checked for contracts that no call can meet and for what HANDLES doesn't allow, its layout
-   is compared with rt fmt's, its tests are proved and run, its must-fail edits are tried (tools/edits.py; with --due a part of them),
-   and the program is built by both compilers.
-3. The program as each made it is run: as crates/lv says, over the examples, with refused memory, with outputs that take nothing.
+In a copy of the tree, which holds nothing of an earlier run, and in lanes beside it:
+1. Each crate is proved from nothing, once those below it are.
+2. Over that proof the crate is checked for contracts that no call can meet and for what HANDLES doesn't allow, its layout is compared
+   with rt fmt's, its tests are proved and run, its must-fail edits are tried (tools/edits.py; with --due a part of them), and the
+   program is built by both compilers.
+3. `rt all check` looks for files that no crate reads, and finds every crate proved as the tree has it.
+4. The program as each compiler made it is run: as crates/lv says, over the examples, with refused memory, with outputs that take nothing.
+
+What a task waits for is all that orders them, so a crate's tests and edits are tried while those above it are proved.
 
 `make ci` is the toolchain's own gate: it proves each crate three times, and knows no kept work. It is run before a release.
 """
@@ -18,11 +21,15 @@ import subprocess
 import sys
 import tempfile
 import threading
+import time
 from concurrent.futures import ThreadPoolExecutor
+from dataclasses import dataclass
+from functools import partial
+from typing import Callable
 
 sys.dont_write_bytecode = True
 import edits
-from lanes import Lanes, PARTS, below, crates_of, files_below, read, run
+from lanes import Lanes, PARTS, below, crates_of, files_below, link, read, run
 
 ROOT = os.path.dirname(os.path.dirname(os.path.abspath(__file__)))
 PROGRAM = "lv"
@@ -43,9 +50,57 @@ PROVED = {"logic", "functions", "sum", "axioms", "target", "cpu", "native", "log
 EMPTY = re.compile(r"^(warning: no call of `(?![^`]*::fn::)|note: the search for empty contracts did not end)", re.M)
 
 
+@dataclass(frozen=True)
+class Task:
+    """What is done once these are made: crates by their proofs, the program by its compilers. The call answers whether it went well."""
+
+    needs: frozenset
+    call: Callable
+    makes: str = ""
+
+
+class Schedule:
+    """Tasks by urgency: the first that can be begun is, in as many threads as there are lanes. What waits for something that wasn't
+    made, since its task didn't go well, is left."""
+
+    def __init__(self, tasks):
+        self.left, self.made, self.running, self.changing = list(tasks), set(), 0, threading.Condition()
+
+    def next(self):
+        """The next task, or none where no more can be begun."""
+        with self.changing:
+            while True:
+                ready = next((it for it in self.left if it.needs <= self.made), None)
+                if ready:
+                    self.left.remove(ready)
+                    self.running += 1
+                    return ready
+                if not self.running:
+                    return None
+                self.changing.wait()
+
+    def work(self):
+        while task := self.next():
+            is_well = False
+            try:
+                is_well = task.call()
+            finally:
+                with self.changing:
+                    self.running -= 1
+                    self.made |= {task.makes} if is_well else set()
+                    self.changing.notify_all()
+
+    def run(self, threads):
+        with ThreadPoolExecutor(threads) as pool:
+            for worker in [pool.submit(self.work) for _ in range(threads)]:
+                worker.result()
+
+
 class Gate:
-    def __init__(self, tree):
-        self.tree, self.noting = tree, threading.Lock()
+    def __init__(self, tree, room, jobs):
+        self.tree, self.jobs, self.noting = tree, jobs, threading.Lock()
+        self.crates, self.every_lane = crates_of(tree), Lanes(tree, room, jobs)
+        self.lanes = [*self.every_lane.free]
         self.passed, self.failed, self.minutes = 0, [], {}
 
     def note(self, part, name, ran, is_well, text=""):
@@ -54,23 +109,30 @@ class Gate:
             self.minutes[part] = self.minutes.get(part, 0) + ran.seconds / 60
             self.passed += is_well
             self.failed += [] if is_well else [f"{name} ({part})"]
-            said = "well" if is_well else f"FAILED{': ' * bool(text)}{text}\n{ran.text}"
+            said = f"well, {ran.seconds:.0f} s" if is_well else f"FAILED{': ' * bool(text)}{text}\n{ran.text}"
             print(f"{part} {name}: {said}", flush=True)
         return is_well
 
-    def prove(self, jobs):
-        """Proves every crate from nothing."""
-        ran = run(["rt", "all", "check", "--jobs", str(jobs)], self.tree)
-        self.minutes["proof"] = ran.seconds / 60
-        names = [*crates_of(self.tree)]
-        proved = [it for it in names if re.search(rf"^{it}: ok$", ran.text, re.M)]
-        is_well = ran.status == 0 and proved == names and "rt verdict refuses this" not in ran.text
-        print("" if is_well else ran.text, end="")
-        for it in names:
-            print(f"proof {it}: {'well' if it in proved else 'FAILED'}", flush=True)
-        self.passed += len(proved)
-        self.failed += [f"{it} (proof)" for it in names if it not in proved] or ([] if is_well else ["all (proof)"])
+    def prove(self, lane, crate):
+        """Proves a crate from nothing, and gives its library to all lanes and what was kept of its proof to the tree."""
+        is_library = any(crate in it for it in self.crates.values())
+        ran = lane.rt(crate, "lib" if is_library else "check", "--jobs", "1")
+        is_well = self.note("proof", crate, ran, ran.status == 0 and re.search("^logic=proved ", ran.text, re.M) is not None)
+        if is_well:
+            os.makedirs(f"{self.tree}/crates/{crate}/out", exist_ok=True)
+            for part in ("rlib", "incremental"):
+                if os.path.isdir(f"{lane.folder}/crates/{crate}/out/{part}"):
+                    shutil.move(f"{lane.folder}/crates/{crate}/out/{part}", f"{self.tree}/crates/{crate}/out/{part}")
+            for it in self.lanes:
+                it.take(crate, "rlib", link)
         return is_well
+
+    def whole(self):
+        """Finds every crate proved as the tree has it, and every file read by one."""
+        ran = run(["rt", "all", "check", "--jobs", "1"], self.tree)
+        proved = [it for it in self.crates if re.search(rf"^{it}: ok$", ran.text, re.M)]
+        is_well = ran.status == 0 and proved == [*self.crates] and "rt verdict refuses this" not in ran.text
+        return self.note("whole", "tree", ran, is_well)
 
     def contracts(self, lane, crate):
         """Looks for contracts that no call can meet, and for words in the verdict that this repository doesn't allow."""
@@ -78,7 +140,7 @@ class Gate:
         line = next((it for it in ran.text.split("\n") if it.startswith("logic=proved ")), "")
         beyond = {it.partition("=")[0] for it in line.split()} - PROVED
         why = "a contract that no call can meet" if EMPTY.search(ran.text) else f"not proved as it must be: {line}"
-        self.note("contracts", crate, ran, ran.status == 0 and line != "" and not beyond and not EMPTY.search(ran.text), why)
+        return self.note("contracts", crate, ran, ran.status == 0 and line != "" and not beyond and not EMPTY.search(ran.text), why)
 
     def layout(self, lane, crate):
         ran = lane.rt(crate, "fmt")
@@ -87,60 +149,75 @@ class Gate:
             for root in (self.tree, lane.folder)
         ]
         others = sorted(it for it in texts[0] if texts[0][it] != texts[1].get(it))
-        self.note("layout", crate, ran, ran.status == 0 and not others, f"run rt fmt, it lays out anew: {' '.join(others)}")
+        return self.note("layout", crate, ran, ran.status == 0 and not others, f"run rt fmt, it lays out anew: {' '.join(others)}")
 
     def tests(self, lane, crate):
         ran = lane.rt(crate, "test", "--jobs", "1")
-        self.note("tests", crate, ran, ran.status == 0)
+        return self.note("tests", crate, ran, ran.status == 0)
 
-    def build(self, lane, crate):
-        """Builds the program by each compiler. With no words it ends with status 2, so what counts is that it is there."""
-        for backend, name in BACKENDS.items():
-            ran = lane.rt(crate, "run", "--jobs", "1", "--backend", backend)
-            made = f"{lane.folder}/crates/{crate}/out/{crate}"
-            is_there = os.path.isfile(made)
-            if self.note("build", f"{crate} by {backend}", ran, is_there, "it was not built"):
-                shutil.move(made, f"{self.tree}/crates/{crate}/out/{name}")
+    def build(self, lane, backend):
+        """Builds the program by a compiler. With no words it ends with status 2, so what counts is that it is there."""
+        ran = lane.rt(PROGRAM, "run", "--jobs", "1", "--backend", backend)
+        made = f"{lane.folder}/crates/{PROGRAM}/out/{PROGRAM}"
+        is_well = self.note("build", f"{PROGRAM} by {backend}", ran, os.path.isfile(made), "it was not built")
+        if is_well:
+            shutil.move(made, self.program(backend))
+        return is_well
 
-    def run_stored(self, program, name):
+    def program(self, backend):
+        return f"{self.tree}/crates/{PROGRAM}/out/{BACKENDS[backend]}"
+
+    def run_stored(self, backend):
         """Runs the program with the words of crates/lv/args where the files of crates/lv/data lie."""
         folder = f"{self.tree}/crates/{PROGRAM}"
         with tempfile.TemporaryDirectory(prefix="lv-run-") as room:
             shutil.copytree(f"{folder}/data", room, dirs_exist_ok=True)
-            ran = run([program, *read(f"{folder}/args").split()], room)
-        self.note("runs", f"{name}, as stored", ran, ran.status == 0 and ran.text == read(f"{folder}/stdout"))
+            ran = run([self.program(backend), *read(f"{folder}/args").split()], room)
+        return self.note("runs", f"{BACKENDS[backend]}, as stored", ran, ran.status == 0 and ran.text == read(f"{folder}/stdout"))
 
-    def runs(self):
-        for name in BACKENDS.values():
-            program = f"{self.tree}/crates/{PROGRAM}/out/{name}"
-            if os.path.isfile(program):
-                self.run_stored(program, name)
-                for script in RUNS:
-                    ran = run([f"{self.tree}/tools/{script}", program], self.tree)
-                    self.note("runs", f"{script} of {name}", ran, ran.status == 0)
+    def run_script(self, script, backend):
+        ran = run([f"{self.tree}/tools/{script}", self.program(backend)], self.tree)
+        return self.note("runs", f"{script} of {BACKENDS[backend]}", ran, ran.status == 0)
 
-    def over_the_proof(self, room, jobs, only_due):
-        """All that is done in lanes, what takes longest first."""
-        lanes, crates = Lanes(self.tree, room, jobs), crates_of(self.tree)
-        trial = edits.Trial(self.tree, lanes)
-        tried, bad = edits.plan(self.tree, [*crates], edits.turn_of(ROOT) if only_due else None)
+    def tasks(self, tried, trial):
+        """All that is done in lanes: proofs first, of the crates that most others wait for, and then what takes longest."""
+        crates, under = self.crates, {it: below(self.crates, it) for it in self.crates}
+        high = sorted(crates, key=lambda it: -len(under[it]))
 
-        def in_lane(call, crate):
-            with lanes.one() as lane:
-                call(lane, crate)
+        def in_lane(call, name):
+            def work():
+                with self.every_lane.one() as lane:
+                    return call(lane, name)
 
-        high = sorted(crates, key=lambda it: -len(below(crates, it)))
-        with ThreadPoolExecutor(jobs) as pool:
-            started = [pool.submit(in_lane, self.build, PROGRAM)] if PROGRAM in crates else []
-            started += [pool.submit(in_lane, self.tests, it) for it in high if has_tests(self.tree, it)]
-            started += [pool.submit(trial.run, *it) for it in tried]
-            started += [pool.submit(in_lane, call, it) for it in high for call in (self.contracts, self.layout)]
-            for it in started:
-                it.result()
+            return work
+
+        for it in sorted(crates, key=lambda it: -sum(it in others for others in under.values())):
+            yield Task(frozenset(under[it] - {it}), in_lane(self.prove, it), makes=it)
+        for it in BACKENDS if PROGRAM in crates else ():
+            yield Task(frozenset([PROGRAM]), in_lane(self.build, it), makes=it)
+        yield Task(frozenset(crates), self.whole)
+        for it in BACKENDS if PROGRAM in crates else ():
+            yield Task(frozenset([it]), partial(self.run_stored, it))
+            for script in RUNS:
+                yield Task(frozenset([it]), partial(self.run_script, script, it))
+        for it in (it for it in high if has_tests(self.tree, it)):
+            yield Task(frozenset([it]), in_lane(self.tests, it))
+        for crate, batch in tried:
+            yield Task(frozenset([crate]), partial(trial.run, crate, batch))
+        for it in high:
+            yield Task(frozenset([it]), in_lane(self.contracts, it))
+            yield Task(frozenset([it]), in_lane(self.layout, it))
+
+    def in_lanes(self, only_due):
+        tried, bad = edits.plan(self.tree, [*self.crates], edits.turn_of(ROOT) if only_due else None)
+        trial = edits.Trial(self.tree, self.every_lane)
+        schedule = Schedule(self.tasks(tried, trial))
+        schedule.run(self.jobs)
         print(*bad, sep="\n", end="\n" * bool(bad))
         self.minutes["edits"] = trial.seconds / 60
         self.passed += trial.passed
         self.failed += trial.failed + [it.split(":")[0] for it in bad]
+        self.failed += [f"{len(schedule.left)} tasks were not begun"] * bool(schedule.left)
 
 
 def has_tests(root, crate):
@@ -163,15 +240,15 @@ def main():
     parser.add_argument("--jobs", type=int, default=len(os.sched_getaffinity(0)), help="how many checks run side by side")
     parser.add_argument("--due", action="store_true", help="of crates whose edits were all refused as they are, try a fifth alone")
     words = parser.parse_args()
+    began = time.monotonic()
     with tempfile.TemporaryDirectory(prefix="lv-gate-") as room:
-        gate = Gate(copied(f"{room}/tree"))
+        gate = Gate(copied(f"{room}/tree"), room, words.jobs)
         if read(f"{ROOT}/HANDLES") != "Handles allowed: none.\n":
             gate.failed.append("HANDLES")
-        if gate.prove(words.jobs):
-            gate.over_the_proof(room, words.jobs, words.due)
-            gate.runs()
+        gate.in_lanes(words.due)
     whole = sum(gate.minutes.values())
     print("minutes of processor time:", ", ".join(f"{part} {it:.1f}" for part, it in gate.minutes.items()) + f", in all {whole:.1f}")
+    print(f"minutes by the clock: {(time.monotonic() - began) / 60:.1f}, with {words.jobs} lanes")
     if gate.failed:
         print(f"FAILED: {', '.join(gate.failed)}")
     print(f"{gate.passed} passed, {len(gate.failed)} failed")
