@@ -236,23 +236,37 @@ def stamp(root, crates, name):
     return total.hexdigest()
 
 
-def recorded(root):
+def toolchain():
+    """The name of the toolchain: what one refuses, another need not."""
+    return subprocess.run(["rt", "version"], stdout=subprocess.PIPE, check=True, text=True).stdout.split()[0]
+
+
+def record_lines(root):
+    """The record: crates, each with a toolchain by which its edits were tried, and the stamp of its sources at that time."""
     path = f"{root}/{RECORD}"
     lines = read(path).splitlines() if os.path.isfile(path) else []
-    return dict(line.split() for line in lines if not line.startswith("#"))
+    return [tuple(line.split()) for line in lines if not line.startswith("#")]
+
+
+def recorded(root):
+    """The stamps of the crates whose edits were tried by this toolchain."""
+    own = toolchain()
+    return {crate: stamped for crate, name, stamped in record_lines(root) if name == own}
 
 
 def record(root, names, trial):
-    """Notes the crates of which all edits were tried and refused."""
-    crates, known = crates_of(root), recorded(root)
+    """Notes the crates of which all edits were tried and refused. What was noted by another toolchain stays."""
+    crates, own, known = crates_of(root), toolchain(), recorded(root)
     for crate in names:
         if any(it.startswith(f"{crate}/") for it in trial.failed):
             known.pop(crate, None)
         else:
             known[crate] = stamp(root, crates, crate)
+    lines = [it for it in record_lines(root) if it[1] != own] + [(crate, own, known[crate]) for crate in known]
+    lines.sort(key=lambda it: ([*crates].index(it[0]) if it[0] in crates else len(crates), it[1]))
     with open(f"{root}/{RECORD}", "w", encoding="utf-8") as file:
-        file.write("# Written by tools/edits.py --record: at this stamp of its sources all must-fail edits of the crate were refused.\n")
-        file.writelines(f"{it} {known[it]}\n" for it in crates if it in known)
+        file.write("# Written by tools/edits.py --record: by this toolchain, at this stamp of its sources, all edits of the crate were refused.\n")
+        file.writelines(f"{' '.join(it)}\n" for it in lines)
 
 
 def turn_of(root):

@@ -218,6 +218,7 @@ class Gate:
         self.passed += trial.passed
         self.failed += trial.failed + [it.split(":")[0] for it in bad]
         self.failed += [f"{len(schedule.left)} tasks were not begun"] * bool(schedule.left)
+        return trial
 
 
 def has_tests(root, crate):
@@ -239,13 +240,16 @@ def main():
     parser = argparse.ArgumentParser(description="The merge gate: proofs from nothing, contracts, layout, tests, must-fail edits, runs.")
     parser.add_argument("--jobs", type=int, default=len(os.sched_getaffinity(0)), help="how many checks run side by side")
     parser.add_argument("--due", action="store_true", help="of crates whose edits were all refused as they are, try a fifth alone")
+    parser.add_argument("--record", action="store_true", help=f"where nothing failed, note in {edits.RECORD} that all edits were refused")
     words = parser.parse_args()
     began = time.monotonic()
     with tempfile.TemporaryDirectory(prefix="lv-gate-") as room:
         gate = Gate(copied(f"{room}/tree"), room, words.jobs)
         if read(f"{ROOT}/HANDLES") != "Handles allowed: none.\n":
             gate.failed.append("HANDLES")
-        gate.in_lanes(words.due)
+        trial = gate.in_lanes(words.due)
+        if words.record and not gate.failed:
+            edits.record(ROOT, [*gate.crates], trial)
     whole = sum(gate.minutes.values())
     print("minutes of processor time:", ", ".join(f"{part} {it:.1f}" for part, it in gate.minutes.items()) + f", in all {whole:.1f}")
     print(f"minutes by the clock: {(time.monotonic() - began) / 60:.1f}, with {words.jobs} lanes")
