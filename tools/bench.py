@@ -1,10 +1,11 @@
 #!/usr/bin/env python3
-"""Processor time and peak memory of `lv recast` and `lv inspect`, beside two programs that copy the same file: `cat`, and
-one that holds all of it in memory before it writes, as `recast` must, and does nothing else.
+"""Processor time and peak memory of `lv recast` and `lv inspect`, beside programs that copy the same file: `cat`, which lets the
+kernel copy from file to file, `cat` behind what a file has, which reads and writes the bytes, and one that holds all of them in memory
+before it writes, as `recast` must, and does nothing else.
 
   tools/bench.py [--sizes 25,100,400] [--turns 3] [SHAPE..]
 
-Makes a stream of each shape and size, runs the four in turn, prints the least time of each, and removes what it made. Times are of the
+Makes a stream of each shape and size, runs all in turn, prints the least time of each, and removes what it made. Times are of the
 processor, in user code and in the system, so other work on the machine bears on them less than on the clock.
 """
 
@@ -102,28 +103,38 @@ SHAPES = {
 
 def measured(words, output):
     """The seconds of processor time and the peak memory in MB of one run, whose standard output goes to a file."""
-    run = subprocess.run([GNU_TIME, "-f", "%U %S %M", *words], stdout=output, stderr=subprocess.PIPE, check=True, text=True)
-    user, system, kibibytes = run.stderr.split()
-    return float(user) + float(system), int(kibibytes) * 1024 / MEGABYTE
+    # GNU time tells seconds by hundredths alone; what it takes itself is less than one of them.
+    with subprocess.Popen([GNU_TIME, "-f", "%M", *words], stdout=output, stderr=subprocess.PIPE, text=True) as started:
+        kibibytes = started.stderr.read().split()[-1]
+        _, status, used = os.wait4(started.pid, 0)
+        started.returncode = os.waitstatus_to_exitcode(status)
+    if started.returncode:
+        sys.exit(f"bench: {' '.join(words)} ended with status {started.returncode}")
+    return used.ru_utime + used.ru_stime, int(kibibytes) * 1024 / MEGABYTE
 
 
 def row(name, write, size, turns, folder):
-    source, target = os.path.join(folder, "in"), os.path.join(folder, "out")
+    source, target, printed = (os.path.join(folder, it) for it in ("in", "out", "printed"))
     with open(source, "wb") as file:
         write(file, size * MEGABYTE)
     programs = {"recast": [LV, "recast", source, target], "inspect": [LV, "inspect", source], "cat": ["cat", source]}
     programs["hold"] = [sys.executable, "-I", "-S", "-c", HOLD, source, target]
+    programs["append"] = programs["cat"]
     runs = {it: [] for it in programs}
     for _ in range(turns):
         for it, words in programs.items():
-            with open(target if it == "cat" else os.path.join(folder, "lines"), "wb") as output:
+            # A file is made anew for each run: taking the bytes of the last one out of it isn't the program's work.
+            for made in (target, printed):
+                if os.path.exists(made):
+                    os.remove(made)
+            with open(printed, "ab" if it == "append" else "wb") as output:
                 runs[it].append(measured(words, output))
     seconds = {it: min(second for second, _ in of) for it, of in runs.items()}
     peak = {it: min(most for _, most in of) for it, of in runs.items()}
     whole = os.path.getsize(source) / MEGABYTE
     print(
-        f"| {name} | {whole:.0f} MB | {seconds['recast']:.2f} s | {peak['recast'] / whole:.2f} | {seconds['inspect']:.2f} s"
-        f" | {peak['inspect'] / whole:.2f} | {seconds['hold']:.2f} s | {seconds['cat']:.2f} s |",
+        f"| {name} | {whole:.0f} MB | {seconds['recast']:.3f} s | {peak['recast'] / whole:.2f} | {seconds['inspect']:.3f} s"
+        f" | {peak['inspect'] / whole:.2f} | {seconds['hold']:.3f} s | {seconds['append']:.3f} s | {seconds['cat']:.3f} s |",
         flush=True,
     )
 
@@ -138,8 +149,8 @@ def main():
     for needed, how in ((LV, "make lv builds it"), (GNU_TIME, "GNU time measures peaks")):
         if not os.path.exists(needed):
             sys.exit(f"bench: {needed} is not there; {how}")
-    print("| columns of | size | recast | peak over size | inspect | peak over size | hold | cat |")
-    print("|---|---|---|---|---|---|---|---|")
+    print("| columns of | size | recast | peak over size | inspect | peak over size | hold | cat >> | cat > |")
+    print("|---|---|---|---|---|---|---|---|---|")
     for name in words.shapes or SHAPES:
         for size in map(int, words.sizes.split(",")):
             with tempfile.TemporaryDirectory(prefix="lv-bench-") as folder:

@@ -49,7 +49,7 @@ use Rattle.schema_meta.specs.Entry.{Entry}
 use Rattle.schema_meta.specs.FieldLayouts.{layouts_of}
 use Rattle.schema_meta.specs.Framing.{first}
 use Rattle.schema_meta.specs.Rows.{rows_in}
-use Rattle.schema_meta.specs.Story.{Story, after_rows, ends}
+use Rattle.schema_meta.specs.Story.{Story, after_rows}
 use Rattle.messages.specs.Laws.{NothingYet}
 use Rattle.feed.specs.declared.condition.Condition.{Condition}
 use Rattle.feed.specs.declared.condition.Condition.TheVariants as condition

@@ -7,11 +7,13 @@ use std::io::{Error, ErrorKind, Read};
 use stream_writer::Sink;
 
 /// Why a file could not be used.
-#[derive(Clone, Copy, Debug, PartialEq, Eq)]
+#[derive(Clone, Copy, Debug, PartialEq, Eq, thiserror::Error)]
 pub enum FileFault {
     /// The file can't be opened, read or made.
+    #[error("the file can't be used")]
     Unusable,
     /// Memory ran out.
+    #[error("memory ran out")]
     Memory,
 }
 

@@ -8,7 +8,7 @@ use std::alloc::{AllocError, Global};
 use std::io::{ErrorKind, Read};
 
 /// How many bytes a piece has at most.
-const PIECE_LEN: usize = 1 << 22;
+const PIECE_LEN: usize = 1 << 20;
 
 /// Makes the room that each piece of a source is read into.
 pub(crate) fn room(alloc: Global) -> Result<Vec<u8>, AllocError>

@@ -137,20 +137,3 @@ pub fn recast_from<R: Read, S: Sink>(
         Err(fault) => Err(SourceFault::Refused(fault)),
     }
 }
-
-#[cfg(test)]
-mod tests {
-    use super::*;
-    use std::test::Fail;
-
-    /// The faults of a source have the texts that `lv` prints, but for the path, which a source has none of.
-    #[test]
-    fn source_faults_are_told(rt: HostRuntime) -> Result<(), Fail> {
-        let unreadable = format!(in rt.alloc(); "{}", SourceFault::Unreadable)?;
-        assert_eq!(rt; unreadable.as_str(), "cannot read");
-        let fault = RecastFault::from(Cause::Offsets);
-        let refused = format!(in rt.alloc(); "{}", SourceFault::Refused(fault))?;
-        assert_eq!(rt; refused.as_str(), "refused 24 Offsets");
-        Ok(())
-    }
-}

@@ -3,13 +3,14 @@
 ghost use Rattle.std.specs.Prelude.{◌≡◌};
 
 use crate::sample::SAMPLE;
-use liveviews::{FileFault, Files, lv};
+use liveviews::{FileFault, Files, RecastFault, SourceFault, lv};
 use std::alloc::Global;
 use std::io;
 use std::io::{ErrorKind, Read};
 use std::process::Abort;
 use std::test::Fail;
 use stream_writer::{DeviceFault, Sink};
+use values::Cause;
 
 /// The file `in` with these bytes, the same files `interrupted` and `broken` with reads that fail, and the file `out`
 /// once it is made, with what was put to it. Nothing else can be read or made.
@@ -288,6 +289,21 @@ fn reads_that_fail_are_told(rt: HostRuntime) -> Result<(), Fail> {
         1,
         None,
     )?;
+    Ok(())
+}
+
+/// The faults of a source have the texts that `lv` prints, but for the path, which a source has none of.
+#[test]
+fn source_faults_are_told(rt: HostRuntime) -> Result<(), Fail> {
+    let unreadable = format!(in rt.alloc(); "{}", SourceFault::Unreadable)?;
+    assert_eq!(rt; unreadable.as_str(), "cannot read");
+    let fault = RecastFault::from(Cause::Offsets);
+    let refused = format!(in rt.alloc(); "{}", SourceFault::Refused(fault))?;
+    assert_eq!(rt; refused.as_str(), "refused 24 Offsets");
+    let unusable = format!(in rt.alloc(); "{}", FileFault::Unusable)?;
+    assert_eq!(rt; unusable.as_str(), "the file can't be used");
+    let lacking = format!(in rt.alloc(); "{}", FileFault::Memory)?;
+    assert_eq!(rt; lacking.as_str(), "memory ran out");
     Ok(())
 }
 
