@@ -25,6 +25,7 @@ MEGABYTE = 1 << 20
 MOST_VALUES = 1 << 20
 END, HEAVY, WRITTEN = "end", "refused 45 CellTooHeavy", "wrote"
 LARGE = "refused 17 DictionaryTooLarge"
+MANY = "refused 44 TooManyRows"
 
 
 def lists(item, counts):
@@ -34,6 +35,12 @@ def lists(item, counts):
         ends.append(ends[-1] + count)
     nodes = [len(counts), ends[-1]]
     return [schema([list_of("l", item)]), batch(len(counts), nodes, [b"", offsets(*ends), *own_buffers(item)]), END_MARK]
+
+
+def columns_of_lists(count, columns):
+    """One row of so many columns, each a list that claims so many empty structs."""
+    fields = [list_of(f"l{it}", empty_struct("i")) for it in range(columns)]
+    return [schema(fields), batch(1, [1, count] * columns, [b"", offsets(0, count), b""] * columns), END_MARK]
 
 
 def own_buffers(item):
@@ -93,18 +100,20 @@ def dictionary_claims():
 
 
 def claims():
-    """The name, the stream, and the wanted last lines of inspect and, where it is run, of recast."""
+    """The name, the stream, and the wanted last lines of inspect and of recast, which isn't run where its output is long."""
     bare, empty = empty_struct("i"), empty_bytes("i")
-    yield "1 list of as many items as weigh least", lists(bare, [MOST_ITEMS]), END, None
+    yield "1 list of as many items as weigh least", lists(bare, [MOST_ITEMS]), END, WRITTEN
+    yield "10 lists of as many", lists(bare, [MOST_ITEMS] * 10), END, WRITTEN
+    yield "63 columns of such lists", columns_of_lists(MOST_ITEMS, 63), END, WRITTEN
     yield "1 list of one item more", lists(bare, [MOST_ITEMS + 1]), END, HEAVY
     yield "1 list of all items that there can be", lists(bare, [MOST_NODE]), END, HEAVY
     yield "the same of empty bytes", lists(empty, [MOST_NODE]), END, HEAVY
-    yield "2,047 lists of 2^20 items", lists(empty, [MOST_ITEMS] * 2047), END, None
-    yield "1,000 lists of 1,024 structs of 1,000 children", wide_lists(1024, 1000), END, None
-    yield "2^24 rows of empty bytes", rows_of([empty], MOST_ROWS, [b"", b""]), END, None
-    yield "2^24 rows of empty bytes and one more", rows_of([empty], MOST_ROWS, [b"", b""], [1]), END, None
-    yield "2^24 rows of empty structs", rows_of([bare], MOST_ROWS, [b""]), END, None
-    yield "2^24 rows of no columns", rows_of([], MOST_ROWS, []), END, None
+    yield "2,047 lists of 2^20 items", lists(empty, [MOST_ITEMS] * 2047), END, WRITTEN
+    yield "1,000 lists of 1,024 structs of 1,000 children", wide_lists(1024, 1000), END, WRITTEN
+    yield "2^24 rows of empty bytes", rows_of([empty], MOST_ROWS, [b"", b""]), END, WRITTEN
+    yield "2^24 rows of empty bytes and one more", rows_of([empty], MOST_ROWS, [b"", b""], [1]), END, MANY
+    yield "2^24 rows of empty structs", rows_of([bare], MOST_ROWS, [b""]), END, WRITTEN
+    yield "2^24 rows of no columns", rows_of([], MOST_ROWS, []), END, WRITTEN
     many = [empty_bytes(f"c{it}") for it in range(1024)]
     yield "2^24 rows of 1,024 columns of empty bytes", rows_of(many, MOST_ROWS, [b"", b""] * 1024), END, None
     yield from dictionary_claims()

@@ -51,7 +51,17 @@ use Rattle.stream_writer.specs.Stream.{trees}
 use Rattle.stream_writer.specs.BatchRows.{AreLightRows, max_light_row}
 use Rattle.liveviews.specs.Heavy.{IsLight, row_weight}
 use Rattle.liveviews.specs.Taken.{AreFit}
-use Rattle.liveviews.specs.Kept.{AreLightUpTo, HasSizes, IsKept, IsKeptSo, IsLightAs, IsWritable, taken_rows}
+use Rattle.liveviews.specs.Kept.{
+  AreLightUpTo,
+  HasSizes,
+  IsKept,
+  IsKeptSo,
+  IsLightAs,
+  IsLightBatch,
+  IsWritable,
+  WeighsAs,
+  taken_rows,
+}
 use Rattle.liveviews.specs.declared.kept_batches.KeptBatches.{KeptBatches}
 use Rattle.liveviews.proofs.BatchLemmas.{rows_from-length}
 
@@ -132,9 +142,10 @@ count-more bs new b rows next is counted e =
 pub kept-more : (ls : Roses Layout) (old new : KeptBatches) (b : Batch) (most : ℕ)
     → new.batches.items ≡ old.batches.items ++ b ∷ []
     → All (λ (c : CheckedColumn). length c.cells ≡ b.rows) b.columns.items
+    → ls ≡ layouts_in b.columns.items
     → AreLightUpTo ls (cells_in b.columns.items) b.rows most → old.heaviest ≤ new.heaviest → most ≤ new.heaviest
     → IsKept (length b.columns.items) ls old → IsKept (length b.columns.items) ls new
-kept-more ls old new b most is long light grown above kept =
+kept-more ls old new b most is long own light grown above kept =
     let S : Batch → Type 0 = IsSized (length b.columns.items) in
     let W : List Datum → Type 0 = λ row. row_weight ls row ≤ new.heaviest in
     let before : All W (rows_of old.batches.items) =
@@ -149,6 +160,14 @@ kept-more ls old new b most is long light grown above kept =
             columns = refl;
             cells = long;
           }) (All-nil S)));
+      fit = subst (All IsLightBatch) (sym is)
+          (All-append IsLightBatch old.batches.items (b ∷ []) kept.fit
+          (All-cons IsLightBatch b []
+          (λ k below. subst (λ (us : Roses Layout). IsLight us (row_at (cells_in b.columns.items) k)) own (light k
+          below).0) (All-nil IsLightBatch)));
+      alike = subst (All (WeighsAs ls)) (sym is)
+          (All-append (WeighsAs ls) old.batches.items (b ∷ []) kept.alike
+          (All-cons (WeighsAs ls) b [] (λ row. ap (λ us. row_weight us row) (sym own)) (All-nil (WeighsAs ls))));
       light = subst (All W) (sym (one-more old.batches.items new.batches.items b is))
           (All-append W (rows_of old.batches.items) (batch_rows b) before here);
     }
@@ -156,6 +175,8 @@ kept-more ls old new b most is long light grown above kept =
 pub kept-none : (n : ℕ) (ls : Roses Layout) (t : KeptBatches) → t.batches.items ≡ [] → IsKept n ls t
 kept-none n ls t is = record {
   sized = subst (All (IsSized n)) (sym is) (All-nil (IsSized n));
+  fit = subst (All IsLightBatch) (sym is) (All-nil IsLightBatch);
+  alike = subst (All (WeighsAs ls)) (sym is) (All-nil (WeighsAs ls));
   light = subst (λ (bs : List Batch). All (λ (row : List Datum). row_weight ls row ≤ t.heaviest) (rows_of bs)) (sym is)
       (All-nil (λ (row : List Datum). row_weight ls row ≤ t.heaviest));
 }
@@ -178,6 +199,10 @@ writable law weighs fs fields t named kept =
     (λ row h. let e = weighs ls (items_of row) in omega (arith, e, h)) (taken_rows t) kept.light in
     let here : IsWritable (map logical_field fs) t = record {
       sized = subst (λ (n : ℕ). All (IsSized n) t.batches.items) many kept.sized;
+      fit = kept.fit;
+      alike = All-weaker (WeighsAs ls) (WeighsAs (trees (map logical_field fs)))
+          (λ b h row. h row ∙ sym (weighs ls (items_of row)) ∙ ap (λ us. row_weight us row) (sym same))
+          t.batches.items kept.alike;
       light = subst (λ (us : Roses Layout). All (λ (row : List Datum). row_weight us row ≤ t.heaviest) (taken_rows t))
           (sym same) narrow;
     } in
@@ -195,15 +220,3 @@ light-rows ls t light below =
 
 pub all-sizes : (n : ℕ) (bs : List Batch) → All (IsSized n) bs → All HasSizes bs
 all-sizes n bs sized = All-weaker (IsSized n) HasSizes (λ b is. is.cells) bs sized
-
-pub batch-step : (bs : List Batch) (i : ℕ) (b : Batch) (made next total : List (List Datum)) → i < length bs
-    → b ≡ get_or bs i b
-    → next ≡ made ++ batch_rows b → made ++ rows_of (drop i bs) ≡ total → next ++ rows_of (drop (i + 1) bs) ≡ total
-batch-step bs i b made next total h e n is =
-    let split = ap rows_of (drop_more bs i b h) ∙ ap (λ x. batch_rows x ++ rows_of (drop (i + 1) bs)) (sym e) in
-    ap (λ xs. xs ++ rows_of (drop (i + 1) bs)) n ∙ append_assoc made (batch_rows b) (rows_of (drop (i + 1) bs))
-    ∙ ap (λ xs. made ++ xs) (sym split) ∙ is
-
-pub batch-over : (bs : List Batch) (i : ℕ) (made total : List (List Datum)) → length bs ≤ i
-    → made ++ rows_of (drop i bs) ≡ total → made ≡ total
-batch-over bs i made total h is = sym (append-nil made) ∙ ap (λ xs. made ++ rows_of xs) (sym (drop_all i bs h)) ∙ is

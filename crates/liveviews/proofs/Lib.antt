@@ -1,6 +1,5 @@
-pub mod Batches
 pub mod WeightLemmas
-pub mod TakenLemmas
+pub mod RowWeights
 pub mod BatchLemmas
 pub mod Stories
 pub mod Tables

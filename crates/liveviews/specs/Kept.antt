@@ -41,9 +41,19 @@ IsRowBound columns most = (k : ℕ) → All (λ (c : CheckedColumn). k < length 
 abbrev pub HasSizes : Batch → Type 0
 HasSizes b = All (λ (c : CheckedColumn). length c.cells ≡ b.rows) b.columns.items
 
--- each batch has n columns, and no row is heavier than `heaviest`
+-- no row of the batch is too heavy
+abbrev pub IsLightBatch : Batch → Type 0
+IsLightBatch b = (k : ℕ) → k < b.rows → IsLight (layouts_in b.columns.items) (row_at (cells_in b.columns.items) k)
+
+-- a row of the batch's columns weighs as much as one of columns of these layouts
+abbrev pub WeighsAs : Roses Layout → Batch → Type 0
+WeighsAs ls b = (row : List Datum) → row_weight (layouts_in b.columns.items) row ≡ row_weight ls row
+
+-- each batch has n columns, which weigh as these layouts, and no row is too heavy, or heavier than `heaviest`
 pub record IsKept (n : ℕ) (ls : Roses Layout) (t : KeptBatches) : Type 0 where
   pub sized : All (IsSized n) t.batches.items
+  pub fit : All IsLightBatch t.batches.items
+  pub alike : All (WeighsAs ls) t.batches.items
   pub light : All (λ (row : List Datum). row_weight ls row ≤ t.heaviest) (taken_rows t)
 
 abbrev pub IsKeptSo : Option (List (Rose Entry)) → KeptBatches → Type 0

@@ -1,6 +1,5 @@
 -- Rows of a batch that are accepted, and rows that are refused.
-use Rattle.std.specs.Prelude.{ℕ, ◌<◌, ◌≤◌, All, List, length, map, Vec}
-use Rattle.std.specs.declared.alloc.Global.{Global}
+use Rattle.std.specs.Prelude.{ℕ, ◌<◌, ◌≤◌, All, List, length}
 use Rattle.values.specs.Limits.{max_main_rows}
 use Rattle.values.specs.Datum.{Datum, items_of}
 use Rattle.values.specs.Layouts.{HoldsEach}
@@ -10,10 +9,6 @@ use Rattle.values.specs.declared.causes.Cause.{Cause}
 use Rattle.values.specs.declared.causes.Cause.TheVariants as cause
 use Rattle.schema_meta.specs.Rows.{row_at}
 use Rattle.liveviews.specs.Heavy.{IsHeavy, IsLight}
-
--- rows as lists of cells
-abbrev pub cells_of_rows : List (Vec Datum Global) → List (List Datum)
-cells_of_rows rows = map (λ row. row.items) rows
 
 -- Rows that are taken have a cell a column, of the column's layout, and are not too heavy; and they are not too many.
 pub record IsTakenRow (ls : Roses Layout) (row : List Datum) : Type 0 where

@@ -1,34 +1,18 @@
-//! Weighs and copies the rows of a record batch.
+//! Weighs the rows of a record batch.
 
-ghost use Rattle.std.specs.Prelude.{◌≡◌, ◌<◌, ◌++◌, All, IfOk, IfSome, OnOk, None, length};
-ghost use Rattle.values.specs.Datum.{items_of};
-ghost use Rattle.values.specs.Layouts.{HoldsEach};
+ghost use Rattle.std.specs.Prelude.{◌≡◌, ℕ, ◌<◌, ◌++◌, All, IfSome, OnOk, None, length};
 ghost use Rattle.schema_meta.specs.Rows.{row_at, rows_in};
 ghost use Rattle.feed.specs.Columns.{cells_in, layouts_in};
-ghost use Rattle.liveviews.specs.Heavy.{IsHeavy};
-ghost use Rattle.liveviews.specs.Taken.{HasHeavyRow, cells_of_rows};
+ghost use Rattle.stream_writer.specs.WeighedRows.{weights_of};
+ghost use Rattle.liveviews.specs.Heavy.{IsHeavy, IsLight};
+ghost use Rattle.liveviews.specs.Taken.{HasHeavyRow};
 ghost use Rattle.liveviews.specs.Kept.{AreLightUpTo, IsLightAs, IsRowBound};
 ghost use Rattle.row_keys.specs.Batches.{HoldsCells};
 
 use crate::kept_batches::MAX_LIGHT_ROW;
 use arrays::Column;
-use std::alloc::{AllocError, Global};
-use values::Row;
+use std::alloc::AllocError;
 use values::limits::{MAX_CELL_WEIGHT, MAX_ROW_WEIGHT};
-
-/// A copy of row `index` of these columns.
-#[tactic(auto, using(crate::proofs::Batches::cells))]
-pub(crate) fn read_row(alloc: Global, columns: &[Column], index: usize) -> Result<Row, AllocError>
-    requires { All (λ c. index < length c.cells) columns.now }
-    ensures row { IfOk result (λ r. r.items ≡ row_at (cells_in columns.now) index) }
-    ensures held { IfOk result (λ r. HoldsEach (layouts_in columns.now) (items_of r.items)) }
-{
-    let mut row = Vec::with_capacity(alloc, columns.len())?;
-    for column in columns {
-        row.push(column.cell(alloc, index)?)?;
-    }
-    Ok(row)
-}
 
 /// The weight of row `index`, or `None` if one of its cells is above the limit of a cell, or the row is above that of a
 /// row. Nothing is copied.
@@ -87,20 +71,21 @@ pub(crate) fn heaviest_row(columns: &[Column], count: usize) -> Option<u64>
     Some(most)
 }
 
-/// Copies the first `count` rows of the columns.
-#[tactic(auto, using(crate::proofs::TakenLemmas::taking))]
-pub(crate) fn copy_rows(
-    alloc: Global,
+/// Appends the weights of the first `count` rows, none of which is too heavy.
+#[tactic(auto, using(crate::proofs::RowWeights::weights))]
+pub(crate) fn push_weights(
     columns: &[Column],
     count: usize,
-    rows: &mut Vec<Row>,
+    weights: &mut Vec<u64>,
 ) -> Result<(), AllocError>
-    requires { All (λ c. length c.cells ≡ count) columns.now }
-    ensures { OnOk result (cells_of_rows rows.new.items ≡ cells_of_rows rows.old.items
-        ++ rows_in count (cells_in columns.now)) }
+    requires sized { All (λ c. length c.cells ≡ count) columns.now }
+    requires light { (k : ℕ) → k < count → IsLight (layouts_in columns.now) (row_at (cells_in columns.now) k) }
+    ensures { OnOk result (weights.new.items ≡ weights.old.items
+        ++ weights_of (layouts_in columns.now) (rows_in count (cells_in columns.now))) }
 {
     for index in 0..count {
-        rows.push(read_row(alloc, columns, index)?)?;
+        let weight = weigh_row(columns, index).unwrap();
+        weights.push(weight)?;
     }
     Ok(())
 }

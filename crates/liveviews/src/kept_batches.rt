@@ -1,23 +1,26 @@
 //! The batches that were taken of a stream.
 
 ghost use Rattle.std.specs.Prelude.{◌≡◌, ◌++◌, All, IfErr, IfOk, OnOk, [], length};
+ghost use Rattle.values.specs.Rose.{Roses};
+ghost use Rattle.values.specs.declared.layout.Layout.{Layout};
 ghost use Rattle.schema_meta.specs.Rows.{rows_in};
 ghost use Rattle.feed.specs.Columns.{cells_in, layouts_in};
 ghost use Rattle.column_writer.specs.Batches.{rows_of};
 ghost use Rattle.stream_writer.specs.Sinks.{Writes};
 ghost use Rattle.stream_writer.specs.Stream.{canon};
 ghost use Rattle.stream_writer.specs.Table.{IsTable};
-ghost use Rattle.liveviews.specs.Taken.{AreTaken, cells_of_rows};
-ghost use Rattle.liveviews.specs.Kept.{HasSizes, IsCounted, IsKept, IsWritable, taken_rows};
+ghost use Rattle.stream_writer.specs.WeighedRows.{weights_of};
+ghost use Rattle.liveviews.specs.Taken.{AreTaken};
+ghost use Rattle.liveviews.specs.Kept.{HasSizes, IsCounted, IsKept, IsLightBatch, IsWritable, WeighsAs, taken_rows};
 ghost use Rattle.liveviews.specs.Refused.{RefusesBatch};
 
-use crate::batch::{columns_law, copy_rows, heaviest_row};
+use crate::batch::{columns_law, heaviest_row, push_weights};
 use arrays::Column;
 use column_writer::Batch;
 use std::alloc::{AllocError, Global};
-use stream_writer::{Sink, WriteFault, write_batches, write_table};
+use stream_writer::{Sink, WriteFault, write_batches, write_weighed_batches};
 use values::limits::MAX_MAIN_ROWS;
-use values::{Cause, Row, Schema};
+use values::{Cause, Schema};
 
 /// Of rows that weigh no more than this, 1,024 are within the limit on a written batch's weight.
 pub(crate) const MAX_LIGHT_ROW: u64 = 1 << 17;
@@ -30,16 +33,18 @@ pub(crate) struct KeptBatches {
     pub heaviest: u64,
 }
 
-/// Copies of all rows.
-fn rows_in_batches(alloc: Global, batches: &[Batch]) -> Result<Vec<Row>, AllocError>
-    requires { All HasSizes batches.now }
-    ensures { IfOk result (λ rows. cells_of_rows rows.items ≡ rows_of batches.now) }
+/// The weights of all rows, none of which is too heavy.
+fn weights_in(alloc: Global, batches: &[Batch]) -> Result<Vec<u64>, AllocError>
+    requires sized { All HasSizes batches.now }
+    requires light { All IsLightBatch batches.now }
+    ensures { IfOk result (λ weights. (ls : Roses Layout) → All (WeighsAs ls) batches.now
+        → weights.items ≡ weights_of ls (rows_of batches.now)) }
 {
-    let mut rows = Vec::new(alloc);
+    let mut weights = Vec::new(alloc);
     for batch in batches {
-        copy_rows(alloc, &batch.columns, batch.rows, &mut rows)?;
+        push_weights(&batch.columns, batch.rows, &mut weights)?;
     }
-    Ok(rows)
+    Ok(weights)
 }
 
 impl KeptBatches {
@@ -86,8 +91,8 @@ impl KeptBatches {
         Ok(())
     }
 
-    /// Writes the canonical stream of these rows, straight from the columns where no row is so heavy that a batch would
-    /// be cut short by its weight.
+    /// Writes the canonical stream of these rows. They are weighed one by one only where one is so heavy that a batch
+    /// might be cut short by its weight.
     pub fn write<S: Sink>(
         &self,
         alloc: Global,
@@ -103,7 +108,7 @@ impl KeptBatches {
         if self.heaviest <= MAX_LIGHT_ROW {
             return write_batches(alloc, sink, schema, &self.batches, self.rows);
         }
-        let rows = rows_in_batches(alloc, &self.batches)?;
-        write_table(alloc, sink, schema, &rows)
+        let weights = weights_in(alloc, &self.batches)?;
+        write_weighed_batches(alloc, sink, schema, &self.batches, &weights)
     }
 }

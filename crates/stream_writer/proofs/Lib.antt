@@ -14,3 +14,4 @@ pub mod RowsRead
 pub mod StreamRead
 mod Sample
 pub mod BatchRowLemmas
+pub mod WeighedRowLemmas

@@ -10,3 +10,4 @@ pub mod FramingLaw
 pub mod RowsLaw
 pub mod RoundTrip
 pub mod BatchRows
+pub mod WeighedRows

@@ -21,13 +21,13 @@ pub(crate) struct BatchRows<'a> {
 
 /// A row of some batches: row `from` of them, counted through all.
 #[derive(Clone, Copy)]
-struct Position<'a> {
-    batches: &'a [Batch],
-    from: usize,
+pub(crate) struct Position<'a> {
+    pub batches: &'a [Batch],
+    pub from: usize,
 }
 
 /// The place of row `from`, counted through all batches, within the one in which it lies.
-fn position_at<'a>(batches: &'a [Batch], from: usize) -> Position<'a>
+pub(crate) fn position_at<'a>(batches: &'a [Batch], from: usize) -> Position<'a>
     ensures rows { drop result.from (rows_of result.batches.now) ≡ drop from (rows_of batches.now) }
     ensures sized { (n : ℕ) → All (IsSized n) batches.now → All (IsSized n) result.batches.now }
     ensures bound { result.from ≤ from }
@@ -50,7 +50,7 @@ fn position_at<'a>(batches: &'a [Batch], from: usize) -> Position<'a>
 }
 
 /// Where `count` rows lie, from row `from` on, batch by batch.
-fn ranges_of<'a>(
+pub(crate) fn ranges_of<'a>(
     alloc: Global,
     batches: &'a [Batch],
     from: usize,

@@ -13,13 +13,14 @@ mod messages;
 mod rows;
 mod sink;
 mod table;
+mod weighed_rows;
 
 pub use faults::WriteFault;
 pub use laws::{batch_law, canon_law, cut_law, framing_law, rows_law};
 pub use layouts::layouts_of;
 pub use memory::MemorySink;
 pub use sink::{DeviceFault, Sink, put_all};
-pub use table::{write_batches, write_table};
+pub use table::{write_batches, write_table, write_weighed_batches};
 
 #[cfg(test)]
 mod tests;

@@ -9,6 +9,7 @@ ghost use Rattle.stream_writer.specs.Stream.{schema_message, batch_message, batc
 ghost use Rattle.column_writer.specs.Batches.{IsSized, rows_of};
 ghost use Rattle.stream_writer.specs.BatchRows.{AreLightRows};
 ghost use Rattle.stream_writer.specs.Table.{IsTable};
+ghost use Rattle.stream_writer.specs.WeighedRows.{weights_of};
 ghost use Rattle.stream_writer.specs.WrittenSoFar.{WrittenSoFar};
 
 use crate::batch_rows::BatchRows;
@@ -17,6 +18,7 @@ use crate::layouts::layouts_of;
 use crate::messages;
 use crate::rows::{RowSource, ValueRows};
 use crate::sink::{Sink, put_all};
+use crate::weighed_rows::WeighedRows;
 use column_writer::Batch;
 use std::alloc::Global;
 use values::{LayoutTree, Row, Schema};
@@ -63,6 +65,31 @@ pub fn write_batches<S: Sink>(
         batches,
         from: 0,
         left: rows,
+    };
+    write_messages(alloc, sink, schema, &layouts, left)
+}
+
+/// Writes the canonical stream of a table whose rows lie in batches of checked columns and have these weights, and
+/// returns its length in bytes.
+///
+/// On an error the sink took a beginning of that stream: `written` bytes.
+pub fn write_weighed_batches<S: Sink>(
+    alloc: Global,
+    sink: &mut S,
+    schema: &Schema,
+    batches: &[Batch],
+    weights: &[u64],
+) -> Result<u64, WriteFault>
+    requires table { IsTable schema.now.fields.items (rows_of batches.now) }
+    requires sized { All (IsSized (length schema.now.fields.items)) batches.now }
+    requires weighed { weights.now ≡ weights_of (trees schema.now.fields.items) (rows_of batches.now) }
+    ensures { Writes (S.sunk sink.old) (S.sunk sink.new) result (canon schema.now.fields.items (rows_of batches.now)) }
+{
+    let layouts = layouts_of(alloc, schema)?;
+    let left = WeighedRows {
+        batches,
+        from: 0,
+        weights,
     };
     write_messages(alloc, sink, schema, &layouts, left)
 }

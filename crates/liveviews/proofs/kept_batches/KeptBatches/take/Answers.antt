@@ -60,5 +60,5 @@ returns-clause-kept c = λ kept.
     c.in-Some.heaviest in
     let light = subst P c.deref-2.ensures.value c.in-Some.ensures.light in
     kept-more (layouts_in columns) c.args.self.now next batch c.in-Some.heaviest c.in_ok-push.ensures.items
-    c.requires.cells light
+    c.requires.cells refl light
     (omega (arith, c.max-self.ensures)) (omega (arith, c.max-self.ensures)) kept
