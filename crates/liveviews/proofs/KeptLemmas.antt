@@ -20,7 +20,6 @@ use Rattle.std.proofs.Common.{
   subst,
   ◌∙◌,
   arith,
-  append_assoc,
   append-nil,
   All,
   inl,

@@ -1,4 +1,4 @@
-use Rattle.std.proofs.Common.{◌∙◌, ◌≡◌, length, drop, arith, ap, length-drop}
+use Rattle.std.proofs.Common.{◌∙◌, length, drop, arith, ap, length-drop}
 use Rattle.std.proofs.lemmas.List.{length-map}
 use Rattle.values.specs.Rose.{kids_of}
 use Rattle.body_writer.specs.Batch.{row_weight}
