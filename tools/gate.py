@@ -6,8 +6,8 @@ In a copy of the tree, which holds nothing of an earlier run, and in lanes besid
 2. Over that proof the crate is checked for contracts that no call can meet and for what HANDLES doesn't allow, its layout is compared
    with rt fmt's, its tests are proved and run, its must-fail edits are tried (tools/edits.py; with --due a part of them), and the
    program is built by both compilers.
-3. `rt all check` looks for files that no crate reads, and finds every crate proved as the tree has it.
-4. The program as each compiler made it is run: as crates/lv says, over the examples, with refused memory, with outputs that take nothing.
+3. The program as each compiler made it is run: as crates/lv says, over the examples, with refused memory, with outputs that take nothing.
+4. `rt all check` looks for files that no crate reads, and finds every crate proved as the tree has it.
 
 What a task waits for is all that orders them, so a crate's tests and edits are tried while those above it are proved.
 
@@ -129,7 +129,7 @@ class Gate:
 
     def whole(self):
         """Finds every crate proved as the tree has it, and every file read by one."""
-        ran = run(["rt", "all", "check", "--jobs", "1"], self.tree)
+        ran = run(["rt", "all", "check", "--jobs", str(self.jobs)], self.tree)
         proved = [it for it in self.crates if re.search(rf"^{it}: ok$", ran.text, re.M)]
         is_well = ran.status == 0 and proved == [*self.crates] and "rt verdict refuses this" not in ran.text
         return self.note("whole", "tree", ran, is_well)
@@ -195,7 +195,6 @@ class Gate:
             yield Task(frozenset(under[it] - {it}), in_lane(self.prove, it), makes=it)
         for it in BACKENDS if PROGRAM in crates else ():
             yield Task(frozenset([PROGRAM]), in_lane(self.build, it), makes=it)
-        yield Task(frozenset(crates), self.whole)
         for it in BACKENDS if PROGRAM in crates else ():
             yield Task(frozenset([it]), partial(self.run_stored, it))
             for script in RUNS:
@@ -213,6 +212,9 @@ class Gate:
         trial = edits.Trial(self.tree, self.every_lane)
         schedule = Schedule(self.tasks(tried, trial))
         schedule.run(self.jobs)
+        # It works in the tree, whose kept work the lanes take.
+        if schedule.made >= {*self.crates}:
+            self.whole()
         print(*bad, sep="\n", end="\n" * bool(bad))
         self.minutes["edits"] = trial.seconds / 60
         self.passed += trial.passed
