@@ -18,7 +18,7 @@ In the lines after `| ` of a script, {NAME} stands for the length of the file th
 A STREAM is hexadecimal digits, where A..B stands for the numbers from A to B, of 64 bits with the lowest byte first, and XX*N for N times
 the same byte; or it is `sample`
 (tests/sample.arrows) and how it differs: ..N its first N bytes, ..A-B each such beginning, P=XX another byte at place P, -A..B without
-these bytes, +XX with these after it; or it is `table` and the words of a table (tools/tables.py), as `id:int64 n:utf8 / 1 p / 2 null`.
+these bytes, +XX with these after it, +A..B with its own bytes from A to B after it; or it is `table` and the words of a table (tools/tables.py), as `id:int64 n:utf8 / 1 p / 2 null`.
 """
 import os
 import re
@@ -45,6 +45,8 @@ def changed(sample, word):
         return [sample[: int(part[1])] + sample[int(part[2]) :]]
     if more := re.fullmatch(r"\+([0-9A-F]+)", word):
         return [sample + bytes.fromhex(more[1])]
+    if more := re.fullmatch(r"\+(\d+)\.\.(\d+)", word):
+        return [sample + sample[int(more[1]) : int(more[2])]]
     sys.exit(f"rows: no such change of the sample: {word}")
 
 

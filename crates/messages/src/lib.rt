@@ -14,8 +14,6 @@ mod columns;
 mod counts;
 mod declared;
 mod dictionary;
-#[cfg(test)]
-mod dictionary_tests;
 mod fields;
 mod framing;
 mod gather;
