@@ -12,8 +12,8 @@ import time
 
 sys.dont_write_bytecode = True
 from claims import (
-    END_MARK, FIXED, LIST, STRUCT, batch, dictionary_batch, empty_bytes, empty_struct, field, fixed_bytes, list_of,
-    offsets, schema,
+    END_MARK, FIXED, INT, LIST, STRUCT, batch, dictionary_batch, empty_bytes, empty_struct, field, fixed_bytes, integer,
+    list_of, offsets, schema,
 )
 
 LV = "crates/lv/out/lv"
@@ -26,6 +26,7 @@ MOST_VALUES = 1 << 20
 END, HEAVY, WRITTEN = "end", "refused 45 CellTooHeavy", "wrote"
 LARGE = "refused 17 DictionaryTooLarge"
 MANY = "refused 44 TooManyRows"
+FIELDS = "refused 13 TooManyFields"
 
 
 def lists(item, counts):
@@ -95,8 +96,29 @@ def dictionary_claims():
     yield "1,000 deltas of 1,048 empty values", coded(empty, deltas, 1048 * 1000), END, WRITTEN
     turns = [empty_values(0, 1047, 1), one_null(0)] * 1000
     yield "1,000 deltas of 1,047 empty values, and a null behind each", coded(empty, turns, 1048 * 1000), END, WRITTEN
+    grown = [empty_values(0, most), empty_values(0, 3), empty_values(0, most - 3, 1)]
+    yield "a dictionary replaced and grown to 2^20 values", coded(empty, grown, most), END, WRITTEN
+    grown[-1] = empty_values(0, most - 2, 1)
+    yield "the same, grown by one value more", coded(empty, grown, most + 1), LARGE, LARGE
     singles = [dictionary_batch(0, 1, [b"", b"x"], 1)] * 1000
     yield "1,000 deltas of one byte", coded([fixed_bytes("d", 1, 0)], singles, 1000), END, WRITTEN
+
+
+def nested(depth, children):
+    """One column of so many levels, of structs of so many children, which are one table, and an integer at the bottom."""
+    made = field("i", INT, integer(64))
+    for _ in range(depth - 1):
+        made = field("s", STRUCT, children=[made] * children)
+    return [schema([made]), END_MARK]
+
+
+def nested_claims():
+    """Fields at the limits of their depth and their number, to which few bytes may come: two children that are one table are two fields."""
+    yield "a column of 16 levels", nested(16, 1), END, WRITTEN
+    yield "a column of 17 levels", nested(17, 1), FIELDS, FIELDS
+    yield "1,023 fields in 10 tables", nested(10, 2), END, WRITTEN
+    yield "2,047 fields in 11 tables", nested(11, 2), FIELDS, FIELDS
+    yield "65,535 fields in 16 tables", nested(16, 2), FIELDS, FIELDS
 
 
 def claims():
@@ -116,6 +138,7 @@ def claims():
     yield "2^24 rows of no columns", rows_of([], MOST_ROWS, []), END, WRITTEN
     many = [empty_bytes(f"c{it}") for it in range(1024)]
     yield "2^24 rows of 1,024 columns of empty bytes", rows_of(many, MOST_ROWS, [b"", b""] * 1024), END, None
+    yield from nested_claims()
     yield from dictionary_claims()
 
 

@@ -16,9 +16,10 @@ A paragraph `file NAME`, with an `in` or with lines after `> `, is a file that t
 In the lines after `| ` of a script, {NAME} stands for the length of the file that it makes.
 
 A STREAM is hexadecimal digits, where A..B stands for the numbers from A to B, of 64 bits with the lowest byte first, and XX*N for N times
-the same byte; or it is `sample`
-(tests/sample.arrows) and how it differs: ..N its first N bytes, ..A-B each such beginning, P=XX another byte at place P, -A..B without
-these bytes, +XX with these after it, +A..B with its own bytes from A to B after it; or it is `table` and the words of a table (tools/tables.py), as `id:int64 n:utf8 / 1 p / 2 null`.
+the same byte; or it is `sample` (tests/sample.arrows) or `coded` (tests/coded.arrows, a column of bools with a dictionary that a delta
+grows) and how it differs: ..N its first N bytes, ..A-B each such beginning, P=XX another byte at place P, -A..B without these bytes, +XX
+with these after it, +A..B with those from A to B after it; or it is `table` and the words of a table (tools/tables.py), as
+`id:int64 n:utf8 / 1 p / 2 null`.
 """
 import os
 import re
@@ -31,36 +32,40 @@ import tables
 
 ROOT = os.path.dirname(os.path.dirname(os.path.abspath(__file__)))
 WORDS = ("in", "out", "refused", "inspect", "check", "run", "made")
+STORED = ("sample", "coded")
 
 
-def changed(sample, word):
-    """The sample as one word changes it: most words mean one stream, ..A-B means several."""
+def changed(stream, word):
+    """A stored stream as one word changes it: most words mean one stream, ..A-B means several."""
     if ends := re.fullmatch(r"\.\.(\d+)-(\d+)", word):
-        return [sample[:it] for it in range(int(ends[1]), int(ends[2]) + 1)]
+        return [stream[:it] for it in range(int(ends[1]), int(ends[2]) + 1)]
     if end := re.fullmatch(r"\.\.(\d+)", word):
-        return [sample[: int(end[1])]]
+        return [stream[: int(end[1])]]
     if byte := re.fullmatch(r"(\d+)=([0-9A-F]{2})", word):
-        return [sample[: int(byte[1])] + bytes.fromhex(byte[2]) + sample[int(byte[1]) + 1 :]]
+        return [stream[: int(byte[1])] + bytes.fromhex(byte[2]) + stream[int(byte[1]) + 1 :]]
     if part := re.fullmatch(r"-(\d+)\.\.(\d+)", word):
-        return [sample[: int(part[1])] + sample[int(part[2]) :]]
+        return [stream[: int(part[1])] + stream[int(part[2]) :]]
     if more := re.fullmatch(r"\+([0-9A-F]+)", word):
-        return [sample + bytes.fromhex(more[1])]
+        return [stream + bytes.fromhex(more[1])]
     if more := re.fullmatch(r"\+(\d+)\.\.(\d+)", word):
-        return [sample + sample[int(more[1]) : int(more[2])]]
-    sys.exit(f"rows: no such change of the sample: {word}")
+        return [stream + stream[int(more[1]) : int(more[2])]]
+    sys.exit(f"rows: no such change of a stored stream: {word}")
 
 
-def streams(words, sample):
+def streams(words):
     """The streams that some words mean."""
-    if words[:1] == ["table"]:
-        return [tables.read(words[1:])]
-    if words[:1] != ["sample"]:
+    first, rest = words[:1], words[1:]
+    if first == ["table"]:
+        return [tables.read(rest)]
+    if not {*first} & {*STORED}:
         return [b"".join(map(bytes_of, words))]
-    if any(re.fullmatch(r"\.\.\d+(-\d+)?", it) for it in words):
-        return [made for it in words[1:] for made in changed(sample, it)]
-    for word in words[1:]:
-        (sample,) = changed(sample, word)
-    return [sample]
+    with open(f"{ROOT}/tests/{first[0]}.arrows", "rb") as file:
+        stream = file.read()
+    if any(re.fullmatch(r"\.\.\d+(-\d+)?", it) for it in rest):
+        return [made for it in rest for made in changed(stream, it)]
+    for word in rest:
+        (stream,) = changed(stream, word)
+    return [stream]
 
 
 def bytes_of(word):
@@ -103,7 +108,7 @@ def differs(got, status, lines):
     return None if got == (int(status), "".join(lines)) else f"it ended with {got[0]} and printed:\n{got[1]}"
 
 
-def fault_of_stream(lv, row, stream, sample, room):
+def fault_of_stream(lv, row, stream, room):
     """What the program does otherwise than a row says of a stream; None where it does as it says."""
     source, made = f"{room}/in", f"{room}/out"
     open(source, "wb").write(stream)
@@ -114,13 +119,13 @@ def fault_of_stream(lv, row, stream, sample, room):
         lines = [f"refused {it}\n" for it in " ".join(row["refused"]).split(" or ")]
         is_so = got[0] == 1 and got[1] in lines and not os.path.exists(made)
         return None if is_so else f"recast ended with {got[0]} and printed {got[1]!r}"
-    (want,) = [stream] if row["out"] == ["same"] else streams(row["out"], sample)
+    (want,) = [stream] if row["out"] == ["same"] else streams(row["out"])
     if got != (0, f"wrote {len(want)}\n"):
         return f"recast ended with {got[0]} and printed {got[1]!r}"
     return None if open(made, "rb").read() == want else "recast wrote another stream"
 
 
-def fault_of_script(lv, row, sample, room):
+def fault_of_script(lv, row, room):
     """The same of a configuration, and of a script over it."""
     if "check" in row:
         config, status = row["check"]
@@ -129,7 +134,7 @@ def fault_of_script(lv, row, sample, room):
     open(f"{room}/script", "w", encoding="utf-8").write("".join(row[">"]))
     before = set(os.listdir(room))
     got = run(lv, ["run", config, "script"], room)
-    made = {name: streams(words, sample)[0] for name, *words in row["made"]}
+    made = {name: streams(words)[0] for name, *words in row["made"]}
     others = set(os.listdir(room)) - before ^ set(made)
     if others:
         return f"it made, or didn't make, {' '.join(sorted(others))}; it printed:\n{got[1]}"
@@ -138,19 +143,19 @@ def fault_of_script(lv, row, sample, room):
     return f"it wrote another stream to {' '.join(wrong)}" if wrong else differs(got, status, lines)
 
 
-def faults_of(lv, path, sample):
+def faults_of(lv, path):
     """How many rows a file has, and a line for each that doesn't hold."""
     count, faults, files = 0, [], {}
     for row in rows_of(path):
         if "file" in row:
-            files[row["file"]] = streams(row["in"], sample)[0] if "in" in row else "".join(row[">"]).encode()
+            files[row["file"]] = streams(row["in"])[0] if "in" in row else "".join(row[">"]).encode()
             continue
-        for stream in streams(row["in"], sample) if "in" in row else [None]:
+        for stream in streams(row["in"]) if "in" in row else [None]:
             with tempfile.TemporaryDirectory(prefix="lv-row-") as room:
                 for name, held in files.items():
                     open(f"{room}/{name}", "wb").write(held)
                 whole = stream is None
-                fault = fault_of_script(lv, row, sample, room) if whole else fault_of_stream(lv, row, stream, sample, room)
+                fault = fault_of_script(lv, row, room) if whole else fault_of_stream(lv, row, stream, room)
             count += 1
             if fault:
                 faults.append(f"rows: FAILED, {os.path.basename(path)}, {row['row']}: {fault}")
@@ -159,10 +164,9 @@ def faults_of(lv, path, sample):
 
 def main():
     lv = os.path.abspath(sys.argv[1] if len(sys.argv) > 1 else f"{ROOT}/crates/lv/out/lv")
-    sample = open(f"{ROOT}/tests/sample.arrows", "rb").read()
     count, faults = 0, []
     for name in sorted(it for it in os.listdir(f"{ROOT}/tests") if it.endswith(".txt")):
-        more, wrong = faults_of(lv, f"{ROOT}/tests/{name}", sample)
+        more, wrong = faults_of(lv, f"{ROOT}/tests/{name}")
         count, faults = count + more, faults + wrong
     print(*faults, sep="\n", end="\n" * bool(faults))
     print(f"rows: {count - len(faults)} of {count} hold")
