@@ -119,6 +119,7 @@ def nested_claims():
     yield "1,023 fields in 10 tables", nested(10, 2), END, WRITTEN
     yield "2,047 fields in 11 tables", nested(11, 2), FIELDS, FIELDS
     yield "65,535 fields in 16 tables", nested(16, 2), FIELDS, FIELDS
+    yield "1,025 columns", [schema([empty_bytes(f"c{it}") for it in range(1025)]), END_MARK], FIELDS, FIELDS
 
 
 def claims():

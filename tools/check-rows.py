@@ -10,7 +10,8 @@ A row is a paragraph:
 or, without an input:
     check CONFIG STATUS     check ends with this status, and prints the lines after `| `
     run CONFIG STATUS       run does the same with the script whose lines follow, each after `> `
-    made NAME STREAM        the script makes this file, and no others but those that are named
+    call STATUS WORD..      it ends with this status when called with these words, and prints the lines after `| `
+    made NAME STREAM        the script or the call makes this file, and no others but those that are named
 A paragraph `file NAME`, with an `in` or with lines after `> `, is a file that the rows behind it find.
 
 In the lines after `| ` of a script, {NAME} stands for the length of the file that it makes.
@@ -31,7 +32,7 @@ sys.dont_write_bytecode = True
 import tables
 
 ROOT = os.path.dirname(os.path.dirname(os.path.abspath(__file__)))
-WORDS = ("in", "out", "refused", "inspect", "check", "run", "made")
+WORDS = ("in", "out", "refused", "inspect", "check", "run", "call", "made")
 STORED = ("sample", "coded")
 
 
@@ -125,15 +126,19 @@ def fault_of_stream(lv, row, stream, room):
     return None if open(made, "rb").read() == want else "recast wrote another stream"
 
 
-def fault_of_script(lv, row, room):
-    """The same of a configuration, and of a script over it."""
+def fault_of_call(lv, row, room):
+    """What the program does otherwise than a row says of a configuration, of a script over one, or of other words."""
     if "check" in row:
         config, status = row["check"]
-        return differs(run(lv, ["check", config], room), status, row["|"])
-    config, status = row["run"]
-    open(f"{room}/script", "w", encoding="utf-8").write("".join(row[">"]))
+        words = ["check", config]
+    elif "call" in row:
+        status, *words = row["call"]
+    else:
+        config, status = row["run"]
+        words = ["run", config, "script"]
+        open(f"{room}/script", "w", encoding="utf-8").write("".join(row[">"]))
     before = set(os.listdir(room))
-    got = run(lv, ["run", config, "script"], room)
+    got = run(lv, words, room)
     made = {name: streams(words)[0] for name, *words in row["made"]}
     others = set(os.listdir(room)) - before ^ set(made)
     if others:
@@ -154,8 +159,7 @@ def faults_of(lv, path):
             with tempfile.TemporaryDirectory(prefix="lv-row-") as room:
                 for name, held in files.items():
                     open(f"{room}/{name}", "wb").write(held)
-                whole = stream is None
-                fault = fault_of_script(lv, row, room) if whole else fault_of_stream(lv, row, stream, room)
+                fault = fault_of_call(lv, row, room) if stream is None else fault_of_stream(lv, row, stream, room)
             count += 1
             if fault:
                 faults.append(f"rows: FAILED, {os.path.basename(path)}, {row['row']}: {fault}")

@@ -24,7 +24,7 @@ fn texts(alloc: Global, name: &str, offsets: OffsetWidth) -> Result<LogicalField
 }
 
 /// The column `t` of texts and the column `l` of lists of texts, whatever is said of how they are stored.
-fn schema(alloc: Global, offsets: OffsetWidth, items: &str) -> Result<Schema, AllocError>
+pub fn schema(alloc: Global, offsets: OffsetWidth, items: &str) -> Result<Schema, AllocError>
     ensures { IfOk result (λ s. s.fields.items ≡ text_fields) }
 {
     let mut children = Vec::new(alloc);

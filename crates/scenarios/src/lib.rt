@@ -1,21 +1,16 @@
 //! Tests that cross crates and call them as their users do. What `lv recast` and `lv inspect` do with given bytes
 //! stands in `tests/*.txt` at the repository's root, and is run by `tools/check-rows.py`.
 //!
-//! `sample` is a stored stream, and `table` the table that it means, built cell by cell. `streams` builds other streams
-//! by hand, `typed` those of columns of any type, `coded` those with dictionaries. `checks` asserts what one call
-//! answers. The tests are `r2_rows` (copies of values of every kind), `r3_feeds` (a stream that comes in pieces),
-//! `declared` (one whose columns were declared), `limits` (streams at a limit), `sinks` (a sink that fails) and
-//! `printed` (what `lv` prints and which files it makes). Nothing here is for other crates.
+//! `sample` is a stored stream, and `table` the table that it means, built cell by cell. `checks` calls a feed that isn't
+//! broken. The tests are `r2_rows` (copies of values of every kind), `r3_feeds` (a stream that comes in pieces),
+//! `declared` (one whose columns were declared), `whole` (one that is at hand whole), `sinks` (a sink that fails) and
+//! `printed` (files whose reads fail, and how faults are told). Nothing here is for other crates.
 #![tactic(auto)]
 
 #[cfg(test)]
 mod checks;
 #[cfg(test)]
-mod coded;
-#[cfg(test)]
 mod declared;
-#[cfg(test)]
-mod limits;
 #[cfg(test)]
 mod printed;
 #[cfg(test)]
@@ -27,8 +22,6 @@ mod sample;
 #[cfg(test)]
 mod sinks;
 #[cfg(test)]
-mod streams;
-#[cfg(test)]
 mod table;
 #[cfg(test)]
-mod typed;
+mod whole;

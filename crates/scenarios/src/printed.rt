@@ -182,80 +182,6 @@ fn run(
 }
 
 #[test]
-fn recast_prints_one_line(rt: HostRuntime) -> Result<(), Fail> {
-    run(
-        &rt,
-        &SAMPLE,
-        &["recast", "in", "out"],
-        "wrote 504\n",
-        0,
-        Some(504),
-    )?;
-    run(
-        &rt,
-        &SAMPLE[..231],
-        &["recast", "in", "out"],
-        "refused 30 Truncated\n",
-        1,
-        None,
-    )?;
-    run(
-        &rt,
-        &[],
-        &["recast", "in", "out"],
-        "refused 8 NoSchema\n",
-        1,
-        None,
-    )?;
-    run(
-        &rt,
-        &SAMPLE,
-        &["recast", "gone", "out"],
-        "cannot read gone\n",
-        1,
-        None,
-    )?;
-    run(
-        &rt,
-        &SAMPLE,
-        &["recast", "in", "gone"],
-        "cannot write gone\n",
-        1,
-        None,
-    )?;
-    Ok(())
-}
-
-#[test]
-fn inspect_prints_its_lines(rt: HostRuntime) -> Result<(), Fail> {
-    run(
-        &rt,
-        &SAMPLE,
-        &["inspect", "in"],
-        "schema fields=2\nfield k int64\nfield v int64\nbatch rows=3 body=56\nend\n",
-        0,
-        None,
-    )?;
-    run(
-        &rt,
-        &SAMPLE[..300],
-        &["inspect", "in"],
-        "schema fields=2\nfield k int64\nfield v int64\nrefused 30 Truncated\n",
-        1,
-        None,
-    )?;
-    run(
-        &rt,
-        &SAMPLE,
-        &["inspect", "gone"],
-        "cannot read gone\n",
-        1,
-        None,
-    )?;
-    Ok(())
-}
-
-#[test]
 fn reads_that_fail_are_told(rt: HostRuntime) -> Result<(), Fail> {
     run(
         &rt,
@@ -304,33 +230,5 @@ fn source_faults_are_told(rt: HostRuntime) -> Result<(), Fail> {
     assert_eq!(rt; unusable.as_str(), "the file can't be used");
     let lacking = format!(in rt.alloc(); "{}", FileFault::Memory)?;
     assert_eq!(rt; lacking.as_str(), "memory ran out");
-    Ok(())
-}
-
-#[test]
-fn other_words_are_wrong_use(rt: HostRuntime) -> Result<(), Fail> {
-    run(&rt, &SAMPLE, &[], "wrong use\n", 2, None)?;
-    run(&rt, &SAMPLE, &["recast"], "wrong use\n", 2, None)?;
-    run(&rt, &SAMPLE, &["recast", "in"], "wrong use\n", 2, None)?;
-    run(
-        &rt,
-        &SAMPLE,
-        &["recast", "in", "out", "more"],
-        "wrong use\n",
-        2,
-        None,
-    )?;
-    run(&rt, &SAMPLE, &["inspect"], "wrong use\n", 2, None)?;
-    run(
-        &rt,
-        &SAMPLE,
-        &["inspect", "in", "out"],
-        "wrong use\n",
-        2,
-        None,
-    )?;
-    run(&rt, &SAMPLE, &["view", "in", "out"], "wrong use\n", 2, None)?;
-    run(&rt, &SAMPLE, &["--help"], "wrong use\n", 2, None)?;
-    run(&rt, &SAMPLE, &["--version"], "wrong use\n", 2, None)?;
     Ok(())
 }

@@ -2,12 +2,11 @@
 
 use crate::checks::{finish, push};
 use crate::sample::SAMPLE;
-use crate::streams::{UTF8_SCHEMA, put};
-use crate::table;
+use crate::{declared, table};
 use feed::{Fed, Feed, FeedEvent};
 use std::process::Abort;
 use std::test::Fail;
-use values::StreamFault;
+use values::{OffsetWidth, StreamFault};
 
 /// What is compared of an event.
 #[derive(Clone, Copy, Debug, PartialEq, Eq)]
@@ -222,12 +221,10 @@ fn r3_declared(rt: HostRuntime) -> Result<(), Fail> {
 
 #[test]
 fn r3_mismatch(rt: HostRuntime) -> Result<(), Fail> {
-    let mut texts = Vec::new(rt.alloc());
-    put(&mut texts, &UTF8_SCHEMA)?;
-    let columns = table::schema(rt.alloc())?;
+    let columns = declared::schema(rt.alloc(), OffsetWidth::Bits32, "item")?;
     let mut other = Feed::open(rt.alloc(), Some(columns));
     assert_eq!(rt;
-        tells(&rt, &mut other, &texts),
+        tells(&rt, &mut other, &SAMPLE),
         Err(StreamFault::SchemaMismatch)
     );
     assert!(rt; other.is_broken());
