@@ -8,21 +8,13 @@ import subprocess
 import sys
 import tempfile
 
+sys.dont_write_bytecode = True
+from configurations import entry
+
 ROOT = os.path.dirname(os.path.dirname(os.path.abspath(__file__)))
 COLUMNS = [["k", "int64"], ["t", "utf8"]]
 CAUSES = ("refused 68 OverLimit", "refused 64 TypeText", "refused 65 ConstantType", "refused 66 SumType", "refused 69 Shape")
 OVER_LIMIT, TYPE_TEXT, CONSTANT_TYPE, SUM_TYPE, SHAPE = CAUSES
-
-
-def value(it):
-    """A TOML value of lists, texts and numbers."""
-    if isinstance(it, list):
-        return f"[{', '.join(map(value, it))}]"
-    return f'"{it}"' if isinstance(it, str) else str(it)
-
-
-def entry(name, **members):
-    return "\n".join([f"[{name}]", *(f"{key} = {value(it)}" for key, it in members.items())]) + "\n"
 
 
 def main(*columns, key="k"):

@@ -1,0 +1,265 @@
+#!/usr/bin/env python3
+"""Runs random scripts over random configurations, and compares each line that is printed and each file that is made with what
+tools/model.py says of docs/VIEWS.md and tools/tables.py of docs/FORMAT.md.
+
+  tools/check-sessions.py [PROGRAM] [--first N] [--count N]      N is the number of a session, which is the same on each run
+"""
+import argparse
+import os
+import random
+import subprocess
+import sys
+import tempfile
+
+sys.dont_write_bytecode = True
+import tables
+from configurations import text_of
+from model import COMPARISONS, UNDOS, Tables, column_of
+
+ROOT = os.path.dirname(os.path.dirname(os.path.abspath(__file__)))
+DECIMAL = ["decimal", 9, 2]
+TYPES = ("int64", "int8", "uint64", "utf8", "bool", DECIMAL)
+NUMBERS = ("int64", "int8", "uint64")
+TEXTS = ("", "a", "ab", "b", "B", "é", "zz")
+EXTREMES = {"int64": (-(2**63), 2**63 - 1), "int8": (-128, 127), "uint64": (0, 2**64 - 1)}
+
+
+class Session:
+    """A configuration and a script over it in the making, with the tables as they are after each line."""
+
+    def __init__(self, number):
+        self.random = random.Random(number)
+        self.config = Configuration(self.random).made()
+        self.tables, self.feeds = Tables(self.config), {name: Feed(**it) for name, it in self.config["feed"].items()}
+        self.lines, self.printed, self.made = [], [], {}
+        # Some sessions have more edits than can be undone, which they undo at last, and others more rows than a written batch.
+        self.steps, self.undos = (300, UNDOS + 1) if number % 25 == 0 else (40, 0)
+        self.most_rows = 1500 if number % 25 == 1 else 4
+
+    def say(self, line, *answers):
+        self.lines.append(line)
+        self.printed += [f"{len(self.lines)}: {it}" for it in answers]
+
+    def make(self):
+        for _ in range(self.steps):
+            self.random.choices((self.push, self.undo, self.write), (6, 1, 1))[0]()
+        for _ in range(self.undos):
+            self.undo()
+        for name in self.config["view"]:
+            self.write(name)
+        for name in self.feeds:
+            self.end(name)
+
+    def rows_of(self, columns, feed):
+        """The rows of a feed's next batch: of whole rows, or of keys, most of which are there."""
+        count = self.random.randrange(self.most_rows + 1)
+        if feed.role in ("append", "put"):
+            return [[value_of(self.random, type_, name == "k", self.most_rows) for name, type_ in columns] for _ in range(count)]
+        at = self.tables.key_of(feed.side)
+        live = [row[at] for row in self.tables.rows[feed.side]]
+        keys = self.random.sample(live, min(count, len(live)))
+        return [[it] for it in keys] if self.random.random() < 0.9 else [[it] for it in keys + keys[:1] + [None]]
+
+    def push(self):
+        """Pushes a piece of a feed, which may begin and end within a message."""
+        name = self.random.choice([*self.feeds])
+        feed = self.feeds[name]
+        columns = self.tables.declared(feed.side)["columns"]
+        if feed.role in ("retract", "drop"):
+            columns = [columns[self.tables.key_of(feed.side)]]
+        for _ in range(self.random.choice((0, 1, 1, 1, 2))):
+            feed.add(columns, self.rows_of(columns, feed) if feed.bytes else None)
+        first, end = feed.pushed, len(feed.bytes)
+        feed.pushed = end if self.random.random() < 0.7 else self.random.randint(first, end)
+        done = [rows for at, rows in feed.messages if first < at <= feed.pushed]
+        answers = ["schema" if rows is None else self.answer(feed, rows) for rows in done]
+        self.say(f"piece {name} {name} {first} {feed.pushed - first}", *answers)
+
+    def answer(self, feed, rows):
+        cause = self.tables.edit(feed.role, feed.side, rows)
+        return f"refused {cause}" if cause else "batch"
+
+    def undo(self):
+        cause = self.tables.undo()
+        self.say("undo", f"refused {cause}" if cause else "undone")
+
+    def write(self, name=None):
+        name = name or self.random.choice([*self.config["view"]])
+        columns, rows = self.tables.show(self.config["view"][name])
+        stream = stream_of(columns, [rows[at : at + tables.BATCH_ROWS] for at in range(0, len(rows), tables.BATCH_ROWS)])
+        path = f"made-{len(self.made)}"
+        self.made[path] = stream
+        self.say(f"write {name} {path}", f"wrote {len(stream)}")
+
+    def end(self, name):
+        """Ends a feed's input, within a message too; before a schema nothing is said of which cause comes."""
+        feed = self.feeds[name]
+        if feed.messages and feed.pushed >= feed.messages[0][0]:
+            whole = feed.pushed in [at for at, _ in feed.messages]
+            self.say(f"finish {name}", "finished" if whole else "refused 30 Truncated")
+            self.say(f"piece {name} {name} 0 8", f"refused {'29 AfterEnd' if whole else '52 FeedBroken'}")
+
+
+class Feed:
+    """A feed's stream in the making: its bytes, how many of them were pushed, and where each message ends, with its rows."""
+
+    def __init__(self, role, side=None):
+        self.role, self.side = role, side
+        self.bytes, self.pushed, self.messages = b"", 0, []
+
+    def add(self, columns, rows):
+        """Adds a batch of these rows; or the schema, of which there are none."""
+        self.bytes += stream_of(columns, [])[: -len(tables.END_MARK)] if rows is None else batch_of(columns, rows)
+        self.messages.append((len(self.bytes), rows))
+
+
+class Configuration:
+    def __init__(self, chance):
+        self.random = chance
+
+    def made(self):
+        main = self.table([f"m{it}" for it in range(self.random.randint(1, 4))])
+        kinds = [type_ for _, type_ in main["columns"]]
+        sides = {f"s{it}": self.table(["x", "y"][: self.random.randint(0, 2)], kinds) for it in range(self.random.randint(0, 2))}
+        feeds = {"add": {"role": "append"}, "more": {"role": "append"}, "cut": {"role": "retract"}}
+        for it in sides:
+            feeds |= {f"put-{it}": {"role": "put", "side": it}, f"drop-{it}": {"role": "drop", "side": it}}
+        config = {"main": main, "feed": feeds} | ({"side": sides} if sides else {})
+        return config | {"view": {f"v{it}": self.view(config) for it in range(self.random.randint(1, 4))}}
+
+    def table(self, names, key_types=TYPES):
+        """A table with a key `k`, which is one of the columns, at any place."""
+        columns = [[it, self.random.choice(TYPES)] for it in names]
+        columns.insert(self.random.randint(0, len(columns)), ["k", self.random.choice(key_types)])
+        return {"key": "k", "columns": columns}
+
+    def view(self, config):
+        made, main = {}, config["main"]["columns"]
+        pairs = [(on, it) for it, side in config.get("side", {}).items() for on, type_ in main if type_ == dict(side["columns"])["k"]]
+        if pairs and self.random.random() < 0.6:
+            on, side = self.random.choice(pairs)
+            made["lookup"] = {"side": side, "on": on, "missing": self.random.choice(("null", "drop"))}
+        types = Tables(config).types(made)
+        references = [name if table == "main" and self.random.random() < 0.5 else [table, name] for table, name in types]
+        if self.random.random() < 0.5:
+            made["filter"] = self.filter(references, types, 3)
+        if self.random.random() < 0.5:
+            made["group"] = self.random.sample(references, self.random.randint(0, min(2, len(references))))
+        outputs = self.grouped(made["group"], references, types) if "group" in made else self.plain(references)
+        made["columns"] = [[f"o{at}", *it] for at, it in enumerate(outputs)]
+        if self.random.random() < 0.6:
+            chosen = self.random.sample(made["columns"], self.random.randint(0, min(3, len(made["columns"]))))
+            made["order"] = [[name, self.random.choice(("asc", "desc"))] for name, *_ in chosen]
+        if self.random.random() < 0.4:
+            made["first"] = self.random.randint(0, 4)
+        return made
+
+    def plain(self, references):
+        return [["col", self.random.choice(references)] for _ in range(self.random.randint(1, 4))]
+
+    def grouped(self, by, references, types):
+        made = [["col", it] for it in by if self.random.random() < 0.8] + [["count"]]
+        for _ in range(self.random.randint(0, 3)):
+            reference = self.random.choice(references)
+            is_number = types[column_of(reference)] in (*NUMBERS, DECIMAL)
+            made.append([self.random.choice(("count", "least", "greatest", *["sum"] * 2 * is_number)), reference])
+        self.random.shuffle(made)
+        return made
+
+    def filter(self, references, types, depth):
+        kind = self.random.choice(("compare", "compare", "is_null", *["not", "and", "or"] * (depth > 1)))
+        if kind == "not":
+            return [kind, self.filter(references, types, depth - 1)]
+        if kind in ("and", "or"):
+            return [kind, *(self.filter(references, types, depth - 1) for _ in range(self.random.randint(1, 3)))]
+        reference = self.random.choice(references)
+        if kind == "is_null":
+            return [kind, reference]
+        type_ = types[column_of(reference)]
+        alike = [[*column_of(it)] for it in references if types[column_of(it)] == type_]
+        other = self.random.choice(alike) if self.random.random() < 0.3 else constant_of(self.random, type_)
+        return [self.random.choice([*COMPARISONS]), reference, other]
+
+
+def value_of(chance, type_, is_key, most_rows):
+    """A value of a type, one of few, so that many are alike; of keys fewer are null."""
+    if chance.random() < (0.03 if is_key else 0.2) / (most_rows if is_key else 1):
+        return None
+    if type_ == "utf8":
+        return chance.choice(TEXTS) if most_rows < 5 or not is_key else f"t{chance.randrange(10**9)}"
+    if type_ == "bool":
+        return chance.random() < 0.5
+    if is_key and most_rows > 4 and type_ != "int8":
+        return chance.randrange(10**9)
+    if type_ != DECIMAL and chance.random() < 0.1:
+        return chance.choice(EXTREMES[type_])
+    return chance.randint(0 if type_ == "uint64" else -4, 12 if is_key else 4)
+
+
+def constant_of(chance, type_):
+    value = value_of(chance, type_, False, 4)
+    if value is None or (type_ == "uint64" and value >= 2**63):
+        return constant_of(chance, type_)
+    return f"{'-' * (value < 0)}{abs(value) // 100}.{abs(value) % 100:02}" if type_ == DECIMAL else value
+
+
+def columns_of(columns):
+    return [tables.Column(f"{name}:{type_ if isinstance(type_, str) else f'decimal({type_[1]},{type_[2]})'}") for name, type_ in columns]
+
+
+def cells_of(rows):
+    """Rows as the cells that tables.py takes."""
+    return [["null" if it is None else str(it).lower() if isinstance(it, bool) else str(it) for it in row] for row in rows]
+
+
+def batch_of(columns, rows):
+    return tables.batch(columns_of(columns), cells_of(rows))
+
+
+def stream_of(columns, batches):
+    return tables.stream(columns_of(columns), [cells_of(it) for it in batches])
+
+
+def fault_of(program, session, room):
+    """What the program does otherwise than the model; None where it does the same."""
+    files = {"config": text_of(session.config).encode(), "script": "".join(f"{it}\n" for it in session.lines).encode()}
+    files |= {name: feed.bytes for name, feed in session.feeds.items()}
+    for name, held in files.items():
+        with open(f"{room}/{name}", "wb") as file:
+            file.write(held)
+    ran = subprocess.run([program, "run", "config", "script"], cwd=room, capture_output=True, text=True, timeout=60)
+    printed, wanted = ran.stdout.splitlines(), session.printed
+    if printed != wanted:
+        at = len(os.path.commonprefix([printed, wanted]))
+        return f"it printed {printed[at : at + 1]}, and the model says {wanted[at : at + 1]}"
+    if ran.returncode != any(": refused" in it for it in session.printed):
+        return f"it ended with {ran.returncode}"
+    for path, wanted in session.made.items():
+        with open(f"{room}/{path}", "rb") as file:
+            if file.read() != wanted:
+                line = next(it for it in session.lines if it.endswith(f" {path}"))
+                return f"`{line}` wrote another stream than the model"
+    return None
+
+
+def main():
+    parser = argparse.ArgumentParser(description="Compares random sessions with a model of docs/VIEWS.md.")
+    parser.add_argument("program", nargs="?", default=f"{ROOT}/crates/lv/out/lv")
+    parser.add_argument("--first", type=int, default=0)
+    parser.add_argument("--count", type=int, default=400)
+    words = parser.parse_args()
+    program, failed = os.path.abspath(words.program), 0
+    for number in range(words.first, words.first + words.count):
+        session = Session(number)
+        session.make()
+        with tempfile.TemporaryDirectory(prefix="lv-session-") as room:
+            fault = fault_of(program, session, room)
+        if fault:
+            failed += 1
+            print(f"sessions: FAILED, {number}: {fault}")
+    print(f"sessions: {words.count - failed} of {words.count} hold")
+    return 1 if failed or not words.count else 0
+
+
+if __name__ == "__main__":
+    sys.exit(main())
