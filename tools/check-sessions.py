@@ -1,6 +1,6 @@
 #!/usr/bin/env python3
 """Runs random scripts over random configurations, and compares each line that is printed and each file that is made with what
-tools/model.py says of docs/VIEWS.md and tools/tables.py of docs/FORMAT.md.
+tools/model.py says of docs/VIEWS.md and tools/canonical.py of docs/FORMAT.md.
 
   tools/check-sessions.py [PROGRAM] [--first N] [--count N]      N is the number of a session, which is the same on each run
 """
@@ -12,7 +12,7 @@ import sys
 import tempfile
 
 sys.dont_write_bytecode = True
-import tables
+import canonical
 from configurations import text_of
 from model import COMPARISONS, UNDOS, Tables, column_of
 
@@ -86,7 +86,7 @@ class Session:
     def write(self, name=None):
         name = name or self.random.choice([*self.config["view"]])
         columns, rows = self.tables.show(self.config["view"][name])
-        stream = stream_of(columns, [rows[at : at + tables.BATCH_ROWS] for at in range(0, len(rows), tables.BATCH_ROWS)])
+        stream = canonical.stream_of_rows(typed(columns), stored(rows))
         path = f"made-{len(self.made)}"
         self.made[path] = stream
         self.say(f"write {name} {path}", f"wrote {len(stream)}")
@@ -109,7 +109,7 @@ class Feed:
 
     def add(self, columns, rows):
         """Adds a batch of these rows; or the schema, of which there are none."""
-        self.bytes += stream_of(columns, [])[: -len(tables.END_MARK)] if rows is None else batch_of(columns, rows)
+        self.bytes += canonical.schema(typed(columns)) if rows is None else canonical.batch(typed(columns), stored(rows))
         self.messages.append((len(self.bytes), rows))
 
 
@@ -203,21 +203,15 @@ def constant_of(chance, type_):
     return f"{'-' * (value < 0)}{abs(value) // 100}.{abs(value) % 100:02}" if type_ == DECIMAL else value
 
 
-def columns_of(columns):
-    return [tables.Column(f"{name}:{type_ if isinstance(type_, str) else f'decimal({type_[1]},{type_[2]})'}") for name, type_ in columns]
+def typed(columns):
+    """Columns of a configuration as those of a stream."""
+    types = {f"{sign}int{bits}": canonical.integer(bits, not sign) for sign in ("", "u") for bits in (8, 64)}
+    types |= {"utf8": canonical.UTF8, "bool": canonical.BOOL}
+    return [(name, canonical.decimal(*it[1:]) if isinstance(it, list) else types[it]) for name, it in columns]
 
 
-def cells_of(rows):
-    """Rows as the cells that tables.py takes."""
-    return [["null" if it is None else str(it).lower() if isinstance(it, bool) else str(it) for it in row] for row in rows]
-
-
-def batch_of(columns, rows):
-    return tables.batch(columns_of(columns), cells_of(rows))
-
-
-def stream_of(columns, batches):
-    return tables.stream(columns_of(columns), [cells_of(it) for it in batches])
+def stored(rows):
+    return [[it.encode() if isinstance(it, str) else it for it in row] for row in rows]
 
 
 def fault_of(program, session, room):
