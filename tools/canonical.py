@@ -1,4 +1,4 @@
-"""Types, values and canonical streams, from what docs/FORMAT.md says of them. Nothing here is taken from lv: it is what lv is compared with.
+"""Types, values and canonical streams, from what docs/FORMAT.md says. Nothing here is taken from lv: it is what lv is compared with.
 
 Values are Python's: None is a null, an int a number, a date, a time or a decimal by its digits; texts and bytes are bytes, lists are lists,
 and structs tuples.
@@ -109,7 +109,7 @@ def message(kind, header, body):
 
 @dataclass(frozen=True)
 class Type:
-    """A logical type: its kind and the slots of its table, its name, how a slot is laid out, and its children with their names."""
+    """A logical type: its kind and the slots of its table, its name without its children, how a slot is laid out, and its children."""
 
     kind: int
     slots: tuple
@@ -156,11 +156,11 @@ def fixed(width):
 
 
 def list_of(item):
-    return Type(12, (), f"list[{item.name}]", "list", children=(("item", item),))
+    return Type(12, (), "list", "list", children=(("item", item),))
 
 
 def struct_of(*children):
-    return Type(13, (), f"struct[{', '.join(f'{name}: {it.name}' for name, it in children)}]", "struct", children=children)
+    return Type(13, (), "struct", "struct", children=children)
 
 
 def field(name, type_):

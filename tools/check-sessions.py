@@ -1,22 +1,18 @@
 #!/usr/bin/env python3
 """Runs random scripts over random configurations, and compares each line that is printed and each file that is made with what
 tools/model.py says of docs/VIEWS.md and tools/canonical.py of docs/FORMAT.md.
-
-  tools/check-sessions.py [PROGRAM] [--first N] [--count N]      N is the number of a session, which is the same on each run
 """
-import argparse
 import os
 import random
 import subprocess
 import sys
-import tempfile
 
 sys.dont_write_bytecode = True
 import canonical
 from configurations import text_of
 from model import COMPARISONS, UNDOS, Tables, column_of
+from random_runs import compare
 
-ROOT = os.path.dirname(os.path.dirname(os.path.abspath(__file__)))
 DECIMAL = ["decimal", 9, 2]
 TYPES = ("int64", "int8", "uint64", "utf8", "bool", DECIMAL)
 NUMBERS = ("int64", "int8", "uint64")
@@ -25,7 +21,7 @@ EXTREMES = {"int64": (-(2**63), 2**63 - 1), "int8": (-128, 127), "uint64": (0, 2
 
 
 class Session:
-    """A configuration and a script over it in the making, with the tables as they are after each line."""
+    """A configuration and a script over it, with what the script prints and the files that it makes."""
 
     def __init__(self, number):
         self.random = random.Random(number)
@@ -35,6 +31,7 @@ class Session:
         # Some sessions have more edits than can be undone, which they undo at last, and others more rows than a written batch.
         self.steps, self.undos = (300, UNDOS + 1) if number % 25 == 0 else (40, 0)
         self.most_rows = 1500 if number % 25 == 1 else 4
+        self.make()
 
     def say(self, line, *answers):
         self.lines.append(line)
@@ -236,24 +233,5 @@ def fault_of(program, session, room):
     return None
 
 
-def main():
-    parser = argparse.ArgumentParser(description="Compares random sessions with a model of docs/VIEWS.md.")
-    parser.add_argument("program", nargs="?", default=f"{ROOT}/crates/lv/out/lv")
-    parser.add_argument("--first", type=int, default=0)
-    parser.add_argument("--count", type=int, default=400)
-    words = parser.parse_args()
-    program, failed = os.path.abspath(words.program), 0
-    for number in range(words.first, words.first + words.count):
-        session = Session(number)
-        session.make()
-        with tempfile.TemporaryDirectory(prefix="lv-session-") as room:
-            fault = fault_of(program, session, room)
-        if fault:
-            failed += 1
-            print(f"sessions: FAILED, {number}: {fault}")
-    print(f"sessions: {words.count - failed} of {words.count} hold")
-    return 1 if failed or not words.count else 0
-
-
 if __name__ == "__main__":
-    sys.exit(main())
+    sys.exit(compare("sessions", Session, fault_of))

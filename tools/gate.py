@@ -37,6 +37,7 @@ PROGRAM = "lv"
 BACKENDS = {"llvm": "lv", "rattle": "lv.by-rattle"}
 RUNS = (
     "check-rows.py",
+    "check-streams.py",
     "check-sessions.py",
     "check-limits.py",
     "check-examples.sh",
