@@ -13,9 +13,11 @@ from configurations import text_of
 from model import COMPARISONS, UNDOS, Tables, column_of
 from random_runs import compare
 
-DECIMAL = ["decimal", 9, 2]
-TYPES = ("int64", "int8", "uint64", "utf8", "bool", DECIMAL)
+DECIMAL, BYTES = ["decimal", 9, 2], ["fixed", 2]
 NUMBERS = ("int64", "int8", "uint64")
+TYPES = (*NUMBERS, "utf8", "bool", DECIMAL, "binary", BYTES, "date32", ["time", "us"], ["timestamp", "s", "UTC"], ["duration", "ms"])
+# Types that can't be ordered.
+NESTED = (["list", "utf8"], ["struct", ["p", "int64"], ["q", ["list", "bool"]]], ["struct"])
 TEXTS = ("", "a", "ab", "b", "B", "é", "zz")
 EXTREMES = {"int64": (-(2**63), 2**63 - 1), "int8": (-128, 127), "uint64": (0, 2**64 - 1)}
 
@@ -83,7 +85,7 @@ class Session:
     def write(self, name=None):
         name = name or self.random.choice([*self.config["view"]])
         columns, rows = self.tables.show(self.config["view"][name])
-        stream = canonical.stream_of_rows(typed(columns), stored(rows))
+        stream = canonical.stream_of_rows(typed(columns), rows)
         path = f"made-{len(self.made)}"
         self.made[path] = stream
         self.say(f"write {name} {path}", f"wrote {len(stream)}")
@@ -106,7 +108,7 @@ class Feed:
 
     def add(self, columns, rows):
         """Adds a batch of these rows; or the schema, of which there are none."""
-        self.bytes += canonical.schema(typed(columns)) if rows is None else canonical.batch(typed(columns), stored(rows))
+        self.bytes += canonical.schema(typed(columns)) if rows is None else canonical.batch(typed(columns), rows)
         self.messages.append((len(self.bytes), rows))
 
 
@@ -116,7 +118,7 @@ class Configuration:
 
     def made(self):
         main = self.table([f"m{it}" for it in range(self.random.randint(1, 4))])
-        kinds = [type_ for _, type_ in main["columns"]]
+        kinds = [type_ for _, type_ in main["columns"] if type_ not in NESTED]
         sides = {f"s{it}": self.table(["x", "y"][: self.random.randint(0, 2)], kinds) for it in range(self.random.randint(0, 2))}
         feeds = {"add": {"role": "append"}, "more": {"role": "append"}, "cut": {"role": "retract"}}
         for it in sides:
@@ -126,7 +128,7 @@ class Configuration:
 
     def table(self, names, key_types=TYPES):
         """A table with a key `k`, which is one of the columns, at any place."""
-        columns = [[it, self.random.choice(TYPES)] for it in names]
+        columns = [[it, self.random.choice((*TYPES, *NESTED))] for it in names]
         columns.insert(self.random.randint(0, len(columns)), ["k", self.random.choice(key_types)])
         return {"key": "k", "columns": columns}
 
@@ -141,11 +143,13 @@ class Configuration:
         if self.random.random() < 0.5:
             made["filter"] = self.filter(references, types, 3)
         if self.random.random() < 0.5:
-            made["group"] = self.random.sample(references, self.random.randint(0, min(2, len(references))))
+            ordered = [it for it in references if types[column_of(it)] not in NESTED]
+            made["group"] = self.random.sample(ordered, self.random.randint(0, min(2, len(ordered))))
         outputs = self.grouped(made["group"], references, types) if "group" in made else self.plain(references)
         made["columns"] = [[f"o{at}", *it] for at, it in enumerate(outputs)]
         if self.random.random() < 0.6:
-            chosen = self.random.sample(made["columns"], self.random.randint(0, min(3, len(made["columns"]))))
+            ordered = [it for it in made["columns"] if it[1] == "count" or types[column_of(it[2])] not in NESTED]
+            chosen = self.random.sample(ordered, self.random.randint(0, min(3, len(ordered))))
             made["order"] = [[name, self.random.choice(("asc", "desc"))] for name, *_ in chosen]
         if self.random.random() < 0.4:
             made["first"] = self.random.randint(0, 4)
@@ -158,8 +162,9 @@ class Configuration:
         made = [["col", it] for it in by if self.random.random() < 0.8] + [["count"]]
         for _ in range(self.random.randint(0, 3)):
             reference = self.random.choice(references)
-            is_number = types[column_of(reference)] in (*NUMBERS, DECIMAL)
-            made.append([self.random.choice(("count", "least", "greatest", *["sum"] * 2 * is_number)), reference])
+            type_ = types[column_of(reference)]
+            extremes = ("least", "greatest") * (type_ not in NESTED)
+            made.append([self.random.choice(("count", *extremes, *["sum"] * 2 * (type_ in (*NUMBERS, DECIMAL)))), reference])
         self.random.shuffle(made)
         return made
 
@@ -173,42 +178,63 @@ class Configuration:
         if kind == "is_null":
             return [kind, reference]
         type_ = types[column_of(reference)]
+        if type_ in NESTED:
+            return ["is_null", reference]
         alike = [[*column_of(it)] for it in references if types[column_of(it)] == type_]
         other = self.random.choice(alike) if self.random.random() < 0.3 else constant_of(self.random, type_)
         return [self.random.choice([*COMPARISONS]), reference, other]
 
 
 def value_of(chance, type_, is_key, most_rows):
-    """A value of a type, one of few, so that many are alike; of keys fewer are null."""
+    """A value of a type, one of few, so that many are alike; of keys fewer are null, and among many rows they are many."""
     if chance.random() < (0.03 if is_key else 0.2) / (most_rows if is_key else 1):
         return None
-    if type_ == "utf8":
-        return chance.choice(TEXTS) if most_rows < 5 or not is_key else f"t{chance.randrange(10**9)}"
-    if type_ == "bool":
+    name, *of = type_ if isinstance(type_, list) else [type_]
+    if name == "list":
+        return [value_of(chance, of[0], False, most_rows) for _ in range(chance.randrange(3))]
+    if name == "struct":
+        return tuple(value_of(chance, child, False, most_rows) for _, child in of)
+    is_one_of_many = is_key and most_rows > 4
+    if name == "utf8":
+        return f"t{chance.randrange(10**9)}".encode() if is_one_of_many else chance.choice(TEXTS).encode()
+    if name == "bool":
         return chance.random() < 0.5
-    if is_key and most_rows > 4 and type_ != "int8":
+    if name in ("binary", "fixed"):
+        return bytes(chance.choice((0, 1, 255)) for _ in range(2 if name == "fixed" else chance.randrange(3)))
+    if is_one_of_many and name != "int8":
         return chance.randrange(10**9)
-    if type_ != DECIMAL and chance.random() < 0.1:
-        return chance.choice(EXTREMES[type_])
-    return chance.randint(0 if type_ == "uint64" else -4, 12 if is_key else 4)
+    if name in EXTREMES and chance.random() < 0.1:
+        return chance.choice(EXTREMES[name])
+    return chance.randint(0 if name == "uint64" else -4, 12 if is_key else 4)
 
 
 def constant_of(chance, type_):
+    """A constant of a type as it stands in a configuration."""
     value = value_of(chance, type_, False, 4)
     if value is None or (type_ == "uint64" and value >= 2**63):
         return constant_of(chance, type_)
-    return f"{'-' * (value < 0)}{abs(value) // 100}.{abs(value) % 100:02}" if type_ == DECIMAL else value
+    if type_ == DECIMAL:
+        return f"{'-' * (value < 0)}{abs(value) // 100}.{abs(value) % 100:02}"
+    return value.decode() if type_ == "utf8" else value.hex() if isinstance(value, bytes) else value
+
+
+def type_of(declared):
+    """A type of a configuration as one of a stream."""
+    name, *of = declared if isinstance(declared, list) else [declared]
+    if name in ("time", "timestamp", "duration"):
+        return getattr(canonical, name)(canonical.UNITS.index(of[0]), *of[1:])
+    if name in ("decimal", "fixed"):
+        return getattr(canonical, name)(*of)
+    if name == "list":
+        return canonical.list_of(type_of(of[0]))
+    if name == "struct":
+        return canonical.struct_of(*((child, type_of(it)) for child, it in of))
+    plain = {"utf8": canonical.UTF8, "bool": canonical.BOOL, "binary": canonical.BINARY, "date32": canonical.date(0)}
+    return plain[name] if name in plain else canonical.integer(int(name.lstrip("uint")), name[0] == "i")
 
 
 def typed(columns):
-    """Columns of a configuration as those of a stream."""
-    types = {f"{sign}int{bits}": canonical.integer(bits, not sign) for sign in ("", "u") for bits in (8, 64)}
-    types |= {"utf8": canonical.UTF8, "bool": canonical.BOOL}
-    return [(name, canonical.decimal(*it[1:]) if isinstance(it, list) else types[it]) for name, it in columns]
-
-
-def stored(rows):
-    return [[it.encode() if isinstance(it, str) else it for it in row] for row in rows]
+    return [(name, type_of(it)) for name, it in columns]
 
 
 def fault_of(program, session, room):

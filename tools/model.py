@@ -1,4 +1,4 @@
-"""What docs/VIEWS.md says of tables, edits and views, over Python's values: a null is None, and a decimal is its digits as one number.
+"""What docs/VIEWS.md says of tables, edits and views, over the values of tools/canonical.py.
 
 A configuration is what its TOML holds, read into dictionaries and lists. Nothing here is taken from lv: it is what lv is compared with.
 """
@@ -13,9 +13,14 @@ def column_of(reference):
     return ("main", reference) if isinstance(reference, str) else tuple(reference)
 
 
-def number_of(text):
-    """The digits of a decimal's text as one number."""
-    return int(text.replace(".", ""))
+def constant_of(type_, held):
+    """The value that a constant of the configuration means."""
+    name = type_[0] if isinstance(type_, list) else type_
+    if name == "decimal":
+        return int(held.replace(".", ""))
+    if name in ("binary", "fixed"):
+        return bytes.fromhex(held)
+    return held.encode() if name == "utf8" else held
 
 
 def place(value):
@@ -92,10 +97,7 @@ class Tables:
             decides = name == "or"
             return decides if decides in truths else None if None in truths else not decides
         column, other = column_of(parts[0]), parts[1]
-        if isinstance(other, list):
-            other = cells[column_of(other)]
-        elif isinstance(types[column], list):
-            other = number_of(other)
+        other = cells[column_of(other)] if isinstance(other, list) else constant_of(types[column], other)
         return None if None in (cells[column], other) else COMPARISONS[name](cells[column], other)
 
     def show(self, view):
