@@ -1,6 +1,7 @@
 #!/usr/bin/env python3
 """Recasts and inspects random streams of all types, written in as many ways as docs/FORMAT.md leaves room for, and compares what comes of
-them with the canonical stream of the rows that they mean (tools/canonical.py) and the lines of their messages.
+them with the canonical stream of the rows that they mean (tools/canonical.py) and the lines of their messages. Every other stream has one
+fault, for which it must be refused.
 """
 import os
 import random
@@ -19,6 +20,18 @@ TEXTS = ("", "a", "ab", "é", "漢字", "𝄞", "x" * 40)
 LARGE = {4: 19, 5: 20, 12: 21}
 # What a slot holds that is absent, by the kind of the type: nothing where it may not be absent.
 DEFAULTS = {7: (b"", b"", word(128)), 8: (half(1),), 9: (half(1), word(32)), 10: (half(0),), 18: (half(1),)}
+
+
+# What is done to a batch's header, and the cause of it.
+HEADER_FAULTS = {
+    "another node": "18 NodeCount",
+    "another buffer": "19 BufferCount",
+    "another length": "20 BadLength",
+    "a buffer past the body": "21 BufferRange",
+    "a buffer before the body": "21 BufferRange",
+    "a null more": "23 NullCount",
+    "a compression": "14 Compressed",
+}
 
 
 @dataclass
@@ -77,9 +90,10 @@ class Stream:
                 if self.chance(0.6):
                     self.bytes += self.values(it)
             self.bytes += self.batch()
+        self.cause = self.faulty_batch() if number % 2 else None
         has_end = self.chance(0.7)
         self.bytes += canonical.END_MARK * has_end
-        self.lines.append("end" if has_end else "end of input")
+        self.lines.append(f"refused {self.cause}" if self.cause else "end" if has_end else "end of input")
 
     def chance(self, part):
         return self.random.random() < part
@@ -143,17 +157,59 @@ class Stream:
         index = None if dictionary.index is None else Table(*dictionary.index.slots)
         return Table(number, index, self.random.choice((None, b"\0", b"\1")), self.random.choice((None, half(0))))
 
-    def record(self, rows, arrays):
-        """The header of a batch and its body, in which the buffers lie in any order with any bytes between them."""
+    def record(self, rows, arrays, most_more=2):
+        """The header of a batch and its body."""
+        nodes, spans, body = self.laid_out(arrays, most_more)
+        length = long(rows) if rows or self.chance(0.5) else None
+        return Table(length, pairs(nodes), pairs(spans)), body
+
+    def laid_out(self, arrays, most_more=2):
+        """The nodes, the buffers, and a body in which these lie in any order, with any bytes between them and at their ends."""
         buffers = [it for _, _, held in arrays for it in held]
         body, spans = bytearray(), [None] * len(buffers)
         for at in self.random.sample(range(len(buffers)), len(buffers)):
             body += self.random.randbytes(self.random.choice((0, 0, 1, 8)))
-            more = self.random.choice((0, 0, 2)) * (len(buffers[at]) > 0)
+            more = self.random.choice((0, 0, most_more)) * (len(buffers[at]) > 0)
             spans[at] = (len(body), len(buffers[at]) + more)
             body += buffers[at] + self.random.randbytes(more)
-        length = long(rows) if rows or self.chance(0.5) else None
-        return Table(length, pairs([it[:2] for it in arrays]), pairs(spans)), bytes(body)
+        return [it[:2] for it in arrays], spans, bytes(body)
+
+    def faulty_batch(self):
+        """Adds a batch with one fault, and answers its cause."""
+        made, spoiled = [self.slots(it, 3) for it in self.stored], {}
+        for stored, (values, arrays) in zip(self.stored, made):
+            for spoil, cause in BODY_FAULTS.items():
+                if buffers := spoil(stored, values, arrays[0][2]):
+                    spoiled.setdefault(cause, []).append((arrays, buffers))
+        if spoiled and self.chance(0.6):
+            cause = self.random.choice([*spoiled])
+            arrays, buffers = self.random.choice(spoiled[cause])
+            arrays[0] = (*arrays[0][:2], buffers)
+            header, body = self.record(3, [it for _, held in made for it in held], 0)
+        else:
+            header, body, cause = self.faulty_record([it for _, held in made for it in held])
+        self.bytes += self.message(canonical.RECORD_BATCH, header, body)
+        return cause
+
+    def faulty_record(self, arrays):
+        nodes, spans, body = self.laid_out(arrays)
+        faults = [*HEADER_FAULTS] if arrays else ["another node", "another buffer", "a compression"]
+        fault = self.random.choice(faults)
+        node, span = self.random.randrange(len(nodes) or 1), self.random.randrange(len(spans) or 1)
+        if fault == "another node":
+            nodes = nodes[1:] if nodes and self.chance(0.5) else [*nodes, (3, 0)]
+        elif fault == "another buffer":
+            spans = spans[1:] if spans and self.chance(0.5) else [*spans, (0, 0)]
+        elif fault == "another length":
+            nodes[0] = (nodes[0][0] + 1, nodes[0][1])
+        elif fault == "a null more":
+            nodes[node] = (nodes[node][0], nodes[node][1] + 1)
+        elif fault == "a buffer past the body":
+            spans[span] = (len(body) - spans[span][1] + 1, spans[span][1])
+        elif fault == "a buffer before the body":
+            spans[span] = (-1, spans[span][1])
+        compression = [Table()] * (fault == "a compression")
+        return Table(long(3), pairs(nodes), pairs(spans), *compression), body, HEADER_FAULTS[fault]
 
     def values(self, stored):
         """A batch of values, in place of those that are there or behind them."""
@@ -248,22 +304,73 @@ class Stream:
         return values, [], [it for _, arrays in made for it in arrays]
 
 
+def without_last_byte(stored, _values, buffers):
+    """The buffers of a column, of which the first after the validity is too short."""
+    return [buffers[0], buffers[1][:-1], *buffers[2:]] if stored.type.layout != "struct" and buffers[1] else None
+
+
+def with_falling_offsets(stored, _values, buffers):
+    if stored.dictionary or stored.type.layout not in ("bytes", "list"):
+        return None
+    width = 8 if stored.is_large else 4
+    first = int.from_bytes(buffers[1][:width], "little") + 2**30
+    return [buffers[0], first.to_bytes(width, "little") + buffers[1][width:], *buffers[2:]]
+
+
+def with_no_text(stored, values, buffers):
+    if stored.dictionary or stored.type is not canonical.UTF8 or not any(values):
+        return None
+    width = 8 if stored.is_large else 4
+    at = next(at for at, it in enumerate(values) if it)
+    place = int.from_bytes(buffers[1][width * at : width * (at + 1)], "little")
+    return [*buffers[:2], buffers[2][:place] + b"\xff" + buffers[2][place + 1 :]]
+
+
+def with_lost_index(stored, values, buffers):
+    return replaced(stored.dictionary and (stored.dictionary.index or canonical.integer(32)).width, values, buffers, b"\xff" * 8)
+
+
+def with_large_decimal(stored, values, buffers):
+    if stored.dictionary or stored.type.kind != 7:
+        return None
+    (precision,) = struct.unpack("<i", stored.type.slots[0])
+    return replaced(16, values, buffers, (10**precision).to_bytes(16, "little"))
+
+
+def replaced(width, values, buffers, slot):
+    """Buffers with another number in the first slot that isn't null."""
+    at = next((at for at, it in enumerate(values) if it is not None), None)
+    if not width or at is None:
+        return None
+    return [buffers[0], buffers[1][: width * at] + slot[:width] + buffers[1][width * (at + 1) :]]
+
+
+# What is done to the buffers of a column, where it can have that fault, and the cause of it.
+BODY_FAULTS = {
+    without_last_byte: "22 BufferShort",
+    with_falling_offsets: "24 Offsets",
+    with_no_text: "25 NotUtf8",
+    with_lost_index: "26 DictionaryIndex",
+    with_large_decimal: "27 DecimalRange",
+}
+
+
 def fault_of(program, stream, room):
     """What the program does otherwise than the stream means; None where it does the same."""
     with open(f"{room}/in", "wb") as file:
         file.write(stream.bytes)
-    wanted = canonical.stream_of_rows(stream.columns, stream.rows)
+    made, status = canonical.stream_of_rows(stream.columns, stream.rows), int(stream.cause is not None)
     ran = subprocess.run([program, "recast", "in", "out"], cwd=room, capture_output=True, text=True, timeout=60)
-    if (ran.returncode, ran.stdout) != (0, f"wrote {len(wanted)}\n"):
-        return f"recast ended with {ran.returncode} and printed {ran.stdout!r}, wanted {len(wanted)}"
-    with open(f"{room}/out", "rb") as file:
-        if file.read() != wanted:
-            return "recast wrote another stream"
+    wanted = f"refused {stream.cause}\n" if stream.cause else f"wrote {len(made)}\n"
+    if (ran.returncode, ran.stdout) != (status, wanted) or os.path.exists(f"{room}/out") == bool(stream.cause):
+        return f"recast ended with {ran.returncode} and printed {ran.stdout!r}, wanted {wanted!r}"
+    if not stream.cause:
+        with open(f"{room}/out", "rb") as file:
+            if file.read() != made:
+                return "recast wrote another stream"
     ran = subprocess.run([program, "inspect", "in"], cwd=room, capture_output=True, text=True, timeout=60)
-    printed = ran.stdout.splitlines()
-    if printed != stream.lines or ran.returncode != 0:
-        at = len(os.path.commonprefix([printed, stream.lines]))
-        return f"inspect printed {printed[at : at + 1]}, wanted {stream.lines[at : at + 1]}"
+    if (ran.returncode, ran.stdout.splitlines()) != (status, stream.lines):
+        return f"inspect ended with {ran.returncode} and printed {ran.stdout.splitlines()}, wanted {stream.lines}"
     return None
 
 
