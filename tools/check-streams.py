@@ -1,5 +1,5 @@
 #!/usr/bin/env python3
-"""Recasts and inspects random streams of all types, written in as many ways as docs/FORMAT.md leaves room for, and compares what comes of
+"""Recasts and inspects random streams of all types, written in many of the ways that docs/FORMAT.md allows, and compares what comes of
 them with the canonical stream of the rows that they mean (tools/canonical.py) and the lines of their messages. Every other stream has one
 fault, for which it must be refused.
 """
@@ -18,9 +18,8 @@ from random_runs import compare
 TEXTS = ("", "a", "ab", "é", "漢字", "𝄞", "x" * 40)
 # The kinds whose offsets have 64 bits, by those whose offsets have 32.
 LARGE = {4: 19, 5: 20, 12: 21}
-# What a slot holds that is absent, by the kind of the type: nothing where it may not be absent.
+# The defaults of the slots of a type's table, by the kind of the type; an empty text for a slot that has none.
 DEFAULTS = {7: (b"", b"", word(128)), 8: (half(1),), 9: (half(1), word(32)), 10: (half(0),), 18: (half(1),)}
-
 
 # What is done to a batch's header, and the cause of it.
 HEADER_FAULTS = {
