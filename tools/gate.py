@@ -2,7 +2,8 @@
 """The merge gate. The last line is 'N passed, M failed'.
 
 In a copy of the tree, which holds nothing of an earlier run, and in lanes beside it:
-1. Each crate is proved from nothing, once those below it are.
+1. Each crate is proved from nothing, once those below it are. rt would begin with what it kept of the same text in another copy on the
+   machine, so the copies of a run have a line that no other has.
 2. Over that proof the crate is checked for contracts that no call can meet and for what HANDLES doesn't allow, its layout is compared
    with rt fmt's, its tests are proved and run, its must-fail edits are tried (tools/edits.py; with --due a part of them), and the
    program is built by both compilers.
@@ -16,6 +17,7 @@ What a task waits for is all that orders them, so a crate's tests and edits are 
 import argparse
 import os
 import re
+import secrets
 import shutil
 import subprocess
 import sys
@@ -49,6 +51,7 @@ RUNS = (
 )
 # What the last line of a check may say of a proved crate: nothing of bounds, foreign functions or contracts that say nothing.
 PROVED = {"logic", "functions", "sum", "axioms", "target", "cpu", "native", "logic-built", "libraries-built", "statements", "incremental"}
+BORROWED = re.compile(r": begins with what a check kept in ")
 EMPTY = re.compile(r"^(warning: no call of `(?![^`]*::fn::)|note: the search for empty contracts did not end)", re.M)
 
 
@@ -119,12 +122,14 @@ class Gate:
         """Proves a crate from nothing, and gives its library to all lanes and what was kept of its proof to the tree."""
         is_library = any(crate in it for it in self.crates.values())
         ran = lane.rt(crate, "lib" if is_library else "check", "--jobs", "1")
-        is_well = self.note("proof", crate, ran, ran.status == 0 and re.search("^logic=proved ", ran.text, re.M) is not None)
+        is_proved = ran.status == 0 and re.search("^logic=proved ", ran.text, re.M) is not None
+        is_well = self.note("proof", crate, ran, is_proved and not BORROWED.search(ran.text))
         if is_well:
-            os.makedirs(f"{self.tree}/crates/{crate}/out", exist_ok=True)
             for part in ("rlib", "incremental"):
-                if os.path.isdir(f"{lane.folder}/crates/{crate}/out/{part}"):
-                    shutil.move(f"{lane.folder}/crates/{crate}/out/{part}", f"{self.tree}/crates/{crate}/out/{part}")
+                source, to = (f"{it}/crates/{crate}/out/{part}" for it in (lane.folder, self.tree))
+                if os.path.isdir(source):
+                    shutil.rmtree(to, ignore_errors=True)
+                    shutil.move(source, to)
             for it in self.lanes:
                 it.take(crate, "rlib", link)
         return is_well
@@ -240,6 +245,19 @@ def copied(tree):
     return tree
 
 
+def apart(tree):
+    """Makes the crates' texts those of this run alone, by a line at the end of each root file, and what is kept of their proofs nothing:
+    rt takes both from another checkout where it has the same text, or none."""
+    line = f"// In the copy {secrets.token_hex(8)} of the gate.\n"
+    for crate in crates_of(tree):
+        folder = f"{tree}/crates/{crate}"
+        for root in filter(os.path.isfile, (f"{folder}/src/lib.rt", f"{folder}/src/main.rt")):
+            with open(root, "a", encoding="utf-8") as file:
+                file.write(line)
+        os.makedirs(f"{folder}/out/incremental", exist_ok=True)
+    return tree
+
+
 def main():
     parser = argparse.ArgumentParser(description="The merge gate: proofs from nothing, contracts, layout, tests, must-fail edits, runs.")
     parser.add_argument("--jobs", type=int, default=len(os.sched_getaffinity(0)), help="how many checks run side by side")
@@ -248,7 +266,7 @@ def main():
     words = parser.parse_args()
     began = time.monotonic()
     with tempfile.TemporaryDirectory(prefix="lv-gate-") as room:
-        gate = Gate(copied(f"{room}/tree"), room, words.jobs)
+        gate = Gate(apart(copied(f"{room}/tree")), room, words.jobs)
         if read(f"{ROOT}/HANDLES") != "Handles allowed: none.\n":
             gate.failed.append("HANDLES")
         trial = gate.in_lanes(words.due)
