@@ -89,4 +89,5 @@ for stream in crates/lv/data/IN examples/*.arrows; do
     each_request recast "$stream"
     each_request inspect "$stream"
 done
+each_request check examples/report/report.toml
 echo "refused memory: each request refused in turn${counted}; every answer was right"
