@@ -10,16 +10,9 @@ import sys
 sys.dont_write_bytecode = True
 import canonical
 from configurations import text_of
-from model import COMPARISONS, UNDOS, Tables, column_of
+from model import UNDOS, Tables
+from random_configurations import Configuration, value_of
 from random_runs import compare
-
-DECIMAL, BYTES = ["decimal", 9, 2], ["fixed", 2]
-NUMBERS = ("int64", "int8", "uint64")
-TYPES = (*NUMBERS, "utf8", "bool", DECIMAL, "binary", BYTES, "date32", ["time", "us"], ["timestamp", "s", "UTC"], ["duration", "ms"])
-# Types that can't be ordered.
-NESTED = (["list", "utf8"], ["struct", ["p", "int64"], ["q", ["list", "bool"]]], ["struct"])
-TEXTS = ("", "a", "ab", "b", "B", "é", "zz")
-EXTREMES = {"int64": (-(2**63), 2**63 - 1), "int8": (-128, 127), "uint64": (0, 2**64 - 1)}
 
 
 class Session:
@@ -110,112 +103,6 @@ class Feed:
         """Adds a batch of these rows; or the schema, of which there are none."""
         self.bytes += canonical.schema(typed(columns)) if rows is None else canonical.batch(typed(columns), rows)
         self.messages.append((len(self.bytes), rows))
-
-
-class Configuration:
-    def __init__(self, chance):
-        self.random = chance
-
-    def made(self):
-        main = self.table([f"m{it}" for it in range(self.random.randint(1, 4))])
-        kinds = [type_ for _, type_ in main["columns"] if type_ not in NESTED]
-        sides = {f"s{it}": self.table(["x", "y"][: self.random.randint(0, 2)], kinds) for it in range(self.random.randint(0, 2))}
-        feeds = {"add": {"role": "append"}, "more": {"role": "append"}, "cut": {"role": "retract"}}
-        for it in sides:
-            feeds |= {f"put-{it}": {"role": "put", "side": it}, f"drop-{it}": {"role": "drop", "side": it}}
-        config = {"main": main, "feed": feeds} | ({"side": sides} if sides else {})
-        return config | {"view": {f"v{it}": self.view(config) for it in range(self.random.randint(1, 4))}}
-
-    def table(self, names, key_types=TYPES):
-        """A table with a key `k`, which is one of the columns, at any place."""
-        columns = [[it, self.random.choice((*TYPES, *NESTED))] for it in names]
-        columns.insert(self.random.randint(0, len(columns)), ["k", self.random.choice(key_types)])
-        return {"key": "k", "columns": columns}
-
-    def view(self, config):
-        made, main = {}, config["main"]["columns"]
-        pairs = [(on, it) for it, side in config.get("side", {}).items() for on, type_ in main if type_ == dict(side["columns"])["k"]]
-        if pairs and self.random.random() < 0.6:
-            on, side = self.random.choice(pairs)
-            made["lookup"] = {"side": side, "on": on, "missing": self.random.choice(("null", "drop"))}
-        types = Tables(config).types(made)
-        references = [name if table == "main" and self.random.random() < 0.5 else [table, name] for table, name in types]
-        if self.random.random() < 0.5:
-            made["filter"] = self.filter(references, types, 3)
-        if self.random.random() < 0.5:
-            ordered = [it for it in references if types[column_of(it)] not in NESTED]
-            made["group"] = self.random.sample(ordered, self.random.randint(0, min(2, len(ordered))))
-        outputs = self.grouped(made["group"], references, types) if "group" in made else self.plain(references)
-        made["columns"] = [[f"o{at}", *it] for at, it in enumerate(outputs)]
-        if self.random.random() < 0.6:
-            ordered = [it for it in made["columns"] if it[1] == "count" or types[column_of(it[2])] not in NESTED]
-            chosen = self.random.sample(ordered, self.random.randint(0, min(3, len(ordered))))
-            made["order"] = [[name, self.random.choice(("asc", "desc"))] for name, *_ in chosen]
-        if self.random.random() < 0.4:
-            made["first"] = self.random.randint(0, 4)
-        return made
-
-    def plain(self, references):
-        return [["col", self.random.choice(references)] for _ in range(self.random.randint(1, 4))]
-
-    def grouped(self, by, references, types):
-        made = [["col", it] for it in by if self.random.random() < 0.8] + [["count"]]
-        for _ in range(self.random.randint(0, 3)):
-            reference = self.random.choice(references)
-            type_ = types[column_of(reference)]
-            extremes = ("least", "greatest") * (type_ not in NESTED)
-            made.append([self.random.choice(("count", *extremes, *["sum"] * 2 * (type_ in (*NUMBERS, DECIMAL)))), reference])
-        self.random.shuffle(made)
-        return made
-
-    def filter(self, references, types, depth):
-        kind = self.random.choice(("compare", "compare", "is_null", *["not", "and", "or"] * (depth > 1)))
-        if kind == "not":
-            return [kind, self.filter(references, types, depth - 1)]
-        if kind in ("and", "or"):
-            return [kind, *(self.filter(references, types, depth - 1) for _ in range(self.random.randint(1, 3)))]
-        reference = self.random.choice(references)
-        if kind == "is_null":
-            return [kind, reference]
-        type_ = types[column_of(reference)]
-        if type_ in NESTED:
-            return ["is_null", reference]
-        alike = [[*column_of(it)] for it in references if types[column_of(it)] == type_]
-        other = self.random.choice(alike) if self.random.random() < 0.3 else constant_of(self.random, type_)
-        return [self.random.choice([*COMPARISONS]), reference, other]
-
-
-def value_of(chance, type_, is_key, most_rows):
-    """A value of a type, one of few, so that many are alike; of keys fewer are null, and among many rows they are many."""
-    if chance.random() < (0.03 if is_key else 0.2) / (most_rows if is_key else 1):
-        return None
-    name, *of = type_ if isinstance(type_, list) else [type_]
-    if name == "list":
-        return [value_of(chance, of[0], False, most_rows) for _ in range(chance.randrange(3))]
-    if name == "struct":
-        return tuple(value_of(chance, child, False, most_rows) for _, child in of)
-    is_one_of_many = is_key and most_rows > 4
-    if name == "utf8":
-        return f"t{chance.randrange(10**9)}".encode() if is_one_of_many else chance.choice(TEXTS).encode()
-    if name == "bool":
-        return chance.random() < 0.5
-    if name in ("binary", "fixed"):
-        return bytes(chance.choice((0, 1, 255)) for _ in range(2 if name == "fixed" else chance.randrange(3)))
-    if is_one_of_many and name != "int8":
-        return chance.randrange(10**9)
-    if name in EXTREMES and chance.random() < 0.1:
-        return chance.choice(EXTREMES[name])
-    return chance.randint(0 if name == "uint64" else -4, 12 if is_key else 4)
-
-
-def constant_of(chance, type_):
-    """A constant of a type as it stands in a configuration."""
-    value = value_of(chance, type_, False, 4)
-    if value is None or (type_ == "uint64" and value >= 2**63):
-        return constant_of(chance, type_)
-    if type_ == DECIMAL:
-        return f"{'-' * (value < 0)}{abs(value) // 100}.{abs(value) % 100:02}"
-    return value.decode() if type_ == "utf8" else value.hex() if isinstance(value, bytes) else value
 
 
 def type_of(declared):

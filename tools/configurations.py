@@ -1,22 +1,38 @@
-"""Writes configurations as TOML."""
+"""Writes configurations, and other trees, as TOML."""
+import json
+import re
+
+
+def key(name):
+    return name if re.fullmatch("[A-Za-z0-9_-]+", name) else value(name)
 
 
 def value(it):
-    """A TOML value of lists, dictionaries, texts, truth values and numbers."""
+    """A TOML value of lists, dictionaries, texts, truth values, numbers and dates."""
     if isinstance(it, list):
         return f"[{', '.join(map(value, it))}]"
     if isinstance(it, dict):
-        return f"{{ {', '.join(f'{key} = {value(held)}' for key, held in it.items())} }}"
+        return f"{{ {', '.join(f'{key(name)} = {value(held)}' for name, held in it.items())} }}"
     if isinstance(it, bool):
         return "true" if it else "false"
-    return f'"{it}"' if isinstance(it, str) else str(it)
+    return json.dumps(it, ensure_ascii=False) if isinstance(it, str) else str(it)
 
 
-def entry(name, **members):
-    return "\n".join([f"[{name}]", *(f"{key} = {value(it)}" for key, it in members.items())]) + "\n"
+def lines(members):
+    return "".join(f"{key(name)} = {value(it)}\n" for name, it in members.items())
+
+
+def entry(name, /, **members):
+    return f"[{name}]\n{lines(members)}"
 
 
 def text_of(config):
     """The text of a configuration: its main table, and its side tables, feeds and views by their names."""
-    named = [entry(f"{kind}.{name}", **it) for kind in ("side", "feed", "view") for name, it in config.get(kind, {}).items()]
-    return entry("main", **config["main"]) + "".join(named)
+    text = lines({name: it for name, it in config.items() if not isinstance(it, dict)})
+    for kind, held in config.items():
+        if isinstance(held, dict):
+            named = {name: it for name, it in held.items() if isinstance(it, dict) and kind != "main"}
+            others = {name: it for name, it in held.items() if name not in named}
+            text += entry(kind, **others) if others or not named else ""
+            text += "".join(entry(f"{kind}.{key(name)}", **it) for name, it in named.items())
+    return text

@@ -41,6 +41,7 @@ RUNS = (
     "check-rows.py",
     "check-streams.py",
     "check-sessions.py",
+    "check-configurations.py",
     "check-limits.py",
     "check-examples.sh",
     "check-outputs.sh",
