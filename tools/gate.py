@@ -247,8 +247,8 @@ def copied(tree):
 
 
 def apart(tree):
-    """Makes the crates' texts those of this run alone, by a line at the end of each root file, and what is kept of their proofs nothing:
-    rt takes both from another checkout where it has the same text, or none."""
+    """Makes the crates' texts those of this run alone, by a line at the end of each root file, with nothing kept of their proofs. rt takes
+    a library that another checkout built of the same text, and begins with another's kept work where a crate has no folder of its own."""
     line = f"// In the copy {secrets.token_hex(8)} of the gate.\n"
     for crate in crates_of(tree):
         folder = f"{tree}/crates/{crate}"
