@@ -52,6 +52,7 @@ RUNS = (
 )
 # What the last line of a check may say of a proved crate: nothing of bounds, foreign functions or contracts that say nothing.
 PROVED = {"logic", "functions", "sum", "axioms", "target", "cpu", "native", "logic-built", "libraries-built", "statements", "incremental"}
+# What rt says of a check that begins with the work of another checkout.
 BORROWED = re.compile(r": begins with what a check kept in ")
 EMPTY = re.compile(r"^(warning: no call of `(?![^`]*::fn::)|note: the search for empty contracts did not end)", re.M)
 
