@@ -22,15 +22,17 @@ try: need-rt
 	@cd crates/lv && rt try --data orders.arrows=../../examples/orders.arrows -- inspect orders.arrows
 	@echo "(proved=no: this was a try; make run proves lv first)"
 
-# The merge gate: every proof from nothing, contracts, layout, tests, must-fail edits, and the program over its runs. Of
-# crates whose edits were all refused as they stand (tools/edits-tried.txt) it tries a fifth.
+# The merge gate: every proof from nothing, contracts, layout, tests, the program over its runs, and then must-fail edits:
+# of crates whose edits were all refused as they stand (tools/edits-tried.txt) a fifth, and none begun 130 minutes after
+# its beginning or later. `tools/gate.py --all` tries all edits, however long it takes.
 test: need-rt need-python
-	@tools/gate.py --due
+	@tools/gate.py
 
-# Tries all must-fail edits over kept proofs, and records in tools/edits-tried.txt the crates of which all were refused.
+# Tries, over kept proofs, the must-fail edits of the crates that changed since all of theirs were refused, and records in
+# tools/edits-tried.txt the crates of which all were, each as soon as it is done.
 edits: need-rt need-python
 	@rt all check
-	@tools/edits.py --record
+	@tools/edits.py --rest --record
 
 # The toolchain's own gate, which proves each crate three times and tries each edit by itself; before a release. Where it
 # passes, tools/edits-tried.txt has all crates.
@@ -41,10 +43,11 @@ ci: need-rt need-python
 limits: lv need-python
 	@tools/limits.py
 
-# Time and memory of recasting 25 to 400 MB, beside `cat` of the same file.
+# Time and memory of recasting 25 to 400 MB, beside `cat` of the same file; of edits; and of a view with a coded column.
 bench: lv need-python
 	@tools/bench.py
 	@tools/bench-edits.py
+	@tools/bench-coded.py
 
 install: lv
 	install -D -m 755 $(LV) $(PREFIX)/bin/lv

@@ -1,7 +1,8 @@
 #!/usr/bin/env python3
 """Processor time and memory of edits by `lv run`: rows that come in batches, beside `lv recast` of the same stream, and then edits of one row
 each over 10,000 and over 1,000,000 live rows; and of writing views of these. Rows are of int64, utf8 of 10 bytes, int64 and int64. Where valgrind is
-there, the instructions of an edit and of an undo too, which other work on the machine doesn't change."""
+there, the instructions of an edit and of an undo too, which other work on the machine doesn't change. Then the same of a view of the first ten of
+1,000, of 100,000 and of 1,000,000 groups in an order of theirs."""
 
 import os
 import re
@@ -44,6 +45,18 @@ first = 10
 group = ["z"]
 columns = [["z", "col", "z"], ["rows", "count"], ["sum", "sum", "a"]]
 """ + "".join(f'[feed.more{it}]\nrole = "append"\n[feed.gone{it}]\nrole = "retract"\n' for it in range(ROUNDS))
+ORDERED = """
+[main]
+key = "i"
+columns = [["i", "int64"], ["n", "utf8"], ["a", "int64"], ["z", "int64"]]
+[feed.rows]
+role = "append"
+[view.first]
+group = ["z"]
+columns = [["z", "col", "z"], ["rows", "count"], ["sum", "sum", "a"]]
+order = [["sum", "desc"]]
+first = 10
+""" + "".join(f'[feed.more{it}]\nrole = "append"\n[feed.gone{it}]\nrole = "retract"\n' for it in range(ROUNDS))
 EDITS = [f"{kind}{it}" for it in range(ROUNDS) for kind in ("more", "gone")]
 NUMBER = field(2, 64, 1, name=b"i")
 SCHEMA = schema([NUMBER, field(5, name=b"n"), field(2, 64, 1, name=b"a"), field(2, 64, 1, name=b"z")])
@@ -54,10 +67,10 @@ def integers(first, rows):
     return struct.pack(f"<{rows}q", *range(first, first + rows))
 
 
-def rows_from(first, rows):
+def rows_from(first, rows, zones):
     texts = [struct.pack(f"<{rows + 1}i", *range(0, 10 * (rows + 1), 10)), b"".join(b"%010d" % it for it in range(rows))]
-    zones = struct.pack(f"<{rows}q", *(it % ZONES for it in range(first, first + rows)))
-    return batch(rows, [[integers(first, rows)], texts, [integers(first, rows)], [zones]])
+    places = struct.pack(f"<{rows}q", *(it % zones for it in range(first, first + rows)))
+    return batch(rows, [[integers(first, rows)], texts, [integers(first, rows)], [places]])
 
 
 def keys_from(first, rows):
@@ -65,9 +78,10 @@ def keys_from(first, rows):
 
 
 class Bench:
-    def __init__(self, folder):
+    def __init__(self, folder, config, zones):
         self.folder = folder
-        self.write("config", CONFIG.encode())
+        self.zones = zones
+        self.write("config", config.encode())
 
     def path(self, name):
         return os.path.join(self.folder, name)
@@ -79,10 +93,10 @@ class Bench:
     def streams(self, live, edits):
         """A stream of so many live rows in batches of 1,024, and for each round one of rows to come one by one, and one that retracts
         them."""
-        each = [rows_from(first, min(1024, live - first)) for first in range(0, live, 1024)]
+        each = [rows_from(first, min(1024, live - first), self.zones) for first in range(0, live, 1024)]
         self.write("rows", SCHEMA + b"".join(each) + END_MARK)
         for turn in range(ROUNDS):
-            self.write(f"more{turn}", SCHEMA + b"".join(rows_from(live + it, 1) for it in range(edits)) + END_MARK)
+            self.write(f"more{turn}", SCHEMA + b"".join(rows_from(live + it, 1, self.zones) for it in range(edits)) + END_MARK)
             self.write(f"gone{turn}", schema([NUMBER]) + b"".join(keys_from(live + it, 1) for it in range(edits)) + END_MARK)
 
     def command(self, feeds, views=(), undos=0):
@@ -124,6 +138,16 @@ def count_instructions(bench, edits):
     print("  instructions of an append, a retract, and the undo of either: " + ", ".join(f"{it:,.0f}" for it in each))
 
 
+def time_ordered_groups(folder, groups, edits, writes):
+    bench = Bench(folder, ORDERED, groups)
+    bench.streams(groups, edits)
+    rows, all_edits = bench.run(["rows"]), bench.run(["rows", *EDITS])
+    written = bench.run(["rows"], ["first"] * writes)
+    each = 1e6 * (all_edits[0] - rows[0]) / (edits * ROUNDS)
+    print(f"{groups:,} groups in order: {each:.1f} microseconds for an append and its retract, ", end="")
+    print(f"{1e6 * (written[0] - rows[0]) / writes:.0f} microseconds for a write of the first ten")
+
+
 def main():
     os.chdir(os.path.join(os.path.dirname(os.path.abspath(__file__)), ".."))
     if not os.path.exists(LV):
@@ -133,7 +157,7 @@ def main():
         return
     edits = 100_000
     with tempfile.TemporaryDirectory(prefix="lv-bench-") as folder:
-        bench = Bench(folder)
+        bench = Bench(folder, CONFIG, ZONES)
         for live in (10_000, 1_000_000):
             bench.streams(live, edits)
             recast = measured([LV, "recast", bench.path("rows"), bench.path("out")])
@@ -147,6 +171,8 @@ def main():
             if live < 100_000 and shutil.which("valgrind"):
                 bench.streams(live, edits // 20)
                 count_instructions(bench, edits // 20)
+        for groups in (1_000, 100_000, 1_000_000):
+            time_ordered_groups(folder, groups, edits, 20_000)
 
 
 if __name__ == "__main__":

@@ -129,6 +129,9 @@ def integer(bits, signed=True):
     return Type(2, (word(bits), bytes([signed])), f"{'' if signed else 'u'}int{bits}", "number", bits // 8, signed)
 
 
+INDEX = integer(32)
+
+
 def decimal(precision, scale):
     return Type(7, (word(precision), word(scale), word(128)), f"decimal[{precision}, {scale}]", "number", 16)
 
@@ -163,9 +166,15 @@ def struct_of(*children):
     return Type(13, (), "struct", "struct", children=children)
 
 
-def field(name, type_):
+def field(name, type_, encoding=None):
     children = Vector([field(*it) for it in type_.children])
-    return Table(text(name.encode()), b"\1", bytes([type_.kind]), Table(*type_.slots), None, children)
+    return Table(text(name.encode()), b"\1", bytes([type_.kind]), Table(*type_.slots), encoding, children)
+
+
+def encoding(number):
+    """What the field of a coded column says of its dictionary: its id, which is the column's position, the indices' type, that its values
+    aren't ordered, and the kind of dictionary."""
+    return Table(long(number), Table(*INDEX.slots), b"\0", half(0))
 
 
 def bits(truths):
@@ -202,7 +211,8 @@ def arrays(type_, values):
         yield from arrays(child, held)
 
 
-def batch(columns, rows):
+def record(columns, rows):
+    """The table of a batch, and its body."""
     nodes, spans, body = [], [], Metadata()
     for at, (_, type_) in enumerate(columns):
         for length, nulls, buffers in arrays(type_, [row[at] for row in rows]):
@@ -211,18 +221,38 @@ def batch(columns, rows):
                 spans.append((aligned(body, 8), len(held)))
                 body += held
     aligned(body, 8)
-    return message(RECORD_BATCH, Table(long(len(rows)), pairs(nodes), pairs(spans)), bytes(body))
+    return Table(long(len(rows)), pairs(nodes), pairs(spans)), bytes(body)
 
 
-def schema(columns):
-    return message(SCHEMA, Table(half(0), Vector([field(*it) for it in columns])), b"")
+def dictionary_batch(number, values):
+    """The values of a dictionary, in place of those that it had."""
+    table, body = record([("", UTF8)], [[it] for it in values])
+    return message(DICTIONARY_BATCH, Table(long(number), table, b"\0"), body)
 
 
-def stream(columns, batches):
-    """The canonical stream of some columns, each a name and a type, with these batches."""
-    return schema(columns) + b"".join(batch(columns, rows) for rows in batches) + END_MARK
+def batch(columns, rows, coded=()):
+    """A batch, before which the dictionary of each coded column stands: its texts in this batch, each once, where it is first."""
+    columns, rows, dictionaries = [*columns], [[*row] for row in rows], b""
+    for at in sorted(coded):
+        values = [*dict.fromkeys(row[at] for row in rows if row[at] is not None)]
+        indices = {it: index for index, it in enumerate(values)}
+        dictionaries += dictionary_batch(at, values)
+        columns[at] = (columns[at][0], INDEX)
+        for row in rows:
+            row[at] = indices.get(row[at])
+    return dictionaries + message(RECORD_BATCH, *record(columns, rows))
 
 
-def stream_of_rows(columns, rows):
+def schema(columns, coded=()):
+    fields = [field(*it, encoding(at) if at in coded else None) for at, it in enumerate(columns)]
+    return message(SCHEMA, Table(half(0), Vector(fields)), b"")
+
+
+def stream(columns, batches, coded=()):
+    """The canonical stream of some columns, each a name and a type, with these batches; `coded` are the positions of coded columns."""
+    return schema(columns, coded) + b"".join(batch(columns, rows, coded) for rows in batches) + END_MARK
+
+
+def stream_of_rows(columns, rows, coded=()):
     """The canonical stream of a table whose rows are light."""
-    return stream(columns, [rows[at : at + BATCH_ROWS] for at in range(0, len(rows), BATCH_ROWS)])
+    return stream(columns, [rows[at : at + BATCH_ROWS] for at in range(0, len(rows), BATCH_ROWS)], coded)

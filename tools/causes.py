@@ -7,7 +7,7 @@ import tomllib
 
 NAMES = {
     61: "NotToml", 62: "UnknownName", 63: "DuplicateColumn", 64: "TypeText", 65: "ConstantType", 66: "SumType", 67: "OrderType",
-    68: "OverLimit", 69: "Shape",
+    68: "OverLimit", 69: "Shape", 70: "DictType",
 }
 MOST = {"side": 4, "feed": 16, "view": 32}
 MOST_COLUMNS, MOST_FIELDS, MOST_LEVELS, MOST_BYTES = 64, 1024, 16, 255
@@ -197,66 +197,36 @@ class Table(Reader):
             self.need(not is_nested(self.types[self.key]), 67)
 
 
-class View(Reader):
-    """A view over a main table and perhaps a side table. A column is known by its table, `main` or `side`, and its name."""
+class Columns(Reader):
+    """What reads references to the columns of some tables, and filters of them. A table is its columns by their names, each with its type,
+    or None where that isn't known; or it is None where there is none to which one could refer. A column is known by its table and its name;
+    a name alone is one of the first table."""
 
-    def __init__(self, causes, held, main, sides):
+    def __init__(self, causes, tables):
         super().__init__(causes)
-        held = self.entries(held, ["columns"], ("lookup", "filter", "group", "order", "first"))
-        self.tables = {"main": main}
-        if "lookup" in held and not self.lookup(held["lookup"], sides):
-            return
-        if "filter" in held:
-            self.need(self.filter(held["filter"]) <= MOST_PARTS, 68)
-        self.grouping = self.group(held) if "group" in held else None
-        self.outputs, fields = {}, 0
-        for output in self.column_list(held):
-            if self.need(isinstance(output, list) and len(output) > 1 and isinstance(output[0], str), 69):
-                name, *how = output
-                self.need(has_bytes(name), 68)
-                is_new = self.need(name not in self.outputs, 63)
-                type_ = self.output(*how)
-                fields += fields_of(type_)
-                self.outputs[name] = type_ if is_new else None
-        self.need(fields <= MOST_FIELDS, 68)
-        self.order(held)
-        if "first" in held and self.need(is_whole(held["first"]), 69):
-            self.need(0 <= held["first"] <= MOST_ROWS, 68)
+        self.tables = tables
 
     def type_of(self, column):
-        return self.tables[column[0]].types[column[1]] if column else None
-
-    def lookup(self, held, sides):
-        """Takes the side table of a lookup, and answers whether it isn't refused."""
-        inner = Reader(Causes())
-        held = inner.entries(held, ("side", "on", "missing"))
-        inner.need(held.get("missing", "null") in ("null", "drop"), 69)
-        main, side, key = self.tables["main"], None, None
-        if "side" in held and inner.need(isinstance(held["side"], str), 69) and inner.need(held["side"] in sides, 62):
-            self.tables["side"] = side = sides[held["side"]]
-            key = side.types.get(side.key) if isinstance(side.key, str) else None
-        if "on" in held and inner.need(isinstance(held["on"], str), 69) and inner.need(held["on"] in main.types, 62):
-            type_ = main.types[held["on"]]
-            if inner.need(not is_nested(type_), 67):
-                inner.need(None in (type_, key) or type_ == key, 65)
-        self.causes.stand |= inner.causes.stand
-        return not inner.causes.stand
+        return self.tables[column[0]][column[1]] if column else None
 
     def column(self, held):
         """The column that a reference means, or None."""
-        table, name = held if isinstance(held, list) and len(held) == 2 else ["main", held]
-        if self.need(table in ("main", "side") and isinstance(name, str), 69):
-            if self.need(table in self.tables and name in self.tables[table].types, 62):
-                return table, name
+        names = [*self.tables]
+        table, name = held if isinstance(held, list) and len(held) == 2 else [names[0], held]
+        if self.need(table in names and isinstance(name, str), 69) and self.need(name in (self.tables[table] or ()), 62):
+            return table, name
         return None
 
-    def filter(self, held, level=1):
-        """Reads a filter, and answers how many parts it has."""
+    def filter(self, held):
+        self.need(self.part(held, 1) <= MOST_PARTS, 68)
+
+    def part(self, held, level):
+        """Reads a part of a filter, and answers of how many it is made."""
         if not self.need(level <= MOST_LEVELS, 68):
             return 1
         word, *of = held if isinstance(held, list) and held else [None]
         if (word in ("and", "or") and of) or (word == "not" and len(of) == 1):
-            return 1 + sum(self.filter(it, level + 1) for it in of)
+            return 1 + sum(self.part(it, level + 1) for it in of)
         if word in COMPARISONS and len(of) == 2:
             self.comparison(*of)
         elif self.need(word == "is_null" and len(of) == 1, 69):
@@ -270,6 +240,52 @@ class View(Reader):
         elif None not in types:
             self.need(types[0] == types[1] if isinstance(other, list) else is_constant(other, types[0]), 65)
 
+
+class View(Columns):
+    """A view over a main table and perhaps a side table."""
+
+    def __init__(self, causes, held, main, sides):
+        super().__init__(causes, {"main": main.types, "side": None})
+        held = self.entries(held, ["columns"], ("lookup", "filter", "group", "having", "order", "first", "dict"))
+        if "lookup" in held and not self.lookup(held["lookup"], sides):
+            return
+        if "filter" in held:
+            self.filter(held["filter"])
+        self.grouping = self.group(held) if "group" in held else None
+        self.outputs, fields = {}, 0
+        for output in self.column_list(held):
+            if self.need(isinstance(output, list) and len(output) > 1 and isinstance(output[0], str), 69):
+                name, *how = output
+                self.need(has_bytes(name), 68)
+                is_new = self.need(name not in self.outputs, 63)
+                type_ = self.output(*how)
+                fields += fields_of(type_)
+                self.outputs[name] = type_ if is_new else None
+        self.need(fields <= MOST_FIELDS, 68)
+        if "having" in held and self.need(self.grouping is not None, 69):
+            Columns(causes, {"out": self.outputs}).filter(held["having"])
+        self.order(held)
+        if "first" in held and self.need(is_whole(held["first"]), 69):
+            self.need(0 <= held["first"] <= MOST_ROWS, 68)
+        self.coded(held)
+
+    def lookup(self, held, sides):
+        """Takes the side table of a lookup, and answers whether it isn't refused."""
+        inner = Reader(Causes())
+        held = inner.entries(held, ("side", "on", "missing"))
+        inner.need(held.get("missing", "null") in ("null", "drop"), 69)
+        main, key = self.tables["main"], None
+        if "side" in held and inner.need(isinstance(held["side"], str), 69) and inner.need(held["side"] in sides, 62):
+            side = sides[held["side"]]
+            self.tables["side"] = side.types
+            key = side.types.get(side.key) if isinstance(side.key, str) else None
+        if "on" in held and inner.need(isinstance(held["on"], str), 69) and inner.need(held["on"] in main, 62):
+            type_ = main[held["on"]]
+            if inner.need(not is_nested(type_), 67):
+                inner.need(None in (type_, key) or type_ == key, 65)
+        self.causes.stand |= inner.causes.stand
+        return not inner.causes.stand
+
     def group(self, held):
         """The grouping columns."""
         columns = [it for it in map(self.column, self.items(held, "group")) if it]
@@ -279,7 +295,7 @@ class View(Reader):
 
     def output(self, what, *of):
         """The type of an output, or None where it isn't known."""
-        is_of_one = len(of) == 1 and what in ("col", "count", "sum", "least", "greatest")
+        is_of_one = len(of) == 1 and what in ("col", "count", "distinct", "sum", "least", "greatest")
         if not self.need(is_of_one or (what == "count" and not of), 69):
             return None
         self.need(what == "col" or self.grouping is not None, 69)
@@ -287,13 +303,11 @@ class View(Reader):
         type_ = self.type_of(column)
         if what == "col" and self.grouping is not None and column:
             self.need(column in self.grouping, 62)
-        if what == "count":
-            return "int64"
         if what == "sum":
-            self.need(type_ is None or is_summed(type_), 66)
-            return ["decimal", MOST_DIGITS, 0]
-        self.need(what == "col" or not is_nested(type_), 67)
-        return type_
+            is_known = type_ is not None and self.need(is_summed(type_), 66)
+            return ["decimal", MOST_DIGITS, type_[2] if isinstance(type_, list) else 0] if is_known else None
+        self.need(what in ("col", "count") or not is_nested(type_), 67)
+        return "int64" if what in ("count", "distinct") else type_
 
     def order(self, held):
         """Reads the order, by outputs of the view."""
@@ -303,6 +317,14 @@ class View(Reader):
                 names.append(it[0])
                 if self.need(it[0] in self.outputs, 62):
                     self.need(not is_nested(self.outputs[it[0]]), 67)
+        self.need(are_distinct(names), 63)
+
+    def coded(self, held):
+        """Reads which outputs are written with dictionaries."""
+        names = [it for it in self.items(held, "dict") if self.need(isinstance(it, str), 69)]
+        for it in names:
+            if self.need(it in self.outputs, 62):
+                self.need(self.outputs[it] in ("utf8", None), 70)
         self.need(are_distinct(names), 63)
 
 

@@ -24,9 +24,9 @@ DATE, TIME, MOMENT = datetime.date(2020, 1, 1), datetime.time(1), datetime.datet
 JUNK = (5, -1, True, 1.5, float("inf"), DATE, "", NONE, "k", [], ["k"], [[]], {}, {"k": 1}, {"k": []}, 2**24 + 1, -(2**63))
 GREAT = (2**63, -(2**63) - 1, 2**64, 10**30)
 SMALL = {"side": {"key": "k", "columns": [["k", "bool"]]}, "feed": {"role": "append"}, "view": {"columns": [["n", "count"]], "group": []}}
-OPERATIONS = ("col", "count", "sum", "least", "greatest")
-OTHER_WORDS = (*OPERATIONS, *causes.COMPARISONS, "is_null", "not", "and", "or", "asc", "desc", "ASC", "", NONE)
-OTHER_ENTRIES = ("side", "first", "group", "order", "keys", "role", "dict", "")
+OPERATIONS = ("col", "count", "sum", "least", "greatest", "distinct")
+OTHER_WORDS = (*OPERATIONS, *causes.COMPARISONS, "is_null", "not", "and", "or", "asc", "desc", "out", "main", "ASC", "", NONE)
+OTHER_ENTRIES = ("side", "first", "group", "order", "having", "dict", "keys", "role", "dicts", "")
 LONG = ("", "n" * 255, "n" * 256, "é" * 127 + "n", "é" * 128, "é" * 255, "\0", " ", '"', "\\")
 NO_NAMES = ("", "n" * 65, "a b", "é", "a.b", "a\n", " ", "٣")
 ZONES = ("Z", "UTC", "Europe/Berlin", "z" * 255, "é" * 127)
@@ -72,7 +72,7 @@ class Wide(Configuration):
             "decimal": [precision, pick((0, precision, self.random.randint(0, precision)))], "time": [unit], "duration": [unit],
             "timestamp": [unit, *[pick(ZONES)] * pick((0, 1))], "fixed": [pick((0, 1, 2, 16, causes.MOST_FIXED))],
         }
-        word = pick((*sorted(causes.WORDS), *[*parameters, "decimal", "fixed"] * 3))
+        word = pick((*sorted(causes.WORDS), *[*parameters, "decimal", "fixed", "utf8", "utf8"] * 3))
         return [word, *parameters[word]] if word in parameters else word
 
     def nested_type(self, levels):
@@ -156,14 +156,22 @@ class Changed:
         sides = self.root["tree"].get("side")
         return self.pick([NONE, "main", *[*(sides if isinstance(sides, dict) else ())] * 2])
 
-    def other_reference(self, _held):
+    def columns_found(self):
+        """References to the columns of all tables, each with its type."""
         main = self.root["tree"].get("main")
         columns = main.get("columns") if isinstance(main, dict) else None
-        found = [("main" if holder is columns else "side", *holder[at]) for holder, at in self.places().get("column", ())]
-        nested = [[table, name] for table, name, type_ in found if causes.is_nested(type_ or None)]
+        places = self.places().get("column", ())
+        return [(["main" if holder is columns else "side", holder[at][0]], holder[at][1]) for holder, at in places]
+
+    def nested_reference(self):
+        """A reference to a list or a struct, or, where there is none, to some column."""
+        found = self.columns_found()
+        return self.pick([it for it, type_ in found if causes.is_nested(type_ or None)] or [it for it, _ in found] or [NONE])
+
+    def other_reference(self, _held):
         name = self.name_of("column")
-        others = [[table, name] for table, name, _ in found] or [name]
-        return self.pick((name, ["side", name], self.some("reference") or name, self.pick(nested or others), self.pick(others)))
+        others = [it for it, _ in self.columns_found()] or [name]
+        return self.pick((name, ["side", name], self.some("reference") or name, self.nested_reference(), self.pick(others)))
 
     def same_reference(self, held):
         """The other form of a reference."""
@@ -210,11 +218,51 @@ class Changed:
     def extreme(self, held):
         return [held[0], self.pick(("least", "greatest")), self.other_reference(None)]
 
-    def ordered(self, held):
-        """A view with one more output, by which it is ordered."""
+    def distinct(self, held):
+        return [held[0], "distinct", self.pick((self.nested_reference(), self.other_reference(None)))]
+
+    def shown_name(self, held):
+        """The name of an output of a view, or one that is none of it."""
         columns = held.get("columns")
-        more = ["more", "col", self.other_reference(None)]
-        return held | {"columns": [*columns, more], "order": [["more", "asc"]]} if isinstance(columns, list) else held
+        named = [it[0] for it in columns if isinstance(it, list) and it] if isinstance(columns, list) else []
+        return self.pick((self.name_of("output", "column"), *named, *named))
+
+    def with_more(self, held, reference, entry, *items):
+        """A view with one more output, and an entry that names it."""
+        columns = held.get("columns")
+        more = {"columns": [*columns, ["more", "col", reference]], entry: [*items]} if isinstance(columns, list) else {}
+        return held | more
+
+    def ordered(self, held):
+        return self.with_more(held, self.other_reference(None), "order", ["more", "asc"])
+
+    def coded(self, held):
+        """A view with a coded column, which may have no texts."""
+        near = [it for it, type_ in self.columns_found() if type_ == "binary" or causes.is_nested(type_ or None)]
+        reference = self.pick((self.other_reference(None), *near))
+        return self.pick((self.with_more(held, reference, "dict", "more"), held | {"dict": [self.shown_name(held)]}))
+
+    def coded_twice(self, held):
+        """A view that names a column twice among those that are coded."""
+        name, coded = self.shown_name(held), held.get("dict")
+        return held | {"dict": self.inserted(coded, self.pick([*coded, name])) if isinstance(coded, list) and coded else [name, name]}
+
+    def shown_reference(self, held):
+        """A reference as it may stand in a filter of group rows, or nearly so."""
+        name = self.shown_name(held)
+        return self.pick((name, ["out", name], ["out", name], ["main", name], ["main", name], ["side", name], ["out", NONE], ["out"]))
+
+    def having(self, held):
+        """A view with a filter of group rows, which may be a view without groups."""
+        first, second = self.shown_reference(held), self.shown_reference(held)
+        constant = self.pick((0, 1, True, "a", "0.00", "00", self.some("constant") or 0))
+        compared = [[self.pick(causes.COMPARISONS), first, it] for it in (second, constant)]
+        return held | {"having": self.pick((["is_null", first], *compared))}
+
+    def other_shown(self, held):
+        """Another reference in a filter of group rows."""
+        others = (self.name_of("output", "output", "column"), held[1] if isinstance(held, list) and len(held) > 1 else held)
+        return self.pick((*others, *(["out", it] for it in others), ["main", others[0]], ["out"]))
 
     def nested_column(self, held):
         return [held[0], self.pick((["list", held[1]], ["struct", ["c", held[1]]], ["struct"]))]
@@ -282,14 +330,21 @@ class Changed:
         rest = [self.filter_of(count - 1 - first, levels - 1)] if first < count - 1 else []
         return [self.pick(("and", "or")) if rest else self.pick(("and", "or", "not")), self.filter_of(first, levels - 1), *rest]
 
+    def grouped_by_key(self, held):
+        """A view with groups of which `k` is an output, as it is a column of the main table, so that a filter of either can name it."""
+        return held | {"group": ["k"], "columns": [["k", "col", "k"]], "order": [], "dict": []}
+
     def many_parts(self, held):
-        return held | {"filter": self.filter_of(causes.MOST_PARTS + self.pick(OVER), causes.MOST_LEVELS)}
+        made = self.filter_of(causes.MOST_PARTS + self.pick(OVER), causes.MOST_LEVELS)
+        return self.pick((held | {"filter": made}, self.grouped_by_key(held) | {"having": made}))
 
     def deep_filter(self, held):
-        made = self.pick((["is_null", "k"], ["is_null", "k"], ["is_null", NONE], [], held.get("filter", [])))
+        entry = self.pick(("filter", "having"))
+        held = self.grouped_by_key(held) if entry == "having" else held
+        made = self.pick((["is_null", "k"], ["is_null", "k"], ["is_null", NONE], [], held.get(entry, [])))
         for _ in range(causes.MOST_LEVELS - 1 + self.pick((0, 0, 1, 2))):
             made = self.pick((["not", made], ["and", ["is_null", "k"], made], ["or", made]))
-        return held | {"filter": made}
+        return held | {entry: made}
 
     # Other forms.
 
@@ -367,7 +422,8 @@ ROUND = (
     (2, "grouped", lambda made, held: [held[0], "col", made.other_reference(None)]),
     (1, "view", without_entry("lookup")),
     *((1, role, Changed.dropped) for role in ("columns", "outputs", "references")),
-    *((2, role, Changed.twice) for role in ("columns", "outputs", "ordereds")),
+    *((2, role, Changed.twice) for role in ("columns", "outputs", "ordereds", "codeds")),
+    *((2, role, Changed.other_shown) for role in ("shown", "coded")),
     (2, "type", Changed.child_twice),
     (3, "references", Changed.reference_twice),
     # Other types, constants, and columns for which a type is declared.
@@ -380,7 +436,11 @@ ROUND = (
     (3, "view", Changed.other_lookup),
     (4, "grouped", Changed.summed),
     (4, "grouped", Changed.extreme),
+    (8, "grouped", Changed.distinct),
     (4, "view", Changed.ordered),
+    (9, "view", Changed.coded),
+    (3, "view", Changed.coded_twice),
+    (14, "view", Changed.having),
     (2, "output", Changed.other_output),
     (3, "ordered", lambda made, held: [made.name_of("output", "column"), "asc"]),
     (3, "references", lambda made, held: made.inserted(held, made.other_reference(None))),
@@ -394,17 +454,17 @@ ROUND = (
     (2, "type", Changed.long_child),
     *((4, "columns", change) for change in (Changed.many_fields, Changed.deep_type, Changed.heavy_type)),
     (2, "tree", Changed.many_shown),
-    (2, "view", Changed.many_parts),
-    (2, "view", Changed.deep_filter),
+    (4, "view", Changed.many_parts),
+    (4, "view", Changed.deep_filter),
     (2, "view", with_entry("first", -1, 2**24, 2**24 + 1)),
     (1, "view", with_entry("first", -(2**63), 0, 2**63 - 1)),
     # Other forms.
     (6, "entry", one_of(JUNK)),
     *((2, role, one_of(JUNK)) for role in ("value", "reference")),
-    *((1, role, one_of(JUNK)) for role in ("column", "output", "ordered")),
+    *((1, role, one_of(JUNK)) for role in ("column", "output", "ordered", "coded", "shown", "having")),
     *((2, role, change) for role in ("held", "tree") for change in (Changed.dropped, Changed.added)),
     (3, "tree", Changed.other_name),
-    *((2, role, Changed.other_word) for role in ("ordered", "filter")),
+    *((2, role, Changed.other_word) for role in ("ordered", "filter", "having")),
     (2, "feed", with_entry("role", "append", "retract", "put", "drop", "add", "", 5)),
     (1, "feed", lambda made, held: held | {"side": made.side_name()}),
     (1, "view", without_entry("group")),

@@ -13,8 +13,8 @@ from configurations import entry
 
 ROOT = os.path.dirname(os.path.dirname(os.path.abspath(__file__)))
 COLUMNS = [["k", "int64"], ["t", "utf8"]]
-CAUSES = ("refused 68 OverLimit", "refused 64 TypeText", "refused 65 ConstantType", "refused 66 SumType", "refused 69 Shape")
-OVER_LIMIT, TYPE_TEXT, CONSTANT_TYPE, SUM_TYPE, SHAPE = CAUSES
+OVER_LIMIT, TYPE_TEXT, CONSTANT_TYPE = "refused 68 OverLimit", "refused 64 TypeText", "refused 65 ConstantType"
+SUM_TYPE, SHAPE, DICT_TYPE = "refused 66 SumType", "refused 69 Shape", "refused 70 DictType"
 
 
 def main(*columns, key="k"):
@@ -27,6 +27,10 @@ def entries(kind, count, **members):
 
 def view(name="v", columns=(["k", "col", "k"],), **members):
     return entry(f"view.{name}", columns=[*columns], **members)
+
+
+def grouped(by="k", **members):
+    return view(columns=[[by, "col", by]], group=[by], **members)
 
 
 def fields(count):
@@ -79,6 +83,9 @@ def limits():
     yield "a feed's name", main() + entry("feed." + "f" * 64, role="append"), main() + entry("feed." + "f" * 65, role="append"), SHAPE
     yield "parts of a filter", main() + view(filter=parts(256)), main() + view(filter=parts(257)), OVER_LIMIT
     yield "levels of a filter", main() + view(filter=negations(16)), main() + view(filter=negations(17)), OVER_LIMIT
+    yield "parts of a filter of groups", main() + grouped(having=parts(256)), main() + grouped(having=parts(257)), OVER_LIMIT
+    yield "levels of a filter of groups", main() + grouped(having=negations(16)), main() + grouped(having=negations(17)), OVER_LIMIT
+    yield "a coded column", main() + grouped("t", dict=["t"]), main() + grouped("k", dict=["k"]), DICT_TYPE
     yield "first, least", main() + view(first=0), main() + view(first=-1), OVER_LIMIT
     yield "first, greatest", main() + view(first=2**24), main() + view(first=2**24 + 1), OVER_LIMIT
     yield "a zone", main(["c", ["timestamp", "us", "z" * 255]]), main(["c", ["timestamp", "us", "z" * 256]]), TYPE_TEXT

@@ -1,6 +1,6 @@
 #!/usr/bin/env python3
 """Runs random scripts over random configurations, and compares each line that is printed and each file that is made with what
-tools/model.py says of docs/VIEWS.md and tools/canonical.py of docs/FORMAT.md.
+tools/model.py says of docs/VIEWS.md and tools/canonical.py of docs/FORMAT.md. A stream with coded columns is also recast, to the plain one.
 """
 import os
 import random
@@ -10,23 +10,38 @@ import sys
 sys.dont_write_bytecode = True
 import canonical
 from configurations import text_of
-from model import UNDOS, Tables
-from random_configurations import Configuration, value_of
+from model import UNDOS, Tables, coded
+from random_configurations import BYTES, Configuration, value_of
 from random_runs import compare
+
+# Types of keys of which there are few.
+FEW = ("bool", "int8", "binary", BYTES)
 
 
 class Session:
-    """A configuration and a script over it, with what the script prints and the files that it makes."""
+    """A configuration and a script over it, with what the script prints and the files that it makes. `decoded` are the plain streams of
+    those with coded columns."""
 
     def __init__(self, number):
         self.random = random.Random(number)
-        self.config = Configuration(self.random).made()
+        self.config = self.large() if number % 25 == 1 else Configuration(self.random).made()
         self.tables, self.feeds = Tables(self.config), {name: Feed(**it) for name, it in self.config["feed"].items()}
-        self.lines, self.printed, self.made = [], [], {}
-        # Some sessions have more edits than can be undone, which they undo at last, and others more rows than a written batch.
+        self.lines, self.printed, self.made, self.decoded = [], [], {}, {}
+        # Some sessions have more edits than can be undone, which they undo at last, others more rows than a written batch, and some enough
+        # of them for groups of many.
         self.steps, self.undos = (300, UNDOS + 1) if number % 25 == 0 else (40, 0)
-        self.most_rows = 1500 if number % 25 == 1 else 4
+        self.most_rows = 1500 if number % 25 == 1 else 30 if number % 5 == 2 else 4
         self.make()
+
+    def large(self):
+        """A configuration of which the main table can have many rows, and a view all of whose texts are coded."""
+        texts = []
+        while not texts or types["k"] in FEW:
+            made = Configuration(self.random).made()
+            types = dict(made["main"]["columns"])
+            texts = [name for name, type_ in types.items() if type_ == "utf8"]
+        made["view"]["texts"] = {"columns": [[it, "col", it] for it in texts], "dict": texts}
+        return made
 
     def say(self, line, *answers):
         self.lines.append(line)
@@ -77,10 +92,13 @@ class Session:
 
     def write(self, name=None):
         name = name or self.random.choice([*self.config["view"]])
-        columns, rows = self.tables.show(self.config["view"][name])
-        stream = canonical.stream_of_rows(typed(columns), rows)
+        view = self.config["view"][name]
+        columns, rows = self.tables.show(view)
+        stream = canonical.stream_of_rows(typed(columns), rows, coded(view))
         path = f"made-{len(self.made)}"
         self.made[path] = stream
+        if coded(view):
+            self.decoded[path] = canonical.stream_of_rows(typed(columns), rows)
         self.say(f"write {name} {path}", f"wrote {len(stream)}")
 
     def end(self, name):
@@ -138,12 +156,19 @@ def fault_of(program, session, room):
         return f"it printed {printed[at : at + 1]}, and the model says {wanted[at : at + 1]}"
     if ran.returncode != any(": refused" in it for it in session.printed):
         return f"it ended with {ran.returncode}"
-    for path, wanted in session.made.items():
-        with open(f"{room}/{path}", "rb") as file:
-            if file.read() != wanted:
-                line = next(it for it in session.lines if it.endswith(f" {path}"))
-                return f"`{line}` wrote another stream than the model"
-    return None
+    for path, plain in session.decoded.items():
+        subprocess.run([program, "recast", path, f"{path}-decoded"], cwd=room, capture_output=True, timeout=60)
+    wanted = session.made | {f"{path}-decoded": plain for path, plain in session.decoded.items()}
+    other = next((it for it in wanted if bytes_of(f"{room}/{it}") != wanted[it]), None)
+    return f"{other} is another stream than the model's" if other else None
+
+
+def bytes_of(path):
+    """The bytes of a file, or None where there is none."""
+    if not os.path.exists(path):
+        return None
+    with open(path, "rb") as file:
+        return file.read()
 
 
 if __name__ == "__main__":

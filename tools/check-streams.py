@@ -29,12 +29,15 @@ class Stream:
 
     def __init__(self, number):
         self.random, self.dictionaries = random.Random(number), []
+        # Some streams have columns that are coded as lv writes them.
+        self.is_written = self.chance(0.2)
         self.columns = [(self.name(), self.type(3)) for _ in range(self.random.randint(0, 5))]
-        self.stored = [self.stored_as(name, it) for name, it in self.columns]
+        if self.is_written:
+            self.columns = [(name, canonical.UTF8 if self.chance(0.5) else it) for name, it in self.columns]
+        self.stored = [self.written(*it, at) if self.is_written else self.stored_as(*it) for at, it in enumerate(self.columns)]
         self.rows, self.messages = [], [self.schema_message()]
         for _ in range(self.random.randint(0, 4)):
-            self.messages += [self.values(it) for it in self.dictionaries if self.chance(0.6)]
-            self.messages.append(self.batch())
+            self.messages += self.written_batch() if self.is_written else self.loose_batch()
         if self.chance(0.7):
             self.messages.append(Message(self.random, 0, ["end"]))
         for it in self.messages:
@@ -91,6 +94,14 @@ class Stream:
         self.dictionaries += [stored] * (dictionary is not None)
         return stored
 
+    def written(self, name, type_, at=None):
+        """A field as lv writes it: a column at this place, which may have a dictionary of its own, or one below a column."""
+        is_coded = at is not None and type_ is canonical.UTF8 and self.chance(0.8)
+        dictionary = Dictionary(at, canonical.INDEX) if is_coded else None
+        stored = Stored(name, type_, False, dictionary, [self.written(*it) for it in type_.children])
+        self.dictionaries += [stored] * (dictionary is not None)
+        return stored
+
     # The metadata
 
     def schema_message(self):
@@ -118,17 +129,40 @@ class Stream:
     def encoding(self, dictionary):
         if dictionary is None:
             return None
+        if self.is_written:
+            return Part("DictionaryEncoding", long(dictionary.id), Part("Type", *canonical.INDEX.slots), b"\0", half(0))
         number = long(dictionary.id) if dictionary.id or self.chance(0.5) else None
         index = None if dictionary.index is None else Part("Type", *dictionary.index.slots)
         return Part("DictionaryEncoding", number, index, self.random.choice((None, b"\0", b"\1")), self.random.choice((None, half(0))))
 
+    def loose_batch(self):
+        """A batch, before it perhaps some of values."""
+        return [self.values(it) for it in self.dictionaries if self.chance(0.6)] + [self.batch()]
+
     def values(self, stored):
         """A batch of values, in place of those that are there or behind them."""
-        plain, dictionary = replace(stored, dictionary=None), stored.dictionary
-        count, is_delta = self.random.randint(0, 4), self.chance(0.5)
-        values, arrays = self.column(plain, count)
-        arrays[0].known = len(dictionary.values) * is_delta
-        dictionary.values[:] = dictionary.values * is_delta + values
+        held, is_delta = stored.dictionary.values, self.chance(0.5)
+        values, arrays = self.column(replace(stored, dictionary=None), self.random.randint(0, 4))
+        arrays[0].known = len(held) * is_delta
+        held[:] = held * is_delta + values
+        return self.dictionary_message(stored.dictionary, len(values), arrays, is_delta)
+
+    def written_batch(self):
+        """A batch as lv writes it: before it one of values for each coded column, which has the texts of this batch, each once, where it is
+        first, and no null."""
+        for it in self.dictionaries:
+            it.dictionary.values[:] = [text.encode() for text in self.random.sample(TEXTS, len(TEXTS))]
+        batch = self.batch()
+        return [self.written_values(it) for it in self.dictionaries] + [batch]
+
+    def written_values(self, stored):
+        held = stored.dictionary.values
+        array = Array(replace(stored, dictionary=None), [True] * len(held), [True] * len(held), is_column=True)
+        own = self.offsets(array, [len(it) for it in held])
+        array.buffers = [b"", own, b"\x80" * array.ends[0] + b"".join(held)]
+        return self.dictionary_message(stored.dictionary, len(held), [array], False)
+
+    def dictionary_message(self, dictionary, count, arrays, is_delta):
         record = Record(self.random, count, arrays)
         number = long(dictionary.id) if dictionary.id or self.chance(0.5) else None
         delta = bytes([is_delta]) if is_delta or self.chance(0.5) else None
@@ -167,11 +201,16 @@ class Stream:
         return shown, [array, *below]
 
     def indices(self, array):
-        """Indices of the values of now; those of null slots are any numbers."""
+        """Indices of the values of now; those of null slots are any numbers. Of values as lv writes them none stays without an index, and
+        they are in the order of their first."""
         type_, held = array.stored.dictionary.index_type(), array.stored.dictionary.values
+        known, used, indices = min(len(held), 2 ** (8 * type_.width - type_.signed)), 0, []
+        for it in array.valid:
+            indices.append(self.random.randrange(min(known, used + 1) if self.is_written else known) if it else -1)
+            used = max(used, indices[-1] + 1)
+        if self.is_written:
+            del held[used:]
         array.known = len(held)
-        known = min(len(held), 2 ** (8 * type_.width - type_.signed))
-        indices = [self.random.randrange(known) if it else -1 for it in array.valid]
         own = b"".join(self.random.randbytes(type_.width) if it < 0 else it.to_bytes(type_.width, "little") for it in indices)
         return [held[it] if it >= 0 else None for it in indices], [own], []
 

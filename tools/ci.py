@@ -5,11 +5,11 @@ import os
 import re
 import subprocess
 import sys
-from types import SimpleNamespace
 
 sys.dont_write_bytecode = True
-import edits
 from lanes import crates_of
+from must_fail import edits_of
+from records import record, stamps_of
 
 ROOT = os.path.dirname(os.path.dirname(os.path.abspath(__file__)))
 # What it says where all is well, without the words that it adds where an edit couldn't be applied.
@@ -29,12 +29,12 @@ def toolchain_gate():
 
 def main():
     crates = crates_of(ROOT)
-    stamps = [edits.stamp(ROOT, crates, it) for it in crates]
+    stamps = {it: stamps_of(ROOT, crates, it) for it in crates}
     status, refused = toolchain_gate()
-    number = sum(len(edits.edits_of(ROOT, it)[0]) for it in crates)
-    is_same = stamps == [edits.stamp(ROOT, crates, it) for it in crates]
+    number = sum(len(edits_of(ROOT, it)[0]) for it in crates)
+    is_same = stamps == {it: stamps_of(ROOT, crates, it) for it in crates}
     if status == 0 and refused == number and is_same:
-        edits.record(ROOT, [*crates], SimpleNamespace(failed=[]))
+        record(ROOT, stamps, set())
     return status
 
 

@@ -1,20 +1,24 @@
 #!/usr/bin/env python3
 """The merge gate. The last line is 'N passed, M failed'.
 
-In a copy of the tree, which holds nothing of an earlier run, and in lanes beside it:
+In a copy of the tree, which holds nothing of an earlier run, and in lanes beside it, this is always done:
 1. Each crate is proved from nothing, once those below it are. rt would begin with what it kept of the same text in another copy on the
    machine, so the copies of a run have a line that no other has.
 2. Over that proof the crate is checked for contracts that no call can meet and for what HANDLES doesn't allow, its layout is compared
-   with rt fmt's, its tests are proved and run, its must-fail edits are tried (tools/edits.py; with --due a part of them), and the
-   program is built by both compilers.
+   with rt fmt's, its tests are proved and run, and the program is built by both compilers.
 3. The program as each compiler made it is run: as crates/lv says, over the examples, with refused memory, with outputs that take nothing.
 4. `rt all check` looks for files that no crate reads, and finds every crate proved as the tree has it.
 
-What a task waits for is all that orders them, so a crate's tests and edits are tried while those above it are proved.
+Then the must-fail edits that are due are tried (tools/must_fail.py, tools/records.py), until a time: none is begun later, and the gate
+says of which crates some weren't. With --all all edits are tried, however long it takes.
+
+What a task waits for is all that orders them, so a crate's tests are tried while those above it are proved, and edits where nothing else
+is ready.
 
 `make ci` is the toolchain's own gate: it proves each crate three times, and knows no kept work. It is run before a release.
 """
 import argparse
+import math
 import os
 import re
 import secrets
@@ -30,11 +34,14 @@ from functools import partial
 from typing import Callable
 
 sys.dont_write_bytecode = True
-import edits
 from lanes import Lanes, PARTS, below, crates_of, files_below, link, read, run
+from must_fail import Trial
+from records import RECORD, all_of, part_of, plan, turn_of
 
 ROOT = os.path.dirname(os.path.dirname(os.path.abspath(__file__)))
 PROGRAM = "lv"
+# The merge has 180 minutes.
+UNTIL = 130
 # How the program is built, and how what comes of it is called.
 BACKENDS = {"llvm": "lv", "rattle": "lv.by-rattle"}
 RUNS = (
@@ -67,24 +74,31 @@ class Task:
 
 
 class Schedule:
-    """Tasks by urgency: the first that can be begun is, in as many threads as there are lanes. What waits for something that wasn't
-    made, since its task didn't go well, is left."""
+    """Tasks by urgency: the first that can be begun is, in as many threads as there are lanes. Where none can, one of the further tasks
+    is, as long as it is time. What waits for something that wasn't made, since its task didn't go well, is left."""
 
-    def __init__(self, tasks):
-        self.left, self.made, self.running, self.changing = list(tasks), set(), 0, threading.Condition()
+    def __init__(self, tasks, further, is_time):
+        self.left, self.further, self.is_time = list(tasks), list(further), is_time
+        self.made, self.running, self.changing = set(), 0, threading.Condition()
+
+    def take(self):
+        """The task that is begun now, if one can be."""
+        for tasks in (self.left, self.further if self.is_time() else []):
+            ready = next((it for it in tasks if it.needs <= self.made), None)
+            if ready:
+                tasks.remove(ready)
+                return ready
+        return None
 
     def next(self):
         """The next task, or none where no more can be begun."""
         with self.changing:
-            while True:
-                ready = next((it for it in self.left if it.needs <= self.made), None)
-                if ready:
-                    self.left.remove(ready)
-                    self.running += 1
-                    return ready
+            while not (ready := self.take()):
                 if not self.running:
                     return None
                 self.changing.wait()
+            self.running += 1
+            return ready
 
     def work(self):
         while task := self.next():
@@ -105,7 +119,7 @@ class Schedule:
 
 class Gate:
     def __init__(self, tree, room, jobs):
-        self.tree, self.jobs, self.noting = tree, jobs, threading.Lock()
+        self.tree, self.room, self.jobs, self.noting = tree, room, jobs, threading.Lock()
         self.crates, self.every_lane = crates_of(tree), Lanes(tree, room, jobs)
         self.lanes = [*self.every_lane.free]
         self.passed, self.failed, self.minutes = 0, [], {}
@@ -137,8 +151,11 @@ class Gate:
         return is_well
 
     def whole(self):
-        """Finds every crate proved as the tree has it, and every file read by one."""
-        ran = run(["rt", "all", "check", "--jobs", str(self.jobs)], self.tree)
+        """Finds every crate proved as the tree has it, and every file read by one. That is done in a copy, since the lanes take the kept
+        work of the tree."""
+        with tempfile.TemporaryDirectory(prefix="whole-", dir=self.room) as room:
+            shutil.copytree(self.tree, f"{room}/tree")
+            ran = run(["rt", "all", "check", "--jobs", "1"], f"{room}/tree")
         proved = [it for it in self.crates if re.search(rf"^{it}: ok$", ran.text, re.M)]
         is_well = ran.status == 0 and proved == [*self.crates] and "rt verdict refuses this" not in ran.text
         return self.note("whole", "tree", ran, is_well)
@@ -188,8 +205,8 @@ class Gate:
         ran = run([f"{self.tree}/tools/{script}", self.program(backend)], self.tree)
         return self.note("runs", f"{script} of {BACKENDS[backend]}", ran, ran.status == 0)
 
-    def tasks(self, tried, trial):
-        """All that is done in lanes: proofs first, of the crates that most others wait for, and then what takes longest."""
+    def tasks(self):
+        """All that must be done: proofs first, of the crates that most others wait for, and then what takes longest."""
         crates, under = self.crates, {it: below(self.crates, it) for it in self.crates}
         high = sorted(crates, key=lambda it: -len(under[it]))
 
@@ -202,6 +219,7 @@ class Gate:
 
         for it in sorted(crates, key=lambda it: -sum(it in others for others in under.values())):
             yield Task(frozenset(under[it] - {it}), in_lane(self.prove, it), makes=it)
+        yield Task(frozenset(crates), self.whole)
         for it in BACKENDS if PROGRAM in crates else ():
             yield Task(frozenset([PROGRAM]), in_lane(self.build, it), makes=it)
         for it in BACKENDS if PROGRAM in crates else ():
@@ -210,24 +228,19 @@ class Gate:
                 yield Task(frozenset([it]), partial(self.run_script, script, it))
         for it in (it for it in high if has_tests(self.tree, it)):
             yield Task(frozenset([it]), in_lane(self.tests, it))
-        for crate, batch in tried:
-            yield Task(frozenset([crate]), partial(trial.run, crate, batch))
         for it in high:
             yield Task(frozenset([it]), in_lane(self.contracts, it))
             yield Task(frozenset([it]), in_lane(self.layout, it))
 
-    def in_lanes(self, only_due):
-        tried, bad = edits.plan(self.tree, [*self.crates], edits.turn_of(ROOT) if only_due else None)
-        trial = edits.Trial(self.tree, self.every_lane)
-        schedule = Schedule(self.tasks(tried, trial))
+    def work(self, planned, is_time):
+        """Does all of it, and gives what came of the edits."""
+        trial = Trial(self.tree, self.every_lane)
+        further = [Task(frozenset([crate]), partial(trial.run, crate, batch)) for crate, batch in planned.batches]
+        schedule = Schedule(self.tasks(), further, is_time)
         schedule.run(self.jobs)
-        # It works in the tree, whose kept work the lanes take.
-        if schedule.made >= {*self.crates}:
-            self.whole()
-        print(*bad, sep="\n", end="\n" * bool(bad))
         self.minutes["edits"] = trial.seconds / 60
         self.passed += trial.passed
-        self.failed += trial.failed + [it.split(":")[0] for it in bad]
+        self.failed += trial.failed + [it.split(":")[0] for it in planned.bad]
         self.failed += [f"{len(schedule.left)} tasks were not begun"] * bool(schedule.left)
         return trial
 
@@ -260,23 +273,32 @@ def apart(tree):
     return tree
 
 
-def main():
-    parser = argparse.ArgumentParser(description="The merge gate: proofs from nothing, contracts, layout, tests, must-fail edits, runs.")
+def arguments():
+    parser = argparse.ArgumentParser(description="The merge gate: proofs from nothing, contracts, layout, tests, runs, must-fail edits.")
     parser.add_argument("--jobs", type=int, default=len(os.sched_getaffinity(0)), help="how many checks run side by side")
-    parser.add_argument("--due", action="store_true", help="of crates whose edits were all refused as they are, try a fifth alone")
-    parser.add_argument("--record", action="store_true", help=f"where nothing failed, note in {edits.RECORD} that all edits were refused")
+    parser.add_argument("--all", action="store_true", help="try all edits, also of crates whose edits were all refused as they are")
+    parser.add_argument("--until", type=float, metavar="MINUTES", help=f"begin no edit later: {UNTIL}, or with --all whenever")
+    parser.add_argument("--record", action="store_true", help=f"note in {RECORD} of which crates all that were due were refused")
     words = parser.parse_args()
-    began = time.monotonic()
+    if words.until is None:
+        words.until = math.inf if words.all else UNTIL
+    return words
+
+
+def main():
+    words, began = arguments(), time.monotonic()
     with tempfile.TemporaryDirectory(prefix="lv-gate-") as room:
         gate = Gate(apart(copied(f"{room}/tree")), room, words.jobs)
         if read(f"{ROOT}/HANDLES") != "Handles allowed: none.\n":
             gate.failed.append("HANDLES")
-        trial = gate.in_lanes(words.due)
-        if words.record and not gate.failed:
-            edits.record(ROOT, [*gate.crates], trial)
+        planned = plan(gate.tree, [*gate.crates], all_of if words.all else part_of(ROOT), turn_of(ROOT))
+        trial = gate.work(planned, lambda: time.monotonic() - began < words.until * 60)
+        if words.record:
+            planned.record(ROOT, trial, [*gate.crates])
     whole = sum(gate.minutes.values())
     print("minutes of processor time:", ", ".join(f"{part} {it:.1f}" for part, it in gate.minutes.items()) + f", in all {whole:.1f}")
     print(f"minutes by the clock: {(time.monotonic() - began) / 60:.1f}, with {words.jobs} lanes")
+    print(*planned.bad, planned.said(trial), sep="\n")
     if gate.failed:
         print(f"FAILED: {', '.join(gate.failed)}")
     print(f"{gate.passed} passed, {len(gate.failed)} failed")

@@ -8,9 +8,9 @@ UNDOS = 64
 COMPARISONS = {"eq": operator.eq, "ne": operator.ne, "lt": operator.lt, "le": operator.le, "gt": operator.gt, "ge": operator.ge}
 
 
-def column_of(reference):
-    """The table of a reference and the column in it."""
-    return ("main", reference) if isinstance(reference, str) else tuple(reference)
+def column_of(reference, bare="main"):
+    """The table of a reference and the column in it; `bare` is the table of one that is a name alone."""
+    return (bare, reference) if isinstance(reference, str) else tuple(reference)
 
 
 def constant_of(type_, held):
@@ -85,36 +85,50 @@ class Tables:
                 cells |= zip(columns[len(row) :], found or [None] * (len(columns) - len(row)))
             yield cells
 
-    def truth(self, test, cells, types):
-        """Whether a filter is true of a row; None where that is unknown."""
-        name, *parts = test
-        if name == "is_null":
-            return cells[column_of(parts[0])] is None
-        if name in ("not", "and", "or"):
-            truths = [self.truth(it, cells, types) for it in parts]
-            if name == "not":
-                return None if truths[0] is None else not truths[0]
-            decides = name == "or"
-            return decides if decides in truths else None if None in truths else not decides
-        column, other = column_of(parts[0]), parts[1]
-        other = cells[column_of(other)] if isinstance(other, list) else constant_of(types[column], other)
-        return None if None in (cells[column], other) else COMPARISONS[name](cells[column], other)
-
     def show(self, view):
         """The view's columns with their types, and its rows."""
         types = self.types(view)
-        kept = [it for it in self.joined(view) if "filter" not in view or self.truth(view["filter"], it, types)]
-        columns = [(name, type_made(how, types)) for name, *how in view["columns"]]
+        kept = [it for it in self.joined(view) if "filter" not in view or truth(view["filter"], it, types)]
+        columns = outputs(view, types)
         groups = [[it] for it in kept]
         if "group" in view:
             groups = grouped([column_of(it) for it in view["group"]], kept)
         rows = [[cell_made(how, group) for _, *how in view["columns"]] for group in groups]
+        if "having" in view:
+            shown = {("out", name): type_ for name, type_ in columns}
+            rows = [row for row in rows if truth(view["having"], dict(zip(shown, row)), shown, "out")]
         names = [name for name, _ in columns]
         for name, direction in reversed(view.get("order", [])):
             at = names.index(name)
             nulls = [row for row in rows if row[at] is None]
             rows = sorted((row for row in rows if row[at] is not None), key=lambda row: row[at], reverse=direction == "desc") + nulls
         return columns, rows[: view.get("first", len(rows))]
+
+
+def truth(test, cells, types, bare="main"):
+    """Whether a filter is true of a row; None where that is unknown. `bare` is the table of columns that it names by their names alone."""
+    name, *parts = test
+    if name == "is_null":
+        return cells[column_of(parts[0], bare)] is None
+    if name in ("not", "and", "or"):
+        truths = [truth(it, cells, types, bare) for it in parts]
+        if name == "not":
+            return None if truths[0] is None else not truths[0]
+        decides = name == "or"
+        return decides if decides in truths else None if None in truths else not decides
+    column, other = column_of(parts[0], bare), parts[1]
+    other = cells[column_of(other, bare)] if isinstance(other, list) else constant_of(types[column], other)
+    return None if None in (cells[column], other) else COMPARISONS[name](cells[column], other)
+
+
+def outputs(view, types):
+    """The view's columns with their types."""
+    return [(name, type_made(how, types)) for name, *how in view["columns"]]
+
+
+def coded(view):
+    """The positions of the columns that are written with dictionaries."""
+    return [at for at, (name, *_) in enumerate(view["columns"]) if name in view.get("dict", ())]
 
 
 def grouped(by, rows):
@@ -128,7 +142,7 @@ def grouped(by, rows):
 def type_made(how, types):
     """The type of an output."""
     what, *reference = how
-    if what == "count":
+    if what in ("count", "distinct"):
         return "int64"
     type_ = types[column_of(reference[0])]
     return ["decimal", 38, type_[2] if isinstance(type_, list) else 0] if what == "sum" else type_
@@ -143,6 +157,6 @@ def cell_made(how, group):
     if what == "col":
         return values[0]
     held = [it for it in values if it is not None]
-    if what == "count":
-        return len(held)
+    if what in ("count", "distinct"):
+        return len({*held} if what == "distinct" else held)
     return {"sum": sum, "least": min, "greatest": max}[what](held) if held else None

@@ -27,17 +27,18 @@ def type_places(holder, at):
             yield from type_places(holder[at], it) if holder[at][0] == "list" else type_places(child, 1) if is_pair(child) else ()
 
 
-def filter_places(holder, at):
-    yield "filter", holder, at
+def filter_places(holder, at, role="filter", reference="reference"):
+    """A filter and the filters in it, by their role, and what they name, by its role."""
+    yield role, holder, at
     held = holder[at]
     if isinstance(held, list) and held:
         if held[0] in ("and", "or", "not"):
             for it in range(1, len(held)):
-                yield from filter_places(held, it)
+                yield from filter_places(held, it, role, reference)
         elif len(held) > 1:
-            yield "reference", held, 1
+            yield reference, held, 1
             if len(held) == 3:
-                yield "reference" if isinstance(held[2], list) else "constant", held, 2
+                yield reference if isinstance(held[2], list) else "constant", held, 2
 
 
 def list_places(holder, at, role):
@@ -56,7 +57,10 @@ def view_places(views, at):
     if "filter" in view:
         yield from filter_places(view, "filter")
     yield from list_places(view, "group", "reference")
+    if "having" in view:
+        yield from filter_places(view, "having", "having", "shown")
     yield from list_places(view, "order", "ordered")
+    yield from list_places(view, "dict", "coded")
     for role, holder, it in list_places(view, "columns", "output"):
         if role == "outputs" or (isinstance(holder[it], list) and len(holder[it]) > 1):
             yield role, holder, it

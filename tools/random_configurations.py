@@ -1,9 +1,10 @@
 """Makes random configurations of docs/VIEWS.md, which are accepted, and random values of their types."""
-from model import COMPARISONS, Tables, column_of
+from model import COMPARISONS, Tables, column_of, outputs
 
 DECIMAL, BYTES = ["decimal", 9, 2], ["fixed", 2]
 NUMBERS = ("int64", "int8", "uint64")
-TYPES = (*NUMBERS, "utf8", "bool", DECIMAL, "binary", BYTES, "date32", ["time", "us"], ["timestamp", "s", "UTC"], ["duration", "ms"])
+OTHERS = ("bool", DECIMAL, "binary", BYTES, "date32", ["time", "us"], ["timestamp", "s", "UTC"], ["duration", "ms"])
+TYPES = (*NUMBERS, *["utf8"] * 4, *OTHERS)
 # Types that can't be ordered.
 NESTED = (["list", "utf8"], ["struct", ["p", "int64"], ["q", ["list", "bool"]]], ["struct"])
 TEXTS = ("", "a", "ab", "b", "B", "é", "zz")
@@ -41,18 +42,25 @@ class Configuration:
         types = Tables(config).types(made)
         references = [name if table == "main" and self.random.random() < 0.5 else [table, name] for table, name in types]
         if self.random.random() < 0.5:
-            made["filter"] = self.filter(references, types, 3)
+            made["filter"] = self.filter(references, types, 3, "main")
         if self.random.random() < 0.5:
             ordered = [it for it in references if types[column_of(it)] not in self.nested]
             made["group"] = self.random.sample(ordered, self.random.randint(0, min(2, len(ordered))))
-        outputs = self.grouped(made["group"], references, types) if "group" in made else self.plain(references)
-        made["columns"] = [[f"o{at}", *it] for at, it in enumerate(outputs)]
+        columns = self.grouped(made["group"], references, types) if "group" in made else self.plain(references)
+        made["columns"] = [[f"o{at}", *it] for at, it in enumerate(columns)]
+        shown = outputs(made, types)
+        if "group" in made and self.random.random() < 0.5:
+            references = [self.random.choice((name, ["out", name])) for name, _ in shown]
+            made["having"] = self.filter(references, {("out", name): type_ for name, type_ in shown}, 3, "out")
         if self.random.random() < 0.6:
-            ordered = [it for it in made["columns"] if it[1] == "count" or types[column_of(it[2])] not in self.nested]
+            ordered = [name for name, type_ in shown if type_ not in self.nested]
             chosen = self.random.sample(ordered, self.random.randint(0, min(3, len(ordered))))
-            made["order"] = [[name, self.random.choice(("asc", "desc"))] for name, *_ in chosen]
+            made["order"] = [[name, self.random.choice(("asc", "desc"))] for name in chosen]
         if self.random.random() < 0.4:
             made["first"] = self.random.randint(0, 4)
+        texts = [name for name, type_ in shown if type_ == "utf8"]
+        if self.random.random() < (0.6 if texts else 0.1):
+            made["dict"] = self.random.sample(texts, self.random.choice((0, *[min(1, len(texts))] * 2, *[len(texts)] * 3)))
         return made
 
     def plain(self, references):
@@ -63,24 +71,25 @@ class Configuration:
         for _ in range(self.random.randint(0, 3)):
             reference = self.random.choice(references)
             type_ = types[column_of(reference)]
-            extremes = ("least", "greatest") * (type_ not in self.nested)
-            made.append([self.random.choice(("count", *extremes, *["sum"] * 2 * self.is_summed(type_))), reference])
+            ordered = ("least", "greatest", *["distinct"] * 4) * (type_ not in self.nested)
+            made.append([self.random.choice(("count", *ordered, *["sum"] * 2 * self.is_summed(type_))), reference])
         self.random.shuffle(made)
         return made
 
-    def filter(self, references, types, depth):
+    def filter(self, references, types, depth, bare):
+        """A filter of some columns, where `bare` is the table of those that are named by their names alone."""
         kind = self.random.choice(("compare", "compare", "is_null", *["not", "and", "or"] * (depth > 1)))
         if kind == "not":
-            return [kind, self.filter(references, types, depth - 1)]
+            return [kind, self.filter(references, types, depth - 1, bare)]
         if kind in ("and", "or"):
-            return [kind, *(self.filter(references, types, depth - 1) for _ in range(self.random.randint(1, 3)))]
+            return [kind, *(self.filter(references, types, depth - 1, bare) for _ in range(self.random.randint(1, 3)))]
         reference = self.random.choice(references)
         if kind == "is_null":
             return [kind, reference]
-        type_ = types[column_of(reference)]
+        type_ = types[column_of(reference, bare)]
         if type_ in self.nested:
             return ["is_null", reference]
-        alike = [[*column_of(it)] for it in references if types[column_of(it)] == type_]
+        alike = [[*it] for it in types if types[it] == type_]
         other = self.random.choice(alike) if self.random.random() < 0.3 else self.constant(type_)
         return [self.random.choice([*COMPARISONS]), reference, other]
 
@@ -92,8 +101,9 @@ class Configuration:
         value = value_of(self.random, type_, False, 4)
         if value is None or (type_ == "uint64" and value >= 2**63):
             return self.constant(type_)
-        if type_ == DECIMAL:
-            return f"{'-' * (value < 0)}{abs(value) // 100}.{abs(value) % 100:02}"
+        if type_[0] == "decimal":
+            digits = str(abs(value)).rjust(type_[2] + 1, "0")
+            return "-" * (value < 0) + (f"{digits[:-type_[2]]}.{digits[-type_[2]:]}" if type_[2] else digits)
         return value.decode() if type_ == "utf8" else value.hex() if isinstance(value, bytes) else value
 
 

@@ -21,8 +21,8 @@ FRAMING_CUT, FRAMING, METADATA_CUT, METADATA, BODY_CUT, BODY = range(6)
 MOST_VALUES, MOST_FIELDS, MOST_ROWS, MOST_LEVELS = 2**20, 1024, 2**24, 16
 MOST_BODY, MOST_METADATA, MOST_NODE, MOST_NAME = 2**28, 2**24, 2**31 - 1, 4096
 
-# How much more often than others causes are chosen that only some streams can have.
-WEIGHTS = {16: 4, 17: 4, 20: 2, 21: 2, 22: 4, 23: 4, 24: 6, 25: 12, 26: 8, 27: 16}
+# How much more often than others causes are chosen that only some streams can have, or that few of the ways to them tell apart.
+WEIGHTS = {5: 6, 16: 4, 17: 4, 20: 2, 21: 2, 22: 4, 23: 4, 24: 6, 25: 12, 26: 8, 27: 16}
 
 # The slots of a table that are read, where these aren't all.
 READ_SLOTS = {"Message": (0, 1, 2, 3), "Schema": (0, 1), "DictionaryEncoding": (0, 1, 3), "RecordBatch": (0, 1, 2)}
@@ -40,6 +40,7 @@ NO_PARAMETERS = {
     15: ((0, word(-1)), (0, word(65537))),
     18: NO_UNITS,
 }
+NO_VERSIONS = (half(0), half(1), half(2), half(5), half(-1), half(259), half(260), None)
 NO_KINDS = (0, 1, 3, 11, 14, 16, 17, 22, 23, 24, 25, 26, 27, 128, 255)
 
 
@@ -167,7 +168,7 @@ def message_faults(message):
     """Faults of the table Message."""
     root = message.root
     made = partial(Fault, message=message, stage=METADATA, hidden=("message",))
-    for it in (half(3), half(5), half(0), half(-1), half(260), None):
+    for it in (*NO_VERSIONS, half(2), half(5)):
         yield made(5, do=partial(root.set, 0, it), touches=((root, 0),))
     for it in (b"\0", b"\4", b"\5", b"\xff", None):
         yield made(6, do=partial(root.set, 1, it), touches=((root, 1),), hides=("header", "kind"))

@@ -183,7 +183,7 @@ class Message:
         self.body, self.fields, self.cut = record.body if record else body, [], None
         length = long(len(self.body)) if self.body or chance.random() < 0.5 else None
         more = [Vector([])] * (chance.random() < 0.2)
-        self.root = Part("Message", half(4), bytes([kind]), header, length, *more) if header else None
+        self.root = Part("Message", half(chance.choice((3, 4))), bytes([kind]), header, length, *more) if header else None
 
     def metadata(self):
         if self.root is None:
