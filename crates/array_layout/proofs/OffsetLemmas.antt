@@ -38,10 +38,6 @@ true_left : (a b : Bool) → (a && b) ≡ true → a ≡ true
 true_left true b e = refl
 true_left false b e = e
 
-true_right : (a b : Bool) → (a && b) ≡ true → b ≡ true
-true_right true b e = e
-true_right false b e = cc
-
 -- an offset that falls
 pub is_rising-falls : (o : OffsetWidth) (offsets : List ℕ) (n i : ℕ) → i < n
     → offset_at o offsets (i + 1) < offset_at o offsets i → is_rising o offsets n ≡ false

@@ -86,16 +86,6 @@ use Rattle.arrays.proofs.UniformLemmas.{encoded-fixed}
 use Rattle.arrays.proofs.WeightLaw.{cell_weighs}
 use Rattle.arrays.proofs.ValidationLemmas.{list_child, child_sound, child_smaller, at_least, and_rest, kids_sound}
 
--- the greatest of the numbers so far
-pub up_more :
-    (f : ℕ → ℕ) (i s x t : ℕ) → x ≡ f i → t ≡ max s x → ((k : ℕ) → k < i → f k ≤ s) → (k : ℕ) → k < i + 1 → f k ≤ t
-up_more f i s x t is most so_far k below = elim (cases_lt k i) [
-  | inl before ↦ let h = so_far k before in omega (arith, h, most)
-  | inr here ↦
-      let same : i ≡ k = omega (arith, below, here) in
-      subst (λ (m : ℕ). f m ≤ t) same (omega (arith, is, most))
-]
-
 -- a weight, as it is counted, is no more than what is counted in all
 light : (w : ℕ) → capped w ≤ max_cell_weight → w ≡ capped w
 unfolding capped
@@ -126,12 +116,6 @@ pub bounds_none : (f : ℕ → ℕ) (s bare : ℕ) → s ≡ capped bare → IsB
 bounds_none f s bare is = record {
   null = λ small. under bare s s is (omega arith) small;
   each = λ small i below. absurd (omega (arith, below));
-}
-
-pub bounds_end : (f : ℕ → ℕ) (s bare i n : ℕ) → n ≤ i → IsBound s bare i f → IsBound s bare n f
-bounds_end f s bare i n past h = record {
-  null = h.null;
-  each = λ small k below. h.each small k (omega (arith, below, past));
 }
 
 -- all weigh the same

@@ -82,8 +82,6 @@ pub starts_above :
 starts_above o offsets n limit from fit k low high =
     offsets_rise o offsets n limit from k fit low (omega (arith, high))
 
-pub ruleset offset_laws = (offsets_rise, offsets_end, fit_less, starts_above)
-
 -- a part of a part
 cut_again :
     (xs : List ℕ) (a b i j : ℕ) → a ≤ i → i ≤ j → j ≤ b

@@ -130,16 +130,3 @@ ahead-next l j t ts cs below now next ns ss bs e a g =
     subst P after
     (step l j t ts cs now next ns ss bs a
     (subst (λ (ds : List Datum). Grows now next (nodes t ds) (buffers t ds)) e g))
-
-pub ahead-end :
-    (l : Layout) (j : ℕ) (ts : List (Rose Layout)) (cs : List Datum) (old now : Body) → length ts ≤ j
-    → AheadOf l j (kids_of (drop j ts)) cs now old (kids_of ts)
-    → Grows old now (nodes_below l 0 (kids_of ts) cs) (buffers_below l 0 (kids_of ts) cs)
-ahead-end l j ts cs old now h a =
-    let b : AheadOf l j none cs now old (kids_of ts) =
-    subst (λ (xs : Roses Layout). AheadOf l j xs cs now old (kids_of ts)) (kids_end ts j h) a in
-    record {
-      nodes = sym (append-nil now.nodes.items) ∙ b.nodes;
-      ranges = sym (append-nil now.ranges.items) ∙ b.ranges;
-      bytes = sym (append-nil now.bytes.items) ∙ b.bytes;
-    }

@@ -13,4 +13,3 @@ pub mod Ahead
 pub mod PlaceLemmas
 pub mod SizeLemmas
 pub mod Rows
-pub mod SampleBatch

@@ -77,10 +77,6 @@ use Rattle.body_writer.proofs.Offsets.{HaveLengths, joined-sound, items-sound, j
 abbrev pub Here : List ℕ → List BufferRange → ℕ → List ℕ → Type 0
 Here body ranges b x = LiesIn body (range_at ranges b) × (bytes_of body (range_at ranges b) ≡ x)
 
-pub first-here : (body : List ℕ) (ranges : List BufferRange) (b : ℕ) (x : List ℕ) (rest : List (List ℕ))
-    → Stand body ranges b (x ∷ rest) → Here body ranges b x
-first-here body ranges b x rest st = (st.0, st.1)
-
 pub second-here : (body : List ℕ) (ranges : List BufferRange) (b : ℕ) (x y : List ℕ) (rest : List (List ℕ))
     → Stand body ranges b (x ∷ y ∷ rest) → Here body ranges (b + 1) y
 second-here body ranges b x y rest st =

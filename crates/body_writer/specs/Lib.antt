@@ -4,4 +4,3 @@ pub mod Body
 pub mod Grows
 pub mod Law
 pub mod Batch
-pub mod Sample

@@ -13,7 +13,7 @@ use values::{LayoutTree, Row, Value};
 
 /// The cells of column `j`.
 #[tactic(auto, using(crate::proofs::Rows::gathering))]
-fn column_cells<'a>(
+pub fn column_cells<'a>(
     alloc: Global,
     rows: &'a [Row],
     j: usize,

@@ -11,10 +11,8 @@ mod buffers;
 mod column;
 mod laws;
 mod slots;
-#[cfg(test)]
-mod tests;
 
-pub use batch::write_body;
+pub use batch::{column_cells, write_body};
 pub use body::Body;
 pub use column::write_column;
 pub use laws::{column_law, count_law, size_law, standing_law};

@@ -163,10 +163,6 @@ column-long columns j all c h e long =
 
 -- range after range
 
-pub at-range : (P : RowRange → Type 0) (rs : List RowRange) (i : ℕ) (r : RowRange) → i < length rs
-    → r ≡ get_or rs i r → All P rs → P r
-at-range P rs i r h e all = subst P (sym e) (All-get_or P rs i r h all)
-
 column-append : (j : ℕ) (xs ys : List (List Datum)) → map (part j) (row_cells (xs ++ ys)) ≡ map (part j) (row_cells xs)
     ++ map (part j) (row_cells ys)
 column-append j xs ys = ap (map (part j)) (map-append row_cell xs ys)
@@ -188,12 +184,6 @@ column-step j rs i r made next total h e n is =
     ap (λ xs. xs ++ column_in j (drop (i + 1) rs)) n ∙ append_assoc made here (column_in j (drop (i + 1) rs))
     ∙ ap (λ xs. made ++ xs) (sym (column-split j rs i r h e)) ∙ is
 
-pub column-over : (j : ℕ) (rs : List RowRange) (i : ℕ) (made total : List Datum) → length rs ≤ i
-    → made ++ column_in j (drop i rs) ≡ total
-    → made ≡ total
-column-over j rs i made total h is = sym (append-nil made)
-    ∙ ap (λ qs. made ++ column_in j qs) (sym (drop_all i rs h)) ∙ is
-
 -- cell after cell
 
 pub values-step : (ds : List Datum) (i to : ℕ) (d : Datum) (made next total : List Datum) → i < to → to ≤ length ds
@@ -206,12 +196,6 @@ values-step ds i to d made next total h room there n is =
     ap (λ k. take k (drop i ds)) more ∙ ap (take (suc (to - (i + 1)))) (drop_more ds i d (omega (arith, h, room)))
     ∙ ap (λ x. x ∷ rest) (get_or_from_slice_get ds i d d there) in
     ap (λ xs. xs ++ rest) n ∙ append_assoc made (d ∷ []) rest ∙ ap (λ xs. made ++ xs) (sym split) ∙ is
-
-pub values-over : (ds : List Datum) (i to : ℕ) (made total : List Datum) → to ≤ i
-    → made ++ take (to - i) (drop i ds) ≡ total → made ≡ total
-values-over ds i to made total h is =
-    let none : to - i ≡ 0 = omega (arith, h) in
-    sym (append-nil made) ∙ ap (λ k. made ++ take k (drop i ds)) (sym none) ∙ is
 
 -- one more piece
 

@@ -85,11 +85,6 @@ pub child-long : (ts : List (Rose ArrayData)) (j n : ℕ) (e : Rose ArrayData) �
 child-long ts j n e is below long =
     kid_within (λ t. n ≤ len_of t) (AreLong Struct n) (at_least n) (and_rest n) ts j e e is below long
 
-pub first-len : (ts : List (Rose ArrayData)) (e : Rose ArrayData) → e ≡ get_or ts 0 e → 0 < length ts
-    → first_len (kids_of ts) ≡ len_of e
-first-len [] e is some = absurd (omega (arith, some))
-first-len (node p kids ∷ ts) e is some = ap len_of (sym is)
-
 pub first-child : (b : List ℕ) (ts : List (Rose ArrayData)) (e : Rose ArrayData) (i : ℕ) → e ≡ get_or ts 0 e
     → 0 < length ts
     → first_cell b (kids_of ts) i ≡ cell b e i

@@ -93,16 +93,3 @@ encoded-over read i to made total h is =
     sym (append-nil made) ∙ ap (λ xs. made ++ xs) (sym (slots-none read i to h)) ∙ is
 
 -- piece after piece
-
-pub cells-step :
-    (ps : List Piece) (i : ℕ) (p : Piece) (made next total : List Datum) → i < length ps → p ≡ get_or ps i p
-    → next ≡ made ++ piece_cells p → made ++ pieces_cells (drop i ps) ≡ total
-    → next ++ pieces_cells (drop (i + 1) ps) ≡ total
-cells-step ps i p made next total h e n is =
-    let rest = pieces_cells (drop (i + 1) ps) in
-    ap (λ xs. xs ++ rest) n ∙ append_assoc made (piece_cells p) rest
-    ∙ ap (λ xs. made ++ xs) (sym (pieces-split ps i p h e)) ∙ is
-
-pub cells-over : (ps : List Piece) (i : ℕ) (made total : List Datum) → length ps ≤ i
-    → made ++ pieces_cells (drop i ps) ≡ total → made ≡ total
-cells-over ps i made total h is = sym (append-nil made) ∙ ap (λ xs. made ++ xs) (sym (pieces-none ps i h)) ∙ is

@@ -124,35 +124,8 @@ pub own-layouts : (l : Layout) (kids : Roses Layout) (models : Roses ArrayData) 
     → All (OfSlots (LiesBelow l kids models)) ps → All (OfSlots (HasLayout l)) ps
 own-layouts l kids models ps all = all-slots (LiesBelow l kids models) (HasLayout l) (λ r h. h.own) ps all
 
-pub all-plain : (l : Layout) (ps : List Piece) → All (OfSlots (HasLayout l)) ps → All (OfSlots IsPlain) ps
-all-plain l ps all = all-slots (HasLayout l) IsPlain (λ r h. h.plain) ps all
-
-pub all-checked : (l : Layout) (ps : List Piece) → All (OfSlots (HasLayout l)) ps → All (OfSlots IsChecked) ps
-all-checked l ps all = all-slots (HasLayout l) IsChecked (λ r h. h.plain.checked) ps all
-
 pub encoded-checked : (ps : List Piece) → All (OfSlots IsEncoded) ps → All (OfSlots IsChecked) ps
 encoded-checked ps all = all-slots IsEncoded IsChecked (λ r h. h.checked) ps all
-
-pub text-runs : (o : OffsetWidth) (ps : List Piece) → All (OfSlots (HasLayout (Utf8 o))) ps → All (OfSlots HasRuns) ps
-text-runs o ps all = all-slots (HasLayout (Utf8 o)) HasRuns (λ r h. record { plain = h.plain; layout = inl h.layout })
-    ps all
-
-pub byte-runs : (o : OffsetWidth) (ps : List Piece) → All (OfSlots (HasLayout (Binary o))) ps → All (OfSlots HasRuns) ps
-byte-runs o ps all = all-slots (HasLayout (Binary o)) HasRuns (λ r h. record {
-  plain = h.plain;
-  layout = inr h.layout;
-}) ps all
-
-pub run-starts : (ps : List Piece) → All (OfSlots HasRuns) ps → All (OfSlots HasStarts) ps
-run-starts ps all = all-slots HasRuns HasStarts (λ r h. record { plain = h.plain; layout = inl h.layout }) ps all
-
-pub list-starts : (o : OffsetWidth) (ps : List Piece) → All (OfSlots (HasLayout (Listed o))) ps
-    → All (OfSlots HasStarts) ps
-list-starts o ps all = all-slots (HasLayout (Listed o)) HasStarts (λ r h. record {
-  plain = h.plain;
-  layout = inr
-      h.layout;
-}) ps all
 
 -- children
 

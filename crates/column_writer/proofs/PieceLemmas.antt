@@ -77,17 +77,6 @@ pub flat-over : (f : Datum → List ℕ) (ps : List Piece) (i : ℕ) (made total
 flat-over f ps i made total h is = sym (append-nil made)
     ∙ ap (λ cs. made ++ flat_map f cs) (sym (pieces-none ps i h)) ∙ is
 
-pub maps-step :
-    {A : Type 0} (f : Datum → A) (ps : List Piece) (i : ℕ) (p : Piece) (made next total : List A) → i < length ps
-    → p ≡ get_or ps i p
-    → next ≡ made ++ map f (piece_cells p) → made ++ map f (pieces_cells (drop i ps)) ≡ total
-    → next ++ map f (pieces_cells (drop (i + 1) ps)) ≡ total
-maps-step f ps i p made next total h e n is =
-    let rest = pieces_cells (drop (i + 1) ps) in
-    ap (λ xs. xs ++ map f rest) n ∙ append_assoc made (map f (piece_cells p)) (map f rest)
-    ∙ ap (λ xs. made ++ xs) (sym (map-append f (piece_cells p) rest))
-    ∙ ap (λ cs. made ++ map f cs) (sym (pieces-split ps i p h e)) ∙ is
-
 pub maps-over : {A : Type 0} (f : Datum → A) (ps : List Piece) (i : ℕ) (made total : List A) → length ps ≤ i
     → made ++ map f (pieces_cells (drop i ps)) ≡ total → made ≡ total
 maps-over f ps i made total h is = sym (append-nil made) ∙ ap (λ cs. made ++ map f cs) (sym (pieces-none ps i h)) ∙ is
@@ -141,25 +130,6 @@ pub starts-over :
     → made ++ offsets_from o end [] ≡ total
 starts-over o ps i end made total h is =
     ap (λ cs. made ++ offsets_from o end (map length_in cs ++ [])) (sym (pieces-none ps i h)) ∙ is
-
--- what slots of a fixed width hold doesn't rest on the width of offsets
-same-bytes : (l : Layout) (o : OffsetWidth) (cs : List Datum)
-    → flat_map (slot_bytes (with_offsets o l)) cs ≡ flat_map (slot_bytes l) cs
-same-bytes Booleans o cs = refl
-same-bytes (Int w s) o cs = refl
-same-bytes (Decimal d) o cs = refl
-same-bytes (FixedSizeBinary w) o cs = refl
-same-bytes (Utf8 x) o cs = refl
-same-bytes (Binary x) o cs = refl
-same-bytes (Listed x) o cs = refl
-same-bytes Struct o cs = refl
-
-pub slots-alike : (l : Layout) (r : SlotRange) (made next : List ℕ) → HasLayout l r
-    → next ≡ made ++ flat_map (slot_bytes r.parts.own.now.layout) (range_cells r)
-    → next ≡ made ++ flat_map (slot_bytes l) (range_cells r)
-slots-alike l r made next lies is =
-    is ∙ ap (λ xs. made ++ xs) (ap (λ y. flat_map (slot_bytes y) (range_cells r)) lies.layout
-    ∙ same-bytes l r.offsets (range_cells r))
 
 -- one piece, and those after it
 pub all-before : (P : Piece → Type 0) (ps : List Piece) (i : ℕ) (p : Piece) → i < length ps → p ≡ get_or ps i p

@@ -132,12 +132,6 @@ slots-null body bits p kids m at end b e h is same =
     p.layout)
     (λ k l u. null-cell body p kids k (ap (λ xs. is_null xs k) (sym b) ∙ same k l (omega (arith, u, h)) ∙ is)))
 
--- a run of valid slots
-pub narrow : (body : List ℕ) (p : ArrayData) (kids : Roses ArrayData) (from to at end : ℕ)
-    → AllValid body p kids from to → from ≤ at → end ≤ to
-    → AllValid body p kids at end
-narrow body p kids from to at end all lo hi = λ k l h. all k (omega (arith, lo, l)) (omega (arith, h, hi))
-
 pub slots-valid :
     (body bits xs : List ℕ) (p : ArrayData) (kids : Roses ArrayData) (m at end : ℕ) → bits ≡ bytes_of body p.validity
     → xs ≡ bytes_of body p.values → m ≡ slot_width p.layout → at ≤ end → end ≤ p.len → p.dictionary ≡ None

@@ -100,7 +100,7 @@ last-values bs b true e =
     ∙ ap (λ vs. all_values (since_last_whole bs) ++ vs) (append-nil b.values)
 last-values bs b false e = ap all_values (whole-last bs b e) ∙ append-nil b.values
 
-found-or-none : (bs : List DictionaryBatch) (id : ℤ) (t : Bool) → list_any (is_of id) bs ≡ t
+pub found-or-none : (bs : List DictionaryBatch) (id : ℤ) (t : Bool) → list_any (is_of id) bs ≡ t
     → unwrap_or (if t then Some (dictionary_after bs id) else None) [] ≡ dictionary_after bs id
 found-or-none bs id true e = refl
 found-or-none bs id false e = sym (ap (λ cs. all_values (since_last_whole cs)) (filter-none (is_of id) bs e))

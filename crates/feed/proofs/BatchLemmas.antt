@@ -62,20 +62,6 @@ use Rattle.feed.specs.Columns.{cells_in, layouts_in}
 use Rattle.feed.specs.Shown.{HasColumns, HasValues, WillStandAfter, values_next}
 use Rattle.feed.proofs.GatherLemmas.{columns-whole}
 
--- the columns of a batch
-pub batch-placed :
-    (law : PlaceLaw) (values : ℤ → List Datum) (body : List ℕ) (fields : List (Rose Entry)) (head : BatchHead)
-    (ts : Roses ArrayData)
-    → Fits (slot_layouts_of fields) (length body) head → ts ≡ arrays_of values fields head → ArePlaced body ts
-batch-placed law values body fields head ts fits is =
-    subst (ArePlaced body) (sym is) (law values fields body head fits).0
-
-pub batch-dictionary :
-    (law : TypedArraysLaw) (values : ℤ → List Datum) (fields : List (Rose Entry)) (head : BatchHead)
-    (ts : Roses ArrayData)
-    → AreFields fields → AreValues fields values → ts ≡ arrays_of values fields head → AreTyped ts
-batch-dictionary law values fields head ts read typed is = subst AreTyped (sym is) (law values fields head read typed)
-
 pub batch-columns :
     (law : PlaceLaw) (values : ℤ → List Datum) (body : List ℕ) (fields : List (Rose Entry)) (head : BatchHead)
     (ts : Roses ArrayData)
@@ -120,22 +106,6 @@ pub values-typed :
 values-typed fields d s layouts vs is lie held t there =
     let same : s ≡ t = some-same (value_type fields d.id) s t is there in
     subst (λ l. All (Holds l) vs) (lie ∙ ap value_layout same) held
-
--- what the dictionaries are once a batch is taken
-pub will-stand :
-    (law : OneMore) (old new : Table) (d : DictionaryHeader) (values : List Datum) (ds : List DictionaryBatch)
-    → new.entries ≡ old.entries
-    → StandsAfter ds old
-    → WillStandAfter (ds ++ batch d.id d.is_delta values ∷ []) new
-    (Some (change_of old (batch d.id d.is_delta values)))
-will-stand law old new d values ds same stands = λ id.
-    let b : DictionaryBatch = batch d.id d.is_delta values in
-    ap (λ f. if int_eq d.id id then Some (if d.is_delta then unwrap_or f [] ++ values else values) else found new id)
-    (stands d.id)
-    ∙ ap (λ f. if int_eq d.id id then Some (if d.is_delta then unwrap_or (found_after ds d.id) [] ++ values else values)
-    else f)
-    (ap (λ es. lookup (int_eq id) es) same ∙ stands id)
-    ∙ sym (law ds b id)
 
 held-change :
     (fields : List (Rose Entry)) (old : Table) (d : DictionaryHeader) (values : List Datum) (id : ℤ) (s : ColType)

@@ -371,5 +371,3 @@ module _ (laws : FirstMessageLaw) where
       joins-when s.condition s p q g refl is none
       ∙ ap (λ c. shifted (length p) (given_when c (retained_of s.declared (s.bytes ++ take g.used p)) q))
       (sym (same-condition s.condition g.event none))
-
-pub ruleset cutting = (read-by)

@@ -336,16 +336,6 @@ committed f s framing table change c leads stream is changes = record {
   condition = leads.condition;
 }
 
-pub uncommitted :
-    (f : FeedParts) (s : FeedState) (framing : FramerState) (change : Option Change) → Leads f s
-    → framing.current ≡ f.framing.prepared → f.change ≡ None
-    → Shows (parts framing f.table f.next change f.next) s
-uncommitted f s framing change leads stream is = record {
-  stream = stream ∙ leads.stream;
-  dictionaries = λ id. ap (λ m. found_next f.table m id) (sym is) ∙ leads.dictionaries id;
-  condition = leads.condition;
-}
-
 same-values : (t : Bool) (c : Change) (x : Option (List Datum))
     → unwrap_or (if t then Some c.values else x) [] ≡ (if t then c.values else unwrap_or x [])
 same-values true c x = refl
@@ -418,5 +408,3 @@ pub after-refused :
     → Shows (parts f.framing f.table condition.Broken f.change f.next) (after_finish s (Err e))
 unfolding after_finish
 after-refused f s e shows = shows-in f s f.framing f.table condition.Broken f.change f.next shows refl refl
-
-pub ruleset feeding = (is-at)

@@ -288,5 +288,3 @@ module _ (laws : FirstMessageLaw) where
         ∙ ap (λ xs. retained n now ds xs) none_left
         ∙ retained-empty n now ds
         ∙ ap (λ b. retained_here now (k.dictionaries ++ brought_by (fields_of now) b w.meta.header) []) body
-
-pub ruleset keeping = (front-below)

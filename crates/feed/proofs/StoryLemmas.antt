@@ -513,5 +513,3 @@ module _ (laws : FirstMessageLaw) where
 pub all-is-story_step : AllIsTold
 unfolding story_of retained_of retained
 all-is-story_step bytes = refl
-
-pub ruleset telling = (rest_story-knows)

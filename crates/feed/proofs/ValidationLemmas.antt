@@ -272,5 +272,3 @@ has-after law old new piece f values frames has =
 pub has-same : (o : Option (List (Rose Entry))) (t u : Table) → u.entries ≡ t.entries → HasValues o (values_in t)
     → HasValues o (values_in u)
 has-same o t u same has = subst (λ es. HasValues o (λ id. unwrap_or (lookup (int_eq id) es) [])) (sym same) has
-
-pub ruleset deciding = (validated-fault)

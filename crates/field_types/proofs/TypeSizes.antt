@@ -91,10 +91,6 @@ short-fits n h = (omega arith, omega arith, omega (arith, h))
 i32-fits : (n : ℕ) → n ≤ max_fixed_width → Fits (number 4 n)
 i32-fits n h = (omega arith, omega arith, omega (arith, h))
 
-zone-fits : (z : List ℕ) → Fits (zone_node z)
-zone-fits [] = tt
-zone-fits (b ∷ bs) = tt
-
 slots-fit : (s : ColType) → IsType s → Fits (table (type_slots s))
 slots-fit stored.Bool fit = (omega arith, omega arith, tt)
 slots-fit (stored.Int w s) fit =

@@ -118,6 +118,9 @@ abbrev pub type_large_list : ℕ
 type_large_list = 21
 
 -- enum MetadataVersion
+abbrev pub v4 : ℕ
+v4 = 3
+
 abbrev pub v5 : ℕ
 v5 = 4
 

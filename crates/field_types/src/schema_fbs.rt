@@ -93,6 +93,8 @@ pub const TYPE_LARGE_LIST: u8 = 21;
 
 // enum MetadataVersion
 
+pub const V4: i16 = 3;
+
 pub const V5: i16 = 4;
 
 // enum Endianness

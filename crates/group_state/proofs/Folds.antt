@@ -79,15 +79,6 @@ option_same : (o : Option ℕ) → unwrap_or (option_map (λ x. x) o) 0 ≡ unwr
 option_same None = refl
 option_same (Some n) = refl
 
-pub multiset-size : (ks : List Key) → sum (values_of (multiset_of ks)) ≡ length ks
-multiset-size [] = refl
-multiset-size (k ∷ ks) =
-    let h = sum_by-insert_entry (λ (x : ℕ). x) key_total (multiset_of ks) k (had (multiset_of ks) k + 1)
-    (multiset-sorted ks) in
-    let o = option_same (lookup (is_at (key_cmp k)) (multiset_of ks)) in
-    let i = multiset-size ks in
-    omega (arith, h, o, i)
-
 pub multiset-sum : (ks : List Key) → weighted (multiset_of ks) ≡ sum_of ks
 multiset-sum [] = refl
 multiset-sum (k ∷ ks) =
@@ -171,11 +162,6 @@ pub entries-from_counts : (es : List (Key × ℕ)) (ks : List Key) → IsStrictl
     → All (λ n. 0 < n) (values_of es) → ((q : Key) → had es q ≡ times_in q ks) → es ≡ multiset_of ks
 entries-from_counts es ks s p h = same-counts es (multiset_of ks) s (multiset-sorted ks) p (multiset-present ks)
     (λ q. h q ∙ sym (multiset-had ks q))
-
--- so its sum is theirs
-pub sum-from_counts : (es : List (Key × ℕ)) (ks : List Key) → IsStrictlySortedBy key_cmp (keys_of es)
-    → All (λ n. 0 < n) (values_of es) → ((q : Key) → had es q ≡ times_in q ks) → weighted es ≡ sum_of ks
-sum-from_counts es ks s p h = ap weighted (entries-from_counts es ks s p h) ∙ multiset-sum ks
 
 -- cells that hold a value are counted by their keys
 key-by : (q : Key) (d : Datum) (ds : List Datum) → count_by (is_value q) ds ≡ times_in q (keys_in ds) → (b : Bool)

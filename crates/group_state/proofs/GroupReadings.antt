@@ -7,7 +7,7 @@ use Rattle.values.specs.Datum.{Datum}
 use Rattle.values.specs.declared.key.Key.{Key}
 use Rattle.view_lang.specs.Cells.{cell_at, rows_of}
 use Rattle.std.specs.declared.alloc.Global.{Global}
-use Rattle.view_lang.specs.Groups.{aggregate_of, first_in}
+use Rattle.view_lang.specs.Groups.{aggregate_of, count_of, distinct, first_in}
 use Rattle.view_lang.specs.ViewLaws.{IsKeyCell}
 use Rattle.view_lang.specs.Outputs.{GroupOutput}
 use Rattle.view_lang.specs.declared.view.Aggregate.{Aggregate}
@@ -25,19 +25,6 @@ pub cells-keys : (k : ℕ) (rows : List (List Datum)) → AllByRecursion (λ row
 cells-keys k [] a = tt
 cells-keys k (r ∷ rs) a = (a.0, cells-keys k rs a.1)
 
-pub ruleset cell_readings = (cells-keys)
-
-pub row-more : (outs : List GroupOutput) (t : List Datum) (rows : List (List Datum)) (i : ℕ) (cs next : List Datum)
-    (c : Datum) (d : GroupOutput) → i < length outs → next ≡ cs ++ c ∷ []
-    → cs ≡ map (λ o. aggregate_of o.aggregate t rows) (take i outs) → c
-    ≡ aggregate_of (get_or outs i d).aggregate t rows → next ≡ map (λ o. aggregate_of o.aggregate t rows)
-    (take (i + 1) outs)
-row-more outs t rows i cs next c d below pushed so_far here =
-    pushed ∙ ap (λ l. l ++ c ∷ []) so_far ∙ ap (λ x. map (λ o. aggregate_of o.aggregate t rows) (take i outs) ++ x ∷ [])
-    here
-    ∙ sym (map_push (λ o. aggregate_of o.aggregate t rows) (take i outs) (get_or outs i d))
-    ∙ ap (map (λ (o : GroupOutput). aggregate_of o.aggregate t rows)) (sym (take_more outs i d below))
-
 pub read-push : (columns : List ℕ) (outs : List GroupOutput) (es : List (List Key × GroupCounts))
     (rs : List (List Datum)) (e : List Key × GroupCounts) (r : List Datum)
     → AreRead columns outs es rs → IsRead columns outs e r → AreRead columns outs (es ++ e ∷ []) (rs ++ r ∷ [])
@@ -45,30 +32,6 @@ read-push columns outs [] [] e r a h = (h, tt)
 read-push columns outs [] (x ∷ rs) e r a h = absurd a
 read-push columns outs (x ∷ es) [] e r a h = absurd a
 read-push columns outs (x ∷ es) (y ∷ rs) e r a h = (a.0, read-push columns outs es rs e r a.1 h)
-
-pub least-read : (columns : List ℕ) (column : Aggregate) (k : ℕ) (t : List Datum) (rows : List (List Datum))
-    (o : Option Tally) (tally : Tally) (d : Datum) → column ≡ aggregate.Least k → CanRead columns rows column
-    → (is_kept columns k ≡ true → IsThat o (cells k rows)) → o ≡ Some tally
-    → (KeepsCells tally (cells k rows) → AllByRecursion IsKeyCell (cells k rows)
-    → d ≡ first_in direction.Ascending (filled (cells k rows)))
-    → d ≡ aggregate_of column t rows
-least-read columns column k t rows o tally d e r f s h =
-    let P : Aggregate → Type 0 = λ out. CanRead columns rows out in
-    let Q : Option Tally → Type 0 = λ x. IsThat x (cells k rows) in
-    let q = subst P e r in
-    h (subst Q s (f q.kept)) (cells-keys k rows q.keys) ∙ ap (λ out. aggregate_of out t rows) (sym e)
-
-pub greatest-read : (columns : List ℕ) (column : Aggregate) (k : ℕ) (t : List Datum) (rows : List (List Datum))
-    (o : Option Tally) (tally : Tally) (d : Datum) → column ≡ aggregate.Greatest k → CanRead columns rows column
-    → (is_kept columns k ≡ true → IsThat o (cells k rows)) → o ≡ Some tally
-    → (KeepsCells tally (cells k rows) → AllByRecursion IsKeyCell (cells k rows)
-    → d ≡ first_in direction.Descending (filled (cells k rows)))
-    → d ≡ aggregate_of column t rows
-greatest-read columns column k t rows o tally d e r f s h =
-    let P : Aggregate → Type 0 = λ out. CanRead columns rows out in
-    let Q : Option Tally → Type 0 = λ x. IsThat x (cells k rows) in
-    let q = subst P e r in
-    h (subst Q s (f q.kept)) (cells-keys k rows q.keys) ∙ ap (λ out. aggregate_of out t rows) (sym e)
 
 pub read-more : {A : Type 0} (shows : A → List Key × GroupCounts) (columns : List ℕ) (outs : List GroupOutput)
     (xs : List A) (x : A) (rs next : List (Vec Datum Global)) (r : Vec Datum Global) → next ≡ rs ++ r ∷ []

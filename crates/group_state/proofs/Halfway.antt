@@ -75,26 +75,3 @@ halfway-more columns tallies n done left t k h e =
           (λ (q : i ≢ n). rw get_or-set_other (k.behind i d (omega arith) l)) (cases_eq i n);
       ahead = λ i d b l. let q : i ≢ n = omega arith in rw get_or-set_other (k.ahead i d (omega arith) l);
     }
-
-count-null : (p : Datum → Bool) (cs : List Datum) → p null ≡ false → count_by p (null ∷ cs) ≡ count_by p cs
-count-null p cs h =
-    let e = sum_by-cons (λ (x : Datum). cond (p x) 1 0) null cs in
-    let z = ap {B = ℕ} (λ b. cond b 1 0) h in
-    omega (arith, e, z)
-
--- a null cell changes nothing
-pub keeps-null : (t : Tally) (cs : List Datum) → KeepsCells t cs → KeepsCells t (null ∷ cs)
-keeps-null t cs k =
-    record {
-      filled_is = k.filled_is ∙ sym (count-null is_filled cs refl);
-      values_are =
-          λ q. k.values_are q ∙ sym (count-null (is_value q) cs refl);
-    }
-
-pub keeps-no_null : (t : Tally) (cs : List Datum) → KeepsCells t (null ∷ cs) → KeepsCells t cs
-keeps-no_null t cs k =
-    record {
-      filled_is = k.filled_is ∙ count-null is_filled cs refl;
-      values_are =
-          λ q. k.values_are q ∙ count-null (is_value q) cs refl;
-    }

@@ -4,13 +4,16 @@ pub mod Had
 pub mod Halfway
 pub mod Members
 pub mod Same
+pub mod Seen
 pub mod Steps
 pub mod Folds
 pub mod KeyData
 pub mod FoldReadings
+pub mod Distinct
 pub mod GroupReadings
 pub mod Sums
 pub mod GroupLaw
 pub mod Keeping
 pub mod SampleFits
 pub mod Taken
+pub mod Touched

@@ -58,6 +58,8 @@ module _ (xs ys : List (List Datum)) (same : (p : List Datum → Bool) → count
               filled_is = c.filled_is ∙ cells-same is_filled t _;
               values_are =
                   λ q. c.values_are q ∙ cells-same (is_value q) t _;
+              ascending = c.ascending;
+              present = c.present;
             };
       };
     },

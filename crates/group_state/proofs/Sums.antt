@@ -76,6 +76,7 @@ sum-fits-of : (out : Aggregate) (rows : List (List Datum)) → length rows ≤ 2
 sum-fits-of (aggregate.Key k) rows h a = tt
 sum-fits-of aggregate.Count rows h a = tt
 sum-fits-of (aggregate.CountOf k) rows h a = tt
+sum-fits-of (aggregate.Distinct k) rows h a = tt
 sum-fits-of (aggregate.Sum k) rows h a = within-fits (length rows) (total (values_at k rows)) h (total-within k rows a)
 sum-fits-of (aggregate.Least k) rows h a = tt
 sum-fits-of (aggregate.Greatest k) rows h a = tt

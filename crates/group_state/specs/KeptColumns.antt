@@ -10,6 +10,7 @@ is_kept columns k = list_any (λ c. c == k) columns
 -- whether something is kept of what an output counts, sums or compares
 abbrev pub IsKept : List ℕ → Aggregate → Type 0
 IsKept columns (aggregate.CountOf k) = is_kept columns k ≡ true
+IsKept columns (aggregate.Distinct k) = is_kept columns k ≡ true
 IsKept columns (aggregate.Sum k) = is_kept columns k ≡ true
 IsKept columns (aggregate.Least k) = is_kept columns k ≡ true
 IsKept columns (aggregate.Greatest k) = is_kept columns k ≡ true

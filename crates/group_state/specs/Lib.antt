@@ -11,3 +11,5 @@ pub mod Folds
 pub mod KeptColumns
 pub mod Reading
 pub mod Sample
+pub mod Seen
+pub mod Touched

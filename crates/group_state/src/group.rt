@@ -2,12 +2,10 @@
 
 ghost use Rattle.std.specs.Prelude.{◌≡◌, ◌<◌, ◌^◌, ◌∷◌, List, OnOk, IfOk, length, []};
 ghost use Rattle.values.specs.Datum.{Datum};
-ghost use Rattle.std.specs.Prelude.{true};
 ghost use Rattle.std.proofs.Common.{option_map};
 ghost use Rattle.group_state.specs.GroupParts.{IsGroup, group_with};
-ghost use Rattle.group_state.specs.Rows.{KeepsRows, KeepsEach, cells};
-ghost use Rattle.group_state.specs.KeptColumns.{is_kept};
-ghost use Rattle.group_state.specs.Reading.{IsThat, IsPlace};
+ghost use Rattle.group_state.specs.Rows.{KeepsRows, KeepsEach};
+ghost use Rattle.group_state.specs.Seen.{index_from, tally_at};
 
 use crate::parts::GroupParts;
 use crate::tally::Tally;
@@ -92,8 +90,7 @@ impl Group {
 
     /// The tally of a column; `None` if the group keeps no tally of it.
     pub(crate) fn tally(&self, columns: &[usize], column: usize) -> Option<&Tally>
-        ensures { (rows : List (List Datum)) → KeepsRows columns.now self.now rows
-            → is_kept columns.now column ≡ true → IsThat (option_map (λ t. t.now) result) (cells column rows) }
+        ensures { option_map (λ t. t.now) result ≡ tally_at columns.now self.now.tallies column }
     {
         match place(columns, column) {
             Some(i) => self.tallies.get(i),
@@ -168,7 +165,7 @@ fn remove_each(
 
 /// The place of a column among others.
 fn place(columns: &[usize], column: usize) -> Option<usize>
-    ensures { IsPlace columns.now column result }
+    ensures { result ≡ index_from 0 columns.now column }
 {
     for i in 0..columns.len() {
         if columns[i] == column {

@@ -5,8 +5,14 @@ ghost use Rattle.group_state.specs.Groups.{Keeps, KeepsAt};
 ghost use Rattle.group_state.specs.Keys.{tuple_cmp};
 ghost use Rattle.group_state.specs.KeptColumns.{IsKept};
 ghost use Rattle.group_state.specs.Reading.{CanReadAll};
+ghost use Rattle.group_state.specs.Seen.{seen_at};
+ghost use Rattle.group_state.specs.Touched.{StayBut, comes, goes, is_of, touches};
+ghost use Rattle.group_state.specs.Tuples.{has_tuple};
+ghost use Rattle.std.proofs.Common.{option_map};
+ghost use Rattle.std.specs.List.{list_any};
 ghost use Rattle.std.specs.BTreeMap.{is_at};
-ghost use Rattle.std.specs.Map.{lookup, values_of};
+ghost use Rattle.std.specs.List.Sorted.{IsStrictlySortedBy};
+ghost use Rattle.std.specs.Map.{keys_of, lookup, values_of};
 ghost use Rattle.std.specs.Prelude.{
   ◌≡◌,
   ◌<◌,
@@ -14,6 +20,7 @@ ghost use Rattle.std.specs.Prelude.{
   ◌∷◌,
   ◌+◌,
   ◌↔◌,
+  ◌||◌,
   All,
   IfOk,
   IsTrue,
@@ -43,7 +50,7 @@ use crate::parts::GroupsParts;
 use crate::reading::{read_row, read_rows};
 use crate::tuple::Tuple;
 use std::alloc::{AllocError, Global};
-use std::collections::BTreeMap;
+use std::collections::{BTreeMap, BTreeSet};
 use std::marker::Model;
 use values::{Row, Value};
 use view_lang::{Change, GroupOutput, RowChange, Upkeep, group_law};
@@ -159,8 +166,54 @@ impl Groups {
         Ok(read_rows(alloc, outputs, &self.groups, self.columns.as_slice())?)
     }
 
+    /// The row of a tuple's group, if it has one.
+    pub fn row(
+        &self,
+        alloc: Global,
+        outputs: &[GroupOutput],
+        tuple: &Tuple,
+    ) -> Result<Option<Row>, AllocError>
+        ensures { IfOk result (λ row. option_map (λ r. r.items) row ≡ seen_at outputs.now self.now tuple.now) }
+    {
+        let columns = self.columns.as_slice();
+        match self.groups.get(tuple) {
+            Some(group) => Ok(Some(read_row(alloc, outputs, tuple, group, columns)?)),
+            None => Ok(None),
+        }
+    }
+
+    /// The tuples of the rows of a change, those before and those after it, each once.
+    pub fn touched(&self, change: &Change) -> Result<Vec<Tuple>, AllocError>
+        ensures { IfOk result (λ tuples. (t : List Key) → list_any (is_at (tuple_cmp t)) tuples.items
+            ≡ list_any (touches self.now.keys t) change.now) }
+    {
+        let mut tuples = BTreeSet::new(self.alloc);
+        for changed in change.rows() {
+            insert_tuple(
+                &mut tuples,
+                self.alloc,
+                self.keys.as_slice(),
+                changed.before(),
+            )?;
+            insert_tuple(
+                &mut tuples,
+                self.alloc,
+                self.keys.as_slice(),
+                changed.after(),
+            )?;
+        }
+        in_order(self.alloc, tuples)
+    }
+
+    /// That the groups ascend by their tuples. It does nothing else.
+    pub fn tuples_ascend(&self)
+        ensures { IsStrictlySortedBy tuple_cmp (keys_of self.now.groups) }
+    {
+        let _size = self.groups.len();
+    }
+
     /// Whether there are neither grouping columns nor groups.
-    fn is_bare(&self) -> bool
+    pub fn is_bare(&self) -> bool
         ensures { IsTrue result ↔ ((length self.now.keys ≡ 0) × (length self.now.groups ≡ 0)) }
     {
         self.keys.is_empty() && self.groups.is_empty()
@@ -176,6 +229,7 @@ impl Groups {
             → Keeps self.new (values_of (patched rows change.now))) }
         ensures keys { self.new.keys ≡ self.old.keys }
         ensures columns { self.new.columns ≡ self.old.columns }
+        ensures others { OnOk result (StayBut (λ t. list_any (touches self.old.keys t) change.now) self.old self.new) }
     {
         self.add_all(change.rows())?;
         self.remove_all(change.rows())?;
@@ -188,6 +242,7 @@ impl Groups {
             → Keeps self.new (with_afters changes.now rows)) }
         ensures keys { self.new.keys ≡ self.old.keys }
         ensures columns { self.new.columns ≡ self.old.columns }
+        ensures others { OnOk result (StayBut (λ t. list_any (comes self.old.keys t) changes.now) self.old self.new) }
     {
         for changed in changes {
             self.add_after(changed)?;
@@ -201,6 +256,7 @@ impl Groups {
             → Keeps self.new rows) }
         ensures keys { self.new.keys ≡ self.old.keys }
         ensures columns { self.new.columns ≡ self.old.columns }
+        ensures others { OnOk result (StayBut (λ t. list_any (goes self.old.keys t) changes.now) self.old self.new) }
     {
         for changed in changes {
             self.remove_before(changed)?;
@@ -215,6 +271,7 @@ impl Groups {
             → Keeps self.new (push_some changed.now.after rows)) }
         ensures keys { self.new.keys ≡ self.old.keys }
         ensures columns { self.new.columns ≡ self.old.columns }
+        ensures others { OnOk result (StayBut (λ t. comes self.old.keys t changed.now) self.old self.new) }
     {
         if let Some(row) = changed.after() {
             self.add(row)?;
@@ -229,6 +286,7 @@ impl Groups {
             → Keeps self.new rows) }
         ensures keys { self.new.keys ≡ self.old.keys }
         ensures columns { self.new.columns ≡ self.old.columns }
+        ensures others { OnOk result (StayBut (λ t. goes self.old.keys t changed.now) self.old self.new) }
     {
         if let Some(row) = changed.before() {
             self.remove(row)?;
@@ -243,6 +301,7 @@ impl Groups {
             → Keeps self.new (row.now ∷ rows)) }
         ensures keys { self.new.keys ≡ self.old.keys }
         ensures columns { self.new.columns ≡ self.old.columns }
+        ensures others { OnOk result (StayBut (λ t. has_tuple self.old.keys t row.now) self.old self.new) }
     {
         let tuple = Tuple::of(self.alloc, self.keys.as_slice(), row)?;
         put_row(
@@ -262,6 +321,7 @@ impl Groups {
             → Keeps self.new rows) }
         ensures keys { self.new.keys ≡ self.old.keys }
         ensures columns { self.new.columns ≡ self.old.columns }
+        ensures others { OnOk result (StayBut (λ t. has_tuple self.old.keys t row.now) self.old self.new) }
     {
         let tuple = Tuple::of(self.alloc, self.keys.as_slice(), row)?;
         take_row(
@@ -285,6 +345,33 @@ impl Upkeep for Groups {
         self.apply_change(change)?;
         Ok(())
     }
+}
+
+/// Adds the tuple of a row, if there is a row.
+fn insert_tuple(
+    tuples: &mut BTreeSet<Tuple>,
+    alloc: Global,
+    keys: &[usize],
+    row: Option<&[Value]>,
+) -> Result<(), AllocError>
+    ensures { OnOk result ((t : List Key) → list_any (is_at (tuple_cmp t)) tuples.new.keys
+        ≡ (list_any (is_at (tuple_cmp t)) tuples.old.keys || is_of keys.now t (option_map (λ r. r.now) row.entry))) }
+{
+    if let Some(row) = row {
+        tuples.insert(Tuple::of(alloc, keys, row)?)?;
+    }
+    Ok(())
+}
+
+/// The tuples of a set, in ascending order.
+fn in_order(alloc: Global, tuples: BTreeSet<Tuple>) -> Result<Vec<Tuple>, AllocError>
+    ensures { IfOk result (λ listed. listed.items ≡ tuples.keys) }
+{
+    let mut listed = Vec::with_capacity(alloc, tuples.len())?;
+    for tuple in tuples {
+        listed.push(tuple)?;
+    }
+    Ok(listed)
 }
 
 /// Adds a row to the group of its tuple.

@@ -27,6 +27,7 @@ fn keep_read(columns: &mut Vec<usize>, aggregate: Aggregate) -> Result<(), Alloc
         Aggregate::Key(_) => Ok(()),
         Aggregate::Count => Ok(()),
         Aggregate::CountOf(column) => keep(columns, column),
+        Aggregate::Distinct(column) => keep(columns, column),
         Aggregate::Sum(column) => keep(columns, column),
         Aggregate::Least(column) => keep(columns, column),
         Aggregate::Greatest(column) => keep(columns, column),

@@ -126,6 +126,14 @@ impl KeyCell {
         self.cell.copy(alloc)
     }
 
+    /// A copy of it.
+    pub(crate) fn copy(&self, alloc: Global) -> Result<KeyCell, AllocError>
+        ensures { IfOk result (λ key. key ≡ self.now) }
+    {
+        let cell = self.cell.copy(alloc)?;
+        Ok(KeyCell { cell })
+    }
+
     /// Its whole number; 0 where it is of another kind.
     pub(crate) fn number(&self) -> i128
         ensures { result ≡ number_in self.now }

@@ -21,3 +21,4 @@ mod tuple;
 
 pub use groups::Groups;
 pub use parts::{GroupParts, GroupsParts, MultisetParts, TallyParts, ValueCount};
+pub use tuple::Tuple;

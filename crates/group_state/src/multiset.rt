@@ -12,6 +12,7 @@ ghost use Rattle.std.specs.Prelude.{
   OnErr,
   OnOk,
   is_some,
+  length,
   ℕ,
 };
 ghost use Rattle.std.proofs.Common.{option_map};
@@ -104,6 +105,15 @@ impl Multiset {
     {
         let _size = self.counts.len();
         self.total
+    }
+
+    /// How many distinct values it has.
+    pub fn count_distinct(&self) -> usize
+        ensures distinct { result ≡ length self.now }
+        ensures ordered { IsStrictlySortedBy key_cmp (keys_of self.now) }
+        ensures present { All (λ n. 0 < n) (values_of self.now) }
+    {
+        self.counts.len()
     }
 
     /// The least value; `None` where there is no value.

@@ -1,10 +1,8 @@
 //! Group rows, read out of groups.
 
-ghost use Rattle.std.specs.Prelude.{◌≡◌, List, IfOk, All};
-ghost use Rattle.values.specs.Datum.{Datum};
-ghost use Rattle.view_lang.specs.Groups.{aggregate_of};
-ghost use Rattle.group_state.specs.Rows.{KeepsRows};
-ghost use Rattle.group_state.specs.Reading.{data_of, CanRead, IsRead, AreRead};
+ghost use Rattle.std.specs.Prelude.{◌≡◌, IfOk};
+ghost use Rattle.group_state.specs.Reading.{AreRead};
+ghost use Rattle.group_state.specs.Seen.{seen_cell, seen_row};
 ghost use Rattle.group_state.specs.Keys.{tuple_cmp};
 ghost use Rattle.std.specs.Map.{keys_of};
 ghost use Rattle.std.specs.List.Sorted.{IsStrictlySortedBy};
@@ -26,14 +24,17 @@ pub(crate) fn read_cell(
     group: &Group,
     columns: &[usize],
 ) -> Result<Value, AllocError>
-    ensures { IfOk result (λ cell. (rows : List (List Datum)) → KeepsRows columns.now group.now rows
-        → CanRead columns.now rows aggregate → cell ≡ aggregate_of aggregate (data_of tuple.now) rows) }
+    ensures { IfOk result (λ cell. cell ≡ seen_cell columns.now (tuple.now, group.now) aggregate) }
 {
     match aggregate {
         Aggregate::Key(k) => Ok(tuple.cell(alloc, k)?),
         Aggregate::Count => Ok(count(group.rows())),
         Aggregate::CountOf(k) => match group.tally(columns, k) {
             Some(tally) => Ok(tally.count_cell()),
+            None => Ok(no_value()),
+        },
+        Aggregate::Distinct(k) => match group.tally(columns, k) {
+            Some(tally) => Ok(tally.distinct_cell()),
             None => Ok(no_value()),
         },
         Aggregate::Sum(k) => match group.tally(columns, k) {
@@ -59,7 +60,7 @@ pub(crate) fn read_row(
     group: &Group,
     columns: &[usize],
 ) -> Result<Row, AllocError>
-    ensures { IfOk result (λ cells. IsRead columns.now outputs.now (tuple.now, group.now) cells.items) }
+    ensures { IfOk result (λ cells. cells.items ≡ seen_row columns.now outputs.now (tuple.now, group.now)) }
 {
     let mut cells = Vec::new(alloc);
     for output in outputs {

@@ -2,17 +2,14 @@
 
 ghost use Rattle.std.specs.Prelude.{◌≡◌, ◌<◌, ◌^◌, ◌∷◌, List, OnOk, IfOk, length, []};
 ghost use Rattle.std.proofs.Common.{option_map};
-ghost use Rattle.std.specs.List.{AllByRecursion};
+ghost use Rattle.std.specs.Int.{int_wrap};
 ghost use Rattle.values.specs.Datum.{Datum};
-ghost use Rattle.view_lang.specs.declared.view.Direction.TheVariants.{Ascending, Descending};
-ghost use Rattle.view_lang.specs.Groups.{total, sum_of as sum_by, count_of as count_by, first_in};
-ghost use Rattle.view_lang.specs.ViewLaws.{IsKeyCell};
-ghost use Rattle.group_state.specs.Reading.{filled, datum_in};
+ghost use Rattle.group_state.specs.Counts.{weighted};
+ghost use Rattle.group_state.specs.Reading.{datum_in};
 ghost use Rattle.group_state.specs.Cells.{KeepsCells};
 ghost use Rattle.group_state.specs.GroupParts.{IsMultiset, tally_with};
-ghost use Rattle.std.specs.Int.RustNames.{FitsSigned};
+ghost use Rattle.group_state.specs.Seen.{seen_count, seen_distinct, seen_greatest, seen_least, seen_sum};
 ghost use mir.Syntax.{w128};
-ghost use Rattle.group_state.specs.Folds.{sum_of, keys_in};
 ghost use Rattle.group_state.specs.Rows.{cell};
 
 use crate::cells::{count, is_null, no_value, whole};
@@ -58,25 +55,30 @@ impl Tally {
         Ok(Tally { filled, values })
     }
 
-    /// The sum of the cells.
+    /// The sum of the cells; it wraps around 128 bits.
     pub fn sum(&self) -> i128
-        ensures { (cells : List Datum) → KeepsCells self.now cells → FitsSigned w128 (sum_of (keys_in cells))
-            → result ≡ sum_of (keys_in cells) }
+        ensures { result ≡ int_wrap w128 (weighted self.now.values) }
     {
         self.values.total()
     }
 
     /// How many cells aren't null.
     pub(crate) fn count_cell(&self) -> Value
-        ensures { (cells : List Datum) → KeepsCells self.now cells → result ≡ count_by (filled cells) }
+        ensures { result ≡ seen_count self.now }
     {
         count(self.filled)
     }
 
+    /// How many distinct values the cells have, nulls left out.
+    pub(crate) fn distinct_cell(&self) -> Value
+        ensures { result ≡ seen_distinct self.now }
+    {
+        count(self.values.count_distinct() as u64)
+    }
+
     /// The sum of the cells; null where all are null.
     pub(crate) fn sum_cell(&self) -> Value
-        ensures { (cells : List Datum) → KeepsCells self.now cells → FitsSigned w128 (total (filled cells))
-            → result ≡ sum_by (filled cells) }
+        ensures { result ≡ seen_sum self.now }
     {
         if self.filled == 0 {
             return no_value();
@@ -86,16 +88,14 @@ impl Tally {
 
     /// The least of the cells; null where all are null.
     pub(crate) fn least_cell(&self, alloc: Global) -> Result<Value, AllocError>
-        ensures { IfOk result (λ cell. (cells : List Datum) → KeepsCells self.now cells
-            → AllByRecursion IsKeyCell cells → cell ≡ first_in Ascending (filled cells)) }
+        ensures { IfOk result (λ cell. cell ≡ seen_least self.now) }
     {
         Ok(key_cell(alloc, self.values.least())?)
     }
 
     /// The greatest of the cells; null where all are null.
     pub(crate) fn greatest_cell(&self, alloc: Global) -> Result<Value, AllocError>
-        ensures { IfOk result (λ cell. (cells : List Datum) → KeepsCells self.now cells
-            → AllByRecursion IsKeyCell cells → cell ≡ first_in Descending (filled cells)) }
+        ensures { IfOk result (λ cell. cell ≡ seen_greatest self.now) }
     {
         Ok(key_cell(alloc, self.values.greatest())?)
     }
@@ -119,6 +119,7 @@ impl Tally {
         }
         if let Some(key) = KeyCell::of(alloc, cell)? {
             self.values.add(key)?;
+            let _total = self.values.total();
         }
         self.filled += 1;
         Ok(())
@@ -142,6 +143,7 @@ impl Tally {
         }
         if let Some(key) = KeyCell::of(alloc, cell)? {
             self.values.remove(&key);
+            let _total = self.values.total();
         }
         self.filled = self.filled.saturating_sub(1);
         Ok(())

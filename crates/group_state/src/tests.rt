@@ -89,6 +89,7 @@ fn outputs(alloc: Global) -> Result<Vec<GroupOutput>, AllocError> {
     outputs.push(output(alloc, Aggregate::Key(0))?)?;
     outputs.push(output(alloc, Aggregate::Count)?)?;
     outputs.push(output(alloc, Aggregate::CountOf(1))?)?;
+    outputs.push(output(alloc, Aggregate::Distinct(1))?)?;
     outputs.push(output(alloc, Aggregate::Sum(1))?)?;
     outputs.push(output(alloc, Aggregate::Least(1))?)?;
     outputs.push(output(alloc, Aggregate::Greatest(1))?)?;
@@ -119,7 +120,7 @@ fn keeps_groups_through_a_change(rt: HostRuntime) -> Result<(), Fail> {
     let [sevens] = shown.as_slice() else {
         return Err(Fail::from("not one group"));
     };
-    assert!(rt; is_row(sevens, &[7, 2, 1, 3, 3, 3]));
+    assert!(rt; is_row(sevens, &[7, 2, 1, 1, 3, 3, 3]));
     Ok(())
 }
 
@@ -133,6 +134,6 @@ fn makes_groups_of_their_parts(rt: HostRuntime) -> Result<(), Fail> {
     let [sevens] = shown.as_slice() else {
         return Err(Fail::from("not one group"));
     };
-    assert!(rt; is_row(sevens, &[7, 2, 1, 3, 3, 3]));
+    assert!(rt; is_row(sevens, &[7, 2, 1, 1, 3, 3, 3]));
     Ok(())
 }

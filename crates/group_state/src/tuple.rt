@@ -96,7 +96,7 @@ impl Tuple {
         Ok(Tuple { keys })
     }
 
-    pub(crate) fn into_row(self, alloc: Global) -> Result<Row, AllocError>
+    pub fn into_row(self, alloc: Global) -> Result<Row, AllocError>
         ensures value { IfOk result (λ row. map key_in row.items ≡ self) }
         ensures keys { IfOk result (λ row. All IsKeyCell row.items) }
     {
@@ -107,13 +107,24 @@ impl Tuple {
         Ok(row)
     }
 
-    pub(crate) fn of_row(alloc: Global, row: Row) -> Result<Tuple, AllocError>
+    pub fn of_row(alloc: Global, row: Row) -> Result<Tuple, AllocError>
         requires { All IsKeyCell row.items }
         ensures { IfOk result (λ t. t ≡ map key_in row.items) }
     {
         let mut keys = Vec::with_capacity(alloc, row.len())?;
         for cell in row {
             keys.push(KeyCell::of_cell(cell))?;
+        }
+        Ok(Tuple { keys })
+    }
+
+    /// A copy of it.
+    pub fn copy(&self, alloc: Global) -> Result<Tuple, AllocError>
+        ensures { IfOk result (λ t. t ≡ self.now) }
+    {
+        let mut keys = Vec::with_capacity(alloc, self.keys.len())?;
+        for key in self.keys.iter() {
+            keys.push(key.copy(alloc)?)?;
         }
         Ok(Tuple { keys })
     }

@@ -90,14 +90,6 @@ use Rattle.liveviews.specs.Inspecting.{
 use Rattle.liveviews.specs.declared.inspecting.Inspection.{Inspection}
 use Rattle.liveviews.specs.Lines.{ended_after, given_lines, is_end}
 
-when-open : (c : Condition) (marked : Bool) → c ≡ condition_when marked → is_broken c ≡ false
-when-open c true is = ap is_broken is
-when-open c false is = ap is_broken is
-
--- The feed goes on.
-pub open-goes : (i : Inspection) → IsOpen i → breaks i.feed ≡ false
-open-goes i (s, shows, goes) = when-open i.feed.condition i.ended (shows.condition ∙ goes)
-
 pub left-open : (a : Account) (i : Inspection) (rest : List ℕ) → IsLeft a i rest → IsOpen i
 left-open a i rest l = (l.state, l.shows, l.goes)
 
@@ -282,23 +274,10 @@ left-breaks law a i bytes later f some answer l = elim (gives-fault l.state byte
       (stops-at law a l.state (string_bytes i.text) bytes later f (gives l.state bytes) some l.tells refl stands)
 ]
 
--- what is left of a piece, as the code has it
-pub left-rest : (a : Account) (i : Inspection) (bytes later : List ℕ) (n : ℕ) → IsLeft a i (drop n bytes ++ later)
-    → IsLeft a i (take (length bytes - n) (drop n bytes) ++ later)
-left-rest a i bytes later n l =
-    let size : length (drop n bytes) ≡ length bytes - n = length-drop n bytes in
-    let whole : take (length bytes - n) (drop n bytes) ≡ drop n bytes =
-    take_all (length bytes - n) (drop n bytes) (omega (arith, size)) in
-    subst (λ (xs : List ℕ). IsLeft a i (xs ++ later)) (sym whole) l
-
 -- Nothing is left of a piece.
 no-bytes : (bytes : List ℕ) → length bytes ≤ 0 → bytes ≡ []
 no-bytes [] none = refl
 no-bytes (b ∷ bs) none = absurd (omega (arith, none))
-
-pub left-all : (a : Account) (i : Inspection) (bytes later : List ℕ) → length bytes ≤ 0
-    → IsLeft a i (bytes ++ later) → IsLeft a i later
-left-all a i bytes later none l = subst (λ (xs : List ℕ). IsLeft a i (xs ++ later)) (no-bytes bytes none) l
 
 -- A whole input is a piece behind which nothing comes.
 pub left-whole : (a : Account) (i : Inspection) (bytes : List ℕ) → IsLeft a i bytes → IsLeft a i (bytes ++ [])

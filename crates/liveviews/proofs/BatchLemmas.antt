@@ -95,9 +95,3 @@ taken-rows ls columns old new n all fits room before =
       each = All-append (IsTakenRow ls) old (rows_in n columns) before.each each;
     } in
     subst (AreTaken ls) (sym all) joined
-
-pub on_ok_both : {T E P Q R : Type 0} (r : Result T E) → (P → Q → R) → OnOk r P → OnOk r Q → OnOk r R
-on_ok_both (Ok x) f p q = f p q
-on_ok_both (Err e) f p q = tt
-
-pub ruleset batching = (rows-many, rows-refused)

@@ -73,9 +73,6 @@ use Rattle.liveviews.proofs.KeptLemmas.{kept-so-none}
 use Rattle.liveviews.proofs.Stories.{after-none, between-goes, stands-refuses}
 use Rattle.liveviews.proofs.Tables.{fresh-between, nothing-tells, taken-none}
 
-pub fresh-open : (f : FeedParts) → Shows f (fresh None) → IsOpen f
-fresh-open f shows = (fresh None, shows, refl)
-
 -- where reading begins
 pub begins :
     (none : NothingYet) (law : AllIsTold) (f : FeedParts) (t : KeptBatches) → Shows f (fresh None)

@@ -82,20 +82,6 @@ pub ruleset holding = (rest-more, rest-end)
 
 -- row after row
 
-pub light-none : (ls : Roses Layout) (columns : List (List Datum)) (most : ℕ) → AreLightUpTo ls columns 0 most
-light-none ls columns most k below = absurd (omega (arith, below))
-
-pub light-more : (ls : Roses Layout) (columns : List (List Datum)) (i w most next : ℕ) → AreLightUpTo ls columns i most
-    → IsLightAs ls (row_at columns i) w → most ≤ next → w ≤ next → AreLightUpTo ls columns (i + 1) next
-light-more ls columns i w most next before here grown above k below = elim (cases_lt k i) [
-  | inl less ↦ let old = before k less in let bound = old.1 in (old.0, omega (arith, bound, grown))
-  | inr least ↦
-      let same : i ≡ k = omega (arith, below, least) in
-      let exact = here.exact in
-      let P : ℕ → Type 0 = λ j. IsLight ls (row_at columns j) × (row_weight ls (row_at columns j) ≤ next) in
-      subst P same (here.light, omega (arith, exact, above))
-]
-
 row-held :
     (columns : List CheckedColumn) (rows i : ℕ) → All HoldsCells columns
     → All (λ (c : CheckedColumn). length c.cells ≡ rows) columns
@@ -208,14 +194,3 @@ writable law weighs fs fields t named kept =
     subst (λ (xs : List (Rose NamedType)). IsWritable xs t) (sym named) here
 
 -- for writing
-
-pub light-rows : (ls : Roses Layout) (t : KeptBatches) → All (λ (row : List Datum). row_weight ls row ≤ t.heaviest)
-    (taken_rows t)
-    → t.heaviest ≤ max_light_row → AreLightRows ls (taken_rows t)
-light-rows ls t light below =
-    All-weaker (λ (row : List Datum). row_weight ls row ≤ t.heaviest) (λ (row : List Datum). row_weight ls row ≤
-    max_light_row)
-    (λ row h. omega (arith, h, below)) (taken_rows t) light
-
-pub all-sizes : (n : ℕ) (bs : List Batch) → All (IsSized n) bs → All HasSizes bs
-all-sizes n bs sized = All-weaker (IsSized n) HasSizes (λ b is. is.cells) bs sized

@@ -113,6 +113,7 @@ refused-stops old cause.SumType s h = (untouched old, h)
 refused-stops old cause.OrderType s h = (untouched old, h)
 refused-stops old cause.OverLimit s h = (untouched old, h)
 refused-stops old cause.Shape s h = (untouched old, h)
+refused-stops old cause.DictType s h = (untouched old, h)
 
 pub written-table :
     (law : ReadBack) (old new : Sunk) (answer : Result ℕ WriteFault) (input : List ℕ) (fields : List (Rose NamedType))
@@ -166,10 +167,3 @@ unread-source held old file.Unusable = refl
 unread-source held old file.Memory =
     let some = some-content held in
     record { input = some.0; read = some.1; recasts = inl (untouched old) }
-
--- What came of a source came of the file that it is.
-pub recasts-file :
-    (file source : Option (List ℕ)) (old new : Sunk) (answer : Result ℕ RecastFault) → HoldsFile file source
-    → RecastsFile source old new answer → RecastsFile file old new answer
-recasts-file file source old new answer holds r =
-    record { input = r.input; read = holds r.input r.read; recasts = r.recasts }

@@ -114,10 +114,4 @@ batch-more ls bs i b ws next h e grown all is =
     ∙ append_assoc ws (weights_of ls (batch_rows b)) (weights_of ls behind)
     ∙ ap (λ xs. ws ++ xs) (sym (ap (weights_of ls) split ∙ map-append (row_weight ls) (batch_rows b) behind)) ∙ is
 
-pub batches-end :
-    (ls : Roses Layout) (bs : List Batch) (i : ℕ) (ws whole : List ℕ) → length bs ≤ i
-    → ws ++ weights_of ls (rows_of (drop i bs)) ≡ whole → ws ≡ whole
-batches-end ls bs i ws whole h is =
-    sym (append-nil ws) ∙ ap (λ xs. ws ++ weights_of ls (rows_of xs)) (sym (drop_all i bs h)) ∙ is
-
 pub ruleset weights = (light-row, weights-more, weights-end)

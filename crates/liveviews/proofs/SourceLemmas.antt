@@ -21,10 +21,6 @@ use Rattle.std.specs.Io.KnownBytes.{Consumes, IsAtEnd, Keeps}
 use Rattle.liveviews.specs.Files.{InspectsFile, IsContent}
 use Rattle.liveviews.specs.Source.{HoldsFile, OfRead, OfSource}
 
-consumes-none : (held : Option (List ℕ)) → Consumes held held []
-consumes-none None = tt
-consumes-none (Some xs) = refl
-
 consumes-more :
     (held old new : Option (List ℕ)) (bytes piece : List ℕ) → Consumes held old bytes → Consumes old new piece
     → Consumes held new (bytes ++ piece)
@@ -49,10 +45,6 @@ consumes-content (Some xs) (Some ys) bytes took = sym took
 end-left : (left : Option (List ℕ)) → IsAtEnd left → left_of left ≡ []
 end-left None end = refl
 end-left (Some xs) end = end
-
--- Nothing was read yet.
-pub read-none : (held : Option (List ℕ)) (P : List ℕ → Type 0) → P [] → OfRead held held P
-read-none held P so = record { bytes = []; read = consumes-none held; so = so }
 
 pub read-more :
     (held old new : Option (List ℕ)) (piece : List ℕ) (P Q : List ℕ → Type 0) → OfRead held old P

@@ -138,13 +138,6 @@ complete-lacks s f rows shown complete =
     ap (λ x. x.end) complete.tells ∙ ap at_input_end (sym (shown complete.state complete.shows)) in
     (fault.NoSchema, refl, subst (λ (m : Reading (Unit {0})). Stands m fault.NoSchema) (sym end) refl)
 
--- all rows of the stream were taken
-pub complete-all : (s : Story) (f : FeedParts) (rows : List (List Datum)) → IsComplete s f rows
-    → AreTakenSo s.schema s.rows
-complete-all s f rows complete =
-    let all : s.rows ≡ rows = ap (λ x. x.rows) complete.tells ∙ append-nil rows in
-    subst (AreTakenSo s.schema) (sym all) complete.taken
-
 -- where reading begins
 pub fresh-between : IsBetween (fresh None)
 unfolding retained_of retained
@@ -161,11 +154,6 @@ unfolding story
 nothing-tells k [] none = refl
 nothing-tells k (b ∷ bs) none = absurd (omega (arith, none))
 
--- the end mark, with nothing after it or something
-pub at-mark-by : (rest : List ℕ) → length rest ≡ 0 → at_end_mark rest ≡ Ok tt
-at-mark-by rest none = let P : ℕ
-    → Type 0 = λ n. (if n == 0 then Ok tt else Err (one fault.AfterEnd)) ≡ Ok tt in subst P (sym none) refl
-
 abbrev mark_by : Bool → Reading (Unit {0})
 mark_by t = if t then Ok tt else Err (one fault.AfterEnd)
 
@@ -175,7 +163,3 @@ after-test n true some is = let none : n ≡ 0 = eqb-true n 0 is in absurd (omeg
 
 pub after-by : (rest : List ℕ) → 0 < length rest → at_end_mark rest ≡ Err (one fault.AfterEnd)
 after-by rest some = after-test (length rest) (length rest == 0) some refl
-
-pub on_ok_always : {T E P : Type 0} (r : Result T E) → P → OnOk r P
-on_ok_always (Ok x) p = p
-on_ok_always (Err e) p = tt

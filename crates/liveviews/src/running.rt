@@ -4,10 +4,10 @@ ghost use Rattle.std.specs.Prelude.{◌≡◌, ◌≤◌};
 
 use crate::files::{FileFault, Files};
 use crate::script::{Command, Line, read_line};
-use session::{Event, Fault, Pushed, Session, ViewFault};
+use session::{Event, Fault, Pushed, Reply, Session, Step, ViewFault};
 use std::fmt;
 use std::io::Write;
-use stream_writer::WriteFault;
+use stream_writer::{MemorySink, WriteFault};
 use values::Cause;
 
 /// The answer to a command of a script.
@@ -71,17 +71,19 @@ impl Run {
     /// Pushes a piece and prints what it gives. Returns how many of its bytes were used, or `None` after a refusal that
     /// used none.
     fn push_piece<W: Write>(&mut self, feed: &str, piece: &[u8], out: &mut W) -> Option<usize> {
-        match self.session.push(feed, piece) {
-            Ok(Pushed { used, event }) => {
+        let step = Step::Push { feed, bytes: piece };
+        match self.session.step::<MemorySink>(&step, &mut []) {
+            Reply::Push(Ok(Pushed { used, event })) => {
                 if let Some(event) = event {
                     self.print(Answer::Event(event), out);
                 }
                 Some(used)
             }
-            Err(Fault { cause, used }) => {
+            Reply::Push(Err(Fault { cause, used })) => {
                 self.print(Answer::Refused(cause), out);
                 if used == 0 { None } else { Some(used) }
             }
+            _ => unreachable!(),
         }
     }
 
@@ -143,16 +145,21 @@ impl Run {
                 len,
             } => self.push_file(name, path, (from, len), files, out),
             Command::Finish { name } => {
-                let answer = match self.session.finish(name) {
-                    Ok(()) => Answer::Finished,
-                    Err(fault) => Answer::Refused(fault.cause),
+                let answer = match self
+                    .session
+                    .step::<MemorySink>(&Step::Finish { feed: name }, &mut [])
+                {
+                    Reply::Finish(Ok(())) => Answer::Finished,
+                    Reply::Finish(Err(fault)) => Answer::Refused(fault.cause),
+                    _ => unreachable!(),
                 };
                 self.print(answer, out);
             }
             Command::Undo => {
-                let answer = match self.session.undo() {
-                    Ok(()) => Answer::Undone,
-                    Err(fault) => Answer::Refused(fault.cause),
+                let answer = match self.session.step::<MemorySink>(&Step::Undo, &mut []) {
+                    Reply::Undo(Ok(())) => Answer::Undone,
+                    Reply::Undo(Err(fault)) => Answer::Refused(fault.cause),
+                    _ => unreachable!(),
                 };
                 self.print(answer, out);
             }

@@ -114,23 +114,24 @@ batch = record { front = 208; meta = record { header = header.Batch sample_heade
 abbrev refused : StreamFault → Reading (Option Whole)
 refused c = Err (one c)
 
--- whole, and cut where it is not whole yet
+-- whole, also as V4, and cut where it is not whole yet
 pub taken :
-    (first open_stream message ≡ Ok (Some batch)) × (first open_stream (message ++ message) ≡ Ok (Some batch))
+    (first open_stream message ≡ Ok (Some batch)) × (first open_stream (slice_set message 36 3) ≡ Ok (Some batch))
+    × (first open_stream (message ++ message) ≡ Ok (Some batch))
     × (first open_stream (take 263 message) ≡ Ok None) × (first open_stream (take 207 message) ≡ Ok None)
     × (first open_stream (take 7 message) ≡ Ok None)
 unfolding number_at signed_at target_at bytes_at block_at place_of_vtable vtable_at table_at root_of slot_of number_of
     signed_of structs_of subtable_of vector_at vector_of entry_of each long_at node_of range_of rows_of nodes_in
     nodes_of ranges_in ranges_of plain batch_of lengths_fit short_of version_of kind_of header_table body_of
     record_batch header_of meta_of framed message_at staged first
-taken = (refl, refl, refl, refl, refl)
+taken = (refl, refl, refl, refl, refl, refl)
 
 -- the mark, the size, the version, the batch's length (which neither node has then), the count of buffers, a buffer's
 -- place; a batch and an end mark before the schema
 pub faults :
     (first open_stream (take 8 (slice_set message 0 254)) ≡ refused fault.NoContinuation)
     × (first open_stream (take 8 (slice_set message 7 1)) ≡ refused fault.BadSize)
-    × (first open_stream (slice_set message 36 3) ≡ refused fault.Version)
+    × (first open_stream (slice_set message 36 2) ≡ refused fault.Version)
     × (first open_stream (slice_set message 80 4) ≡ refused fault.BadLength)
     × (first open_stream (slice_set message 140 3) ≡ refused fault.BufferCount)
     × (first open_stream (slice_set message 192 33) ≡ refused fault.BufferRange)

@@ -24,7 +24,7 @@ use crate::declared::are_same;
 use crate::dictionary::read_dictionary_header;
 use crate::fields::checked;
 use crate::state::State;
-use field_types::schema_fbs::V5;
+use field_types::schema_fbs::{V4, V5};
 use field_types::{read_byte, read_long, read_short, readable};
 use flatbuf::{Buf, TableRef};
 use schema_meta::message_fbs::{
@@ -51,7 +51,7 @@ fn check_version(message: &TableRef) -> Result<(), StreamFault>
     ensures { Yields (λ u. u) result (version_of message.now) }
 {
     match read_short(message, MESSAGE_VERSION, 0)? {
-        V5 => Ok(()),
+        V4 | V5 => Ok(()),
         _ => Err(StreamFault::Version),
     }
 }

@@ -62,13 +62,6 @@ use Rattle.row_keys.proofs.Joining.{joined_at, joined_turned, keyed_turned, unus
 use Rattle.row_keys.proofs.KeyFacts.{either, neither, same_refl}
 use Rattle.row_keys.proofs.Places.{some_same}
 
-pub keys_held : (t : Table) (c : CheckedColumn) → IsTable t → AreKeys t c → HoldsKeys c.layouts
-keys_held t c is alike =
-    let same : get_or t.columns t.key no_field ≡ is.key.0 =
-    get_or_from_slice_get t.columns t.key is.key.0 no_field is.key.1 in
-    let P : Rose NamedType → Type 0 = λ f. IsAlike (tree_of f) c.layouts in
-    single_holds is.key.0 c.layouts is.key.2 (subst P same alike)
-
 -- one key after another
 
 pub finds_pushed :

@@ -291,10 +291,6 @@ module _ (t : Table) (n : ℕ) (ns : List ℕ) (slots : List Slot) where
         subst P (sym hidden_last) (subst Q (sym (hidden_off can)) back),
       )
 
-  -- Once the others are retracted, the last rows are there as before.
-  pub show_last : same_last n (retracted ns slots) slots
-  show_last = last_same n (retracted ns slots) slots (length_retracted ns slots)
-
   pub show_few : CanTakeBack n slots → CanTakeBack n (retracted ns slots)
   unfolding CanTakeBack
   show_few few = let long = length_retracted ns slots in omega (arith, long, few)

@@ -402,15 +402,3 @@ unused_before keys new hs es live p k is apart ins free = elim ins [
   | inl i ↦ found_row keys hs es live p k None is apart i.0 free
   | inr i ↦ no_row keys hs es live k is i.1
 ]
-
--- and where a live row holds it, that row has it
-pub used_before :
-    (keys new : List Key) (hs : List ℕ) (es : List Entry) (live p n : ℕ) (k : Key) → IsIndex keys hs es live
-    → AreApart keys
-    → Inserts keys k p new → HoldsPlace es p n → (new ≡ keys) × IsAt (seen_all keys es) n k true
-used_before keys new hs es live p n k is apart ins holds = elim ins [
-  | inl i ↦ (i.1, found_row keys hs es live p k (Some n) is apart i.0 holds)
-  | inr i ↦
-      let b : holds.0.key < length keys = is.keyed n holds.0 holds.1 in
-      absurd (omega (arith, b, holds.2, i.0))
-]

@@ -241,5 +241,3 @@ repeated_by k (x ∷ xs) rest (y ∷ ks) are h =
           or_right (is_among x (xs ++ datum_of_key k ∷ rest)) (has_repeated (xs ++ datum_of_key k ∷ rest))
           (repeated_by k xs rest ks (cc are) e)
     ]
-
-pub ruleset key_facts = (same_refl, same_exact)

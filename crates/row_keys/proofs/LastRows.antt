@@ -65,9 +65,6 @@ live_next k end rows new below step h =
     let Q : List Numbered → Type 0 = λ xs. AreLive (from (k + 1) end) xs in
     (both.0, subst Q (sym step) both.1)
 
-pub off_last : (k end : ℕ) (rows all : List Numbered) → end ≤ k → turned_off (from k end) rows ≡ all → rows ≡ all
-off_last k end rows all past h = sym (ap (λ ms. turned_off ms rows) (from_end k end past)) ∙ h
-
 split : (a b : ℕ) (t : Bool) → nat_lt a b ≡ t → (a < b) ⊎ (b ≤ a)
 split a b true e = inl (ltb-true a b e)
 split a b false e = inr (ltb-false a b e)

@@ -126,15 +126,3 @@ all_taken [] zero h = refl
 all_taken [] (suc n) h = refl
 all_taken (s ∷ ss) zero h = absurd (omega (arith, h))
 all_taken (s ∷ ss) (suc n) h = ap (λ xs. s ∷ xs) (all_taken ss n (omega (arith, h)))
-
-pub listed_all :
-    (slots : List Slot) (n : ℕ) (numbers : List ℕ) → Listed slots n numbers → length slots ≤ n
-    → map (row_of slots) numbers ≡ live slots
-listed_all slots n numbers l end = l.are ∙ ap live (all_taken slots n end)
-
-pub numbers_all :
-    (slots : List Slot) (n : ℕ) (numbers : List ℕ) → Listed slots n numbers → length slots ≤ n
-    → numbers ≡ keys_of (numbered slots)
-numbers_all slots n numbers l end = l.numbered_are ∙ ap (λ ss. keys_of (numbered ss)) (all_taken slots n end)
-
-pub ruleset listing = (listed_none, listed_all, numbers_all)

@@ -61,18 +61,6 @@ at_kept (a ∷ xs) zero n x below h = absurd (omega (arith, below))
 at_kept (a ∷ xs) (suc k) zero x below h = h
 at_kept (a ∷ xs) (suc k) (suc n) x below h = at_kept xs k n x (omega (arith, below)) h
 
-pub at_set :
-    {X : Type 0} (xs : List X) (k : ℕ) (y : X) (n : ℕ) (x : X) → slice_get (set xs k y) n ≡ Some x
-    → ((n ≡ k) × (y ≡ x)) ⊎ ((n ≡ k → ⊥) × (slice_get xs n ≡ Some x))
-at_set [] k y n x h = absurd (none-some x h)
-at_set (a ∷ xs) zero y zero x h = inl (refl, cc h)
-at_set (a ∷ xs) zero y (suc n) x h = inr (λ e. omega (arith, e), h)
-at_set (a ∷ xs) (suc k) y zero x h = inr (λ e. omega (arith, e), h)
-at_set (a ∷ xs) (suc k) y (suc n) x h = elim (at_set xs k y n x h) [
-  | inl p ↦ inl (ap suc p.0, p.1)
-  | inr p ↦ inr (λ e. p.0 (omega (arith, e)), p.1)
-]
-
 pub at_new : {X : Type 0} (xs : List X) (k : ℕ) (y : X) → k < length xs → slice_get (set xs k y) k ≡ Some y
 at_new [] k y below = absurd (omega (arith, below))
 at_new (a ∷ xs) zero y below = refl

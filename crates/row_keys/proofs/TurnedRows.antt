@@ -57,17 +57,6 @@ off_more ns i n rows new all is below step h =
     let split : drop i ns ≡ n ∷ drop (i + 1) ns = subst P (sym is) (drop_more ns i n below) in
     ap (λ xs. turned_off (drop (i + 1) ns) xs) step ∙ sym (ap (λ ms. turned_off ms rows) split) ∙ h
 
-pub live_more :
-    (ns : List ℕ) (i n : ℕ) (rows new : List Numbered) → n ≡ get_or ns i n → i < length ns → new ≡ turned false rows n
-    → AreLive (drop i ns) rows → ((k : Key) × IsAt rows n k true) × AreLive (drop (i + 1) ns) new
-live_more ns i n rows new is below step h =
-    let P : ℕ → Type 0 = λ m. drop i ns ≡ m ∷ drop (i + 1) ns in
-    let split : drop i ns ≡ n ∷ drop (i + 1) ns = subst P (sym is) (drop_more ns i n below) in
-    let Q : List ℕ → Type 0 = λ ms. AreLive ms rows in
-    let both : ((k : Key) × IsAt rows n k true) × AreLive (drop (i + 1) ns) (turned false rows n) = subst Q split h in
-    let R : List Numbered → Type 0 = λ xs. AreLive (drop (i + 1) ns) xs in
-    (both.0, subst R (sym step) both.1)
-
 pub off_end : (ns : List ℕ) (i : ℕ) (rows all : List Numbered) → length ns ≤ i → turned_off (drop i ns) rows ≡ all
     → rows ≡ all
 off_end ns i rows all end h = sym (ap (λ ms. turned_off ms rows) (drop_all i ns end)) ∙ h
@@ -92,15 +81,6 @@ revive_next ns i n rows first is below h can =
     × IsUnused (revived (drop (i + 1) ns) first) k) =
     subst Q split (can_drop ns i first can) in
     subst R (sym h) both.1
-
-pub revive_more :
-    (ns : List ℕ) (i n : ℕ) (rows new first : List Numbered) → n ≡ get_or ns i n → i < length ns
-    → rows ≡ revived (drop (i + 1) ns) first
-    → new ≡ turned true rows n → new ≡ revived (drop i ns) first
-revive_more ns i n rows new first is below h step =
-    let P : ℕ → Type 0 = λ m. drop i ns ≡ m ∷ drop (i + 1) ns in
-    let split : drop i ns ≡ n ∷ drop (i + 1) ns = subst P (sym is) (drop_more ns i n below) in
-    step ∙ ap (λ xs. turned true xs n) h ∙ sym (ap (λ ms. revived ms first) split)
 
 pub revive_none : (ns : List ℕ) (i : ℕ) (rows : List Numbered) → length ns ≤ i → rows ≡ revived (drop i ns) rows
 revive_none ns i rows end = sym (ap (λ ms. revived ms rows) (drop_all i ns end))

@@ -14,11 +14,6 @@ mutual
   sizes_same none = refl
   sizes_same (more f fs) = let here = size_same f in let rest = sizes_same fs in omega (arith, here, rest)
 
--- there are as many at least as columns
-pub length_le : (fs : List (Rose Entry)) → length fs ≤ roses_size (kids_of fs)
-length_le [] = omega arith
-length_le (node e kids ∷ fs) = let rest = length_le fs in omega (arith, rest)
-
 -- what the next field and those after it have
 pub nodes_step :
     (fs : List (Rose Entry)) (k : ℕ) (e d : Rose Entry) → e ≡ get_or fs k d → k < length fs

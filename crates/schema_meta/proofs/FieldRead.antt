@@ -1,22 +1,64 @@
 -- A field that is held is read as the field that was written.
-use Rattle.std.proofs.Common.{◌≡◌, ℕ, zero, suc, ◌+◌, ◌≤◌, true, List, length, Some, None, Ok, refl, sym, subst, arith}
+use Rattle.std.proofs.Common.{
+  ◌≡◌,
+  ℕ,
+  zero,
+  suc,
+  ◌+◌,
+  ◌^◌,
+  ◌<◌,
+  ◌≤◌,
+  Bool,
+  true,
+  false,
+  List,
+  [],
+  ◌∷◌,
+  length,
+  Option,
+  Some,
+  None,
+  Ok,
+  refl,
+  sym,
+  subst,
+  arith,
+}
+use Rattle.std.specs.Prelude.{pos, if◌then◌else◌}
+use Rattle.std.specs.Int.{w16, w32, w64}
 use Rattle.std.specs.Str.{is_utf8}
 use Rattle.std.proofs.lemmas.Bool.{le-leb}
-use Rattle.flatbuf.specs.Tree.{number, text, table, references, count}
+use Rattle.std.proofs.lemmas.Int.{to_z_pos}
+use Rattle.flatbuf.specs.Tree.{Node, absent, number, text, table, references, count}
 use Rattle.flatbuf.specs.Layout.{Table, Vector, table_in, slot_of, entry_of}
 use Rattle.flatbuf.specs.Held.{element_place, NodeHeld, Held}
-use Rattle.flatbuf.proofs.ReaderAnswers.{number-read, text-read, entry-read, vector-read, subtable-absent}
+use Rattle.flatbuf.proofs.ReaderAnswers.{
+  number-read,
+  signed-read,
+  text-read,
+  subtable-read,
+  entry-read,
+  vector-read,
+  subtable-absent,
+}
 use Rattle.values.specs.Limits.{max_name_len}
 use Rattle.values.specs.Reading.{Reading, each}
-use Rattle.values.specs.Rose.{Rose, node, Roses, none, more, roses_size}
+use Rattle.values.specs.Rose.{Rose, node, Roses, none, more, kids_of, roses_size}
+use Rattle.values.specs.declared.layout.IntWidth.TheVariants as int
+use Rattle.values.specs.declared.col_type.ColType.TheVariants as stored
 use Rattle.field_types.specs.Kinds.{may_have, kind_of_type}
 use Rattle.values.specs.Logical.{NamedType}
-use Rattle.field_types.specs.Reads.{bool_of}
+use Rattle.field_types.specs.Reads.{bool_of, i32_of, short_of}
+use Rattle.field_types.specs.TypeTree.{type_slots}
+use Rattle.field_types.specs.Types.{index_of, width_of}
 use Rattle.field_types.specs.StoredLaws.{kids_count}
 use Rattle.field_types.specs.declared.kinds.TypeKind.{TypeKind}
 use Rattle.values.specs.declared.col_type.ColType.{ColType}
 use Rattle.field_types.proofs.TypeRead.{type-is-read}
-use Rattle.schema_meta.specs.Encoding.{field_encoding_of}
+use Rattle.schema_meta.specs.declared.encoding.DictionaryEncoding.{DictionaryEncoding}
+use Rattle.values.specs.Coded.{is_coded, utf8}
+use Rattle.schema_meta.specs.Coded.{encoding_at, indices, own_encoding}
+use Rattle.schema_meta.specs.Encoding.{dense_of, encoding_of, field_encoding_of, id_of, index_type_of}
 use Rattle.schema_meta.specs.Entry.{Entry}
 use Rattle.field_types.specs.SchemaFbs as fbs
 use Rattle.schema_meta.specs.Fields.{
@@ -33,8 +75,15 @@ use Rattle.schema_meta.specs.Fields.{
   forest,
 }
 use Rattle.schema_meta.specs.Totals.{sum_from, total_at, total}
-use Rattle.schema_meta.specs.SchemaTree.{field_slots, field_tables}
-use Rattle.schema_meta.specs.SchemaLaw.{stored_field}
+use Rattle.schema_meta.specs.SchemaTree.{
+  column_tables,
+  dictionary_node,
+  encoding_node,
+  encoding_slots,
+  field_tables,
+  slots_with,
+}
+use Rattle.schema_meta.specs.SchemaLaw.{coded_from, stored_below}
 use Rattle.schema_meta.proofs.SoundFields.{
   Sound,
   no-level,
@@ -44,6 +93,7 @@ use Rattle.schema_meta.proofs.SoundFields.{
   may-have,
   entries,
   entries-below,
+  TextsFrom,
 }
 
 name-read : (t : Table) (xs : List ℕ) → length xs ≤ max_name_len → is_utf8 xs ≡ true
@@ -55,9 +105,56 @@ bool-read : (t : Table) (k : ℕ) → NodeHeld t.bytes (slot_of t k) (number 1 1
 unfolding bool_of
 bool-read t k h = rw (number-read 1 1 t k h) refl
 
-plain-read : (t : Table) (k : TypeKind) → slot_of t fbs.dictionary ≡ Some None → field_encoding_of k t ≡ Ok None
+-- a field of this type whose dictionary slot holds this node has this dictionary
+abbrev pub Encodes : Node → ColType → Option DictionaryEncoding → Type 0
+Encodes x s e =
+    (t : Table) → NodeHeld t.bytes (slot_of t fbs.dictionary) x → field_encoding_of (kind_of_type s) t ≡ Ok e
+
+plain-read : (s : ColType) → Encodes absent s None
 unfolding field_encoding_of
-plain-read t k h = rw (subtable-absent t fbs.dictionary h) refl
+plain-read s t h = rw (subtable-absent t fbs.dictionary h) refl
+
+index-read : (t : Table) → Held t.bytes (slot_of t) 0 (type_slots (stored.Int int.Bits32 true))
+    → index_of t ≡ Ok indices
+unfolding index_of width_of i32_of bool_of
+index-read t h = rw (signed-read w32 32 t fbs.bit_width h.0, number-read 1 1 t fbs.is_signed h.1.0) refl
+
+id-read : (t : Table) (j : ℕ) → j < 2 ^ 63 → NodeHeld t.bytes (slot_of t fbs.dictionary_id) (number 8 j)
+    → id_of t ≡ Ok (pos j)
+unfolding id_of
+id-read t j small h = rw (signed-read w64 j t fbs.dictionary_id h, to_z_pos w64 j small) refl
+
+index_type-read : (t : Table)
+    → NodeHeld t.bytes (slot_of t fbs.index_type) (table (type_slots (stored.Int int.Bits32 true)))
+    → index_type_of t ≡ Ok indices
+unfolding index_type_of
+index_type-read t h =
+    let r = subtable-read (type_slots (stored.Int int.Bits32 true)) t fbs.index_type h in
+    rw (r.is, index-read (table_in t.bytes r.place) r.slots) refl
+
+dense-read : (t : Table) → NodeHeld t.bytes (slot_of t fbs.dictionary_kind) (number 2 fbs.dense_array)
+    → dense_of t ≡ Ok tt
+unfolding dense_of short_of
+dense-read t h = rw (signed-read w16 fbs.dense_array t fbs.dictionary_kind h) refl
+
+encoding-read : (t : Table) (j : ℕ) → j < 2 ^ 63 → Held t.bytes (slot_of t) 0 (encoding_slots j)
+    → encoding_of t ≡ Ok (own_encoding j)
+unfolding encoding_of
+encoding-read t j small h =
+    rw (id-read t j small h.0, index_type-read t h.1.0, dense-read t h.1.1.1.0) refl
+
+coded-read : (j : ℕ) → j < 2 ^ 63 → Encodes (table (encoding_slots j)) utf8 (Some (own_encoding j))
+unfolding field_encoding_of
+coded-read j small t h =
+    let r = subtable-read (encoding_slots j) t fbs.dictionary h in
+    rw (r.is, encoding-read (table_in t.bytes r.place) j small r.slots) refl
+
+encodes-by : (b : Bool) (j : ℕ) (s : ColType) → j < 2 ^ 63 → (b ≡ true → s ≡ utf8)
+    → Encodes (dictionary_node (if b then Some j else None)) s (if b then Some (own_encoding j) else None)
+encodes-by false j s small is = plain-read s
+encodes-by true j s small is =
+    let P : ColType → Type 0 = λ u. Encodes (table (encoding_slots j)) u (Some (own_encoding j)) in
+    subst P (sym (is refl)) (coded-read j small)
 
 -- the fields of a vector that holds these are read as they are
 abbrev pub Reads : (Vector → Reading (List (Rose Entry))) → Roses NamedType → Type 0
@@ -81,51 +178,57 @@ children-read below t k kids may reads h =
     rw (r.is, may-read, read) refl
 
 label-read :
-    (t : Table) (f : NamedType) (kids : Roses NamedType) → length f.name ≤ max_name_len → is_utf8 f.name ≡ true
-    → Held t.bytes (slot_of t) 0 (field_slots (node f kids)) → label_of t ≡ Ok (label f.name true)
+    (t : Table) (x : Node) (f : NamedType) (kids : Roses NamedType) → length f.name ≤ max_name_len
+    → is_utf8 f.name ≡ true
+    → Held t.bytes (slot_of t) 0 (slots_with x f (field_tables kids)) → label_of t ≡ Ok (label f.name true)
 unfolding label_of
-label-read t f kids short utf8 h = rw (name-read t f.name short utf8 h.0, bool-read t fbs.nullable h.1.0) refl
+label-read t x f kids short utf8 h = rw (name-read t f.name short utf8 h.0, bool-read t fbs.nullable h.1.0) refl
 
--- a field that lies before others, below one of type `p`
+-- a field that lies before others, below one of type `p`, with this dictionary
 content-read :
-    (below : Vector → Reading (List (Rose Entry))) (t : Table) (d : ℕ) (p : ColType) (f : NamedType)
-    (kids fs : Roses NamedType)
-    → Sound d p (more (node f kids) fs) → Reads below kids → Held t.bytes (slot_of t) 0 (field_slots (node f kids))
-    → content_of below t ≡ Ok (content (storage f.col_type None) (entries kids))
+    (below : Vector → Reading (List (Rose Entry))) (t : Table) (x : Node) (e : Option DictionaryEncoding) (d : ℕ)
+    (p : ColType) (f : NamedType) (kids fs : Roses NamedType)
+    → Encodes x f.col_type e → Sound d p (more (node f kids) fs) → Reads below kids
+    → Held t.bytes (slot_of t) 0 (slots_with x f (field_tables kids))
+    → content_of below t ≡ Ok (content (storage f.col_type e) (entries kids))
 unfolding content_of
-content-read below t d p f kids fs s reads h =
+content-read below t x e d p f kids fs encodes s reads h =
     let typed = type-is-read f.col_type s.within.0.1 t h.1.1.0 h.1.1.1.0 in
     rw (
       typed.0,
       typed.1,
-      plain-read t (kind_of_type f.col_type) h.1.1.1.1.0,
+      encodes t h.1.1.1.1.0,
       children-read below t (kind_of_type f.col_type) kids (may-have d p f kids fs s) reads h.1.1.1.1.1.0,
     ) refl
 
+abbrev entry_with : NamedType → Option DictionaryEncoding → Roses NamedType → Rose Entry
+entry_with f e kids =
+    node (record { name = f.name; nullable = true; stored = f.col_type; encoding = e }) (stored_below kids)
+
 field-read :
-    (below : Vector → Reading (List (Rose Entry))) (t : Table) (d : ℕ) (p : ColType) (f : NamedType)
-    (kids fs : Roses NamedType)
-    → Sound d p (more (node f kids) fs) → Reads below kids → Held t.bytes (slot_of t) 0 (field_slots (node f kids))
-    → field_of below t ≡ Ok (stored_field (node f kids))
+    (below : Vector → Reading (List (Rose Entry))) (t : Table) (x : Node) (e : Option DictionaryEncoding) (d : ℕ)
+    (p : ColType) (f : NamedType) (kids fs : Roses NamedType)
+    → Encodes x f.col_type e → Sound d p (more (node f kids) fs) → Reads below kids
+    → Held t.bytes (slot_of t) 0 (slots_with x f (field_tables kids)) → field_of below t ≡ Ok (entry_with f e kids)
 unfolding field_of
-field-read below t d p f kids fs s reads h =
+field-read below t x e d p f kids fs encodes s reads h =
     rw (
-      label-read t f kids s.within.0.0 s.logical.0.0 h,
-      content-read below t d p f kids fs s reads h,
+      label-read t x f kids s.within.0.0 s.logical.0.0 h,
+      content-read below t x e d p f kids fs encodes s reads h,
       entries-below kids,
     ) refl
 
 entry-by-read :
-    (below : Vector → Reading (List (Rose Entry))) (v : Vector) (i d : ℕ) (p : ColType) (f : NamedType)
-    (kids fs : Roses NamedType)
-    → Sound d p (more (node f kids) fs) → Reads below kids
-    → NodeHeld v.bytes (element_place v.start i) (table (field_slots (node f kids)))
-    → entry_by below v i ≡ Ok (stored_field (node f kids))
+    (below : Vector → Reading (List (Rose Entry))) (v : Vector) (i : ℕ) (x : Node) (e : Option DictionaryEncoding)
+    (d : ℕ) (p : ColType) (f : NamedType) (kids fs : Roses NamedType)
+    → Encodes x f.col_type e → Sound d p (more (node f kids) fs) → Reads below kids
+    → NodeHeld v.bytes (element_place v.start i) (table (slots_with x f (field_tables kids)))
+    → entry_by below v i ≡ Ok (entry_with f e kids)
 unfolding entry_by
-entry-by-read below v i d p f kids fs s reads h =
-    let r = entry-read (field_slots (node f kids)) v i h in
+entry-by-read below v i x e d p f kids fs encodes s reads h =
+    let r = entry-read (slots_with x f (field_tables kids)) v i h in
     let found : entry_of v i ≡ Some (table_in v.bytes r.place) = cc (r.is) in
-    rw (found, field-read below (table_in v.bytes r.place) d p f kids fs s reads r.slots) refl
+    rw (found, field-read below (table_in v.bytes r.place) x e d p f kids fs encodes s reads r.slots) refl
 
 each-read :
     (below : Vector → Reading (List (Rose Entry))) (v : Vector) (i d : ℕ) (p : ColType) (fs : Roses NamedType)
@@ -136,7 +239,8 @@ unfolding each
 each-read below v i d p none reads s h = refl
 each-read below v i d p (more (node f kids) fs) reads s h =
     let mine =
-    entry-by-read below v i (suc d) p f kids fs s (reads f.col_type kids (sound-below d p f kids fs s)) h.0 in
+    entry-by-read below v i absent None (suc d) p f kids fs (plain-read f.col_type) s
+    (reads f.col_type kids (sound-below d p f kids fs s)) h.0 in
     let others = each-read below v (i + 1) d p fs reads (sound-rest (suc d) p f kids fs s) h.1 in
     rw (mine, others) refl
 
@@ -148,6 +252,39 @@ forest-read (suc depth) p fs s w e h =
     let P : ℕ → Type 0 = λ n. each (entry_by (forest depth) w) 0 n ≡ Ok (entries fs) in
     subst P (sym e) (each-read (forest depth) w 0 depth p fs (forest-read depth) s h)
 
+-- the columns from number j on, some of which have dictionaries
+each-column-read :
+    (coded : List ℕ) (j d : ℕ) (v : Vector) (p : ColType) (fs : List (Rose NamedType))
+    → j + roses_size (kids_of fs) ≤ 2 ^ 32 → TextsFrom coded j fs → Sound (suc d) p (kids_of fs)
+    → Held v.bytes (element_place v.start) j (column_tables coded j fs)
+    → each (entry_by (forest d) v) j (kids_count (kids_of fs)) ≡ Ok (coded_from coded j fs)
+unfolding each
+each-column-read coded j d v p [] few texts s h = refl
+each-column-read coded j d v p (node f kids ∷ fs) few texts s h =
+    let mine =
+    entry-by-read (forest d) v j (encoding_node coded j) (encoding_at coded j) (suc d) p f kids (kids_of fs)
+    (encodes-by (is_coded coded j) j f.col_type (omega (arith, few)) texts.0) s
+    (forest-read d f.col_type kids (sound-below d p f kids (kids_of fs) s)) h.0 in
+    let next : j + 1 ≡ suc j = omega arith in
+    let P : ℕ → Type 0 =
+    λ k. Held v.bytes (element_place v.start) k (column_tables coded (suc j) fs) in
+    let Q : ℕ → Type 0 =
+    λ k. each (entry_by (forest d) v) k (kids_count (kids_of fs)) ≡ Ok (coded_from coded (suc j) fs) in
+    let others =
+    subst Q (sym next) (each-column-read coded (suc j) d v p fs (omega (arith, few)) texts.1
+    (sound-rest (suc d) p f kids (kids_of fs) s) (subst P next h.1)) in
+    rw (mine, others) refl
+
+pub columns-forest-read :
+    (coded : List ℕ) (d : ℕ) (p : ColType) (fs : List (Rose NamedType)) (w : Vector) → roses_size (kids_of fs) ≤ 2 ^ 32
+    → TextsFrom coded 0 fs → Sound (suc d) p (kids_of fs) → w.count ≡ kids_count (kids_of fs)
+    → Held w.bytes (element_place w.start) 0 (column_tables coded 0 fs)
+    → forest (suc d) w ≡ Ok (coded_from coded 0 fs)
+unfolding forest
+columns-forest-read coded d p fs w few texts s e h =
+    let P : ℕ → Type 0 = λ n. each (entry_by (forest d) w) 0 n ≡ Ok (coded_from coded 0 fs) in
+    subst P (sym e) (each-column-read coded 0 d w p fs (omega (arith, few)) texts s h)
+
 -- The count of fields.
 
 abbrev pub Counts : (Vector → ℕ) → Roses NamedType → Type 0
@@ -156,13 +293,14 @@ Counts below kids =
     → below w ≡ roses_size kids
 
 child-read :
-    (v : Vector) (i d : ℕ) (p : ColType) (f : NamedType) (kids fs : Roses NamedType) → Sound d p (more (node f kids) fs)
-    → NodeHeld v.bytes (element_place v.start i) (table (field_slots (node f kids)))
+    (v : Vector) (i : ℕ) (x : Node) (d : ℕ) (p : ColType) (f : NamedType) (kids fs : Roses NamedType)
+    → Sound d p (more (node f kids) fs)
+    → NodeHeld v.bytes (element_place v.start i) (table (slots_with x f (field_tables kids)))
     → (w : Vector) × (child_at v i ≡ Some w) × (w.count ≡ kids_count kids)
     × Held w.bytes (element_place w.start) 0 (field_tables kids)
 unfolding child_at
-child-read v i d p f kids fs s h =
-    let r = entry-read (field_slots (node f kids)) v i h in
+child-read v i x d p f kids fs s h =
+    let r = entry-read (slots_with x f (field_tables kids)) v i h in
     let t : Table = table_in v.bytes r.place in
     let found : entry_of v i ≡ Some (table_in v.bytes r.place) = cc (r.is) in
     let slots = r.slots in
@@ -182,7 +320,7 @@ sum-read :
 unfolding sum_from total_at
 sum-read below v i d p none counts s h = refl
 sum-read below v i d p (more (node f kids) fs) counts s h =
-    let c = child-read v i (suc d) p f kids fs s h.0 in
+    let c = child-read v i absent (suc d) p f kids fs s h.0 in
     let mine = counts f.col_type kids (sound-below d p f kids fs s) c.0 c.2 c.3 in
     let others = sum-read below v (i + 1) d p fs counts (sound-rest (suc d) p f kids fs s) h.1 in
     rw (c.1, mine) omega (arith, others)
@@ -194,3 +332,32 @@ total-read zero p (more f fs) s w e h = absurd (no-level p f fs s)
 total-read (suc depth) p fs s w e h =
     let P : ℕ → Type 0 = λ n. n + sum_from (total_at (total depth) w) 0 n ≡ roses_size fs in
     subst P (sym e) (sum-read (total depth) w 0 depth p fs (total-read depth) s h)
+
+sum-columns-read :
+    (coded : List ℕ) (v : Vector) (j d : ℕ) (p : ColType) (fs : List (Rose NamedType)) → Sound (suc d) p (kids_of fs)
+    → Held v.bytes (element_place v.start) j (column_tables coded j fs)
+    → kids_count (kids_of fs) + sum_from (total_at (total d) v) j (kids_count (kids_of fs)) ≡ roses_size (kids_of fs)
+unfolding sum_from total_at
+sum-columns-read coded v j d p [] s h = refl
+sum-columns-read coded v j d p (node f kids ∷ fs) s h =
+    let c = child-read v j (encoding_node coded j) (suc d) p f kids (kids_of fs) s h.0 in
+    let mine = total-read d f.col_type kids (sound-below d p f kids (kids_of fs) s) c.0 c.2 c.3 in
+    let next : j + 1 ≡ suc j = omega arith in
+    let P : ℕ → Type 0 =
+    λ k. Held v.bytes (element_place v.start) k (column_tables coded (suc j) fs) in
+    let Q : ℕ → Type 0 =
+    λ k. kids_count (kids_of fs) + sum_from (total_at (total d) v) k (kids_count (kids_of fs))
+    ≡ roses_size (kids_of fs) in
+    let others =
+    subst Q (sym next) (sum-columns-read coded v (suc j) d p fs (sound-rest (suc d) p f kids (kids_of fs) s)
+    (subst P next h.1)) in
+    rw (c.1, mine) omega (arith, others)
+
+pub columns-total-read :
+    (coded : List ℕ) (d : ℕ) (p : ColType) (fs : List (Rose NamedType)) (w : Vector) → Sound (suc d) p (kids_of fs)
+    → w.count ≡ kids_count (kids_of fs) → Held w.bytes (element_place w.start) 0 (column_tables coded 0 fs)
+    → total (suc d) w ≡ roses_size (kids_of fs)
+unfolding total
+columns-total-read coded d p fs w s e h =
+    let P : ℕ → Type 0 = λ n. n + sum_from (total_at (total d) w) 0 n ≡ roses_size (kids_of fs) in
+    subst P (sym e) (sum-columns-read coded w 0 d p fs s h)

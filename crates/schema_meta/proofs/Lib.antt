@@ -20,6 +20,7 @@ pub mod Signs
 pub mod SchemaFits
 pub mod FieldTables
 pub mod SoundFields
+pub mod CodedFields
 pub mod FieldRead
 pub mod SchemaRead
 pub mod Sample

@@ -22,7 +22,6 @@ use Rattle.std.specs.Str.{is_utf8}
 use Rattle.std.proofs.lemmas.Str.{is_utf8-from_IsUtf8, IsUtf8-from_ascii}
 use Rattle.values.specs.Limits.{max_name_len}
 use Rattle.values.specs.Rose.{Rose, node, Roses, none, more, kids_of, roses_size, roses_depth}
-use Rattle.values.specs.Layouts.{slot}
 use Rattle.values.specs.declared.layout.Layout.{Layout}
 use Rattle.values.specs.ColTypes.{IsType}
 use Rattle.values.specs.Logical.{narrow, child_name, item_name, logical_below, AreLogical}

@@ -21,6 +21,6 @@ mutual
   pub named-stored : (f : Rose NamedType) → named_field (stored_field f) ≡ f
   named-stored (node f kids) = ap (λ ks. node f ks) (named-stored-all kids)
 
-  named-stored-all : (fs : Roses NamedType) → named_below (stored_below fs) ≡ fs
+  pub named-stored-all : (fs : Roses NamedType) → named_below (stored_below fs) ≡ fs
   named-stored-all none = refl
   named-stored-all (more f fs) = rw (named-stored f, named-stored-all fs) refl

@@ -23,7 +23,7 @@ mutual
   slot-plain : (f : Rose NamedType) → slot_layout_of (stored_field f) ≡ tree_of f
   slot-plain (node f kids) = rw (slots-plain kids) refl
 
-  slots-plain : (fs : Roses NamedType) → slot_layouts_below (stored_below fs) ≡ trees_of fs
+  pub slots-plain : (fs : Roses NamedType) → slot_layouts_below (stored_below fs) ≡ trees_of fs
   slots-plain none = refl
   slots-plain (more f fs) = rw (slot-plain f, slots-plain fs) refl
 
@@ -34,7 +34,7 @@ pub plain-slots : PlainSlots
 plain-slots fs = slots-are fs ∙ sym (layouts-read fs)
 
 mutual
-  plain-array :
+  pub plain-array :
       (values : ℤ → List Datum) (nodes : List FieldNode) (ranges : List BufferRange) (n b : ℕ) (f : Rose NamedType)
       → decoded values (stored_field f) (placed nodes ranges n b (tree_of f)) ≡ placed nodes ranges n b (tree_of f)
   plain-array values nodes ranges n b (node f kids) = rw (plain-below values nodes ranges (n + 1) _ kids) refl
@@ -56,12 +56,6 @@ plain-arrays values fs head =
     rw (slots-are fs, layouts-read fs, stored-kids fs) (plain-below values head.nodes head.ranges 0 0 (kids_of fs))
 
 -- There are no ids that could clash.
-plain-agree : (known : ℤ → Option ColType) (fs : Roses NamedType) → agree known (stored_below fs) ≡ true
+pub plain-agree : (known : ℤ → Option ColType) (fs : Roses NamedType) → agree known (stored_below fs) ≡ true
 plain-agree known none = refl
 plain-agree known (more (node f kids) fs) = rw (plain-agree known kids, plain-agree known fs) refl
-
-pub plain-clear : (fs : List (Rose NamedType)) → are_consistent (stored_fields fs) ≡ true
-unfolding are_consistent
-plain-clear fs =
-    ap (agree (value_type (stored_fields fs))) (stored-kids fs)
-    ∙ plain-agree (value_type (stored_fields fs)) (kids_of fs)

@@ -2,6 +2,7 @@
 use Rattle.std.proofs.Common.{
   ◌≡◌,
   ℕ,
+  suc,
   ◌+◌,
   ◌-◌,
   ◌^◌,
@@ -62,45 +63,47 @@ use Rattle.schema_meta.specs.Message.{
   brings_schema,
 }
 use Rattle.schema_meta.specs.MessageTree.{header_number, message_slots}
-use Rattle.schema_meta.specs.SchemaTree.{field_tables, schema_slots, schema_metadata, AreColumns}
+use Rattle.values.specs.Coded.{AreCoded}
+use Rattle.schema_meta.specs.SchemaTree.{column_tables, schema_slots, schema_metadata, AreColumns}
 use Rattle.schema_meta.specs.SchemaLaw.{
-  stored_field,
-  stored_fields,
+  coded_fields,
+  coded_from,
+  stored_below,
   AreNamed,
   before,
   AreExpected,
   SchemaLaw,
   ColumnsLaw,
 }
-use Rattle.schema_meta.specs.Logical.{logical_field}
+use Rattle.schema_meta.specs.Logical.{logical_field, named_below}
 use Rattle.schema_meta.specs.SameColumns.{are_same, is_declared}
 use Rattle.schema_meta.specs.Totals.{total}
 use Rattle.schema_meta.proofs.SchemaFits.{schema-writable}
 use Rattle.schema_meta.proofs.ColumnsRead.{all_read}
-use Rattle.schema_meta.proofs.SoundFields.{Sound, tables-count, entries-fields, layouts-read}
-use Rattle.schema_meta.proofs.Plain.{plain-clear}
-use Rattle.schema_meta.proofs.FieldRead.{forest-read, total-read}
-use Rattle.schema_meta.proofs.Logicals.{named-stored}
+use Rattle.schema_meta.proofs.SoundFields.{Sound, columns-count, coded-layouts-read}
+use Rattle.schema_meta.proofs.CodedFields.{coded-clear, coded-texts}
+use Rattle.schema_meta.proofs.FieldRead.{columns-forest-read, columns-total-read}
+use Rattle.schema_meta.proofs.Logicals.{named-stored-all}
 
 sound-columns : (fs : List (Rose NamedType)) → AreColumns fs → AreNamed fs → Sound max_depth stored.Struct (kids_of fs)
 sound-columns fs columns named =
     record { within = columns.within; logical = named.logical; layouts = named.layouts; shallow = named.shallow }
 
 columns-read :
-    (v : Vector) (fs : List (Rose NamedType)) → v.count ≡ count (field_tables (kids_of fs)) → AreColumns fs
-    → AreNamed fs
-    → Held v.bytes (element_place v.start) 0 (field_tables (kids_of fs)) → columns_of v ≡ Ok (stored_fields fs)
-columns-read v fs e columns named h =
+    (v : Vector) (coded : List ℕ) (fs : List (Rose NamedType)) → v.count ≡ count (column_tables coded 0 fs)
+    → AreColumns fs → AreNamed fs → AreCoded coded fs
+    → Held v.bytes (element_place v.start) 0 (column_tables coded 0 fs) → columns_of v ≡ Ok (coded_fields coded fs)
+columns-read v coded fs e columns named c h =
     let sound = sound-columns fs columns named in
-    let counted = e ∙ tables-count (kids_of fs) in
-    let counts = total-read max_depth stored.Struct (kids_of fs) sound v counted h in
-    let read = forest-read max_depth stored.Struct (kids_of fs) sound v counted h
-    ∙ ap (λ es. Ok es) (entries-fields fs) in
+    let counted = e ∙ columns-count coded 0 fs in
     let few = columns.few in
+    let counts = columns-total-read coded 15 stored.Struct fs v sound counted h in
+    let read =
+    columns-forest-read coded 15 stored.Struct fs v (omega (arith, few)) (coded-texts coded fs c) sound counted h in
     let left : max_fields - roses_size (kids_of fs) + total max_depth v ≡ max_fields = omega (arith, few, counts) in
     let P : Roses Layout → Type 0 = λ ls. are_within_slot ls ≡ true in
-    all_read v (stored_fields fs) (max_fields - roses_size (kids_of fs)) left read
-    (subst P (sym (layouts-read fs)) named.within_slot) (plain-clear fs)
+    all_read v (coded_fields coded fs) (max_fields - roses_size (kids_of fs)) left read
+    (subst P (sym (coded-layouts-read coded fs)) named.within_slot) (coded-clear coded fs c)
 
 endianness-read : (t : Table) → NodeHeld t.bytes (slot_of t schema_fbs.endianness) (number 2 schema_fbs.little_endian)
     → endianness_of t ≡ Ok tt
@@ -108,14 +111,14 @@ unfolding endianness_of short_of
 endianness-read t h = rw (signed-read w16 schema_fbs.little_endian t schema_fbs.endianness h) refl
 
 pub schema-read :
-    (t : Table) (fs : List (Rose NamedType)) → AreColumns fs → AreNamed fs
-    → Held t.bytes (slot_of t) 0 (schema_slots (kids_of fs))
-    → schema_of t ≡ Ok (stored_fields fs)
+    (t : Table) (coded : List ℕ) (fs : List (Rose NamedType)) → AreColumns fs → AreNamed fs → AreCoded coded fs
+    → Held t.bytes (slot_of t) 0 (schema_slots coded fs)
+    → schema_of t ≡ Ok (coded_fields coded fs)
 unfolding schema_of
-schema-read t fs columns named h =
-    let r = vector-read (field_tables (kids_of fs)) t schema_fbs.fields h.1.0 in
-    let v : Vector = record { bytes = t.bytes; start = r.start; count = count (field_tables (kids_of fs)) } in
-    let read : columns_of v ≡ Ok (stored_fields fs) = columns-read v fs refl columns named r.elements in
+schema-read t coded fs columns named c h =
+    let r = vector-read (column_tables coded 0 fs) t schema_fbs.fields h.1.0 in
+    let v : Vector = record { bytes = t.bytes; start = r.start; count = count (column_tables coded 0 fs) } in
+    let read : columns_of v ≡ Ok (coded_fields coded fs) = columns-read v coded fs refl columns named c r.elements in
     rw (endianness-read t h.0, r.is, read) refl
 
 version-read : (t : Table) → NodeHeld t.bytes (slot_of t message_fbs.version) (number 2 schema_fbs.v5)
@@ -176,40 +179,46 @@ same-all : (fs : Roses NamedType) → are_same fs fs ≡ true
 same-all none = refl
 same-all (more (node f kids) fs) = rw (same-bytes f.name, same-type f.col_type, same-all kids, same-all fs) refl
 
-logical-all : (fs : List (Rose NamedType)) → AreLogicalColumns fs → map logical_field (stored_fields fs) ≡ fs
-logical-all [] h = refl
-logical-all (f ∷ fs) h =
-    let here : logical_field (stored_field f) ≡ f = ap logical_column (named-stored f) ∙ is-same stored.Struct f h.0 in
-    rw (here, logical-all fs h.1) refl
+logical-from : (coded : List ℕ) (j : ℕ) (fs : List (Rose NamedType)) → AreLogicalColumns fs
+    → map logical_field (coded_from coded j fs) ≡ fs
+logical-from coded j [] h = refl
+logical-from coded j (node f kids ∷ fs) h =
+    let here : logical_column (node f (named_below (stored_below kids))) ≡ node f kids =
+    ap (λ ks. logical_column (node f ks)) (named-stored-all kids) ∙ is-same stored.Struct (node f kids) h.0 in
+    rw (here, logical-from coded (suc j) fs h.1) refl
 
 pub columns-law : ColumnsLaw
-columns-law fs named = logical-all fs named.logical
+columns-law coded fs named = logical-from coded 0 fs named.logical
 
-declared-same : (fs : List (Rose NamedType)) → AreNamed fs → is_declared fs (stored_fields fs) ≡ true
+declared-same : (coded : List ℕ) (fs : List (Rose NamedType)) → AreNamed fs
+    → is_declared fs (coded_fields coded fs) ≡ true
 unfolding is_declared
-declared-same fs named =
+declared-same coded fs named =
     let P : Roses NamedType → Type 0 = λ gs. are_same (kids_of fs) gs ≡ true in
-    subst P (sym (ap kids_of (columns-law fs named))) (same-all (kids_of fs))
+    subst P (sym (ap kids_of (columns-law coded fs named))) (same-all (kids_of fs))
 
 expected-read :
-    (declared : Option (List (Rose NamedType))) (fs : List (Rose NamedType)) → AreNamed fs → AreExpected declared fs
-    → expected declared (stored_fields fs) ≡ Ok (stored_fields fs)
-expected-read None fs named h = refl
-expected-read (Some columns) fs named h = rw (h, declared-same fs named) refl
+    (declared : Option (List (Rose NamedType))) (coded : List ℕ) (fs : List (Rose NamedType)) → AreNamed fs
+    → AreExpected declared fs
+    → expected declared (coded_fields coded fs) ≡ Ok (coded_fields coded fs)
+expected-read None coded fs named h = refl
+expected-read (Some columns) coded fs named h = rw (h, declared-same coded fs named) refl
 
 header-means :
-    (declared : Option (List (Rose NamedType))) (t h : Table) (fs : List (Rose NamedType)) → AreNamed fs
-    → header_table t ≡ Ok h
-    → schema_of h ≡ Ok (stored_fields fs) → AreExpected declared fs
-    → header_of (before declared) t kind.Schema 0 ≡ Ok (brings_schema 0 (stored_fields fs))
+    (declared : Option (List (Rose NamedType))) (t h : Table) (coded : List ℕ) (fs : List (Rose NamedType))
+    → AreNamed fs → header_table t ≡ Ok h
+    → schema_of h ≡ Ok (coded_fields coded fs) → AreExpected declared fs
+    → header_of (before declared) t kind.Schema 0 ≡ Ok (brings_schema 0 (coded_fields coded fs))
 unfolding header_of new_schema
-header-means declared t h fs named found read same = rw (found, read, expected-read declared fs named same) refl
+header-means declared t h coded fs named found read same =
+    rw (found, read, expected-read declared coded fs named same) refl
 
 pub schema-law : SchemaLaw
 unfolding schema_metadata
-schema-law declared fs columns named same =
-    meta-read (before declared) kind.Schema (schema_slots (kids_of fs)) 0 (brings_schema 0 (stored_fields fs))
-    (omega arith) (schema-writable fs columns)
-    (λ t h found held beyond. header-means declared t h fs named found (schema-read h fs columns named held) same)
+schema-law declared coded fs columns named c same =
+    meta-read (before declared) kind.Schema (schema_slots coded fs) 0 (brings_schema 0 (coded_fields coded fs))
+    (omega arith) (schema-writable coded fs columns)
+    (λ t h found held beyond. header-means declared t h coded fs named found (schema-read h coded fs columns named c
+    held) same)
 
 pub ruleset schema_laws = (schema-law, columns-law)

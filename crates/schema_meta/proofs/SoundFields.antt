@@ -11,8 +11,9 @@ use Rattle.values.specs.declared.col_type.ColType.{ColType}
 use Rattle.field_types.proofs.Children.{children-fit}
 use Rattle.schema_meta.specs.Entry.{Entry}
 use Rattle.schema_meta.specs.FieldLayouts.{layout_of, layouts_below, layouts_of}
-use Rattle.schema_meta.specs.SchemaTree.{field_tables, AreWithin}
-use Rattle.schema_meta.specs.SchemaLaw.{stored_field, stored_below, stored_fields}
+use Rattle.values.specs.Coded.{is_coded, utf8}
+use Rattle.schema_meta.specs.SchemaTree.{column_tables, field_tables, AreWithin}
+use Rattle.schema_meta.specs.SchemaLaw.{coded_from, coded_fields, stored_field, stored_below, stored_fields}
 
 -- the fields below one of this type, nested to at most this many levels
 pub record Sound (depth : ℕ) (parent : ColType) (fs : Roses NamedType) : Type 0 where
@@ -67,6 +68,16 @@ may-have depth p f kids fs s =
     let P : ℕ → Type 0 = λ n. may_have (kind_of_type f.col_type) n ≡ true in
     subst P (trees-count kids) ((children-fit f.col_type s.within.0.1 (trees_of kids)).0 s.layouts.0.0)
 
+pub columns-count : (coded : List ℕ) (j : ℕ) (fs : List (Rose NamedType))
+    → count (column_tables coded j fs) ≡ kids_count (kids_of fs)
+columns-count coded j [] = refl
+columns-count coded j (node f kids ∷ fs) = let rest = columns-count coded (suc j) fs in omega (arith, rest)
+
+-- of the columns from position j on, those that are coded hold texts
+abbrev pub TextsFrom : List ℕ → ℕ → List (Rose NamedType) → Type 0
+TextsFrom coded j [] = Unit {0}
+TextsFrom coded j (node f kids ∷ fs) = (is_coded coded j ≡ true → f.col_type ≡ utf8) × TextsFrom coded (suc j) fs
+
 -- what is read, as a list
 
 abbrev pub entries : Roses NamedType → List (Rose Entry)
@@ -76,10 +87,6 @@ entries (more f fs) = stored_field f ∷ entries fs
 pub entries-below : (fs : Roses NamedType) → kids_of (entries fs) ≡ stored_below fs
 entries-below none = refl
 entries-below (more f fs) = ap (λ r. more (stored_field f) r) (entries-below fs)
-
-pub entries-fields : (fs : List (Rose NamedType)) → entries (kids_of fs) ≡ stored_fields fs
-entries-fields [] = refl
-entries-fields (f ∷ fs) = ap (λ r. stored_field f ∷ r) (entries-fields fs)
 
 -- layouts
 
@@ -94,3 +101,12 @@ mutual
 pub layouts-read : (fs : List (Rose NamedType)) → layouts_of (stored_fields fs) ≡ trees_of (kids_of fs)
 layouts-read [] = refl
 layouts-read (f ∷ fs) = rw (layout-stored f, layouts-read fs) refl
+
+layouts-coded : (coded : List ℕ) (j : ℕ) (fs : List (Rose NamedType))
+    → layouts_of (coded_from coded j fs) ≡ trees_of (kids_of fs)
+layouts-coded coded j [] = refl
+layouts-coded coded j (node f kids ∷ fs) = rw (layouts-stored kids, layouts-coded coded (suc j) fs) refl
+
+pub coded-layouts-read : (coded : List ℕ) (fs : List (Rose NamedType))
+    → layouts_of (coded_fields coded fs) ≡ trees_of (kids_of fs)
+coded-layouts-read coded fs = layouts-coded coded 0 fs

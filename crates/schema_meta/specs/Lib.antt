@@ -18,6 +18,7 @@ pub mod SameColumns
 pub mod Stage
 pub mod Sound
 pub mod MessageTree
+pub mod Coded
 pub mod SchemaTree
 pub mod SchemaLaw
 pub mod SignLaw

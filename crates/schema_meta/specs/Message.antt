@@ -1,7 +1,7 @@
 -- The metadata of a message: Message.fbs, table `Message`.
 -- Not every fault that could be named is collected: what is left out stands only beside one that is kept, so the same
 -- metadata is read.
-use Rattle.std.specs.Prelude.{ℕ, pos, Ok, Err, List, Option, None, Some, is_some, ◌==◌, if◌then◌else◌}
+use Rattle.std.specs.Prelude.{ℕ, ℤ, pos, Bool, ◌||◌, Ok, Err, List, Option, None, Some, is_some, ◌==◌, if◌then◌else◌}
 use Rattle.std.specs.Ordering.{int_eq}
 use Rattle.flatbuf.specs.Layout.{Table, root_of, subtable_of}
 use Rattle.values.specs.Limits.{max_body_size}
@@ -26,9 +26,12 @@ use Rattle.field_types.specs.Reads.{byte_of, needs, short_of}
 use Rattle.field_types.specs.SchemaFbs as schema_fbs
 use Rattle.schema_meta.specs.MessageFbs as fbs
 
--- Only V5 is read. An absent version is V1.
+-- V4 and V5 are read, by the same rules. An absent version is V1.
+abbrev pub is_known_version : ℤ → Bool
+is_known_version v = int_eq v (pos schema_fbs.v4) || int_eq v (pos schema_fbs.v5)
+
 unfoldable pub version_of : Table → Reading (Unit {0})
-version_of t = short_of t fbs.version (pos 0) >>= λ v. needs fault.Version (int_eq v (pos schema_fbs.v5))
+version_of t = short_of t fbs.version (pos 0) >>= λ v. needs fault.Version (is_known_version v)
 
 abbrev pub known_kind : ℕ → Reading MessageKind
 known_kind n =

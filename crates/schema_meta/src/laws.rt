@@ -41,7 +41,8 @@ pub fn fields_law()
 {}
 
 /// The metadata of the Schema message that is written for a logical schema is read as the columns of
-/// that schema, with no fault and no body; and their logical fields are the schema's.
+/// that schema, the coded ones with their dictionaries, with no fault and no body; and their logical fields are the
+/// schema's.
 #[tactic(auto, using(crate::proofs::SchemaRead::schema_laws))]
 pub fn schema_law()
     ensures schema { SchemaLaw }

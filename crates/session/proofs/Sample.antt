@@ -1,8 +1,9 @@
 -- The sample's answers, by computation.
-use Rattle.std.proofs.Common.{◌≡◌, ℕ, ◌<◌, ◌≤◌, true, All, List, [], ◌∷◌, length, Some, Ok, Err, refl, lit≤, lit<}
+use Rattle.std.proofs.Common.{◌≡◌, ℕ, ◌<◌, ◌≤◌, true, All, List, [], ◌∷◌, length, Some, Ok, Err, arith, refl, lit≤, lit<}
 use Rattle.std.specs.Str.{is_utf8, chars}
 use Rattle.std.proofs.Math.Utf8.{encode}
 use Rattle.std.proofs.lemmas.List.Elements.{All-cons, All-nil}
+use Rattle.values.specs.Coded.{AreCoded, IsTextColumn}
 use Rattle.values.specs.declared.causes.Cause.TheVariants as cause
 use Rattle.feed.specs.Events.{given}
 use Rattle.schema_meta.specs.Rows.{rows_from}
@@ -77,6 +78,9 @@ two_outputs fields n some below =
 abbrev IsDirection : View → OrderBy → Type 0
 IsDirection v o = IsOrdered (view_columns sample_tables v) o.column
 
+none_coded : (fields : List (Rose NamedType)) → AreCoded [] fields
+none_coded fields = record { ascending = λ i j d lt within. absurd (omega (arith, within)); texts = All-nil (IsTextColumn fields) }
+
 both_right : IsView sample_tables both_view
 both_right = record {
   lookup = tt;
@@ -85,7 +89,9 @@ both_right = record {
   some = lit≤ tt;
   few = lit≤ tt;
   small = lit≤ tt;
+  having = tt;
   order = All-nil (IsDirection both_view);
+  coded = none_coded (view_columns sample_tables both_view);
 }
 
 keys_right : IsView sample_tables keys_view
@@ -98,7 +104,9 @@ keys_right = record {
   some = lit≤ tt;
   few = lit≤ tt;
   small = lit≤ tt;
+  having = tt;
   order = All-nil (IsDirection keys_view);
+  coded = none_coded (view_columns sample_tables keys_view);
 }
 
 named_right : IsView sample_tables named_view
@@ -109,7 +117,9 @@ named_right = record {
   some = lit≤ tt;
   few = lit≤ tt;
   small = lit≤ tt;
+  having = tt;
   order = All-nil (IsDirection named_view);
+  coded = none_coded (view_columns sample_tables named_view);
 }
 
 feeds_right : All (IsFeed sample_tables) sample_feeds

@@ -455,9 +455,3 @@ pub view_is : (views : List View) (k : ℕ) → k < length views → view_at vie
 view_is [] k below = absurd (omega (arith, below))
 view_is (v ∷ vs) zero below = refl
 view_is (v ∷ vs) (suc k) below = view_is vs k (omega (arith, below))
-
--- its configuration stays
-pub config_kept :
-    (p q : SessionParts) → q.sides ≡ p.sides → q.feeds ≡ p.feeds → tables_in q.tables.stores ≡ tables_in p.tables.stores
-    → q.tables.views ≡ p.tables.views → config_of q ≡ config_of p
-config_kept p q sides feeds tables views = cc

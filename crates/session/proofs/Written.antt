@@ -1,6 +1,9 @@
 -- The rows of a view can be written.
 use Rattle.std.proofs.Common.{
   ◌≡◌,
+  ℕ,
+  zero,
+  suc,
   ◌<◌,
   ◌&&◌,
   true,
@@ -9,7 +12,10 @@ use Rattle.std.proofs.Common.{
   Err,
   OnOk,
   List,
+  [],
+  ◌∷◌,
   length,
+  get_or,
   refl,
   ap,
   ap₂,
@@ -20,6 +26,7 @@ use Rattle.std.proofs.Common.{
   arith,
 }
 use Rattle.std.proofs.lemmas.List.Elements.{All-weaker}
+use Rattle.values.specs.Coded.{AreCoded}
 use Rattle.values.specs.Datum.{Datum}
 use Rattle.values.specs.Layouts.{slot}
 use Rattle.values.specs.Limits.{max_slot}
@@ -29,10 +36,11 @@ use Rattle.values.specs.declared.layout.Layout.{Layout}
 use Rattle.schema_meta.specs.FieldLayouts.{are_within_slot, is_within_slot}
 use Rattle.schema_meta.specs.SchemaLaw.{AreNamed}
 use Rattle.schema_meta.specs.SchemaTree as written
-use Rattle.stream_writer.specs.RoundTrip.{MeansItsTable}
-use Rattle.stream_writer.specs.Stream.{canon}
+use Rattle.stream_writer.specs.RoundTrip.{CodedMeansItsTable}
+use Rattle.stream_writer.specs.Stream.{coded_canon}
 use Rattle.stream_writer.specs.Table as writer
 use Rattle.view_lang.specs.Config.{Table, View}
+use Rattle.view_lang.specs.ConfigRules.{IsView}
 use Rattle.view_lang.specs.Joined.{Side}
 use Rattle.view_lang.specs.Laws.{Viewed, ViewsAreTables, ViewsHaveFewRows, ViewsHaveRows}
 use Rattle.view_lang.specs.Rows.{IsRow, RowsAreLight}
@@ -40,6 +48,7 @@ use Rattle.view_lang.specs.TableRules.{AreColumns, AreSlim, AreWithin, IsSlim, I
 use Rattle.view_lang.specs.ViewColumns.{view_columns}
 use Rattle.view_lang.specs.Views.{view_of, view_rows}
 use Rattle.row_keys.specs.Slots.{live}
+use Rattle.upkeep.specs.LiveParts.{view_at}
 use Rattle.upkeep.specs.Inputs.{side_by}
 use Rattle.upkeep.specs.Stores.{Rows, rows_at, world_of}
 use Rattle.session.specs.Steps.{IsReadAsView, stream_of}
@@ -80,16 +89,36 @@ module _ (light : RowsAreLight) (have : ViewsHaveRows) (few_rows : ViewsHaveFewR
       subst (λ (xs : List (List Datum)). writer.IsTable columns xs) (sym same) fit in
       subst (λ (fs : List (Rose NamedType)). writer.IsTable fs shown) (sym named) here
 
+-- the outputs that are coded are texts of the columns that are written
+pub coded_fits : (tables : List Table) (v : View) (fields : List (Rose NamedType)) (coded : List ℕ) → IsView tables v
+    → fields ≡ view_columns tables v → coded ≡ v.coded_outputs → AreCoded coded fields
+coded_fits tables v fields coded is named same =
+    subst (λ (ks : List ℕ). AreCoded ks fields) (sym same)
+    (subst (λ (fs : List (Rose NamedType)). AreCoded v.coded_outputs fs) (sym named) is.coded)
+
+at_position : (views : List View) (k : ℕ) (v : View) → k < length views → v ≡ get_or views k v → v ≡ view_at views k
+at_position [] k v below is = absurd (omega (arith, below))
+at_position (w ∷ ws) zero v below is = is
+at_position (w ∷ ws) (suc k) v below is = at_position ws k v (omega (arith, below)) is
+
+-- the view at a position, as indexing gives it
+pub view_indexed :
+    (views given : List View) (k : ℕ) (v : View) → views ≡ given → k < length given → v ≡ get_or views k v
+    → v ≡ view_at given k
+view_indexed views given k v same below is =
+    at_position given k v below (subst (λ (vs : List View). v ≡ get_or vs k v) same is)
+
 -- the stream that they are
 pub stream_is :
-    (tables : List Table) (rows : Rows) (v : View) (fields : List (Rose NamedType)) (shown : List (List Datum))
-    → 0 < length rows → fields ≡ view_columns tables v
+    (tables : List Table) (rows : Rows) (v : View) (fields : List (Rose NamedType)) (coded : List ℕ)
+    (shown : List (List Datum)) → 0 < length rows → fields ≡ view_columns tables v → coded ≡ v.coded_outputs
     → shown ≡ view_rows v (side_by tables rows v) (main_rows rows)
-    → canon fields shown ≡ stream_of tables v (world_of rows)
-stream_is tables rows v fields shown some named same =
-    ap (λ fs. canon fs shown) named
-    ∙ ap (canon (view_columns tables v)) same
-    ∙ ap (λ c. canon (view_columns tables v) (view_rows v (side_by tables rows v) c.live))
+    → coded_canon fields coded shown ≡ stream_of tables v (world_of rows)
+stream_is tables rows v fields coded shown some named same_coded same =
+    ap (λ fs. coded_canon fs coded shown) named
+    ∙ ap (λ ks. coded_canon (view_columns tables v) ks shown) same_coded
+    ∙ ap (coded_canon (view_columns tables v) v.coded_outputs) same
+    ∙ ap (λ c. coded_canon (view_columns tables v) v.coded_outputs (view_rows v (side_by tables rows v) c.live))
     (sym (contents_there rows 0 some))
 
 mutual
@@ -115,7 +144,7 @@ on_ok (Err e) P p = tt
 
 -- That stream is read as the view's table.
 pub view_read :
-    (means : MeansItsTable) (views : ViewsAreTables) (tables : List Table) (rows : Rows) (v : View)
+    (means : CodedMeansItsTable) (views : ViewsAreTables) (tables : List Table) (rows : Rows) (v : View)
     (fields : List (Rose NamedType)) (shown : List (List Datum)) → 0 < length rows
     → Viewed tables v (side_by tables rows v) (main_rows rows) → fields ≡ view_columns tables v
     → shown ≡ view_rows v (side_by tables rows v) (main_rows rows) → writer.IsTable fields shown
@@ -128,4 +157,5 @@ view_read means views tables rows v fields shown some viewed named same fits =
     let fit : writer.IsTable columns whole =
     subst (λ (fs : List (Rose NamedType)). writer.IsTable fs whole) named
     (subst (λ (xs : List (List Datum)). writer.IsTable fields xs) cells fits) in
-    means columns whole fit (columns_named columns (views tables v viewed.right viewed.view))
+    means columns v.coded_outputs whole fit (columns_named columns (views tables v viewed.right viewed.view))
+    viewed.view.coded

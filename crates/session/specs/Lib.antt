@@ -10,3 +10,4 @@ pub mod Cuts
 pub mod Stale
 pub mod Visits
 pub mod Parts
+pub mod Bounds

@@ -43,7 +43,15 @@ output letter column = record { name = letter ∷ []; column = column }
 
 abbrev pub plain_view : List ℕ → Option Lookup → List Output → View
 plain_view name l outputs =
-    record { name = name; lookup = l; filter = None; outputs = columns outputs; order = []; first = None }
+    record {
+      name = name;
+      lookup = l;
+      filter = None;
+      outputs = columns outputs;
+      order = [];
+      first = None;
+      coded_outputs = [];
+    }
 
 abbrev pub both_view : View
 both_view = plain_view (116 ∷ []) None (output 107 0 ∷ output 118 1 ∷ [])

@@ -29,7 +29,7 @@ use Rattle.schema_meta.specs.Means.{Means}
 use Rattle.schema_meta.specs.Rows.{rows_in}
 use Rattle.schema_meta.specs.Story.{story_of}
 use Rattle.stream_writer.specs.Sinks.{Sunk, Writes}
-use Rattle.stream_writer.specs.Stream.{canon}
+use Rattle.stream_writer.specs.Stream.{coded_canon}
 use Rattle.feed.specs.Events.{Event as Message, batch, dictionary, ended, schema, Given}
 use Rattle.feed.specs.States.{FeedState, Finishes, Gives, after_finish, after_push, fresh, is_broken}
 use Rattle.view_lang.specs.Causes.{cause_in}
@@ -240,9 +240,9 @@ UndoTo s answer new = (p : Past) × Undoes s.past answer p × (new ≡ record { 
 
 -- Views
 
--- the canonical stream of a view
+-- the canonical stream of a view, with dictionaries for its coded outputs
 abbrev pub stream_of : List Table → View → World → List ℕ
-stream_of tables view w = canon (view_columns tables view) (view_of tables view w)
+stream_of tables view w = coded_canon (view_columns tables view) view.coded_outputs (view_of tables view w)
 
 abbrev pub WriteAnswers : Sunk → Sunk → Result ℕ ViewFault → List ℕ → Type 0
 WriteAnswers old new (Ok n) whole = Writes old new (Ok n) whole

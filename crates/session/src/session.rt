@@ -26,6 +26,7 @@ ghost use Rattle.row_keys.specs.Store.{no_rows};
 ghost use Rattle.upkeep.specs.LiveEdits.{NoneBecomesStale};
 ghost use Rattle.upkeep.specs.LiveParts.{store_at};
 ghost use Rattle.upkeep.specs.Touched.{OpensShown};
+ghost use Rattle.session.specs.Bounds.{EachStep, StepOpens, StepStale};
 ghost use Rattle.session.specs.Shows.{IsStep, IsWithin, Shows, ShowsEach, columns_of, config_of};
 ghost use Rattle.session.specs.Names.{place_of};
 ghost use Rattle.session.specs.Parts.{AreParts, session_with};
@@ -347,14 +348,16 @@ impl Session {
         self.tables.visits()
     }
 
-    /// Does one step.
-    fn step<S: Sink>(&mut self, step: &Step, sinks: &mut [S]) -> Reply
+    /// Does one step: the call that it names, over the sink of its number.
+    pub fn step<S: Sink>(&mut self, step: &Step, sinks: &mut [S]) -> Reply
         requires { IsWithin (length sinks.old) step.now }
         ensures step { IsStep self.old
             (λ s t. Steps (config_of self.old) s (map S.sunk sinks.old) step.now result t (map S.sunk sinks.new))
             self.new }
         ensures config { config_of self.new ≡ config_of self.old }
         ensures sinks { length sinks.new ≡ length sinks.old }
+        ensures opens { StepOpens self.old step.now result self.new }
+        ensures stale { StepStale self.old step.now result self.new }
     {
         match step {
             Step::Push { feed, bytes } => Reply::Push(self.push(feed, bytes)),
@@ -376,6 +379,10 @@ impl Session {
             (λ s t. Run (config_of self.old) s (map S.sunk sinks.old) steps.now replies.items t (map S.sunk sinks.new))
             self.new) }
         ensures config { config_of self.new ≡ config_of self.old }
+        ensures opens { IfOk result
+            (λ replies. EachStep StepOpens self.old steps.now replies.items self.new) }
+        ensures stale { IfOk result
+            (λ replies. EachStep StepStale self.old steps.now replies.items self.new) }
         ensures nothing { OnErr result ((self.new ≡ self.old) × (map S.sunk sinks.new ≡ map S.sunk sinks.old)) }
     {
         let mut replies = Vec::with_capacity(self.alloc, steps.len())?;

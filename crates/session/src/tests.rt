@@ -122,6 +122,7 @@ fn view(
         outputs: Outputs::Columns(outputs),
         order: Vec::new(alloc),
         first: None,
+        coded_outputs: Vec::new(alloc),
     })
 }
 

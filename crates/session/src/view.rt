@@ -10,7 +10,7 @@ ghost use Rattle.upkeep.specs.Touched.{OpensShown};
 ghost use Rattle.session.specs.Steps.{IsReadAsView, stream_of};
 
 use std::alloc::Global;
-use stream_writer::{Sink, WriteFault, canon_law, write_table};
+use stream_writer::{Sink, WriteFault, coded_law, write_coded};
 use upkeep::LiveTables;
 use values::Schema;
 use view_lang::{config_law, rows_law};
@@ -44,7 +44,8 @@ pub(crate) fn write_rows<S: Sink>(
     // They do nothing: the proof takes from them that the rows of a view can be written, and are read as they were.
     config_law();
     rows_law();
-    canon_law();
+    coded_law();
     let shown = tables.view_rows(place)?;
-    write_table(alloc, sink, schema, &shown)
+    let view = &tables.views()[place];
+    write_coded(alloc, sink, schema, &view.coded_outputs, &shown)
 }

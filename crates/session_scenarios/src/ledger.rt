@@ -38,6 +38,10 @@ columns = [["zone", "col", ["side", "zone"]], ["n", "count"]]
 [view.all]
 group = []
 columns = [["n", "count"], ["s", "sum", "amt"]]
+[view.big]
+group = ["grp"]
+columns = [["grp", "col", "grp"], ["n", "count"], ["d", "distinct", "amt"]]
+having = ["ge", "d", 2]
 "#;
 
 /// Opens a session, and pushes the schemas of its four feeds.

@@ -8,7 +8,7 @@ use std::process::Abort;
 use std::test::Fail;
 use stream_writer::MemorySink;
 
-const VIEWS: [&str; 4] = ["top", "sums", "zone", "all"];
+const VIEWS: [&str; 5] = ["top", "sums", "zone", "all", "big"];
 
 /// What the views show, one stream after the other, and how many rows each write opened.
 #[derive(Drop)]

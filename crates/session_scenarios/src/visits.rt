@@ -36,6 +36,23 @@ fn r7_rows(rt: HostRuntime) -> Result<(), Fail> {
     Ok(())
 }
 
+/// The first two rows of an order: a write opens as many rows as it shows.
+#[test]
+fn r8_rows(rt: HostRuntime) -> Result<(), Fail> {
+    let mut session = open(&rt, rt.alloc())?;
+    add(&rt, &mut session, 1, b'p', 5);
+    add(&rt, &mut session, 2, b'p', 7);
+    add(&rt, &mut session, 3, b'p', 6);
+    add(&rt, &mut session, 4, b'p', 5);
+    let mut sink = MemorySink::new(rt.alloc());
+    assert_eq!(rt; write(&rt, &mut session, "top", &mut sink), 2);
+    retract(&rt, &mut session, 1);
+    assert_eq!(rt; write(&rt, &mut session, "top", &mut sink), 2);
+    undo(&rt, &mut session);
+    assert_eq!(rt; write(&rt, &mut session, "top", &mut sink), 2);
+    Ok(())
+}
+
 /// A thousand rows, of which each hundredth refers to the key `p`.
 fn add_thousand(rt: &impl Abort, session: &mut Session) {
     for id in 0..1000u16 {
@@ -58,5 +75,25 @@ fn r9_rows(rt: HostRuntime) -> Result<(), Fail> {
     let before = session.visits();
     undo(&rt, &mut session);
     assert!(rt; opened(&session, before) <= 80);
+    Ok(())
+}
+
+/// A group passes, fails and passes again, and another comes to pass: no write opens a row.
+#[test]
+fn r15_rows(rt: HostRuntime) -> Result<(), Fail> {
+    let mut session = open(&rt, rt.alloc())?;
+    let mut sink = MemorySink::new(rt.alloc());
+    add(&rt, &mut session, 1, b'p', 9);
+    add(&rt, &mut session, 2, b'p', 9);
+    add(&rt, &mut session, 3, b'p', 4);
+    add(&rt, &mut session, 4, b'q', 1);
+    add(&rt, &mut session, 5, b'q', 1);
+    assert_eq!(rt; write(&rt, &mut session, "big", &mut sink), 0);
+    retract(&rt, &mut session, 3);
+    assert_eq!(rt; write(&rt, &mut session, "big", &mut sink), 0);
+    undo(&rt, &mut session);
+    assert_eq!(rt; write(&rt, &mut session, "big", &mut sink), 0);
+    add(&rt, &mut session, 6, b'q', 2);
+    assert_eq!(rt; write(&rt, &mut session, "big", &mut sink), 0);
     Ok(())
 }

@@ -34,6 +34,7 @@ use Rattle.array_layout.specs.declared.array.FieldNode.{FieldNode}
 use Rattle.array_layout.specs.declared.array.BufferRange.{BufferRange}
 use Rattle.stream_writer.proofs.Counts.{body_ranges-few, body_nodes-few}
 use Rattle.stream_writer.specs.Batch.{node_bytes, range_bytes, batch_slots}
+use Rattle.stream_writer.specs.DictionaryBatch.{dictionary_slots}
 
 pub node_bytes-length : (ns : List FieldNode) → length (node_bytes ns) ≡ 16 * length ns
 node_bytes-length [] = refl
@@ -83,7 +84,54 @@ batch-writable rows body ns ss few fewer high higher =
       short = omega (arith, end);
     }
 
-pub ruleset batch_fits = (batch-end, batch-writable, body_ranges-few, body_nodes-few)
+-- and so does a dictionary batch
+
+pub dictionary-end : (id rows body : ℕ) (ns : List FieldNode) (ss : List BufferRange) → length ns ≤ max_fields
+    → length ss ≤ 3 * max_fields
+    → object_end 4 (table (message_slots kind.Dictionary (dictionary_slots id (batch_slots rows ns ss)) body)) < 2 ^ 17
+dictionary-end id rows body ns ss few fewer =
+    let message : ℕ = table_end 4 (message_slots kind.Dictionary (dictionary_slots id (batch_slots rows ns ss)) body) in
+    let begin : message ≤ 64 = omega arith in
+    let header : ℕ = table_end message (dictionary_slots id (batch_slots rows ns ss)) in
+    let place = table_place-le message (dictionary_slots id (batch_slots rows ns ss)) in
+    let values : ℕ = table_end header (batch_slots rows ns ss) in
+    let inner = table_place-le header (batch_slots rows ns ss) in
+    let nodes = items_place-le values in
+    let ranges = items_place-le (items_place values + length (node_bytes ns)) in
+    omega (arith, begin, place, inner, nodes, ranges, few, fewer, node_bytes-length ns, range_bytes-length ss)
+
+pub dictionary-writable : (id rows body : ℕ) (ns : List FieldNode) (ss : List BufferRange) → length ns ≤ max_fields
+    → length ss ≤ 3 * max_fields → id < 2 ^ 64 → rows < 2 ^ 64 → body < 2 ^ 64
+    → IsWritable (message_slots kind.Dictionary (dictionary_slots id (batch_slots rows ns ss)) body)
+dictionary-writable id rows body ns ss few fewer low high higher =
+    let end = dictionary-end id rows body ns ss few fewer in
+    let nodes : Fits (structs 16 (node_bytes ns)) = whole-structs (length ns) (node_bytes ns) (node_bytes-length ns) in
+    let ranges : Fits (structs 16 (range_bytes ss)) =
+    whole-structs (length ss) (range_bytes ss) (range_bytes-length ss) in
+    let values : Fits (table (batch_slots rows ns ss)) =
+    (omega arith, omega arith, (number-fits 8 rows (omega arith) (omega arith) high, (nodes, (ranges, tt)))) in
+    let fits : Fits (table (dictionary_slots id (batch_slots rows ns ss))) = (
+      omega arith,
+      omega arith,
+      (
+        number-fits 8 id (omega arith) (omega arith) low,
+        (values, (number-fits 1 0 (omega arith) (omega arith) (omega arith), tt)),
+      ),
+    ) in
+    record {
+      fits = (
+        omega arith,
+        omega arith,
+        (
+          number-fits 2 4 (omega arith) (omega arith) (omega arith),
+          (
+            number-fits 1 2 (omega arith) (omega arith) (omega arith),
+            (fits, (number-fits 8 body (omega arith) (omega arith) higher, tt)),
+          ),
+        ),
+      );
+      short = omega (arith, end);
+    }
 
 -- one more node, one more range
 

@@ -8,6 +8,8 @@ use Rattle.std.proofs.Common.{
   ◌<◌,
   ◌≤◌,
   true,
+  false,
+  ℤ,
   List,
   [],
   ◌∷◌,
@@ -33,10 +35,12 @@ use Rattle.std.proofs.lemmas.Int.{to_z_pos}
 use Rattle.std.proofs.lemmas.List.{drop-drop, drop_at}
 use Rattle.byteorder.specs.Endian.{little_bytes, little_number, low_bytes}
 use Rattle.byteorder.specs.Numbers.{little_number-reads_back, length-bytes_low_first}
-use Rattle.flatbuf.specs.Layout.{Table, slot_of}
-use Rattle.flatbuf.specs.Held.{Held}
-use Rattle.flatbuf.proofs.ReaderAnswers.{signed-read, structs-read}
-use Rattle.values.specs.Limits.{max_body_size, max_batch_length, max_node_length}
+use Rattle.flatbuf.specs.Tree.{number}
+use Rattle.flatbuf.specs.Layout.{Table, slot_of, subtable_of, table_in}
+use Rattle.flatbuf.specs.Held.{Held, NodeHeld}
+use Rattle.flatbuf.proofs.ReaderAnswers.{number-read, signed-read, structs-read, subtable-read}
+use Rattle.values.specs.Limits.{max_body_size, max_batch_length, max_dictionary_values, max_node_length}
+use Rattle.field_types.specs.Reads.{bool_of}
 use Rattle.values.specs.Reading.{each}
 use Rattle.values.specs.Rose.{Rose, Roses, roses_size}
 use Rattle.values.specs.Datum.{Datum}
@@ -63,7 +67,20 @@ use Rattle.schema_meta.specs.Batch.{
   batch_of,
 }
 use Rattle.schema_meta.specs.Stage.{Known}
-use Rattle.schema_meta.specs.Message.{header_table, record_batch, header_of, brings_batch}
+use Rattle.schema_meta.specs.Message.{
+  header_table,
+  dictionary_batch,
+  record_batch,
+  header_of,
+  meta_of,
+  brings_batch,
+  brings_dictionary,
+}
+use Rattle.schema_meta.specs.MessageFbs as message_fbs
+use Rattle.values.specs.Coded.{utf8}
+use Rattle.schema_meta.specs.Dictionaries.{value_type}
+use Rattle.schema_meta.specs.DictionaryBatch.{data_of, dictionary, dictionary_of, id_of, values_batch}
+use Rattle.schema_meta.specs.declared.header.DictionaryHeader.{DictionaryHeader}
 use Rattle.schema_meta.specs.SchemaLaw.{stored_fields}
 use Rattle.schema_meta.proofs.SchemaRead.{meta-read}
 use Rattle.schema_meta.proofs.Plain.{slots-are}
@@ -71,9 +88,11 @@ use Rattle.body_writer.specs.Body.{laid, padded, padding, ranges_from}
 use Rattle.body_writer.specs.Batch.{IsBatch, body_bytes, body_buffers, body_ranges, body_nodes}
 use Rattle.body_writer.proofs.Rows.{body-short}
 use Rattle.stream_writer.specs.Batch.{node_bytes, range_bytes, batch_slots, batch_metadata}
-use Rattle.stream_writer.specs.BatchLaw.{head, BatchLaw}
+use Rattle.stream_writer.specs.BatchLaw.{BatchLaw}
 use Rattle.stream_writer.specs.Stream.{trees}
-use Rattle.stream_writer.proofs.BatchFits.{node_bytes-length, range_bytes-length, batch-writable}
+use Rattle.stream_writer.specs.Coding.{value_rows}
+use Rattle.stream_writer.specs.DictionaryBatch.{dictionary_metadata, dictionary_slots, text_layouts, values_body}
+use Rattle.stream_writer.proofs.BatchFits.{node_bytes-length, range_bytes-length, batch-writable, dictionary-writable}
 use Rattle.stream_writer.proofs.Counts.{
   body_nodes-length,
   body_buffers-length,
@@ -243,17 +262,105 @@ head-read ls rows h b held none =
     (body_nodes-length ls rows) (body_ranges-length ls rows) (body-nodes ls rows b) (lengths-fit ls rows)
     (body-ranges ls rows (body-short ls rows b)) held none
 
-pub batch-law : BatchLaw
+-- the header of the batch of these rows, whose columns have these layouts
+abbrev pub head_by : Roses Layout → List (List Datum) → BatchHead
+head_by ls rows = batch (length rows) (body_nodes ls rows) (body_ranges ls rows)
+
+pub batch-law-by :
+    (known : Known) (fields : List (Rose Entry)) (ls : Roses Layout) (rows : List (List Datum))
+    → slot_layouts_of fields ≡ ls → IsBatch ls rows → known.schema ≡ Some fields
+    → meta_of known (batch_metadata ls rows) ≡ Ok (brings_batch (length (body_bytes ls rows)) (head_by ls rows))
 unfolding batch_metadata
-batch-law known fs rows b e =
-    let ls = trees fs in
+batch-law-by known fields ls rows same b e =
     let few = b.few in
     let short = body-short ls rows b in
     let ns = body_nodes ls rows in
     let ss = body_ranges ls rows in
     let body : ℕ = length (body_bytes ls rows) in
-    meta-read known kind.Batch (batch_slots (length rows) ns ss) body (brings_batch body (head fs rows)) short
+    meta-read known kind.Batch (batch_slots (length rows) ns ss) body (brings_batch body (head_by ls rows)) short
     (batch-writable (length rows) body ns ss (body_nodes-few ls rows b) (body_ranges-few ls rows b) (omega (arith, few))
     (omega (arith, short)))
-    (λ t h found held beyond. batch-means known t h (stored_fields fs) ls body (head fs rows) e found (slots-are fs)
+    (λ t h found held beyond. batch-means known t h fields ls body (head_by ls rows) e found same
     (head-read ls rows h b held (beyond 3 (omega arith))))
+
+pub batch-law : BatchLaw
+batch-law known fs rows b e = batch-law-by known (stored_fields fs) (trees fs) rows (slots-are fs) b e
+
+-- dictionary batches
+
+id-read : (h : Table) (j : ℕ) → j < 2 ^ 63 → NodeHeld h.bytes (slot_of h message_fbs.dictionary_id) (number 8 j)
+    → id_of h ≡ Ok (pos j)
+unfolding id_of
+id-read h j small held = rw (signed-read w64 j h message_fbs.dictionary_id held, to_z_pos w64 j small) refl
+
+no-delta : (h : Table) → NodeHeld h.bytes (slot_of h message_fbs.is_delta) (number 1 0)
+    → bool_of h message_fbs.is_delta ≡ Ok false
+unfolding bool_of
+no-delta h held = rw (number-read 1 0 h message_fbs.is_delta held) refl
+
+data-found : (h t : Table) → subtable_of h message_fbs.batch_data ≡ Some (Some t) → data_of h ≡ Ok t
+unfolding data_of
+data-found h t e = rw e refl
+
+-- the header of the dictionary batch of this id and these values
+abbrev pub dictionary_head : ℕ → List (List ℕ) → DictionaryHeader
+dictionary_head j values = dictionary (pos j) false (head_by text_layouts (value_rows values))
+
+values-batch-read :
+    (h : Table) (j : ℕ) (values : List (List ℕ)) → IsBatch text_layouts (value_rows values)
+    → Held h.bytes (slot_of h) 0 (dictionary_slots j (batch_slots (length (value_rows values))
+    (body_nodes text_layouts (value_rows values)) (body_ranges text_layouts (value_rows values))))
+    → values_batch (length (values_body values)) h (pos j) utf8 ≡ Ok (dictionary_head j values)
+unfolding values_batch
+values-batch-read h j values b held =
+    let rows = value_rows values in
+    let inner = batch_slots (length rows) (body_nodes text_layouts rows) (body_ranges text_layouts rows) in
+    let r = subtable-read inner h message_fbs.batch_data held.1.0 in
+    let t : Table = table_in h.bytes r.place in
+    let read = head-read text_layouts rows t b r.slots (r.beyond 3 (omega arith)) in
+    rw (no-delta h held.1.1.0, data-found h t r.is, read) refl
+
+dictionary-of-read :
+    (fields : List (Rose Entry)) (counts : List (ℤ × ℕ)) (h : Table) (j : ℕ) (values : List (List ℕ)) → j < 2 ^ 63
+    → value_type fields (pos j) ≡ Some utf8 → IsBatch text_layouts (value_rows values)
+    → Held h.bytes (slot_of h) 0 (dictionary_slots j (batch_slots (length (value_rows values))
+    (body_nodes text_layouts (value_rows values)) (body_ranges text_layouts (value_rows values))))
+    → dictionary_of fields counts (length (values_body values)) h ≡ Ok (dictionary_head j values)
+unfolding dictionary_of
+dictionary-of-read fields counts h j values small type b held =
+    let few = b.few in
+    let within : 0 + length (value_rows values) ≤ max_dictionary_values = omega (arith, few) in
+    rw (
+      id-read h j small held.0,
+      type,
+      values-batch-read h j values b held,
+      le-leb (0 + length (value_rows values)) max_dictionary_values within,
+    ) refl
+
+dictionary-means :
+    (known : Known) (t h : Table) (fields : List (Rose Entry)) (body : ℕ) (d : DictionaryHeader)
+    → known.schema ≡ Some fields → header_table t ≡ Ok h → dictionary_of fields known.counts body h ≡ Ok d
+    → header_of known t kind.Dictionary body ≡ Ok (brings_dictionary body d)
+unfolding header_of dictionary_batch
+dictionary-means known t h fields body d e found read = rw (e, found, read) refl
+
+-- A dictionary batch that is written is read as its id and its values' header.
+pub dictionary-law :
+    (known : Known) (fields : List (Rose Entry)) (j : ℕ) (values : List (List ℕ)) → j < 2 ^ 63
+    → known.schema ≡ Some fields → value_type fields (pos j) ≡ Some utf8 → IsBatch text_layouts (value_rows values)
+    → meta_of known (dictionary_metadata j values) ≡ Ok
+    (brings_dictionary (length (values_body values)) (dictionary_head j values))
+unfolding dictionary_metadata
+dictionary-law known fields j values small e type b =
+    let rows = value_rows values in
+    let few = b.few in
+    let short = body-short text_layouts rows b in
+    let ns = body_nodes text_layouts rows in
+    let ss = body_ranges text_layouts rows in
+    let body : ℕ = length (values_body values) in
+    meta-read known kind.Dictionary (dictionary_slots j (batch_slots (length rows) ns ss)) body
+    (brings_dictionary body (dictionary_head j values)) short
+    (dictionary-writable j (length rows) body ns ss (body_nodes-few text_layouts rows b)
+    (body_ranges-few text_layouts rows b) (omega (arith, small)) (omega (arith, few)) (omega (arith, short)))
+    (λ t h found held beyond. dictionary-means known t h fields body (dictionary_head j values) e found
+    (dictionary-of-read fields known.counts h j values small type b held))

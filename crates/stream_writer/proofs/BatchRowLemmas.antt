@@ -121,23 +121,6 @@ place-step bs i b from whole some e past is =
 pub rest-is : {A : Type 0} (xs : List A) (i : ℕ) → i ≤ length xs → take (length xs - i) (drop i xs) ≡ drop i xs
 rest-is xs i h = let left = length-drop i xs in take_all (length xs - i) (drop i xs) (omega (arith, left))
 
-pub place-here : (bs : List Batch) (i from : ℕ) (whole : List (List Datum)) → i ≤ length bs
-    → drop from (rows_of (drop i bs)) ≡ whole
-    → drop from (rows_of (take (length bs - i) (drop i bs))) ≡ whole
-place-here bs i from whole h is = ap (λ xs. drop from (rows_of xs)) (rest-is bs i h) ∙ is
-
-pub place-end : (bs : List Batch) (i from : ℕ) (whole : List (List Datum)) → length bs ≤ i
-    → drop from (rows_of (drop i bs)) ≡ whole
-    → drop from (rows_of (take (length bs - length bs) (drop (length bs) bs))) ≡ whole
-place-end bs i from whole h is =
-    let none_left : length bs - length bs ≡ 0 = omega arith in
-    ap (λ k. drop from (rows_of (take k (drop (length bs) bs)))) none_left
-    ∙ ap (λ xs. drop from (rows_of xs)) (sym (drop_all i bs h)) ∙ is
-
-pub sized-here : (n : ℕ) (bs : List Batch) (i : ℕ) → i ≤ length bs → All (IsSized n) bs
-    → All (IsSized n) (take (length bs - i) (drop i bs))
-sized-here n bs i h all = subst (All (IsSized n)) (sym (rest-is bs i h)) (All-drop (IsSized n) i bs all)
-
 take-least : {A : Type 0} (n m : ℕ) (xs : List A) → m ≡ min (length xs) n → take n xs ≡ take m xs
 take-least n m xs e = elim (cases_lt n (length xs)) [
   | inl less ↦ let same : n ≡ m = omega (arith, e, less) in ap (λ k. take k xs) same

@@ -45,7 +45,7 @@ use Rattle.body_writer.specs.Batch.{row_weight, rows_weight, IsBatch}
 use Rattle.values.specs.Weights.{saturated}
 use Rattle.body_writer.proofs.Rows.{cells_in}
 use Rattle.values.proofs.WeightLemmas.{saturated-exact}
-use Rattle.stream_writer.specs.Stream.{batch_message, beginning, batch_len, batches, trees}
+use Rattle.stream_writer.specs.Stream.{batch_messages, beginning, batch_len, batches, trees}
 use Rattle.stream_writer.specs.Table.{IsRow}
 
 pub cells-at : (rows : List (Vec Datum Global)) (i : ℕ) (row : Vec Datum Global) → i < length rows
@@ -130,9 +130,6 @@ stops-heavy ls n room rows i row h e heavy =
     ap (λ cs. beginning ls n room cs) (cells-at rows i row h e)
     ∙ beginning-heavy ls n room row.items (cells_in (drop (i + 1) rows)) heavy
 
-pub stops-full : (ls : Roses Layout) (n room : ℕ) (rows : List (List Datum)) → n ≡ 0 → beginning ls n room rows ≡ 0
-stops-full ls n room rows e = ap (λ k. beginning ls k room rows) e
-
 pub stops-end : (ls : Roses Layout) (n room : ℕ) (rows : List (Vec Datum Global)) (i : ℕ) → length rows ≤ i
     → beginning ls n room (cells_in (drop i rows)) ≡ 0
 stops-end ls n room rows i h =
@@ -167,39 +164,44 @@ sound-some fs row rows sound =
     omega (arith, some)
 
 -- others fuel than rows changes nothing
-fuel : (fs : List (Rose NamedType)) (m k : ℕ) (rows : List (List Datum)) → length rows ≤ m → length rows ≤ k
-    → All (IsRow fs) rows → batches (trees fs) m rows ≡ batches (trees fs) k rows
+fuel : (coded : List ℕ) (fs : List (Rose NamedType)) (m k : ℕ) (rows : List (List Datum)) → length rows ≤ m
+    → length rows ≤ k
+    → All (IsRow fs) rows → batches coded (trees fs) m rows ≡ batches coded (trees fs) k rows
 unfolding batches
-fuel fs zero zero rows low high sound = refl
-fuel fs zero (suc k) [] low high sound = refl
-fuel fs zero (suc k) (row ∷ rows) low high sound = absurd (omega (arith, low))
-fuel fs (suc m) zero [] low high sound = refl
-fuel fs (suc m) zero (row ∷ rows) low high sound = absurd (omega (arith, high))
-fuel fs (suc m) (suc k) [] low high sound = refl
-fuel fs (suc m) (suc k) (row ∷ rows) low high sound =
+fuel coded fs zero zero rows low high sound = refl
+fuel coded fs zero (suc k) [] low high sound = refl
+fuel coded fs zero (suc k) (row ∷ rows) low high sound = absurd (omega (arith, low))
+fuel coded fs (suc m) zero [] low high sound = refl
+fuel coded fs (suc m) zero (row ∷ rows) low high sound = absurd (omega (arith, high))
+fuel coded fs (suc m) (suc k) [] low high sound = refl
+fuel coded fs (suc m) (suc k) (row ∷ rows) low high sound =
     let n : ℕ = batch_len (trees fs) (row ∷ rows) in
     let some : 0 < n = sound-some fs row rows sound in
     let left = length-drop n (row ∷ rows) in
-    ap (λ rest. batch_message (trees fs) (take n (row ∷ rows)) ++ rest)
-    (fuel fs m k (drop n (row ∷ rows)) (omega (arith, low, some, left)) (omega (arith, high, some, left))
+    ap (λ rest. batch_messages coded (trees fs) (take n (row ∷ rows)) ++ rest)
+    (fuel coded fs m k (drop n (row ∷ rows)) (omega (arith, low, some, left)) (omega (arith, high, some, left))
     (All-drop (IsRow fs) n (row ∷ rows) sound))
 
-pub batches-none : (ls : Roses Layout) (rows : List (List Datum)) → length rows ≡ 0 → batches ls (length rows) rows ≡ []
+pub batches-none : (coded : List ℕ) (ls : Roses Layout) (rows : List (List Datum)) → length rows ≡ 0
+    → batches coded ls (length rows) rows ≡ []
 unfolding batches
-batches-none ls [] h = refl
-batches-none ls (row ∷ rows) h = absurd (omega (arith, h))
+batches-none coded ls [] h = refl
+batches-none coded ls (row ∷ rows) h = absurd (omega (arith, h))
 
-pub batches-next : (fs : List (Rose NamedType)) (rows : List (List Datum)) → 0 < length rows → All (IsRow fs) rows →
-    batches (trees fs) (length rows) rows ≡ batch_message (trees fs) (take (batch_len (trees fs) rows) rows)
-    ++ batches (trees fs) (length (drop (batch_len (trees fs) rows) rows)) (drop (batch_len (trees fs) rows) rows)
+pub batches-next : (coded : List ℕ) (fs : List (Rose NamedType)) (rows : List (List Datum)) → 0 < length rows
+    → All (IsRow fs) rows →
+    batches coded (trees fs) (length rows) rows
+    ≡ batch_messages coded (trees fs) (take (batch_len (trees fs) rows) rows)
+    ++ batches coded (trees fs) (length (drop (batch_len (trees fs) rows) rows)) (drop (batch_len (trees fs) rows) rows)
 unfolding batches
-batches-next fs [] some sound = absurd (omega (arith, some))
-batches-next fs (row ∷ rows) some sound =
+batches-next coded fs [] some sound = absurd (omega (arith, some))
+batches-next coded fs (row ∷ rows) some sound =
     let n : ℕ = batch_len (trees fs) (row ∷ rows) in
     let one : 0 < n = sound-some fs row rows sound in
     let left = length-drop n (row ∷ rows) in
-    ap (λ rest. batch_message (trees fs) (take n (row ∷ rows)) ++ rest)
-    (fuel fs (length rows) (length (drop n (row ∷ rows))) (drop n (row ∷ rows)) (omega (arith, one, left)) (omega arith)
+    ap (λ rest. batch_messages coded (trees fs) (take n (row ∷ rows)) ++ rest)
+    (fuel coded fs (length rows) (length (drop n (row ∷ rows))) (drop n (row ∷ rows)) (omega (arith, one, left))
+    (omega arith)
     (All-drop (IsRow fs) n (row ∷ rows) sound))
 
 pub batch-some : (fs : List (Rose NamedType)) (rows : List (List Datum)) → 0 < length rows → All (IsRow fs) rows
@@ -238,9 +240,6 @@ batch-sound fs rows columns layouts sound =
 
 -- the rows that are left after the batch
 
-pub taken_count : {A : Type 0} (n : ℕ) (xs : List A) → n ≤ length xs → length (take n xs) ≡ n
-taken_count n xs h = let cut = length-take n xs in omega (arith, cut, h)
-
 pub batch-of : (fs : List (Rose NamedType)) (ls : Roses Layout) (rows : List (List Datum)) (n : ℕ) → ls ≡ trees fs
     → AreColumns fs
     → AreLayouts (trees fs) → All (IsRow fs) rows → n ≡ batch_len ls rows → IsBatch ls (take n rows)
@@ -264,18 +263,19 @@ pub sound-left : (fs : List (Rose NamedType)) (rows left : List (List Datum)) (n
 sound-left fs rows left n is sound = subst (All (IsRow fs)) (sym is) (All-drop (IsRow fs) n rows sound)
 
 -- the next batch, and what is left after it
-pub batches-left : (fs : List (Rose NamedType)) (rows left : List (List Datum)) (n : ℕ) (tail : List ℕ)
+pub batches-left : (coded : List ℕ) (fs : List (Rose NamedType)) (rows left : List (List Datum)) (n : ℕ)
+    (tail : List ℕ)
     → 0 < length rows
     → All (IsRow fs) rows → n ≡ batch_len (trees fs) rows → left ≡ drop n rows
-    → batches (trees fs) (length rows) rows ++ tail
-    ≡ batch_message (trees fs) (take n rows) ++ (batches (trees fs) (length left) left ++ tail)
-batches-left fs rows left n tail some sound e is =
-    let F : ℕ → List ℕ = λ k. batch_message (trees fs) (take k rows) ++ batches (trees fs) (length (drop k rows)) (drop
-    k rows) in
-    let G : List (List Datum) → List ℕ = λ cs. batch_message (trees fs) (take n rows) ++ batches (trees fs) (length cs)
-    cs in
-    ap (λ bs. bs ++ tail) (batches-next fs rows some sound ∙ ap F (sym e) ∙ ap G (sym is))
-    ∙ append_assoc (batch_message (trees fs) (take n rows)) (batches (trees fs) (length left) left) tail
+    → batches coded (trees fs) (length rows) rows ++ tail
+    ≡ batch_messages coded (trees fs) (take n rows) ++ (batches coded (trees fs) (length left) left ++ tail)
+batches-left coded fs rows left n tail some sound e is =
+    let F : ℕ → List ℕ = λ k. batch_messages coded (trees fs) (take k rows)
+    ++ batches coded (trees fs) (length (drop k rows)) (drop k rows) in
+    let G : List (List Datum) → List ℕ = λ cs. batch_messages coded (trees fs) (take n rows)
+    ++ batches coded (trees fs) (length cs) cs in
+    ap (λ bs. bs ++ tail) (batches-next coded fs rows some sound ∙ ap F (sym e) ∙ ap G (sym is))
+    ∙ append_assoc (batch_messages coded (trees fs) (take n rows)) (batches coded (trees fs) (length left) left) tail
 
 -- rows that are values
 

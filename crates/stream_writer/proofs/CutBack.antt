@@ -40,19 +40,19 @@ use Rattle.values.specs.declared.layout.Layout.{Layout}
 use Rattle.values.specs.Logical.{NamedType}
 use Rattle.schema_meta.specs.SchemaTree.{AreColumns}
 use Rattle.body_writer.specs.Batch.{row_weight, rows_weight}
-use Rattle.stream_writer.specs.Stream.{batch_message, beginning, batch_len, batches, trees}
+use Rattle.stream_writer.specs.Stream.{batch_messages, beginning, batch_len, batches, trees}
 use Rattle.stream_writer.specs.Table.{IsRow}
 use Rattle.stream_writer.specs.CutLaw.{cut, IsFull, AreBatches, CutLaw}
 use Rattle.stream_writer.proofs.Cut.{taken, beginning-heavy, batch_len-within, batch-some, batch-sound}
 
-cut-bytes : (ls : Roses Layout) (most : ℕ) (rows : List (List Datum))
-    → batches ls most rows ≡ flat_map (batch_message ls) (cut ls most rows)
+cut-bytes : (coded : List ℕ) (ls : Roses Layout) (most : ℕ) (rows : List (List Datum))
+    → batches coded ls most rows ≡ flat_map (batch_messages coded ls) (cut ls most rows)
 unfolding batches cut
-cut-bytes ls zero rows = refl
-cut-bytes ls (suc most) [] = refl
-cut-bytes ls (suc most) (row ∷ rows) =
+cut-bytes coded ls zero rows = refl
+cut-bytes coded ls (suc most) [] = refl
+cut-bytes coded ls (suc most) (row ∷ rows) =
     let n : ℕ = batch_len ls (row ∷ rows) in
-    ap (λ rest. batch_message ls (take n (row ∷ rows)) ++ rest) (cut-bytes ls most (drop n (row ∷ rows)))
+    ap (λ rest. batch_messages coded ls (take n (row ∷ rows)) ++ rest) (cut-bytes coded ls most (drop n (row ∷ rows)))
 
 cut-joined : (fs : List (Rose NamedType)) (most : ℕ) (rows : List (List Datum)) → length rows ≤ most
     → All (IsRow fs) rows → flat_map (λ piece. piece) (cut (trees fs) most rows) ≡ rows
@@ -137,7 +137,7 @@ cut-sound fs (suc most) (row ∷ rows) columns layouts sound =
 
 pub cut-law : CutLaw
 cut-law fields rows table = record {
-  bytes = cut-bytes (trees fields) (length rows) rows;
+  bytes = λ coded. cut-bytes coded (trees fields) (length rows) rows;
   joined = cut-joined fields (length rows) rows (omega arith) table.sound;
   sound = cut-sound fields (length rows) rows table.columns table.layouts table.sound;
 }

@@ -11,6 +11,12 @@ pub mod FramingRead
 pub mod Lengths
 pub mod BatchRead
 pub mod RowsRead
+pub mod Decoded
+pub mod Numbering
+pub mod IndexedRows
+pub mod CodedRead
+pub mod DictionaryBodies
+pub mod IndexedBodies
 pub mod StreamRead
 mod Sample
 pub mod BatchRowLemmas

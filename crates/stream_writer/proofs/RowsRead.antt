@@ -46,11 +46,11 @@ use Rattle.stream_writer.specs.RowsLaw.{RowsLaw}
 use Rattle.stream_writer.proofs.Lengths.{body-nodes-stand}
 
 -- the cells of the columns from column j on
-abbrev columns_from : ℕ → Roses Layout → List Datum → List (List Datum)
+abbrev pub columns_from : ℕ → Roses Layout → List Datum → List (List Datum)
 columns_from j none cs = []
 columns_from j (more t ts) cs = map (part j) cs ∷ columns_from (suc j) ts cs
 
-columns-read :
+pub columns-read :
     (body : List ℕ) (all : List FieldNode) (ranges : List BufferRange) (n b j : ℕ) (ts : Roses Layout) (cs : List Datum)
     → AreRead body (placed_all all ranges n b ts) j cs
     → columns_in body (placed_all all ranges n b ts) ≡ Ok (columns_from j ts cs)
@@ -103,7 +103,7 @@ each-row cols i (row ∷ rows) h =
     let others = each-row cols (i + 1) rows (λ j m e l. h (suc j) m (omega (arith, e)) (omega (arith, l))) in
     rw (mine, others) refl
 
-rows-back :
+pub rows-back :
     (ts : Roses Layout) (rows : List (List Datum)) → All (λ row. HoldsEach ts (items_of row)) rows
     → rows_from (columns_from 0 ts (row_cells rows)) 0 (length rows) ≡ rows
 rows-back ts rows held =
@@ -122,7 +122,7 @@ body-stands ls rows =
     let Q : List BufferRange → Type 0 = λ ranges. Stand (laid xs) ranges 0 xs in
     subst Q (append-nil (ranges_from 0 xs)) (subst P (append-nil (laid xs)) (buffers-stand-law [] [] [] [] xs))
 
-batch-read :
+pub batch-read :
     (ls : Roses Layout) (rows : List (List Datum)) → IsBatch ls rows
     → AreRead (body_bytes ls rows) (placed_all (body_nodes ls rows) (body_ranges ls rows) 0 0 ls) 0 (row_cells rows)
 unfolding body_nodes body_buffers

@@ -76,9 +76,6 @@ pub fitting-on : (n room : ℕ) (ws : List ℕ) (i : ℕ) → i < length ws → 
 fitting-on n room ws i h some light =
     ap (fitting n room) (here ws i h) ∙ fitting-light n room (slice_index_or ws i 0) (drop (i + 1) ws) some light
 
-pub fitting-full : (n room : ℕ) (ws : List ℕ) → n ≡ 0 → fitting n room ws ≡ 0
-fitting-full n room ws e = ap (λ k. fitting k room ws) e
-
 fitting-none : (n room : ℕ) → fitting n room [] ≡ 0
 fitting-none zero room = refl
 fitting-none (suc n) room = refl

@@ -26,7 +26,15 @@ use Rattle.values.specs.Rose.{Rose, Roses}
 use Rattle.values.specs.declared.layout.Layout.{Layout}
 use Rattle.values.specs.Logical.{NamedType}
 use Rattle.stream_writer.specs.Sinks.{Sunk, Writes}
-use Rattle.stream_writer.specs.Stream.{schema_message, batch_message, batch_len, batches, end_mark, canon, trees}
+use Rattle.stream_writer.specs.Stream.{
+  schema_message,
+  batch_messages,
+  batch_len,
+  batches,
+  end_mark,
+  coded_canon,
+  trees,
+}
 use Rattle.stream_writer.specs.Table.{IsRow}
 use Rattle.stream_writer.specs.WrittenSoFar.{WrittenSoFar}
 use Rattle.stream_writer.specs.declared.faults.WriteFault.{WriteFault}
@@ -40,37 +48,41 @@ from-err old new (Err e) fault whole is writes = let P : WriteFault
     → Type 0 = λ f. Writes old new (Err f) whole in subst P (sym is) writes
 
 -- the first message comes next
-pub first-comes : (start : Sunk) (fs : List (Rose NamedType)) (rows : List (List Datum)) (bytes : List ℕ)
-    → bytes ≡ schema_message fs
-    → WrittenSoFar start start 0 (canon fs rows) (bytes ++ (batches (trees fs) (length rows) rows ++ end_mark))
-unfolding canon
-first-comes start fs rows bytes e =
+pub first-comes :
+    (start : Sunk) (fs : List (Rose NamedType)) (coded : List ℕ) (rows : List (List Datum)) (bytes : List ℕ)
+    → bytes ≡ schema_message coded fs
+    → WrittenSoFar start start 0 (coded_canon fs coded rows)
+    (bytes ++ (batches coded (trees fs) (length rows) rows ++ end_mark))
+unfolding coded_canon
+first-comes start fs coded rows bytes e =
     let P : List ℕ
     → Type 0 =
-    λ bs. WrittenSoFar start start 0 (canon fs rows) (bs ++ (batches (trees fs) (length rows) rows ++ end_mark)) in
-    subst P (sym e) (WrittenSoFar-start start (canon fs rows))
+    λ bs. WrittenSoFar start start 0 (coded_canon fs coded rows)
+    (bs ++ (batches coded (trees fs) (length rows) rows ++ end_mark)) in
+    subst P (sym e) (WrittenSoFar-start start (coded_canon fs coded rows))
 
 -- a batch comes next
 pub batch-comes :
-    (start now : Sunk) (written : ℕ) (whole : List ℕ) (fs : List (Rose NamedType)) (rows left : List (List Datum)) (n :
-    ℕ)
-    (bytes : List ℕ) → WrittenSoFar start now written whole (batches (trees fs) (length rows) rows ++ end_mark)
+    (start now : Sunk) (written : ℕ) (whole : List ℕ) (fs : List (Rose NamedType)) (coded : List ℕ)
+    (rows left : List (List Datum)) (n : ℕ)
+    (bytes : List ℕ) → WrittenSoFar start now written whole (batches coded (trees fs) (length rows) rows ++ end_mark)
     → 0 < length rows
-    → All (IsRow fs) rows → n ≡ batch_len (trees fs) rows → bytes ≡ batch_message (trees fs) (take n rows)
+    → All (IsRow fs) rows → n ≡ batch_len (trees fs) rows → bytes ≡ batch_messages coded (trees fs) (take n rows)
     → left ≡ drop n rows
-    → WrittenSoFar start now written whole (bytes ++ (batches (trees fs) (length left) left ++ end_mark))
-batch-comes start now written whole fs rows left n bytes so_far some sound e is behind =
+    → WrittenSoFar start now written whole (bytes ++ (batches coded (trees fs) (length left) left ++ end_mark))
+batch-comes start now written whole fs coded rows left n bytes so_far some sound e is behind =
     let P : List ℕ → Type 0 = λ rest. WrittenSoFar start now written whole rest in
-    subst P (batches-left fs rows left n end_mark some sound e behind
-    ∙ ap (λ bs. bs ++ (batches (trees fs) (length left) left ++ end_mark)) (sym is)) so_far
+    subst P (batches-left coded fs rows left n end_mark some sound e behind
+    ∙ ap (λ bs. bs ++ (batches coded (trees fs) (length left) left ++ end_mark)) (sym is)) so_far
 
 -- the end mark comes next
-pub end-comes : (start now : Sunk) (written : ℕ) (whole : List ℕ) (ls : Roses Layout) (rows : List (List Datum))
-    → WrittenSoFar start now written whole (batches ls (length rows) rows ++ end_mark) → length rows ≡ 0
+pub end-comes :
+    (start now : Sunk) (written : ℕ) (whole : List ℕ) (coded : List ℕ) (ls : Roses Layout) (rows : List (List Datum))
+    → WrittenSoFar start now written whole (batches coded ls (length rows) rows ++ end_mark) → length rows ≡ 0
     → WrittenSoFar start now written whole (end_mark ++ [])
-end-comes start now written whole ls rows so_far none =
+end-comes start now written whole coded ls rows so_far none =
     let P : List ℕ → Type 0 = λ rest. WrittenSoFar start now written whole rest in
-    subst P (ap (λ bs. bs ++ end_mark) (batches-none ls rows none)) so_far
+    subst P (ap (λ bs. bs ++ end_mark) (batches-none coded ls rows none)) so_far
 
 -- what the last put answers is the writer's answer
 pub last-put : (start now : Sunk) (answer : Result ℕ WriteFault) (whole : List ℕ) →

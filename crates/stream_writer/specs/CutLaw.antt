@@ -8,7 +8,7 @@ use Rattle.values.specs.Rose.{Rose, Roses}
 use Rattle.values.specs.declared.layout.Layout.{Layout}
 use Rattle.values.specs.Logical.{NamedType}
 use Rattle.body_writer.specs.Batch.{IsBatch, rows_weight}
-use Rattle.stream_writer.specs.Stream.{batch_message, batch_len, batches, trees}
+use Rattle.stream_writer.specs.Stream.{batch_messages, batch_len, batches, trees}
 use Rattle.stream_writer.specs.Table.{IsTable}
 
 -- the rows of each batch
@@ -29,7 +29,7 @@ AreBatches ls [] = ⊤
 AreBatches ls (batch ∷ later) = (0 < length batch) × IsBatch ls batch × IsFull ls batch later × AreBatches ls later
 
 pub record IsCut (ls : Roses Layout) (rows : List (List Datum)) (pieces : List (List (List Datum))) : Type 0 where
-  pub bytes : batches ls (length rows) rows ≡ flat_map (batch_message ls) pieces
+  pub bytes : (coded : List ℕ) → batches coded ls (length rows) rows ≡ flat_map (batch_messages coded ls) pieces
   pub joined : flat_map (λ piece. piece) pieces ≡ rows
   pub sound : AreBatches ls pieces
 

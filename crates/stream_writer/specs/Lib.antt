@@ -1,5 +1,8 @@
 pub mod Sinks
 pub mod Batch
+pub mod Coding
+pub mod Texts
+pub mod DictionaryBatch
 pub mod Stream
 pub mod Table
 pub mod WrittenSoFar

@@ -1,7 +1,7 @@
 -- A table whose stream is known from outside: two columns of whole numbers, `k` and `v`. And two columns for tables
 -- without rows: texts, and lists of texts.
 use Rattle.std.specs.Prelude.{ℕ, List, [], ◌∷◌, pos, true}
-use Rattle.values.specs.Datum.{Datum, null, whole}
+use Rattle.values.specs.Datum.{Datum, null, text, whole}
 use Rattle.values.specs.Rose.{Rose, node, none, more}
 use Rattle.values.specs.declared.layout.IntWidth.TheVariants as int
 use Rattle.values.specs.declared.layout.OffsetWidth.TheVariants as offset
@@ -25,3 +25,11 @@ abbrev pub text_fields : List (Rose NamedType)
 text_fields =
     text_field (116 ∷ []) ∷ node (record { name = 108 ∷ []; col_type = stored.List offset.Bits32 })
     (more (text_field item_name) none) ∷ []
+
+-- One column `c` of texts, whose stream with a dictionary is known from outside.
+
+abbrev pub coded_sample_fields : List (Rose NamedType)
+coded_sample_fields = text_field (99 ∷ []) ∷ []
+
+abbrev pub coded_sample_rows : List (List Datum)
+coded_sample_rows = (text (98 ∷ []) ∷ []) ∷ (null ∷ []) ∷ (text (98 ∷ []) ∷ []) ∷ (text (97 ∷ []) ∷ []) ∷ []

@@ -1,11 +1,14 @@
 //! Rows that lie in batches of checked columns.
 
-ghost use Rattle.std.specs.Prelude.{◌≡◌, ℕ, ◌+◌, ◌^◌, ◌<◌, ◌≤◌, All, IfOk, length, take, drop};
+ghost use Rattle.std.specs.Prelude.{◌≡◌, ℕ, ◌+◌, ◌^◌, ◌<◌, ◌≤◌, All, IfOk, [], length, take, drop};
+ghost use Rattle.values.specs.Rose.{kids_of};
+ghost use Rattle.body_writer.specs.Batch.{IsBatch};
 ghost use Rattle.column_writer.specs.Batches.{IsRange, IsSized, ranges_rows, rows_of};
+ghost use Rattle.stream_writer.specs.Stream.{batch_messages};
 
+use crate::messages::append_record;
 use crate::rows::RowSource;
-use body_writer::Body;
-use column_writer::{Batch, RowRange};
+use column_writer::{Batch, RowRange, write_body};
 use std::alloc::{AllocError, Global};
 use values::LayoutTree;
 use values::limits::MAX_BATCH_ROWS;
@@ -81,10 +84,35 @@ pub(crate) fn ranges_of<'a>(
     Ok(ranges)
 }
 
+/// The RecordBatch message of `count` rows, from row `from` on.
+pub(crate) fn encode_rows(
+    alloc: Global,
+    layouts: &[LayoutTree],
+    batches: &[Batch],
+    from: usize,
+    count: usize,
+) -> Result<Vec<u8>, AllocError>
+    requires small { from + count < 2 ^ 32 }
+    requires within { count ≤ length (drop from (rows_of batches.now)) }
+    requires sized { All (IsSized (length layouts.now)) batches.now }
+    requires batch { IsBatch (kids_of layouts.now) (take count (drop from (rows_of batches.now))) }
+    ensures bytes { IfOk result (λ bytes. bytes.items
+        ≡ batch_messages [] (kids_of layouts.now) (take count (drop from (rows_of batches.now)))) }
+    ensures size { IfOk result (λ bytes. length bytes.items ≤ 2 ^ 29) }
+{
+    let ranges = ranges_of(alloc, batches, from, count)?;
+    let body = write_body(alloc, layouts, &ranges)?;
+    let mut bytes = Vec::new(alloc);
+    append_record(alloc, count, &body, &mut bytes)?;
+    Ok(bytes)
+}
+
 impl<'a> RowSource for BatchRows<'a> {
     ghost use Rattle.stream_writer.specs.BatchRows.{FitsBatches, rows_left};
 
     ghost rows = { rows_left };
+
+    ghost coded = { λ r. [] };
 
     ghost fits = { λ r ls. FitsBatches ls r };
 
@@ -96,14 +124,13 @@ impl<'a> RowSource for BatchRows<'a> {
         self.left.min(MAX_BATCH_ROWS)
     }
 
-    fn write_body(
+    fn encode_batch(
         &self,
         alloc: Global,
         layouts: &[LayoutTree],
         count: usize,
-    ) -> Result<Body, AllocError> {
-        let ranges = ranges_of(alloc, self.batches, self.from, count)?;
-        column_writer::write_body(alloc, layouts, &ranges)
+    ) -> Result<Vec<u8>, AllocError> {
+        encode_rows(alloc, layouts, self.batches, self.from, count)
     }
 
     fn skip(&mut self, count: usize) {

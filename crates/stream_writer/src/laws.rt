@@ -3,7 +3,15 @@
 ghost use Rattle.stream_writer.specs.BatchLaw.{BatchLaw};
 ghost use Rattle.stream_writer.specs.CutLaw.{CutLaw};
 ghost use Rattle.stream_writer.specs.FramingLaw.{FirstLaw, LastLaw};
-ghost use Rattle.stream_writer.specs.RoundTrip.{DeclaredMeansItsTable, DeclaredTrip, MeansItsTable, RoundTrip};
+ghost use Rattle.stream_writer.specs.RoundTrip.{
+  CodedMeansItsTable,
+  CodedTrip,
+  DeclaredCodedMeansItsTable,
+  DeclaredMeansItsTable,
+  DeclaredTrip,
+  MeansItsTable,
+  RoundTrip,
+};
 ghost use Rattle.stream_writer.specs.RowsLaw.{RowsLaw};
 
 /// The batches of a table, joined, are its rows. Each is within the limits on rows and weight, and none could have
@@ -39,4 +47,12 @@ pub fn canon_law()
     ensures declared_means { DeclaredMeansItsTable }
     ensures alone { RoundTrip }
     ensures declared { DeclaredTrip }
+{}
+
+/// The canonical stream of each table within the limits, with some columns of texts coded, is read as that table; also
+/// where its columns were declared for the stream. `alone` says so of how the columns are stored too.
+pub fn coded_law()
+    ensures means { CodedMeansItsTable }
+    ensures declared_means { DeclaredCodedMeansItsTable }
+    ensures alone { CodedTrip }
 {}

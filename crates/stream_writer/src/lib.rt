@@ -1,10 +1,14 @@
 //! Writing a table as its canonical stream.
 //!
-//! `specs/Stream.antt` says which bytes these are, `specs/Sinks.antt` what a writer does to a sink,
-//! `specs/Table.antt` which tables can be written, `specs/CutLaw.antt` what the cut into batches keeps.
+//! `specs/Stream.antt` says which bytes these are, `specs/Coding.antt` which values and indices coded columns have,
+//! `specs/Sinks.antt` what a writer does to a sink, `specs/Table.antt` which tables can be written,
+//! `specs/CutLaw.antt` what the cut into batches keeps.
 #![tactic(auto)]
 
 mod batch_rows;
+mod coded_batch;
+mod dictionary_batch;
+mod dictionary_builder;
 mod faults;
 mod laws;
 mod layouts;
@@ -16,11 +20,13 @@ mod table;
 mod weighed_rows;
 
 pub use faults::WriteFault;
-pub use laws::{batch_law, canon_law, cut_law, framing_law, rows_law};
+pub use laws::{batch_law, canon_law, coded_law, cut_law, framing_law, rows_law};
 pub use layouts::layouts_of;
 pub use memory::MemorySink;
 pub use sink::{DeviceFault, Sink, put_all};
-pub use table::{write_batches, write_table, write_weighed_batches};
+pub use table::{write_batches, write_coded, write_table, write_weighed_batches};
 
+#[cfg(test)]
+mod coded_tests;
 #[cfg(test)]
 mod tests;

@@ -1,49 +1,51 @@
 //! Encodes the messages of a stream.
 
-ghost use Rattle.std.specs.Prelude.{◌≡◌, ◌+◌, ◌*◌, ◌^◌, ◌<◌, ◌≤◌, ◌++◌, IfOk, length, take};
+ghost use Rattle.std.specs.Prelude.{◌≡◌, ◌+◌, ◌*◌, ◌^◌, ◌<◌, ◌≤◌, ◌++◌, IfOk, OnOk, length};
 ghost use Rattle.std.specs.Int.{w64};
 ghost use Rattle.byteorder.specs.Endian.{little_bytes, low_bytes};
 ghost use Rattle.flatbuf.specs.Built.{slots};
 ghost use Rattle.schema_meta.specs.SchemaTree.{AreColumns};
-ghost use Rattle.values.specs.Limits.{max_metadata_size, max_fields};
-ghost use Rattle.values.specs.Rose.{kids_of};
-ghost use Rattle.body_writer.specs.Batch.{IsBatch};
+ghost use Rattle.values.specs.Limits.{max_body_size, max_metadata_size, max_fields};
 ghost use Rattle.stream_writer.specs.Batch.{node_bytes as nodes_as, range_bytes as ranges_as, batch_slots, batch_whole};
+ghost use Rattle.stream_writer.specs.DictionaryBatch.{dictionary_slots, dictionary_whole};
 ghost use Rattle.stream_writer.specs.Stream as stream;
 
-use crate::rows::RowSource;
 use array_layout::{BufferRange, FieldNode};
 use body_writer::Body;
 use byteorder::{ByteOrder, LittleEndian};
 use flatbuf::Builder;
 use schema_meta::{MessageKind, write_message, write_schema};
 use std::alloc::{AllocError, Global};
-use values::{LayoutTree, Schema};
+use values::Schema;
 
-/// A message with this metadata and this body: the continuation mark, the metadata's size, and both.
-fn message(alloc: Global, metadata: &[u8], body: &[u8]) -> Result<Vec<u8>, AllocError>
+/// Appends a message with this metadata and this body: the continuation mark, the metadata's size, and both.
+fn append_message(metadata: &[u8], body: &[u8], bytes: &mut Vec<u8>) -> Result<(), AllocError>
     requires metadata { length metadata.now < 2 ^ 32 }
     requires body { length body.now ≤ 2 ^ 38 }
-    ensures { IfOk result (λ bytes. bytes.items ≡ stream.message metadata.now body.now) }
+    ensures { OnOk result (bytes.new.items ≡ bytes.old.items ++ stream.message metadata.now body.now) }
 {
     let mut prefix = [255u8; 8];
     LittleEndian::write_u32(&mut prefix[4..], metadata.len() as u32);
-    let mut bytes = Vec::with_capacity(alloc, 8 + metadata.len() + body.len())?;
+    bytes.reserve(8 + metadata.len() + body.len())?;
     bytes.extend_from_slice(&prefix)?;
     bytes.extend_from_slice(metadata)?;
-    bytes.extend_from_slice(body)?;
-    Ok(bytes)
+    bytes.extend_from_slice(body)
 }
 
-/// The Schema message of a table.
+/// The Schema message of a table, with dictionaries for the columns at some positions.
 #[tactic(auto, unfolding(crate::specs::Stream::schema_message))]
-pub fn schema_message(alloc: Global, schema: &Schema) -> Result<Vec<u8>, AllocError>
+pub fn schema_message(
+    alloc: Global,
+    schema: &Schema,
+    coded: &[usize],
+) -> Result<Vec<u8>, AllocError>
     requires { AreColumns schema.now.fields.items }
-    ensures bytes { IfOk result (λ bytes. bytes.items ≡ stream.schema_message schema.now.fields.items) }
+    ensures bytes { IfOk result (λ bytes. bytes.items ≡ stream.schema_message coded.now schema.now.fields.items) }
     ensures size { IfOk result (λ bytes. length bytes.items ≤ 2 ^ 39) }
 {
-    let metadata = write_schema(alloc, schema)?;
-    let bytes = message(alloc, &metadata, &[])?;
+    let metadata = write_schema(alloc, schema, coded)?;
+    let mut bytes = Vec::new(alloc);
+    append_message(&metadata, &[], &mut bytes)?;
     Ok(bytes)
 }
 
@@ -89,24 +91,78 @@ fn range_pair(range: &BufferRange) -> [u8; 16]
     bytes
 }
 
-/// The RecordBatch message of the first `count` rows.
-#[tactic(auto, using(crate::proofs::BatchFits::batch_fits, crate::proofs::Cut::taken_count), unfolding(crate::specs::Stream::batch_message, crate::specs::Batch::batch_metadata))]
-pub(crate) fn batch_message<R: RowSource>(
+/// Appends the RecordBatch message of `rows` rows with this body.
+pub(crate) fn append_record(
     alloc: Global,
-    layouts: &[LayoutTree],
-    rows: &R,
-    count: usize,
-) -> Result<Vec<u8>, AllocError>
-    requires fits { R.fits rows.now layouts.now }
-    requires within { count ≤ length (R.rows rows.now) }
-    requires batch { IsBatch (kids_of layouts.now) (take count (R.rows rows.now)) }
-    ensures bytes { IfOk result
-        (λ bytes. bytes.items ≡ stream.batch_message (kids_of layouts.now) (take count (R.rows rows.now))) }
-    ensures size { IfOk result (λ bytes. length bytes.items ≤ 2 ^ 39) }
+    rows: usize,
+    body: &Body,
+    bytes: &mut Vec<u8>,
+) -> Result<(), AllocError>
+    requires nodes { length body.now.nodes.items ≤ max_fields }
+    requires ranges { length body.now.ranges.items ≤ 3 * max_fields }
+    requires size { length body.now.bytes.items ≤ max_body_size }
+    ensures bytes { OnOk result (bytes.new.items ≡ bytes.old.items ++ stream.message
+        (batch_whole rows body.now.nodes.items body.now.ranges.items (length body.now.bytes.items))
+        body.now.bytes.items) }
+    ensures size { OnOk result (length bytes.new.items ≤ length bytes.old.items + 2 ^ 29) }
 {
-    let body = rows.write_body(alloc, layouts, count)?;
-    let metadata = batch_metadata(alloc, count as u64, &body)?;
-    let bytes = message(alloc, &metadata, &body.bytes)?;
+    let metadata = batch_metadata(alloc, rows as u64, body)?;
+    append_message(&metadata, &body.bytes, bytes)
+}
+
+/// Appends the DictionaryBatch message of this id, of `count` values with this body.
+pub(crate) fn append_dictionary(
+    alloc: Global,
+    id: usize,
+    count: usize,
+    body: &Body,
+    bytes: &mut Vec<u8>,
+) -> Result<(), AllocError>
+    requires nodes { length body.now.nodes.items ≤ max_fields }
+    requires ranges { length body.now.ranges.items ≤ 3 * max_fields }
+    requires size { length body.now.bytes.items ≤ max_body_size }
+    ensures bytes { OnOk result (bytes.new.items ≡ bytes.old.items ++ stream.message
+        (dictionary_whole id count body.now.nodes.items body.now.ranges.items (length body.now.bytes.items))
+        body.now.bytes.items) }
+    ensures size { OnOk result (length bytes.new.items ≤ length bytes.old.items + 2 ^ 29) }
+{
+    let metadata = dictionary_metadata(alloc, id as u64, count as u64, body)?;
+    append_message(&metadata, &body.bytes, bytes)
+}
+
+fn dictionary_header(alloc: Global, id: u64, count: u64, body: &Body) -> Result<Builder, AllocError>
+    requires nodes { length body.now.nodes.items ≤ max_fields }
+    requires ranges { length body.now.ranges.items ≤ 3 * max_fields }
+    ensures { IfOk result (λ header. slots header ≡ dictionary_slots id
+        (batch_slots count body.now.nodes.items body.now.ranges.items)) }
+{
+    let mut header = Builder::new(alloc);
+    header.u64(id)?;
+    header.table(batch_header(alloc, count, body)?)?;
+    header.u8(0)?;
+    Ok(header)
+}
+
+fn dictionary_metadata(
+    alloc: Global,
+    id: u64,
+    count: u64,
+    body: &Body,
+) -> Result<Vec<u8>, AllocError>
+    requires nodes { length body.now.nodes.items ≤ max_fields }
+    requires ranges { length body.now.ranges.items ≤ 3 * max_fields }
+    ensures bytes { IfOk result
+        (λ bytes. bytes.items ≡ dictionary_whole id count body.now.nodes.items body.now.ranges.items
+        (length body.now.bytes.items)) }
+    ensures size { IfOk result (λ bytes. length bytes.items < max_metadata_size) }
+{
+    let header = dictionary_header(alloc, id, count, body)?;
+    let bytes = write_message(
+        alloc,
+        MessageKind::Dictionary,
+        header,
+        body.bytes.len() as u64,
+    )?;
     Ok(bytes)
 }
 

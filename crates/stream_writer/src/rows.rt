@@ -1,20 +1,23 @@
 //! Sources of the rows of a table: values, or batches of checked columns.
 
-use body_writer::Body;
+use crate::coded_batch::coded_batch;
 use std::alloc::{AllocError, Global};
 use values::{LayoutTree, Row};
 
 /// Rows that are left to be written.
 pub(crate) trait RowSource {
-    ghost use Rattle.std.specs.Prelude.{◌≡◌, ◌==◌, ◌≤◌, All, IfOk, List, length, take, drop};
-    ghost use Rattle.values.specs.Limits.{max_body_size, max_row_weight};
+    ghost use Rattle.std.specs.Prelude.{◌≡◌, ℕ, ◌*◌, ◌==◌, ◌^◌, ◌≤◌, All, IfOk, List, length, take, drop};
+    ghost use Rattle.values.specs.Limits.{max_row_weight};
     ghost use Rattle.values.specs.Datum.{Datum};
     ghost use Rattle.values.specs.Rose.{Rose, kids_of};
     ghost use Rattle.values.specs.declared.layout.Layout.{Layout};
-    ghost use Rattle.body_writer.specs.Batch.{IsBatch, body_bytes, body_nodes, body_ranges, row_weight};
-    ghost use Rattle.stream_writer.specs.Stream.{batch_len};
+    ghost use Rattle.body_writer.specs.Batch.{IsBatch, row_weight};
+    ghost use Rattle.stream_writer.specs.Stream.{batch_len, batch_messages};
 
     ghost rows: { Self → List (List Datum) };
+
+    // the positions of the columns that are coded
+    ghost coded: { Self → List ℕ };
 
     // what must hold of the rows, where the columns have these layouts
     ghost fits: { Self → List (Rose Layout) → Type 0 };
@@ -31,29 +34,26 @@ pub(crate) trait RowSource {
         ensures value { result ≡ batch_len (kids_of layouts.now) (rows self.now) }
         ensures bound { result ≤ length (rows self.now) };
 
-    /// The body of the batch of the first `count` rows.
-    fn write_body(
+    /// The messages of the batch of the first `count` rows: dictionaries, and the record batch.
+    fn encode_batch(
         &self,
         alloc: Global,
         layouts: &[LayoutTree],
         count: usize,
-    ) -> Result<Body, AllocError>
+    ) -> Result<Vec<u8>, AllocError>
         requires fits { fits self.now layouts.now }
         requires within { count ≤ length (rows self.now) }
         requires batch { IsBatch (kids_of layouts.now) (take count (rows self.now)) }
-        ensures nodes { IfOk result
-            (λ body. body.nodes.items ≡ body_nodes (kids_of layouts.now) (take count (rows self.now))) }
-        ensures ranges { IfOk result
-            (λ body. body.ranges.items ≡ body_ranges (kids_of layouts.now) (take count (rows self.now))) }
-        ensures bytes { IfOk result
-            (λ body. body.bytes.items ≡ body_bytes (kids_of layouts.now) (take count (rows self.now))) }
-        ensures size { IfOk result (λ body. length body.bytes.items ≤ max_body_size) };
+        ensures bytes { IfOk result (λ bytes. bytes.items
+            ≡ batch_messages (coded self.now) (kids_of layouts.now) (take count (rows self.now))) }
+        ensures size { IfOk result (λ bytes. length bytes.items ≤ 3 * 2 ^ 38) };
 
     /// Drops the first `count` rows.
     fn skip(&mut self, count: usize)
         requires fits { (ls : List (Rose Layout)) × fits self.old ls }
         requires within { count ≤ length (rows self.old) }
         ensures rows { rows self.new ≡ drop count (rows self.old) }
+        ensures coded { coded self.new ≡ coded self.old }
         ensures fits { (ls : List (Rose Layout)) → fits self.old ls → fits self.new ls };
 }
 
@@ -66,18 +66,22 @@ ghost use Rattle.stream_writer.specs.Stream.{batch_len};
 use values::limits::{MAX_BATCH_ROWS, MAX_BATCH_WEIGHT};
 use values::row_weight;
 
-/// Rows as lists of values.
+/// Rows as lists of values, and the positions of the columns that are coded.
 #[derive(Drop)]
 pub(crate) struct ValueRows<'a> {
     pub rows: &'a [Row],
+    pub coded: &'a [usize],
 }
 
 impl<'a> RowSource for ValueRows<'a> {
     ghost use Rattle.std.specs.Prelude.{map};
+    ghost use Rattle.stream_writer.specs.Coding.{AreTextsIn};
 
     ghost rows = { λ r. map (λ row. row.items) r.rows.now };
 
-    ghost fits = { λ r ls. Unit {0} };
+    ghost coded = { λ r. r.coded.now };
+
+    ghost fits = { λ r ls. AreTextsIn r.coded.now (kids_of ls) };
 
     fn is_empty(&self) -> bool {
         self.rows.is_empty()
@@ -87,13 +91,13 @@ impl<'a> RowSource for ValueRows<'a> {
         len_of_batch(layouts, self.rows)
     }
 
-    fn write_body(
+    fn encode_batch(
         &self,
         alloc: Global,
         layouts: &[LayoutTree],
         count: usize,
-    ) -> Result<Body, AllocError> {
-        body_writer::write_body(alloc, layouts, &self.rows[..count])
+    ) -> Result<Vec<u8>, AllocError> {
+        coded_batch(alloc, layouts, self.coded, &self.rows[..count])
     }
 
     fn skip(&mut self, count: usize) {

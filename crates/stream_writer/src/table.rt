@@ -5,7 +5,8 @@ ghost use Rattle.values.specs.Limits.{max_row_weight};
 ghost use Rattle.values.specs.Rose.{kids_of};
 ghost use Rattle.body_writer.specs.Batch.{row_weight};
 ghost use Rattle.stream_writer.specs.Sinks.{Sunk, Writes};
-ghost use Rattle.stream_writer.specs.Stream.{schema_message, batch_message, batch_len, trees, canon};
+ghost use Rattle.values.specs.Coded.{AreCoded};
+ghost use Rattle.stream_writer.specs.Stream.{schema_message, batch_messages, batch_len, trees, canon, coded_canon};
 ghost use Rattle.column_writer.specs.Batches.{IsSized, rows_of};
 ghost use Rattle.stream_writer.specs.BatchRows.{AreLightRows};
 ghost use Rattle.stream_writer.specs.Table.{IsTable};
@@ -39,8 +40,34 @@ pub fn write_table<S: Sink>(
     ensures { Writes (S.sunk sink.old) (S.sunk sink.new) result
         (canon schema.now.fields.items (map (λ row. row.items) rows.now)) }
 {
+    write_coded(alloc, sink, schema, &[], rows)
+}
+
+/// Writes the canonical stream of a table in which the columns at some positions are coded, and returns its length in
+/// bytes. The positions ascend, and the columns there hold texts.
+///
+/// On an error the sink took a beginning of that stream: `written` bytes.
+pub fn write_coded<S: Sink>(
+    alloc: Global,
+    sink: &mut S,
+    schema: &Schema,
+    coded: &[usize],
+    rows: &[Row],
+) -> Result<u64, WriteFault>
+    requires table { IsTable schema.now.fields.items (map (λ row. row.items) rows.now) }
+    requires coded { AreCoded coded.now schema.now.fields.items }
+    ensures { Writes (S.sunk sink.old) (S.sunk sink.new) result
+        (coded_canon schema.now.fields.items coded.now (map (λ row. row.items) rows.now)) }
+{
     let layouts = layouts_of(alloc, schema)?;
-    write_messages(alloc, sink, schema, &layouts, ValueRows { rows })
+    write_messages(
+        alloc,
+        sink,
+        schema,
+        coded,
+        &layouts,
+        ValueRows { rows, coded },
+    )
 }
 
 /// Writes the canonical stream of a table whose `rows` rows lie in batches of checked columns, and returns its length
@@ -66,7 +93,7 @@ pub fn write_batches<S: Sink>(
         from: 0,
         left: rows,
     };
-    write_messages(alloc, sink, schema, &layouts, left)
+    write_messages(alloc, sink, schema, &[], &layouts, left)
 }
 
 /// Writes the canonical stream of a table whose rows lie in batches of checked columns and have these weights, and
@@ -91,7 +118,7 @@ pub fn write_weighed_batches<S: Sink>(
         from: 0,
         weights,
     };
-    write_messages(alloc, sink, schema, &layouts, left)
+    write_messages(alloc, sink, schema, &[], &layouts, left)
 }
 
 /// Writes the messages of a table whose columns have these layouts.
@@ -99,20 +126,23 @@ fn write_messages<S: Sink, R: RowSource + Drop>(
     alloc: Global,
     sink: &mut S,
     schema: &Schema,
+    coded: &[usize],
     layouts: &[LayoutTree],
     rows: R,
 ) -> Result<u64, WriteFault>
+    requires coded { R.coded rows ≡ coded.now }
     requires layouts { kids_of layouts.now ≡ trees schema.now.fields.items }
     requires table { IsTable schema.now.fields.items (R.rows rows) }
     requires fits { R.fits rows layouts.now }
-    ensures { Writes (S.sunk sink.old) (S.sunk sink.new) result (canon schema.now.fields.items (R.rows rows)) }
+    ensures { Writes (S.sunk sink.old) (S.sunk sink.new) result
+        (coded_canon schema.now.fields.items coded.now (R.rows rows)) }
 {
-    let message = messages::schema_message(alloc, schema)?;
+    let message = messages::schema_message(alloc, schema, coded)?;
     let mut written = put_after(sink, &message, 0)?;
     let mut left = rows;
     while !left.is_empty() {
         let count = left.len_of_batch(layouts);
-        let Ok(message) = messages::batch_message(alloc, layouts, &left, count) else {
+        let Ok(message) = left.encode_batch(alloc, layouts, count) else {
             return Err(WriteFault::Memory { written });
         };
         written = put_after(sink, &message, written)?;

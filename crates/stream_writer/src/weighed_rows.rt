@@ -4,9 +4,8 @@ ghost use Rattle.std.specs.Prelude.{◌≡◌, ◌≤◌, length};
 ghost use Rattle.values.specs.Limits.{max_batch_rows, max_batch_weight};
 ghost use Rattle.stream_writer.specs.WeighedRows.{fitting};
 
-use crate::batch_rows::{position_at, ranges_of};
+use crate::batch_rows::{encode_rows, position_at};
 use crate::rows::RowSource;
-use body_writer::Body;
 use column_writer::Batch;
 use std::alloc::{AllocError, Global};
 use values::LayoutTree;
@@ -41,9 +40,12 @@ fn count_fitting(weights: &[u64]) -> usize
 }
 
 impl<'a> RowSource for WeighedRows<'a> {
+    ghost use Rattle.std.specs.Prelude.{[]};
     ghost use Rattle.stream_writer.specs.WeighedRows.{FitsWeighed, rows_weighed};
 
     ghost rows = { rows_weighed };
+
+    ghost coded = { λ r. [] };
 
     ghost fits = { λ r ls. FitsWeighed ls r };
 
@@ -55,14 +57,13 @@ impl<'a> RowSource for WeighedRows<'a> {
         count_fitting(self.weights)
     }
 
-    fn write_body(
+    fn encode_batch(
         &self,
         alloc: Global,
         layouts: &[LayoutTree],
         count: usize,
-    ) -> Result<Body, AllocError> {
-        let ranges = ranges_of(alloc, self.batches, self.from, count)?;
-        column_writer::write_body(alloc, layouts, &ranges)
+    ) -> Result<Vec<u8>, AllocError> {
+        encode_rows(alloc, layouts, self.batches, self.from, count)
     }
 
     fn skip(&mut self, count: usize) {

@@ -1,6 +1,7 @@
-pub mod Appended
-pub mod Exact
-pub mod FirstRows
 pub mod InsertedKeys
+pub mod Appended
+pub mod SortKeys
+pub mod Ties
 pub mod OneRow
 pub mod Sorting
+pub mod FirstRows

@@ -1,9 +1,9 @@
 -- What is kept when one row changes.
 use Rattle.std.proofs.Common.{◌≡◌, refl, ap, sym, ◌∙◌, subst}
-use Rattle.std.specs.Prelude.{ℕ, List, Bool, true, false, Option, None, Some, cond, ◌&&◌}
-use Rattle.std.specs.Cmp.{tied_then, Equal-is}
-use Rattle.std.specs.Cmp.Lexicographic.{slice_cmp}
-use Rattle.std.specs.Ordering.{nat_cmp}
+use Rattle.std.specs.Prelude.{ℕ, List, Bool, true, false, Option, None, cond}
+use Rattle.std.specs.Cmp.{nat_cmp_total, tied_itself}
+use Rattle.std.specs.Ordering.{is_eq, nat_cmp}
+use Rattle.std.specs.declared.cmp.Ordering.{Ordering}
 use Rattle.std.specs.Map.{keys_of}
 use Rattle.std.specs.BTreeMap.{is_at}
 use Rattle.std.specs.List.Sorted.{IsStrictlySortedBy}
@@ -12,73 +12,46 @@ use Rattle.values.specs.Datum.{Datum}
 use Rattle.view_lang.specs.Counted.{lookup-with_at}
 use Rattle.view_lang.specs.Shifts.{NumberedRows, row_at, with_at}
 use Rattle.view_lang.specs.declared.view.OrderBy.{OrderBy}
-use Rattle.top_rows.specs.Keeping.{Keeps, has_sort_keys}
+use Rattle.top_rows.specs.Keeping.{Keeps}
 use Rattle.top_rows.specs.OrderedPlaces.{OrderedPlaces}
-use Rattle.top_rows.specs.SortKeys.{sort_keys_of}
-use Rattle.top_rows.specs.PlaceOrder.{RowPlace, sort_key_cmp}
+use Rattle.top_rows.specs.PlaceOrder.{RowPlace}
 use Rattle.top_rows.specs.Places.{is_place_of, stands}
+use Rattle.top_rows.specs.Ties.{KeepsBy, named}
+use Rattle.top_rows.proofs.Ties.{keeps-same, keeps-with, keeps-without, set_at}
 
-and_true : (a : Bool) → (a && true) ≡ a
-and_true true = refl
-and_true false = refl
+abbrev at : NumberedRows → ℕ → Option (List Datum)
+at rows n = named nat_cmp rows n
 
-and_false : (a : Bool) → (a && false) ≡ false
-and_false true = refl
-and_false false = refl
+abbrev set_row : ℕ → Option (List Datum) → (ℕ → Option (List Datum)) → ℕ → Option (List Datum)
+set_row = set_at nat_cmp nat_cmp_total exact_unsigned
 
-module _ (order : List OrderBy) (n : ℕ) (p : RowPlace) where
-  -- at the row's own number the sort keys decide, at others nothing stands
-  some-by : (a : Option (List Datum)) (b : Bool) → is_at (nat_cmp n) p.1 ≡ b
-      → is_place_of order n a p ≡ (has_sort_keys order p.0 a && b)
-  some-by None b h = refl
-  some-by (Some row) b h =
-      sym (tied_then (slice_cmp sort_key_cmp (sort_keys_of order row) p.0) (nat_cmp n p.1))
-      ∙ ap (λ c. is_at (slice_cmp sort_key_cmp (sort_keys_of order row)) p.0 && c) h
+-- where the row of a number was taken away there is none
+none-at : (n : ℕ) (rows : NumberedRows) → set_row n None (at rows) n ≡ None
+none-at n rows = ap (λ (r : Ordering). cond (is_eq r) None (at rows n)) (tied_itself nat_cmp_total n)
 
-  pub some-here : (a : Option (List Datum)) → is_at (nat_cmp n) p.1 ≡ true
-      → is_place_of order n a p ≡ has_sort_keys order p.0 a
-  some-here a h = some-by a true h ∙ and_true (has_sort_keys order p.0 a)
+set-twice : (n m : ℕ) (a : Option (List Datum)) (rows : NumberedRows) → IsStrictlySortedBy nat_cmp (keys_of rows)
+    → set_row n a (set_row n None (at rows)) m ≡ at (with_at n a rows) m
+set-twice n m a rows s = either (is_at (nat_cmp n) m) ∙ sym (lookup-with_at n m a rows s)
+  where
+    either : (b : Bool) → cond b a (cond b None (at rows m)) ≡ cond b a (at rows m)
+    either true = refl
+    either false = refl
 
-  pub some-there : (a : Option (List Datum)) → is_at (nat_cmp n) p.1 ≡ false → is_place_of order n a p ≡ false
-  some-there a h = some-by a false h ∙ and_false (has_sort_keys order p.0 a)
-
-  own : (x y : Bool) → cond x true (cond y false y) ≡ x
-  own true y = refl
-  own false true = refl
-  own false false = refl
-
-  -- first the row before is taken away, then that after it put in
-  abbrev pub moved : Option (List Datum) → Option (List Datum) → Bool → Bool
-  moved before after b = cond (is_place_of order n after p) true (cond (is_place_of order n before p) false b)
-
-  module _ (before after : Option (List Datum)) (rows : NumberedRows)
-      (s : IsStrictlySortedBy nat_cmp (keys_of rows)) (is : row_at n rows ≡ before) where
-    one-by : (b : Bool) → is_at (nat_cmp n) p.1 ≡ b
-        → moved before after (has_sort_keys order p.0 (row_at p.1 rows))
-        ≡ has_sort_keys order p.0 (cond b after (row_at p.1 rows))
-    one-by true h =
-        let same : n ≡ p.1 = exact_unsigned n p.1 ((Equal-is (nat_cmp n p.1)).0 h) in
-        let there : row_at p.1 rows ≡ before = subst (λ (m : ℕ). row_at m rows ≡ before) same is in
-        rw (some-here after h, some-here before h, there)
-        (own (has_sort_keys order p.0 after) (has_sort_keys order p.0 before))
-    one-by false h = rw (some-there after h, some-there before h) refl
-
-    pub one : moved before after (has_sort_keys order p.0 (row_at p.1 rows))
-        ≡ has_sort_keys order p.0 (row_at p.1 (with_at n after rows))
-    one = one-by (is_at (nat_cmp n) p.1) refl ∙ ap (has_sort_keys order p.0) (sym (lookup-with_at n p.1 after rows s))
-
+-- The row before is taken away, and that after it put in.
 pub keeps-one : (old mid new : OrderedPlaces) (n : ℕ) (before after : Option (List Datum)) (rows : NumberedRows)
     → mid.order ≡ old.order → new.order ≡ mid.order
     → ((p : RowPlace) → stands mid.places p ≡ cond (is_place_of old.order n before p) false (stands old.places p))
     → ((p : RowPlace) → stands new.places p ≡ cond (is_place_of mid.order n after p) true (stands mid.places p))
     → IsStrictlySortedBy nat_cmp (keys_of rows) → row_at n rows ≡ before → Keeps old rows
     → Keeps new (with_at n after rows)
-keeps-one old mid new n before after rows c d f g s is k = record {
-  places_are = λ p.
-      g p
-      ∙ ap (λ o. cond (is_place_of o n after p) true (stands mid.places p)) c
-      ∙ ap (λ b. cond (is_place_of old.order n after p) true b)
-      (f p ∙ ap (λ b. cond (is_place_of old.order n before p) false b) (k.places_are p))
-      ∙ one old.order n p before after rows s is
-      ∙ ap (λ o. has_sort_keys o p.0 (row_at p.1 (with_at n after rows))) (sym (d ∙ c));
-}
+keeps-one old mid new n before after rows c d f g s is k =
+    let gone : KeepsBy nat_cmp old.order mid.places (set_row n None (at rows)) =
+    keeps-without nat_cmp nat_cmp_total exact_unsigned old.order old.places mid.places (at rows) n before k false is f in
+    let come : KeepsBy nat_cmp old.order new.places (set_row n after (set_row n None (at rows))) =
+    keeps-with nat_cmp nat_cmp_total exact_unsigned old.order mid.places new.places (set_row n None (at rows)) n
+    after gone false (none-at n rows)
+    (λ p. g p ∙ ap (λ (o : List OrderBy). cond (is_place_of o n after p) true (stands mid.places p)) c) in
+    subst (λ (o : List OrderBy). KeepsBy nat_cmp o new.places (at (with_at n after rows))) (sym (d ∙ c))
+    (keeps-same nat_cmp nat_cmp_total exact_unsigned old.order new.places
+    (set_row n after (set_row n None (at rows))) (at (with_at n after rows))
+    (λ m. set-twice n m after rows s) come)

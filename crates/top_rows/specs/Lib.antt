@@ -1,8 +1,9 @@
-pub mod Keeping
-pub mod OrderParts
 pub mod OrderedPlaces
 pub mod SortKeys
 pub mod PlaceOrder
+pub mod Ties
 pub mod Places
+pub mod Keeping
+pub mod OrderParts
 pub mod SortedPlaces
 pub mod ViewOrder

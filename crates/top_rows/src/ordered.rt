@@ -17,7 +17,7 @@ use std::alloc::{AllocError, Global};
 use std::collections::BTreeSet;
 use std::marker::Model;
 use values::Value;
-use view_lang::{Change, OrderBy, RowChange, Upkeep, keeping_law};
+use view_lang::{Change, OrderBy, RowChange, Upkeep};
 
 /// The numbers of rows, sorted by some of the rows' columns. Rows that tie are in the order of their numbers.
 #[derive(Debug, Drop)]
@@ -171,7 +171,6 @@ impl Ordered {
         ensures { IfOk result (λ numbers.
             (rows : NumberedRows) → IsKeptFor self.now rows → AreFirst self.now.order most rows numbers.items) }
     {
-        keeping_law();
         let numbers = self.first(alloc, most)?;
         Ok(numbers)
     }

@@ -20,7 +20,7 @@ pub enum SortKey {
 
 impl SortKey {
     /// The sort key of a row for one column of an order.
-    pub(crate) fn of(alloc: Global, row: &[Value], by: &OrderBy) -> Result<SortKey, AllocError>
+    pub fn of(alloc: Global, row: &[Value], by: &OrderBy) -> Result<SortKey, AllocError>
         ensures { IfOk result (λ key. key ≡ sort_key_of by.now.direction (cell_at row.now by.now.column)) }
     {
         let Some(value) = row.get(by.column) else {

@@ -49,12 +49,6 @@ pub others_same : (stores : List Store) (n : ℕ) (t : Store) → n < length sto
 others_same stores n t below =
     rows_set stores n t ∙ ap (slice_set (rows_in stores) n) (sym (rows_now stores n t below))
 
-pub batch_there : (stores : List Store) (role : Role) (columns : List CheckedColumn) (rows n : ℕ) (s : Store)
-    → s ≡ get_or stores n s → n < length stores → IsBatch (columns_by role (table_at (tables_in stores) n)) columns rows
-    → IsBatch (columns_by role s.table) columns rows
-batch_there stores role columns rows n s is below batch =
-    subst (λ (t : Table). IsBatch (columns_by role t) columns rows) (table_there stores n s is below) batch
-
 pub store_makes :
     (stores : List Store) (n : ℕ) (s t : Store) (e : TableEdit) (answer : Result TableChange EditFault)
     → s ≡ get_or stores n s → n < length stores → Makes s.table e s.slots t.slots answer
@@ -76,15 +70,6 @@ store_can_go_back stores n s change is below can =
     let Q : List Slot → Type 0 = λ ss. CanGoBack s.table change ss in
     subst Q (rows_there stores n s is below) (subst P (table_there stores n s is below) can)
 
-pub store_back :
-    (stores : List Store) (n : ℕ) (s t : Store) (change : TableChange) → s ≡ get_or stores n s → n < length stores
-    → t ≡ with_slots s (back change s.slots)
-    → rows_in (slice_set stores n t) ≡ slice_set (rows_in stores) n (back change (rows_at (rows_in stores) n))
-store_back stores n s t change is below done =
-    rows_set stores n t
-    ∙ ap (slice_set (rows_in stores) n)
-    (ap (λ (x : Store). x.slots) done ∙ ap (back change) (sym (rows_there stores n s is below)))
-
 -- tables that stay, and views of them
 pub still_of : (old new : List Store) (views : List View) → tables_in new ≡ tables_in old → AreOf old views
     → AreOf new views
@@ -104,8 +89,3 @@ pub view_there : (stores : List Store) (views : List View) (k : ℕ) (v : View) 
     → v ≡ get_or views k v → IsView (tables_in stores) v
 view_there stores views k v are below is =
     subst (IsView (tables_in stores)) (sym is) (All-get_or (IsView (tables_in stores)) views k v below are.of_these)
-
-pub is_view_at : (views : List View) (k : ℕ) (v : View) → k < length views → v ≡ get_or views k v → v ≡ view_at views k
-is_view_at [] k v below is = absurd (omega (arith, below))
-is_view_at (w ∷ ws) zero v below is = is
-is_view_at (w ∷ ws) (suc k) v below is = is_view_at ws k v (omega (arith, below)) is

@@ -43,11 +43,6 @@ abbrev pub AreFollowed : List Table → Rows → NumberedRows → NumberedRows �
 AreFollowed tables rows before after n views states =
     Mixed (With tables rows after) (With tables rows before) n views states
 
-pub none_followed :
-    (tables : List Table) (rows : Rows) (before after : NumberedRows) (views : List View) (states : List ViewState)
-    → EachIsCurrent tables rows before views states → AreFollowed tables rows before after 0 views states
-none_followed tables rows before after views states each = each_current tables rows before views states each
-
 pub all_followed :
     (tables : List Table) (rows : Rows) (before after : NumberedRows) (n : ℕ) (views : List View)
     (states : List ViewState) → AreFollowed tables rows before after n views states → length views ≤ n

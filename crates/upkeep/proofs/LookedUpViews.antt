@@ -112,19 +112,6 @@ current_before tables n old new v s side differs apart current =
     (subst (λ (a : Side). IsCurrent v a s (numbered (rows_at new 0)))
     (sym (sides_same tables v.lookup n old new differs apart)) current)
 
-not_looked_up : (stale looks : Bool) → not stale && looks ≡ false → stale ≡ false → looks ≡ false
-not_looked_up true looks apart fresh = absurd (true≢false fresh)
-not_looked_up false looks apart fresh = apart
-
--- a view that is stale or doesn't look the table up
-pub current_left :
-    (tables : List Table) (n : ℕ) (old new : Rows) (v : View) (s : ViewState) → 0 < n
-    → not s.stale && looks_up v.lookup n ≡ false → DiffersAt n old new → IsCurrentWith tables old v s
-    → IsCurrentWith tables new v s
-current_left tables n old new v s side apart differs current = λ fresh.
-    current_after tables n old new v s side differs (not_looked_up s.stale (looks_up v.lookup n) apart fresh) current
-    fresh
-
 -- each view
 
 pub each_current :
@@ -193,11 +180,6 @@ stale_flagged n [] ss = refl
 stale_flagged n (v ∷ vs) [] = refl
 stale_flagged n (v ∷ vs) (s ∷ ss) = ap (λ bs. (s.stale || looks_up v.lookup n) ∷ bs) (stale_flagged n vs ss)
 
-pub stale_alike : (n : ℕ) (views : List View) (ss ts : List ViewState) → stale_in ss ≡ stale_in ts
-    → stale_in (lookups_stale n views ss) ≡ stale_in (lookups_stale n views ts)
-stale_alike n views ss ts alike =
-    stale_flagged n views ss ∙ ap (flagged n views) alike ∙ sym (stale_flagged n views ts)
-
 -- A view that looks the table up counts as stale whatever was made of it.
 flagged_set : (n : ℕ) (views : List View) (bs : List Bool) (i : ℕ) (v : View) (b : Bool) → v ≡ get_or views i v
     → i < length views → looks_up v.lookup n ≡ true → flagged n views (slice_set bs i b) ≡ flagged n views bs
@@ -252,11 +234,6 @@ marked_each tables n rows live (v ∷ vs) (s ∷ ss) each = (
 -- those before place i are current with the new rows, and the others with the old ones
 abbrev pub AreFollowing : List Table → Rows → Rows → ℕ → List View → List ViewState → Type 0
 AreFollowing tables old new i views states = Mixed (IsCurrentWith tables new) (IsCurrentWith tables old) i views states
-
-pub none_following : (tables : List Table) (old new : Rows) (views : List View) (states : List ViewState)
-    → AreCurrent tables old views states → AreFollowing tables old new 0 views states
-none_following tables old new views states current =
-    each_current tables old (numbered (rows_at old 0)) views states current
 
 pub next_following :
     (tables : List Table) (old new : Rows) (i : ℕ) (views : List View) (states : List ViewState) (v : View)

@@ -31,7 +31,7 @@ use Rattle.std.proofs.Common.{
   ◌∙◌,
   arith,
 }
-use Rattle.std.specs.Prelude.{Vec}
+use Rattle.std.specs.Prelude.{Vec, filter}
 use Rattle.std.specs.declared.alloc.Global.{Global}
 use Rattle.std.specs.List.{AllByRecursion, cons_option}
 use Rattle.std.specs.Map.{values_of}
@@ -42,6 +42,7 @@ use Rattle.values.specs.Datum.{Datum}
 use Rattle.values.specs.Limits.{max_main_rows}
 use Rattle.view_lang.specs.Cells.{rows_of}
 use Rattle.view_lang.specs.Config.{Table, View}
+use Rattle.view_lang.specs.Filter.{Filter}
 use Rattle.view_lang.specs.Groups.{group_rows}
 use Rattle.view_lang.specs.Images.{ImageAt, ImageFits, ImageValues, image}
 use Rattle.view_lang.specs.Joined.{Side}
@@ -51,11 +52,11 @@ use Rattle.view_lang.specs.RowOrder.{row_cmp}
 use Rattle.view_lang.specs.Shifts.{NumberedRows, row_at}
 use Rattle.view_lang.specs.Sorted.{sorted}
 use Rattle.view_lang.specs.Sums.{CanSum}
+use Rattle.view_lang.specs.Truth.{passes}
 use Rattle.view_lang.specs.ViewLaws.{KeptOneByOne, ShownOneByOne}
 use Rattle.view_lang.specs.Views.{first_of, kept_row, output_rows, shown_row, shown_rows, view_input, view_rows}
 use Rattle.view_lang.specs.declared.view.OrderBy.{OrderBy}
-use Rattle.group_state.specs.Grouped.{Grouped}
-use Rattle.group_state.specs.Groups.{Keeps as KeepsGroups}
+use Rattle.group_order.specs.Ranked.{Keeps as KeepsRanked, Ranked, Ranking, ranked_rows, ranking_by}
 use Rattle.group_state.specs.Reading.{CanReadAll}
 use Rattle.top_rows.specs.Keeping.{Keeps as KeepsOrder}
 use Rattle.top_rows.specs.OrderedPlaces.{OrderedPlaces}
@@ -68,9 +69,8 @@ use Rattle.upkeep.specs.Inputs.{listed, side_by}
 use Rattle.upkeep.specs.Stores.{rows_at, rows_in, tables_in}
 use Rattle.upkeep.specs.Reading.{
   AreShown,
-  CanReadGroups,
   FirstsAreShown,
-  GroupsAreOfInput,
+  GroupsAreShown,
   IsReadable,
   made_at,
 }
@@ -96,14 +96,14 @@ pub record Laws : Type 0 where
 
 abbrev made_rows : Outputs → List (List Datum) → List (List Datum)
 made_rows (columns outputs) rows = map (shown_row outputs) rows
-made_rows (groups by outputs) rows = rows
+made_rows (groups by outputs having) rows = rows
 
 module _ (laws : Laws) where
   made_each :
       (os : Outputs) (v : View) (side : Side) (rows : List (List Datum))
       → filter_map (λ row. made_by os (kept_row v side row)) rows ≡ made_rows os (view_input v side rows)
   made_each (columns outputs) v side rows = laws.shown v outputs side rows
-  made_each (groups by outputs) v side rows = laws.kept v side rows
+  made_each (groups by outputs having) v side rows = laws.kept v side rows
 
   made_values :
       (os : Outputs) (v : View) (side : Side) (slots : List Slot)
@@ -112,25 +112,6 @@ module _ (laws : Laws) where
   made_values os v side slots =
       let make : List Datum → Option (List Datum) = λ row. made_by os (kept_row v side row) in
       laws.values make (numbered slots) ∙ ap (filter_map make) (laws.live slots) ∙ made_each os v side (live slots)
-
-  -- Groups
-
-  readable_by :
-      (tables : List Table) (v : View) (side : Side) (slots : List Slot) (os : Outputs) (order : List OrderBy)
-      (g : Grouped) → v.outputs ≡ os → Viewed tables v side (live slots)
-      → IsKept os order (kept.Groups g) (image (λ row. made_by os (kept_row v side row)) (numbered slots))
-      → CanReadGroups os g (view_input v side (live slots))
-  readable_by tables v side slots (columns outputs) order g same is k = absurd k
-  readable_by tables v side slots (groups by outputs) order g same is k =
-      let rows : List (List Datum) = view_input v side (live slots) in (
-        k.0,
-        subst (KeepsGroups g) (made_values (groups by outputs) v side slots) k.2,
-        record {
-          kept = k.1;
-          sums = subst (λ o. CanSum o rows) same (laws.sums tables v side (live slots) is);
-          keys = laws.keys tables v by outputs side (live slots) is same;
-        },
-      )
 
 -- Rows by number
 
@@ -203,7 +184,7 @@ module _ (laws : Laws) where
     outputs = made_values laws (columns outputs) v side slots
         ∙ ap (λ x. output_rows x (view_input v side (live slots))) (sym same);
   }
-  plain_by v side slots (groups by outputs) o same k = absurd k
+  plain_by v side slots (groups by outputs having) o same k = absurd k
 
   module _ (tables : List Table) (v : View) (side : Side) (slots : List Slot) (o : OrderedPlaces)
       (is : Viewed tables v side (live slots))
@@ -255,9 +236,42 @@ module _ (laws : Laws) where
         (λ n. made_row v side (row_of slots n)) (λ n. n < length slots) made_there numbers
         (view_rows v side (live slots)) (first ∙ ap (map Some) (shown_first most asked))
 
-pub groups_are_of_input : Laws → GroupsAreOfInput
-groups_are_of_input laws tables v side slots g is =
-    readable_by laws tables v side slots v.outputs v.order g refl is.viewed is.kept
+module _ (laws : Laws) where
+  groups_by :
+      (tables : List Table) (v : View) (side : Side) (slots : List Slot) (os : Outputs) (g : Ranked)
+      (made : List (List Datum)) → v.outputs ≡ os → Viewed tables v side (live slots)
+      → IsKept os v.order (kept.Groups g) (image (λ row. made_by os (kept_row v side row)) (numbered slots))
+      → ((rows : List (List Datum)) → KeepsRanked g rows
+      → CanReadAll g.groups.keys g.groups.columns g.ranking.outputs rows
+      → made ≡ take (unwrap_or v.first max_main_rows) (ranked_rows g.groups.keys g.ranking rows))
+      → made ≡ view_rows v side (live slots)
+  unfolding view_rows shown_rows output_rows
+  groups_by tables v side slots (columns outputs) g made same is k read = absurd k
+  groups_by tables v side slots (groups by outputs having) g made same is k read =
+      let rows : List (List Datum) = view_input v side (live slots) in
+      let most : ℕ = unwrap_or v.first max_main_rows in
+      let r : Ranking = ranking_by outputs having v.order in
+      let kept_rows : KeepsRanked g rows =
+      subst (KeepsRanked g) (made_values laws (groups by outputs having) v side slots) k.3 in
+      let can : CanReadAll by g.groups.columns outputs rows =
+      record {
+        kept = k.1;
+        sums = subst (λ o. CanSum o rows) same (laws.sums tables v side (live slots) is);
+        keys = laws.keys tables v by outputs having side (live slots) is same;
+      } in
+      let all : CanReadAll g.groups.keys g.groups.columns g.ranking.outputs rows =
+      subst (λ ks. CanReadAll ks g.groups.columns g.ranking.outputs rows) (sym k.0)
+      (subst (λ (x : Ranking). CanReadAll by g.groups.columns x.outputs rows) (sym k.2) can) in
+      read rows kept_rows all
+      ∙ ap (λ x. take most (ranked_rows g.groups.keys x rows)) k.2
+      ∙ ap (λ ks. take most (ranked_rows ks r rows)) k.0
+      ∙ ap (λ o. take most (sorted (row_cmp v.order) (output_rows o rows))) (sym same)
+      ∙ first_taken v.first most (sorted (row_cmp v.order) (output_rows v.outputs rows)) refl
+      (laws.few tables v side (live slots) is)
+
+pub groups_are_shown : Laws → GroupsAreShown
+groups_are_shown laws tables v side slots g made is read =
+    groups_by laws tables v side slots v.outputs g made refl is.viewed is.kept read
 
 pub firsts_are_shown : Laws → FirstsAreShown
 firsts_are_shown laws tables v side slots o numbers is first =
@@ -276,12 +290,6 @@ firsts_asked law v o most numbers asked first tables side slots is =
     law tables v side slots o numbers is
     (λ k. subst (λ m. AreFirst o.order m (image (made_row v side) (numbered slots)) numbers) asked
     (first (image (made_row v side) (numbered slots)) k))
-
-pub rows_counted :
-    (made : List (Vec Datum Global)) (shown : List (List Datum)) (now old n : ℕ) → rows_of made ≡ shown
-    → n ≡ length shown → now ≤ old + n → now ≤ old + length made
-rows_counted made shown now old n is many opened =
-    omega (arith, opened, many, ap length is, length-map made (λ (r : Vec Datum Global). r.items))
 
 -- Rows made one after the other
 
@@ -311,23 +319,3 @@ made_more stores now v numbers i before after made tables rows below so_far here
     ∙ ap (λ xs. filter_map make (take i numbers) ++ xs) (one_listed made ∙ ap (λ o. cons_option o []) one)
     ∙ sym (filter_map-append make (take i numbers) (n ∷ []))
     ∙ ap (filter_map make) (sym (take_more numbers i 0 below))
-
--- Group rows arranged
-
-pub groups_shown :
-    (law : GroupsAreOfInput) (v : View) (g : Grouped) (by : List ℕ) (outs : List GroupOutput)
-    (made : List (List Datum)) → v.outputs ≡ groups by outs
-    → ((rows : List (List Datum)) → KeepsGroups g rows → CanReadAll g.keys g.columns outs rows
-    → made ≡ group_rows g.keys outs rows)
-    → (tables : List Table) (side : Side) (slots : List Slot) → IsReadable tables v side slots (kept.Groups g)
-    → first_of v.first (sorted (row_cmp v.order) made) ≡ view_rows v side (live slots)
-unfolding view_rows shown_rows output_rows
-groups_shown law v g by outs made same read tables side slots is =
-    let rows : List (List Datum) = view_input v side (live slots) in
-    let can : CanReadGroups (groups by outs) g rows =
-    subst (λ o. CanReadGroups o g rows) same (law tables v side slots g is) in
-    let all : CanReadAll g.keys g.columns outs rows =
-    subst (λ ks. CanReadAll ks g.columns outs rows) (sym can.0) can.2 in
-    let arranged : List (List Datum) → List (List Datum) = λ xs. first_of v.first (sorted (row_cmp v.order) xs) in
-    ap arranged (read rows can.1 all ∙ ap (λ ks. group_rows ks outs rows) can.0)
-    ∙ ap (λ o. arranged (output_rows o rows)) (sym same)

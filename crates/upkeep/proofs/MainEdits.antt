@@ -102,12 +102,6 @@ live_unchanged stores views states s t is same slots are =
     live_set stores s t views states is same are.these
     (subst P (sym slots) (current_there stores views states s is are))
 
-pub rows_unchanged :
-    (stores : List Store) (s t : Store) → s ≡ get_or stores 0 s → 0 < length stores → t.slots ≡ s.slots
-    → rows_in (slice_set stores 0 t) ≡ rows_in stores
-rows_unchanged stores s t is main slots =
-    rows_set stores 0 t ∙ rows_kept (rows_in stores) 0 t.slots (slots ∙ sym (rows_there stores 0 s is main))
-
 -- New rows come.
 
 pub new_needs :
@@ -220,35 +214,7 @@ edit_refused old now views a b e f tables rows stale visits refuses = record {
   visits = still_visits f 0 (parts old views a) (parts now views b) visits;
 }
 
-pub edit_unremembered :
-    (old now : List Store) (views : List View) (a b : List Bool) (e : TableEdit) → tables_in now ≡ tables_in old
-    → rows_in now ≡ rows_in old → Edited 0 e (parts old views a) (parts now views b) (Err fault.Memory)
-edit_unremembered old now views a b e tables rows = record {
-  makes = (tt, ap (λ (rs : Rows). rows_at rs 0) rows);
-  kind = tt;
-  within = within_same old now views a b tables rows;
-  stale = tt;
-  visits = tt;
-}
-
 -- what was taken back again
-
-set_again : (rows : Rows) (new last : List Slot) → last ≡ rows_at rows 0
-    → slice_set (slice_set rows 0 new) 0 last ≡ rows
-set_again [] new last is = refl
-set_again (r ∷ rs) new last is = ap (λ (x : List Slot). x ∷ rs) is
-
-pub rows_again :
-    (stores mid : List Store) (s t u v : Store) (f : List Slot → List Slot) → s ≡ get_or stores 0 s
-    → 0 < length stores → rows_in mid ≡ rows_in (slice_set stores 0 t) → u ≡ get_or mid 0 u → 0 < length mid
-    → v ≡ with_slots u (f u.slots) → f t.slots ≡ s.slots → rows_in (slice_set mid 0 v) ≡ rows_in stores
-rows_again stores mid s t u v f is main rows there below done back_is =
-    let held : u.slots ≡ t.slots =
-    sym (rows_there mid 0 u there below) ∙ ap (λ (rs : Rows). rows_at rs 0) rows ∙ rows_now stores 0 t main in
-    let slots : v.slots ≡ rows_at (rows_in stores) 0 =
-    ap (λ (x : Store). x.slots) done ∙ ap f held ∙ back_is ∙ sym (rows_there stores 0 s is main) in
-    rows_set mid 0 v ∙ ap (λ (rs : Rows). slice_set rs 0 v.slots) (rows ∙ rows_set stores 0 t)
-    ∙ set_again (rows_in stores) t.slots v.slots slots
 
 pub new_there :
     (stores : List Store) (s t : Store) (rows : List (List Datum)) (n : ℕ) → 0 < length stores
@@ -266,22 +232,6 @@ live_anyhow stores mid views vs states u v same are tables is table any =
     live_set mid u v views states is table (still_of stores mid views tables are)
     (subst (λ (ws : List View). EachIsCurrent (tables_in mid) (rows_in mid) (numbered v.slots) ws states) same
     (any (tables_in mid) (rows_in mid) (numbered v.slots)))
-
-pub still_anyhow :
-    (stores mid : List Store) (views vs : List View) (states : List ViewState) → vs ≡ views
-    → AreOf stores views → tables_in mid ≡ tables_in stores
-    → ((tables : List Table) (rows : Rows) (now : NumberedRows) → EachIsCurrent tables rows now vs states)
-    → AreLive mid views states
-still_anyhow stores mid views vs states same are tables any = record {
-  these = still_of stores mid views tables are;
-  current =
-      subst (λ (ws : List View). EachIsCurrent (tables_in mid) (rows_in mid) (numbered (rows_at (rows_in mid) 0)) ws
-      states) same (any (tables_in mid) (rows_in mid) (numbered (rows_at (rows_in mid) 0)));
-}
-
-pub main_of : (stores mid : List Store) (views : List View) → AreOf stores views → tables_in mid ≡ tables_in stores
-    → 0 < length mid
-main_of stores mid views are tables = (still_of stores mid views tables are).main
 
 -- Rows go or come back before their store is changed.
 
@@ -419,17 +369,6 @@ retract_live go_law stores mid views vs states now s u v ns named again same are
     there_live stores mid views vs states now s u v (λ (ss : List Slot). turned turn.Go ss named)
     (λ (ss : List Slot). retracted named ss) same are is (go_law named s.slots can_named) kept tables rows there
     (done ∙ ap (λ (ms : List ℕ). with_slots u (retracted ms u.slots)) (other ∙ sym name))
-
--- stores with the same tables and rows
-pub store_same :
-    (stores mid : List Store) (s u : Store) → s ≡ get_or stores 0 s → u ≡ get_or mid 0 u
-    → 0 < length stores → 0 < length mid → tables_in mid ≡ tables_in stores → rows_in mid ≡ rows_in stores
-    → (u.table ≡ s.table) × (u.slots ≡ s.slots)
-store_same stores mid s u is there main below tables rows = (
-  sym (table_there mid 0 u there below) ∙ ap (λ (ts : List Table). table_at ts 0) tables
-      ∙ table_there stores 0 s is main,
-  sym (rows_there mid 0 u there below) ∙ ap (λ (rs : Rows). rows_at rs 0) rows ∙ rows_there stores 0 s is main,
-)
 
 -- Retracted rows that come back.
 

@@ -162,15 +162,6 @@ opened_live ss ss' views states states' n s t u c changed opened same made was =
           after);
     }
 
-pub opened_rows :
-    (ss ss' : List Store) (n : ℕ) (s t : Store) (f : List Slot → List Slot) → Changed ss n s t
-    → Opened (slice_set ss n t) ss' → t ≡ with_slots s (f s.slots)
-    → rows_in ss' ≡ slice_set (rows_in ss) n (f (rows_at (rows_in ss) n))
-opened_rows ss ss' n s t f changed opened done =
-    opened.rows ∙ rows_set ss n t
-    ∙ ap (slice_set (rows_in ss) n)
-    (ap (λ (x : Store). x.slots) done ∙ ap f (sym (rows_there ss n s changed.is changed.below)))
-
 pub opened_tables :
     (ss ss' : List Store) (n : ℕ) (s t : Store) → Changed ss n s t → Opened (slice_set ss n t) ss'
     → tables_in ss' ≡ tables_in ss

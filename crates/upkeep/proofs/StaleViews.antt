@@ -59,9 +59,6 @@ pub stale_more : (i : ℕ) (ss : List ViewState) (s : ViewState) → All IsStale
 stale_more i ss s so_far below stale =
     subst (λ n. All IsStale (take n (slice_set ss i s))) (sym (add-one i)) (marked_more i ss s so_far below stale)
 
-pub all_stale : (i : ℕ) (ss : List ViewState) → All IsStale (take i ss) → length ss ≤ i → All (λ s. s.stale ≡ true) ss
-all_stale i ss so_far all = subst (All IsStale) (take_all i ss all) so_far
-
 -- counted
 
 pub counted : (ss : List ViewState) → count_by (λ (b : Bool). b) (stale_in ss) ≡ count_by (λ (s : ViewState). s.stale)

@@ -42,7 +42,15 @@ abbrev pub store_at : List Store → ℕ → Store
 store_at stores n = get_or stores n no_store
 
 abbrev pub no_view : View
-no_view = record { name = []; lookup = None; filter = None; outputs = columns []; order = []; first = None }
+no_view = record {
+  name = [];
+  lookup = None;
+  filter = None;
+  outputs = columns [];
+  order = [];
+  first = None;
+  coded_outputs = [];
+}
 
 abbrev pub view_at : List View → ℕ → View
 view_at views n = get_or views n no_view

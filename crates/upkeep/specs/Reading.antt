@@ -1,5 +1,5 @@
 -- What a view shows, read out of what is kept of it.
-use Rattle.std.specs.Prelude.{◌≡◌, ℕ, ◌<◌, All, List, length}
+use Rattle.std.specs.Prelude.{◌≡◌, ℕ, ◌<◌, All, List, length, take}
 use Rattle.std.specs.List.{filter_map}
 use Rattle.std.specs.Option.{unwrap_or}
 use Rattle.values.specs.Datum.{Datum}
@@ -8,10 +8,8 @@ use Rattle.view_lang.specs.Config.{Table, View}
 use Rattle.view_lang.specs.Images.{image}
 use Rattle.view_lang.specs.Joined.{Side}
 use Rattle.view_lang.specs.Laws.{Viewed}
-use Rattle.view_lang.specs.Outputs.{Outputs, columns, groups}
-use Rattle.view_lang.specs.Views.{view_input, view_rows}
-use Rattle.group_state.specs.Grouped.{Grouped}
-use Rattle.group_state.specs.Groups.{Keeps as KeepsGroups}
+use Rattle.view_lang.specs.Views.{view_rows}
+use Rattle.group_order.specs.Ranked.{Keeps as KeepsRanked, Ranked, ranked_rows}
 use Rattle.group_state.specs.Reading.{CanReadAll}
 use Rattle.top_rows.specs.OrderedPlaces.{OrderedPlaces}
 use Rattle.top_rows.specs.ViewOrder.{AreFirst, IsKeptFor}
@@ -30,21 +28,15 @@ pub record IsReadable (tables : List Table) (v : View) (side : Side) (slots : Li
   pub viewed : Viewed tables v side (live slots)
   pub kept : IsKept v.outputs v.order k (image (made_row v side) (numbered slots))
 
-abbrev pub IsGrouped : Outputs → Type 0
-IsGrouped (columns outputs) = ⊥
-IsGrouped (groups by outputs) = Unit {0}
-
--- These are the groups of rows, and the outputs can be read of them.
-abbrev pub CanReadGroups : Outputs → Grouped → List (List Datum) → Type 0
-CanReadGroups (columns outputs) g rows = ⊥
-CanReadGroups (groups by outputs) g rows =
-    (g.keys ≡ by) × KeepsGroups g rows × CanReadAll by g.columns outputs rows
-
--- Groups that are kept of a view are those of the rows that it is made of.
-abbrev pub GroupsAreOfInput : Type 0
-GroupsAreOfInput =
-    (tables : List Table) (v : View) (side : Side) (slots : List Slot) (g : Grouped)
-    → IsReadable tables v side slots (kept.Groups g) → CanReadGroups v.outputs g (view_input v side (live slots))
+-- The first rows of groups that are kept of a view, as many as it asks for, are those that it shows.
+abbrev pub GroupsAreShown : Type 0
+GroupsAreShown =
+    (tables : List Table) (v : View) (side : Side) (slots : List Slot) (g : Ranked) (made : List (List Datum))
+    → IsReadable tables v side slots (kept.Groups g)
+    → ((rows : List (List Datum)) → KeepsRanked g rows
+    → CanReadAll g.groups.keys g.groups.columns g.ranking.outputs rows
+    → made ≡ take (unwrap_or v.first max_main_rows) (ranked_rows g.groups.keys g.ranking rows))
+    → made ≡ view_rows v side (live slots)
 
 -- These are the numbers of the rows that a plain view shows, in their order.
 pub record AreShown (v : View) (side : Side) (slots : List Slot) (numbers : List ℕ) : Type 0 where

@@ -65,7 +65,7 @@ OpensTwice old rows new = visits_in new.stores ≤ visits_in old.stores + 2 * (l
 -- how many rows are opened for a view that shows this number of rows: as many for a plain view, none for groups
 abbrev pub opened_by : Outputs → ℕ → ℕ
 opened_by (columns outputs) shown = shown
-opened_by (groups by outputs) shown = 0
+opened_by (groups by outputs having) shown = 0
 
 abbrev pub opened_of : View → Side → List Slot → ℕ
 opened_of v side slots = opened_by v.outputs (length (view_rows v side (live slots)))

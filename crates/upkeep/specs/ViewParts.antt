@@ -1,5 +1,5 @@
 -- What is kept of views, taken apart.
-use Rattle.group_state.specs.GroupParts.{AreGroups, grouped_with}
+use Rattle.group_order.specs.RankedParts.{AreRanked, ranked_with}
 use Rattle.lookups.specs.ReferrersParts.{rows_with}
 use Rattle.lookups.specs.Refers.{IsOrdered}
 use Rattle.top_rows.specs.OrderParts.{AreAscending, ordered_with}
@@ -12,7 +12,7 @@ use Rattle.upkeep.specs.declared.view_state.ViewState.{ViewState}
 
 abbrev pub kept_with : KeptParts → Kept
 kept_with (parts.Order o) = kept.Order (ordered_with o)
-kept_with (parts.Groups g) = kept.Groups (grouped_with g)
+kept_with (parts.Groups g) = kept.Groups (ranked_with g)
 
 -- what is kept of a view that has these parts
 abbrev pub state_with : ViewParts → ViewState
@@ -21,7 +21,7 @@ state_with p = record { stale = p.stale; kept = kept_with p.kept; referrers = ro
 -- Places ascend, and groups are such as are kept of rows.
 abbrev pub IsKeptParts : KeptParts → Type 0
 IsKeptParts (parts.Order o) = AreAscending o
-IsKeptParts (parts.Groups g) = AreGroups g
+IsKeptParts (parts.Groups g) = AreRanked g
 
 -- Something can be kept that has these parts.
 pub record IsState (p : ViewParts) : Type 0 where

@@ -29,7 +29,7 @@ use Rattle.view_lang.specs.Shifts.{NumberedRows, Shift, shift}
 use Rattle.view_lang.specs.Views.{kept_row, shown_row}
 use Rattle.view_lang.specs.declared.view.Lookup.{Lookup}
 use Rattle.view_lang.specs.declared.view.OrderBy.{OrderBy}
-use Rattle.group_state.specs.Groups.{Keeps as KeepsGroups}
+use Rattle.group_order.specs.Ranked.{Keeps as KeepsRanked, ranking_by}
 use Rattle.group_state.specs.KeptColumns.{IsKept as IsKeptColumn}
 use Rattle.lookups.specs.Keeping.{Keeps as KeepsReferrers}
 use Rattle.top_rows.specs.Keeping.{Keeps as KeepsOrder}
@@ -49,19 +49,22 @@ use Rattle.upkeep.specs.declared.view_state.ViewState.{ViewState}
 -- grouped.
 abbrev pub made_by : Outputs → Option (List Datum) → Option (List Datum)
 made_by (columns outputs) joined = option_map (shown_row outputs) joined
-made_by (groups by outputs) joined = joined
+made_by (groups by outputs having) joined = joined
 
 -- what a view makes of a row of the main table, joined and filtered; `None` where it isn't kept
 abbrev pub made_row : View → Side → List Datum → Option (List Datum)
 made_row v side row = made_by v.outputs (kept_row v side row)
 
--- What is kept is that of these numbered rows: their places in the view's order, or their groups.
+-- What is kept is that of these numbered rows: their places in the view's order, or their groups and the places of the
+-- groups' rows in it.
 abbrev pub IsKept : Outputs → List OrderBy → Kept → NumberedRows → Type 0
 IsKept (columns outputs) order (kept.Order o) rows = (o.order ≡ order) × KeepsOrder o rows
-IsKept (groups by outputs) order (kept.Groups g) rows =
-    (g.keys ≡ by) × All (λ o. IsKeptColumn g.columns o.aggregate) outputs × KeepsGroups g (values_of rows)
+IsKept (groups by outputs having) order (kept.Groups g) rows =
+    (g.groups.keys ≡ by) × All (λ o. IsKeptColumn g.groups.columns o.aggregate) outputs
+    × (g.ranking ≡ ranking_by outputs having order)
+    × KeepsRanked g (values_of rows)
 IsKept (columns outputs) order (kept.Groups g) rows = ⊥
-IsKept (groups by outputs) order (kept.Order o) rows = ⊥
+IsKept (groups by outputs having) order (kept.Order o) rows = ⊥
 
 -- the cell of a row of the main table that is looked up, if the view looks up a table
 abbrev pub referring_by : Option Lookup → List Datum → Option (List Datum)

@@ -1,6 +1,6 @@
 //! The parts of `LiveTables`.
 
-use group_state::GroupsParts;
+use group_order::RankedParts;
 use lookups::ReferrersParts;
 use row_keys::RowStore;
 use top_rows::OrderedParts;
@@ -20,7 +20,7 @@ pub struct ViewParts {
 pub enum KeptParts {
     /// The places of the rows of a plain view in its order.
     Order(OrderedParts),
-    Groups(GroupsParts),
+    Groups(RankedParts),
 }
 
 /// What `LiveTables` are made of. The stores, of which the main table's comes first, alone hold rows.

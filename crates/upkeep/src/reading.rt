@@ -14,8 +14,7 @@ ghost use Rattle.upkeep.specs.Inputs.{side_by};
 ghost use Rattle.upkeep.specs.Reading.{
   AreShown,
   FirstsAreShown,
-  GroupsAreOfInput,
-  IsGrouped,
+  GroupsAreShown,
   IsReadable,
   made_at,
 };
@@ -27,17 +26,17 @@ ghost use Rattle.upkeep.specs.declared.view_state.Kept.TheVariants as kept;
 use crate::follow::make_row;
 use crate::inputs::push_some;
 use crate::view_state::{Kept, ViewState};
-use group_state::Groups;
+use group_order::RankedGroups;
 use row_keys::{RowStore, numbers_law};
 use std::alloc::{AllocError, Global};
 use top_rows::Ordered;
 use values::Row;
 use values::limits::MAX_MAIN_ROWS;
-use view_lang::{Outputs, View, image_law, one_by_one_law, rows_law};
+use view_lang::{View, image_law, one_by_one_law, rows_law};
 
 /// What can be read out of what is kept of a view. It does nothing: its contract is the theorem.
 fn reading_law()
-    ensures groups { GroupsAreOfInput }
+    ensures groups { GroupsAreShown }
     ensures first { FirstsAreShown }
 {
     image_law();
@@ -105,19 +104,14 @@ fn first_rows(
     make_rows(alloc, stores, view, &numbers)
 }
 
-/// The rows that a view of groups shows.
-fn group_rows(alloc: Global, view: &View, groups: &Groups) -> Result<Vec<Row>, AllocError>
-    requires { IsGrouped view.now.outputs }
+/// The rows that a view of groups shows. No other group is read.
+fn group_rows(alloc: Global, view: &View, groups: &RankedGroups) -> Result<Vec<Row>, AllocError>
     ensures { IfOk result (λ rows. (tables : List Table) → (side : Side) → (slots : List Slot)
         → IsReadable tables view.now side slots (kept.Groups groups.now)
         → rows_of rows.items ≡ view_rows view.now side (live slots)) }
 {
     reading_law();
-    let Outputs::Groups { columns, .. } = &view.outputs else {
-        unreachable!();
-    };
-    let made = groups.rows(alloc, columns)?;
-    view.arrange(made)
+    groups.first_rows(alloc, view.first.unwrap_or(MAX_MAIN_ROWS))
 }
 
 /// The rows that a view shows, out of what is kept of it, which isn't stale. A view of groups opens no row.

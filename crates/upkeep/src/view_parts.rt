@@ -5,7 +5,7 @@ ghost use Rattle.upkeep.specs.ViewParts.{IsKeptParts, IsState, kept_with, state_
 
 use crate::parts::{KeptParts, ViewParts};
 use crate::view_state::{Kept, ViewState};
-use group_state::Groups;
+use group_order::RankedGroups;
 use lookups::Referrers;
 use std::alloc::{AllocError, Global};
 use top_rows::Ordered;
@@ -29,7 +29,7 @@ impl Kept {
     {
         match parts {
             KeptParts::Order(order) => Ok(Kept::Order(Ordered::from_parts(alloc, order)?)),
-            KeptParts::Groups(groups) => Ok(Kept::Groups(Groups::from_parts(alloc, groups)?)),
+            KeptParts::Groups(groups) => Ok(Kept::Groups(RankedGroups::from_parts(alloc, groups)?)),
         }
     }
 }

@@ -7,18 +7,19 @@ ghost use Rattle.view_lang.specs.declared.view.OrderBy.{OrderBy};
 ghost use Rattle.lookups.specs.Keeping.{Keeps as KeepsReferrers};
 ghost use Rattle.upkeep.specs.ViewStates.{IsKept};
 
-use group_state::Groups;
+use group_order::{RankedGroups, Ranking};
 use lookups::Referrers;
 use std::alloc::{AllocError, Global};
 use top_rows::Ordered;
 use view_lang::{Change, Outputs, Upkeep, View};
 
-/// What is kept of the rows that a view is made of: their order, or their groups.
+/// What is kept of the rows that a view is made of: their order, or their groups and the order of the groups' rows.
 #[derive(Debug, Drop)]
 pub(crate) enum Kept {
     /// The places of the rows of a plain view in its order.
     Order(Ordered),
-    Groups(Groups),
+    /// The groups of the rows, and the places of the groups' rows in the view's order.
+    Groups(RankedGroups),
 }
 
 /// Whether rows come or go.
@@ -44,7 +45,14 @@ fn kept_of_none(alloc: Global, view: &View) -> Result<Kept, AllocError>
 {
     match &view.outputs {
         Outputs::Columns(_) => Ok(Kept::Order(Ordered::new(alloc, &view.order)?)),
-        Outputs::Groups { by, columns } => Ok(Kept::Groups(Groups::of(alloc, by, columns)?)),
+        Outputs::Groups {
+            by,
+            columns,
+            having,
+        } => {
+            let ranking = Ranking::of(alloc, columns, having, &view.order)?;
+            Ok(Kept::Groups(RankedGroups::new(alloc, by, ranking)?))
+        }
     }
 }
 

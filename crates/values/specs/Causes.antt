@@ -1,5 +1,5 @@
 -- The numbers and names of the causes, as they are printed: 1 to 30 break a stream, 41 to 45 an edit, 51 to 56 a call,
--- and 61 to 69 a configuration.
+-- and 61 to 70 a configuration.
 use Rattle.std.specs.Prelude.{ℕ, List, codes}
 use Rattle.values.specs.declared.causes.Cause.{Cause}
 use Rattle.values.specs.declared.causes.Cause.TheVariants as cause
@@ -56,6 +56,7 @@ printed cause.SumType = (66, codes "SumType")
 printed cause.OrderType = (67, codes "OrderType")
 printed cause.OverLimit = (68, codes "OverLimit")
 printed cause.Shape = (69, codes "Shape")
+printed cause.DictType = (70, codes "DictType")
 
 abbrev pub number_of : Cause → ℕ
 number_of c = (printed c).0

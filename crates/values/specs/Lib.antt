@@ -14,4 +14,5 @@ pub mod ColTypes
 pub mod TypeEquality
 pub mod TypeText
 pub mod Logical
+pub mod Coded
 pub mod Weights

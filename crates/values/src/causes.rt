@@ -67,7 +67,7 @@ pub enum Cause {
     /// The sink failed.
     Device = 56,
 
-    // 61 to 69: a configuration isn't accepted.
+    // 61 to 70: a configuration isn't accepted.
     /// The configuration isn't TOML.
     NotToml = 61,
     /// A column, a side table or an output of this name isn't declared.
@@ -86,6 +86,8 @@ pub enum Cause {
     OverLimit = 68,
     /// The configuration isn't of the right shape.
     Shape = 69,
+    /// An output that isn't a text is to be written with a dictionary.
+    DictType = 70,
 }
 
 impl Cause {
@@ -151,6 +153,7 @@ impl Cause {
             Cause::OrderType => "OrderType",
             Cause::OverLimit => "OverLimit",
             Cause::Shape => "Shape",
+            Cause::DictType => "DictType",
         }
     }
 }

@@ -15,7 +15,7 @@ pub enum StreamFault {
     BadTable,
     /// A field's name isn't UTF-8 or is longer than 4,096 bytes.
     BadName,
-    /// The metadata version isn't V5.
+    /// The metadata version is neither V4 nor V5.
     Version,
     /// The header is neither a Schema nor a DictionaryBatch nor a RecordBatch.
     HeaderKind,

@@ -1,8 +1,8 @@
-//! Copies, order, keys and weights of values of every kind, and types as text.
+//! Copies, order, keys and weights of values of every kind.
 
 use crate::{
     ColType, DateUnit, IntWidth, Key, Kind, Layout, LayoutTree, LogicalField, OffsetWidth, Schema,
-    TimeUnit, Value, Zone, cmp_values, copy_row, row_weight, slot, weight,
+    TimeUnit, Value, cmp_values, copy_row, row_weight, slot, weight,
 };
 use std::alloc::{AllocError, Global};
 use std::cmp::Ordering;
@@ -153,64 +153,6 @@ fn weighs_by_width(rt: HostRuntime) -> Result<(), Fail> {
     assert_eq!(rt; Layout::Bool.own_weight(&text), 2);
     assert_eq!(rt; offsets.bytes(), 8);
     assert_eq!(rt; width.bytes(), 8);
-    Ok(())
-}
-
-#[test]
-fn prints_types(rt: HostRuntime) -> Result<(), Fail> {
-    let alloc = rt.alloc();
-    let (small, large) = (OffsetWidth::Bits32, OffsetWidth::Bits64);
-    let (width, signed) = (IntWidth::Bits16, false);
-    let unit = TimeUnit::Second;
-    let zone = Zone::new(alloc, "UTC")?;
-    let rows = vec![in alloc;
-        (ColType::Bool, "bool"),
-        (ColType::Int { width, signed }, "uint16"),
-        (
-            ColType::Decimal {
-                precision: 38,
-                scale: 2
-            },
-            "decimal[38, 2]"
-        ),
-        (
-            ColType::Date {
-                unit: DateUnit::Millisecond
-            },
-            "date64"
-        ),
-        (
-            ColType::Time {
-                unit: TimeUnit::Millisecond
-            },
-            "time32[ms]"
-        ),
-        (ColType::Timestamp { unit, zone }, "timestamp[s, UTC]"),
-        (
-            ColType::Timestamp {
-                unit,
-                zone: Zone::new(alloc, "")?
-            },
-            "timestamp[s]"
-        ),
-        (
-            ColType::Duration {
-                unit: TimeUnit::Nanosecond
-            },
-            "duration[ns]"
-        ),
-        (ColType::Utf8 { offsets: small }, "utf8"),
-        (ColType::Binary { offsets: large }, "large_binary"),
-        (ColType::FixedSizeBinary { width: 259 }, "fixed[259]"),
-        (ColType::List { offsets: large }, "large_list"),
-        (ColType::Struct, "struct"),
-    ]?;
-    for (col_type, expected) in &rows {
-        let copy = col_type.copy(alloc)?;
-        assert_eq!(rt; &copy, col_type);
-        let text = format!(in alloc; "{copy}")?;
-        assert_eq!(rt; text.as_str(), *expected);
-    }
     Ok(())
 }
 

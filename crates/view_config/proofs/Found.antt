@@ -18,10 +18,12 @@ use Rattle.view_lang.specs.TableRules.{type_of}
 use Rattle.view_lang.specs.ViewColumns.{no_field}
 use Rattle.view_config.specs.Columns.{find, has_order, name_of, ordered}
 use Rattle.view_config.specs.Scope.{Column, Scope, behind, fields_of, main_column, ordered_reference, reference}
-use Rattle.view_config.specs.Scope.{reference_in, side_column}
+use Rattle.view_config.specs.Scope.{reference_by, reference_in, side_column}
 use Rattle.view_config.specs.Sides.{find_side, side_called}
 use Rattle.view_config.specs.Tree.{pair}
 use Rattle.view_config.specs.declared.faults.ConfigFault.TheVariants as fault
+use Rattle.view_config.specs.declared.scope.Rows.{Rows}
+use Rattle.view_config.specs.declared.scope.Rows.TheVariants as rows
 use Rattle.view_config.proofs.Joined.{get-left, get-right}
 use Rattle.view_config.proofs.Readings.{bound, test_Ok, test_Some}
 
@@ -95,13 +97,22 @@ by-at s n c true b e = main-at s n c e
 by-at s n c false true e = behind-at s n c e
 by-at s n c false false e = cc
 
+out-at : (s : Scope) (n : List ℕ) (c : Column) (a : Bool) → (if a then main_column s n else Err (one fault.Shape)) ≡ Ok c
+    → IsAt (fields_of s) c
+out-at s n c true e = main-at s n c e
+out-at s n c false e = cc
+
+word-at : (r : Rows) (s : Scope) (w n : List ℕ) (c : Column) → reference_by r s w n ≡ Ok c → IsAt (fields_of s) c
+word-at rows.Joined s w n c e = by-at s n c (bytes_eq w (codes "main")) (bytes_eq w (codes "side")) e
+word-at rows.Groups s w n c e = out-at s n c (bytes_eq w (codes "out")) e
+
 in-at : (s : Scope) (ds : Items) (c : Column) → reference_in s ds ≡ Ok c → IsAt (fields_of s) c
 unfolding reference_in
 in-at s ds c e =
     bound (must fault.Shape (pair ds)) _ c e (λ parts a e1.
     bound (must fault.Shape (as_str parts.0)) _ c e1 (λ w b e2.
     bound (must fault.Shape (as_str parts.1)) _ c e2 (λ n d e3.
-    by-at s n c (bytes_eq w (codes "main")) (bytes_eq w (codes "side")) e3)))
+    word-at s.rows s w n c e3)))
 
 pub reference-at : (s : Scope) (d : Data) (c : Column) → reference s d ≡ Ok c → IsAt (fields_of s) c
 unfolding reference

@@ -22,5 +22,7 @@ pub mod SoundTables
 pub mod SoundFilters
 pub mod Samples
 pub mod SoundOutputs
+pub mod Ascending
+pub mod SoundDict
 pub mod SoundViews
 pub mod SoundConfig

@@ -1,12 +1,13 @@
 -- The fields of outputs: their sizes and their types.
 use Rattle.std.proofs.Common.{◌≡◌, ℕ, zero, suc, ◌+◌, ◌<◌, ◌≤◌, List, [], ◌∷◌, length, get_or, drop, map, refl, ap, sym}
-use Rattle.std.proofs.Common.{◌∙◌, Some, None, true, slice_get}
+use Rattle.std.proofs.Common.{◌∙◌, Option, Some, None, true, slice_get}
 use Rattle.std.proofs.lemmas.List.{drop_all, drop_more}
 use Rattle.std.proofs.lemmas.Option.{get_or_from_slice_get}
 use Rattle.values.specs.Rose.{Rose, node, kids_of, rose_size, roses_size}
 use Rattle.values.specs.Logical.{NamedType}
 use Rattle.values.specs.declared.col_type.ColType.{ColType}
 use Rattle.values.specs.declared.col_type.ColType.TheVariants as col
+use Rattle.view_lang.specs.Filter.{Filter}
 use Rattle.view_lang.specs.Outputs.{GroupOutput, Output, columns, groups}
 use Rattle.view_lang.specs.TableRules.{type_of}
 use Rattle.view_lang.specs.ViewColumns.{aggregate_field, field_at, no_field, output_field, output_fields, renamed}
@@ -14,6 +15,7 @@ use Rattle.view_lang.specs.ViewColumns.{sum_type}
 use Rattle.view_lang.specs.declared.view.Aggregate.{Aggregate}
 use Rattle.view_lang.specs.declared.view.Aggregate.TheVariants as aggregate
 use Rattle.view_config.specs.Columns.{has_order, name_of}
+use Rattle.view_config.specs.Outputs.{all_groups}
 
 pub renamed-size : (name : List ℕ) (f : Rose NamedType) → rose_size (renamed name f) ≡ rose_size f
 renamed-size name (node f kids) = refl
@@ -43,6 +45,7 @@ aggregate-size fields by name (aggregate.Key k) =
     renamed-size name (field_at fields (get_or by k 0)) ∙ sym (renamed-size [] (field_at fields (get_or by k 0)))
 aggregate-size fields by name aggregate.Count = refl
 aggregate-size fields by name (aggregate.CountOf k) = refl
+aggregate-size fields by name (aggregate.Distinct k) = refl
 aggregate-size fields by name (aggregate.Sum k) = refl
 aggregate-size fields by name (aggregate.Least k) =
     renamed-size name (field_at fields k) ∙ sym (renamed-size [] (field_at fields k))
@@ -56,6 +59,7 @@ aggregate-type fields by name (aggregate.Key k) =
     renamed-type name (field_at fields (get_or by k 0)) ∙ sym (renamed-type [] (field_at fields (get_or by k 0)))
 aggregate-type fields by name aggregate.Count = refl
 aggregate-type fields by name (aggregate.CountOf k) = refl
+aggregate-type fields by name (aggregate.Distinct k) = refl
 aggregate-type fields by name (aggregate.Sum k) = refl
 aggregate-type fields by name (aggregate.Least k) =
     renamed-type name (field_at fields k) ∙ sym (renamed-type [] (field_at fields k))
@@ -99,20 +103,20 @@ outputs-end fields os k past =
 pub groups-step :
     (fields : List (Rose NamedType)) (by : List ℕ) (os : List GroupOutput) (k : ℕ) (o d : GroupOutput)
     → o ≡ get_or os k d → k < length os
-    → roses_size (kids_of (output_fields fields (groups by (drop k os))))
+    → roses_size (kids_of (output_fields fields (all_groups by (drop k os))))
     ≡ rose_size (aggregate_field fields by [] o.aggregate)
-    + roses_size (kids_of (output_fields fields (groups by (drop (k + 1) os))))
+    + roses_size (kids_of (output_fields fields (all_groups by (drop (k + 1) os))))
 groups-step fields by os k o d is below =
-    let rest = output_fields fields (groups by (drop (k + 1) os)) in
+    let rest = output_fields fields (all_groups by (drop (k + 1) os)) in
     let split : drop k os ≡ o ∷ drop (k + 1) os = drop_more os k d below ∙ ap (λ p. p ∷ drop (k + 1) os) (sym is) in
-    ap (λ (ps : List GroupOutput). roses_size (kids_of (output_fields fields (groups by ps)))) split
+    ap (λ (ps : List GroupOutput). roses_size (kids_of (output_fields fields (all_groups by ps)))) split
     ∙ ap (λ n. n + roses_size (kids_of rest)) (aggregate-size fields by o.name o.aggregate)
 
 pub groups-end :
     (fields : List (Rose NamedType)) (by : List ℕ) (os : List GroupOutput) (k : ℕ) → length os ≤ k
-    → roses_size (kids_of (output_fields fields (groups by (drop k os)))) ≡ 0
+    → roses_size (kids_of (output_fields fields (all_groups by (drop k os)))) ≡ 0
 groups-end fields by os k past =
-    ap (λ (ps : List GroupOutput). roses_size (kids_of (output_fields fields (groups by ps)))) (drop_all k os past)
+    ap (λ (ps : List GroupOutput). roses_size (kids_of (output_fields fields (all_groups by ps)))) (drop_all k os past)
 
 pub ruleset output_sizes = (outputs-step, outputs-end, groups-step, groups-end)
 
@@ -141,17 +145,17 @@ pub type-no-output :
 type-no-output fields os k e = ap type_of (mapped-none (output_field fields) os k e)
 
 pub type-group :
-    (fields : List (Rose NamedType)) (by : List ℕ) (os : List GroupOutput) (k : ℕ) (o : GroupOutput)
-    → Some o ≡ slice_get os k
-    → type_of (field_at (output_fields fields (groups by os)) k) ≡ type_of (aggregate_field fields by [] o.aggregate)
-type-group fields by os k o e =
+    (fields : List (Rose NamedType)) (by : List ℕ) (os : List GroupOutput) (having : Option Filter) (k : ℕ)
+    (o : GroupOutput) → Some o ≡ slice_get os k
+    → type_of (field_at (output_fields fields (groups by os having)) k) ≡ type_of (aggregate_field fields by [] o.aggregate)
+type-group fields by os having k o e =
     ap type_of (mapped-some (λ p. aggregate_field fields by p.name p.aggregate) os k o e)
     ∙ aggregate-type fields by o.name o.aggregate
 
 pub type-no-group :
-    (fields : List (Rose NamedType)) (by : List ℕ) (os : List GroupOutput) (k : ℕ) → None ≡ slice_get os k
-    → type_of (field_at (output_fields fields (groups by os)) k) ≡ col.Bool
-type-no-group fields by os k e =
+    (fields : List (Rose NamedType)) (by : List ℕ) (os : List GroupOutput) (having : Option Filter) (k : ℕ)
+    → None ≡ slice_get os k → type_of (field_at (output_fields fields (groups by os having)) k) ≡ col.Bool
+type-no-group fields by os having k e =
     ap type_of (mapped-none (λ p. aggregate_field fields by p.name p.aggregate) os k e)
 
 pub ruleset output_types = (type-output, type-no-output, type-group, type-no-group)

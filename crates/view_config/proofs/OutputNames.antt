@@ -1,11 +1,12 @@
 -- Outputs by their names.
 use Rattle.std.proofs.Common.{◌≡◌, ℕ, suc, ◌+◌, ◌-◌, ◌≤◌, List, [], ◌∷◌, get_or, map, refl, ap, sym, subst, ◌∙◌, arith}
-use Rattle.std.proofs.Common.{Some, None, Ok, Err, Bool, true, false}
+use Rattle.std.proofs.Common.{Option, Some, None, Ok, Err, Bool, true, false}
 use Rattle.std.specs.Prelude.{if◌then◌else◌}
 use Rattle.std.specs.Str.{bytes_eq}
 use Rattle.values.specs.Logical.{NamedType}
 use Rattle.values.specs.Reading.{one}
 use Rattle.values.specs.Rose.{Rose}
+use Rattle.view_lang.specs.Filter.{Filter}
 use Rattle.view_lang.specs.Outputs.{GroupOutput, Output, Outputs, columns, groups}
 use Rattle.view_lang.specs.TableRules.{type_of}
 use Rattle.view_lang.specs.ViewColumns.{aggregate_field, field_at, no_field, output_fields}
@@ -23,6 +24,7 @@ aggregate-name :
 aggregate-name fields by name (aggregate.Key k) = renamed-name name (field_at fields (get_or by k 0))
 aggregate-name fields by name aggregate.Count = refl
 aggregate-name fields by name (aggregate.CountOf k) = refl
+aggregate-name fields by name (aggregate.Distinct k) = refl
 aggregate-name fields by name (aggregate.Sum k) = refl
 aggregate-name fields by name (aggregate.Least k) = renamed-name name (field_at fields k)
 aggregate-name fields by name (aggregate.Greatest k) = renamed-name name (field_at fields k)
@@ -34,16 +36,16 @@ columns-names fields (o ∷ os) =
     ap (λ n. n ∷ map name_of (output_fields fields (columns os))) (renamed-name o.name (field_at fields o.column))
     ∙ ap (λ ns. o.name ∷ ns) (columns-names fields os)
 
-groups-names : (fields : List (Rose NamedType)) (by : List ℕ) (os : List GroupOutput)
-    → map name_of (output_fields fields (groups by os)) ≡ map (λ o. o.name) os
-groups-names fields by [] = refl
-groups-names fields by (o ∷ os) =
-    ap (λ n. n ∷ map name_of (output_fields fields (groups by os))) (aggregate-name fields by o.name o.aggregate)
-    ∙ ap (λ ns. o.name ∷ ns) (groups-names fields by os)
+groups-names : (fields : List (Rose NamedType)) (by : List ℕ) (os : List GroupOutput) (having : Option Filter)
+    → map name_of (output_fields fields (groups by os having)) ≡ map (λ o. o.name) os
+groups-names fields by [] having = refl
+groups-names fields by (o ∷ os) having =
+    ap (λ n. n ∷ map name_of (output_fields fields (groups by os having))) (aggregate-name fields by o.name o.aggregate)
+    ∙ ap (λ ns. o.name ∷ ns) (groups-names fields by os having)
 
 fields-names : (fields : List (Rose NamedType)) (os : Outputs) → map name_of (output_fields fields os) ≡ names_of os
 fields-names fields (columns os) = columns-names fields os
-fields-names fields (groups by os) = groups-names fields by os
+fields-names fields (groups by os having) = groups-names fields by os having
 
 -- A column is found by its name where the name is.
 found-none :

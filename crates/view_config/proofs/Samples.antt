@@ -15,10 +15,11 @@ use Rattle.view_config.specs.Filters.{operand_of, whole_filter}
 use Rattle.view_config.specs.Outputs.{aggregate_by, group_of, group_output_of, output_limits, output_of, outputs_in}
 use Rattle.view_config.specs.Outputs.{grouping_column, outputs_of}
 use Rattle.view_config.specs.Lookups.{lookup_of}
-use Rattle.view_config.specs.Views.{order_by_of, order_of, view_in, view_of}
+use Rattle.view_config.specs.Dict.{coded_output, dict_of}
+use Rattle.view_config.specs.Views.{having_in, order_by_of, order_of, view_in, view_of}
 use Rattle.view_config.specs.Config.{config_of, text_means}
 use Rattle.view_config.specs.Worked.{ConstantsRead, FaultsStand, LimitsTaken, amounts, amounts_text, pairs, pairs_text}
-use Rattle.view_config.specs.Worked.{zones, zones_text}
+use Rattle.view_config.specs.Worked.{texts, texts_text, zones, zones_text}
 
 -- what a sample unfolds: the words of types, of tables, of filters, and of all else
 unfoldable types_on_literals : ⊤
@@ -47,7 +48,8 @@ unfolding group_of grouping_column aggregate_by output_of group_output_of output
 views_on_literals = tt
 
 unfoldable all_on_literals : ⊤
-unfolding types_on_literals sides_on_literals filters_on_literals views_on_literals order_by_of order_of view_in view_of
+unfolding types_on_literals sides_on_literals filters_on_literals views_on_literals having_in order_by_of order_of
+    coded_output dict_of view_in view_of
 all_on_literals = tt
 
 pub sample-amounts : text_means amounts_text ≡ Ok amounts
@@ -61,6 +63,10 @@ sample-pairs = refl
 pub sample-zones : text_means zones_text ≡ Ok zones
 unfolding toml_on_literals all_on_literals config_of text_means
 sample-zones = refl
+
+pub sample-texts : text_means texts_text ≡ Ok texts
+unfolding toml_on_literals all_on_literals config_of text_means
+sample-texts = refl
 
 pub sample-faults : FaultsStand
 unfolding toml_on_literals all_on_literals config_of text_means
@@ -115,11 +121,26 @@ sample-faults = record {
   sum_of_text = refl;
   sum_of_29_digits = refl;
   least_list = refl;
+  distinct_lists = refl;
+  having_of_rows = refl;
+  having_of_column = refl;
+  having_of_side = refl;
+  having_of_none = refl;
+  having_of_text = refl;
+  having_of_columns = refl;
+  out_of_rows = refl;
   sum_of_rows = refl;
   order_of_none = refl;
   ordered_twice = refl;
   order_of_list = refl;
   other_direction = refl;
+  dict_of_none = refl;
+  dict_twice = refl;
+  dict_of_number = refl;
+  dict_of_list = refl;
+  dict_of_count = refl;
+  dict_alone = refl;
+  dict_by_place = refl;
   first_above = refl;
   first_below = refl;
   first_text = refl;
@@ -132,6 +153,10 @@ sample-limits = record {
   many_parts = tt;
   first = tt;
   no_group = tt;
+  having = tt;
+  dict = tt;
+  dict_of_least = tt;
+  no_dict = tt;
   no_order = tt;
   sides = tt;
 }

@@ -14,16 +14,16 @@ use Rattle.values.specs.Rose.{Rose, kids_of, roses_size}
 use Rattle.values.proofs.Readings.{both_Ok, mapped_Ok, must_Ok}
 use Rattle.values.specs.declared.col_type.ColType.{ColType}
 use Rattle.values.specs.declared.col_type.ColType.TheVariants as col
-use Rattle.view_lang.specs.ConfigRules.{AreOutputs, IsAddable, IsAggregate, IsColumn, IsGroupOutput, IsOrdered}
-use Rattle.view_lang.specs.ConfigRules.{IsOutput, IsText}
+use Rattle.view_lang.specs.ConfigRules.{AreOutputs, IsAddable, IsAggregate, IsColumn, IsGroupOutput, IsHaving}
+use Rattle.view_lang.specs.ConfigRules.{IsOrdered, IsOutput, IsText}
 use Rattle.view_lang.specs.Limits.{max_columns, max_sum_precision}
-use Rattle.view_lang.specs.Outputs.{GroupOutput, Output, Outputs, columns, groups}
+use Rattle.view_lang.specs.Outputs.{GroupOutput, Output, Outputs, columns}
 use Rattle.view_lang.specs.TableRules.{type_of}
 use Rattle.view_lang.specs.ViewColumns.{no_field, output_fields}
 use Rattle.view_lang.specs.declared.view.Aggregate.{Aggregate}
 use Rattle.view_lang.specs.declared.view.Aggregate.TheVariants as aggregate
 use Rattle.view_config.specs.Limits.{column_name, few_fields}
-use Rattle.view_config.specs.Outputs.{aggregate_by, can_be_summed, count_by, distinct_numbers, group_of}
+use Rattle.view_config.specs.Outputs.{aggregate_by, all_groups, can_be_summed, count_by, distinct_numbers, group_of}
 use Rattle.view_config.specs.Outputs.{group_output_named, group_output_of, grouping_column, key_of_group, output_limits}
 use Rattle.view_config.specs.Outputs.{output_named, output_of, outputs_in, outputs_of, place_of, shown_by, sole_ordered}
 use Rattle.view_config.specs.Outputs.{sole_reference, sum_of_column}
@@ -115,33 +115,37 @@ sum-sound fields by c a at e =
     )
 
 aggregate-by-sound :
-    (s : Scope) (by : List ℕ) (ds : Items) (a : Aggregate) (p q r t u : Bool)
+    (s : Scope) (by : List ℕ) (ds : Items) (a : Aggregate) (p q w r t u : Bool)
     → (if p then (sole_reference s ds >>= λ c. key_of_group by c.0)
     else if q then count_by s ds
+    else if w then mapped (λ c. aggregate.Distinct c.0) (sole_ordered s ds)
     else if r then sole_reference s ds >>= sum_of_column
     else if t then mapped (λ c. aggregate.Least c.0) (sole_ordered s ds)
     else if u then mapped (λ c. aggregate.Greatest c.0) (sole_ordered s ds)
     else Err (one fault.Shape)) ≡ Ok a
     → IsAggregate (fields_of s) by a
-aggregate-by-sound s by ds a true q r t u e =
+aggregate-by-sound s by ds a true q w r t u e =
     bound (sole_reference s ds) _ a e (λ c b e1. key-group (fields_of s) by c.0 a e1)
-aggregate-by-sound s by ds a false true r t u e = count-sound s by ds a e
-aggregate-by-sound s by ds a false false true t u e =
+aggregate-by-sound s by ds a false true w r t u e = count-sound s by ds a e
+aggregate-by-sound s by ds a false false true r t u e =
+    let read = mapped_Ok (λ (c : Column). aggregate.Distinct c.0) (sole_ordered s ds) a e in
+    subst (IsAggregate (fields_of s) by) read.2 (sole-order s ds read.0 read.1)
+aggregate-by-sound s by ds a false false false true t u e =
     bound (sole_reference s ds) sum_of_column a e (λ c b e1. sum-sound (fields_of s) by c a (sole-at s ds c b) e1)
-aggregate-by-sound s by ds a false false false true u e =
+aggregate-by-sound s by ds a false false false false true u e =
     let read = mapped_Ok (λ (c : Column). aggregate.Least c.0) (sole_ordered s ds) a e in
     subst (IsAggregate (fields_of s) by) read.2 (sole-order s ds read.0 read.1)
-aggregate-by-sound s by ds a false false false false true e =
+aggregate-by-sound s by ds a false false false false false true e =
     let read = mapped_Ok (λ (c : Column). aggregate.Greatest c.0) (sole_ordered s ds) a e in
     subst (IsAggregate (fields_of s) by) read.2 (sole-order s ds read.0 read.1)
-aggregate-by-sound s by ds a false false false false false e = cc
+aggregate-by-sound s by ds a false false false false false false e = cc
 
 aggregate-sound : (s : Scope) (by w : List ℕ) (ds : Items) (a : Aggregate) → aggregate_by s by w ds ≡ Ok a
     → IsAggregate (fields_of s) by a
 unfolding aggregate_by
 aggregate-sound s by w ds a e =
-    aggregate-by-sound s by ds a (bytes_eq w (codes "col")) (bytes_eq w (codes "count")) (bytes_eq w (codes "sum"))
-    (bytes_eq w (codes "least")) (bytes_eq w (codes "greatest")) e
+    aggregate-by-sound s by ds a (bytes_eq w (codes "col")) (bytes_eq w (codes "count")) (bytes_eq w (codes "distinct"))
+    (bytes_eq w (codes "sum")) (bytes_eq w (codes "least")) (bytes_eq w (codes "greatest")) e
 
 shown-sound : (s : Scope) (w : List ℕ) (ds : Items) (n : ℕ) → shown_by s w ds ≡ Ok n → IsColumn (fields_of s) n
 shown-sound s w ds n e =
@@ -201,6 +205,7 @@ AreGrouping s (Some by) = All (IsOrdered (fields_of s)) by
 record AreShown (s : Scope) (n : ℕ) (os : Outputs) : Type 0 where
   rules : AreOutputs (fields_of s) os
   count : length (output_fields (fields_of s) os) ≡ n
+  having : IsHaving (output_fields (fields_of s) os) os
 
 count-map : {X Y : Type 0} (f : X → Y) (xs : List X) → length (map f xs) ≡ length xs
 count-map f [] = refl
@@ -215,15 +220,17 @@ in-sound s None ds os h t e =
     subst (AreShown s (count_items ds)) read.2 (record {
       rules = each-sound (IsOutput (fields_of s)) (output_of s) ds read.0 (output-sound s) t read.1;
       count = count-map _ read.0 ∙ items-length (output_of s) ds read.0 read.1;
+      having = tt;
     })
 in-sound s (Some by) ds os h t e =
-    let read = mapped_Ok (groups by) (each_item (group_output_of s by) ds) os e in
+    let read = mapped_Ok (all_groups by) (each_item (group_output_of s by) ds) os e in
     subst (AreShown s (count_items ds)) read.2 (record {
       rules = (
         h,
         each-sound (IsGroupOutput (fields_of s) by) (group_output_of s by) ds read.0 (group-output-sound s by) t read.1,
       );
       count = count-map _ read.0 ∙ items-length (group_output_of s by) ds read.0 read.1;
+      having = tt;
     })
 
 pub record AreColumnsOf (s : Scope) (os : Outputs) : Type 0 where
@@ -231,6 +238,7 @@ pub record AreColumnsOf (s : Scope) (os : Outputs) : Type 0 where
   pub some : 1 ≤ length (output_fields (fields_of s) os)
   pub few : length (output_fields (fields_of s) os) ≤ max_columns
   pub small : roses_size (kids_of (output_fields (fields_of s) os)) ≤ max_fields
+  pub having : IsHaving (output_fields (fields_of s) os) os
 
 pub outputs-sound :
     (s : Scope) (g : Option (List ℕ)) (d : Data) (os : Outputs) → AreGrouping s g → IsTextual d
@@ -250,4 +258,5 @@ outputs-sound s g d os h t e =
       some = omega (arith, count.0, shown.count);
       few = omega (arith, count.1, shown.count);
       small = few-sound (output_fields (fields_of s) ps) x few;
+      having = shown.having;
     }))))))

@@ -5,38 +5,45 @@ use Rattle.std.specs.Prelude.{All, codes, not}
 use Rattle.std.specs.Option.{option_map}
 use Rattle.std.proofs.lemmas.Option.{get_or_from_slice_get, slice_get_within, slice_get-map}
 use Rattle.toml.specs.Data.{as_str, Data, Members, get_member}
+use Rattle.toml.specs.View.{view}
+use Rattle.toml.specs.declared.value.Value.{Value}
+use Rattle.values.specs.Coded.{AreCoded}
 use Rattle.values.specs.Limits.{max_fields}
 use Rattle.values.specs.Logical.{NamedType}
 use Rattle.values.specs.Reading.{◌>>=◌, must, refused_if}
 use Rattle.values.specs.Rose.{Rose, kids_of, roses_size}
 use Rattle.values.proofs.Readings.{mapped_Ok, must_Ok}
 use Rattle.view_lang.specs.Config.{SideTable, Table, View}
-use Rattle.view_lang.specs.ConfigRules.{AreOutputs, IsFilterOf, IsLookup, IsOrdered, IsView}
+use Rattle.view_lang.specs.ConfigRules.{AreOutputs, IsFilter, IsFilterOf, IsHaving, IsLookup, IsOrdered, IsView}
 use Rattle.view_lang.specs.Limits.{max_columns}
 use Rattle.view_lang.specs.Filter.{Filter}
+use Rattle.view_lang.specs.Outputs.{Outputs, columns, groups}
 use Rattle.view_lang.specs.TableRules.{type_of}
 use Rattle.view_lang.specs.ViewColumns.{joined_columns, output_fields}
 use Rattle.view_lang.specs.World.{no_table, table_at}
 use Rattle.view_lang.specs.declared.view.Lookup.{Lookup}
 use Rattle.view_lang.specs.declared.view.OrderBy.{OrderBy}
 use Rattle.view_config.specs.Columns.{find, ordered}
+use Rattle.view_config.specs.Dict.{dict_in}
 use Rattle.view_config.specs.Entries.{entry_name}
 use Rattle.view_config.specs.Filters.{whole_filter}
 use Rattle.view_config.specs.Lookups.{Looked, has_key_of, looked_up, lookup_entries, lookup_of, missing_by}
 use Rattle.view_config.specs.Outputs.{distinct_numbers, group_of, outputs_of}
-use Rattle.view_config.specs.Scope.{Column, Scope, fields_of}
+use Rattle.view_config.specs.Scope.{Column, Scope, fields_of, group_scope}
 use Rattle.view_config.specs.Sides.{side_called}
 use Rattle.view_config.specs.Tables.{key_of, ordered_column}
 use Rattle.view_config.specs.Tree.{each_item, items_in, members_in, needed, only, pair_in, text_in}
 use Rattle.view_config.specs.Views.{direction_by, first_of, lookup_alone, numbers_of, order_by_of, order_in, order_of}
-use Rattle.view_config.specs.Views.{perhaps, scope_of, sorted_by, view_entries, view_in, view_named, view_of}
+use Rattle.view_config.specs.Views.{having_in, perhaps, scope_of, sorted_by, view_entries, view_in, view_named}
+use Rattle.view_config.specs.Views.{view_of}
 use Rattle.view_config.specs.declared.faults.ConfigFault.TheVariants as fault
 use Rattle.view_config.proofs.Found.{found-at, ordered-column, side-at}
 use Rattle.view_config.proofs.Readings.{bound, items_all}
+use Rattle.view_config.proofs.SoundDict.{dict-in-sound}
 use Rattle.view_config.proofs.SoundFilters.{whole-sound}
 use Rattle.view_config.proofs.SoundOutputs.{AreGrouping, group-sound, outputs-sound}
 use Rattle.view_config.proofs.SoundTables.{members-textual, needed-textual}
-use Rattle.view_config.proofs.Texts.{HasTextual, IsTextual}
+use Rattle.view_config.proofs.Texts.{HasTextual, IsTextual, value-textual}
 
 -- the tables of a configuration, by number
 abbrev pub tables : Table → List SideTable → List Table
@@ -140,6 +147,44 @@ group-in-sound s (Some d) g e =
     let read = mapped_Ok (λ (by : List ℕ). Some by) (group_of s d) g e in
     subst (AreGrouping s) read.2 (group-sound s d read.0 read.1)
 
+-- outputs that were read keep their rules, before it is read which groups are shown
+pub outputs-ready :
+    (s : Scope) (o : Option Data) (g : Option (List ℕ)) (v : Value) (os : Outputs) → perhaps (group_of s) o ≡ Ok g
+    → outputs_of s g (view v) ≡ Ok os → AreOutputs (fields_of s) os
+outputs-ready s o g v os e f = (outputs-sound s g (view v) os (group-in-sound s o g e) (value-textual v) f).rules
+
+-- What is said of which groups are shown leaves the columns as they are.
+record IsShown (fields : List (Rose NamedType)) (all os : Outputs) : Type 0 where
+  rules : AreOutputs fields os
+  made : output_fields fields os ≡ output_fields fields all
+  having : IsHaving (output_fields fields os) os
+
+having-sound :
+    (s : Scope) (all : Outputs) (o : Option Data) (os : Outputs) → AreOutputs (fields_of s) all
+    → IsHaving (output_fields (fields_of s) all) all
+    → having_in (output_fields (fields_of s) all) all o ≡ Ok os → IsShown (fields_of s) all os
+unfolding having_in
+having-sound s all None os rules none e =
+    let same : all ≡ os = cc in
+    subst (IsShown (fields_of s) all) same (record { rules = rules; made = refl; having = none })
+having-sound s (columns outputs) (Some d) os rules none e = cc
+having-sound s (groups by outputs having) (Some d) os rules none e =
+    let fields : List (Rose NamedType) = output_fields (fields_of s) (groups by outputs having) in
+    let read = mapped_Ok (λ (f : Filter). groups by outputs (Some f)) (whole_filter (group_scope fields) d) os e in
+    let kept = subst (λ (fs : List (Rose NamedType)). IsFilter fs read.0) (append-nil fields)
+    (whole-sound (group_scope fields) d read.0 read.1) in
+    subst (IsShown (fields_of s) (groups by outputs having)) read.2
+    (record { rules = rules; made = refl; having = kept })
+
+-- So do those that are shown.
+pub shown-ready :
+    (s : Scope) (g o : Option Data) (by : Option (List ℕ)) (v : Value) (all os : Outputs)
+    → perhaps (group_of s) g ≡ Ok by → outputs_of s by (view v) ≡ Ok all
+    → having_in (output_fields (fields_of s) all) all o ≡ Ok os → AreOutputs (fields_of s) os
+shown-ready s g o by v all os e f h =
+    let read = outputs-sound s by (view v) all (group-in-sound s g by e) (value-textual v) f in
+    (having-sound s all o os read.rules read.having h).rules
+
 view-in-sound :
     (ts : List Table) (s : Scope) (name : List ℕ) (lookup : Option Lookup) (ms : Members) (v : View) → HasTextual ms
     → IsLookup ts lookup → fields_of s ≡ joined_columns ts lookup → view_in s name lookup ms ≡ Ok v → IsView ts v
@@ -147,21 +192,29 @@ unfolding view_in AreOrdered
 view-in-sound ts s name lookup ms v t looked joined e =
     bound (perhaps (whole_filter s) (get_member (codes "filter") ms)) _ v e (λ filter a e1.
     bound (perhaps (group_of s) (get_member (codes "group") ms)) _ v e1 (λ group b e2.
-    bound (needed (codes "columns") ms >>= outputs_of s group) _ v e2 (λ os c e3.
-    bound (order_in (output_fields (fields_of s) os) (get_member (codes "order") ms)) _ v e3 (λ order f e4.
-    bound (needed (codes "columns") ms) (outputs_of s group) os c (λ d there read.
-    let made = mapped_Ok (view_named name lookup filter os order) (perhaps first_of (get_member (codes "first") ms)) v
-    e4 in
+    bound (needed (codes "columns") ms >>= outputs_of s group) _ v e2 (λ all c e3.
+    bound (having_in (output_fields (fields_of s) all) all (get_member (codes "having") ms)) _ v e3 (λ os h e4.
+    bound (order_in (output_fields (fields_of s) os) (get_member (codes "order") ms)) _ v e4 (λ order f e5.
+    bound (needed (codes "columns") ms) (outputs_of s group) all c (λ d there read.
+    bound (dict_in (output_fields (fields_of s) os) (get_member (codes "dict") ms)) _ v e5 (λ coded i e6.
+    let made = mapped_Ok (view_named name lookup filter os order coded)
+    (perhaps first_of (get_member (codes "first") ms)) v e6 in
     let grouping = group-in-sound s (get_member (codes "group") ms) group b in
-    let shown = outputs-sound s group d os grouping (needed-textual (codes "columns") ms d there t) read in
+    let read_all = outputs-sound s group d all grouping (needed-textual (codes "columns") ms d there t) read in
+    let shown = having-sound s all (get_member (codes "having") ms) os read_all.rules read_all.having h in
+    let Sizes : List (Rose NamedType) → Type 0 = λ fields.
+    (1 ≤ length fields) × (length fields ≤ max_columns) × (roses_size (kids_of fields) ≤ max_fields) in
+    let sizes = subst Sizes (sym shown.made) (read_all.some, read_all.few, read_all.small) in
     let sorted = order-in-sound (output_fields (fields_of s) os) (get_member (codes "order") ms) order f in
+    let texts = dict-in-sound (output_fields (fields_of s) os) (get_member (codes "dict") ms) coded i in
     let kept = filter-in-sound s (get_member (codes "filter") ms) filter a in
     let Rules : List (Rose NamedType) → Type 0 = λ fields.
     IsFilterOf fields filter × AreOutputs fields os × (1 ≤ length (output_fields fields os))
     × (length (output_fields fields os) ≤ max_columns)
-    × (roses_size (kids_of (output_fields fields os)) ≤ max_fields)
-    × All (λ (o : OrderBy). IsOrdered (output_fields fields os) o.column) order in
-    let rules = subst Rules joined (kept, shown.rules, shown.some, shown.few, shown.small, sorted) in
+    × (roses_size (kids_of (output_fields fields os)) ≤ max_fields) × IsHaving (output_fields fields os) os
+    × All (λ (o : OrderBy). IsOrdered (output_fields fields os) o.column) order
+    × AreCoded coded (output_fields fields os) in
+    let rules = subst Rules joined (kept, shown.rules, sizes.0, sizes.1, sizes.2, shown.having, sorted, texts) in
     subst (IsView ts) made.2 (record {
       lookup = looked;
       filter = rules.0;
@@ -169,8 +222,10 @@ view-in-sound ts s name lookup ms v t looked joined e =
       some = rules.2;
       few = rules.3;
       small = rules.4;
-      order = rules.5;
-    }))))))
+      having = rules.5;
+      order = rules.6;
+      coded = rules.7;
+    }))))))))
 
 -- the columns that a view can name are those of the rows that it is made of
 looked-sound :

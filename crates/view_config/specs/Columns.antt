@@ -4,6 +4,7 @@ use Rattle.std.specs.Str.{bytes_eq}
 use Rattle.values.specs.Reading.{one}
 use Rattle.values.specs.Rose.{Rose, node}
 use Rattle.values.specs.Logical.{NamedType}
+use Rattle.values.specs.declared.layout.OffsetWidth.TheVariants as offset
 use Rattle.values.specs.declared.col_type.ColType.{ColType}
 use Rattle.values.specs.declared.col_type.ColType.TheVariants as col
 use Rattle.view_config.specs.Reading.{Reading}
@@ -18,6 +19,11 @@ abbrev pub has_order : ColType → Bool
 has_order (col.List o) = false
 has_order col.Struct = false
 has_order t = true
+
+-- texts
+abbrev pub is_text : ColType → Bool
+is_text (col.Utf8 offset.Bits32) = true
+is_text t = false
 
 -- the first column of this name, with its number, where the first of these has number i
 abbrev pub find : ℕ → List ℕ → List (Rose NamedType) → Option (ℕ × Rose NamedType)

@@ -14,4 +14,5 @@ cause_of fault.SumType = cause.SumType
 cause_of fault.OrderType = cause.OrderType
 cause_of fault.OverLimit = cause.OverLimit
 cause_of fault.Shape = cause.Shape
+cause_of fault.DictType = cause.DictType
 cause_of fault.Memory = cause.Memory

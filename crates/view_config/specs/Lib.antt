@@ -13,6 +13,7 @@ pub mod Constants
 pub mod Filters
 pub mod Outputs
 pub mod Lookups
+pub mod Dict
 pub mod Views
 pub mod Config
 pub mod Worked

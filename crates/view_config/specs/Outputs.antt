@@ -83,6 +83,7 @@ unfoldable pub aggregate_by : Scope → List ℕ → List ℕ → Items → Read
 aggregate_by s by w ds =
     if bytes_eq w (codes "col") then (sole_reference s ds >>= λ c. key_of_group by c.0)
     else if bytes_eq w (codes "count") then count_by s ds
+    else if bytes_eq w (codes "distinct") then mapped (λ c. aggregate.Distinct c.0) (sole_ordered s ds)
     else if bytes_eq w (codes "sum") then sole_reference s ds >>= sum_of_column
     else if bytes_eq w (codes "least") then mapped (λ c. aggregate.Least c.0) (sole_ordered s ds)
     else if bytes_eq w (codes "greatest") then mapped (λ c. aggregate.Greatest c.0) (sole_ordered s ds)
@@ -111,13 +112,17 @@ group_output_of s by d = do
   name ← column_name out.0
   mapped (group_output_named name) (aggregate_by s by word.0 word.1)
 
+-- All groups are shown, if nothing is said of which.
+abbrev pub all_groups : List ℕ → List GroupOutput → Outputs
+all_groups by outputs = groups by outputs None
+
 unfoldable pub outputs_in : Scope → Option (List ℕ) → Items → Reading Outputs
 outputs_in s None ds = mapped columns (each_item (output_of s) ds)
-outputs_in s (Some by) ds = mapped (groups by) (each_item (group_output_of s by) ds)
+outputs_in s (Some by) ds = mapped (all_groups by) (each_item (group_output_of s by) ds)
 
 abbrev pub names_of : Outputs → List (List ℕ)
 names_of (columns outputs) = map (λ o. o.name) outputs
-names_of (groups by outputs) = map (λ o. o.name) outputs
+names_of (groups by outputs having) = map (λ o. o.name) outputs
 
 -- the columns that outputs in memory show
 abbrev pub shown_in : Scope → Stored → List (Rose NamedType)

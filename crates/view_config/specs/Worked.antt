@@ -11,7 +11,7 @@ use Rattle.values.specs.declared.col_type.ColType.{ColType}
 use Rattle.values.specs.declared.col_type.ColType.TheVariants as col
 use Rattle.view_lang.specs.Config.{Config, Table, View}
 use Rattle.view_lang.specs.Limits.{max_side_rows}
-use Rattle.view_lang.specs.Outputs.{Output, columns, groups}
+use Rattle.view_lang.specs.Outputs.{Output, columns}
 use Rattle.view_lang.specs.declared.config.Role.TheVariants as role
 use Rattle.view_lang.specs.declared.view.Aggregate.TheVariants as aggregate
 use Rattle.view_lang.specs.declared.view.Direction.TheVariants as direction
@@ -20,7 +20,7 @@ use Rattle.view_config.specs.ColumnTypes.{leaf}
 use Rattle.view_config.specs.Config.{config_by, text_means}
 use Rattle.view_config.specs.Constants.{constant_in}
 use Rattle.view_config.specs.Feeds.{feed_named}
-use Rattle.view_config.specs.Outputs.{group_output_named, output_named}
+use Rattle.view_config.specs.Outputs.{all_groups, group_output_named, output_named}
 use Rattle.view_config.specs.Sides.{side_named}
 use Rattle.view_config.specs.Tables.{keyed}
 use Rattle.view_config.specs.Views.{sorted_by, view_named}
@@ -54,7 +54,7 @@ amounts_text = lines (
 
 -- a view that shows columns of each row
 abbrev plain : List ℕ → List Output → View
-plain name outputs = view_named name None None (columns outputs) [] None
+plain name outputs = view_named name None None (columns outputs) [] [] None
 
 abbrev pub amounts : Config
 amounts =
@@ -125,29 +125,29 @@ zones_table = keyed max_side_rows (leaf (codes "grp") utf8 ∷ leaf (codes "zone
 abbrev all_view : View
 all_view =
     view_named (codes "all") None None
-    (groups []
-    (group_output_named (codes "n") aggregate.Count ∷ group_output_named (codes "s") (aggregate.Sum 2) ∷ [])) [] None
+    (all_groups []
+    (group_output_named (codes "n") aggregate.Count ∷ group_output_named (codes "s") (aggregate.Sum 2) ∷ [])) [] [] None
 
 abbrev sums_view : View
 sums_view =
     view_named (codes "sums") None None
-    (groups (1 ∷ [])
+    (all_groups (1 ∷ [])
     (group_output_named (codes "grp") (aggregate.Key 0) ∷ group_output_named (codes "n") aggregate.Count
     ∷ group_output_named (codes "s") (aggregate.Sum 2) ∷ group_output_named (codes "hi") (aggregate.Greatest 2) ∷ []))
-    [] None
+    [] [] None
 
 abbrev top_view : View
 top_view =
     view_named (codes "top") None None (columns (output_named (codes "id") 0 ∷ output_named (codes "amt") 2 ∷ []))
-    (sorted_by direction.Ascending 1 ∷ []) (Some 2)
+    (sorted_by direction.Ascending 1 ∷ []) [] (Some 2)
 
 -- The columns of the side table come after the three of the main table.
 abbrev zone_view : View
 zone_view =
     view_named (codes "zone") (Some (record { side = 0; on = 1; missing = missing.Drop; columns = 2 })) None
-    (groups (4 ∷ [])
+    (all_groups (4 ∷ [])
     (group_output_named (codes "zone") (aggregate.Key 0) ∷ group_output_named (codes "n") aggregate.Count ∷ [])) []
-    None
+    [] None
 
 abbrev pub zones : Config
 zones =
@@ -157,6 +157,25 @@ zones =
     (feed_named (codes "add") role.Append ∷ feed_named (codes "cut") (role.Drop 0)
     ∷ feed_named (codes "del") role.Retract ∷ feed_named (codes "put") (role.Put 0) ∷ [])
     (all_view ∷ sums_view ∷ top_view ∷ zone_view ∷ [])
+
+-- A view of two texts and a number, of which the texts are written with dictionaries.
+abbrev pub texts_text : List ℕ
+texts_text = lines (
+    codes "[main]"
+    ∷ codes "key = \"id\""
+    ∷ codes "columns = [[\"id\", \"int64\"], [\"x\", \"utf8\"], [\"y\", \"utf8\"]]"
+    ∷ codes "[view.t]"
+    ∷ codes "columns = [[\"a\", \"col\", \"x\"], [\"i\", \"col\", \"id\"], [\"b\", \"col\", \"y\"]]"
+    ∷ codes "dict = [\"b\", \"a\"]"
+    ∷ [])
+
+abbrev pub texts : Config
+texts =
+    config_by
+    (keyed max_main_rows (leaf (codes "id") int64 ∷ leaf (codes "x") utf8 ∷ leaf (codes "y") utf8 ∷ []) 0) [] []
+    (view_named (codes "t") None None
+    (columns (output_named (codes "a") 1 ∷ output_named (codes "i") 0 ∷ output_named (codes "b") 2 ∷ [])) [] (0 ∷ 2 ∷ [])
+    None ∷ [])
 
 -- a text that is refused for this cause and for no other
 abbrev pub HasFault : List ℕ → ConfigFault → Type 0
@@ -192,12 +211,28 @@ many ls =
 abbrev shows : List ℕ → List ℕ
 shows line = many (line ∷ codes "columns = [[\"a\", \"col\", \"id\"], [\"c\", \"col\", \"l\"]]" ∷ [])
 
+-- one that shows a number and a text, with a line more
+abbrev shows_text : List ℕ → List ℕ
+shows_text line = many (line ∷ codes "columns = [[\"a\", \"col\", \"id\"], [\"t\", \"col\", \"x\"]]" ∷ [])
+
+-- one of all rows, which shows their number and the least text, with a line more
+abbrev with_count : List ℕ → List ℕ
+with_count line =
+    many (line ∷ codes "group = []" ∷ codes "columns = [[\"n\", \"count\"], [\"l\", \"least\", \"x\"]]" ∷ [])
+
 abbrev filtered : List ℕ → List ℕ
 filtered f = shows (codes "filter = " ++ f)
 
 -- one grouped by these columns, which shows this
 abbrev grouped : List ℕ → List ℕ → List ℕ
 grouped by outputs = many ((codes "group = " ++ by) ∷ (codes "columns = [" ++ (outputs ++ codes "]")) ∷ [])
+
+-- one grouped by a text, with its number of rows and of distinct decimals, of which these are shown
+abbrev with_having : List ℕ → List ℕ
+with_having f =
+    many (codes "group = [\"x\"]"
+    ∷ codes "columns = [[\"x\", \"col\", \"x\"], [\"n\", \"count\"], [\"d\", \"distinct\", \"d\"]]"
+    ∷ (codes "having = " ++ f) ∷ [])
 
 -- a test inside n negations
 abbrev within : ℕ → List ℕ
@@ -283,12 +318,27 @@ pub record FaultsStand : Type 0 where
   pub sum_of_text : HasFault (grouped (codes "[]") (codes "[\"s\", \"sum\", \"x\"]")) fault.SumType
   pub sum_of_29_digits : HasFault (grouped (codes "[]") (codes "[\"s\", \"sum\", \"w\"]")) fault.SumType
   pub least_list : HasFault (grouped (codes "[]") (codes "[\"s\", \"least\", \"l\"]")) fault.OrderType
+  pub distinct_lists : HasFault (grouped (codes "[]") (codes "[\"d\", \"distinct\", \"l\"]")) fault.OrderType
+  pub having_of_rows : HasFault (shows (codes "having = [\"is_null\", \"a\"]")) fault.Shape
+  pub having_of_column : HasFault (with_having (codes "[\"ge\", [\"main\", \"d\"], 2]")) fault.Shape
+  pub having_of_side : HasFault (with_having (codes "[\"ge\", [\"side\", \"v\"], 2]")) fault.Shape
+  pub having_of_none : HasFault (with_having (codes "[\"ge\", \"m\", 2]")) fault.UnknownName
+  pub having_of_text : HasFault (with_having (codes "[\"ge\", \"d\", \"2\"]")) fault.ConstantType
+  pub having_of_columns : HasFault (with_having (codes "[\"ge\", \"d\", [\"out\", \"x\"]]")) fault.ConstantType
+  pub out_of_rows : HasFault (filtered (codes "[\"is_null\", [\"out\", \"a\"]]")) fault.Shape
   pub sum_of_rows : HasFault (grouped (codes "[]") (codes "[\"s\", \"sum\"]")) fault.Shape
   pub order_of_none : HasFault (shows (codes "order = [[\"id\", \"asc\"]]")) fault.UnknownName
   pub ordered_twice :
       HasFault (shows (codes "order = [[\"a\", \"asc\"], [\"a\", \"desc\"]]")) fault.DuplicateColumn
   pub order_of_list : HasFault (shows (codes "order = [[\"c\", \"asc\"]]")) fault.OrderType
   pub other_direction : HasFault (shows (codes "order = [[\"a\", \"up\"]]")) fault.Shape
+  pub dict_of_none : HasFault (shows_text (codes "dict = [\"id\"]")) fault.UnknownName
+  pub dict_twice : HasFault (shows_text (codes "dict = [\"t\", \"t\"]")) fault.DuplicateColumn
+  pub dict_of_number : HasFault (shows_text (codes "dict = [\"t\", \"a\"]")) fault.DictType
+  pub dict_of_list : HasFault (shows (codes "dict = [\"c\"]")) fault.DictType
+  pub dict_of_count : HasFault (with_count (codes "dict = [\"n\"]")) fault.DictType
+  pub dict_alone : HasFault (shows_text (codes "dict = \"t\"")) fault.Shape
+  pub dict_by_place : HasFault (shows_text (codes "dict = [0]")) fault.Shape
   pub first_above : HasFault (shows (codes "first = 16777217")) fault.OverLimit
   pub first_below : HasFault (shows (codes "first = -1")) fault.OverLimit
   pub first_text : HasFault (shows (codes "first = \"1\"")) fault.Shape
@@ -299,6 +349,10 @@ pub record LimitsTaken : Type 0 where
   pub many_parts : IsValid (text_means (filtered (any_of 254)))
   pub first : IsValid (text_means (shows (codes "first = 16777216")))
   pub no_group : IsValid (text_means (grouped (codes "[]") (codes "[\"s\", \"sum\", \"d\"]")))
+  pub having : IsValid (text_means (with_having (codes "[\"lt\", \"d\", [\"out\", \"n\"]]")))
+  pub dict : IsValid (text_means (shows_text (codes "dict = [\"t\"]")))
+  pub dict_of_least : IsValid (text_means (with_count (codes "dict = [\"l\"]")))
+  pub no_dict : IsValid (text_means (shows (codes "dict = []")))
   pub no_order : IsValid (text_means (shows (codes "order = []")))
   pub sides : IsValid (text_means (filtered (codes "[\"or\", [\"le\", \"b\", -128], [\"ge\", \"b\", 127]]")))
 

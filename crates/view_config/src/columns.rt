@@ -4,11 +4,11 @@ ghost use Rattle.std.specs.Prelude.{◌≡◌, ◌<◌, IfSome, length, option_m
 ghost use Rattle.std.specs.Bool.{Decides};
 ghost use Rattle.values.specs.ColTypes.{IsSingle};
 ghost use Rattle.values.specs.Reading.{Yields};
-ghost use Rattle.view_config.specs.Columns.{find, has_order, name_of, ordered};
+ghost use Rattle.view_config.specs.Columns.{find, has_order, is_text, name_of, ordered};
 ghost use Rattle.view_config.specs.Tree.{is_one_of, repeats};
 
 use crate::faults::ConfigFault;
-use values::{ColType, LogicalField};
+use values::{ColType, LogicalField, OffsetWidth};
 
 /// Whether the values of a type have an order: all but lists and structs do. The clause `rule` ties it to the rules of
 /// `view_lang`.
@@ -17,6 +17,18 @@ pub(crate) fn has_order(col_type: &ColType) -> bool
     ensures rule { Decides result (IsSingle col_type.now) }
 {
     !matches!(col_type, ColType::List { .. } | ColType::Struct)
+}
+
+/// Whether the values of a type are texts.
+pub(crate) fn is_text(col_type: &ColType) -> bool
+    ensures { result ≡ is_text col_type.now }
+{
+    matches!(
+        col_type,
+        ColType::Utf8 {
+            offsets: OffsetWidth::Bits32
+        }
+    )
 }
 
 /// The column, with its number, or `OrderType` where its values have no order.

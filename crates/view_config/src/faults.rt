@@ -11,8 +11,8 @@ pub enum ConfigFault {
     /// A column, a side table or an output of this name isn't declared, or a column isn't among those that rows are
     /// grouped by.
     UnknownName,
-    /// A name stands twice among a table's columns, a struct's children, a view's outputs or its order, or a column
-    /// among those that rows are grouped by.
+    /// A name stands twice among a table's columns, a struct's children, a view's outputs, its order or its coded
+    /// outputs, or a column among those that rows are grouped by.
     DuplicateColumn,
     /// What is written for a type is none, or has a parameter out of its range.
     TypeText,
@@ -27,6 +27,8 @@ pub enum ConfigFault {
     OverLimit,
     /// An entry is missing or unknown, or a value isn't of the form that its place wants.
     Shape,
+    /// An output that is to be written with a dictionary doesn't hold texts.
+    DictType,
     /// Memory ran out.
     Memory,
 }
@@ -48,6 +50,7 @@ impl From<ConfigFault> for Cause {
             ConfigFault::OrderType => Cause::OrderType,
             ConfigFault::OverLimit => Cause::OverLimit,
             ConfigFault::Shape => Cause::Shape,
+            ConfigFault::DictType => Cause::DictType,
             ConfigFault::Memory => Cause::Memory,
         }
     }

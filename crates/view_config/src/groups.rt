@@ -20,8 +20,9 @@ use toml::Value;
 use values::{ColType, LogicalField};
 use view_lang::Aggregate;
 
+/// Whether a number is among these.
 #[tactic(auto, using(crate::proofs::Numbers::numbering))]
-fn is_number_in(numbers: &[usize], number: usize) -> bool
+pub(crate) fn is_number_in(numbers: &[usize], number: usize) -> bool
     ensures { result ≡ is_number_in numbers.now number }
 {
     for other in numbers {
@@ -181,6 +182,9 @@ pub(crate) fn aggregate_by(
         key_of_group(by, number)
     } else if word == "count" {
         count_by(scope, values)
+    } else if word == "distinct" {
+        let (number, _) = sole_ordered(scope, values)?;
+        Ok(Aggregate::Distinct(number))
     } else if word == "sum" {
         let (number, column) = sole_reference(scope, values)?;
         sum_of(number, column)

@@ -111,7 +111,11 @@ fn read_outputs_in(
         None => Ok(Outputs::Columns(read_each_output(alloc, scope, values)?)),
         Some(by) => {
             let columns = read_each_group_output(alloc, scope, &by, values)?;
-            Ok(Outputs::Groups { by, columns })
+            Ok(Outputs::Groups {
+                by,
+                columns,
+                having: None,
+            })
         }
     }
 }

@@ -1,10 +1,10 @@
-//! The columns that a view can name.
+//! The columns that a view can name: those of joined rows, and those of rows of groups.
 
 ghost use Rattle.std.specs.Prelude.{◌≡◌, ◌<◌, option_map, slice_get};
 ghost use Rattle.toml.specs.View.{items_view, view};
 ghost use Rattle.values.specs.Reading.{Yields};
-ghost use Rattle.view_config.specs.Scope.{fields_of, main_column, ordered_reference, reference, reference_in};
-ghost use Rattle.view_config.specs.Scope.{side_column};
+ghost use Rattle.view_config.specs.Scope.{fields_of, main_column, ordered_reference, reference, reference_by};
+ghost use Rattle.view_config.specs.Scope.{reference_in, side_column};
 
 use crate::columns::{find, ordered};
 use crate::faults::ConfigFault;
@@ -13,10 +13,18 @@ use std::marker::Model;
 use toml::Value;
 use values::LogicalField;
 
-/// The columns that a view can name: those of the main table, and those of the side table that it looks up, which are
-/// none without a lookup.
+/// The rows of which a column is named.
+#[derive(Clone, Copy, Debug)]
+pub(crate) enum Rows {
+    Joined,
+    Groups,
+}
+
+/// The columns that can be named. Of joined rows they are those of the main table, and those of the side table that the
+/// view looks up, which are none without a lookup. Of rows of groups they are the outputs, as those of a main table.
 #[derive(Debug, Drop)]
 pub(crate) struct Scope<'a> {
+    pub rows: Rows,
     pub main: &'a [LogicalField],
     pub side: &'a [LogicalField],
 }
@@ -28,10 +36,10 @@ impl<'a> Model for Scope<'a> {
 
     ghost coded = { seen.scope_code };
 
-    ghost view = { λ s. record { main = s.main.now; side = s.side.now } };
+    ghost view = { λ s. record { rows = s.rows; main = s.main.now; side = s.side.now } };
 }
 
-/// The column of this number in joined rows, if there is one.
+/// The column of this number, if there is one.
 #[tactic(auto, using(crate::proofs::Joined::parts))]
 pub(crate) fn column_at<'a>(scope: &Scope<'a>, number: usize) -> Option<&'a LogicalField>
     ensures { option_map (λ f. f.now) result ≡ slice_get (fields_of scope.now) number }
@@ -56,7 +64,35 @@ fn side_column<'a>(scope: &Scope<'a>, name: &str) -> Result<(usize, &'a LogicalF
     Ok((scope.main.len() + number, column))
 }
 
-/// Reads `["main", name]` or `["side", name]`.
+/// The column of this name that this word tells of.
+fn reference_by<'a>(
+    scope: &Scope<'a>,
+    word: &str,
+    name: &str,
+) -> Result<(usize, &'a LogicalField), ConfigFault>
+    ensures { Yields (λ c. (c.0, c.1.now)) result (reference_by scope.now.rows scope.now word.now name.now) }
+{
+    match scope.rows {
+        Rows::Joined => {
+            if word == "main" {
+                main_column(scope, name)
+            } else if word == "side" {
+                side_column(scope, name)
+            } else {
+                Err(ConfigFault::Shape)
+            }
+        }
+        Rows::Groups => {
+            if word == "out" {
+                main_column(scope, name)
+            } else {
+                Err(ConfigFault::Shape)
+            }
+        }
+    }
+}
+
+/// Reads `["main", name]` or `["side", name]`, or `["out", name]` of rows of groups.
 #[tactic(auto, using(crate::proofs::Causes::causes), unfolding(crate::specs::Scope::reference_in))]
 fn reference_in<'a>(
     scope: &Scope<'a>,
@@ -67,16 +103,10 @@ fn reference_in<'a>(
     let (word, name) = pair(values).ok_or(ConfigFault::Shape)?;
     let word = word.as_str().ok_or(ConfigFault::Shape)?;
     let name = name.as_str().ok_or(ConfigFault::Shape)?;
-    if word == "main" {
-        main_column(scope, name)
-    } else if word == "side" {
-        side_column(scope, name)
-    } else {
-        Err(ConfigFault::Shape)
-    }
+    reference_by(scope, word, name)
 }
 
-/// The column that a reference means, with its number in joined rows.
+/// The column that a reference means, with its number.
 #[tactic(auto, unfolding(crate::specs::Scope::reference))]
 pub(crate) fn reference<'a>(
     scope: &Scope<'a>,

@@ -3,12 +3,12 @@
 ghost use Rattle.std.specs.Prelude.{◌≡◌, [], get_or};
 ghost use Rattle.values.specs.Reading.{Yields};
 ghost use Rattle.values.specs.Rose.{rose_size};
-ghost use Rattle.view_lang.specs.Outputs.{columns as columns_seen, groups as groups_seen};
+ghost use Rattle.view_lang.specs.Outputs.{columns as columns_seen};
 ghost use Rattle.view_lang.specs.TableRules.{type_of};
 ghost use Rattle.view_lang.specs.ViewColumns.{aggregate_field, field_at, output_fields};
 ghost use Rattle.view_config.specs.Columns.{has_order};
 ghost use Rattle.view_config.specs.Limits.{IsRoomAfter, few_fields, size_of};
-ghost use Rattle.view_config.specs.Outputs.{shown_in};
+ghost use Rattle.view_config.specs.Outputs.{all_groups, shown_in};
 ghost use Rattle.view_config.specs.Scope.{fields_of};
 
 use crate::columns::has_order;
@@ -58,7 +58,8 @@ fn room_after_aggregate(scope: &Scope, by: &[usize], aggregate: Aggregate, room:
 {
     match aggregate {
         Aggregate::Key(place) => { room_after_column(scope, grouped_at(by, place), room) }
-        Aggregate::Count | Aggregate::CountOf(_) | Aggregate::Sum(_) => room.checked_sub(1),
+        Aggregate::Count | Aggregate::CountOf(_) | Aggregate::Distinct(_) | Aggregate::Sum(_) =>
+            room.checked_sub(1),
         Aggregate::Least(number) | Aggregate::Greatest(number) => {
             room_after_column(scope, number, room)
         }
@@ -72,7 +73,7 @@ fn room_after_group_outputs(
     outputs: &[GroupOutput],
     room: u32,
 ) -> Option<u32>
-    ensures { IsRoomAfter room (size_of (output_fields (fields_of scope.now) (groups_seen by.now outputs.now))) result }
+    ensures { IsRoomAfter room (size_of (output_fields (fields_of scope.now) (all_groups by.now outputs.now))) result }
 {
     let mut left = room;
     for output in outputs {
@@ -87,7 +88,7 @@ pub(crate) fn check_fields(scope: &Scope, outputs: &Outputs) -> Result<(), Confi
 {
     let left = match outputs {
         Outputs::Columns(outputs) => room_after_outputs(scope, outputs, MAX_FIELDS),
-        Outputs::Groups { by, columns } => {
+        Outputs::Groups { by, columns, .. } => {
             room_after_group_outputs(scope, by, columns, MAX_FIELDS)
         }
     };
@@ -115,7 +116,8 @@ fn is_aggregate_ordered(scope: &Scope, by: &[usize], aggregate: Aggregate) -> bo
 {
     match aggregate {
         Aggregate::Key(place) => is_ordered(scope, grouped_at(by, place)),
-        Aggregate::Count | Aggregate::CountOf(_) | Aggregate::Sum(_) => true,
+        Aggregate::Count | Aggregate::CountOf(_) | Aggregate::Distinct(_) | Aggregate::Sum(_) =>
+            true,
         Aggregate::Least(number) | Aggregate::Greatest(number) => is_ordered(scope, number),
     }
 }
@@ -130,7 +132,7 @@ pub(crate) fn is_output_ordered(scope: &Scope, outputs: &Outputs, place: usize) 
             Some(output) => is_ordered(scope, output.column),
             None => true,
         },
-        Outputs::Groups { by, columns } => match columns.get(place) {
+        Outputs::Groups { by, columns, .. } => match columns.get(place) {
             Some(output) => is_aggregate_ordered(scope, by, output.aggregate),
             None => true,
         },

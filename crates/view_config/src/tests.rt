@@ -48,7 +48,7 @@ fn reads_views(rt: HostRuntime) -> Result<(), Fail> {
         return Err(Fail::from("no lookup"));
     };
     assert_eq!(rt; lookup.missing, Missing::Drop);
-    let Outputs::Groups { by, columns } = &zone.outputs else {
+    let Outputs::Groups { by, columns, .. } = &zone.outputs else {
         return Err(Fail::from("no groups"));
     };
     assert_eq!(rt; by.as_slice(), [4].as_slice());

@@ -10,14 +10,16 @@ ghost use Rattle.view_config.specs.Reading.{Answers};
 ghost use Rattle.view_config.specs.Tree.{data_of as told, each_member};
 ghost use Rattle.view_config.specs.Views.{perhaps, view_in, view_of, views_of};
 
+use crate::dict::read_dict_at;
 use crate::entries::{check_entry_name, check_few_entries};
 use crate::faults::ConfigFault;
 use crate::filters::read_whole_filter;
 use crate::groups::read_group;
+use crate::having::read_having_at;
 use crate::lookups::read_lookup;
 use crate::orders::{read_first, read_order_at};
 use crate::outputs::read_outputs;
-use crate::scope::Scope;
+use crate::scope::{Rows, Scope};
 use crate::tree::{check_names, entry, entry_at, members_in};
 use std::alloc::Global;
 use toml::{Table as Entries, Value};
@@ -66,7 +68,7 @@ fn read_group_at(
     }
 }
 
-/// Reads the parts of a view that may name columns: its filter, groups, outputs, order and first rows.
+/// Reads the parts of a view that may name columns: its filters, groups, outputs, order and first rows.
 #[tactic(auto, using(crate::proofs::Causes::failing), unfolding(crate::specs::Views::view_in))]
 fn read_view_in(
     alloc: Global,
@@ -79,8 +81,10 @@ fn read_view_in(
 {
     let filter = read_filter_at(alloc, scope, entry_at(entries, "filter"))?;
     let group = read_group_at(alloc, scope, entry_at(entries, "group"))?;
-    let outputs = read_outputs(alloc, scope, group, entry(entries, "columns")?)?;
+    let all = read_outputs(alloc, scope, group, entry(entries, "columns")?)?;
+    let outputs = read_having_at(alloc, scope, all, entry_at(entries, "having"))?;
     let order = read_order_at(alloc, scope, &outputs, entry_at(entries, "order"))?;
+    let coded_outputs = read_dict_at(alloc, scope, &outputs, entry_at(entries, "dict"))?;
     let first = read_first(entry_at(entries, "first"))?;
     Ok(View {
         name: String::from_str(alloc, name)?,
@@ -89,6 +93,7 @@ fn read_view_in(
         outputs,
         order,
         first,
+        coded_outputs,
     })
 }
 
@@ -105,12 +110,15 @@ fn read_view(
     let entries = members_in(value)?;
     check_names(
         entries,
-        &["lookup", "filter", "group", "columns", "order", "first"],
+        &[
+            "lookup", "filter", "group", "columns", "having", "order", "first", "dict",
+        ],
     )?;
     let name = check_entry_name(name)?;
     match read_lookup_at(main, sides, entry_at(entries, "lookup"))? {
         Some((lookup, side)) => {
             let scope = Scope {
+                rows: Rows::Joined,
                 main: &main.columns,
                 side: &side.table.columns,
             };
@@ -118,6 +126,7 @@ fn read_view(
         }
         None => {
             let scope = Scope {
+                rows: Rows::Joined,
                 main: &main.columns,
                 side: &[],
             };

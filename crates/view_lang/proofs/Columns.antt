@@ -181,6 +181,7 @@ module _ (fs : List (Rose NamedType)) (a : AreSuch fs) where
       (column_at fs (get_or by k 0) a (All-get_or (IsOrdered fs) by k 0 is ordered).0)
   aggregate_such by name aggregate.Count ordered text is = count_column name text
   aggregate_such by name (aggregate.CountOf k) ordered text is = count_column name text
+  aggregate_such by name (aggregate.Distinct k) ordered text is = count_column name text
   aggregate_such by name (aggregate.Sum k) ordered text is =
       sum_column name (type_of (field_at fs k)) text is.1 (type_within (field_at fs k) (column_at fs k a is.0).within)
   aggregate_such by name (aggregate.Least k) ordered text is =
@@ -200,7 +201,7 @@ module _ (fs : List (Rose NamedType)) (a : AreSuch fs) where
 
   outputs_such : (os : Outputs) → AreOutputs fs os → AreSuch (output_fields fs os)
   outputs_such (columns outputs) is = output_such outputs is
-  outputs_such (groups by outputs) is = groups_such by outputs is.0 is.1
+  outputs_such (groups by outputs having) is = groups_such by outputs is.0 is.1
 
 table_such : (tables : List Table) (n : ℕ) → All IsTable tables → n < length tables
     → AreSuch (table_at tables n).columns

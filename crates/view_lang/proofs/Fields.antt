@@ -58,10 +58,6 @@ logical_at [] k f there h = absurd (none-some f there)
 logical_at (g ∷ fs) zero f there h = h.0
 logical_at (g ∷ fs) (suc k) f there h = logical_at fs k f there h.1
 
--- the key column is there
-pub key_below : (t : Table) → IsTable t → t.key < length t.columns
-key_below t is = slice_get_within t.columns t.key is.key.0 is.key.1
-
 columns_logical : (t : Table) (r : Role) → IsTable t → AreLogicalColumns (columns_by r t)
 columns_logical t role.Append is = is.columns.logical
 columns_logical t role.Retract is = (logical_at t.columns t.key is.key.0 is.key.1 is.columns.logical, tt)

@@ -42,7 +42,7 @@ use Rattle.values.specs.Logical.{NamedType, tree_of, trees_of}
 use Rattle.values.specs.Rose.{Rose, node}
 use Rattle.view_lang.specs.Cells.{cell_at, is_null}
 use Rattle.view_lang.specs.ConfigRules.{IsAddable, IsAggregate}
-use Rattle.view_lang.specs.Groups.{aggregate_of, first_in, number_in, sum_of, total, values_at}
+use Rattle.view_lang.specs.Groups.{aggregate_of, distinct, first_in, number_in, sum_of, total, values_at}
 use Rattle.view_lang.specs.RowOrder.{cell_cmp}
 use Rattle.view_lang.specs.Sums.{IsSmall}
 use Rattle.view_lang.specs.TableRules.{type_of}
@@ -52,6 +52,7 @@ use Rattle.view_lang.specs.declared.view.Aggregate.TheVariants as aggregate
 use Rattle.view_lang.specs.declared.view.Direction.{Direction}
 use Rattle.view_lang.proofs.CellFits.{AreFit, Fits, cell_fits, null_fits, renamed_fits}
 use Rattle.view_lang.proofs.Columns.{AreSuch, column_at}
+use Rattle.view_lang.proofs.Distinct.{few_distinct}
 use Rattle.view_lang.proofs.InputRows.{few_filtered}
 
 -- Numbers that are added are small.
@@ -228,6 +229,12 @@ module _ (fs : List (Rose NamedType)) (such : AreSuch fs) (rows : List (List Dat
   aggregate_fits by name aggregate.Count tuple is held = count_fits name (length rows) few
   aggregate_fits by name (aggregate.CountOf k) tuple is held = count_fits name (length (values_at k rows)) (few_values
       k)
+  aggregate_fits by name (aggregate.Distinct k) tuple is held =
+      count_fits name (length (distinct (values_at k rows))) (omega (
+        arith,
+        few_distinct (values_at k rows),
+        few_values k,
+      ))
   aggregate_fits by name (aggregate.Sum k) tuple is held =
       sum_fits (type_of (field_at fs k)) name (values_at k rows) is.1 (few_values k) (added_fits k is.0 is.1)
   aggregate_fits by name (aggregate.Least k) tuple is held = first_of_column _ name k is.0

@@ -26,23 +26,24 @@ use Rattle.std.specs.List.Sorted.{IsStrictlySortedBy}
 use Rattle.std.specs.Cmp.{IsTotalOrder}
 use Rattle.std.proofs.lemmas.Int.{ints}
 use Rattle.std.proofs.lemmas.Cmp.{upto, on_total, then_total, nat_cmp_total}
-use Rattle.values.specs.Datum.{Datum}
+use Rattle.values.specs.Datum.{Datum, null}
 use Rattle.view_lang.specs.Sorted.{placed, sorted}
 use Rattle.view_lang.specs.RowOrder.{cell_cmp, row_cmp, tuple_cmp}
 use Rattle.view_lang.specs.Groups.{number_in, total, earlier, first_in}
 use Rattle.view_lang.specs.ViewLaws.{
   first_or_null,
-  numbered_cmp,
   FirstOfSorted,
-  TotalOfSorted,
-  OrderByNumber,
-  OrderByTuple,
-  RowInserted,
 }
 use Rattle.view_lang.specs.declared.view.Direction.{Direction}
-use Rattle.view_lang.proofs.Folds.{first_null}
+use Rattle.view_lang.specs.declared.view.Direction.TheVariants as direction
 use Rattle.view_lang.proofs.Orders.{row_cmp_total}
 use Rattle.view_lang.proofs.Sorting.{all-placed}
+
+first_null : (o : Direction) (d : Datum) → earlier o d null ≡ d
+first_null direction.Ascending null = refl
+first_null direction.Ascending d = refl
+first_null direction.Descending null = refl
+first_null direction.Descending d = refl
 
 module _ {X : Type 0} (cmp : X → X → Ordering) (all : IsTotalOrder cmp) where
   turned : (o : Ordering) → is_gt o ≡ true → ordering_reverse o ≡ Less
@@ -56,14 +57,6 @@ module _ {X : Type 0} (cmp : X → X → Ordering) (all : IsTotalOrder cmp) wher
       go : (b : Bool) → is_gt (cmp x y) ≡ b → is_gt (cmp x y) ≡ true
       go true e = e
       go false e = absurd (true≢false (sym h ∙ upto all x y z e k))
-
-  not_above : (x y z : X) → is_gt (cmp x z) ≡ true → is_gt (cmp y z) ≡ false → is_gt (cmp y x) ≡ false
-  not_above x y z h k = ap is_gt (all.antisymm y x) ∙ go (cmp x y) (above x y z h k)
-    where
-      go : (o : Ordering) → is_gt o ≡ true → is_gt (ordering_reverse o) ≡ false
-      go Less e = absurd (true≢false (sym e))
-      go Equal e = refl
-      go Greater e = refl
 
   both_first : (x y : X) (zs : List X) → (cmp x y ≡ Equal → x ≡ y)
       → cond (is_gt (cmp x y)) (y ∷ x ∷ zs) (x ∷ y ∷ zs) ≡ cond (is_gt (cmp y x)) (x ∷ y ∷ zs) (y ∷ x ∷ zs)
@@ -89,15 +82,6 @@ module _ {X : Type 0} (cmp : X → X → Ordering) (all : IsTotalOrder cmp) wher
       go true false h k more = rw (above x y z h k, h, k) refl
       go false true h k more = rw (above y x z k h, k, h) refl
       go false false h k more = rw (h, k) (both_first x y (z ∷ zs) exact)
-
-  -- one more element, wherever it stands
-  pub sorted-insert :
-      (xs ys : List X) (x : X) → AllByRecursion (λ y. cmp y x ≡ Equal → y ≡ x) xs
-      → sorted cmp (xs ++ x ∷ ys) ≡ placed cmp x (sorted cmp (xs ++ ys))
-  unfolding sorted
-  sorted-insert [] ys x exact = refl
-  sorted-insert (y ∷ xs) ys x exact =
-      ap (placed cmp y) (sorted-insert xs ys x exact.1) ∙ placed-placed y x (sorted cmp (xs ++ ys)) exact.0
 
 -- elements that ascend by their places are arranged as by their places where they tie
 module _ {A X : Type 0} (f : A → X) (cmp : X → X → Ordering) (place : A → A → Ordering) where
@@ -146,35 +130,3 @@ pub first_in-sorted : FirstOfSorted
 unfolding first_in sorted
 first_in-sorted o [] = refl
 first_in-sorted o (d ∷ ds) = ap (earlier o d) (first_in-sorted o ds) ∙ first-placed o d (sorted (cell_cmp o) ds)
-
-total-placed : (c : Datum → Datum → Ordering) (d : Datum) (es : List Datum)
-    → total (placed c d es) ≡ number_in d +ℤ total es
-unfolding total
-total-placed c d [] = refl
-total-placed c d (e ∷ es) = go (is_gt (c d e)) (total-placed c d es)
-  where
-    go : (b : Bool) → total (placed c d es) ≡ number_in d +ℤ total es
-        → total (cond b (e ∷ placed c d es) (d ∷ e ∷ es)) ≡ number_in d +ℤ (number_in e +ℤ total es)
-    go true more = let h : total (placed c d es) ≡ number_in d +ℤ total es = more in omega (arith, ints, h)
-    go false more = refl
-
-pub total-sorted : TotalOfSorted
-unfolding total sorted
-total-sorted o [] = refl
-total-sorted o (d ∷ ds) =
-    let h : total (sorted (cell_cmp o) ds) ≡ total ds = total-sorted o ds in
-    let e = total-placed (cell_cmp o) d (sorted (cell_cmp o) ds) in
-    omega (arith, ints, h, e)
-
-pub by-number : OrderByNumber
-by-number os rows up = sorted_by_place (λ e. e.1) (row_cmp os) (λ a b. nat_cmp a.0 b.0) rows up
-
-pub by-tuple : OrderByTuple
-by-tuple os rows up = sorted_by_place (λ e. e.1) (row_cmp os) (λ a b. tuple_cmp a.0 b.0) rows up
-
-pub row-inserted : RowInserted
-row-inserted os rows others r exact =
-    sorted-insert (numbered_cmp os)
-    (then_total (on_total (λ e. e.1) (row_cmp_total os)) (on_total (λ e. e.0) nat_cmp_total)) rows others r exact
-
-pub ruleset keeping_laws = (first_in-sorted, total-sorted, by-number, by-tuple, row-inserted)

@@ -53,6 +53,7 @@ module _ (fs : List (Rose NamedType)) (row : List Datum) (fit : AreFit fs row) w
   ordered_key k is = held_key (field_at fs k) (cell_at row k) is.1 (cell_fits fs row k fit is.0).held
 
   compared_keys : (by : List ℕ) (x : Aggregate) → IsAggregate fs by x → ComparesKeys x row
+  compared_keys by (aggregate.Distinct k) is = ordered_key k is
   compared_keys by (aggregate.Least k) is = ordered_key k is
   compared_keys by (aggregate.Greatest k) is = ordered_key k is
   compared_keys by x is = tt
@@ -77,9 +78,9 @@ module _ (fs : List (Rose NamedType)) (row : List Datum) (fit : AreFit fs row) w
       order all)
 
 pub views_use_keys : ViewsUseKeys
-views_use_keys tables v by outs side rows is same =
+views_use_keys tables v by outs having side rows is same =
     let fs : List (Rose NamedType) = joined_columns tables v.lookup in
-    let right : AreOutputs fs (groups by outs) = subst (AreOutputs fs) same is.view.outputs in
+    let right : AreOutputs fs (groups by outs having) = subst (AreOutputs fs) same is.view.outputs in
     recursion_from_All (UsesKeys by outs) (view_input v side rows)
     (All-weaker (AreFit fs) (UsesKeys by outs) (λ row fit. row_uses fs row fit by outs right.0 right.1)
     (view_input v side rows) (input_fits tables v side rows is))

@@ -9,10 +9,9 @@ mod KeyCells
 mod Sample
 pub mod Orders
 pub mod Sorting
-pub mod Ranking
 pub mod Projecting
-pub mod Folds
-pub mod Runs
+pub mod Distinct
+pub mod Passing
 pub mod Showing
 pub mod TruthLaws
 pub mod OrderLaws

@@ -55,6 +55,7 @@ use Rattle.view_lang.specs.Groups.{
   tuples_of,
   rows_with,
   values_at,
+  distinct,
   number_in,
   total,
   sum_of,
@@ -69,10 +70,16 @@ use Rattle.view_lang.specs.declared.view.Aggregate.{Aggregate}
 use Rattle.view_lang.specs.declared.view.Aggregate.TheVariants as aggregate
 use Rattle.view_lang.specs.declared.view.Direction.{Direction}
 use Rattle.view_lang.specs.declared.view.Direction.TheVariants as direction
+use Rattle.view_lang.specs.Contents.{is_among, same_key}
+use Rattle.view_lang.proofs.Distinct.{either_first, one_more_alike, two_turned}
 use Rattle.view_lang.proofs.Orders.{cell_cmp_total, datum_cmp_total, tuple_cmp_total}
 use Rattle.view_lang.proofs.Sorting.{weaker}
 use Rattle.view_lang.proofs.Keeping.{placed-placed, first_in-sorted}
-use Rattle.view_lang.proofs.Runs.{all-map}
+
+all-map : {X Y : Type 0} (P : Y → Type 0) (f : X → Y) (xs : List X) → AllByRecursion (λ x. P (f x)) xs
+    → AllByRecursion P (map f xs)
+all-map P f [] all = tt
+all-map P f (x ∷ xs) all = (all.0, all-map P f xs all.1)
 
 -- what holds of a list and itself, goes under a head, and stands an exchange of the two first, holds of each
 -- rearrangement
@@ -102,6 +109,25 @@ module _ {X : Type 0} (R : List X → List X → Type 0)
 
   pub along_permutation : (xs ys : List X) → IsPermutation xs ys → R xs ys
   along_permutation xs = IsPermutation-keeps xs (R xs) (same xs) (λ l i j p q h. chain xs l _ h (swapped l i j p q))
+
+-- Whatever is asked for is among both, and as many values are distinct.
+abbrev AskAlike : List Datum → List Datum → Type 0
+AskAlike xs ys = ((d : Datum) → is_among d xs ≡ is_among d ys) × (length (distinct xs) ≡ length (distinct ys))
+
+alike_skip : (x : Datum) (xs ys : List Datum) → AskAlike xs ys → AskAlike (x ∷ xs) (x ∷ ys)
+unfolding is_among
+alike_skip x xs ys h = (λ d. ap (λ b. same_key d x || b) (h.0 d), one_more_alike x xs ys (h.0 x) h.1)
+
+alike_turn : (x y : Datum) (xs : List Datum) → AskAlike (x ∷ y ∷ xs) (y ∷ x ∷ xs)
+unfolding is_among
+alike_turn x y xs = (λ d. either_first (same_key d x) (same_key d y) (is_among d xs), two_turned x y xs)
+
+alike_chain : (xs ys zs : List Datum) → AskAlike xs ys → AskAlike ys zs → AskAlike xs zs
+alike_chain xs ys zs h k = (λ d. h.0 d ∙ k.0 d, h.1 ∙ k.1)
+
+distinct_same : (xs ys : List Datum) → IsPermutation xs ys → length (distinct xs) ≡ length (distinct ys)
+distinct_same xs ys same =
+    (along_permutation AskAlike (λ l. (λ d. refl, refl)) alike_skip alike_turn alike_chain xs ys same).1
 
 IsPermutation-filter : {X : Type 0} (p : X → Bool) (xs ys : List X) → IsPermutation xs ys
     → IsPermutation (filter p xs) (filter p ys)
@@ -240,6 +266,8 @@ aggregate_same aggregate.Count t rows others same all =
     ap (λ n. whole (pos n)) (sym (length_permutation rows others same))
 aggregate_same (aggregate.CountOf k) t rows others same all =
     ap (λ n. whole (pos n)) (sym (length_permutation _ _ (values_same k rows others same)))
+aggregate_same (aggregate.Distinct k) t rows others same all =
+    ap (λ n. whole (pos n)) (distinct_same _ _ (values_same k rows others same))
 aggregate_same (aggregate.Sum k) t rows others same all =
     sum_same _ _ (sym (length_permutation _ _ (values_same k rows others same)))
     (total_same _ _ (values_same k rows others same))

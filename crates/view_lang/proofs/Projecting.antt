@@ -41,29 +41,4 @@ cell_step outputs row k o d e done next is below here pushed so_far =
     ∙ sym (map_push (output_cell row) (take k outputs) (get_or outputs k d))
     ∙ ap (λ l. shown_row l row) (sym (take_more outputs k d below))
 
-abbrev pub halfway : List Output → List (Vec Datum Global) → ℕ → List (List Datum)
-halfway outputs rows k = rows_of (take k rows) ++ map (shown_row outputs) (rows_of (drop k rows))
-
-pub row_step :
-    (outputs : List Output) (rows : List (Vec Datum Global)) (k : ℕ) (d shown : Vec Datum Global)
-    (w : List (List Datum))
-    → k < length rows → shown.items ≡ shown_row outputs (get_or rows k d).items → halfway outputs rows k ≡ w
-    → halfway outputs (set rows k shown) (k + 1) ≡ w
-row_step outputs rows k d shown w below here left =
-    let behind : List (List Datum) = map (shown_row outputs) (rows_of (drop (k + 1) rows)) in
-    ap₂ (λ (xs ys : List (Vec Datum Global)). rows_of xs ++ map (shown_row outputs) (rows_of ys))
-    (take_more_set rows k shown below) (drop-set-lt (k + 1) rows k shown (omega arith))
-    ∙ ap (λ l. l ++ behind) (map_push (λ (v : Vec Datum Global). v.items) (take k rows) shown)
-    ∙ append_assoc (rows_of (take k rows)) (shown.items ∷ []) behind
-    ∙ ap (λ c. rows_of (take k rows) ++ c ∷ behind) here
-    ∙ ap (λ l. rows_of (take k rows) ++ map (shown_row outputs) (rows_of l)) (sym (drop_more rows k d below)) ∙ left
-
-pub row_end :
-    (outputs : List Output) (rows : List (Vec Datum Global)) (k : ℕ) (w : List (List Datum)) → length rows ≤ k
-    → halfway outputs rows k ≡ w → rows_of rows ≡ w
-row_end outputs rows k w past left =
-    sym (append-nil (rows_of rows))
-    ∙ ap₂ (λ (xs ys : List (Vec Datum Global)). rows_of xs ++ map (shown_row outputs) (rows_of ys))
-    (sym (take_all k rows past)) (sym (drop_all k rows past)) ∙ left
-
 pub ruleset cell_steps = (cell_step)

@@ -78,24 +78,6 @@ IsPermutation-sorted cmp [] = IsPermutation-refl []
 IsPermutation-sorted cmp (x ∷ xs) =
     IsPermutation-trans _ _ _ (IsPermutation-placed cmp x _) (IsPermutation-cons x _ _ (IsPermutation-sorted cmp xs))
 
-placed-map : {A B : Type 0} (cmp : B → B → Ordering) (f : A → B) (x : A) (ys : List A)
-    → placed cmp (f x) (map f ys) ≡ map f (placed (on f cmp) x ys)
-placed-map cmp f x [] = refl
-placed-map {A} {B} cmp f x (y ∷ ys) =
-    go (is_gt (cmp (f x) (f y))) (placed-map cmp f x ys)
-  where
-    go : (b : Bool) → placed cmp (f x) (map f ys) ≡ map f (placed (on f cmp) x ys)
-        → cond b (f y ∷ placed cmp (f x) (map f ys)) (f x ∷ f y ∷ map f ys)
-        ≡ map f (cond b (y ∷ placed (on f cmp) x ys) (x ∷ y ∷ ys))
-    go true more = ap (λ l. f y ∷ l) more
-    go false more = refl
-
-pub sorted-map : {A B : Type 0} (cmp : B → B → Ordering) (f : A → B) (xs : List A)
-    → sorted cmp (map f xs) ≡ map f (sorted (on f cmp) xs)
-unfolding sorted
-sorted-map cmp f [] = refl
-sorted-map cmp f (x ∷ xs) = ap (placed cmp (f x)) (sorted-map cmp f xs) ∙ placed-map cmp f x (sorted (on f cmp) xs)
-
 -- elements of which all tie keep their order
 filter-placed :
     {X : Type 0} (cmp : X → X → Ordering) (p : X → Bool) → ((x y : X) → p x ≡ true → p y ≡ true → cmp x y ≡ Equal)
@@ -263,26 +245,3 @@ module _ {X : Type 0} (cmp : X → X → Ordering) (total : IsTotalOrder cmp) wh
         ap (λ p. filter p (sorted cmp xs)) (λ i y. ties_is x y i) ∙ filter-sorted cmp (tied cmp x) (tied_alike x) xs
         ∙ sym (ap (λ p. filter p xs) (λ i y. ties_is x y i));
   }
-
-  -- what `sort_by` leaves, where each call of its closure compares by the order
-  pub sorted_by :
-      {F : Type 0} {g : Mut F (Bor X × (Bor X × Unit {0})) Ordering} {f : F} (xs ys : List X) → IsSortedByClosure g f ys
-      → IsStableByClosure g f xs ys
-      → ((a : Bor X × (Bor X × Unit {0})) (r : Ordering) (f' : F) → Called g f a r f'
-      → (r ≡ cmp a.0.now a.1.0.now) × (f' ≡ f)) → ys ≡ sorted cmp xs
-  sorted_by {g = g} {f = f} xs ys up stable h =
-      let weak : IsStrictWeakOrder (λ x y. is_lt (cmp x y)) = ranks_by total (λ x. x) in
-      let calls : ComparesAs g (λ x y. is_lt (cmp x y)) f =
-      always_returns_same g (λ a r. is_lt r ≡ is_lt (cmp a.0.now a.1.0.now)) f
-      (λ a r f' k. (ap is_lt (h a r f' k).0, (h a r f' k).1)) in
-      sorted_is xs ys (up (λ x y. is_lt (cmp x y)) weak calls) (stable (λ x y. is_lt (cmp x y)) weak calls)
-
--- the same, where what is compared is a part of each element
-pub sorted_by_part :
-    {A X : Type 0} (part : A → X) (cmp : X → X → Ordering) → IsTotalOrder cmp
-    → {F : Type 0} {g : Mut F (Bor A × (Bor A × Unit {0})) Ordering} {f : F} (xs ys : List A) → IsSortedByClosure g f ys
-    → IsStableByClosure g f xs ys
-    → ((a : Bor A × (Bor A × Unit {0})) (r : Ordering) (f' : F) → Called g f a r f'
-    → (r ≡ cmp (part a.0.now) (part a.1.0.now)) × (f' ≡ f)) → map part ys ≡ sorted cmp (map part xs)
-sorted_by_part part cmp total xs ys up stable h =
-    ap (map part) (sorted_by (on part cmp) (on_total part total) xs ys up stable h) ∙ sym (sorted-map cmp part xs)

@@ -56,6 +56,7 @@ use Rattle.view_lang.specs.RowOrder.{row_cmp, tuple_cmp}
 use Rattle.view_lang.specs.Rows.{IsRow}
 use Rattle.view_lang.specs.Sorted.{placed, sorted}
 use Rattle.view_lang.specs.Sums.{CanSum, IsSummable}
+use Rattle.view_lang.specs.Truth.{passes}
 use Rattle.view_lang.specs.ViewColumns.{
   aggregate_field,
   field_at,
@@ -217,6 +218,7 @@ summable :
 summable fs by (aggregate.Key k) row is fit = tt
 summable fs by aggregate.Count row is fit = tt
 summable fs by (aggregate.CountOf k) row is fit = tt
+summable fs by (aggregate.Distinct k) row is fit = tt
 summable fs by (aggregate.Sum k) row is fit =
     added_small (field_at fs k) (cell_at row k) is.1 (cell_fits fs row k fit is.0)
 summable fs by (aggregate.Least k) row is fit = tt
@@ -249,25 +251,27 @@ module _ (fs : List (Rose NamedType)) (such : AreSuch fs) (rows : List (List Dat
       All-map (AreFit (map (output_field fs) os)) (shown_row os) rows
       (All-weaker (AreFit fs) (λ row. AreFit (map (output_field fs) os) (shown_row os row))
       (λ row fit. plain_fits fs os row is fit) rows all)
-  outputs_fit (groups by os) is =
+  outputs_fit (groups by os having) is =
       let made : List (Rose NamedType) = map (λ o. aggregate_field fs by o.name o.aggregate) os in
-      All-map (AreFit made) (λ tuple. group_row os tuple (rows_with by tuple rows)) (tuples_of by rows)
+      All-filter (passes having) (AreFit made) (group_rows by os rows)
+      (All-map (AreFit made) (λ tuple. group_row os tuple (rows_with by tuple rows)) (tuples_of by rows)
       (All-weaker (IsTuple fs by) (λ tuple. AreFit made (group_row os tuple (rows_with by tuple rows)))
-      (λ tuple held. with_tuple by os tuple is.1 held) (tuples_of by rows) (tuples_fit fs by rows is.0 all))
+      (λ tuple held. with_tuple by os tuple is.1 held) (tuples_of by rows) (tuples_fit fs by rows is.0 all)))
 
   outputs_few : (os : Outputs) → length (output_rows os rows) ≤ max_main_rows
   unfolding output_rows group_rows
   outputs_few (columns os) = omega (arith, few, length-map rows (shown_row os))
-  outputs_few (groups by os) =
+  outputs_few (groups by os having) =
       omega (
         arith,
+        few_filtered (passes having) (group_rows by os rows),
         few_tuples by rows few,
         length-map (tuples_of by rows) (λ tuple. group_row os tuple (rows_with by tuple rows)),
       )
 
   outputs_summable : (os : Outputs) → AreOutputs fs os → CanSum os rows
   outputs_summable (columns os) is = tt
-  outputs_summable (groups by os) is = (
+  outputs_summable (groups by os having) is = (
     few,
     All-weaker (AreFit fs) (λ row. All (λ o. IsSummable o.aggregate row) os) (λ row fit. row_summable fs by os row is.1
         fit)

@@ -34,6 +34,7 @@ pub record View : Type 0 where
   pub outputs : Outputs
   pub order : List OrderBy
   pub first : Option ℕ
+  pub coded_outputs : List ℕ
 
 pub record Config : Type 0 where
   pub main : Table
@@ -59,7 +60,7 @@ feed_code =
     (λ p. record { name = p.0; role = p.1 }) (λ _. refl)
 
 abbrev pub ViewParts : Type 0
-ViewParts = List ℕ × (Option Lookup × (Option Filter × (Outputs × (List OrderBy × Option ℕ))))
+ViewParts = List ℕ × (Option Lookup × (Option Filter × (Outputs × (List OrderBy × (Option ℕ × List ℕ)))))
 
 abbrev pub view_code : Coded View
 view_code =
@@ -67,15 +68,17 @@ view_code =
     (coded× (coded_list coded_ℕ)
     (coded× (coded_option lookup_type.the_row.coded)
     (coded× (coded_option filter_code)
-    (coded× outputs_code (coded× (coded_list order_type.the_row.coded) (coded_option coded_ℕ))))))
-    (λ v. (v.name, (v.lookup, (v.filter, (v.outputs, (v.order, v.first))))))
+    (coded× outputs_code
+    (coded× (coded_list order_type.the_row.coded) (coded× (coded_option coded_ℕ) (coded_list coded_ℕ)))))))
+    (λ v. (v.name, (v.lookup, (v.filter, (v.outputs, (v.order, (v.first, v.coded_outputs)))))))
     (λ p. record {
       name = p.0;
       lookup = p.1.0;
       filter = p.1.1.0;
       outputs = p.1.1.1.0;
       order = p.1.1.1.1.0;
-      first = p.1.1.1.1.1;
+      first = p.1.1.1.1.1.0;
+      coded_outputs = p.1.1.1.1.1.1;
     })
     (λ _. refl)
 

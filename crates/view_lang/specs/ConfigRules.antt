@@ -3,6 +3,7 @@ use Rattle.std.specs.Prelude.{◌≡◌, ℕ, suc, ◌<◌, ◌≤◌, true, All
 use Rattle.std.specs.Str.{is_utf8}
 use Rattle.values.specs.declared.col_type.ColType.{ColType}
 use Rattle.values.specs.declared.col_type.ColType.TheVariants as col
+use Rattle.values.specs.Coded.{AreCoded}
 use Rattle.values.specs.ColTypes.{IsSingle}
 use Rattle.values.specs.Limits.{max_fields, max_main_rows}
 use Rattle.values.specs.Logical.{NamedType}
@@ -67,6 +68,7 @@ abbrev pub IsAggregate : List (Rose NamedType) → List ℕ → Aggregate → Ty
 IsAggregate fields by (aggregate.Key k) = k < length by
 IsAggregate fields by aggregate.Count = Unit {0}
 IsAggregate fields by (aggregate.CountOf k) = IsColumn fields k
+IsAggregate fields by (aggregate.Distinct k) = IsOrdered fields k
 IsAggregate fields by (aggregate.Sum k) = IsColumn fields k × IsAddable (type_of (field_at fields k))
 IsAggregate fields by (aggregate.Least k) = IsOrdered fields k
 IsAggregate fields by (aggregate.Greatest k) = IsOrdered fields k
@@ -83,10 +85,15 @@ IsGroupOutput fields by o = IsText o.name × IsAggregate fields by o.aggregate
 
 abbrev pub AreOutputs : List (Rose NamedType) → Outputs → Type 0
 AreOutputs fields (columns outputs) = All (IsOutput fields) outputs
-AreOutputs fields (groups by outputs) = All (IsOrdered fields) by × All (IsGroupOutput fields by) outputs
+AreOutputs fields (groups by outputs having) = All (IsOrdered fields) by × All (IsGroupOutput fields by) outputs
 
--- A view of these tables: 1 to 64 columns, with at most 1,024 fields at all levels, and each column that it names is
--- there.
+-- The columns that the filter of group rows names are columns of the output.
+abbrev pub IsHaving : List (Rose NamedType) → Outputs → Type 0
+IsHaving fields (columns outputs) = Unit {0}
+IsHaving fields (groups by outputs having) = IsFilterOf fields having
+
+-- A view of these tables: 1 to 64 columns, with at most 1,024 fields at all levels, each column that it names is there,
+-- and those that are coded are texts.
 pub record IsView (tables : List Table) (v : View) : Type 0 where
   pub lookup : IsLookup tables v.lookup
   pub filter : IsFilterOf (joined_columns tables v.lookup) v.filter
@@ -94,7 +101,9 @@ pub record IsView (tables : List Table) (v : View) : Type 0 where
   pub some : 1 ≤ length (view_columns tables v)
   pub few : length (view_columns tables v) ≤ max_columns
   pub small : roses_size (kids_of (view_columns tables v)) ≤ max_fields
+  pub having : IsHaving (view_columns tables v) v.outputs
   pub order : All (λ o. IsOrdered (view_columns tables v) o.column) v.order
+  pub coded : AreCoded v.coded_outputs (view_columns tables v)
 
 -- a feed of a table that is there
 abbrev pub IsFeed : List Table → FeedConfig → Type 0

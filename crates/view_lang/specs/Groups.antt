@@ -4,6 +4,7 @@ use Rattle.std.specs.List.{dedup}
 use Rattle.std.specs.Ordering.{is_eq, is_gt}
 use Rattle.values.specs.Datum.{Datum, null, whole}
 use Rattle.view_lang.specs.Cells.{cell_at, cells_at, is_null}
+use Rattle.view_lang.specs.Contents.{is_among}
 use Rattle.view_lang.specs.Sorted.{sorted}
 use Rattle.view_lang.specs.Outputs.{GroupOutput}
 use Rattle.view_lang.specs.RowOrder.{cell_cmp, tuple_cmp}
@@ -52,10 +53,16 @@ first_in o (d ∷ ds) = earlier o d (first_in o ds)
 abbrev pub count_of : {X : Type 0} → List X → Datum
 count_of xs = whole (pos (length xs))
 
+-- each value once
+unfoldable pub distinct : List Datum → List Datum
+distinct [] = []
+distinct (d ∷ ds) = cond (is_among d ds) (distinct ds) (d ∷ distinct ds)
+
 abbrev pub aggregate_of : Aggregate → List Datum → List (List Datum) → Datum
 aggregate_of (aggregate.Key k) tuple rows = cell_at tuple k
 aggregate_of aggregate.Count tuple rows = count_of rows
 aggregate_of (aggregate.CountOf k) tuple rows = count_of (values_at k rows)
+aggregate_of (aggregate.Distinct k) tuple rows = count_of (distinct (values_at k rows))
 aggregate_of (aggregate.Sum k) tuple rows = sum_of (values_at k rows)
 aggregate_of (aggregate.Least k) tuple rows = first_in direction.Ascending (values_at k rows)
 aggregate_of (aggregate.Greatest k) tuple rows = first_in direction.Descending (values_at k rows)

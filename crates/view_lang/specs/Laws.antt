@@ -11,6 +11,7 @@ use Rattle.view_lang.specs.Config.{Table, View}
 use Rattle.view_lang.specs.ConfigRules.{IsView}
 use Rattle.view_lang.specs.Contents.{Contents, applied, keys_in, no_contents}
 use Rattle.view_lang.specs.Edits.{TableEdit}
+use Rattle.view_lang.specs.Filter.{Filter}
 use Rattle.view_lang.specs.Joined.{Side, looked_up}
 use Rattle.view_lang.specs.Outputs.{GroupOutput, groups}
 use Rattle.view_lang.specs.Rows.{IsRow}
@@ -61,11 +62,11 @@ ViewsHaveFewRows =
     (tables : List Table) (v : View) (side : Side) (rows : List (List Datum)) → Viewed tables v side rows
     → length (view_rows v side rows) ≤ max_main_rows
 
--- What a view groups by, and what it shows the least or the greatest of, is neither a list nor a struct;
+-- What a view groups by, and what it compares of a group's rows, is neither a list nor a struct;
 abbrev pub ViewsUseKeys : Type 0
 ViewsUseKeys =
-    (tables : List Table) (v : View) (by : List ℕ) (outs : List GroupOutput) (side : Side) (rows : List (List Datum))
-    → Viewed tables v side rows → v.outputs ≡ groups by outs
+    (tables : List Table) (v : View) (by : List ℕ) (outs : List GroupOutput) (having : Option Filter) (side : Side)
+    (rows : List (List Datum)) → Viewed tables v side rows → v.outputs ≡ groups by outs having
     → AllByRecursion (UsesKeys by outs) (view_input v side rows)
 
 -- nor is what its rows are ordered by.

@@ -28,6 +28,5 @@ pub mod Rows
 pub mod Sums
 pub mod Laws
 pub mod Sample
-pub mod Runs
 pub mod ViewLaws
 pub mod ViewSamples

@@ -5,4 +5,4 @@ use Rattle.view_lang.specs.declared.view.Outputs.TheVariants.{Columns, Groups}
 
 abbrev pub outputs_of : Stored → Outputs
 outputs_of (Columns outputs) = columns outputs.items
-outputs_of (Groups by outputs) = groups by.items outputs.items
+outputs_of (Groups by outputs having) = groups by.items outputs.items having

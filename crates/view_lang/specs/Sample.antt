@@ -68,6 +68,7 @@ sample_view =
       outputs = columns (record { name = 98 ∷ []; column = 1 } ∷ record { name = 122 ∷ []; column = 3 } ∷ []);
       order = [];
       first = None;
+      coded_outputs = [];
     }
 
 abbrev pub sample_shown : List (List Datum)

@@ -1,8 +1,8 @@
 -- Sums that 128 bits hold.
-use Rattle.std.specs.Prelude.{ℕ, ◌≤◌, ◌^◌, ℤ, pos, neg_ℤ, ◌≤ℤ◌, List, [], ◌∷◌, length, All}
+use Rattle.std.specs.Prelude.{ℕ, ◌≤◌, ◌^◌, ℤ, pos, neg_ℤ, ◌≤ℤ◌, List, length, All}
 use Rattle.values.specs.Datum.{Datum}
 use Rattle.values.specs.Limits.{max_main_rows}
-use Rattle.view_lang.specs.Cells.{cell_at, cells_at}
+use Rattle.view_lang.specs.Cells.{cell_at}
 use Rattle.view_lang.specs.Groups.{number_in}
 use Rattle.view_lang.specs.Outputs.{GroupOutput, Outputs, columns, groups}
 use Rattle.view_lang.specs.declared.view.Aggregate.{Aggregate}
@@ -20,12 +20,7 @@ IsSummable _ row = Unit {0}
 abbrev pub AreSummable : List GroupOutput → List (List Datum) → Type 0
 AreSummable outs rows = (length rows ≤ max_main_rows) × All (λ row. All (λ o. IsSummable o.aggregate row) outs) rows
 
--- the tuple of a group
-abbrev pub first_tuple : List ℕ → List (List Datum) → List Datum
-first_tuple by [] = []
-first_tuple by (row ∷ rows) = cells_at by row
-
 -- the sums of the outputs can be made for each group of these rows
 abbrev pub CanSum : Outputs → List (List Datum) → Type 0
 CanSum (columns outputs) rows = Unit {0}
-CanSum (groups by outputs) rows = AreSummable outputs rows
+CanSum (groups by outputs having) rows = AreSummable outputs rows

@@ -66,13 +66,14 @@ abbrev pub aggregate_field : List (Rose NamedType) → List ℕ → List ℕ →
 aggregate_field fields by name (aggregate.Key k) = renamed name (field_at fields (get_or by k 0))
 aggregate_field fields by name aggregate.Count = simple_field name count_type
 aggregate_field fields by name (aggregate.CountOf k) = simple_field name count_type
+aggregate_field fields by name (aggregate.Distinct k) = simple_field name count_type
 aggregate_field fields by name (aggregate.Sum k) = simple_field name (sum_type (type_of (field_at fields k)))
 aggregate_field fields by name (aggregate.Least k) = renamed name (field_at fields k)
 aggregate_field fields by name (aggregate.Greatest k) = renamed name (field_at fields k)
 
 abbrev pub output_fields : List (Rose NamedType) → Outputs → List (Rose NamedType)
 output_fields fields (columns outputs) = map (output_field fields) outputs
-output_fields fields (groups by outputs) = map (λ o. aggregate_field fields by o.name o.aggregate) outputs
+output_fields fields (groups by outputs having) = map (λ o. aggregate_field fields by o.name o.aggregate) outputs
 
 abbrev pub view_columns : List Table → View → List (Rose NamedType)
 view_columns tables v = output_fields (joined_columns tables v.lookup) v.outputs

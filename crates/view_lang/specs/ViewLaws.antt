@@ -193,6 +193,7 @@ abbrev pub IsKeyCell : Datum → Type 0
 IsKeyCell d = IsSome (key_of d)
 
 abbrev pub ComparesKeys : Aggregate → List Datum → Type 0
+ComparesKeys (aggregate.Distinct k) row = IsKeyCell (cell_at row k)
 ComparesKeys (aggregate.Least k) row = IsKeyCell (cell_at row k)
 ComparesKeys (aggregate.Greatest k) row = IsKeyCell (cell_at row k)
 ComparesKeys _ row = Unit {0}
@@ -208,45 +209,15 @@ GroupsOfMultiset =
     (by : List ℕ) (outs : List GroupOutput) (rows others : List (List Datum)) → IsPermutation rows others
     → AllByRecursion (UsesKeys by outs) rows → group_rows by outs rows ≡ group_rows by outs others
 
--- What can be kept of groups and of an order.
+-- What can be kept of groups.
 
 abbrev pub first_or_null : List Datum → Datum
 first_or_null [] = null
 first_or_null (d ∷ ds) = d
 
--- The least and the greatest are the first of the sorted values, and a sum is that of the sorted values.
+-- The least and the greatest are the first of the sorted values.
 abbrev pub FirstOfSorted : Type 0
 FirstOfSorted = (o : Direction) (ds : List Datum) → first_in o ds ≡ first_or_null (sorted (cell_cmp o) ds)
-
-abbrev pub TotalOfSorted : Type 0
-TotalOfSorted = (o : Direction) (ds : List Datum) → total (sorted (cell_cmp o) ds) ≡ total ds
-
--- rows by their order, and by number where they tie
-abbrev pub numbered_cmp : List OrderBy → ℕ × List Datum → ℕ × List Datum → Ordering
-numbered_cmp os = then_cmp (on (λ e. e.1) (row_cmp os)) (on (λ e. e.0) nat_cmp)
-
--- rows by their order, and by grouping tuple where they tie
-abbrev pub grouped_cmp : List OrderBy → List Datum × List Datum → List Datum × List Datum → Ordering
-grouped_cmp os = then_cmp (on (λ e. e.1) (row_cmp os)) (on (λ e. e.0) tuple_cmp)
-
--- Rows that ascend by number are sorted as by number where they tie, and group rows as by their tuples.
-abbrev pub OrderByNumber : Type 0
-OrderByNumber =
-    (os : List OrderBy) (rows : List (ℕ × List Datum)) → IsStrictlySortedBy (λ a b. nat_cmp a.0 b.0) rows
-    → map (λ e. e.1) (sorted (numbered_cmp os) rows) ≡ sorted (row_cmp os) (map (λ e. e.1) rows)
-
-abbrev pub OrderByTuple : Type 0
-OrderByTuple =
-    (os : List OrderBy) (rows : List (List Datum × List Datum)) → IsStrictlySortedBy (λ a b. tuple_cmp a.0 b.0) rows
-    → map (λ e. e.1) (sorted (grouped_cmp os) rows) ≡ sorted (row_cmp os) (map (λ e. e.1) rows)
-
--- One more row, wherever it stands, is put in its place among the sorted ones.
-abbrev pub RowInserted : Type 0
-RowInserted =
-    (os : List OrderBy) (rows others : List (ℕ × List Datum)) (r : ℕ × List Datum)
-    → AllByRecursion (λ q. numbered_cmp os q r ≡ Equal → q ≡ r) rows
-    → sorted (numbered_cmp os) (rows ++ r ∷ others)
-    ≡ placed (numbered_cmp os) r (sorted (numbered_cmp os) (rows ++ others))
 
 -- Rows one by one.
 

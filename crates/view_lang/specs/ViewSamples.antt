@@ -33,6 +33,7 @@ view_by l f outputs order first = record {
   outputs = outputs;
   order = order;
   first = first;
+  coded_outputs = [];
 }
 
 abbrev pub by_column : ℕ → Direction → List OrderBy
@@ -80,12 +81,27 @@ text_outputs =
     made (aggregate.Key 0) ∷ made aggregate.Count ∷ made (aggregate.Sum 2) ∷ made (aggregate.Greatest 2) ∷ []
 
 abbrev pub by_text : View
-by_text = view_by None None (groups (1 ∷ []) text_outputs) [] None
+by_text = view_by None None (groups (1 ∷ []) text_outputs None) [] None
+
+-- Of two groups one has two distinct amounts. It alone is shown, and is the first that is.
+
+abbrev pub paired_rows : List (List Datum)
+paired_rows =
+    (number 4 ∷ text (codes "a") ∷ number 1 ∷ []) ∷ (number 5 ∷ text (codes "a") ∷ null ∷ []) ∷ grouped_rows
+
+abbrev pub pair_outputs : List GroupOutput
+pair_outputs = made (aggregate.Key 0) ∷ made aggregate.Count ∷ made (aggregate.Distinct 2) ∷ []
+
+abbrev pub at_least_two : Filter
+at_least_two = compare than.AtLeast 2 (operand.Constant (number 2))
+
+abbrev pub first_pair : View
+first_pair = view_by None None (groups (1 ∷ []) pair_outputs (Some at_least_two)) [] (Some 1)
 
 -- Without grouping columns there is one row, also over none.
 
 abbrev pub in_all : View
-in_all = view_by None None (groups [] (made aggregate.Count ∷ made (aggregate.Sum 2) ∷ [])) [] None
+in_all = view_by None None (groups [] (made aggregate.Count ∷ made (aggregate.Sum 2) ∷ []) None) [] None
 
 -- A side table with one row.
 

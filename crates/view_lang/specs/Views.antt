@@ -27,10 +27,10 @@ output_cell row o = cell_at row o.column
 abbrev pub shown_row : List Output → List Datum → List Datum
 shown_row outputs row = map (output_cell row) outputs
 
--- Plain rows stand by arrival, group rows by their tuples.
+-- Plain rows stand by arrival, group rows by their tuples; of these only those are there of which `having` is true.
 unfoldable pub output_rows : Outputs → List (List Datum) → List (List Datum)
 output_rows (columns outputs) rows = map (shown_row outputs) rows
-output_rows (groups by outputs) rows = group_rows by outputs rows
+output_rows (groups by outputs having) rows = filter (passes having) (group_rows by outputs rows)
 
 abbrev pub first_of : {X : Type 0} → Option ℕ → List X → List X
 first_of None xs = xs

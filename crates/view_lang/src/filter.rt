@@ -1,18 +1,20 @@
 //! Filters, and their truth for a row.
 
-ghost use Rattle.std.specs.Prelude.{◌≡◌};
+ghost use Rattle.std.specs.Prelude.{◌≡◌, IfOk};
 ghost use Rattle.view_lang.specs.Filter.{parts_of};
 ghost use Rattle.view_lang.specs.Truth.{
   both as both_by,
   compared as compared_by,
   either as either_by,
   negated as negated_by,
+  passes as passes_by,
   truth,
   truth_of_all as all_by,
   truth_of_any as any_by,
 };
 
 use crate::cells::{cell_or, is_null, no_value};
+use std::alloc::{AllocError, Global};
 use std::marker::Model;
 use values::{Value, cmp_values};
 
@@ -42,7 +44,19 @@ pub enum Operand {
     Column(usize),
 }
 
-/// A test of joined rows. Contracts see it as a `Filter` of `specs/Filter.antt`.
+impl Operand {
+    /// An equal operand with memory of its own.
+    pub fn copy(&self, alloc: Global) -> Result<Operand, AllocError>
+        ensures { IfOk result (λ o. o ≡ self.now) }
+    {
+        match self {
+            Operand::Constant(value) => Ok(Operand::Constant(value.copy(alloc)?)),
+            Operand::Column(column) => Ok(Operand::Column(*column)),
+        }
+    }
+}
+
+/// A test of rows: of joined rows, or of the rows of groups. Contracts see it as a `Filter` of `specs/Filter.antt`.
 #[cycle(filter)]
 #[derive(Debug, Drop)]
 pub struct Filter {
@@ -139,7 +153,30 @@ fn either(a: Option<bool>, b: Option<bool>) -> Option<bool>
 }
 
 impl Filter {
-    /// Whether the filter is true of a joined row: `None` where that is unknown, since a null is compared.
+    /// An equal filter with memory of its own.
+    #[cycle(copy)]
+    pub fn copy(&self, alloc: Global) -> Result<Filter, AllocError>
+        ensures { IfOk result (λ f. f ≡ self.now) }
+    {
+        let test = match &self.test {
+            Test::Compare {
+                comparison,
+                column,
+                with,
+            } => Test::Compare {
+                comparison: *comparison,
+                column: *column,
+                with: with.copy(alloc)?,
+            },
+            Test::IsNull(column) => Test::IsNull(*column),
+            Test::Not(part) => Test::Not(Box::new(alloc, part.copy(alloc)?)?),
+            Test::And(parts) => Test::And(copy_parts(alloc, parts)?),
+            Test::Or(parts) => Test::Or(copy_parts(alloc, parts)?),
+        };
+        Ok(Filter { test })
+    }
+
+    /// Whether the filter is true of a row: `None` where that is unknown, since a null is compared.
     #[cycle(truth)]
     #[tactic(auto, unfolding(crate::specs::Truth::truth))]
     pub fn truth(&self, row: &[Value]) -> Option<bool>
@@ -168,6 +205,18 @@ impl Filter {
     }
 }
 
+#[cycle(copy)]
+#[tactic(auto, using(crate::proofs::Truths::part_smaller))]
+fn copy_parts(alloc: Global, parts: &[Filter]) -> Result<Vec<Filter>, AllocError>
+    ensures { IfOk result (λ copies. copies.items ≡ parts.now) }
+{
+    let mut copies = Vec::with_capacity(alloc, parts.len())?;
+    for part in parts {
+        copies.push(part.copy(alloc)?)?;
+    }
+    Ok(copies)
+}
+
 /// Whether all of the filters are true.
 #[cycle(truth)]
 #[tactic(auto, using(crate::proofs::Truths::part_smaller))]
@@ -192,4 +241,15 @@ fn truth_of_any(parts: &[Filter], row: &[Value]) -> Option<bool>
         known = either(known, part.truth(row));
     }
     known
+}
+
+/// Whether a filter, if there is one, is true of a row.
+#[tactic(auto, unfolding(crate::specs::Truth::passes))]
+pub fn passes(filter: &Option<Filter>, row: &[Value]) -> bool
+    ensures { result ≡ passes_by filter.now row.now }
+{
+    match filter {
+        Some(filter) => filter.truth(row).unwrap_or(false),
+        None => true,
+    }
 }

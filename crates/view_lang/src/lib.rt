@@ -8,13 +8,11 @@
 //! `specs/Laws.antt` and `specs/ViewLaws.antt` say what follows.
 #![tactic(auto)]
 
-mod aggregates;
 mod cells;
 mod change;
 mod config;
-mod evaluation;
 mod filter;
-mod groups;
+mod join;
 mod laws;
 mod limits;
 mod rows;
@@ -28,15 +26,14 @@ mod view_laws;
 
 pub use change::{Change, RowChange};
 pub use config::{Config, FeedConfig, Role, SideTable, Table};
-pub use filter::{Comparison, Filter, Operand, Test};
+pub use filter::{Comparison, Filter, Operand, Test, passes};
 pub use laws::{config_law, key_law, limits_law, rows_law, sample_law};
 pub use limits::MAX_COLUMN_NAME_LEN;
-pub use rows::project;
+pub use rows::{passing_rows, project};
+pub use schemas::output_fields;
 pub use unfit::Unfit;
 pub use upkeep::Upkeep;
 pub use view::{
     Aggregate, Direction, GroupOutput, Lookup, Missing, OrderBy, Output, Outputs, View,
 };
-pub use view_laws::{
-    group_law, image_law, keeping_law, one_by_one_law, order_law, truth_law, worked_law,
-};
+pub use view_laws::{group_law, image_law, one_by_one_law, order_law, truth_law, worked_law};

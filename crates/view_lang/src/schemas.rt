@@ -133,7 +133,9 @@ fn group_field(
     let name = output.name.as_str();
     match output.aggregate {
         Aggregate::Key(place) => copy_as(alloc, name, joined_field(main, side, by[place])),
-        Aggregate::Count | Aggregate::CountOf(_) => simple_field(alloc, name, count_type()),
+        Aggregate::Count | Aggregate::CountOf(_) | Aggregate::Distinct(_) => {
+            simple_field(alloc, name, count_type())
+        }
         Aggregate::Sum(column) => {
             let added = &joined_field(main, side, column).col_type;
             simple_field(alloc, name, sum_type(added))
@@ -181,7 +183,7 @@ fn plain_fields(
 }
 
 /// The columns of a view's outputs, over columns of joined rows.
-fn shown_fields(
+pub fn output_fields(
     alloc: Global,
     main: &[LogicalField],
     side: &[LogicalField],
@@ -192,7 +194,7 @@ fn shown_fields(
 {
     match outputs {
         Outputs::Columns(outputs) => plain_fields(alloc, main, side, outputs),
-        Outputs::Groups { by, columns } => group_fields(alloc, main, side, by, columns),
+        Outputs::Groups { by, columns, .. } => group_fields(alloc, main, side, by, columns),
     }
 }
 
@@ -230,9 +232,9 @@ impl Config {
         match &view.lookup {
             Some(lookup) => {
                 let side = &self.sides[lookup.side].table.columns;
-                shown_fields(alloc, main, side, &view.outputs)
+                output_fields(alloc, main, side, &view.outputs)
             }
-            None => shown_fields(alloc, main, &[], &view.outputs),
+            None => output_fields(alloc, main, &[], &view.outputs),
         }
     }
 

@@ -59,59 +59,21 @@ fn negation(alloc: Global, filter: Filter) -> Result<Filter, AllocError> {
     })
 }
 
-/// A view of these columns.
-fn plain(
-    alloc: Global,
-    columns: &[usize],
-    order: Vec<OrderBy>,
-    first: Option<usize>,
-) -> Result<View, AllocError>
-    ensures { IfOk result (λ view. (rows : List (List Datum)) → CanSum view.outputs rows) }
-{
+/// A view of the first column.
+fn plain(alloc: Global) -> Result<View, AllocError> {
     let mut outputs = Vec::new(alloc);
-    for column in columns {
-        outputs.push(Output {
-            name: String::from_str(alloc, "shown")?,
-            column: *column,
-        })?;
-    }
+    outputs.push(Output {
+        name: String::from_str(alloc, "shown")?,
+        column: 0,
+    })?;
     Ok(View {
         name: String::from_str(alloc, "plain")?,
         lookup: None,
         filter: None,
         outputs: Outputs::Columns(outputs),
-        order,
-        first,
-    })
-}
-
-fn made(alloc: Global, aggregate: Aggregate) -> Result<GroupOutput, AllocError>
-    ensures { IfOk result (λ o. o.aggregate ≡ aggregate) }
-{
-    Ok(GroupOutput {
-        name: String::from_str(alloc, "made")?,
-        aggregate,
-    })
-}
-
-/// A view of groups of rows that are alike in the first column: it, how many they are, and the greatest second cell.
-fn grouped(alloc: Global) -> Result<View, AllocError>
-    ensures { IfOk result (λ view.
-        (rows : List (List Datum)) → length rows ≤ max_main_rows → CanSum view.outputs rows) }
-{
-    let mut by = Vec::new(alloc);
-    by.push(0)?;
-    let mut columns = Vec::new(alloc);
-    columns.push(made(alloc, Aggregate::Key(0))?)?;
-    columns.push(made(alloc, Aggregate::Count)?)?;
-    columns.push(made(alloc, Aggregate::Greatest(1))?)?;
-    Ok(View {
-        name: String::from_str(alloc, "grouped")?,
-        lookup: None,
-        filter: None,
-        outputs: Outputs::Groups { by, columns },
         order: Vec::new(alloc),
         first: None,
+        coded_outputs: Vec::new(alloc),
     })
 }
 
@@ -158,7 +120,7 @@ fn an_unknown_part_may_leave_all_known(rt: HostRuntime) -> Result<(), Fail> {
 
 #[test]
 fn keeps_what_is_true(rt: HostRuntime) -> Result<(), Fail> {
-    let mut view = plain(rt.alloc(), &[0], Vec::new(rt.alloc()), None)?;
+    let mut view = plain(rt.alloc())?;
     assert!(rt; view.keeps(&row(rt.alloc(), &[NULL])?));
     view.filter = Some(at_least_zero());
     assert!(rt; view.keeps(&row(rt.alloc(), &[0])?));
@@ -168,7 +130,7 @@ fn keeps_what_is_true(rt: HostRuntime) -> Result<(), Fail> {
 
 #[test]
 fn joins_what_is_found(rt: HostRuntime) -> Result<(), Fail> {
-    let mut view = plain(rt.alloc(), &[0], Vec::new(rt.alloc()), None)?;
+    let mut view = plain(rt.alloc())?;
     let lookup = Lookup {
         side: 0,
         on: 1,
@@ -190,45 +152,6 @@ fn joins_what_is_found(rt: HostRuntime) -> Result<(), Fail> {
     });
     let dropped = view.join(rt.alloc(), row(rt.alloc(), &[1, 7])?, None)?;
     assert!(rt; dropped.is_none());
-    Ok(())
-}
-
-#[test]
-fn shows_the_first_in_order(rt: HostRuntime) -> Result<(), Fail> {
-    let mut order = Vec::new(rt.alloc());
-    order.push(OrderBy {
-        column: 1,
-        direction: Direction::Descending,
-    })?;
-    let view = plain(rt.alloc(), &[1, 0], order, Some(3))?;
-    let mut input = Vec::new(rt.alloc());
-    input.push(row(rt.alloc(), &[NULL, 1])?)?;
-    input.push(row(rt.alloc(), &[3, 2])?)?;
-    input.push(row(rt.alloc(), &[4, 3])?)?;
-    input.push(row(rt.alloc(), &[3, 4])?)?;
-    let shown = view.show(rt.alloc(), input)?;
-    let [first, second, third] = shown.as_slice() else {
-        return Err(Fail::from("not three rows"));
-    };
-    assert!(rt; is_row(first, &[3, 4]));
-    assert!(rt; is_row(second, &[2, 3]));
-    assert!(rt; is_row(third, &[4, 3]));
-    Ok(())
-}
-
-#[test]
-fn shows_a_row_for_each_group(rt: HostRuntime) -> Result<(), Fail> {
-    let view = grouped(rt.alloc())?;
-    let mut input = Vec::new(rt.alloc());
-    input.push(row(rt.alloc(), &[7, 1])?)?;
-    input.push(row(rt.alloc(), &[5, NULL])?)?;
-    input.push(row(rt.alloc(), &[7, 3])?)?;
-    let shown = view.show(rt.alloc(), input)?;
-    let [fives, sevens] = shown.as_slice() else {
-        return Err(Fail::from("not two groups"));
-    };
-    assert!(rt; is_row(fives, &[5, 1, NULL]));
-    assert!(rt; is_row(sevens, &[7, 2, 3]));
     Ok(())
 }
 

@@ -7,7 +7,7 @@ use crate::filter::Filter;
 use std::marker::Model;
 
 /// A view: the rows of the main table are joined with a side table's, filtered, projected or grouped, sorted, and cut
-/// to the first, in this order.
+/// to the first, in this order. Group rows may be filtered once more before they are sorted.
 #[derive(Debug, Drop)]
 pub struct View {
     pub name: String,
@@ -18,6 +18,8 @@ pub struct View {
     pub order: Vec<OrderBy>,
     /// How many rows the view shows at most; all where there is no number.
     pub first: Option<usize>,
+    /// The outputs that are written with dictionaries, by their places, in ascending order.
+    pub coded_outputs: Vec<usize>,
 }
 
 impl Model for View {
@@ -37,6 +39,7 @@ impl Model for View {
       outputs = outputs_of v.outputs;
       order = v.order.items;
       first = v.first;
+      coded_outputs = v.coded_outputs.items;
     } };
 }
 
@@ -71,6 +74,8 @@ pub enum Outputs {
     Groups {
         by: Vec<usize>,
         columns: Vec<GroupOutput>,
+        /// Only rows are shown of which it is true. Its columns are places in `columns`.
+        having: Option<Filter>,
     },
 }
 
@@ -120,6 +125,8 @@ pub enum Aggregate {
     Count,
     /// In how many of the group's rows this column isn't null.
     CountOf(usize),
+    /// How many distinct values this column has in the group's rows, nulls left out.
+    Distinct(usize),
     /// The sum of this column's values that aren't null; null where there is none.
     Sum(usize),
     /// The least of this column's values that aren't null; null where there is none.

@@ -5,7 +5,6 @@ ghost use Rattle.values.specs.Datum.{null, text};
 ghost use Rattle.view_lang.specs.Images.{ImageAt, ImageFits, ImagePatched, ImageValues};
 ghost use Rattle.view_lang.specs.ViewLaws.{
   AllOfMeans,
-  FirstOfSorted,
   GroupsOfMultiset,
   KeptOneByOne,
   NeverBoth,
@@ -13,13 +12,9 @@ ghost use Rattle.view_lang.specs.ViewLaws.{
   NotOfComparison,
   NotOfOne,
   OneOfMeans,
-  OrderByNumber,
-  OrderByTuple,
-  RowInserted,
   RowsAreRanked,
   ShownOneByOne,
   SortedIsTheArrangement,
-  TotalOfSorted,
   TuplesAreOfRows,
   TuplesAscend,
   TuplesAsk,
@@ -31,12 +26,14 @@ ghost use Rattle.view_lang.specs.ViewSamples.{
   amounts,
   by_text,
   falling,
+  first_pair,
   first_two,
   grouped_rows,
   in_all,
   no_side,
   not_at_least_zero,
   number,
+  paired_rows,
   placed_rows,
   three_amounts,
   tied_rows,
@@ -79,17 +76,6 @@ pub fn group_law()
     ensures multiset { GroupsOfMultiset }
 {}
 
-/// Groups and orders can be kept: sums, least and greatest values are those of the sorted values, and another row is
-/// put into the sorted rows at its place.
-#[tactic(auto, using(crate::proofs::Keeping::keeping_laws))]
-pub fn keeping_law()
-    ensures first { FirstOfSorted }
-    ensures sum { TotalOfSorted }
-    ensures number { OrderByNumber }
-    ensures tuple { OrderByTuple }
-    ensures inserted { RowInserted }
-{}
-
 /// Joining, filtering and projecting go row by row: the rows that a view is made of, and the plain rows that it shows,
 /// are those that it makes of each row.
 #[tactic(auto, using(crate::proofs::OneByOne::one_by_one_laws))]
@@ -118,6 +104,8 @@ pub fn worked_law()
         ≡ (number 1 ∷ number 5 ∷ []) ∷ (number 2 ∷ number 5 ∷ []) ∷ [] }
     ensures groups { view_rows by_text no_side grouped_rows
         ≡ (text (codes "p") ∷ number 3 ∷ number 22 ∷ number 9 ∷ []) ∷ [] }
+    ensures having { view_rows first_pair no_side paired_rows
+        ≡ (text (codes "p") ∷ number 3 ∷ number 2 ∷ []) ∷ [] }
     ensures no_rows { view_rows in_all no_side [] ≡ (number 0 ∷ null ∷ []) ∷ [] }
     ensures missing_null { view_rows with_nulls zones placed_rows
         ≡ (number 1 ∷ text (codes "x") ∷ []) ∷ (number 2 ∷ null ∷ []) ∷ (number 3 ∷ null ∷ []) ∷ [] }

@@ -14,13 +14,15 @@ use Rattle.schema_meta.proofs.write.write_schema.Goals as goal
 pub write_message-requires : goal.write_message-requires
 write_message-requires c =
     let P : Nodes → Type 0 = λ s. IsWritable (message_slots kind.Schema s 0) in
-    subst P (sym c.in_ok-schema_table.ensures) (schema-writable c.args.schema.now.fields.items c.requires)
+    subst P (sym c.in_ok-table.ensures)
+    (schema-writable c.args.coded.now c.args.schema.now.fields.items c.requires)
 
 pub returns-clause-size : goal.returns-clause-size
 returns-clause-size c =
     let E : Nodes → Type 0 = λ s. object_end 4 (table (message_slots kind.Schema s 0)) < max_metadata_size - 8 in
-    let end = subst E (sym c.in_ok-schema_table.ensures) (schema-end c.args.schema.now.fields.items c.requires) in
-    let at : ℕ = object_end 4 (table (message_slots kind.Schema (slots c.in_ok-schema_table.field-0) 0)) in
+    let end =
+    subst E (sym c.in_ok-table.ensures) (schema-end c.args.coded.now c.args.schema.now.fields.items c.requires) in
+    let at : ℕ = object_end 4 (table (message_slots kind.Schema (slots c.in_ok-table.table) 0)) in
     let fill = up8-le at in
     let P : Vec ℕ Global → Type 0 = λ bytes. length bytes.items ≡ up 8 at in
     let Q : Vec ℕ Global → Type 0 = λ bytes. length bytes.items < max_metadata_size in

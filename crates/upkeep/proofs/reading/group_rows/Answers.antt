@@ -1,19 +1,19 @@
-use Rattle.std.proofs.Common.{◌≡◌, ap, sym, ◌∙◌}
+use Rattle.std.proofs.Common.{◌≡◌, ap, ◌∙◌, take, ℕ}
+use Rattle.std.specs.Option.{unwrap_or}
 use Rattle.std.proofs.lemmas.Result.{IfOk-weaker}
+use Rattle.values.specs.Limits.{max_main_rows}
 use Rattle.view_lang.specs.Cells.{rows_of}
 use Rattle.view_lang.specs.Config.{View}
-use Rattle.view_lang.specs.Outputs.{groups}
-use Rattle.view_lang.specs.OutputsSeen.{outputs_of}
-use Rattle.upkeep.proofs.MadeRows.{groups_shown}
+use Rattle.group_order.specs.Ranked.{ranked_rows}
 use Rattle.upkeep.proofs.reading.group_rows.Goals as goal
 
 pub returns : goal.returns
 returns c =
-    let same : c.args.view.now.outputs ≡ groups c.in-Groups.by.items c.deref.result.now =
-    sym (ap (λ (v : View). v.outputs) c.view.view_is) ∙ ap outputs_of c.in-Groups.is
-    ∙ ap (groups c.in-Groups.by.items) (sym c.deref.ensures.value) in
-    IfOk-weaker c.arrange.result _ _
-    (λ shown is tables side slots kept. is
-    ∙ groups_shown c.reading_law.ensures.groups c.args.view.now c.args.groups.now c.in-Groups.by.items
-    c.deref.result.now (rows_of c.in_ok-made.made.items) same c.in_ok-made.ensures tables side slots kept)
-    c.arrange.ensures
+    let asked = c.unwrap_or.ensures ∙ ap (λ (v : View). unwrap_or v.first max_main_rows) c.view.view_is in
+    let g = c.args.groups.now in
+    IfOk-weaker c.first_rows.result _ _
+    (λ made first tables side slots is.
+    c.reading_law.ensures.groups tables c.args.view.now side slots g (rows_of made.items) is
+    (λ rows k r. first rows k r
+    ∙ ap (λ (m : ℕ). take m (ranked_rows g.groups.keys g.ranking rows)) asked))
+    c.first_rows.ensures

@@ -1,4 +1,4 @@
-use Rattle.upkeep.proofs.MadeRows.{Laws, firsts_are_shown, groups_are_of_input}
+use Rattle.upkeep.proofs.MadeRows.{Laws, firsts_are_shown, groups_are_shown}
 use Rattle.upkeep.proofs.reading.reading_law.Goals as goal
 
 pub returns : goal.returns
@@ -17,4 +17,4 @@ returns c =
       keys = c.rows_law.ensures.keys;
       ordered = c.rows_law.ensures.ordered;
     } in
-    record { groups = groups_are_of_input laws; first = firsts_are_shown laws }
+    record { groups = groups_are_shown laws; first = firsts_are_shown laws }

@@ -1,5 +1,5 @@
 use Rattle.view_config.proofs.Samples.{sample-amounts, sample-constants, sample-faults, sample-limits, sample-pairs}
-use Rattle.view_config.proofs.Samples.{sample-zones}
+use Rattle.view_config.proofs.Samples.{sample-texts, sample-zones}
 use Rattle.view_config.proofs.laws.worked_law.Goals as goal
 
 pub returns : goal.returns
@@ -7,6 +7,7 @@ returns c = record {
   amounts = sample-amounts;
   pairs = sample-pairs;
   zones = sample-zones;
+  texts = sample-texts;
   faults = sample-faults;
   limits = sample-limits;
   constants = sample-constants;

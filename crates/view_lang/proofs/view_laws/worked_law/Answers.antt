@@ -1,5 +1,6 @@
 use Rattle.std.proofs.Common.{refl}
-use Rattle.view_lang.specs.Groups.{first_in, group_row, group_rows, rows_with, total, tuples_of}
+use Rattle.view_lang.specs.Contents.{is_among}
+use Rattle.view_lang.specs.Groups.{distinct, first_in, group_row, group_rows, rows_with, total, tuples_of}
 use Rattle.view_lang.specs.Joined.{joined, joined_row, side_of}
 use Rattle.view_lang.specs.RowOrder.{row_cmp, tuple_cmp}
 use Rattle.view_lang.specs.Sorted.{sorted}
@@ -27,6 +28,11 @@ pub returns-clause-groups : goal.returns-clause-groups
 unfolding view_rows view_input shown_rows output_rows joined joined_row passes sorted row_cmp group_rows group_row
     tuples_of rows_with total first_in tuple_cmp
 returns-clause-groups c = refl
+
+pub returns-clause-having : goal.returns-clause-having
+unfolding view_rows view_input shown_rows output_rows joined joined_row passes sorted row_cmp truth group_rows group_row
+    tuples_of rows_with distinct is_among tuple_cmp
+returns-clause-having c = refl
 
 pub returns-clause-no_rows : goal.returns-clause-no_rows
 unfolding view_rows view_input shown_rows output_rows joined joined_row passes sorted row_cmp group_rows group_row

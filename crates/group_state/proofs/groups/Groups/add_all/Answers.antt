@@ -30,6 +30,10 @@ use Rattle.group_state.specs.Groups.{Keeps, KeepsAt}
 use Rattle.std.proofs.lemmas.List.{take_all}
 use Rattle.group_state.proofs.Steps.{afters-more, afters-few}
 use Rattle.group_state.proofs.Same.{keeps-same}
+use Rattle.group_state.proofs.Touched.{stay-more}
+use Rattle.group_state.specs.Touched.{StayBut, comes}
+use Rattle.std.specs.List.{list_any}
+use Rattle.std.proofs.lemmas.List.{take_all as all_taken}
 use Rattle.group_state.proofs.groups.Groups.add_all.Goals as goal
 
 pub add_after-requires : goal.add_after-requires
@@ -51,8 +55,12 @@ loop-changed-preserved c = (
       (c.loop-changed.invariant.0 rows k)),
   (
     c.add_after.ensures.keys ∙ c.loop-changed.invariant.1.0,
-    c.add_after.ensures.columns
-        ∙ c.loop-changed.invariant.1.1,
+    (
+      c.add_after.ensures.columns ∙ c.loop-changed.invariant.1.1.0,
+      stay-more comes c.args.self.now c.loop-changed.self c.add_after.new.self c.args.changes.now c.loop-changed.changed-index _
+          c.changed-item.result c.loop-changed-test.true c.changed-item.is c.loop-changed.invariant.1.0
+          c.loop-changed.invariant.1.1.1 c.in_ok-add_after.ensures.others,
+    ),
   ),
 )
 
@@ -61,3 +69,9 @@ returns-clause-kept c = λ rows k.
     let P : List Shift → Type 0 = λ es. Keeps c.loop-changed.self (with_afters es rows) in
     subst P (take_all c.loop-changed.changed-index c.args.changes.now c.loop-changed-test.false)
     (c.loop-changed.invariant.0 rows k)
+
+pub returns-clause-others : goal.returns-clause-others
+returns-clause-others c =
+    subst (λ (es : List Shift). StayBut (λ t. list_any (comes c.args.self.now.keys t) es) c.args.self.now
+    c.loop-changed.self) (all_taken c.loop-changed.changed-index c.args.changes.now c.loop-changed-test.false)
+    c.loop-changed.invariant.1.1.1

@@ -29,6 +29,9 @@ use Rattle.view_lang.specs.Counted.{counted}
 use Rattle.group_state.specs.Grouped.{Grouped}
 use Rattle.group_state.specs.Groups.{Keeps, KeepsAt}
 use Rattle.group_state.proofs.Same.{keeps-same}
+use Rattle.group_state.proofs.Touched.{untouched}
+use Rattle.group_state.specs.Touched.{goes}
+use Rattle.std.specs.List.{list_any}
 use Rattle.group_state.proofs.groups.Groups.apply_change.Goals as goal
 
 pub add_all-requires : goal.add_all-requires
@@ -49,3 +52,10 @@ returns-clause-kept c = λ rows fits k.
     let h = rw c.rows.ensures at (c.in_ok-add_all.ensures.kept (values_of rows) k) in
     let r = rw c.rows-2.ensures at (c.in_ok-remove_all.ensures.kept (values_of (patched rows c.args.change.now))) in
     r (keeps-same _ _ (counted rows c.args.change.now fits) c.add_all.new.self h)
+
+pub returns-clause-others : goal.returns-clause-others
+returns-clause-others c = λ t n.
+    let a = rw c.rows.ensures at c.in_ok-add_all.ensures.others in
+    let r = rw c.rows-2.ensures at c.in_ok-remove_all.ensures.others in
+    let u = untouched c.args.self.now.keys t c.args.change.now n in
+    r t (ap (λ ks. list_any (goes ks t) c.args.change.now) c.add_all.ensures.keys ∙ u.0) ∙ a t u.1

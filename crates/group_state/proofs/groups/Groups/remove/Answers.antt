@@ -7,7 +7,10 @@ use Rattle.values.specs.declared.key.Key.{Key}
 use Rattle.group_state.specs.Keys.{tuple_cmp}
 use Rattle.group_state.specs.Grouped.{Grouped}
 use Rattle.group_state.specs.Groups.{Keeps, KeepsAt}
+use Rattle.group_state.specs.Touched.{StayBut}
+use Rattle.group_state.specs.Tuples.{has_tuple}
 use Rattle.group_state.proofs.Members.{keeps-take, take-needs}
+use Rattle.group_state.proofs.Touched.{others-stay}
 use Rattle.group_state.proofs.groups.Groups.remove.Goals as goal
 
 pub take_row-requires : goal.take_row-requires
@@ -25,3 +28,10 @@ returns-clause-kept c = λ rows k.
     let others = rw (c.in_ok-tuple.ensures, c.as_slice.ensures.value) at c.in_ok-take_row.ensures.others in
     keeps-take c.self.inside.keys.items c.self.inside.columns.items c.self.inside.groups.entries
     c.take_row.new.groups.entries c.args.row.now rows others here v
+
+pub returns-clause-others : goal.returns-clause-others
+returns-clause-others c =
+    let others = rw (c.in_ok-tuple.ensures, c.as_slice.ensures.value) at c.in_ok-take_row.ensures.others in
+    others-stay c.self.inside.keys.items c.args.self.now.keys c.args.row.now c.self.inside.groups.entries
+    c.take_row.new.groups.entries c.args.self.now.groups (ap (λ (g : Grouped). g.keys) c.self.view_is)
+    (ap (λ (g : Grouped). g.groups) c.self.view_is) others

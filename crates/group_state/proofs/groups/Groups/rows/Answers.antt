@@ -5,6 +5,7 @@ use Rattle.values.specs.Datum.{Datum}
 use Rattle.view_lang.specs.Cells.{rows_of}
 use Rattle.group_state.specs.Grouped.{Grouped}
 use Rattle.group_state.proofs.GroupLaw.{bare-read, all-read}
+use Rattle.group_state.proofs.Seen.{seen-read}
 use Rattle.group_state.proofs.groups.Groups.rows.Goals as goal
 
 pub returns-then-is_bare : goal.returns-then-is_bare
@@ -12,7 +13,8 @@ returns-then-is_bare c = λ rows k r.
     let own = ap (λ (s : Grouped). s.columns) c.self.view_is in
     bare-read c.args.self.now c.args.outputs.now rows k r _ _ _ _ c.in_ok-read_row.field-0.items _
     (c.as_slice.ensures.value ∙ own) (c.as_slice-then-is_bare.ensures.value ∙ own) c.none.ensures
-    c.in_ok-none.ensures c.in_ok-read_row.ensures
+    c.in_ok-none.ensures
+    (seen-read _ c.args.outputs.now _ c.in_ok-read_row.field-0.items c.in_ok-read_row.ensures)
     (c.is_bare.ensures.0 c.if-is_bare.true)
     (ap rows_of c.in_ok-push.ensures.items
     ∙ ap (λ (l : List (Vec Datum Global)). rows_of (l ++ c.in_ok-read_row.field-0 ∷ [])) c.new-made.ensures.items)

@@ -1,0 +1,28 @@
+use Rattle.std.proofs.Common.{◌∙◌, subst}
+use Rattle.std.specs.Prelude.{List}
+use Rattle.std.proofs.lemmas.List.{take_all}
+use Rattle.values.specs.declared.key.Key.{Key}
+use Rattle.group_state.specs.Keys.{tuple_cmp}
+use Rattle.top_rows.specs.Ties.{KeepsBy, pick, without}
+use Rattle.group_order.specs.Ranked.{shown_at}
+use Rattle.group_order.proofs.Following.{put-step}
+use Rattle.group_order.proofs.ranked.RankedGroups.put_all.Goals as goal
+
+pub loop-tuple-preserved : goal.loop-tuple-preserved
+loop-tuple-preserved c =
+    let inv = c.loop-tuple.invariant in (
+      c.put_in.ensures.groups ∙ inv.0,
+      (
+        c.put_in.ensures.ranking ∙ inv.1.0,
+        λ before k. put-step c.args.self.now c.loop-tuple.self c.put_in.new.self c.args.tuples.now
+            c.loop-tuple.tuple-index c.tuple-item.result c.loop-tuple-test.true c.tuple-item.is inv.0 inv.1.0 before
+            c.in_ok-put_in.ensures.places (inv.1.1 before k),
+      ),
+    )
+
+pub returns-clause-places : goal.returns-clause-places
+returns-clause-places c = λ before k.
+    subst (λ (ts : List (List Key)). KeepsBy tuple_cmp c.args.self.now.ranking.order c.loop-tuple.self.places
+    (pick tuple_cmp ts (shown_at c.args.self.now.ranking c.args.self.now.groups)
+    (without tuple_cmp c.args.tuples.now before)))
+    (take_all c.loop-tuple.tuple-index c.args.tuples.now c.loop-tuple-test.false) (c.loop-tuple.invariant.1.1 before k)

@@ -1,0 +1,3 @@
+pub mod GroupPlaces
+pub mod Ranked
+pub mod RankedParts

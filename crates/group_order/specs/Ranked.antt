@@ -1,0 +1,53 @@
+-- What contracts see of groups that are kept with the order of their rows.
+use Rattle.std.specs.Prelude.{◌≡◌, ℕ, cond, filter, List, None, Option, Some}
+use Rattle.values.specs.Datum.{Datum}
+use Rattle.values.specs.declared.key.Key.{Key}
+use Rattle.view_lang.specs.Filter.{Filter}
+use Rattle.view_lang.specs.Groups.{group_rows}
+use Rattle.view_lang.specs.Outputs.{GroupOutput}
+use Rattle.view_lang.specs.RowOrder.{row_cmp}
+use Rattle.view_lang.specs.Sorted.{sorted}
+use Rattle.view_lang.specs.Truth.{passes}
+use Rattle.view_lang.specs.declared.view.OrderBy.{OrderBy}
+use Rattle.group_state.specs.Grouped.{Grouped}
+use Rattle.group_state.specs.Groups.{Keeps as KeepsGroups}
+use Rattle.group_state.specs.Keys.{tuple_cmp}
+use Rattle.group_state.specs.Seen.{seen_at}
+use Rattle.top_rows.specs.Ties.{KeepsBy}
+use Rattle.group_order.specs.GroupPlaces.{GroupPlace}
+
+-- what is shown of groups, of which of them, and in which order
+pub record Ranking : Type 0 where
+  pub outputs : List GroupOutput
+  pub having : Option Filter
+  pub order : List OrderBy
+
+abbrev pub ranking_by : List GroupOutput → Option Filter → List OrderBy → Ranking
+ranking_by outputs having order = record { outputs = outputs; having = having; order = order }
+
+-- the groups, what is shown of them, and the places of the rows shown
+pub record Ranked : Type 0 where
+  pub groups : Grouped
+  pub ranking : Ranking
+  pub places : List GroupPlace
+
+abbrev pub if_passing : Option Filter → Option (List Datum) → Option (List Datum)
+if_passing having None = None
+if_passing having (Some row) = cond (passes having row) (Some row) None
+
+-- the row that is shown of a tuple's group: none where there is no such group, or where its row doesn't pass
+abbrev pub shown_at : Ranking → Grouped → List Key → Option (List Datum)
+shown_at r g t = if_passing r.having (seen_at r.outputs g t)
+
+-- the rows that are shown of the groups of some rows, in their order
+abbrev pub ranked_rows : List ℕ → Ranking → List (List Datum) → List (List Datum)
+ranked_rows by r rows = sorted (row_cmp r.order) (filter (passes r.having) (group_rows by r.outputs rows))
+
+-- The places are those of the rows that are shown of the groups, and no others.
+abbrev pub IsRanked : Ranked → Type 0
+IsRanked s = KeepsBy tuple_cmp s.ranking.order s.places (shown_at s.ranking s.groups)
+
+-- The groups are those of these rows, and the order is theirs.
+pub record Keeps (s : Ranked) (rows : List (List Datum)) : Type 0 where
+  pub groups_are : KeepsGroups s.groups rows
+  pub ranked : IsRanked s

@@ -1,0 +1,22 @@
+//! The parts of `RankedGroups`, as plain lists.
+
+use crate::ranking::Ranking;
+use group_state::GroupsParts;
+use top_rows::SortKey;
+use values::Row;
+
+/// All that `RankedGroups` keep: the groups, what is shown of them in which order, and the places of the rows shown,
+/// ascending.
+#[derive(Debug, Drop)]
+pub struct RankedParts {
+    pub groups: GroupsParts,
+    pub ranking: Ranking,
+    pub places: Vec<GroupPlaceParts>,
+}
+
+/// The place of a group's row: its sort key for each of the order's columns, and the cells of the group's tuple.
+#[derive(Debug, Drop)]
+pub struct GroupPlaceParts {
+    pub sort_keys: Vec<SortKey>,
+    pub tuple: Row,
+}

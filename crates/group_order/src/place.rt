@@ -1,0 +1,132 @@
+//! Places of group rows in an order.
+
+ghost use Rattle.std.specs.Prelude.{◌≡◌, IfOk};
+ghost use Rattle.group_state.specs.Keys.{tuple_cmp};
+ghost use Rattle.top_rows.specs.Ties.{place_by};
+ghost use Rattle.group_order.specs.RankedParts.{IsPlace, place_with};
+
+use crate::parts::GroupPlaceParts;
+use group_state::Tuple;
+use std::alloc::{AllocError, Global};
+use std::cmp::Ordering;
+use std::marker::Model;
+use top_rows::SortKey;
+use values::Value;
+use view_lang::OrderBy;
+
+/// The place of a group row in an order: its sort keys, one for each of the order's columns, and its group's tuple, by
+/// which ties are broken. Contracts see the pair of both.
+#[derive(Debug, Drop)]
+pub(crate) struct GroupPlace {
+    sort_keys: Vec<SortKey>,
+    tuple: Tuple,
+}
+
+impl Model for GroupPlace {
+    ghost use Rattle.group_order.specs.GroupPlaces as seen;
+
+    ghost Value = { seen.GroupPlace };
+
+    ghost view = { λ p. (p.sort_keys.items, p.tuple) };
+}
+
+impl PartialEq for GroupPlace {
+    ghost use Rattle.std.specs.Cmp.{eq_by_cmp_equiv, partial_equiv_from_equiv};
+    ghost use Rattle.std.specs.Ordering.{eq_by_cmp};
+    ghost use Rattle.group_order.specs.GroupPlaces.{group_place_cmp, group_place_total};
+
+    ghost eq = { eq_by_cmp group_place_cmp };
+
+    ghost laws = { partial_equiv_from_equiv (eq_by_cmp_equiv group_place_total) };
+
+    fn eq(&self, other: &GroupPlace) -> bool {
+        matches!(self.cmp(other), Ordering::Equal)
+    }
+}
+
+impl Eq for GroupPlace {
+    ghost use Rattle.std.specs.Cmp.{eq_by_cmp_equiv};
+    ghost use Rattle.group_order.specs.GroupPlaces.{group_place_total};
+
+    ghost laws = { eq_by_cmp_equiv group_place_total };
+}
+
+impl PartialOrd for GroupPlace {
+    ghost use Rattle.std.specs.Cmp.{partial_order_from_total};
+    ghost use Rattle.std.specs.Ordering.{as_partial_cmp};
+    ghost use Rattle.group_order.specs.GroupPlaces.{group_place_cmp, group_place_total};
+
+    ghost partial_cmp = { as_partial_cmp group_place_cmp };
+
+    ghost laws = { partial_order_from_total group_place_total };
+
+    fn partial_cmp(&self, other: &GroupPlace) -> Option<Ordering> {
+        Some(self.cmp(other))
+    }
+}
+
+impl Ord for GroupPlace {
+    ghost use Rattle.std.specs.Prelude.{refl};
+    ghost use Rattle.group_order.specs.GroupPlaces.{group_place_cmp, group_place_total};
+
+    ghost cmp = { group_place_cmp };
+
+    ghost total = { group_place_total };
+
+    ghost matches_partial_cmp = { λ x y. refl };
+
+    ghost matches_eq = { λ x y. refl };
+
+    fn cmp(&self, other: &GroupPlace) -> Ordering {
+        self.sort_keys
+            .cmp(&other.sort_keys)
+            .then(self.tuple.cmp(&other.tuple))
+    }
+}
+
+impl GroupPlace {
+    /// The place of the row of a tuple's group.
+    pub(crate) fn of(
+        alloc: Global,
+        order: &[OrderBy],
+        tuple: &Tuple,
+        row: &[Value],
+    ) -> Result<GroupPlace, AllocError>
+        ensures { IfOk result (λ place. place ≡ place_by tuple_cmp order.now tuple.now row.now) }
+    {
+        let mut sort_keys = Vec::with_capacity(alloc, order.len())?;
+        for by in order {
+            sort_keys.push(SortKey::of(alloc, row, by)?)?;
+        }
+        let tuple = tuple.copy(alloc)?;
+        Ok(GroupPlace { sort_keys, tuple })
+    }
+
+    pub(crate) fn from_parts(
+        alloc: Global,
+        parts: GroupPlaceParts,
+    ) -> Result<GroupPlace, AllocError>
+        requires { IsPlace parts }
+        ensures { IfOk result (λ place. place ≡ place_with parts) }
+    {
+        let GroupPlaceParts { sort_keys, tuple } = parts;
+        let tuple = Tuple::of_row(alloc, tuple)?;
+        Ok(GroupPlace { sort_keys, tuple })
+    }
+
+    pub(crate) fn into_parts(self, alloc: Global) -> Result<GroupPlaceParts, AllocError>
+        ensures value { IfOk result (λ parts. place_with parts ≡ self) }
+        ensures kept { IfOk result (λ parts. IsPlace parts) }
+    {
+        let GroupPlace { sort_keys, tuple } = self;
+        let tuple = tuple.into_row(alloc)?;
+        Ok(GroupPlaceParts { sort_keys, tuple })
+    }
+
+    /// The group's tuple.
+    pub(crate) fn tuple(&self) -> &Tuple
+        ensures { result.now ≡ self.now.1 }
+    {
+        &self.tuple
+    }
+}

@@ -1,0 +1,309 @@
+//! Groups of rows, with the order of the rows that are shown of them.
+
+ghost use Rattle.std.specs.Prelude.{◌≡◌, ◌++◌, [], All, cond, map, take, false, IfOk, List, OnOk, Option, true};
+ghost use Rattle.std.specs.BTreeMap.{is_at};
+ghost use Rattle.std.specs.List.{cons_option, filter_map};
+ghost use Rattle.std.specs.List.Sorted.{IsStrictlySortedBy};
+ghost use Rattle.std.specs.Map.{values_of};
+ghost use Rattle.std.specs.Option.{option_map};
+ghost use Rattle.view_lang.specs.Cells.{rows_of};
+ghost use Rattle.group_state.specs.Reading.{CanReadAll};
+ghost use Rattle.values.specs.Datum.{Datum};
+ghost use Rattle.values.specs.declared.key.Key.{Key};
+ghost use Rattle.view_lang.specs.Shifts.{Fits, IsFew, NumberedRows, patched};
+ghost use Rattle.group_state.specs.Keys.{tuple_cmp};
+ghost use Rattle.group_state.specs.KeptColumns.{IsKept};
+ghost use Rattle.top_rows.specs.PlaceOrder.{tied_cmp};
+ghost use Rattle.top_rows.specs.Ties.{KeepsBy, is_place_by, pick, place_by, stands_by, without};
+ghost use Rattle.group_order.specs.GroupPlaces.{GroupPlace as PlaceSeen, group_place_cmp};
+ghost use Rattle.group_order.specs.Ranked.{IsRanked, Keeps, ranked_rows, shown_at};
+ghost use Rattle.group_order.specs.RankedParts.{AreRanked, ranked_with};
+
+use crate::parts::RankedParts;
+use crate::place::GroupPlace;
+use crate::ranking::Ranking;
+use group_state::{Groups, Tuple};
+use std::alloc::{AllocError, Global};
+use std::collections::BTreeSet;
+use std::marker::Model;
+use values::{Row, Value};
+use view_lang::{Change, Upkeep, group_law, passes, passing_rows};
+
+/// Groups of rows, and the places of their rows in an order. Rows that tie are in the order of their tuples.
+#[derive(Debug, Drop)]
+pub struct RankedGroups {
+    alloc: Global,
+    groups: Groups,
+    ranking: Ranking,
+    places: BTreeSet<GroupPlace>,
+}
+
+impl Model for RankedGroups {
+    ghost use Rattle.group_order.specs.Ranked.{Ranked};
+
+    ghost Value = { Ranked };
+
+    ghost use Rattle.std.specs.Coded.{codes};
+    ghost use Rattle.view_lang.specs.Filter.{filter_code};
+
+    ghost coded = { Prim.hlevel (codes, filter_code) };
+
+    ghost view = { λ r. record {
+      groups = r.groups;
+      ranking = r.ranking;
+      places = r.places.keys;
+    } };
+}
+
+impl RankedGroups {
+    /// The groups of no rows, by the columns `by`, of which rows are shown as the ranking says.
+    pub fn new(alloc: Global, by: &[usize], ranking: Ranking) -> Result<RankedGroups, AllocError>
+        ensures keys { IfOk result (λ ranked. ranked.groups.keys ≡ by.now) }
+        ensures columns { IfOk result
+            (λ ranked. All (λ o. IsKept ranked.groups.columns o.aggregate) ranking.outputs) }
+        ensures ranking { IfOk result (λ ranked. ranked.ranking ≡ ranking) }
+        ensures kept { IfOk result (λ ranked. Keeps ranked []) }
+    {
+        let groups = Groups::of(alloc, by, ranking.outputs())?;
+        Ok(RankedGroups {
+            alloc,
+            groups,
+            ranking,
+            places: BTreeSet::new(alloc),
+        })
+    }
+
+    /// Takes them apart. The parts are all that they keep. If memory is refused, they are lost.
+    pub fn into_parts(self) -> Result<RankedParts, AllocError>
+        ensures value { IfOk result (λ parts. ranked_with parts ≡ self) }
+        ensures kept { IfOk result (λ parts. AreRanked parts) }
+    {
+        let RankedGroups {
+            alloc,
+            groups,
+            ranking,
+            places,
+        } = self;
+        let groups = groups.into_parts()?;
+        let mut taken = Vec::with_capacity(alloc, places.len())?;
+        for place in places {
+            taken.push(place.into_parts(alloc)?)?;
+        }
+        Ok(RankedParts {
+            groups,
+            ranking,
+            places: taken,
+        })
+    }
+
+    /// Makes what has these parts.
+    pub fn from_parts(alloc: Global, parts: RankedParts) -> Result<RankedGroups, AllocError>
+        requires { AreRanked parts }
+        ensures { IfOk result (λ ranked. ranked ≡ ranked_with parts) }
+    {
+        let RankedParts {
+            groups,
+            ranking,
+            places,
+        } = parts;
+        let groups = Groups::from_parts(alloc, groups)?;
+        let mut placed = BTreeSet::new(alloc);
+        for place in places {
+            placed.insert(GroupPlace::from_parts(alloc, place)?)?;
+        }
+        Ok(RankedGroups {
+            alloc,
+            groups,
+            ranking,
+            places: placed,
+        })
+    }
+
+    /// The row that is shown of a tuple's group, if there is one.
+    fn shown_row(&self, alloc: Global, tuple: &Tuple) -> Result<Option<Row>, AllocError>
+        ensures { IfOk result (λ row.
+            option_map (λ r. r.items) row ≡ shown_at self.now.ranking self.now.groups tuple.now) }
+    {
+        let Some(row) = self.groups.row(alloc, self.ranking.outputs(), tuple)? else {
+            return Ok(None);
+        };
+        if passes(self.ranking.having(), &row) {
+            Ok(Some(row))
+        } else {
+            Ok(None)
+        }
+    }
+
+    /// Takes the place of a row away, if it is there.
+    fn cut(&mut self, tuple: &Tuple, row: &[Value]) -> Result<(), AllocError>
+        ensures groups { self.new.groups ≡ self.old.groups }
+        ensures ranking { self.new.ranking ≡ self.old.ranking }
+        ensures places { OnOk result ((p : PlaceSeen) → stands_by tuple_cmp self.new.places p
+            ≡ cond (is_at (tied_cmp tuple_cmp (place_by tuple_cmp self.old.ranking.order tuple.now row.now)) p) false
+            (stands_by tuple_cmp self.old.places p)) }
+    {
+        let place = GroupPlace::of(self.alloc, self.ranking.order(), tuple, row)?;
+        let _there = self.places.remove(&place);
+        Ok(())
+    }
+
+    /// Puts the place of a row in.
+    fn put(&mut self, tuple: &Tuple, row: &[Value]) -> Result<(), AllocError>
+        ensures groups { self.new.groups ≡ self.old.groups }
+        ensures ranking { self.new.ranking ≡ self.old.ranking }
+        ensures places { OnOk result ((p : PlaceSeen) → stands_by tuple_cmp self.new.places p
+            ≡ cond (is_at (tied_cmp tuple_cmp (place_by tuple_cmp self.old.ranking.order tuple.now row.now)) p) true
+            (stands_by tuple_cmp self.old.places p)) }
+    {
+        let place = GroupPlace::of(self.alloc, self.ranking.order(), tuple, row)?;
+        self.places.insert(place)?;
+        Ok(())
+    }
+
+    /// Takes the place of a tuple's row away, if one is shown.
+    fn take_out(&mut self, tuple: &Tuple) -> Result<(), AllocError>
+        ensures groups { self.new.groups ≡ self.old.groups }
+        ensures ranking { self.new.ranking ≡ self.old.ranking }
+        ensures places { OnOk result ((p : PlaceSeen) → stands_by tuple_cmp self.new.places p
+            ≡ cond (is_place_by tuple_cmp self.old.ranking.order tuple.now (shown_at self.old.ranking self.old.groups tuple.now) p)
+            false (stands_by tuple_cmp self.old.places p)) }
+    {
+        match self.shown_row(self.alloc, tuple)? {
+            Some(row) => self.cut(tuple, row.as_slice()),
+            None => Ok(()),
+        }
+    }
+
+    /// Puts the place of a tuple's row in, if one is shown.
+    fn put_in(&mut self, tuple: &Tuple) -> Result<(), AllocError>
+        ensures groups { self.new.groups ≡ self.old.groups }
+        ensures ranking { self.new.ranking ≡ self.old.ranking }
+        ensures places { OnOk result ((p : PlaceSeen) → stands_by tuple_cmp self.new.places p
+            ≡ cond (is_place_by tuple_cmp self.old.ranking.order tuple.now (shown_at self.old.ranking self.old.groups tuple.now) p)
+            true (stands_by tuple_cmp self.old.places p)) }
+    {
+        match self.shown_row(self.alloc, tuple)? {
+            Some(row) => self.put(tuple, row.as_slice()),
+            None => Ok(()),
+        }
+    }
+
+    /// Takes the places of these tuples' rows away.
+    fn take_all(&mut self, tuples: &[Tuple]) -> Result<(), AllocError>
+        ensures groups { self.new.groups ≡ self.old.groups }
+        ensures ranking { self.new.ranking ≡ self.old.ranking }
+        ensures places { OnOk result (IsRanked self.old → KeepsBy tuple_cmp self.old.ranking.order self.new.places
+            (without tuple_cmp tuples.now (shown_at self.old.ranking self.old.groups))) }
+    {
+        for tuple in tuples {
+            self.take_out(tuple)?;
+        }
+        Ok(())
+    }
+
+    /// Puts the places of these tuples' rows in.
+    fn put_all(&mut self, tuples: &[Tuple]) -> Result<(), AllocError>
+        ensures groups { self.new.groups ≡ self.old.groups }
+        ensures ranking { self.new.ranking ≡ self.old.ranking }
+        ensures places { OnOk result ((before : List Key → Option (List Datum))
+            → KeepsBy tuple_cmp self.old.ranking.order self.old.places (without tuple_cmp tuples.now before)
+            → KeepsBy tuple_cmp self.old.ranking.order self.new.places
+            (pick tuple_cmp tuples.now (shown_at self.old.ranking self.old.groups) (without tuple_cmp tuples.now before))) }
+    {
+        for tuple in tuples {
+            self.put_in(tuple)?;
+        }
+        Ok(())
+    }
+
+    /// Applies a change of rows: the order is changed at the tuples that the change touches, and nowhere else. After an
+    /// error what is kept has no meaning.
+    pub fn apply_change(&mut self, change: &Change) -> Result<(), AllocError>
+        requires { (rows : NumberedRows)
+            × (Keeps self.old (values_of rows) × (Fits rows change.now × IsFew rows change.now)) }
+        ensures kept { OnOk result ((rows : NumberedRows) → Fits rows change.now → Keeps self.old (values_of rows)
+            → Keeps self.new (values_of (patched rows change.now))) }
+        ensures keys { OnOk result (self.new.groups.keys ≡ self.old.groups.keys) }
+        ensures columns { OnOk result (self.new.groups.columns ≡ self.old.groups.columns) }
+        ensures ranking { self.new.ranking ≡ self.old.ranking }
+    {
+        let touched = self.groups.touched(change)?;
+        self.take_all(touched.as_slice())?;
+        self.groups.apply_change(change)?;
+        self.put_all(touched.as_slice())?;
+        Ok(())
+    }
+
+    /// The tuples of the first places, at most `most` of them.
+    fn first_tuples(&self, alloc: Global, most: usize) -> Result<Vec<Tuple>, AllocError>
+        ensures ascending { IsStrictlySortedBy group_place_cmp self.now.places }
+        ensures tuples { IfOk result (λ tuples.
+            tuples.items ≡ map (λ (p : PlaceSeen). p.1) (take most self.now.places)) }
+    {
+        let _size = self.places.len();
+        let mut tuples = Vec::new(alloc);
+        for place in self.places.iter() {
+            if tuples.len() == most {
+                break;
+            }
+            tuples.push(place.tuple().copy(alloc)?)?;
+        }
+        Ok(tuples)
+    }
+
+    /// The rows that are shown of the groups of these tuples.
+    fn rows_of_tuples(&self, alloc: Global, tuples: &[Tuple]) -> Result<Vec<Row>, AllocError>
+        ensures { IfOk result (λ made.
+            rows_of made.items ≡ filter_map (shown_at self.now.ranking self.now.groups) tuples.now) }
+    {
+        let mut made = Vec::new(alloc);
+        for tuple in tuples {
+            let row = self.shown_row(alloc, tuple)?;
+            push_some(&mut made, row)?;
+        }
+        Ok(made)
+    }
+
+    /// The first rows that are shown of the groups, at most `most` of them. No other group is read.
+    pub fn first_rows(&self, alloc: Global, most: usize) -> Result<Vec<Row>, AllocError>
+        ensures { IfOk result (λ made. (rows : List (List Datum)) → Keeps self.now rows
+            → CanReadAll self.now.groups.keys self.now.groups.columns self.now.ranking.outputs rows
+            → rows_of made.items
+            ≡ take most (ranked_rows self.now.groups.keys self.now.ranking rows)) }
+    {
+        group_law();
+        self.groups.tuples_ascend();
+        if self.groups.is_bare() {
+            let made = self.groups.rows(alloc, self.ranking.outputs())?;
+            let mut shown = passing_rows(alloc, self.ranking.having(), made)?;
+            shown.truncate(most);
+            return Ok(shown);
+        }
+        let tuples = self.first_tuples(alloc, most)?;
+        let made = self.rows_of_tuples(alloc, tuples.as_slice())?;
+        Ok(made)
+    }
+}
+
+impl Upkeep for RankedGroups {
+    ghost use Rattle.group_order.specs.Ranked.{Keeps};
+    ghost use Rattle.std.specs.Map.{values_of};
+
+    ghost keeps = { λ s rows. Keeps s (values_of rows) };
+
+    fn apply(&mut self, change: &Change) -> Result<(), AllocError> {
+        self.apply_change(change)?;
+        Ok(())
+    }
+}
+
+/// Adds a row, if there is one.
+fn push_some(rows: &mut Vec<Row>, row: Option<Row>) -> Result<(), AllocError>
+    ensures { OnOk result (rows_of rows.new.items
+        ≡ rows_of rows.old.items ++ cons_option (option_map (λ r. r.items) row) []) }
+{
+    if let Some(row) = row {
+        rows.push(row)?;
+    }
+    Ok(())
+}
