@@ -31,3 +31,4 @@ mod ComingBack
 mod NumberedKeys
 mod NumberLaw
 mod PutLaw
+mod TakenApart

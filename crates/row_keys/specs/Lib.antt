@@ -6,6 +6,7 @@ pub mod Store
 pub mod Batches
 pub mod KeyTable
 pub mod Numbers
+pub mod Parts
 pub mod Index
 pub mod Stored
 pub mod KeyColumns

@@ -20,7 +20,7 @@ use view_lang::{Table, Unfit};
 
 /// The checked columns of a batch, which a store keeps as they came. Contracts see their list.
 #[derive(Drop)]
-pub(crate) struct StoredBatch {
+pub struct StoredBatch {
     pub columns: Vec<Column>,
 }
 
@@ -38,7 +38,7 @@ impl Model for StoredBatch {
 
 /// Where a row is stored: the number of its batch, and its index in that batch.
 #[derive(Clone, Copy, Debug)]
-pub(crate) struct RowLocation {
+pub struct RowLocation {
     pub batch: usize,
     pub index: usize,
 }

@@ -11,12 +11,15 @@ mod key_columns;
 mod key_table;
 mod laws;
 mod numbers;
+mod parts;
 mod store;
 mod stored_row;
 mod turning;
 mod weighing;
 
+pub use batches::{RowLocation, StoredBatch};
 pub use faults::EditFault;
 pub use laws::{batch_law, numbers_law};
+pub use parts::{RowParts, StoreParts};
 pub use store::RowStore;
 pub use stored_row::StoredRow;

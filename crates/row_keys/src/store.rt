@@ -28,9 +28,10 @@ ghost use Rattle.view_lang.specs.Edits.{append, put, retract};
 ghost use Rattle.view_lang.specs.Joined.{side_of};
 ghost use Rattle.view_lang.specs.Laws.{AreKeyed};
 ghost use Rattle.view_lang.specs.Rows.{IsRow};
-ghost use Rattle.view_lang.specs.TableRules.{IsTable};
+ghost use Rattle.view_lang.specs.TableRules.{IsSideTable, IsTable};
 ghost use Rattle.row_keys.specs.Batches.{AreKeys, IsBatch, batch_rows};
 ghost use Rattle.row_keys.specs.Numbered.{numbered};
+ghost use Rattle.row_keys.specs.Parts.{AreStoreParts, store_with};
 ghost use Rattle.row_keys.specs.Slots.{
   CanPutBack,
   CanRetract,
@@ -67,6 +68,7 @@ use crate::batches::{RowLocation, StoredBatch, keep_rows};
 use crate::faults::EditFault;
 use crate::key_columns::{find_batch, find_keys, push_batch, push_keys};
 use crate::numbers::Numbers;
+use crate::parts::{StoreParts, make_locations, make_numbers, take_rows};
 use crate::stored_row::StoredRow;
 use crate::turning::{retract_all, retract_from, revive_all, revive_from};
 use arrays::Column;
@@ -121,6 +123,52 @@ impl RowStore {
             numbers: Numbers::new(alloc),
             visits: 0,
         }
+    }
+
+    /// Takes the store apart. If memory is refused, it is lost.
+    pub fn into_parts(self) -> Result<StoreParts, AllocError>
+        ensures value { IfOk result (λ parts. store_with parts ≡ self) }
+        ensures stored { IfOk result (λ parts. AreStoreParts parts) }
+    {
+        let RowStore {
+            alloc,
+            table,
+            batches,
+            locations,
+            numbers,
+            visits,
+        } = self;
+        numbers.distinct_law();
+        let rows = take_rows(alloc, &locations, &numbers)?;
+        Ok(StoreParts {
+            table,
+            batches,
+            rows,
+            visits,
+        })
+    }
+
+    /// Makes the store that has these parts. No row is opened.
+    pub fn from_parts(alloc: Global, parts: StoreParts) -> Result<RowStore, AllocError>
+        requires { AreStoreParts parts }
+        ensures { IfOk result (λ store. store ≡ store_with parts) }
+    {
+        let StoreParts {
+            table,
+            batches,
+            rows,
+            visits,
+        } = parts;
+        let locations = make_locations(alloc, &rows)?;
+        let numbers = make_numbers(alloc, &rows)?;
+        Ok(RowStore {
+            alloc,
+            table,
+            batches,
+            locations,
+            numbers,
+            visits,
+        })
     }
 
     /// The table whose rows these are.
@@ -397,9 +445,10 @@ impl RowStore {
         numbers.find(key)
     }
 
-    /// The live row with this key where it lies, if there is one. Null is no row's key. It takes no memory, and isn't
-    /// counted as a visit.
+    /// The live row of a side table with this key where it lies, if there is one. Null is no row's key. It takes no
+    /// memory. Visits count the rows of the main table that are opened, and no others.
     pub fn get(&self, key: &Key) -> Option<StoredRow<'_>>
+        requires { IsSideTable self.now.table }
         ensures row { result ≡ side_of self.now.table (contents_of self.now.slots) (datum_of_key key.now) }
         ensures held { IfSome result (IsRow self.now.table.columns) }
     {
@@ -409,9 +458,9 @@ impl RowStore {
         Some(self.row_at(number))
     }
 
-    /// A copy of the live row whose key equals a cell, if there is one. Null is no row's key. It isn't counted as a
-    /// visit.
+    /// A copy of the live row of a side table whose key equals a cell, if there is one. Null is no row's key.
     pub fn row_with_key(&self, cell: &Value) -> Result<Option<Row>, AllocError>
+        requires { IsSideTable self.now.table }
         ensures row { IfOk result (λ row. option_map (λ r. r.items) row
             ≡ side_of self.now.table (contents_of self.now.slots) cell.now) }
         ensures held { IfOk result (λ row. IfSome row (λ r. IsRow self.now.table.columns r.items)) }
@@ -425,9 +474,10 @@ impl RowStore {
         }
     }
 
-    /// Copies of the keys of the rows of these numbers, live or retracted.
+    /// Copies of the keys of a side table's rows of these numbers, live or retracted.
     pub fn keys_of(&self, numbers: &[usize]) -> Result<Vec<Key>, AllocError>
-        requires { All (λ n. n < length self.now.slots) numbers.now }
+        requires side { IsSideTable self.now.table }
+        requires there { All (λ n. n < length self.now.slots) numbers.now }
         ensures { IfOk result (λ keys.
             map datum_of_key keys.items ≡ keys_at self.now.table numbers.now self.now.slots) }
     {

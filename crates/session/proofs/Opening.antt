@@ -35,7 +35,7 @@ use Rattle.view_lang.specs.Config.{Config, FeedConfig, SideTable, Table, View, t
 use Rattle.view_lang.specs.ConfigRules.{IsConfig, IsFeed, IsView}
 use Rattle.view_lang.specs.Contents.{no_contents}
 use Rattle.view_lang.specs.Edits.{table_of}
-use Rattle.view_lang.specs.TableRules.{IsTable}
+use Rattle.view_lang.specs.TableRules.{IsSideTable, IsTable}
 use Rattle.view_lang.specs.ViewColumns.{feed_columns, view_columns}
 use Rattle.view_lang.specs.World.{world}
 use Rattle.view_lang.specs.declared.config.Role.{Role}
@@ -202,6 +202,10 @@ opened_shown conf names links tables records named stores views none each =
 sides_right : (sides : List SideTable) → All (λ s. IsTable s.table) sides → All IsTable (map (λ s. s.table) sides)
 sides_right sides right = All-map IsTable (λ (s : SideTable). s.table) sides (λ k d below. right k d below)
 
+sides_bounded : (sides : List SideTable) → All (λ s. IsSideTable s.table) sides
+    → All IsSideTable (map (λ s. s.table) sides)
+sides_bounded sides bounded = All-map IsSideTable (λ (s : SideTable). s.table) sides (λ k d below. bounded k d below)
+
 tables_right : (conf : Config) → IsConfig conf → All IsTable (tables_of conf)
 tables_right conf right =
     All-cons IsTable conf.main (map (λ s. s.table) conf.sides) right.main (sides_right conf.sides right.sides)
@@ -228,10 +232,11 @@ opened_session conf names links tables records capacity columns right is named s
 pub opened_right : (conf : Config) (stores : List Store) → IsConfig conf → stores ≡ empty_stores conf
     → AreOf stores conf.views
 opened_right conf stores right empty =
-    let P : List Table → Type 0 = λ ts. All IsTable ts × All (IsView ts) conf.views in
-    let own = subst P (sym (ap tables_in empty ∙ tables_empty conf)) (tables_right conf right, right.views) in
+    let P : List Table → Type 0 = λ ts. All IsTable ts × All IsSideTable (drop 1 ts) × All (IsView ts) conf.views in
+    let own = subst P (sym (ap tables_in empty ∙ tables_empty conf))
+    (tables_right conf right, sides_bounded conf.sides right.side_rows, right.views) in
     let many = ap length empty in
-    record { main = omega (arith, many); right = own.0; of_these = own.1 }
+    record { main = omega (arith, many); right = own.0; sides = own.1; of_these = own.2 }
 
 pub opened_none : (conf : Config) (stores : List Store) → stores ≡ empty_stores conf → rows_at (rows_in stores) 0 ≡ []
 opened_none conf stores empty = ap (λ ss. rows_at (rows_in ss) 0) empty

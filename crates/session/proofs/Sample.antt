@@ -111,7 +111,7 @@ keys_right = record {
 
 named_right : IsView sample_tables named_view
 named_right = record {
-  lookup = (lit< tt, (lit< tt, tt), refl);
+  lookup = (lit< tt, (lit< tt, tt), refl, refl);
   filter = tt;
   outputs = two_outputs (joined_columns sample_tables named_view.lookup) 3 (lit< tt) (lit< tt);
   some = lit≤ tt;

@@ -1,12 +1,16 @@
 //! Sessions that are taken apart and made again.
 
 use crate::ledger::{add, cut, open, put, retract, undo};
+use crate::streams::REPLACED;
 use crate::visits::write;
+use row_keys::RowStore;
 use session::Session;
 use std::alloc::{AllocError, Global};
 use std::process::Abort;
 use std::test::Fail;
 use stream_writer::MemorySink;
+use values::{Key, Value};
+use view_config::read_config;
 
 const VIEWS: [&str; 5] = ["top", "sums", "zone", "all", "big"];
 
@@ -94,5 +98,70 @@ fn states_hold_no_rows(rt: HostRuntime) -> Result<(), Fail> {
     ties(&rt, rt.alloc())?;
     groups(&rt, rt.alloc())?;
     lookups(&rt, rt.alloc())?;
+    Ok(())
+}
+
+const TEXTS: &str = r#"
+[main]
+key = "t"
+columns = [["t", "utf8"]]
+[feed.add]
+role = "append"
+[view.texts]
+columns = [["t", "col", "t"]]
+"#;
+
+/// Pushes a whole stream, message by message.
+fn push_all(rt: &impl Abort, session: &mut Session, bytes: &[u8]) {
+    let mut left = bytes;
+    for _ in 0..bytes.len() {
+        let pushed = session.push("add", left);
+        assert!(rt; pushed.is_ok());
+        match left.get(pushed.unwrap().used..) {
+            Some(more) => left = more,
+            None => return,
+        }
+    }
+}
+
+/// Adds the keys of a row's cells.
+fn push_cells(alloc: Global, row: &[Value], keys: &mut Vec<Key>) -> Result<(), AllocError> {
+    for cell in row {
+        if let Some(key) = Key::of(alloc, cell)? {
+            keys.push(key)?;
+        }
+    }
+    Ok(())
+}
+
+/// The cells of all rows of a store, in order.
+fn read_cells(alloc: Global, store: &mut RowStore) -> Result<Vec<Key>, AllocError> {
+    let mut keys = Vec::new(alloc);
+    for number in 0..store.appended() {
+        let row = store.open_row(number)?;
+        push_cells(alloc, &row, &mut keys)?;
+    }
+    Ok(keys)
+}
+
+/// A store made again of its parts has the same rows, also those whose dictionary another took the place of.
+#[test]
+fn store_of_columns(rt: HostRuntime) -> Result<(), Fail> {
+    let config = read_config(rt.alloc(), TEXTS);
+    assert!(rt; config.is_ok());
+    let mut session = Session::open(rt.alloc(), config.unwrap())?;
+    push_all(&rt, &mut session, &REPLACED);
+    assert_eq!(rt; session.live_rows(), 3);
+    for store in session.into_parts()?.tables.stores {
+        let mut store = store;
+        let before = read_cells(rt.alloc(), &mut store)?;
+        assert_eq!(rt; before.len(), 3);
+        let visits = store.visits();
+        let mut made = RowStore::from_parts(rt.alloc(), store.into_parts()?)?;
+        assert_eq!(rt; made.visits(), visits);
+        assert_eq!(rt; made.len(), 3);
+        let after = read_cells(rt.alloc(), &mut made)?;
+        assert_eq!(rt; after.as_slice(), before.as_slice());
+    }
     Ok(())
 }

@@ -12,6 +12,7 @@ use Rattle.std.proofs.Common.{
   Result,
   ap,
   arith,
+  drop,
   get_or,
   length,
   subst,
@@ -23,7 +24,7 @@ use Rattle.std.proofs.lemmas.List.Elements.{All-get_or}
 use Rattle.view_lang.specs.Config.{Table, View}
 use Rattle.view_lang.specs.ConfigRules.{IsView}
 use Rattle.view_lang.specs.Edits.{TableEdit}
-use Rattle.view_lang.specs.TableRules.{IsTable}
+use Rattle.view_lang.specs.TableRules.{IsSideTable, IsTable}
 use Rattle.view_lang.specs.ViewColumns.{columns_by}
 use Rattle.view_lang.specs.World.{table_at}
 use Rattle.view_lang.specs.declared.config.Role.{Role}
@@ -81,6 +82,7 @@ still_of old new views same was =
     record {
       main = omega (arith, one, two, equal, some);
       right = subst (λ (ts : List Table). All IsTable ts) (sym same) was.right;
+      sides = subst (λ (ts : List Table). All IsSideTable (drop 1 ts)) (sym same) was.sides;
       of_these = subst (λ (ts : List Table). All (IsView ts) views) (sym same) was.of_these;
     }
 

@@ -46,6 +46,7 @@ use Rattle.values.specs.Datum.{Datum}
 use Rattle.view_lang.specs.Cells.{cell_at, rows_of}
 use Rattle.view_lang.specs.Config.{Table, View}
 use Rattle.view_lang.specs.ConfigRules.{IsLookup}
+use Rattle.view_lang.specs.TableRules.{IsSideTable}
 use Rattle.view_lang.specs.Joined.{Side, joined, joined_by, joined_row, looked_up, side_of}
 use Rattle.view_lang.specs.Laws.{IsLookedUp, side_columns}
 use Rattle.view_lang.specs.Rows.{IsRow}
@@ -108,6 +109,13 @@ look_there :
     (stores : List Store) (l : Lookup) (n : ℕ) (s : Store) → IsLookup (tables_in stores) (Some l) → n ≡ suc l.side
     → (n < length stores)
 look_there stores l n s is same = let many = tables_length stores in omega (arith, is.0, many, same)
+
+pub look_side : (stores : List Store) (o : Option Lookup) (l : Lookup) (n : ℕ) (s : Store)
+    → IsLookup (tables_in stores) o → o ≡ Some l → n ≡ suc l.side → s ≡ get_or stores n s → IsSideTable s.table
+look_side stores o l n s right some at is =
+    let look : IsLookup (tables_in stores) (Some l) = subst (IsLookup (tables_in stores)) some right in
+    let P : ℕ → Type 0 = λ m. IsSideTable (table_at (tables_in stores) m) in
+    subst IsSideTable (table_there stores n s is (look_there stores l n s look at)) (subst P (sym at) look.3)
 
 pub look_row :
     {E : Type 0} (stores : List Store) (o : Option Lookup) (l : Lookup) (n : ℕ) (s : Store) (row : List Datum)

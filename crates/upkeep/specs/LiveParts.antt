@@ -1,10 +1,10 @@
 -- What contracts see of tables and of views of them.
-use Rattle.std.specs.Prelude.{ℕ, ◌<◌, All, Bool, List, [], None, get_or, length, refl}
+use Rattle.std.specs.Prelude.{ℕ, ◌<◌, All, Bool, List, [], None, drop, get_or, length, refl}
 use Rattle.std.specs.Coded.{Coded, code_by, coded×, coded_bool, coded_list}
 use Rattle.view_lang.specs.Config.{View, view_code}
 use Rattle.view_lang.specs.ConfigRules.{IsView}
 use Rattle.view_lang.specs.Outputs.{columns}
-use Rattle.view_lang.specs.TableRules.{IsTable}
+use Rattle.view_lang.specs.TableRules.{IsSideTable, IsTable}
 use Rattle.view_lang.specs.World.{no_table}
 use Rattle.row_keys.specs.Store.{Store, no_rows, store_code}
 use Rattle.upkeep.specs.Stores.{rows_in, tables_in}
@@ -23,10 +23,11 @@ live_code =
     (coded× (coded_list store_code) (coded× (coded_list view_code) (coded_list coded_bool)))
     (λ p. (p.stores, (p.views, p.stale))) (λ p. record { stores = p.0; views = p.1.0; stale = p.1.1 }) (λ _. refl)
 
--- there is a main table, and the views keep the rules of views of these tables
+-- there is a main table, those after it are side tables, and the views keep the rules of views of these tables
 pub record AreOf (stores : List Store) (views : List View) : Type 0 where
   pub main : 0 < length stores
   pub right : All IsTable (tables_in stores)
+  pub sides : All IsSideTable (drop 1 (tables_in stores))
   pub of_these : All (IsView (tables_in stores)) views
 
 -- there are such tables and views, and each view is stale, or what is kept of it is made of the live rows

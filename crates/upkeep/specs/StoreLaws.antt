@@ -1,8 +1,30 @@
 -- Stores by number, and the tables and rows that they hold.
-use Rattle.std.proofs.Common.{◌≡◌, ℕ, zero, suc, ◌<◌, List, [], ◌∷◌, length, get_or, map, refl, ap, sym, ◌∙◌, arith}
+use Rattle.std.proofs.Common.{
+  ◌≡◌,
+  ℕ,
+  zero,
+  suc,
+  ◌<◌,
+  All,
+  List,
+  [],
+  ◌∷◌,
+  drop,
+  length,
+  get_or,
+  map,
+  refl,
+  ap,
+  subst,
+  sym,
+  ◌∙◌,
+  arith,
+}
 use Rattle.std.specs.Prelude.{slice_set}
 use Rattle.std.proofs.lemmas.List.{length-map}
-use Rattle.view_lang.specs.World.{table_at}
+use Rattle.std.proofs.lemmas.List.Elements.{All-get_or}
+use Rattle.view_lang.specs.TableRules.{IsSideTable}
+use Rattle.view_lang.specs.World.{no_table, table_at}
 use Rattle.row_keys.specs.Slots.{Slot}
 use Rattle.row_keys.specs.Store.{Store}
 use Rattle.upkeep.specs.Stores.{Rows, rows_at, rows_in, tables_in}
@@ -29,6 +51,17 @@ set_same f (z ∷ zs) (suc n) x y is same = ap (λ ws. f z ∷ ws) (set_same f z
 pub table_there : (stores : List Store) (n : ℕ) (s : Store) → s ≡ get_or stores n s → n < length stores
     → table_at (tables_in stores) n ≡ s.table
 table_there stores n s is below = at_mapped (λ (x : Store). x.table) stores n s _ is below
+
+-- each table after the first is a side table
+pub is_side : (stores : List Store) (n : ℕ) (s : Store) → All IsSideTable (drop 1 (tables_in stores)) → 0 < n
+    → n < length stores → s ≡ get_or stores n s → IsSideTable s.table
+is_side [] n s sides after below is = absurd (omega (arith, below))
+is_side (t ∷ ts) zero s sides after below is = absurd (omega (arith, after))
+is_side (t ∷ ts) (suc n) s sides after below is =
+    let there : n < length ts = omega (arith, below) in
+    let many = length-map ts (λ (x : Store). x.table) in
+    subst IsSideTable (table_there ts n s is there)
+    (All-get_or IsSideTable (tables_in ts) n no_table (omega (arith, there, many)) sides)
 
 pub rows_there : (stores : List Store) (n : ℕ) (s : Store) → s ≡ get_or stores n s → n < length stores
     → rows_at (rows_in stores) n ≡ s.slots

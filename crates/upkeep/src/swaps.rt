@@ -2,6 +2,7 @@
 
 ghost use Rattle.std.specs.Prelude.{◌≡◌, ◌<◌, All, IfOk, length, map};
 ghost use Rattle.values.specs.Keys.{datum_of_key};
+ghost use Rattle.view_lang.specs.TableRules.{IsSideTable};
 ghost use Rattle.row_keys.specs.Slots.{live};
 ghost use Rattle.row_keys.specs.Store.{with_slots};
 ghost use Rattle.upkeep.specs.Swaps.{
@@ -120,7 +121,8 @@ pub(crate) fn named_keys(
     change: &TableChange,
     turn: Turn,
 ) -> Result<Vec<Key>, AllocError>
-    requires { CanSwap turn store.now.table change.now store.now.slots }
+    requires side { IsSideTable store.now.table }
+    requires swaps { CanSwap turn store.now.table change.now store.now.slots }
     ensures { IfOk result (λ keys.
         map datum_of_key keys.items ≡ named_keys store.now.table change.now store.now.slots) }
 {

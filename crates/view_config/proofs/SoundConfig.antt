@@ -189,7 +189,7 @@ config-sound ms c h e =
       feeds = entries-all (IsFeed (tables t ss)) max_feeds (feed_of ss) feed read.0 (feed-sound t ss)
           (λ d q. entry-textual (codes "feed") ms d q h) read.2;
       few_feeds = entries-few max_feeds (feed_of ss) feed read.0 read.2;
-      views = entries-all (IsView (tables t ss)) max_views (view_of t ss) view read.1 (view-sound t ss)
+      views = entries-all (IsView (tables t ss)) max_views (view_of t ss) view read.1 (view-sound t ss (sides-rows ss sides))
           (λ d q. entry-textual (codes "view") ms d q h) read.3;
       few_views = entries-few max_views (view_of t ss) view read.1 read.3;
     }))))

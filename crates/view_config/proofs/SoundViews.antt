@@ -18,7 +18,7 @@ use Rattle.view_lang.specs.ConfigRules.{AreOutputs, IsFilter, IsFilterOf, IsHavi
 use Rattle.view_lang.specs.Limits.{max_columns}
 use Rattle.view_lang.specs.Filter.{Filter}
 use Rattle.view_lang.specs.Outputs.{Outputs, columns, groups}
-use Rattle.view_lang.specs.TableRules.{type_of}
+use Rattle.view_lang.specs.TableRules.{IsSideTable, type_of}
 use Rattle.view_lang.specs.ViewColumns.{joined_columns, output_fields}
 use Rattle.view_lang.specs.World.{no_table, table_at}
 use Rattle.view_lang.specs.declared.view.Lookup.{Lookup}
@@ -66,16 +66,24 @@ count-map : {X Y : Type 0} (f : X → Y) (xs : List X) → length (map f xs) ≡
 count-map f [] = refl
 count-map f (x ∷ xs) = ap suc (count-map f xs)
 
+-- those that are looked up are side tables
+side-table : (sides : List SideTable) (k : ℕ) (s : SideTable) → All (λ s. IsSideTable s.table) sides
+    → slice_get sides k ≡ Some s → IsSideTable s.table
+side-table sides k s are at =
+    subst (λ (t : SideTable). IsSideTable t.table) (get_or_from_slice_get sides k s s at)
+    (are k s (slice_get_within sides k s at))
+
 -- a lookup that was read, in its side table
 record IsLooked (main : Table) (sides : List SideTable) (l : Looked) : Type 0 where
   rules : IsLookup (tables main sides) (Some l.0)
   table : table_at (tables main sides) (suc l.0.side) ≡ l.1.table
 
 lookup-sound :
-    (main : Table) (sides : List SideTable) (d : Data) (l : Looked) → lookup_of main sides d ≡ Ok l
+    (main : Table) (sides : List SideTable) (d : Data) (l : Looked) → All (λ s. IsSideTable s.table) sides
+    → lookup_of main sides d ≡ Ok l
     → IsLooked main sides l
 unfolding lookup_of
-lookup-sound main sides d l e =
+lookup-sound main sides d l are e =
     bound (members_in d) _ l e (λ ms a e1.
     bound (only lookup_entries ms) _ l e1 (λ u b e2.
     bound (needed (codes "side") ms >>= text_in) _ l e2 (λ side_name c e3.
@@ -95,6 +103,7 @@ lookup-sound main sides d l e =
         omega (arith, within, count),
         column-order main.columns on_name on j,
         ap (λ (t : Table). length t.columns) (sym there),
+        subst IsSideTable (sym there) (side-table sides side.0 side.1 are at),
       );
       table = there;
     }))))))))))
@@ -230,30 +239,30 @@ view-in-sound ts s name lookup ms v t looked joined e =
 -- the columns that a view can name are those of the rows that it is made of
 looked-sound :
     (main : Table) (sides : List SideTable) (o : Option Data) (l : Option Looked)
-    → perhaps (lookup_of main sides) o ≡ Ok l
+    → All (λ s. IsSideTable s.table) sides → perhaps (lookup_of main sides) o ≡ Ok l
     → IsLookup (tables main sides) (lookup_alone l)
     × (fields_of (scope_of main l) ≡ joined_columns (tables main sides) (lookup_alone l))
-looked-sound main sides None l e =
+looked-sound main sides None l are e =
     let none : None ≡ l = cc in
     subst (λ (m : Option Looked). IsLookup (tables main sides) (lookup_alone m)
     × (fields_of (scope_of main m) ≡ joined_columns (tables main sides) (lookup_alone m))) none
     (tt, append-nil main.columns)
-looked-sound main sides (Some d) l e =
+looked-sound main sides (Some d) l are e =
     let read = mapped_Ok (λ (m : Looked). Some m) (lookup_of main sides d) l e in
-    let looked = lookup-sound main sides d read.0 read.1 in
+    let looked = lookup-sound main sides d read.0 are read.1 in
     subst (λ (m : Option Looked). IsLookup (tables main sides) (lookup_alone m)
     × (fields_of (scope_of main m) ≡ joined_columns (tables main sides) (lookup_alone m))) read.2
     (looked.rules, ap (λ (t : Table). main.columns ++ t.columns) (sym looked.table))
 
 pub view-sound :
-    (main : Table) (sides : List SideTable) (key : List ℕ) (d : Data) (v : View) → IsTextual d
-    → view_of main sides key d ≡ Ok v → IsView (tables main sides) v
+    (main : Table) (sides : List SideTable) → All (λ s. IsSideTable s.table) sides → (key : List ℕ) (d : Data) (v : View)
+    → IsTextual d → view_of main sides key d ≡ Ok v → IsView (tables main sides) v
 unfolding view_of
-view-sound main sides key d v t e =
+view-sound main sides are key d v t e =
     bound (members_in d) _ v e (λ ms a e1.
     bound (only view_entries ms) _ v e1 (λ u b e2.
     bound (entry_name key) _ v e2 (λ name c e3.
     bound (perhaps (lookup_of main sides) (get_member (codes "lookup") ms)) _ v e3 (λ l f e4.
-    let looked = looked-sound main sides (get_member (codes "lookup") ms) l f in
+    let looked = looked-sound main sides (get_member (codes "lookup") ms) l are f in
     view-in-sound (tables main sides) (scope_of main l) name (lookup_alone l) ms v (members-textual d ms a t) looked.0
     looked.1 e4))))

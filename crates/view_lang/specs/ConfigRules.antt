@@ -11,9 +11,9 @@ use Rattle.values.specs.Rose.{Rose, kids_of, roses_size}
 use Rattle.view_lang.specs.Config.{Config, FeedConfig, Table, View, tables_of}
 use Rattle.view_lang.specs.Edits.{table_of}
 use Rattle.view_lang.specs.Filter.{Filter, Filters, all_of, compare, negation, no_part, null_in, one_of, part}
-use Rattle.view_lang.specs.Limits.{max_columns, max_feeds, max_side_rows, max_sides, max_sum_precision, max_views}
+use Rattle.view_lang.specs.Limits.{max_columns, max_feeds, max_sides, max_sum_precision, max_views}
 use Rattle.view_lang.specs.Outputs.{GroupOutput, Output, Outputs, columns, groups}
-use Rattle.view_lang.specs.TableRules.{IsName, IsTable, type_of}
+use Rattle.view_lang.specs.TableRules.{IsName, IsSideTable, IsTable, type_of}
 use Rattle.view_lang.specs.ViewColumns.{field_at, joined_columns, view_columns}
 use Rattle.view_lang.specs.World.{table_at}
 use Rattle.view_lang.specs.declared.filter.Operand.{Operand}
@@ -36,12 +36,12 @@ IsAddable (col.Int w s) = Unit {0}
 IsAddable (col.Decimal p s) = p ≤ max_sum_precision
 IsAddable _ = ⊥
 
--- The columns of a side table come after those of the main table.
+-- The columns of a side table come after those of the main table. No view looks up rows of the main table.
 abbrev pub IsLookup : List Table → Option Lookup → Type 0
 IsLookup tables None = Unit {0}
 IsLookup tables (Some l) =
     (suc l.side < length tables) × IsOrdered (table_at tables 0).columns l.on
-    × (l.columns ≡ length (table_at tables (suc l.side)).columns)
+    × (l.columns ≡ length (table_at tables (suc l.side)).columns) × IsSideTable (table_at tables (suc l.side))
 
 abbrev pub IsOperand : List (Rose NamedType) → Operand → Type 0
 IsOperand fields (operand.Constant d) = Unit {0}
@@ -116,7 +116,7 @@ pub record IsConfig (c : Config) : Type 0 where
   pub main : IsTable c.main
   pub main_rows : c.main.max_rows ≡ max_main_rows
   pub sides : All (λ s. IsTable s.table) c.sides
-  pub side_rows : All (λ s. s.table.max_rows ≡ max_side_rows) c.sides
+  pub side_rows : All (λ s. IsSideTable s.table) c.sides
   pub few_sides : length c.sides ≤ max_sides
   pub feeds : All (IsFeed (tables_of c)) c.feeds
   pub few_feeds : length c.feeds ≤ max_feeds

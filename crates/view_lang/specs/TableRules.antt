@@ -7,7 +7,7 @@ use Rattle.values.specs.Layouts.{AreLayouts, slot}
 use Rattle.values.specs.Limits.{max_depth, max_fields, max_main_rows, max_slot}
 use Rattle.values.specs.Logical.{AreLogicalColumns, NamedType, trees_of}
 use Rattle.values.specs.Rose.{Rose, node, Roses, none, more, kids_of, roses_depth, roses_size}
-use Rattle.view_lang.specs.Limits.{max_column_name_len, max_columns}
+use Rattle.view_lang.specs.Limits.{max_column_name_len, max_columns, max_side_rows}
 use Rattle.view_lang.specs.Config.{Table}
 
 abbrev pub IsName : List ℕ → Type 0
@@ -55,3 +55,7 @@ pub record IsTable (t : Table) : Type 0 where
   pub columns : AreColumns t.columns
   pub key : IsKeyColumn t.key t.columns
   pub few : t.max_rows ≤ max_main_rows
+
+-- A side table is one by its bound on rows; the main table's is another.
+abbrev pub IsSideTable : Table → Type 0
+IsSideTable t = t.max_rows ≡ max_side_rows

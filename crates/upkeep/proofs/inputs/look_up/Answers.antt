@@ -1,6 +1,11 @@
 use Rattle.std.proofs.Common.{◌+◌, add-one}
-use Rattle.upkeep.proofs.InputRows.{look_row}
+use Rattle.upkeep.proofs.InputRows.{look_row, look_side}
 use Rattle.upkeep.proofs.inputs.look_up.Goals as goal
+
+pub row_with_key-requires : goal.row_with_key-requires
+row_with_key-requires c =
+    look_side c.args.stores.now c.args.lookup c.in-Some.lookup (c.in-Some.lookup.side + 1) c.index-stores-lookup.result
+    c.requires c.in-Some.is (add-one c.in-Some.lookup.side) c.index-stores-lookup.is
 
 pub returns : goal.returns
 returns c =

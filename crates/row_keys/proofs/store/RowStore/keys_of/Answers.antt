@@ -12,7 +12,7 @@ key-requires c =
     let there = All-get_or
     (λ n. n < length (joined (rows_by c.self.inside.batches.items c.self.inside.locations.items) c.self.inside.numbers))
     c.args.numbers.now c.loop-number.number-index 0 c.loop-number-test.true
-    (subst P (sym c.self.view_is) c.requires) in
+    (subst P (sym c.self.view_is) c.requires.there) in
     (number_within c.self.inside.table c.self.inside.batches.items c.self.inside.locations.items c.self.inside.numbers
     (get_or c.args.numbers.now c.loop-number.number-index 0) c.self.invariant there).1
 
@@ -22,7 +22,7 @@ loop-number-preserved c =
     let there = All-get_or
     (λ n. n < length (joined (rows_by c.self.inside.batches.items c.self.inside.locations.items) c.self.inside.numbers))
     c.args.numbers.now c.loop-number.number-index 0 c.loop-number-test.true
-    (subst P (sym c.self.view_is) c.requires) in
+    (subst P (sym c.self.view_is) c.requires.there) in
     rw (← c.self.view_is)
     (key_more c.self.inside.table (rows_by c.self.inside.batches.items c.self.inside.locations.items)
     c.self.inside.numbers c.args.numbers.now c.loop-number.number-index c.loop-number.keys.items
