@@ -4,3 +4,9 @@ pub mod PushLemmas
 pub mod KernelLemmas
 pub mod Sample
 pub mod ByteLemmas
+pub mod BlockLemmas
+pub mod ByteRuns
+pub mod CountLemmas
+pub mod GatherLemmas
+pub mod KernelRuns
+pub mod TruthLemmas

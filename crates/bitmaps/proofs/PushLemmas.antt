@@ -48,7 +48,7 @@ bit-byte false = refl
 
 -- A byte of bits is below the power of two of their number, and the next bit adds that power.
 
-byte-lt : (bs : List Bool) → byte_of bs < 2 ^ length bs
+pub byte-lt : (bs : List Bool) → byte_of bs < 2 ^ length bs
 byte-lt [] = omega arith
 byte-lt (true ∷ bs) = let rest = byte-lt bs in let twice = pow-succ' 2 (length bs) in omega (arith, rest, twice)
 byte-lt (false ∷ bs) = let rest = byte-lt bs in let twice = pow-succ' 2 (length bs) in omega (arith, rest, twice)

@@ -1,2 +1,4 @@
 pub mod Bits
 pub mod Packed
+pub mod Blocks
+pub mod Truths

@@ -1,6 +1,6 @@
 //! Owned bitmaps.
 
-ghost use Rattle.std.specs.Prelude.{◌≡◌, ◌+◌, ◌<◌, ◌++◌, ◌∷◌, ◌^◌, [], length, IfOk, OnErr};
+ghost use Rattle.std.specs.Prelude.{◌≡◌, ◌+◌, ◌*◌, ◌%◌, ◌<◌, ◌++◌, ◌∷◌, ◌^◌, [], length, IfOk, OnErr, OnOk};
 ghost use Rattle.bitmaps.specs.Bits.{bits_at};
 ghost use Rattle.bitmaps.specs.Packed.{IsPacked, bytes_of};
 
@@ -53,6 +53,33 @@ impl Bitmap {
             bytes: Vec::new(alloc),
             len: 0,
         }
+    }
+
+    /// A bitmap without bits, with room for `bits` of them.
+    pub fn with_capacity(alloc: Global, bits: usize) -> Result<Bitmap, AllocError>
+        ensures { IfOk result (λ b. b ≡ []) }
+    {
+        let bytes = Vec::with_capacity(alloc, bits.div_ceil(8))?;
+        Ok(Bitmap { bytes, len: 0 })
+    }
+
+    /// The number of bits.
+    pub fn len(&self) -> usize
+        ensures { result ≡ length self.now }
+    {
+        self.len
+    }
+
+    /// Adds the bits of whole bytes at the end, where the bits before them fill theirs. A refusal changes nothing.
+    pub fn push_bytes(&mut self, bytes: &[u8]) -> Result<(), AllocError>
+        requires whole { length self.old % 8 ≡ 0 }
+        requires small { length self.old + 8 * length bytes.now < 2 ^ 64 }
+        ensures pushed { OnOk result (self.new ≡ self.old ++ bits_at bytes.now 0 (8 * length bytes.now)) }
+        ensures unchanged { OnErr result (self.new ≡ self.old) }
+    {
+        self.bytes.extend_from_slice(bytes)?;
+        self.len += 8 * bytes.len();
+        Ok(())
     }
 
     /// Adds a bit at the end. A refusal changes nothing.

@@ -1,9 +1,12 @@
 //! Borrowed views of bitmaps.
 
-ghost use Rattle.std.specs.Prelude.{◌≡◌, ◌+◌, ◌<◌, ◌≤◌, ◌^◌, if◌then◌else◌, length, false, get_or, nat_eq, slice_get};
+ghost use Rattle.std.specs.Prelude.{◌≡◌, ◌+◌, ◌<◌, ◌≤◌, ◌^◌, [], ◌∷◌, if◌then◌else◌, length, false, get_or, nat_eq, slice_get};
 ghost use Rattle.bitmaps.specs.Bits.{HasBits, bit_at, bits_at, ones};
+ghost use Rattle.bitmaps.specs.Blocks.{AreBits};
 
+use crate::lanes::{count_lanes, load, load_byte};
 use std::marker::Model;
+use std::simd::prelude::*;
 
 /// A run of bits in some bytes. It may begin at any bit and end at any bit.
 ///
@@ -43,8 +46,15 @@ fn bit_number(bytes: &[u8], i: usize) -> usize
     if bit(bytes, i) { 1 } else { 0 }
 }
 
+/// The bit of `yes` where the mask's is 1, else that of `no`.
+pub(crate) fn pick(mask: bool, yes: bool, no: bool) -> bool
+    ensures { result ≡ if mask then yes else no }
+{
+    if mask { yes } else { no }
+}
+
 /// How many of the `len` bits from bit `offset` on are 1: eight at a time where they fill a byte.
-fn count_ones(bytes: &[u8], offset: usize, len: usize) -> usize
+fn count_few(bytes: &[u8], offset: usize, len: usize) -> usize
     requires within { HasBits bytes.now (offset + len) }
     requires small { offset + len < 2 ^ 64 }
     ensures { result ≡ ones (bits_at bytes.now offset len) }
@@ -62,6 +72,21 @@ fn count_ones(bytes: &[u8], offset: usize, len: usize) -> usize
         }
     }
     count
+}
+
+/// How many of the `len` bits from bit `offset` on are 1: 256 at a time, while there are as many.
+fn count_ones(bytes: &[u8], offset: usize, len: usize) -> usize
+    requires within { HasBits bytes.now (offset + len) }
+    requires small { offset + len < 2 ^ 64 }
+    ensures { result ≡ ones (bits_at bytes.now offset len) }
+{
+    let mut count = 0;
+    let mut i = 0;
+    while len - i >= 256 {
+        count += count_lanes(load(bytes, offset + i));
+        i += 256;
+    }
+    count + count_few(bytes, offset + i, len - i)
 }
 
 #[tactic(auto, using(crate::proofs::Runs::runs))]
@@ -106,6 +131,24 @@ impl<'a> Bits<'a> {
         ensures { result ≡ get_or self.now i false }
     {
         bit(self.bytes, self.offset + i)
+    }
+
+    /// The eight bits from bit `i` on.
+    #[inline(always)]
+    pub(crate) fn byte(&self, i: usize) -> u8
+        requires { i + 8 ≤ length self.now }
+        ensures { AreBits 8 (result ∷ []) (λ k. get_or self.now (i + k) false) }
+    {
+        load_byte(self.bytes, self.offset + i)
+    }
+
+    /// The 256 bits from bit `i` on.
+    #[inline(always)]
+    pub(crate) fn block(&self, i: usize) -> u8x32
+        requires { i + 256 ≤ length self.now }
+        ensures { AreBits 256 result (λ k. get_or self.now (i + k) false) }
+    {
+        load(self.bytes, self.offset + i)
     }
 
     /// How many bits are 1.

@@ -7,9 +7,14 @@
 
 mod bitmap;
 mod bits;
+mod gather;
 mod kernels;
+mod lanes;
+pub mod plain;
 #[cfg(test)]
 mod tests;
+mod truths;
 
 pub use bitmap::Bitmap;
 pub use bits::Bits;
+pub use truths::Truths;

@@ -1,0 +1,13 @@
+use Rattle.std.proofs.Common.{arith, bit_and}
+use Rattle.std.proofs.lemmas.Simd.{length-zip2, get_or-zip2}
+use Rattle.std.specs.Simd.Lanes.{zip2}
+use Rattle.bitmaps.proofs.BlockLemmas.{and-bits}
+use Rattle.bitmaps.proofs.lanes.and_lanes.Goals as goal
+
+pub returns : goal.returns
+returns c =
+    let a = c.args.a in
+    let b = c.args.b in
+    let long = length-zip2 bit_and a b (omega (arith, c.fits-a.0, c.fits-b.0)) in
+    and-bits 256 a b (zip2 bit_and a b) (omega (arith, long, c.fits-a.0))
+    (λ i below. get_or-zip2 bit_and a b i 0 0 0 (omega (arith, long, below)) (omega (arith, long, below, c.fits-a.0, c.fits-b.0)))
