@@ -1,0 +1,3 @@
+pub mod Gathering
+pub mod CodeLemmas
+pub mod RowLemmas

@@ -1,0 +1,9 @@
+use Rattle.std.proofs.Common.{get_or}
+use Rattle.values.specs.Datum.{null}
+use Rattle.view_lang.specs.Truth.{compared}
+use Rattle.column_truths.proofs.Gathering.{Gathered}
+use Rattle.column_truths.proofs.by_cell.compare_cells.Given as goal
+
+abbrev pub invariant-loop-i : goal.invariant-loop-i
+invariant-loop-i l =
+    Gathered (λ i. compared l.comparison (get_or l.column.cells i null) l.constant) l.known l.unknown l.i

@@ -1,0 +1,40 @@
+use Rattle.std.proofs.Common.{◌∙◌, ap, arith, get_or, length, refl, sym}
+use Rattle.values.specs.Datum.{null}
+use Rattle.view_lang.specs.Truth.{compared}
+use Rattle.column_truths.proofs.Gathering.{
+  gathered_step,
+  gathered_known,
+  gathered_unknown,
+  gathered_end,
+  each_compared,
+  value_got,
+}
+use Rattle.column_truths.proofs.by_code.compare_values.Goals as goal
+
+pub push_truth-requires-clause-known : goal.push_truth-requires-clause-known
+push_truth-requires-clause-known c =
+    let count = gathered_known _ c.loop-i.known c.loop-i.unknown c.loop-i.i c.loop-i.invariant in
+    omega (arith, count, c.loop-i-test.true, c.len-i-end.type_inv)
+
+pub push_truth-requires-clause-unknown : goal.push_truth-requires-clause-unknown
+push_truth-requires-clause-unknown c =
+    let count = gathered_unknown _ c.loop-i.known c.loop-i.unknown c.loop-i.i c.loop-i.invariant in
+    omega (arith, count, c.loop-i-test.true, c.len-i-end.type_inv)
+
+pub loop-i-preserved : goal.loop-i-preserved
+loop-i-preserved c =
+    let cells = c.args.values.now in
+    let here = value_got c.get.result c.unwrap-value.result cells c.loop-i.i c.get.ensures c.unwrap-value.ensures in
+    gathered_step _ c.loop-i.known c.loop-i.unknown c.push_truth.new.known c.push_truth.new.unknown c.loop-i.i
+    c.compared.result c.loop-i.invariant
+    (c.compared.ensures ∙ ap (λ d. compared c.args.comparison d c.args.constant.now) (sym here))
+    c.in_ok-push_truth.ensures.known c.in_ok-push_truth.ensures.unknown
+
+pub returns : goal.returns
+returns c =
+    let cells = c.args.values.now in
+    c.in_ok-truths.ensures
+    ∙ gathered_end (λ i. compared c.args.comparison (get_or cells i null) c.args.constant.now) c.loop-i.known
+    c.loop-i.unknown c.bits.result c.loop-i.i (length cells) c.loop-i.invariant
+    (omega (arith, c.loop-i-test.false, c.loop-i.auto.i-end, c.len-i-end.ensures)) c.bits.ensures
+    ∙ each_compared c.args.comparison c.args.constant.now cells (length cells) refl

@@ -1,0 +1,28 @@
+use Rattle.std.proofs.Common.{◌∙◌, arith, refl}
+use Rattle.std.specs.Prelude.{Some}
+use Rattle.column_truths.specs.Compared.{all_alike}
+use Rattle.column_truths.proofs.Gathering.{gathered_step, gathered_known, gathered_unknown, gathered_end}
+use Rattle.column_truths.proofs.filter.repeated.Goals as goal
+
+pub push_truth-requires-clause-known : goal.push_truth-requires-clause-known
+push_truth-requires-clause-known c =
+    let count = gathered_known _ c.loop-i.known c.loop-i.unknown c.loop-i.i c.loop-i.invariant in
+    omega (arith, count, c.loop-i-test.true, c.ranges.len.fits)
+
+pub push_truth-requires-clause-unknown : goal.push_truth-requires-clause-unknown
+push_truth-requires-clause-unknown c =
+    let count = gathered_unknown _ c.loop-i.known c.loop-i.unknown c.loop-i.i c.loop-i.invariant in
+    omega (arith, count, c.loop-i-test.true, c.ranges.len.fits)
+
+pub loop-i-preserved : goal.loop-i-preserved
+loop-i-preserved c =
+    gathered_step (λ i. Some c.args.truth) c.loop-i.known c.loop-i.unknown c.push_truth.new.known
+    c.push_truth.new.unknown c.loop-i.i (Some c.args.truth) c.loop-i.invariant refl
+    c.in_ok-push_truth.ensures.known c.in_ok-push_truth.ensures.unknown
+
+pub returns : goal.returns
+unfolding all_alike
+returns c =
+    c.in_ok-truths.ensures
+    ∙ gathered_end (λ i. Some c.args.truth) c.loop-i.known c.loop-i.unknown c.bits.result c.loop-i.i c.args.len
+    c.loop-i.invariant (omega arith) c.bits.ensures
