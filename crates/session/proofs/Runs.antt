@@ -29,7 +29,7 @@ use Rattle.std.proofs.lemmas.List.{map-set}
 use Rattle.std.proofs.lemmas.Option.{slice_get-get_or, slice_get-map}
 use Rattle.stream_writer.specs.Sinks.{Sunk}
 use Rattle.view_lang.specs.Config.{Config}
-use Rattle.session.specs.Bounds.{EachStep}
+use Rattle.session.specs.Bounds.{Does, EachDoes}
 use Rattle.session.specs.Shows.{IsStep, IsWithin, SessionParts, config_of}
 use Rattle.session.specs.Steps.{FinishStep, PushStep, Run, State, Steps, UndoTo, WriteStep, WriteTo}
 use Rattle.session.specs.declared.calls.Fault.{Fault}
@@ -124,29 +124,32 @@ run_more conf s t u ks ls ms (x ∷ xs) [] st r run h = absurd run
 run_more conf s t u ks ls ms (x ∷ xs) (y ∷ ys) st r run h =
     (run.0, run.1, run.2, run_more conf run.0 t u run.1 ls ms xs ys st r run.3 h)
 
--- so does a relation of each step
+-- so does what each step does
 each_more :
-    (Holds : SessionParts → Step → Reply → SessionParts → Type 0) (o p q : SessionParts) (steps : List Step)
-    (replies : List Reply) (st : Step) (r : Reply) → EachStep Holds o steps replies p → Holds p st r q
-    → EachStep Holds o (steps ++ st ∷ []) (replies ++ r ∷ []) q
-each_more Holds o p q [] [] st r same h = (q, subst (λ x. Holds x st r q) same h, refl)
-each_more Holds o p q [] (y ∷ ys) st r run h = absurd run
-each_more Holds o p q (x ∷ xs) [] st r run h = absurd run
-each_more Holds o p q (x ∷ xs) (y ∷ ys) st r run h =
-    (run.0, run.1, each_more Holds run.0 p q xs ys st r run.2 h)
+    (o p q : SessionParts) (ks ls ms : List Sunk) (steps : List Step) (replies : List Reply) (st : Step) (r : Reply)
+    → EachDoes o ks steps replies p ls → Does p ls st r q ms
+    → EachDoes o ks (steps ++ st ∷ []) (replies ++ r ∷ []) q ms
+each_more o p q ks ls ms [] [] st r same h =
+    let P : SessionParts → Type 0 = λ x. Does x ls st r q ms in
+    let Q : List Sunk → Type 0 = λ xs. Does o xs st r q ms in
+    (q, ms, subst Q same.1 (subst P same.0 h), (refl, refl))
+each_more o p q ks ls ms [] (y ∷ ys) st r run h = absurd run
+each_more o p q ks ls ms (x ∷ xs) [] st r run h = absurd run
+each_more o p q ks ls ms (x ∷ xs) (y ∷ ys) st r run h =
+    (run.0, run.1, run.2, each_more run.0 p q run.1 ls ms xs ys st r run.3 h)
 
 pub each_next :
-    (Holds : SessionParts → Step → Reply → SessionParts → Type 0) (o p q : SessionParts) (steps : List Step) (i : ℕ)
-    (d : Step) (before after : List Reply) (r : Reply) → EachStep Holds o (take i steps) before p
-    → Holds p (get_or steps i d) r q → i < length steps → after ≡ before ++ r ∷ []
-    → EachStep Holds o (take (i + 1) steps) after q
-each_next Holds o p q steps i d before after r so_far goes below more =
+    (o p q : SessionParts) (ks ls ms : List Sunk) (steps : List Step) (i : ℕ) (d : Step) (before after : List Reply)
+    (r : Reply)
+    → EachDoes o ks (take i steps) before p ls → Does p ls (get_or steps i d) r q ms → i < length steps
+    → after ≡ before ++ r ∷ [] → EachDoes o ks (take (i + 1) steps) after q ms
+each_next o p q ks ls ms steps i d before after r so_far goes below more =
     let st : Step = get_or steps i d in
     let next : take (i + 1) steps ≡ take i steps ++ st ∷ [] =
     ap (λ n. take n steps) (add-one i) ∙ take-suc steps i d below in
-    subst (λ xs. EachStep Holds o xs after q) (sym next)
-    (subst (λ rs. EachStep Holds o (take i steps ++ st ∷ []) rs q) (sym more)
-    (each_more Holds o p q (take i steps) before st r so_far goes))
+    subst (λ xs. EachDoes o ks xs after q ms) (sym next)
+    (subst (λ rs. EachDoes o ks (take i steps ++ st ∷ []) rs q ms) (sym more)
+    (each_more o p q ks ls ms (take i steps) before st r so_far goes))
 
 -- nothing was done
 pub run_none : (p : SessionParts) (ks : List Sunk) → IsStep p (λ s t. Run (config_of p) s ks [] [] t ks) p

@@ -25,8 +25,7 @@ ghost use Rattle.view_lang.specs.World.{contents_at, world};
 ghost use Rattle.row_keys.specs.Store.{no_rows};
 ghost use Rattle.upkeep.specs.LiveEdits.{NoneBecomesStale};
 ghost use Rattle.upkeep.specs.LiveParts.{store_at};
-ghost use Rattle.upkeep.specs.Touched.{OpensShown};
-ghost use Rattle.session.specs.Bounds.{EachStep, StepOpens, StepStale};
+ghost use Rattle.session.specs.Bounds.{EachDoes, StepOpens, StepStale, WriteOpens};
 ghost use Rattle.session.specs.Shows.{IsStep, IsWithin, Shows, ShowsEach, columns_of, config_of};
 ghost use Rattle.session.specs.Names.{place_of};
 ghost use Rattle.session.specs.Parts.{AreParts, session_with};
@@ -307,8 +306,8 @@ impl Session {
         ensures stale { OnOk result (self.new.tables.stale ≡ slice_set self.old.tables.stale
             (place_of view.now (map (λ v. v.name) self.old.tables.views)) false) }
         ensures none_stale { NoneBecomesStale self.old.tables.stale self.new.tables.stale }
-        ensures visits { OpensShown self.old.tables (place_of view.now (map (λ v. v.name) self.old.tables.views))
-            self.new.tables }
+        ensures visits { WriteOpens self.old.tables (place_of view.now (map (λ v. v.name) self.old.tables.views))
+            result self.new.tables }
     {
         let views = self.tables.views();
         let place = view_place(views, view);
@@ -379,10 +378,8 @@ impl Session {
             (λ s t. Run (config_of self.old) s (map S.sunk sinks.old) steps.now replies.items t (map S.sunk sinks.new))
             self.new) }
         ensures config { config_of self.new ≡ config_of self.old }
-        ensures opens { IfOk result
-            (λ replies. EachStep StepOpens self.old steps.now replies.items self.new) }
-        ensures stale { IfOk result
-            (λ replies. EachStep StepStale self.old steps.now replies.items self.new) }
+        ensures each { IfOk result (λ replies. EachDoes self.old (map S.sunk sinks.old) steps.now replies.items self.new
+            (map S.sunk sinks.new)) }
         ensures nothing { OnErr result ((self.new ≡ self.old) × (map S.sunk sinks.new ≡ map S.sunk sinks.old)) }
     {
         let mut replies = Vec::with_capacity(self.alloc, steps.len())?;

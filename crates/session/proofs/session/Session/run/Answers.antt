@@ -1,6 +1,6 @@
 use Rattle.std.proofs.Common.{List, [], arith, map, refl, subst, sym, ◌∙◌}
 use Rattle.stream_writer.specs.Sinks.{Sunk}
-use Rattle.session.specs.Bounds.{EachStep, StepOpens, StepStale}
+use Rattle.session.specs.Bounds.{EachDoes}
 use Rattle.session.specs.Shows.{IsStep, config_of}
 use Rattle.session.specs.Steps.{Run}
 use Rattle.session.specs.declared.calls.Reply.{Reply}
@@ -15,12 +15,9 @@ loop-step-init g c =
           subst (λ (rs : List Reply). IsStep c.args.self.now (λ s t. Run (config_of c.args.self.now) s ks [] rs t ks)
           c.args.self.now)
           (sym c.in_ok-replies.ensures.items) (run_none c.args.self.now ks);
-      opens =
-          subst (λ (rs : List Reply). EachStep StepOpens c.args.self.now [] rs c.args.self.now)
-          (sym c.in_ok-replies.ensures.items) refl;
-      stale =
-          subst (λ (rs : List Reply). EachStep StepStale c.args.self.now [] rs c.args.self.now)
-          (sym c.in_ok-replies.ensures.items) refl;
+      each =
+          subst (λ (rs : List Reply). EachDoes c.args.self.now ks [] rs c.args.self.now ks)
+          (sym c.in_ok-replies.ensures.items) (refl, refl);
       config = refl;
       sinks = refl;
       replies = c.in_ok-replies.ensures.len;
@@ -38,13 +35,12 @@ loop-step-preserved g c =
           (map g.S.Sink.sunk c.step.new.sinks) c.args.steps.now c.loop-step.step-index _ c.loop-step.replies.items
           c.push.new.self.items c.step.result
           c.loop-step.invariant.run c.step.ensures.step c.loop-step.invariant.config c.loop-step-test.true items;
-      opens =
-          each_next StepOpens c.args.self.now c.loop-step.self c.step.new.self c.args.steps.now c.loop-step.step-index _
-          c.loop-step.replies.items c.push.new.self.items c.step.result c.loop-step.invariant.opens c.step.ensures.opens
-          c.loop-step-test.true items;
-      stale =
-          each_next StepStale c.args.self.now c.loop-step.self c.step.new.self c.args.steps.now c.loop-step.step-index _
-          c.loop-step.replies.items c.push.new.self.items c.step.result c.loop-step.invariant.stale c.step.ensures.stale
+      each =
+          each_next c.args.self.now c.loop-step.self c.step.new.self (map g.S.Sink.sunk c.args.sinks.now)
+          (map g.S.Sink.sunk c.loop-step.sinks) (map g.S.Sink.sunk c.step.new.sinks) c.args.steps.now
+          c.loop-step.step-index _ c.loop-step.replies.items c.push.new.self.items c.step.result
+          c.loop-step.invariant.each
+          (record { step = c.step.ensures.step; opens = c.step.ensures.opens; stale = c.step.ensures.stale })
           c.loop-step-test.true items;
       config = c.step.ensures.config ∙ c.loop-step.invariant.config;
       sinks = c.step.ensures.sinks ∙ c.loop-step.invariant.sinks;
