@@ -4,11 +4,12 @@ use crate::ledger::{add, cut, open, put, retract, undo};
 use crate::streams::REPLACED;
 use crate::visits::write;
 use row_keys::RowStore;
-use session::Session;
+use session::{Session, SessionParts};
 use std::alloc::{AllocError, Global};
 use std::process::Abort;
 use std::test::Fail;
 use stream_writer::MemorySink;
+use upkeep::LiveTablesParts;
 use values::{Key, Value};
 use view_config::read_config;
 
@@ -152,7 +153,9 @@ fn store_of_columns(rt: HostRuntime) -> Result<(), Fail> {
     let mut session = Session::open(rt.alloc(), config.unwrap())?;
     push_all(&rt, &mut session, &REPLACED);
     assert_eq!(rt; session.live_rows(), 3);
-    for store in session.into_parts()?.tables.stores {
+    let SessionParts { tables, .. } = session.into_parts()?;
+    let LiveTablesParts { stores, .. } = tables;
+    for store in stores {
         let mut store = store;
         let before = read_cells(rt.alloc(), &mut store)?;
         assert_eq!(rt; before.len(), 3);
