@@ -70,7 +70,7 @@ slot_by_truth o v body p item children w s c k i d has is read =
     let P : Option DictionaryValues → Type 0 = λ m. slot_by m body p item children i ≡ Ok d in
     coded_truth p.layout w s c k v.values (bytes_of body p.values) i d is (subst P has read)
 
-by_null : (b : Bool) (m : Reading Datum) (c : Comparison) (k d : Datum) (t : Truth)
+pub by_null : (b : Bool) (m : Reading Datum) (c : Comparison) (k d : Datum) (t : Truth)
     → (if b then Ok null else m) ≡ Ok d → (m ≡ Ok d → compared c d k ≡ t) → compared c d k ≡ (if b then None else t)
 by_null true m c k d t read known =
     let same : null ≡ d = cc in

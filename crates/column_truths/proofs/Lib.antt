@@ -1,3 +1,7 @@
 pub mod Gathering
 pub mod CodeLemmas
 pub mod RowLemmas
+pub mod LaneNumbers
+pub mod SpanLemmas
+pub mod LaneRuns
+pub mod NumberTruths

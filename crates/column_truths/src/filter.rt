@@ -7,14 +7,16 @@ ghost use Rattle.column_truths.specs.RowTruths.{AreWithin, IsWithin, truths_in, 
 
 use crate::by_cell::compare_cells;
 use crate::by_code::compare_codes;
+use crate::by_lanes::compare_numbers;
 use crate::compared::{compared, is_null, push_truth};
 use arrays::Column;
 use bitmaps::{Bitmap, Truths};
 use std::alloc::{AllocError, Global};
-use values::{Layout, Value};
+use values::{Kind, Layout, Value};
 use view_lang::{Comparison, Filter, Operand, Test};
 
-/// The truth of a comparison of each cell of a column with a constant: by code where the column has a dictionary.
+/// The truth of a comparison of each cell of a column with a constant: by code where the column has a dictionary, and by
+/// lanes where its cells are whole numbers.
 pub fn compare(
     alloc: Global,
     column: &Column,
@@ -24,8 +26,8 @@ pub fn compare(
     ensures { IfOk result (λ ts. ts ≡ compared_with comparison constant.now column.now.cells) }
 {
     let parts = column.parts();
-    match (&parts.own.dictionary, parts.own.layout) {
-        (Some(dictionary), Layout::Int { width, signed }) => compare_codes(
+    match (&parts.own.dictionary, parts.own.layout, &constant.kind) {
+        (Some(dictionary), Layout::Int { width, signed }, _) => compare_codes(
             alloc,
             parts.body,
             parts.own,
@@ -35,6 +37,16 @@ pub fn compare(
             signed,
             comparison,
             constant,
+        ),
+        (None, Layout::Int { width, signed }, Kind::Int(number)) => compare_numbers(
+            alloc,
+            parts.body,
+            parts.own,
+            parts.children,
+            width,
+            signed,
+            comparison,
+            *number,
         ),
         _ => compare_cells(alloc, column, comparison, constant),
     }

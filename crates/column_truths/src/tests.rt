@@ -7,7 +7,7 @@ ghost use Rattle.values.specs.declared.layout.IntWidth.TheVariants as int;
 ghost use Rattle.values.specs.declared.layout.Layout.TheVariants.{Int};
 ghost use Rattle.column_truths.specs.RowTruths.{IsWithin};
 
-use crate::truths;
+use crate::{compare, truths};
 use array_layout::{Array, ArrayData, BufferRange, DictionaryValues};
 use arrays::Column;
 use dictionaries::{Dictionary, Dicts, ValueRuns};
@@ -141,5 +141,139 @@ fn coded_numbers(rt: HostRuntime) -> Result<(), Fail> {
     assert_eq!(rt; counts(alloc, &filter, coded(alloc)?)?, (2, 2));
     let filter = negation(alloc, filter)?;
     assert_eq!(rt; counts(alloc, &filter, coded(alloc)?)?, (1, 2));
+    Ok(())
+}
+
+/// Byte `place` of the least number of a width, of 1, and of the greatest, one after the other.
+fn byte_at(width: IntWidth, signed: bool, place: usize) -> u8 {
+    let is_last = place % width.bytes() == width.bytes() - 1;
+    match place / width.bytes() % 3 {
+        0 if signed && is_last => 0x80,
+        0 => 0,
+        1 if place % width.bytes() == 0 => 1,
+        1 => 0,
+        _ if signed && is_last => 0x7F,
+        _ => 0xFF,
+    }
+}
+
+/// Three times the least number of a width, 1, and the greatest: eight for the lanes, and one more.
+fn limits(alloc: Global, width: IntWidth, signed: bool) -> Result<Column, Fail> {
+    let mut body = Vec::new(alloc);
+    for place in 0..9 * width.bytes() {
+        body.push(byte_at(width, signed, place))?;
+    }
+    let own = ArrayData {
+        layout: Layout::Int { width, signed },
+        dictionary: None,
+        len: 9,
+        nulls: 0,
+        validity: BufferRange { from: 0, len: 0 },
+        offsets: BufferRange { from: 0, len: 0 },
+        values: BufferRange {
+            from: 0,
+            len: body.len(),
+        },
+    };
+    let root = Array {
+        own,
+        children: Vec::new(alloc),
+    };
+    Ok(Column::check(Rc::new(alloc, body)?, root)?)
+}
+
+fn count(
+    alloc: Global,
+    column: &Column,
+    comparison: Comparison,
+    constant: i128,
+) -> Result<usize, AllocError> {
+    let constant = Value {
+        kind: Kind::Int(constant),
+    };
+    Ok(
+        compare(alloc, column, comparison, &constant)?
+            .yes()
+            .count_ones(),
+    )
+}
+
+/// How many cells are equal to a constant, different from it, below it, at most it, above it, and at least it.
+fn counts_with(alloc: Global, column: &Column, constant: i128) -> Result<[usize; 6], AllocError> {
+    Ok([
+        count(alloc, column, Comparison::Equal, constant)?,
+        count(alloc, column, Comparison::Different, constant)?,
+        count(alloc, column, Comparison::Below, constant)?,
+        count(alloc, column, Comparison::AtMost, constant)?,
+        count(alloc, column, Comparison::Above, constant)?,
+        count(alloc, column, Comparison::AtLeast, constant)?,
+    ])
+}
+
+/// Whether comparisons with the numbers just below and at the least number of a width, and at and just above the greatest,
+/// hold of as many cells as they should.
+fn holds_at_limits(
+    alloc: Global,
+    width: IntWidth,
+    signed: bool,
+    constants: [i128; 4],
+) -> Result<bool, Fail> {
+    let column = limits(alloc, width, signed)?;
+    let below_all = counts_with(alloc, &column, constants[0])?;
+    let least = counts_with(alloc, &column, constants[1])?;
+    let greatest = counts_with(alloc, &column, constants[2])?;
+    let above_all = counts_with(alloc, &column, constants[3])?;
+    Ok(
+        below_all == [0, 9, 0, 0, 9, 9]
+            && least == [3, 6, 0, 3, 6, 9]
+            && greatest == [3, 6, 6, 9, 0, 3]
+            && above_all == [0, 9, 9, 9, 0, 0],
+    )
+}
+
+#[test]
+fn limits_of_widths(rt: HostRuntime) -> Result<(), Fail> {
+    let alloc = rt.alloc();
+    assert!(rt; holds_at_limits(alloc, IntWidth::Bits8, true, [-129, -128, 127, 128])?);
+    assert!(rt; holds_at_limits(alloc, IntWidth::Bits8, false, [-1, 0, 255, 256])?);
+    assert!(rt;
+        holds_at_limits(
+            alloc,
+            IntWidth::Bits16,
+            true,
+            [-32_769, -32_768, 32_767, 32_768]
+        )?
+    );
+    assert!(rt; holds_at_limits(alloc, IntWidth::Bits16, false, [-1, 0, 65_535, 65_536])?);
+    Ok(())
+}
+
+#[test]
+fn limits_of_wide_numbers(rt: HostRuntime) -> Result<(), Fail> {
+    let alloc = rt.alloc();
+    let signed = [-2_147_483_649, -2_147_483_648, 2_147_483_647, 2_147_483_648];
+    assert!(rt; holds_at_limits(alloc, IntWidth::Bits32, true, signed)?);
+    assert!(rt;
+        holds_at_limits(
+            alloc,
+            IntWidth::Bits32,
+            false,
+            [-1, 0, 4_294_967_295, 4_294_967_296]
+        )?
+    );
+    let signed = [
+        -9_223_372_036_854_775_809,
+        -9_223_372_036_854_775_808,
+        9_223_372_036_854_775_807,
+        9_223_372_036_854_775_808,
+    ];
+    assert!(rt; holds_at_limits(alloc, IntWidth::Bits64, true, signed)?);
+    let unsigned = [
+        -1,
+        0,
+        18_446_744_073_709_551_615,
+        18_446_744_073_709_551_616,
+    ];
+    assert!(rt; holds_at_limits(alloc, IntWidth::Bits64, false, unsigned)?);
     Ok(())
 }
