@@ -7,7 +7,8 @@ use crate::script::{Command, Line, read_line};
 use session::{Event, Fault, Pushed, Reply, Session, Step, ViewFault};
 use std::fmt;
 use std::io::Write;
-use stream_writer::{MemorySink, WriteFault};
+use std::slice::from_mut;
+use stream_writer::{DeviceFault, MemorySink, Sink, WriteFault};
 use values::Cause;
 
 /// The answer to a command of a script.
@@ -49,6 +50,20 @@ impl fmt::Display for Answer<'_> {
             Answer::CannotRead(path) => write!(f, "cannot read {path}"),
             Answer::CannotWrite(path) => write!(f, "cannot write {path}"),
         }
+    }
+}
+
+/// The file that was named last, as a sink.
+#[derive(Drop)]
+struct NamedFile<'a, F> {
+    files: &'a mut F,
+}
+
+impl<'a, F: Files> Sink for NamedFile<'a, F> {
+    ghost sunk = { λ s. F.sunk s.files.now };
+
+    fn put(&mut self, piece: &[u8]) -> Result<usize, DeviceFault> {
+        self.files.put(piece)
     }
 }
 
@@ -123,15 +138,12 @@ impl Run {
         if files.create(path).is_err() {
             return Answer::Refused(Cause::Memory);
         }
-        match self.session.write_view(view, files) {
-            Ok(count) => Answer::Wrote(count),
-            Err(ViewFault::UnknownView) => Answer::Refused(Cause::UnknownView),
-            Err(ViewFault::Write(WriteFault::Memory { .. })) => Answer::Refused(Cause::Memory),
-            Err(ViewFault::Write(WriteFault::Device { .. })) => match files.fault() {
-                Some(FileFault::Unusable) => Answer::CannotWrite(path),
-                Some(FileFault::Memory) => Answer::Refused(Cause::Memory),
-                None => Answer::Refused(Cause::Device),
-            },
+        let mut file = NamedFile { files: &mut *files };
+        let step = Step::Write { view, sink: 0 };
+        match self.session.step(&step, from_mut(&mut file)) {
+            Reply::Write(Ok(count)) => Answer::Wrote(count),
+            Reply::Write(Err(fault)) => write_refused(fault, path, files),
+            _ => unreachable!(),
         }
     }
 
@@ -168,6 +180,19 @@ impl Run {
                 self.print(answer, out);
             }
         }
+    }
+}
+
+/// The answer to a view that was not written whole to the file at `path`.
+fn write_refused<'a, F: Files>(fault: ViewFault, path: &'a str, files: &F) -> Answer<'a> {
+    match fault {
+        ViewFault::UnknownView => Answer::Refused(Cause::UnknownView),
+        ViewFault::Write(WriteFault::Memory { .. }) => Answer::Refused(Cause::Memory),
+        ViewFault::Write(WriteFault::Device { .. }) => match files.fault() {
+            Some(FileFault::Unusable) => Answer::CannotWrite(path),
+            Some(FileFault::Memory) => Answer::Refused(Cause::Memory),
+            None => Answer::Refused(Cause::Device),
+        },
     }
 }
 
