@@ -21,12 +21,15 @@ TURNS = 3
 UNDOS = 64
 # How often rows are appended one by one and then retracted, by feeds of their own.
 ROUNDS = 4
-CONFIG = """
+# The main table and its feeds.
+TABLE = """
 [main]
 key = "i"
 columns = [["i", "int64"], ["n", "utf8"], ["a", "int64"], ["z", "int64"]]
 [feed.rows]
 role = "append"
+""" + "".join(f'[feed.more{it}]\nrole = "append"\n[feed.gone{it}]\nrole = "retract"\n' for it in range(ROUNDS))
+CONFIG = TABLE + """
 [view.all]
 columns = [["i", "col", "i"], ["n", "col", "n"], ["a", "col", "a"]]
 [view.sorted]
@@ -44,19 +47,14 @@ first = 10
 [view.zones]
 group = ["z"]
 columns = [["z", "col", "z"], ["rows", "count"], ["sum", "sum", "a"]]
-""" + "".join(f'[feed.more{it}]\nrole = "append"\n[feed.gone{it}]\nrole = "retract"\n' for it in range(ROUNDS))
-ORDERED = """
-[main]
-key = "i"
-columns = [["i", "int64"], ["n", "utf8"], ["a", "int64"], ["z", "int64"]]
-[feed.rows]
-role = "append"
+"""
+ORDERED = TABLE + """
 [view.first]
 group = ["z"]
 columns = [["z", "col", "z"], ["rows", "count"], ["sum", "sum", "a"]]
 order = [["sum", "desc"]]
 first = 10
-""" + "".join(f'[feed.more{it}]\nrole = "append"\n[feed.gone{it}]\nrole = "retract"\n' for it in range(ROUNDS))
+"""
 EDITS = [f"{kind}{it}" for it in range(ROUNDS) for kind in ("more", "gone")]
 NUMBER = field(2, 64, 1, name=b"i")
 SCHEMA = schema([NUMBER, field(5, name=b"n"), field(2, 64, 1, name=b"a"), field(2, 64, 1, name=b"z")])
