@@ -75,11 +75,12 @@ class Task:
 
 class Schedule:
     """Tasks by urgency: the first that can be begun is, in as many threads as there are lanes. Where none can, one of the further tasks
-    is, as long as it is time. What waits for something that wasn't made, since its task didn't go well, is left."""
+    is, as long as it is time. What waits for something that wasn't made, since its task didn't go well, is left. A task that a full disk
+    or the like stops is broken off."""
 
     def __init__(self, tasks, further, is_time):
         self.left, self.further, self.is_time = list(tasks), list(further), is_time
-        self.made, self.running, self.changing = set(), 0, threading.Condition()
+        self.made, self.broken_off, self.running, self.changing = set(), [], 0, threading.Condition()
 
     def take(self):
         """The task that is begun now, if one can be."""
@@ -105,6 +106,8 @@ class Schedule:
             is_well = False
             try:
                 is_well = task.call()
+            except OSError as error:
+                self.broken_off.append(f"a task was broken off: {error}")
             finally:
                 with self.changing:
                     self.running -= 1
@@ -241,7 +244,7 @@ class Gate:
         self.minutes["edits"] = trial.seconds / 60
         self.passed += trial.passed
         self.failed += trial.failed + [it.split(":")[0] for it in planned.bad]
-        self.failed += [f"{len(schedule.left)} tasks were not begun"] * bool(schedule.left)
+        self.failed += schedule.broken_off + [f"{len(schedule.left)} tasks were not begun"] * bool(schedule.left)
         return trial
 
 

@@ -17,6 +17,8 @@ from lanes import PARTS, files_below, read
 # A further batch costs another reading of the libraries, a longer one makes the lanes end at different times.
 MOST_IN_A_BATCH = 14
 CONTROL = "control"
+# What an error says that is about a name alone: the edit took it away, and nothing is said of what the function must ensure.
+LOST_NAME = re.compile(r"has no field|is not in scope|has no `|was not admitted")
 
 
 @dataclass(frozen=True)
@@ -145,22 +147,27 @@ class Checked:
         if said.startswith("no proof: ") and "did not prove `" in said:
             return True
         folder = "/".join(named[0].split("::")[1:])
-        return True if said.startswith("not proved") and self.refuses_answer(folder) else None
+        return True if said.startswith("not proved") and self.refuses_answer(f"{folder}/") else None
 
-    def refuses_answer(self, folder):
-        """Whether an answer in the function's proof is refused, and not for a name alone that the edit took away."""
-        names = r"has no field|is not in scope|has no `|was not admitted"
-        errors = [it for it in self.lines if re.match(rf"(\./)?proofs/{re.escape(folder)}/\w+\.antt:\d+:\d+: error: ", it)]
-        return any(not re.search(names, it) for it in errors)
+    def errors(self, folder=""):
+        """The errors in this folder of the proofs, each with the lines that go on with it."""
+        begins = re.compile(rf"(\./)?proofs/{re.escape(folder)}\S+\.antt:\d+:\d+: error: ")
+        return [it for it in self.ran.text.replace("\n  ", "  ").split("\n") if begins.match(it)]
+
+    def refuses_answer(self, folder=""):
+        """Whether an answer in this folder of the proofs is refused, and not for a name alone that the edit took away."""
+        return any(not LOST_NAME.search(it) for it in self.errors(folder))
 
     def refuses_crate(self):
-        """Whether the crate as a whole is refused; None where the check didn't get so far."""
+        """Whether the crate as a whole is refused; None where the check didn't get so far, or says no more than that names are lost."""
         if self.ran.status == 0 and self.verdict == "logic=proved":
             return False
-        return True if self.ran.status == 1 and self.verdict == "logic=not-proved" and self.is_readable else None
+        is_refused = self.ran.status == 1 and self.verdict == "logic=not-proved" and self.is_readable
+        says_why = any("no proof: " in it and "did not prove `" in it for it in self.lines) or self.refuses_answer()
+        return True if is_refused and says_why else None
 
     def beginning(self):
-        told = [it for it in self.lines if "error" in it] or self.lines
+        told = self.errors() or [it for it in self.lines if "error" in it] or self.lines
         return "\n".join(told[:6])
 
 
