@@ -81,7 +81,7 @@ use Rattle.schema_meta.specs.Totals.{total}
 use Rattle.schema_meta.proofs.SchemaFits.{schema-writable}
 use Rattle.schema_meta.proofs.ColumnsRead.{all_read}
 use Rattle.schema_meta.proofs.SoundFields.{Sound, columns-count, coded-layouts-read}
-use Rattle.schema_meta.proofs.CodedFields.{coded-clear, coded-texts}
+use Rattle.schema_meta.proofs.CodedFields.{coded-clear, coded-texts, none-coded}
 use Rattle.schema_meta.proofs.FieldRead.{columns-forest-read, columns-total-read}
 use Rattle.schema_meta.proofs.Logicals.{named-stored-all}
 
@@ -221,4 +221,4 @@ schema-law declared coded fs columns named c same =
     (λ t h found held beyond. header-means declared t h coded fs named found (schema-read h coded fs columns named c
     held) same)
 
-pub ruleset schema_laws = (schema-law, columns-law)
+pub ruleset schema_laws = (schema-law, columns-law, none-coded)

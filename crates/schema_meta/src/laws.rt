@@ -12,7 +12,7 @@ ghost use Rattle.schema_meta.specs.LogicalLaw.{
 ghost use Rattle.schema_meta.specs.PlaceLaw.{PlaceLaw, SameArraysLaw, ValuesLaw, TypedArraysLaw};
 ghost use Rattle.schema_meta.specs.PlainLaw.{PlainArrays, PlainSlots};
 ghost use Rattle.schema_meta.specs.Paths.{FoundByPaths, StandsByPaths};
-ghost use Rattle.schema_meta.specs.SchemaLaw.{ColumnsLaw, SchemaLaw};
+ghost use Rattle.schema_meta.specs.SchemaLaw.{ColumnsLaw, NoneCoded, SchemaLaw};
 ghost use Rattle.schema_meta.specs.SignLaw.{
   SignedArrays,
   SignedBound,
@@ -42,11 +42,12 @@ pub fn fields_law()
 
 /// The metadata of the Schema message that is written for a logical schema is read as the columns of
 /// that schema, the coded ones with their dictionaries, with no fault and no body; and their logical fields are the
-/// schema's.
+/// schema's. Where none is coded, they are the columns without dictionaries.
 #[tactic(auto, using(crate::proofs::SchemaRead::schema_laws))]
 pub fn schema_law()
     ensures schema { SchemaLaw }
     ensures columns { ColumnsLaw }
+    ensures none { NoneCoded }
 {}
 
 /// The definitions read sizes, lengths, places and offsets as numbers without a sign, though the format has them

@@ -32,7 +32,6 @@ use Rattle.schema_meta.specs.MessageTree.{message_slots}
 use Rattle.schema_meta.proofs.SchemaFits.{items_place-le, table_place-le, number-fits}
 use Rattle.array_layout.specs.declared.array.FieldNode.{FieldNode}
 use Rattle.array_layout.specs.declared.array.BufferRange.{BufferRange}
-use Rattle.stream_writer.proofs.Counts.{body_ranges-few, body_nodes-few}
 use Rattle.stream_writer.specs.Batch.{node_bytes, range_bytes, batch_slots}
 use Rattle.stream_writer.specs.DictionaryBatch.{dictionary_slots}
 

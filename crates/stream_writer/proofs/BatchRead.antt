@@ -79,7 +79,7 @@ use Rattle.schema_meta.specs.Message.{
 use Rattle.schema_meta.specs.MessageFbs as message_fbs
 use Rattle.values.specs.Coded.{utf8}
 use Rattle.schema_meta.specs.Dictionaries.{value_type}
-use Rattle.schema_meta.specs.DictionaryBatch.{data_of, dictionary, dictionary_of, id_of, values_batch}
+use Rattle.schema_meta.specs.DictionaryBatch.{data_of, dictionary_of, id_of, values_batch}
 use Rattle.schema_meta.specs.declared.header.DictionaryHeader.{DictionaryHeader}
 use Rattle.schema_meta.specs.SchemaLaw.{stored_fields}
 use Rattle.schema_meta.proofs.SchemaRead.{meta-read}
@@ -88,7 +88,8 @@ use Rattle.body_writer.specs.Body.{laid, padded, padding, ranges_from}
 use Rattle.body_writer.specs.Batch.{IsBatch, body_bytes, body_buffers, body_ranges, body_nodes}
 use Rattle.body_writer.proofs.Rows.{body-short}
 use Rattle.stream_writer.specs.Batch.{node_bytes, range_bytes, batch_slots, batch_metadata}
-use Rattle.stream_writer.specs.BatchLaw.{BatchLaw}
+use Rattle.stream_writer.specs.BatchLaw.{BatchLaw, head_by}
+use Rattle.stream_writer.specs.DictionaryLaw.{dictionary_head}
 use Rattle.stream_writer.specs.Stream.{trees}
 use Rattle.stream_writer.specs.Coding.{value_rows}
 use Rattle.stream_writer.specs.DictionaryBatch.{dictionary_metadata, dictionary_slots, text_layouts, values_body}
@@ -262,10 +263,6 @@ head-read ls rows h b held none =
     (body_nodes-length ls rows) (body_ranges-length ls rows) (body-nodes ls rows b) (lengths-fit ls rows)
     (body-ranges ls rows (body-short ls rows b)) held none
 
--- the header of the batch of these rows, whose columns have these layouts
-abbrev pub head_by : Roses Layout → List (List Datum) → BatchHead
-head_by ls rows = batch (length rows) (body_nodes ls rows) (body_ranges ls rows)
-
 pub batch-law-by :
     (known : Known) (fields : List (Rose Entry)) (ls : Roses Layout) (rows : List (List Datum))
     → slot_layouts_of fields ≡ ls → IsBatch ls rows → known.schema ≡ Some fields
@@ -301,10 +298,6 @@ no-delta h held = rw (number-read 1 0 h message_fbs.is_delta held) refl
 data-found : (h t : Table) → subtable_of h message_fbs.batch_data ≡ Some (Some t) → data_of h ≡ Ok t
 unfolding data_of
 data-found h t e = rw e refl
-
--- the header of the dictionary batch of this id and these values
-abbrev pub dictionary_head : ℕ → List (List ℕ) → DictionaryHeader
-dictionary_head j values = dictionary (pos j) false (head_by text_layouts (value_rows values))
 
 values-batch-read :
     (h : Table) (j : ℕ) (values : List (List ℕ)) → IsBatch text_layouts (value_rows values)
@@ -345,13 +338,13 @@ unfolding header_of dictionary_batch
 dictionary-means known t h fields body d e found read = rw (e, found, read) refl
 
 -- A dictionary batch that is written is read as its id and its values' header.
-pub dictionary-law :
+pub dictionary-read :
     (known : Known) (fields : List (Rose Entry)) (j : ℕ) (values : List (List ℕ)) → j < 2 ^ 63
     → known.schema ≡ Some fields → value_type fields (pos j) ≡ Some utf8 → IsBatch text_layouts (value_rows values)
     → meta_of known (dictionary_metadata j values) ≡ Ok
     (brings_dictionary (length (values_body values)) (dictionary_head j values))
 unfolding dictionary_metadata
-dictionary-law known fields j values small e type b =
+dictionary-read known fields j values small e type b =
     let rows = value_rows values in
     let few = b.few in
     let short = body-short text_layouts rows b in

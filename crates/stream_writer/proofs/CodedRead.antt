@@ -85,7 +85,8 @@ use Rattle.stream_writer.specs.Coding.{
 }
 use Rattle.stream_writer.specs.DictionaryBatch.{text_layouts, values_body}
 use Rattle.stream_writer.specs.Stream.{trees}
-use Rattle.stream_writer.proofs.BatchRead.{dictionary_head, head_by}
+use Rattle.stream_writer.specs.BatchLaw.{head_by}
+use Rattle.stream_writer.specs.DictionaryLaw.{dictionary_head}
 use Rattle.stream_writer.proofs.Decoded.{
   Decodes,
   among-values,

@@ -201,7 +201,7 @@ among-values seen (structure es ∷ cs) h = absurd (h.0)
 
 -- the value at the place of a text is the text
 
-place-found : (t : List ℕ) (values : List (List ℕ)) → list_any (bytes_eq t) values ≡ true
+pub place-found : (t : List ℕ) (values : List (List ℕ)) → list_any (bytes_eq t) values ≡ true
     → slice_get (map text values) (position_or_len (bytes_eq t) values) ≡ Some (text t)
 place-found t [] e = absurd (cc)
 place-found t (v ∷ vs) e = by-test (bytes_eq t v) refl (λ g. place-found t vs g)

@@ -13,8 +13,10 @@ pub mod BatchRead
 pub mod RowsRead
 pub mod Decoded
 pub mod Numbering
+pub mod ValueLemmas
 pub mod IndexedRows
 pub mod CodedRead
+pub mod CodedMessages
 pub mod DictionaryBodies
 pub mod IndexedBodies
 pub mod StreamRead

@@ -90,6 +90,7 @@ use Rattle.stream_writer.specs.RoundTrip.{
   CodedMeansItsTable,
   CodedTrip,
   DeclaredCodedMeansItsTable,
+  DeclaredCodedTrip,
   DeclaredMeansItsTable,
   DeclaredTrip,
   MeansItsTable,
@@ -99,7 +100,9 @@ use Rattle.stream_writer.specs.RoundTrip.{
 }
 use Rattle.stream_writer.proofs.BatchFits.{batch-end, batch-writable, dictionary-end, dictionary-writable}
 use Rattle.stream_writer.proofs.Cut.{batch-some, batch-sound}
-use Rattle.stream_writer.proofs.BatchRead.{batch-law-by, dictionary-law, dictionary_head, head_by}
+use Rattle.stream_writer.specs.BatchLaw.{head_by}
+use Rattle.stream_writer.specs.DictionaryLaw.{dictionary_head}
+use Rattle.stream_writer.proofs.BatchRead.{batch-law-by, dictionary-read}
 use Rattle.stream_writer.proofs.CodedRead.{
   are-of,
   batch_at,
@@ -285,7 +288,7 @@ dictionary-story_step declared coded fs ds j rows all rest small type b later (s
     let sum = length-append (message (dictionary_metadata j vs) (values_body vs)) rest in
     message-story_step n known ds (dictionary_metadata j vs) (values_body vs) rest
     (brings_dictionary (length (values_body vs)) d) (dictionary-short j vs small b) refl
-    (dictionary-law known (coded_fields coded fs) j vs small refl type b)
+    (dictionary-read known (coded_fields coded fs) j vs small refl type b)
     ∙ rw (
       values-read (coded_fields coded fs) j vs type b,
       later n (counts_after counts (header.Dictionary d)) (omega (arith, room, long, sum)),
@@ -402,6 +405,9 @@ trip declared fs coded rows t named c same =
 pub coded-trip : CodedTrip
 unfolding story_of
 coded-trip fs coded rows t named c = trip None fs coded rows t named c tt
+
+pub declared-coded-trip : DeclaredCodedTrip
+declared-coded-trip fs coded rows t named c = trip (Some fs) fs coded rows t named c refl
 
 -- the story of a whole stream of a table means the table
 

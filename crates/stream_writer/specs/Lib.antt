@@ -11,6 +11,7 @@ pub mod CutLaw
 pub mod BatchLaw
 pub mod FramingLaw
 pub mod RowsLaw
+pub mod DictionaryLaw
 pub mod RoundTrip
 pub mod BatchRows
 pub mod WeighedRows

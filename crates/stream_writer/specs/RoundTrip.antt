@@ -48,6 +48,13 @@ CodedTrip =
     (fs : List (Rose NamedType)) (coded : List ℕ) (rows : List (List Datum)) → IsTable fs rows → AreNamed fs
     → AreCoded coded fs → story_of (coded_canon fs coded rows) ≡ coded_story fs coded rows
 
+abbrev pub DeclaredCodedTrip : Type 0
+DeclaredCodedTrip =
+    (fs : List (Rose NamedType)) (coded : List ℕ) (rows : List (List Datum)) → IsTable fs rows → AreNamed fs
+    → AreCoded coded fs
+    → story (length (coded_canon fs coded rows)) (before (Some fs)) [] (coded_canon fs coded rows)
+    ≡ coded_story fs coded rows
+
 abbrev pub CodedMeansItsTable : Type 0
 CodedMeansItsTable =
     (fs : List (Rose NamedType)) (coded : List ℕ) (rows : List (List Datum)) → IsTable fs rows → AreNamed fs

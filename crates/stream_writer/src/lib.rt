@@ -20,7 +20,9 @@ mod table;
 mod weighed_rows;
 
 pub use faults::WriteFault;
-pub use laws::{batch_law, canon_law, coded_law, cut_law, framing_law, rows_law};
+pub use laws::{
+    batch_law, canon_law, coded_law, cut_law, dictionary_law, framing_law, rows_law, values_law,
+};
 pub use layouts::layouts_of;
 pub use memory::MemorySink;
 pub use sink::{DeviceFault, Sink, put_all};
