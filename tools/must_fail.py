@@ -17,6 +17,7 @@ from lanes import PARTS, files_below, read
 # A further batch costs another reading of the libraries, a longer one makes the lanes end at different times.
 MOST_IN_A_BATCH = 14
 CONTROL = "control"
+BY_NAMES = "alone, for lost names and nothing else"
 # What an error says that is about a name alone: the edit took it away, and nothing is said of what the function must ensure.
 LOST_NAME = re.compile(r"has no field|is not in scope|has no `|was not admitted")
 
@@ -159,12 +160,14 @@ class Checked:
         return any(not LOST_NAME.search(it) for it in self.errors(folder))
 
     def refuses_crate(self):
-        """Whether the crate as a whole is refused; None where the check didn't get so far, or says no more than that names are lost."""
+        """Whether the crate as a whole is refused; None where the check didn't get so far."""
         if self.ran.status == 0 and self.verdict == "logic=proved":
             return False
-        is_refused = self.ran.status == 1 and self.verdict == "logic=not-proved" and self.is_readable
-        says_why = any("no proof: " in it and "did not prove `" in it for it in self.lines) or self.refuses_answer()
-        return True if is_refused and says_why else None
+        return True if self.ran.status == 1 and self.verdict == "logic=not-proved" and self.is_readable else None
+
+    def tells_why(self):
+        """Whether more is refused than names that the edit took away."""
+        return any("no proof: " in it and "did not prove `" in it for it in self.lines) or self.refuses_answer()
 
     def beginning(self):
         told = self.errors() or [it for it in self.lines if "error" in it] or self.lines
@@ -172,11 +175,12 @@ class Checked:
 
 
 class Trial:
-    """Tries batches of edits in lanes, prints what comes of each, and counts. Only of an edit in `tried` was a verdict reached."""
+    """Tries batches of edits in lanes, prints what comes of each, and counts. Only of an edit in `tried` was a verdict reached; of one in
+    `by_names` it says no more than that names are lost, and such an edit is to be written anew."""
 
     def __init__(self, root, lanes):
         self.root, self.lanes, self.noting = root, lanes, threading.Lock()
-        self.passed, self.tried, self.failed, self.seconds = 0, [], [], 0.0
+        self.passed, self.tried, self.by_names, self.failed, self.seconds = 0, [], [], [], 0.0
 
     def check(self, crate, texts):
         with self.lanes.one() as lane:
@@ -192,7 +196,8 @@ class Trial:
             refused, how = together.refuses_function(edit.function) if together else None, edit.function
             if refused is None:
                 alone = self.check(crate, edit.texts)
-                refused, how = alone.refuses_crate(), "alone"
+                refused = alone.refuses_crate()
+                how = BY_NAMES if refused and not alone.tells_why() else "alone"
                 how = how if refused is not None else f"BAD EDIT, no verdict was reached:\n{alone.beginning()}"
             self.note(crate, edit, refused, how)
 
@@ -205,4 +210,5 @@ class Trial:
             print(f"must-fail {crate}/{edit.name}: {said} ({how})", flush=True)
             self.passed += is_well
             self.tried += [f"{crate}/{edit.name}"] if refused is not None and edit.name != CONTROL else []
+            self.by_names += [f"{crate}/{edit.name}"] if refused and how == BY_NAMES else []
             self.failed += [] if is_well else [f"{crate}/{edit.name}"]

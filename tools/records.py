@@ -114,9 +114,10 @@ class Plan:
         return {it: number for it, number in left.items() if number}
 
     def said(self, trial):
-        """How many edits were due, how many were tried, and in which crates some weren't."""
+        """How many edits were due, how many were tried, in which crates some weren't, and which were refused for lost names alone."""
         left = ", ".join(f"{it} {number} of {self.due[it]}" for it, number in self.untried(trial).items())
         line = f"must-fail edits: {sum(self.due.values())} were due, {len(trial.tried)} were tried"
+        line += f"; refused for lost names alone: {', '.join(sorted(trial.by_names))}" if trial.by_names else ""
         return f"{line}; NOT TRIED: {left}" if left else line
 
     def record(self, root, trial, crates):
