@@ -5,3 +5,4 @@ pub mod LaneNumbers
 pub mod SpanLemmas
 pub mod LaneRuns
 pub mod NumberTruths
+pub mod FirstCells

@@ -1,5 +1,5 @@
 -- The truths of a filter on the rows of some columns.
-use Rattle.std.specs.Prelude.{ℕ, ◌<◌, List, map, get_or}
+use Rattle.std.specs.Prelude.{◌≡◌, ℕ, ◌<◌, ◌++◌, List, length, map, get_or}
 use Rattle.std.specs.List.{range_with_len}
 use Rattle.bitmaps.specs.Truths.{Truth}
 use Rattle.values.specs.Datum.{Datum, null}
@@ -39,3 +39,7 @@ truths_of_all n columns fs = map (λ i. truth_of_all (row_at columns i) fs) (ran
 
 abbrev pub truths_of_any : ℕ → List CheckedColumn → Filters → List Truth
 truths_of_any n columns fs = map (λ i. truth_of_any (row_at columns i) fs) (range_with_len 0 n)
+
+-- A filter that names the columns of a row alone says the same of that row with more cells after it.
+abbrev pub TruthIsOfFirstCells : Type 0
+TruthIsOfFirstCells = (row more : List Datum) (f : Filter) → IsWithin (length row) f → truth (row ++ more) f ≡ truth row f

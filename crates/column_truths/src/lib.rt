@@ -13,5 +13,7 @@ mod filter;
 mod spans;
 #[cfg(test)]
 mod tests;
+mod within;
 
 pub use filter::{compare, truths};
+pub use within::{first_cells_law, is_within};

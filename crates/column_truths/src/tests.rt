@@ -7,7 +7,7 @@ ghost use Rattle.values.specs.declared.layout.IntWidth.TheVariants as int;
 ghost use Rattle.values.specs.declared.layout.Layout.TheVariants.{Int};
 ghost use Rattle.column_truths.specs.RowTruths.{IsWithin};
 
-use crate::{compare, truths};
+use crate::{compare, is_within, truths};
 use array_layout::{Array, ArrayData, BufferRange, DictionaryValues};
 use arrays::Column;
 use dictionaries::{Dictionary, Dicts, ValueRuns};
@@ -141,6 +141,29 @@ fn coded_numbers(rt: HostRuntime) -> Result<(), Fail> {
     assert_eq!(rt; counts(alloc, &filter, coded(alloc)?)?, (2, 2));
     let filter = negation(alloc, filter)?;
     assert_eq!(rt; counts(alloc, &filter, coded(alloc)?)?, (1, 2));
+    Ok(())
+}
+
+/// A filter is within as many columns as it names, and no fewer.
+#[test]
+fn columns_of_filters(rt: HostRuntime) -> Result<(), Fail> {
+    let alloc = rt.alloc();
+    let alike = Filter {
+        test: Test::Compare {
+            comparison: Comparison::Equal,
+            column: 0,
+            with: Operand::Column(2),
+        },
+    };
+    let absent = Filter {
+        test: Test::IsNull(1),
+    };
+    assert!(rt; is_within(&absent, 2) && !is_within(&absent, 1));
+    assert!(rt; is_within(&alike, 3) && !is_within(&alike, 2));
+    let either = Filter {
+        test: Test::Or(vec![in alloc; at_least_zero(), alike, absent]?),
+    };
+    assert!(rt; is_within(&either, 3) && !is_within(&either, 2));
     Ok(())
 }
 
