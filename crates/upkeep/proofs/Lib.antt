@@ -9,6 +9,7 @@ pub mod LookedUpViews
 pub mod FollowedViews
 pub mod StaleViews
 pub mod LastRows
+pub mod ArrivalRows
 pub mod MainTable
 pub mod MainEdits
 pub mod SwappedRows

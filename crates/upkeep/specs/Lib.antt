@@ -5,6 +5,7 @@ pub mod TableChanges
 pub mod Swaps
 pub mod ViewStates
 pub mod LiveParts
+pub mod Arrivals
 pub mod ViewParts
 pub mod TablesParts
 pub mod Touched

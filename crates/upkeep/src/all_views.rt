@@ -23,10 +23,12 @@ ghost use Rattle.std.specs.Prelude.{
 ghost use Rattle.values.specs.Limits.{max_main_rows};
 ghost use Rattle.view_lang.specs.Config.{Table};
 ghost use Rattle.view_lang.specs.Shifts.{Fits, IsFew, NumberedRows, patched};
+ghost use Rattle.upkeep.specs.Arrivals.{EachTells, last_rows, rows_of_numbers};
 ghost use Rattle.upkeep.specs.LiveParts.{AreOf};
 ghost use Rattle.upkeep.specs.Stores.{Rows, rows_at, rows_in, tables_in, visits_in};
 ghost use Rattle.upkeep.specs.ViewStates.{EachIsCurrent, stale_in, turned, turned_last};
 
+use crate::arrivals::{Arrival, arrival_at};
 use crate::follow::follow;
 use crate::view_state::{Turn, ViewState};
 use row_keys::RowStore;
@@ -79,10 +81,13 @@ fn follow_each(
     states: &mut Vec<ViewState>,
     turn: Turn,
     numbers: &[usize],
+    arrivals: &[Option<Arrival>],
 ) -> Result<(), AllocError>
     requires these { AreOf stores.old.items views.now }
     requires alike { length states.old.items ≡ length views.now }
     requires there { All (λ n. n < length (rows_at (rows_in stores.old.items) 0)) numbers.now }
+    requires known { EachTells views.now (rows_of_numbers (rows_at (rows_in stores.old.items) 0) numbers.now)
+        arrivals.now }
     requires fits { (rows : NumberedRows)
         × (EachIsCurrent (tables_in stores.old.items) (rows_in stores.old.items) rows views.now states.old.items
         × (Fits rows (turned turn (rows_at (rows_in stores.old.items) 0) numbers.now)
@@ -107,6 +112,7 @@ fn follow_each(
             &mut states[place],
             turn,
             numbers,
+            arrival_at(arrivals, place, &None),
         )?;
     }
     Ok(())
@@ -120,9 +126,12 @@ pub(crate) fn follow_all(
     states: &mut Vec<ViewState>,
     turn: Turn,
     numbers: &[usize],
+    arrivals: &[Option<Arrival>],
 ) -> Result<(), AllocError>
     requires these { AreOf stores.old.items views.now }
     requires there { All (λ n. n < length (rows_at (rows_in stores.old.items) 0)) numbers.now }
+    requires known { EachTells views.now (rows_of_numbers (rows_at (rows_in stores.old.items) 0) numbers.now)
+        arrivals.now }
     requires fits { (rows : NumberedRows)
         × (EachIsCurrent (tables_in stores.old.items) (rows_in stores.old.items) rows views.now states.old.items
         × (Fits rows (turned turn (rows_at (rows_in stores.old.items) 0) numbers.now)
@@ -140,7 +149,7 @@ pub(crate) fn follow_all(
     ensures visits { visits_in stores.new.items
         ≤ visits_in stores.old.items + length views.now * length numbers.now }
 {
-    match follow_each(alloc, stores, views, states, turn, numbers) {
+    match follow_each(alloc, stores, views, states, turn, numbers, arrivals) {
         Ok(()) => Ok(()),
         Err(refused) => {
             mark_all_stale(states);
@@ -174,9 +183,11 @@ pub(crate) fn follow_last(
     states: &mut Vec<ViewState>,
     turn: Turn,
     count: usize,
+    arrivals: &[Option<Arrival>],
 ) -> Result<(), AllocError>
     requires these { AreOf stores.old.items views.now }
     requires there { count ≤ length (rows_at (rows_in stores.old.items) 0) }
+    requires known { EachTells views.now (last_rows count (rows_at (rows_in stores.old.items) 0)) arrivals.now }
     requires fits { (rows : NumberedRows)
         × (EachIsCurrent (tables_in stores.old.items) (rows_in stores.old.items) rows views.now states.old.items
         × (Fits rows (turned_last turn (rows_at (rows_in stores.old.items) 0) count)
@@ -195,7 +206,7 @@ pub(crate) fn follow_last(
 {
     let first = stores[0].appended() - count;
     match numbers_from(alloc, first, count) {
-        Ok(numbers) => follow_all(alloc, stores, views, states, turn, &numbers),
+        Ok(numbers) => follow_all(alloc, stores, views, states, turn, &numbers, arrivals),
         Err(refused) => {
             mark_all_stale(states);
             Err(refused)

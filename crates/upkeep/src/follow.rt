@@ -6,6 +6,7 @@ ghost use Rattle.view_lang.specs.ConfigRules.{IsView};
 ghost use Rattle.view_lang.specs.Shifts.{Fits, IsFew, NumberedRows, patched};
 ghost use Rattle.row_keys.specs.Numbered.{numbered};
 ghost use Rattle.row_keys.specs.Slots.{live, row_of};
+ghost use Rattle.upkeep.specs.Arrivals.{Tells, TellsOf, opened_at, opened_first, rows_of_numbers};
 ghost use Rattle.upkeep.specs.Inputs.{side_by};
 ghost use Rattle.upkeep.specs.Stores.{rows_at, rows_in, tables_in, visits_in};
 ghost use Rattle.upkeep.specs.ViewStates.{
@@ -19,6 +20,7 @@ ghost use Rattle.upkeep.specs.ViewStates.{
   turned_by,
 };
 
+use crate::arrivals::Arrival;
 use crate::inputs::{join_row, referring_by};
 use crate::view_state::{Turn, ViewState};
 use row_keys::{RowStore, numbers_law};
@@ -152,25 +154,65 @@ fn turn_one(turn: Turn, number: usize, row: Option<Row>) -> RowChange
     }
 }
 
-/// Adds the changes of the row with this number, which comes or goes. A row that isn't live doesn't go.
+/// Takes from a row of the main table what is kept for a view. The row, which is row `index` of those that come or go,
+/// isn't opened where it is known that the view drops it.
+#[tactic(auto, using(crate::proofs::ArrivalRows::dropped_laws))]
+fn take_known_row(
+    alloc: Global,
+    stores: &mut Vec<RowStore>,
+    view: &View,
+    number: usize,
+    arrival: &Option<Arrival>,
+    index: usize,
+) -> Result<ViewedRow, AllocError>
+    requires view { IsView (tables_in stores.old.items) view.now }
+    requires main { 0 < length stores.old.items }
+    requires there { number < length (rows_at (rows_in stores.old.items) 0) }
+    requires known { TellsOf view.now arrival.now index (row_of (rows_at (rows_in stores.old.items) 0) number) }
+    ensures made { IfOk result (λ taken. option_map (λ r. r.items) taken.made
+        ≡ made_row view.now (side_by (tables_in stores.old.items) (rows_in stores.old.items) view.now)
+        (row_of (rows_at (rows_in stores.old.items) 0) number)) }
+    ensures referring { IfOk result (λ taken. option_map (λ r. r.items) taken.referring
+        ≡ referring_row view.now (row_of (rows_at (rows_in stores.old.items) 0) number)) }
+    ensures tables { tables_in stores.new.items ≡ tables_in stores.old.items }
+    ensures rows { rows_in stores.new.items ≡ rows_in stores.old.items }
+    ensures visits { visits_in stores.new.items ≤ visits_in stores.old.items + opened_at arrival.now index }
+{
+    match arrival {
+        Some(arrival) if arrival.drops(index) => {
+            let referring = arrival.referring(alloc, index)?;
+            Ok(ViewedRow {
+                made: None,
+                referring,
+            })
+        }
+        _ => take_row(alloc, stores, view, number),
+    }
+}
+
+/// Adds the changes of the row with this number, which comes or goes, as row `index` of those that do. A row that isn't
+/// live doesn't go.
 fn turn_row(
     alloc: Global,
     stores: &mut Vec<RowStore>,
     view: &View,
     turn: Turn,
     number: usize,
+    arrival: &Option<Arrival>,
+    index: usize,
     turned_rows: &mut TurnedRows,
 ) -> Result<(), AllocError>
     requires view { IsView (tables_in stores.old.items) view.now }
     requires main { 0 < length stores.old.items }
     requires there { number < length (rows_at (rows_in stores.old.items) 0) }
+    requires known { TellsOf view.now arrival.now index (row_of (rows_at (rows_in stores.old.items) 0) number) }
     ensures made { OnOk result (turned_rows.new.made ≡ turned_rows.old.made
         ++ made_change (tables_in stores.old.items) (rows_in stores.old.items) view.now turn (number ∷ [])) }
     ensures referring { OnOk result (turned_rows.new.referring ≡ turned_rows.old.referring
         ++ referring_change (rows_at (rows_in stores.old.items) 0) view.now turn (number ∷ [])) }
     ensures tables { tables_in stores.new.items ≡ tables_in stores.old.items }
     ensures rows { rows_in stores.new.items ≡ rows_in stores.old.items }
-    ensures visits { visits_in stores.new.items ≤ visits_in stores.old.items + 1 }
+    ensures visits { visits_in stores.new.items ≤ visits_in stores.old.items + opened_at arrival.now index }
 {
     let taken = if turn == Turn::Go && !stores[0].is_live(number) {
         ViewedRow {
@@ -178,40 +220,53 @@ fn turn_row(
             referring: None,
         }
     } else {
-        take_row(alloc, stores, view, number)?
+        take_known_row(alloc, stores, view, number, arrival, index)?
     };
     turned_rows.push(turn, number, taken)
 }
 
 /// Adds the changes of the rows with these numbers, which come or go, after those that are there. Each is opened at
-/// most once.
+/// most once, and none of which it is known that the view drops it.
 pub(crate) fn turn_rows(
     alloc: Global,
     stores: &mut Vec<RowStore>,
     view: &View,
     turn: Turn,
     numbers: &[usize],
+    arrival: &Option<Arrival>,
     turned_rows: &mut TurnedRows,
 ) -> Result<(), AllocError>
     requires view { IsView (tables_in stores.old.items) view.now }
     requires main { 0 < length stores.old.items }
     requires there { All (λ n. n < length (rows_at (rows_in stores.old.items) 0)) numbers.now }
+    requires known { Tells view.now (rows_of_numbers (rows_at (rows_in stores.old.items) 0) numbers.now) arrival.now }
     ensures made { OnOk result (turned_rows.new.made ≡ turned_rows.old.made
         ++ made_change (tables_in stores.old.items) (rows_in stores.old.items) view.now turn numbers.now) }
     ensures referring { OnOk result (turned_rows.new.referring ≡ turned_rows.old.referring
         ++ referring_change (rows_at (rows_in stores.old.items) 0) view.now turn numbers.now) }
     ensures tables { tables_in stores.new.items ≡ tables_in stores.old.items }
     ensures rows { rows_in stores.new.items ≡ rows_in stores.old.items }
-    ensures visits { visits_in stores.new.items ≤ visits_in stores.old.items + length numbers.now }
+    ensures visits { visits_in stores.new.items
+        ≤ visits_in stores.old.items + opened_first arrival.now (length numbers.now) }
 {
-    for number in numbers {
-        turn_row(alloc, stores, view, turn, *number, turned_rows)?;
+    for index in 0..numbers.len() {
+        turn_row(
+            alloc,
+            stores,
+            view,
+            turn,
+            numbers[index],
+            arrival,
+            index,
+            turned_rows,
+        )?;
     }
     Ok(())
 }
 
-/// Brings what is kept of a view up to rows of the main table that come or go. A stale view is left as it is; after an
-/// error it is stale.
+/// Brings what is kept of a view up to rows of the main table that come or go. No row is opened of which it is known that
+/// the view drops it. A stale view is left as it is; after an error it is stale.
+#[tactic(auto, using(crate::proofs::ArrivalRows::opened_laws))]
 pub(crate) fn follow(
     alloc: Global,
     stores: &mut Vec<RowStore>,
@@ -219,10 +274,12 @@ pub(crate) fn follow(
     state: &mut ViewState,
     turn: Turn,
     numbers: &[usize],
+    arrival: &Option<Arrival>,
 ) -> Result<(), AllocError>
     requires view { IsView (tables_in stores.old.items) view.now }
     requires main { 0 < length stores.old.items }
     requires there { All (λ n. n < length (rows_at (rows_in stores.old.items) 0)) numbers.now }
+    requires known { Tells view.now (rows_of_numbers (rows_at (rows_in stores.old.items) 0) numbers.now) arrival.now }
     requires fits { (rows : NumberedRows)
         × (IsCurrent view.now (side_by (tables_in stores.old.items) (rows_in stores.old.items) view.now) state.old rows
         × (Fits rows (turned turn (rows_at (rows_in stores.old.items) 0) numbers.now)
@@ -238,6 +295,8 @@ pub(crate) fn follow(
     ensures tables { tables_in stores.new.items ≡ tables_in stores.old.items }
     ensures rows { rows_in stores.new.items ≡ rows_in stores.old.items }
     ensures visits { visits_in stores.new.items ≤ visits_in stores.old.items + length numbers.now }
+    ensures opened { visits_in stores.new.items
+        ≤ visits_in stores.old.items + opened_first arrival.now (length numbers.now) }
     ensures stale_visits { state.old.stale ≡ true → visits_in stores.new.items ≡ visits_in stores.old.items }
 {
     image_law();
@@ -245,7 +304,15 @@ pub(crate) fn follow(
         return Ok(());
     }
     let mut turned_rows = TurnedRows::none(alloc);
-    match turn_rows(alloc, stores, view, turn, numbers, &mut turned_rows) {
+    match turn_rows(
+        alloc,
+        stores,
+        view,
+        turn,
+        numbers,
+        arrival,
+        &mut turned_rows,
+    ) {
         Ok(()) => {
             state.apply(&turned_rows.made)?;
             state.refer(&turned_rows.referring)
@@ -277,6 +344,6 @@ pub(crate) fn rebuild(
     numbers_law();
     let numbers = stores[0].live_numbers()?;
     let mut state = ViewState::new(alloc, view)?;
-    follow(alloc, stores, view, &mut state, Turn::Come, &numbers)?;
+    follow(alloc, stores, view, &mut state, Turn::Come, &numbers, &None)?;
     Ok(state)
 }

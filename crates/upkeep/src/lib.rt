@@ -8,6 +8,7 @@
 #![tactic(auto)]
 
 mod all_views;
+mod arrivals;
 mod edits;
 mod follow;
 mod inputs;

@@ -42,6 +42,7 @@ ghost use Rattle.upkeep.specs.TablesParts.{AreLiveParts, live_with};
 ghost use Rattle.upkeep.specs.Touched.{OpensShown, built_of, touched};
 
 use crate::all_views::{count_stale, follow_all, follow_last, fresh_states};
+use crate::arrivals::arrivals_for;
 use crate::edits::{append_batch, find_rows, make_edit, restore};
 use crate::follow::rebuild;
 use crate::lookup_views::follow_lookups;
@@ -204,6 +205,7 @@ impl LiveTables {
     {
         // It does nothing: the proof takes from it which rows come.
         numbers_law();
+        let arrivals = arrivals_for(self.alloc, &self.views, &self.states, &columns, rows)?;
         let change = append_batch(&mut self.stores[0], columns, rows)?;
         self.stores[0].rows_law();
         match follow_last(
@@ -213,6 +215,7 @@ impl LiveTables {
             &mut self.states,
             Turn::Come,
             rows,
+            &arrivals,
         ) {
             Ok(()) => Ok(change),
             Err(_refused) => {
@@ -237,6 +240,7 @@ impl LiveTables {
             &mut self.states,
             Turn::Go,
             &numbers,
+            &[],
         )?;
         self.stores[0].retract(&numbers);
         Ok(TableChange::Retracted(numbers))
@@ -310,6 +314,7 @@ impl LiveTables {
             &mut self.states,
             Turn::Go,
             count,
+            &[],
         )?;
         self.stores[0].take_back(count);
         Ok(())
@@ -331,6 +336,7 @@ impl LiveTables {
             &mut self.states,
             Turn::Come,
             numbers,
+            &[],
         )?;
         self.stores[0].put_back(numbers);
         Ok(())

@@ -78,10 +78,10 @@ fn remake_rows(
 {
     let mut remade = TurnedRows::none(alloc);
     swap(&mut stores[table], change, turn);
-    let gone = turn_rows(alloc, stores, view, Turn::Go, numbers, &mut remade);
+    let gone = turn_rows(alloc, stores, view, Turn::Go, numbers, &None, &mut remade);
     swap(&mut stores[table], change, turn.opposite());
     gone?;
-    turn_rows(alloc, stores, view, Turn::Come, numbers, &mut remade)?;
+    turn_rows(alloc, stores, view, Turn::Come, numbers, &None, &mut remade)?;
     Ok(remade)
 }
 

@@ -1,8 +1,10 @@
-use Rattle.std.proofs.Common.{◌∙◌, arith, length}
+use Rattle.std.proofs.Common.{◌∙◌, arith, length, subst, sym}
 use Rattle.std.proofs.lemmas.List.{length-set}
-use Rattle.upkeep.specs.Stores.{rows_in, tables_in, visits_in}
+use Rattle.upkeep.specs.Arrivals.{Tells, rows_of_numbers}
+use Rattle.upkeep.specs.Stores.{Rows, rows_at, rows_in, tables_in, visits_in}
 use Rattle.upkeep.specs.StoreLaws.{set_same}
 use Rattle.upkeep.specs.declared.view_state.ViewState.{ViewState}
+use Rattle.upkeep.proofs.ArrivalRows.{each_at}
 use Rattle.upkeep.proofs.FollowedViews.{all_followed, follow_fits, followed_more, opened_more}
 use Rattle.upkeep.proofs.all_views.follow_each.Goals as goal
 
@@ -14,6 +16,14 @@ follow-requires-clause-fits c =
     c.loop-place.invariant.tables c.loop-place.invariant.rows
     (c.loop-place.invariant.followed given.0 given.1.1.0 given.1.0) c.loop-place-test.true c.index-views-place.is
     c.index_mut.ensures.value given.1.1.0 given.1.1.1
+
+pub follow-requires-clause-known : goal.follow-requires-clause-known
+follow-requires-clause-known c =
+    subst (λ (rs : Rows). Tells c.index-views-place.result (rows_of_numbers (rows_at rs 0) c.args.numbers.now)
+    c.arrival_at.result.now) (sym c.loop-place.invariant.rows)
+    (each_at c.args.views.now (rows_of_numbers (rows_at (rows_in c.args.stores.now.items) 0) c.args.numbers.now)
+    c.args.arrivals.now c.loop-place.place c.index-views-place.result c.arrival_at.result.now c.index-views-place.is
+    c.arrival_at.ensures c.loop-place-test.true c.requires.known)
 
 pub loop-place-preserved : goal.loop-place-preserved
 loop-place-preserved c = record {

@@ -1,5 +1,6 @@
-use Rattle.std.proofs.Common.{ap, length, ◌-◌, ◌∙◌}
+use Rattle.std.proofs.Common.{List, ap, length, subst, sym, ◌-◌, ◌∙◌, ℕ}
 use Rattle.std.specs.List.{range_with_len}
+use Rattle.upkeep.specs.Arrivals.{EachTells, rows_of_numbers}
 use Rattle.upkeep.specs.Stores.{rows_at, rows_in, tables_in, visits_in}
 use Rattle.upkeep.proofs.FollowedViews.{current_alike, stale_current}
 use Rattle.upkeep.proofs.LastRows.{last_many, last_named, last_opened, last_there}
@@ -12,6 +13,16 @@ follow_all-requires-clause-there c =
     ∙ last_named c.args.stores.now.items c.index.result.now c.args.count c.in-Ok.numbers.items c.index.ensures
     c.requires.these.main
     (c.in-Ok.ensures ∙ ap (λ n. range_with_len (n - c.args.count) c.args.count) c.appended.ensures))
+
+pub follow_all-requires-clause-known : goal.follow_all-requires-clause-known
+follow_all-requires-clause-known c =
+    subst (λ (ns : List ℕ). EachTells c.args.views.now (rows_of_numbers (rows_at (rows_in c.args.stores.now.items) 0) ns)
+    c.args.arrivals.now)
+    (sym (c.deref.ensures.value
+    ∙ last_named c.args.stores.now.items c.index.result.now c.args.count c.in-Ok.numbers.items c.index.ensures
+    c.requires.these.main
+    (c.in-Ok.ensures ∙ ap (λ n. range_with_len (n - c.args.count) c.args.count) c.appended.ensures)))
+    c.requires.known
 
 pub returns-in-Ok-clause-visits : goal.returns-in-Ok-clause-visits
 returns-in-Ok-clause-visits c =
