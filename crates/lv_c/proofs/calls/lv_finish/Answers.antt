@@ -1,0 +1,12 @@
+use Rattle.std.proofs.Common.{sym}
+use Rattle.lv_c.proofs.calls.lv_finish.Goals as goal
+
+pub returns : goal.returns
+returns c =
+    rw c.in-Some.ensures.taken (
+      _,
+      c.put.ensures,
+      c.finish-answer.result,
+      c.tell_end.ensures,
+      rw (sym c.deref_mut.ensures.value) c.finish-answer.ensures,
+    )

@@ -1,0 +1,39 @@
+-- The answers of calls as C reads them: a cause of 0 where a call was done, and otherwise the number of its cause.
+use Rattle.std.specs.Prelude.{ℕ, Option, None, Some, Result, Ok, Err}
+use Rattle.values.specs.Causes.{number_of}
+use Rattle.values.specs.declared.causes.Cause.TheVariants as cause
+use Rattle.stream_writer.specs.declared.faults.WriteFault.TheVariants as write_fault
+use Rattle.session.specs.declared.calls.Event.{Event}
+use Rattle.session.specs.declared.calls.Event.TheVariants as event
+use Rattle.session.specs.declared.calls.Fault.{Fault}
+use Rattle.session.specs.declared.calls.Pushed.{Pushed}
+use Rattle.session.specs.declared.calls.ViewFault.{ViewFault}
+use Rattle.session.specs.declared.calls.ViewFault.TheVariants as view_fault
+use Rattle.lv_c.specs.declared.answers.LvPushed.{LvPushed}
+use Rattle.lv_c.specs.declared.answers.LvWritten.{LvWritten}
+
+-- the cause of a call whose handle isn't open, and of `lv_open` where it is
+abbrev pub not_open : ℕ
+not_open = 255
+
+abbrev pub event_number : Option Event → ℕ
+event_number None = 0
+event_number (Some event.Schema) = 1
+event_number (Some event.Dictionary) = 2
+event_number (Some event.Batch) = 3
+event_number (Some event.End) = 4
+
+abbrev pub push_told : Result Pushed Fault → LvPushed
+push_told (Ok p) = record { used = p.used; cause = 0; event = event_number p.event }
+push_told (Err f) = record { used = f.used; cause = number_of f.cause; event = 0 }
+
+abbrev pub end_told : Result (Unit {0}) Fault → ℕ
+end_told (Ok u) = 0
+end_told (Err f) = number_of f.cause
+
+-- A view is written to memory alone: where its sink fails, memory was refused.
+abbrev pub view_told : Result ℕ ViewFault → LvWritten
+view_told (Ok n) = record { len = n; cause = 0 }
+view_told (Err view_fault.UnknownView) = record { len = 0; cause = number_of cause.UnknownView }
+view_told (Err (view_fault.Write (write_fault.Memory n))) = record { len = n; cause = number_of cause.Memory }
+view_told (Err (view_fault.Write (write_fault.Device n))) = record { len = n; cause = number_of cause.Memory }

@@ -1,0 +1,80 @@
+-- Calls of a handle: what each answers, and what stands behind the handle then. Where nothing stands behind it, a call
+-- says so, and nothing changes.
+use Rattle.std.specs.Prelude.{◌≡◌, ◌⊎◌, ◌^◌, ◌-◌, ℕ, List, Option, None, Some, Result, count_by, length, min}
+use Rattle.values.specs.Causes.{number_of}
+use Rattle.values.specs.declared.causes.Cause.{Cause}
+use Rattle.values.specs.declared.causes.Cause.TheVariants as cause
+use Rattle.view_lang.specs.Config.{tables_of}
+use Rattle.view_lang.specs.World.{contents_at, world}
+use Rattle.upkeep.specs.LiveParts.{store_at}
+use Rattle.session.specs.Shows.{Shows, config_of}
+use Rattle.session.specs.Steps.{State}
+use Rattle.session.specs.declared.calls.Fault.{Fault}
+use Rattle.session.specs.declared.calls.Pushed.{Pushed}
+use Rattle.session.specs.declared.calls.ViewFault.{ViewFault}
+use Rattle.lv_c.specs.declared.answers.LvPushed.{LvPushed}
+use Rattle.lv_c.specs.declared.answers.LvWritten.{LvWritten}
+use Rattle.lv_c.specs.declared.held.Held.{Held}
+use Rattle.lv_c.specs.Answers.{end_told, not_open, push_told, view_told}
+use Rattle.lv_c.specs.Behind.{Finishes, Opens, Pushes, RefusesConfig, Undoes, WritesKept, kept_bytes}
+use Rattle.lv_c.specs.Copies.{CopiesTo}
+
+-- A session is opened behind a handle that isn't open, or the bytes are refused. One that is open stays as it is.
+abbrev pub OpenCall : Option Held → List ℕ → ℕ → Option Held → Type 0
+OpenCall None bytes result new =
+    ((result ≡ 0) × ((h : Held) × (new ≡ Some h) × Opens bytes h))
+    ⊎ ((c : Cause) × (result ≡ number_of c) × RefusesConfig bytes c × (new ≡ None))
+OpenCall (Some old) bytes result new = (result ≡ not_open) × (new ≡ Some old)
+
+abbrev pub unopened_push : LvPushed
+unopened_push = record { used = 0; cause = not_open; event = 0 }
+
+abbrev pub PushCall : Option Held → List ℕ → List ℕ → LvPushed → Option Held → Type 0
+PushCall None feed piece result new = (result ≡ unopened_push) × (new ≡ None)
+PushCall (Some old) feed piece result new =
+    (h : Held) × (new ≡ Some h) × (answer : Result Pushed Fault) × (result ≡ push_told answer)
+    × Pushes old feed piece answer h
+
+abbrev pub FinishCall : Option Held → List ℕ → ℕ → Option Held → Type 0
+FinishCall None feed result new = (result ≡ not_open) × (new ≡ None)
+FinishCall (Some old) feed result new =
+    (h : Held) × (new ≡ Some h) × (answer : Result (Unit {0}) Fault) × (result ≡ end_told answer)
+    × Finishes old feed answer h
+
+abbrev pub UndoCall : Option Held → ℕ → Option Held → Type 0
+UndoCall None result new = (result ≡ not_open) × (new ≡ None)
+UndoCall (Some old) result new =
+    (h : Held) × (new ≡ Some h) × (answer : Result (Unit {0}) Fault) × (result ≡ end_told answer)
+    × Undoes old answer h
+
+abbrev pub unopened_write : LvWritten
+unopened_write = record { len = 0; cause = not_open }
+
+abbrev pub WriteCall : Option Held → List ℕ → LvWritten → Option Held → Type 0
+WriteCall None view result new = (result ≡ unopened_write) × (new ≡ None)
+WriteCall (Some old) view result new =
+    (h : Held) × (new ≡ Some h) × (answer : Result ℕ ViewFault) × (result ≡ view_told answer)
+    × WritesKept old view answer h
+
+abbrev pub CopyCall : Option Held → ℕ → List ℕ → ℕ → List ℕ → Type 0
+CopyCall None from old result new = (result ≡ 0) × (new ≡ old)
+CopyCall (Some h) from old result new = CopiesTo (kept_bytes h) from old result new
+
+-- the number of live rows of the main table, in whatever state the session shows
+abbrev pub LiveRowsCall : Option Held → ℕ → Type 0
+LiveRowsCall None result = result ≡ 0
+LiveRowsCall (Some h) result = (s : State) → Shows h.session s
+    → result ≡ length (contents_at (world (tables_of (config_of h.session)) s.past.edits) 0).live
+
+abbrev pub StaleCall : Option Held → ℕ → Type 0
+StaleCall None result = result ≡ 0
+StaleCall (Some h) result = result ≡ count_by (λ b. b) h.session.tables.stale
+
+-- the count of opened rows, or the greatest number that C reads
+abbrev pub VisitsCall : Option Held → ℕ → Type 0
+VisitsCall None result = result ≡ 0
+VisitsCall (Some h) result = result ≡ min (store_at h.session.tables.stores 0).visits (2 ^ 64 - 1)
+
+-- A session is put behind a handle, or memory is refused for its box.
+abbrev pub IsKept : Held → ℕ → Option Held → Type 0
+IsKept h result new = ((result ≡ 0) × (new ≡ Some h)) ⊎ ((result ≡ number_of cause.Memory) × (new ≡ None))

@@ -1,0 +1,5 @@
+pub mod Slot
+pub mod Answers
+pub mod Behind
+pub mod Copies
+pub mod Calls

@@ -1,0 +1,14 @@
+//! Sessions of live views for programs in C, and in any language that calls C.
+//!
+//! `calls` has the functions that are exported; `include/lv.h` declares them, and says what C owes. C keeps a `Handle`. Behind it is nothing, or a box with a session and the stream of the view that was written last:
+//! `slot` has the pointer to that box.
+#![tactic(auto)]
+
+mod answers;
+mod calls;
+mod copying;
+mod handle;
+mod held;
+mod slot;
+#[cfg(test)]
+mod tests;
