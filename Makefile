@@ -1,11 +1,12 @@
-# What to make: `make try`, `make run`, `make install`, `make test`, `make edits`, `make ci`, `make limits` and
-# `make bench`.
+# What to make: `make try`, `make run`, `make lib`, `make install`, `make test`, `make edits`, `make ci`, `make limits`
+# and `make bench`.
 
 PREFIX ?= /usr/local
 LV := crates/lv/out/lv
+LIBRARY := out/lib
 OUT ?= out/orders.canon.arrows
 
-.PHONY: try run test edits ci limits bench install lv need-rt need-python
+.PHONY: try run lib test edits ci limits bench install lv need-rt need-python
 
 # Recasts the sample stream to a file of its own, and inspects that file; then runs the script of the report, which
 # writes three views.
@@ -21,6 +22,11 @@ run: lv
 try: need-rt
 	@cd crates/lv && rt try --data orders.arrows=../../examples/orders.arrows -- inspect orders.arrows
 	@echo "(proved=no: this was a try; make run proves lv first)"
+
+# Proves and builds the library for C, include/lv.h, as out/lib/liblv.a and out/lib/liblv.so.
+lib: need-rt
+	@cd crates/lv_c && rt lib
+	@tools/make-library.sh crates/lv_c/out/liblv_c.a $(LIBRARY)
 
 # The merge gate: every proof from nothing, contracts, layout, tests, the program over its runs, and then must-fail edits:
 # of crates whose edits were all refused as they stand (tools/edits-tried.txt) a fifth, and none begun 130 minutes after

@@ -7,6 +7,7 @@ In a copy of the tree, which holds nothing of an earlier run, and in lanes besid
 2. Over that proof the crate is checked for contracts that no call can meet and for what HANDLES doesn't allow, its layout is compared
    with rt fmt's, its tests are proved and run, and the program is built by both compilers.
 3. The program as each compiler made it is run: as crates/lv says, over the examples, with refused memory, with outputs that take nothing.
+   The library for C, as each made it, is called from C, Python and Rust, and with refused memory.
 4. `rt all check` looks for files that no crate reads, and finds every crate proved as the tree has it.
 
 Then the must-fail edits that are due are tried (tools/must_fail.py, tools/records.py), until a time: none is begun later, and the gate
@@ -39,10 +40,10 @@ from must_fail import Trial
 from records import RECORD, all_of, part_of, plan, turn_of
 
 ROOT = os.path.dirname(os.path.dirname(os.path.abspath(__file__)))
-PROGRAM = "lv"
+PROGRAM, LIBRARY = "lv", "lv_c"
 # The merge has 180 minutes.
 UNTIL = 130
-# How the program is built, and how what comes of it is called.
+# How the program and the library are built, and how what comes of the program is called.
 BACKENDS = {"llvm": "lv", "rattle": "lv.by-rattle"}
 RUNS = (
     "check-rows.py",
@@ -57,6 +58,7 @@ RUNS = (
     "refuse-run.py",
     "check-cuts.py",
 )
+CALLS = ("check-library.py", "refuse-calls.py")
 # What the last line of a check may say of a proved crate: nothing of bounds, foreign functions or contracts that say nothing.
 PROVED = {"logic", "functions", "sum", "axioms", "target", "cpu", "native", "logic-built", "libraries-built", "statements", "incremental"}
 # What rt says of a check that begins with the work of another checkout.
@@ -196,6 +198,21 @@ class Gate:
     def program(self, backend):
         return f"{self.tree}/crates/{PROGRAM}/out/{BACKENDS[backend]}"
 
+    def build_library(self, lane, backend):
+        ran = lane.rt(LIBRARY, "lib", "--jobs", "1", "--backend", backend)
+        made = f"{lane.folder}/crates/{LIBRARY}/out/lib{LIBRARY}.a"
+        is_well = self.note("build", f"{LIBRARY} by {backend}", ran, ran.status == 0 and os.path.isfile(made), "it was not built")
+        if is_well:
+            shutil.move(made, self.library(backend))
+        return is_well
+
+    def library(self, backend):
+        return f"{self.tree}/crates/{LIBRARY}/out/lib{LIBRARY}.{backend}.a"
+
+    def call_library(self, script, backend):
+        ran = run([f"{self.tree}/tools/{script}", self.library(backend)], self.tree)
+        return self.note("runs", f"{script} of {LIBRARY} by {backend}", ran, ran.status == 0)
+
     def run_stored(self, backend):
         """Runs the program with the words of crates/lv/args where the files of crates/lv/data lie."""
         folder = f"{self.tree}/crates/{PROGRAM}"
@@ -229,6 +246,11 @@ class Gate:
             yield Task(frozenset([it]), partial(self.run_stored, it))
             for script in RUNS:
                 yield Task(frozenset([it]), partial(self.run_script, script, it))
+        for it in BACKENDS if LIBRARY in crates else ():
+            built = f"{LIBRARY} by {it}"
+            yield Task(frozenset([LIBRARY]), in_lane(self.build_library, it), makes=built)
+            for script in CALLS:
+                yield Task(frozenset([built]), partial(self.call_library, script, it))
         for it in (it for it in high if has_tests(self.tree, it)):
             yield Task(frozenset([it]), in_lane(self.tests, it))
         for it in high:

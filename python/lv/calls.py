@@ -1,0 +1,68 @@
+"""The calls of liblv, as include/lv.h declares them."""
+import ctypes
+import ctypes.util
+import os
+from functools import cache
+
+from lv.causes import CAUSES
+
+NOT_OPEN = 255
+
+
+class Handle(ctypes.Structure):
+    """A session as C keeps it: made of zeros, it isn't open."""
+
+    _fields_ = [("at", ctypes.c_void_p), ("is_open", ctypes.c_bool)]
+
+
+class Pushed(ctypes.Structure):
+    _fields_ = [("used", ctypes.c_size_t), ("cause", ctypes.c_uint8), ("event", ctypes.c_uint8)]
+
+
+class Written(ctypes.Structure):
+    _fields_ = [("len", ctypes.c_uint64), ("cause", ctypes.c_uint8)]
+
+
+HANDLE, BYTES, BUFFER, SIZE = ctypes.POINTER(Handle), ctypes.c_char_p, ctypes.c_void_p, ctypes.c_size_t
+# The result and the parameters of each call. Bytes are only read, and given with their length.
+CALLS = {
+    "lv_open": (ctypes.c_uint8, HANDLE, BYTES, SIZE),
+    "lv_push": (Pushed, HANDLE, BYTES, SIZE, BUFFER, SIZE),
+    "lv_finish": (ctypes.c_uint8, HANDLE, BYTES, SIZE),
+    "lv_undo": (ctypes.c_uint8, HANDLE),
+    "lv_write": (Written, HANDLE, BYTES, SIZE),
+    "lv_copy": (SIZE, HANDLE, SIZE, BUFFER, SIZE),
+    "lv_live_rows": (SIZE, HANDLE),
+    "lv_stale": (SIZE, HANDLE),
+    "lv_visits": (ctypes.c_uint64, HANDLE),
+    "lv_close": (None, HANDLE),
+}
+
+
+class Refused(Exception):
+    """A call was refused. `cause` is the number of the cause, `name` its name, and `used` says how many bytes of what was
+    pushed were consumed all the same."""
+
+    def __init__(self, cause: int, used: int = 0) -> None:
+        name, text = CAUSES.get(cause, ("NotOpen", "The session isn't open."))
+        super().__init__(f"refused {cause} {name}: {text}")
+        self.cause, self.name, self.used = cause, name, used
+
+
+@cache
+def library() -> ctypes.CDLL:
+    """The shared library with the types of its calls."""
+    path = os.environ.get("LV_LIBRARY") or ctypes.util.find_library("lv")
+    if path is None:
+        raise OSError("liblv isn't installed: build it by `make lib`, and let LV_LIBRARY name the file liblv.so")
+    loaded = ctypes.CDLL(path)
+    for name, (result, *words) in CALLS.items():
+        call = getattr(loaded, name)
+        call.restype, call.argtypes = result, words
+    return loaded
+
+
+def need(cause: int) -> None:
+    """Raises the refusal of a cause, where it is one."""
+    if cause:
+        raise Refused(cause)
