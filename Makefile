@@ -49,11 +49,13 @@ ci: need-rt need-python
 limits: lv need-python
 	@tools/limits.py
 
-# Time and memory of recasting 25 to 400 MB, beside `cat` of the same file; of edits; and of a view with a coded column.
+# Time and memory of recasting 25 to 400 MB, beside `cat` of the same file; of edits; of a view with a coded column; and
+# of views with filters.
 bench: lv need-python
 	@tools/bench.py
 	@tools/bench-edits.py
 	@tools/bench-coded.py
+	@tools/bench-filters.py
 
 install: lv
 	install -D -m 755 $(LV) $(PREFIX)/bin/lv
