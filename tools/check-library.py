@@ -2,8 +2,8 @@
 """Checks the library that C links, made of the archive of crates/lv_c that is named, or of the built one.
 
 The programs of examples/c, examples/python and examples/rust must write the very views of examples/report, the one in C also under
-valgrind. The tests of python/tests call it with handles that aren't open, were closed or
-are open already. Its names, versions and causes must be the same wherever they are written.
+valgrind. The tests of python/tests call it with handles that aren't open, were closed or are open already. Its names, versions and causes
+must be the same wherever they are written.
 """
 import hashlib
 import os
