@@ -53,6 +53,7 @@ RUNS = (
     "check-limits.py",
     "check-examples.sh",
     "check-outputs.sh",
+    "check-live.py",
     "check-claims.py",
     "refuse-memory.sh",
     "refuse-run.py",

@@ -2,8 +2,8 @@
 """Runs a script by `lv run`, with each request for memory refused in turn: that one alone, then that one and all after it.
 
 A line whose reply is `refused 55 Memory` must have changed nothing: all other lines print, and write, what they do where that line is
-left out of the script. A write that was refused leaves a beginning of its stream, or no file. Where the configuration or the script
-could not be held, `refused 55 Memory` is all that is printed, and nothing is done.
+left out of the script. A write that was refused leaves a beginning of its stream, or no file. Where the configuration, the script or
+the room for reading and printing could not be held, `refused 55 Memory` is all that is printed, and nothing is done.
 
 With the name of a program, that is run in place of the built lv.
 """

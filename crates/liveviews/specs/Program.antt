@@ -59,10 +59,20 @@ abbrev pub AsksRun : {Z : Type 0} → List (String Z) → Type 0
 AsksRun [] = ⊥
 AsksRun (w ∷ ws) = string_bytes w ≡ codes "run"
 
--- A script is run only where the arguments ask for it.
+-- the first argument is `live`
+abbrev pub AsksLive : {Z : Type 0} → List (String Z) → Type 0
+AsksLive [] = ⊥
+AsksLive (w ∷ ws) = string_bytes w ≡ codes "live"
+
+-- the arguments ask for a session, over the lines of a script or those of standard input
+abbrev pub AsksSession : {Z : Type 0} → List (String Z) → Type 0
+AsksSession words = AsksRun words ⊎ AsksLive words
+
+-- Lines are run only where the arguments ask for it.
 abbrev pub IsAllowed : {Z : Type 0} → List (String Z) → Asked → Type 0
 IsAllowed words (asked.File c) = Unit {0}
-IsAllowed words (asked.Script config script) = AsksRun words
+IsAllowed words (asked.Script config script) = AsksSession words
+IsAllowed words (asked.Live config) = AsksSession words
 
 -- arguments that are no command, or memory was refused before a file was read
 abbrev pub IsUnread : Refusal → Type 0

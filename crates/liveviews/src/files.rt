@@ -6,6 +6,9 @@ use std::alloc::AllocError;
 use std::io::{Error, ErrorKind, Read};
 use stream_writer::Sink;
 
+/// The path that stands for standard input where a file is read, and for standard output where one is written.
+pub(crate) const STANDARD: &str = "-";
+
 /// Why a file could not be used.
 #[derive(Clone, Copy, Debug, PartialEq, Eq, thiserror::Error)]
 pub enum FileFault {
@@ -42,7 +45,8 @@ impl From<AllocError> for FileFault {
     }
 }
 
-/// The files that `lv` works on: those of the machine, or in a test those of a map.
+/// The files that `lv` works on: those of the machine, or in a test those of a map. The path `-` is standard input
+/// where a file is read, and standard output where one is written.
 ///
 /// As a [`Sink`] it writes the file that `create` named last. That file is made, or emptied, when the first bytes are
 /// put, so that a file to which nothing is put is left as it was. Where it can't be made, that put fails, and `fault`
@@ -78,6 +82,16 @@ pub trait Files: Sink {
     fn create(&mut self, path: &str) -> Result<(), FileFault>
         ensures sunk { Self.sunk self.new ≡ Self.sunk self.old }
         ensures named { OnOk result (unmade self.new ≡ None) };
+
+    /// Closes the file that was named last. What is put then goes to no file, until another is named.
+    fn close(&mut self)
+        ensures { Self.sunk self.new ≡ Self.sunk self.old };
+
+    /// Has what `lv` prints go aside from now on, to standard error, or again where it went at first: aside where
+    /// standard output takes the bytes of a file.
+    fn print_aside(&mut self, is_aside: bool)
+        ensures sunk { Self.sunk self.new ≡ Self.sunk self.old }
+        ensures content { content self.new ≡ content self.old };
 
     /// Why the file that `create` named could not be made at its first put.
     fn fault(&self) -> Option<FileFault>

@@ -1,5 +1,5 @@
 //! The commands of the program `lv`, over arguments, files and an output that its caller gives: `recast` and `inspect`
-//! of a stream, `check` of a configuration, and `run` of a script over a session.
+//! of a stream, `check` of a configuration, and over a session `run` of a script and `live` of lines as they come.
 #![tactic(auto)]
 
 mod batch;
@@ -9,6 +9,7 @@ mod inspecting;
 mod kept_batches;
 mod laws;
 mod lines;
+mod live;
 mod pieces;
 mod program;
 mod recasting;

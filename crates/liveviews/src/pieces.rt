@@ -38,3 +38,35 @@ pub(crate) fn read_piece<R: Read>(source: &mut R, room: &mut [u8]) -> Result<usi
     }
     Err(FileFault::Unusable)
 }
+
+/// Reads the next bytes of a source to the front of `room`, at most `most` of them, and returns how many. Where neither
+/// `room` is empty nor `most` is 0, 0 means the end of the source.
+pub(crate) fn read_at_most<R: Read>(
+    source: &mut R,
+    most: u64,
+    room: &mut [u8],
+) -> Result<usize, FileFault>
+    ensures within { IfOk result (λ n. n ≤ length room.new) }
+    ensures most { IfOk result (λ n. n ≤ most) }
+{
+    let most = most.min(room.len() as u64) as usize;
+    if most == 0 {
+        return Ok(0);
+    }
+    read_piece(source, &mut room[..most])
+}
+
+/// Reads past the next `len` bytes of a source. Returns how many of them it hasn't.
+pub(crate) fn skip<R: Read>(source: &mut R, len: u64, room: &mut [u8]) -> Result<u64, FileFault>
+    ensures { IfOk result (λ n. n ≤ len) }
+{
+    let mut left = len;
+    for _ in 0..u64::MAX {
+        let taken = read_at_most(source, left, room)?;
+        if taken == 0 {
+            break;
+        }
+        left -= taken as u64;
+    }
+    Ok(left)
+}

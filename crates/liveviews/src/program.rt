@@ -9,7 +9,7 @@ ghost use Rattle.liveviews.specs.Program.{
   AsksCheck,
   AsksInspect,
   AsksRecast,
-  AsksRun,
+  AsksSession,
   DoesSomewhere,
   Ends,
   IsAllowed,
@@ -29,8 +29,9 @@ ghost use Rattle.liveviews.specs.Program.{
 ghost use Rattle.liveviews.specs.declared.program.Refusal.TheVariants.{CannotRead, CannotWrite};
 
 use crate::configuring::parse_config;
-use crate::files::{FileFault, Files};
+use crate::files::{FileFault, Files, STANDARD};
 use crate::inspecting::{Inspected, inspect_from};
+use crate::live::run_live;
 use crate::recasting::{RecastFault, SourceFault, recast_from};
 use crate::running::run_script;
 use clap::error::ErrorKind;
@@ -55,6 +56,7 @@ enum FileCommand<'a> {
 enum Asked<'a> {
     File(FileCommand<'a>),
     Script { config: &'a str, script: &'a str },
+    Live { config: &'a str },
 }
 
 /// The outcome of a command.
@@ -164,13 +166,15 @@ fn command<'a>(alloc: Global) -> Result<Command<'a>, AllocError> {
     let run = Command::new(alloc, "run")
         .arg(required(alloc, "CONFIG"))?
         .arg(required(alloc, "SCRIPT"))?;
+    let live = Command::new(alloc, "live").arg(required(alloc, "CONFIG"))?;
     Command::new(alloc, "lv")
         .no_binary_name(true)
         .subcommand_required(true)
         .subcommand(inspect)?
         .subcommand(recast)?
         .subcommand(check)?
-        .subcommand(run)
+        .subcommand(run)?
+        .subcommand(live)
 }
 
 fn required<'a>(alloc: Global, name: &'a str) -> Arg<'a> {
@@ -179,10 +183,20 @@ fn required<'a>(alloc: Global, name: &'a str) -> Arg<'a> {
 
 /// Whether the first argument is `run`.
 fn is_run(words: &[String]) -> bool
-    ensures { result ≡ true → AsksRun words.now }
+    ensures { result ≡ true → AsksSession words.now }
 {
     match words.first() {
         Some(word) => word.as_str() == "run",
+        None => false,
+    }
+}
+
+/// Whether the first argument is `live`.
+fn is_live(words: &[String]) -> bool
+    ensures { result ≡ true → AsksSession words.now }
+{
+    match words.first() {
+        Some(word) => word.as_str() == "live",
         None => false,
     }
 }
@@ -196,8 +210,8 @@ fn parse<'a>(alloc: Global, words: &'a [String]) -> Result<Asked<'a>, Refusal<'a
         Some(("inspect", given)) => asked_inspect(given).map(Asked::File),
         Some(("recast", given)) => asked_recast(given).map(Asked::File),
         Some(("check", given)) => asked_check(given).map(Asked::File),
-        Some(("run", given)) if is_run(words) => asked_run(given),
-        _ => None,
+        Some((name, given)) => asked_lines(words, name, given),
+        None => None,
     };
     asked.ok_or(Refusal::WrongUse)
 }
@@ -232,6 +246,23 @@ fn asked_run<'a>(given: &ArgMatches<'a>) -> Option<Asked<'a>> {
         config: given.get_str("CONFIG")?,
         script: given.get_str("SCRIPT")?,
     })
+}
+
+fn asked_live<'a>(given: &ArgMatches<'a>) -> Option<Asked<'a>> {
+    Some(Asked::Live {
+        config: given.get_str("CONFIG")?,
+    })
+}
+
+/// The command of this name that runs lines, where the arguments begin with it.
+fn asked_lines<'a>(words: &[String], name: &str, given: &ArgMatches<'a>) -> Option<Asked<'a>>
+    ensures { IfSome result (IsAllowed words.now) }
+{
+    match name {
+        "run" if is_run(words) => asked_run(given),
+        "live" if is_live(words) => asked_live(given),
+        _ => None,
+    }
 }
 
 /// The refusal of a file at `path` that could not be read.
@@ -295,6 +326,7 @@ fn recast_file<'a, F: Files>(
 ) -> Result<u64, Refusal<'a>>
     ensures { Ends (F.content files.old from.now) (F.sunk files.old) (F.sunk files.new) (F.unmade files.new) result }
 {
+    files.print_aside(to == STANDARD);
     let mut input = open_file(from, files)?;
     if let Err(fault) = files.create(to) {
         return Err(Refusal::unmade(fault, to));
@@ -354,13 +386,12 @@ fn run_command<'a, F: Files>(
     }
 }
 
-/// Opens the session of the configuration at `config`, and reads the script at `script`.
-fn open_script<'a, F: Files>(
+/// Opens the session of the configuration at `config`.
+fn open_session<'a, F: Files>(
     alloc: Global,
     config: &'a str,
-    script: &'a str,
     files: &mut F,
-) -> Result<(Session, Vec<u8>), Refusal<'a>>
+) -> Result<Session, Refusal<'a>>
     ensures sunk { F.sunk files.new ≡ F.sunk files.old }
     ensures refused { IfErr result IsRefused }
 {
@@ -369,8 +400,54 @@ fn open_script<'a, F: Files>(
         Ok(config) => config,
         Err(cause) => return Err(Refusal::Refused(cause)),
     };
-    let session = Session::open(alloc, config)?;
-    Ok((session, read_file(script, files)?))
+    Ok(Session::open(alloc, config)?)
+}
+
+/// Runs the script at `script` over the session of the configuration at `config`, and returns the program's exit
+/// status.
+fn run_file<'a, F: Files, W: Write>(
+    alloc: Global,
+    config: &'a str,
+    script: &'a str,
+    files: &mut F,
+    out: &mut W,
+) -> Result<u8, Refusal<'a>>
+    ensures wrong_line { IfOk result (λ status. status ≡ 2 → F.sunk files.new ≡ F.sunk files.old) }
+    ensures bound { IfOk result (λ status. status ≤ 2) }
+    ensures refused { IfErr result IsRefused }
+{
+    let session = open_session(alloc, config, files)?;
+    let script = read_file(script, files)?;
+    Ok(run_script(alloc, session, &script, files, out)?)
+}
+
+/// Runs the lines of standard input over the session of the configuration at `config`, and returns the program's exit
+/// status.
+fn run_input<'a, F: Files, W: Write>(
+    alloc: Global,
+    config: &'a str,
+    files: &mut F,
+    out: &mut W,
+) -> Result<u8, Refusal<'a>>
+    ensures bound { IfOk result (λ status. status ≤ 1) }
+    ensures refused { IfErr result IsRefused }
+{
+    let session = open_session(alloc, config, files)?;
+    let input = open_file(STANDARD, files)?;
+    Ok(run_live(alloc, session, input, files, out)?)
+}
+
+/// Prints why lines could not be run, or else has the status with which they ended.
+fn end_lines<W: Write>(came: Result<u8, Refusal>, out: &mut W) -> u8
+    requires bound { IfOk came (λ status. status ≤ 2) }
+    requires refused { IfErr came IsRefused }
+    ensures status { IfOk came.entry (λ status. result ≡ status) }
+    ensures refused { IfErr came.entry (λ r. result ≤ 1) }
+{
+    match came {
+        Ok(status) => status,
+        Err(refusal) => end(Err(refusal), out),
+    }
 }
 
 /// Prints the outcome of a command, and returns the program's exit status.
@@ -391,23 +468,23 @@ fn end<W: Write>(came: Result<Outcome, Refusal>, out: &mut W) -> u8
 }
 
 /// Runs the command that `words`, the program's arguments without its own name, ask for. It prints to `out`: the lines
-/// of `inspect` or of a script, or one line.
+/// of `inspect`, the answers to those of a script or of standard input, or one line.
 ///
 /// Returns the program's exit status: 0 where all was done, 1 where something was refused or could not be printed, 2
 /// for arguments that are no command, or a script with a wrong line.
 pub fn lv<F: Files, W: Write>(alloc: Global, words: &[String], files: &mut F, out: &mut W) -> u8
-    ensures done { result ≡ 0 → AsksRun words.now
+    ensures done { result ≡ 0 → AsksSession words.now
         ⊎ IsDone (F.content files.old) (F.sunk files.old) (F.sunk files.new) (W.contents out.old) (W.contents out.new) }
     ensures wrong_use { result ≡ 2 → F.sunk files.new ≡ F.sunk files.old }
-    ensures begun { AsksRun words.now ⊎ IsBegun (F.content files.old) (F.sunk files.old) (F.sunk files.new) }
+    ensures begun { AsksSession words.now ⊎ IsBegun (F.content files.old) (F.sunk files.old) (F.sunk files.new) }
     ensures bound { result ≤ 2 }
 {
     match parse(alloc, words) {
         Ok(Asked::File(command)) => end(run_command(alloc, command, files), out),
-        Ok(Asked::Script { config, script }) => match open_script(alloc, config, script, files) {
-            Ok((session, script)) => run_script(session, &script, files, out),
-            Err(refusal) => end(Err(refusal), out),
-        },
+        Ok(Asked::Script { config, script }) => {
+            end_lines(run_file(alloc, config, script, files, out), out)
+        }
+        Ok(Asked::Live { config }) => end_lines(run_input(alloc, config, files, out), out),
         Err(refusal) => end(Err(refusal), out),
     }
 }

@@ -115,3 +115,46 @@ fn number(word: &str) -> Option<u64> {
     }
     Some(number)
 }
+
+/// A line of a live session.
+#[derive(Clone, Copy, Debug, PartialEq, Eq)]
+pub(crate) enum LiveLine<'a> {
+    /// A line that a script may have too.
+    Script(Line<'a>),
+    /// Pushes the `len` bytes that follow the line on the input.
+    Bytes { name: &'a str, len: u64 },
+    /// Writes a view to where answers go.
+    Send { view: &'a str },
+}
+
+/// Reads a line of a live session, without the line feed that ends it.
+pub(crate) fn read_live_line(line: &[u8]) -> LiveLine<'_> {
+    if let Ok(text) = str::from_utf8(line) {
+        if let Some(line) = read_live_command(text) {
+            return line;
+        }
+    }
+    LiveLine::Script(read_line(line))
+}
+
+/// Reads a command that a live session has and a script hasn't; `None` where the text is none.
+fn read_live_command(text: &str) -> Option<LiveLine<'_>> {
+    let mut words = text.split(' ');
+    let verb = words.next()?;
+    let line = if verb == "bytes" {
+        LiveLine::Bytes {
+            name: word(&mut words)?,
+            len: number(word(&mut words)?)?,
+        }
+    } else if verb == "send" {
+        LiveLine::Send {
+            view: word(&mut words)?,
+        }
+    } else {
+        return None;
+    };
+    match words.next() {
+        Some(_) => None,
+        None => Some(line),
+    }
+}

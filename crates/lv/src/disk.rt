@@ -1,17 +1,19 @@
-//! The files of the machine.
+//! The files of the machine, and its standard input and output as files.
 
 ghost use Rattle.std.specs.Prelude.{◌≡◌, ◌≤◌, IfOk, length};
 ghost use Rattle.std.specs.Io.KnownBytes.{WriteAppends};
 
+use crate::standard::{Aside, STANDARD};
 use liveviews::{FileFault, Files};
-use std::fs;
-use std::io::{Error, Write};
+use std::io::{Error, Input, Print, Read, Write};
+use std::{fs, io};
 use stream_writer::{DeviceFault, Sink};
 
 /// The files of the machine. `put` writes the file that was named last; the first put makes or empties it.
 #[derive(Drop)]
 pub struct Disk<'a, R: std::rt::Files> {
     runtime: &'a R,
+    aside: &'a Aside,
     output: Output<R::File>,
     fault: Option<FileFault>,
     failures: u64,
@@ -25,12 +27,32 @@ enum Output<F> {
     /// It is made at the first put.
     Named(String),
     Open(F),
+    /// Standard output.
+    Standard,
+}
+
+/// A file that is read.
+#[derive(Drop)]
+pub enum Source<F, I> {
+    File(F),
+    /// Standard input.
+    Standard(I),
+}
+
+impl<F: Read, I: Read> Read for Source<F, I> {
+    fn read(&mut self, room: &mut [u8]) -> io::Result<usize> {
+        match self {
+            Source::File(file) => file.read(room),
+            Source::Standard(input) => input.read(room),
+        }
+    }
 }
 
 impl<'a, R: std::rt::Files> Disk<'a, R> {
-    pub fn new(runtime: &'a R) -> Self {
+    pub fn new(runtime: &'a R, aside: &'a Aside) -> Self {
         Disk {
             runtime,
+            aside,
             output: Output::Missing,
             fault: None,
             failures: 0,
@@ -56,7 +78,7 @@ impl<R: std::rt::Files + AllocGlobal> Disk<'_, R> {
     }
 }
 
-impl<R: std::rt::Files + AllocGlobal> Sink for Disk<'_, R> {
+impl<R: std::rt::Files + Print + AllocGlobal> Sink for Disk<'_, R> {
     ghost use Rattle.std.specs.Prelude.{None};
 
     ghost sunk = { λ s. record { taken = None; failures = s.failures } };
@@ -68,6 +90,7 @@ impl<R: std::rt::Files + AllocGlobal> Sink for Disk<'_, R> {
         self.make();
         let answer = match &mut self.output {
             Output::Open(file) => write_to(file, piece),
+            Output::Standard => write_to(&mut io::writer(self.runtime), piece),
             _ => Err(DeviceFault),
         };
         if answer.is_err() {
@@ -77,24 +100,37 @@ impl<R: std::rt::Files + AllocGlobal> Sink for Disk<'_, R> {
     }
 }
 
-impl<R: std::rt::Files + AllocGlobal> Files for Disk<'_, R> {
+impl<R: std::rt::Files + Input + Print + AllocGlobal> Files for Disk<'_, R> {
     ghost use Rattle.std.specs.Prelude.{None};
 
     ghost content = { λ _ _. None };
 
     ghost unmade = { λ s. s.fault };
 
-    type Input = R::File;
+    type Input = Source<R::File, R::Reader>;
 
     fn read(&mut self, path: &str) -> Result<Vec<u8>, FileFault> {
-        fs::read(self.runtime, path).map_err(fault_of)
+        let mut bytes = Vec::new(self.runtime.alloc());
+        self.open(path)?.read_to_end(&mut bytes).map_err(fault_of)?;
+        Ok(bytes)
     }
 
-    fn open(&mut self, path: &str) -> Result<R::File, FileFault> {
-        fs::open(self.runtime, path).map_err(fault_of)
+    fn open(&mut self, path: &str) -> Result<Source<R::File, R::Reader>, FileFault> {
+        if path == STANDARD {
+            return Ok(Source::Standard(self.runtime.reader()));
+        }
+        match fs::open(self.runtime, path) {
+            Ok(file) => Ok(Source::File(file)),
+            Err(error) => Err(fault_of(error)),
+        }
     }
 
     fn create(&mut self, path: &str) -> Result<(), FileFault> {
+        if path == STANDARD {
+            self.output = Output::Standard;
+            self.fault = None;
+            return Ok(());
+        }
         match String::from_str(self.runtime.alloc(), path) {
             Ok(path) => {
                 self.output = Output::Named(path);
@@ -103,6 +139,14 @@ impl<R: std::rt::Files + AllocGlobal> Files for Disk<'_, R> {
             }
             Err(_) => Err(FileFault::Memory),
         }
+    }
+
+    fn close(&mut self) {
+        self.output = Output::Missing;
+    }
+
+    fn print_aside(&mut self, is_aside: bool) {
+        self.aside.set(is_aside);
     }
 
     fn fault(&self) -> Option<FileFault> {

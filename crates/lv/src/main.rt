@@ -1,10 +1,12 @@
-//! The program `lv`: `liveviews::lv` over the process's arguments, its files and its standard output.
+//! The program `lv`: `liveviews::lv` over the process's arguments, its files and its standard streams.
 #![tactic(auto)]
 
 mod disk;
+mod help;
 mod standard;
 
 use disk::Disk;
+use standard::{Answers, Aside};
 use std::alloc::Global;
 use std::process::ExitCode;
 use std::{env, io};
@@ -15,9 +17,13 @@ fn main(rt: HostRuntime) -> ExitCode {
     };
     let alloc = rt.alloc();
     let words = words(&rt, alloc).unwrap_or(Vec::new(alloc));
-    let mut files = Disk::new(&rt);
-    let mut out = io::writer(&rt);
+    let aside = Aside::new(false);
+    let mut files = Disk::new(&rt, &aside);
+    let mut out = Answers::new(io::writer(&rt), rt.stderr(), &aside);
     let status = liveviews::lv(alloc, words.as_slice(), &mut files, &mut out);
+    if status == 2 {
+        help::tell(words.as_slice(), &mut rt.stderr());
+    }
     ExitCode::from(status)
 }
 

@@ -1,6 +1,50 @@
 //! The standard streams of the process.
 
+use std::cell::Cell;
+use std::io::Write;
 use std::{fs, io};
+
+/// The path that stands for standard input and standard output.
+pub const STANDARD: &str = "-";
+
+/// Whether what is printed goes to standard error, since standard output takes the bytes of a file.
+pub type Aside = Cell<bool>;
+
+/// Where the answers of `lv` go: to standard output, or aside to standard error.
+#[derive(Drop)]
+pub struct Answers<'a, O, E> {
+    output: O,
+    error: E,
+    aside: &'a Aside,
+}
+
+impl<'a, O: Write, E: Write> Answers<'a, O, E> {
+    pub fn new(output: O, error: E, aside: &'a Aside) -> Self {
+        Answers {
+            output,
+            error,
+            aside,
+        }
+    }
+}
+
+impl<O: Write, E: Write> Write for Answers<'_, O, E> {
+    fn write(&mut self, bytes: &[u8]) -> io::Result<usize> {
+        if self.aside.get() {
+            self.error.write(bytes)
+        } else {
+            self.output.write(bytes)
+        }
+    }
+
+    fn flush(&mut self) -> io::Result<()> {
+        if self.aside.get() {
+            self.error.flush()
+        } else {
+            self.output.flush()
+        }
+    }
+}
 
 /// Descriptors that take the numbers of standard streams that were closed.
 ///

@@ -144,6 +144,12 @@ impl<'a> Files for Shelf<'a> {
         Ok(())
     }
 
+    fn close(&mut self) {
+        self.named = Named::Other;
+    }
+
+    fn print_aside(&mut self, _is_aside: bool) {}
+
     fn fault(&self) -> Option<FileFault> {
         self.fault
     }

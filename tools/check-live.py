@@ -1,0 +1,185 @@
+#!/usr/bin/env python3
+"""Drives `lv live` over pipes: the script of examples/report, its streams as bytes behind lines, wrong lines, refusals, and how it ends.
+Then standard input and output as files, and what is told to those who ask for help.
+
+With the name of a program, that is run in place of the built lv.
+"""
+import os
+import re
+import subprocess
+import sys
+import tempfile
+
+ROOT = os.path.dirname(os.path.dirname(os.path.abspath(__file__)))
+sys.path.insert(0, os.path.join(ROOT, "examples"))
+sys.dont_write_bytecode = True
+from live import Live
+
+REPORT = os.path.join(ROOT, "examples", "report")
+CONFIG = os.path.join(REPORT, "report.toml")
+ORDERS = os.path.join(ROOT, "examples", "orders.arrows")
+VIEWS = ("report", "countries", "heaviest")
+
+
+def read(path):
+    with open(path, "rb") as file:
+        return file.read()
+
+
+def stream(feed):
+    return read(os.path.join(REPORT, f"{feed}.arrows"))
+
+
+def ran(words, given=b"", **how):
+    """Status, standard output and standard error of a run with this standard input."""
+    it = subprocess.run(words, input=given, stdout=subprocess.PIPE, stderr=subprocess.PIPE, timeout=60, **how)
+    return it.returncode, it.stdout, it.stderr
+
+
+def made(words, given=b""):
+    """What a run prints, and the files that it makes in a folder of its own."""
+    with tempfile.TemporaryDirectory(prefix="lv-live-") as room:
+        os.symlink(os.path.join(ROOT, "examples"), os.path.join(room, "examples"))
+        os.mkdir(os.path.join(room, "out"))
+        answer = ran(words, given, cwd=room)
+        return answer, {it: read(os.path.join(room, "out", it)) for it in os.listdir(os.path.join(room, "out"))}
+
+
+def same_as_run(lv):
+    """The script on standard input: what `run` prints but for the lines that end the answers to each, and the same files."""
+    path = os.path.join(REPORT, "script")
+    script = read(path)
+    wanted, files = made([lv, "run", CONFIG, path])
+    (status, printed, error), others = made([lv, "live", CONFIG], script)
+    assert re.findall(rb"(?m)^(\d+)\.$", printed) == [b"%d" % it for it in range(1, script.count(b"\n") + 1)]
+    assert (status, re.sub(rb"(?m)^\d+\.\n", b"", printed), error) == wanted and wanted[0] == 0
+    assert files == others and len(files) == 9
+    return {it: files[f"{it}-1.arrows"] for it in VIEWS}
+
+
+def asked(lv):
+    """Streams as bytes, views as bytes, and each line that is refused, one after the other."""
+    live = Live(CONFIG, lv)
+    assert live.push("ports", stream("ports")) == ["schema", "batch", "end"]
+    calls = stream("calls")
+    events = [it for at in range(len(calls)) for it in live.push("calls", calls[at : at + 1])]
+    assert events == ["schema", "dictionary", "batch", "batch", "end"]
+    first = {it: live.view(it) for it in VIEWS}
+    live.push("withdrawn", stream("withdrawn"))
+    live.push("corrected", stream("corrected"))
+    assert live.view("heaviest") != first["heaviest"]
+    assert live.ask("undo")[0] == live.ask("undo")[0] == ["undone"]
+    assert {it: live.view(it) for it in VIEWS} == first
+    for words, held, wanted in (
+        ("no such line", b"", ["wrong line"]),
+        ("\x00", b"", ["wrong line"]),
+        ("# nothing", b"", []),
+        ("", b"", []),
+        ("send", b"", ["wrong line"]),
+        ("send report more", b"", ["wrong line"]),
+        ("send none", b"", ["refused 54 UnknownView"]),
+        ("finish none", b"", ["refused 53 UnknownFeed"]),
+        ("bytes calls -1", b"", ["wrong line"]),
+        ("bytes calls 0", b"", []),
+        ("bytes calls 5", b"XXXXX", ["refused 29 AfterEnd"]),
+        ("bytes calls 3", b"YYY", ["refused 52 FeedBroken"]),
+        ("bytes none 4", b"\n\n\n\n", ["refused 53 UnknownFeed"]),
+        ("bytes none 3000000", bytes(3000000), ["refused 53 UnknownFeed"]),
+        ("feed ports none", b"", ["cannot read none"]),
+        ("write report none/none", b"", ["cannot write none/none"]),
+    ):
+        assert live.ask(words, held)[0] == wanted, words
+    assert live.close() == 1
+    return first
+
+
+def ended(lv):
+    """The end of the input, also within a line and within bytes, standard streams that are closed, and a reader that is gone."""
+    live, none = [lv, "live", CONFIG], os.path.join(REPORT, "none")
+    assert ran(live) == (0, b"", b"")
+    assert ran(live, b"finish none") == (1, b"1: refused 53 UnknownFeed\n1.\n", b"")
+    assert ran(live, b"\xff\n") == (1, b"1: wrong line\n1.\n", b"")
+    assert ran(live, b"bytes calls 100\nabc") == (1, b"1: cannot read -\n1.\n", b"")
+    assert ran(live, b"bytes none 100\nabc") == (1, b"1: refused 53 UnknownFeed\n1: cannot read -\n1.\n", b"")
+    assert ran([lv, "live", none]) == (1, f"cannot read {none}\n".encode(), b"")
+    shell = ["bash", "-c", 'exec "$0" "$@" <&-']
+    assert ran(shell + live)[:2] == (0, b"")
+    assert ran(["bash", "-c", 'exec "$0" "$@" > /dev/full'] + live, b"undo\n") == (1, b"", b"")
+    process = subprocess.Popen(live, stdin=subprocess.PIPE, stdout=subprocess.PIPE)
+    process.stdout.close()
+    process.stdin.write(b"undo\n")
+    process.stdin.flush()
+    assert process.wait(60) == 1
+
+
+def examples(lv, views):
+    """The programs of examples/ that drive it."""
+    status, printed, _ = ran([sys.executable, os.path.join(ROOT, "examples", "live.py"), lv])
+    assert status == 0 and printed.decode().splitlines() == [
+        "ports schema batch end",
+        "calls schema dictionary batch batch end",
+        f"countries {len(views['countries'])}",
+        "undone",
+    ]
+    status, printed, _ = ran(["bash", os.path.join(ROOT, "examples", "live.sh"), lv])
+    inspected = ran([lv, "inspect", "-"], views["countries"])[1]
+    events = b"schema\nbatch\nend\nschema\ndictionary\nbatch\nbatch\nend\n"
+    assert (status, printed) == (0, events + b"wrote %d\n" % len(views["countries"]) + inspected + b"undone\n")
+
+
+def standard_streams(lv, views):
+    """Standard input and output as files: nothing but a stream goes to standard output, and what is printed to standard error."""
+    orders = read(ORDERS)
+    with tempfile.TemporaryDirectory(prefix="lv-live-") as room:
+        whole = os.path.join(room, "whole")
+        wrote = ran([lv, "recast", ORDERS, whole])[1]
+        whole = read(whole)
+        assert ran([lv, "recast", "-", "-"], orders) == (0, whole, wrote)
+        appended = os.path.join(room, "appended")
+        subprocess.run(["bash", "-c", 'echo first > "$1"; "$0" recast - - < "$2" >> "$1" 2> /dev/null', lv, appended, ORDERS], check=True)
+        assert read(appended) == b"first\n" + whole
+        script = os.path.join(room, "script")
+        lines = [f"feed {it} {os.path.join(REPORT, it)}.arrows" for it in ("ports", "calls")] + ["write countries -"]
+        with open(script, "w") as file:
+            file.write("\n".join(lines))
+        status, printed, error = ran([lv, "run", CONFIG, script])
+        assert (status, printed) == (0, views["countries"]) and error.endswith(b"3: wrote %d\n" % len(printed))
+        status, printed, error = ran([lv, "live", CONFIG], read(script))
+        assert status == 0 and printed.endswith(b"2.\n" + views["countries"] + b"3.\n")
+        assert error == b"3: wrote %d\n" % len(views["countries"])
+    assert ran([lv, "recast", "-", "-"], orders[:-9]) == (1, b"", b"refused 30 Truncated\n")
+    assert ran([lv, "recast", "none", "-"]) == (1, b"", b"cannot read none\n")
+    assert ran([lv, "inspect", "-"], orders) == ran([lv, "inspect", ORDERS])
+    assert ran([lv, "check", "-"], read(CONFIG)) == ran([lv, "check", CONFIG])
+    pieces = b"".join(b"piece ports %s/ports.arrows %d 7\n" % (REPORT.encode(), at) for at in range(0, len(stream("ports")), 7))
+    assert re.sub(rb"\d+: ", b"", ran([lv, "run", CONFIG, "-"], pieces)[1]) == b"schema\nbatch\nend\n"
+
+
+def helped(lv):
+    """Help and the version are told on standard error, beside the line that wrong use prints."""
+    version = read(os.path.join(ROOT, "VERSION")).decode().strip()
+    assert f'"lv {version}"'.encode() in read(os.path.join(ROOT, "docs", "lv.1")).splitlines()[0]
+    for words in (["--version"], ["-V"]):
+        assert ran([lv] + words) == (2, b"wrong use\n", f"lv {version}\n".encode()), words
+    for words in (["--help"], ["-h"], ["help"], ["recast", "--help"]):
+        status, printed, error = ran([lv] + words)
+        assert (status, printed) == (2, b"wrong use\n"), words
+        assert all(f"lv {it} ".encode() in error for it in ("inspect", "recast", "check", "run", "live")), words
+    for words in ([], ["recast", "none"], ["check", "none", "--", "--help"], ["inspect", "--", "--version", "-h"]):
+        assert ran([lv] + words) == (2, b"wrong use\n", b""), words
+
+
+def main():
+    lv = os.path.abspath(sys.argv[1] if len(sys.argv) > 1 else os.path.join(ROOT, "crates/lv/out/lv"))
+    views = same_as_run(lv)
+    assert asked(lv) == views
+    ended(lv)
+    examples(lv, views)
+    standard_streams(lv, views)
+    helped(lv)
+    print("live: the script as run answers it, bytes, views, refusals and ends; standard streams as files; help and the version")
+    return 0
+
+
+if __name__ == "__main__":
+    sys.exit(main())
