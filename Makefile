@@ -1,12 +1,12 @@
-# What to make: `make try`, `make run`, `make lib`, `make install`, `make test`, `make edits`, `make ci`, `make limits`
-# and `make bench`.
+# What to make: `make try`, `make run`, `make lib`, `make install`, `make uninstall`, `make test`, `make edits`, `make ci`,
+# `make limits` and `make bench`.
 
 PREFIX ?= /usr/local
 LV := crates/lv/out/lv
 LIBRARY := out/lib
 OUT ?= out/orders.canon.arrows
 
-.PHONY: try run lib test edits ci limits bench install lv need-rt need-python
+.PHONY: try run lib test edits ci limits bench install uninstall lv need-rt need-python
 
 # Recasts the sample stream to a file of its own, and inspects that file; then runs the script of the report, which
 # writes three views.
@@ -57,8 +57,30 @@ bench: lv need-python
 	@tools/bench-coded.py
 	@tools/bench-filters.py
 
+# The program, its manual page and its completions, below PREFIX of DESTDIR, and of the library for C what was made.
+ROOT = $(DESTDIR)$(PREFIX)
+SHARE = $(ROOT)/share
+PARTS = $(ROOT)/bin/lv $(SHARE)/man/man1/lv.1 $(SHARE)/bash-completion/completions/lv \
+    $(SHARE)/zsh/site-functions/_lv $(SHARE)/fish/vendor_completions.d/lv.fish \
+    $(ROOT)/lib/liblv.a $(ROOT)/lib/liblv.so $(ROOT)/lib/pkgconfig/lv.pc $(ROOT)/include/lv.h
+
 install: lv
-	install -D -m 755 $(LV) $(PREFIX)/bin/lv
+	install -D -m 755 $(LV) $(ROOT)/bin/lv
+	install -D -m 644 docs/lv.1 $(SHARE)/man/man1/lv.1
+	install -D -m 644 tools/completion/lv.bash $(SHARE)/bash-completion/completions/lv
+	install -D -m 644 tools/completion/lv.zsh $(SHARE)/zsh/site-functions/_lv
+	install -D -m 644 tools/completion/lv.fish $(SHARE)/fish/vendor_completions.d/lv.fish
+ifneq ($(wildcard $(LIBRARY)/liblv.so),)
+	install -D -m 644 $(LIBRARY)/liblv.a $(ROOT)/lib/liblv.a
+	install -D -m 755 $(LIBRARY)/liblv.so $(ROOT)/lib/liblv.so
+	install -D -m 644 include/lv.h $(ROOT)/include/lv.h
+	mkdir -p $(ROOT)/lib/pkgconfig
+	sed 's|@PREFIX@|$(PREFIX)|; s|@VERSION@|$(shell cat VERSION)|' lv.pc.in > $(ROOT)/lib/pkgconfig/lv.pc
+endif
+
+# Takes away what `make install` puts there, with the same PREFIX and DESTDIR.
+uninstall:
+	rm -f $(PARTS)
 
 # `rt run` proves, builds and runs. With no words `lv` ends with status 2, which is also the status
 # of a refused proof, so what counts is whether the program is there afterwards.
