@@ -220,6 +220,11 @@ uint64_t lv_visits(lv_handle *handle);
 /* Closes the session, if one is open, and frees its memory. The handle can be opened again. */
 void lv_close(lv_handle *handle);
 
+/* Reads a whole stream and copies the canonical stream of its table to a buffer, as much of it as fits. The length is
+ * that of the whole: where it is above buffer_len, call again with a buffer of that length. After a refusal it is 0,
+ * and the buffer is as it was. */
+lv_written lv_recast(const uint8_t *input, size_t input_len, uint8_t *buffer, size_t buffer_len);
+
 #ifdef __cplusplus
 }
 #endif

@@ -1,9 +1,9 @@
 #!/usr/bin/env python3
 """Checks the library that C links, made of the archive of crates/lv_c that is named, or of the built one.
 
-The programs of examples/c, examples/python and examples/rust must write the very views of examples/report, the one in C also under
-valgrind. The tests of python/tests call it with handles that aren't open, were closed or are open already. Its names, versions and causes
-must be the same wherever they are written.
+The programs of examples/c, examples/python and examples/rust must write the very views of examples/report and the canonical stream of
+examples/orders.arrows, the one in C also under valgrind. The tests of python/tests call it with handles that aren't open, were closed or
+are open already. Its names, versions and causes must be the same wherever they are written.
 """
 import hashlib
 import os
@@ -59,10 +59,10 @@ def check_report(work, name, *words, **variables):
     folder = f"{work}/{name.replace(' ', '-')}"
     os.mkdir(folder)
     printed = run(*words, folder, **variables)
-    wanted = sums("examples/report/views.sha256")
+    wanted = {**sums("examples/report/views.sha256"), "orders.canon": sums("examples/canonical.sha256")["orders.canon"]}
     written = {it: hashlib.sha256(read_bytes(f"{folder}/{it}")).hexdigest() for it in os.listdir(folder)}
     assert written == wanted, f"{name} wrote {sorted(it for it in written.keys() | wanted if written.get(it) != wanted.get(it))} otherwise"
-    lines = [f"{it.removesuffix('.arrows')}: wrote {os.path.getsize(f'{folder}/{it}')}" for it in written]
+    lines = [f"{it.removesuffix('.arrows')}: wrote {os.path.getsize(f'{folder}/{it}')}" for it in written if it != "orders.canon"]
     assert sorted(printed.splitlines(keepends=True)) == sorted([f"{it}\n" for it in lines] + [LAST]), f"{name} printed {printed}"
 
 

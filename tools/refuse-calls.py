@@ -4,7 +4,7 @@ alone, and then that one and all after it.
 
 A call in which memory was refused answers 55 Memory, or what it answers without that. After 55 as many rows are live and as many edits
 can be undone as before; the same call again answers what it does without a refusal; each view then is what it is without one, and none is
-stale once all are written. `lv_open` is tried in the same way.
+stale once all are written. `lv_open` and `lv_recast` are tried in the same way.
 """
 import ctypes
 import os
@@ -17,7 +17,7 @@ from dataclasses import dataclass, field
 sys.dont_write_bytecode = True
 ROOT = os.path.dirname(os.path.dirname(os.path.abspath(__file__)))
 sys.path[:0] = [f"{ROOT}/python", f"{ROOT}/tools"]
-from canonical import UTF8, batch, integer, schema
+from canonical import UTF8, batch, integer, schema, stream
 
 MEMORY, NOTHING_TO_UNDO, MOST_UNDONE = 55, 51, 64
 CONFIG = """
@@ -231,6 +231,23 @@ def check_open(lib):
     return refusals_of(lib, call)
 
 
+def check_recast(lib):
+    columns = [("id", integer(64)), ("grp", UTF8)]
+    held = stream(columns, [[[it, b"a"] for it in range(100)], [[1, b"b"]]])
+
+    def call(was_refused):
+        buffer = ctypes.create_string_buffer(b"kept", 4)
+        written = lib.lv_recast(held, len(held), buffer, 4)
+        refused = was_refused()
+        if written.cause:
+            assert refused and (written.cause, written.len, buffer.raw) == (MEMORY, 0, b"kept"), f"lv_recast answers {written.cause}"
+        else:
+            assert written.len > 4 and buffer.raw == held[:4]
+        return refused
+
+    return refusals_of(lib, call)
+
+
 def built(work, archive):
     """The library of an archive over the heap that refuses."""
     path = f"{work}/liblv.so"
@@ -252,8 +269,8 @@ def main():
         return 0
     with tempfile.TemporaryDirectory(prefix="lv-calls-") as work:
         lib = built(work, archive)
-        refusals = sum(check_list(lib, name, SCHEMAS + calls) for name, calls in LISTS.items()) + check_open(lib)
-    print(f"refused calls: {len(LISTS)} lists of calls and lv_open, {refusals} refusals")
+        refusals = sum(check_list(lib, name, SCHEMAS + calls) for name, calls in LISTS.items()) + check_open(lib) + check_recast(lib)
+    print(f"refused calls: {len(LISTS)} lists of calls, lv_open and lv_recast, {refusals} refusals")
     return 0
 
 

@@ -74,6 +74,20 @@ static void write_views(lv_handle *session, const char *folder, int number) {
     write_view(session, "heaviest", folder, number);
 }
 
+/* Writes the canonical stream of a file to the folder, as `lv recast` does. */
+static void recast_file(const char *path, const char *to) {
+    bytes stream = read_file(path);
+    size_t room = 2 * stream.len + 1;
+    uint8_t *buffer = malloc(room);
+    if (!buffer) fail("memory");
+    lv_written written = lv_recast(stream.at, stream.len, buffer, room);
+    if (written.cause || written.len > room) fail(path);
+    FILE *file = fopen(to, "wb");
+    if (!file || fwrite(buffer, 1, written.len, file) != written.len || fclose(file)) fail(to);
+    free(buffer);
+    free(stream.at);
+}
+
 int main(int argc, char **argv) {
     const char *folder = argc > 1 ? argv[1] : ".";
     bytes config = read_file("examples/report/report.toml");
@@ -95,5 +109,8 @@ int main(int argc, char **argv) {
     write_views(&session, folder, 3);
     printf("live rows %zu, stale %zu\n", lv_live_rows(&session), lv_stale(&session));
     lv_close(&session);
+    char path[300];
+    snprintf(path, sizeof path, "%s/orders.canon", folder);
+    recast_file("examples/orders.arrows", path);
     return 0;
 }

@@ -35,3 +35,4 @@ with lv.Session((REPORT / "report.toml").read_text()) as session:
     session.undo()
     write_views(session, 3)
     print(f"live rows {session.live_rows}, stale {session.stale}")
+(FOLDER / "orders.canon").write_bytes(lv.recast(Path("examples/orders.arrows").read_bytes()))

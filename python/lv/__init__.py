@@ -7,11 +7,12 @@
         stream = session.view("countries")     # the bytes of an Arrow IPC stream
         table = session.table("countries")     # a pyarrow.Table, where pyarrow is installed
 
-The library is the file that the environment variable LV_LIBRARY names, or else the liblv that the system finds.
+`recast` gives the canonical stream of a whole stream. The library is the file that the environment variable LV_LIBRARY
+names, or else the liblv that the system finds.
 """
 from lv.calls import Refused
 from lv.causes import CAUSES
-from lv.session import Event, Session
+from lv.session import Event, Session, recast
 
-__all__ = ["CAUSES", "Event", "Refused", "Session"]
+__all__ = ["CAUSES", "Event", "Refused", "Session", "recast"]
 __version__ = "0.1.0"

@@ -36,6 +36,7 @@ CALLS = {
     "lv_stale": (SIZE, HANDLE),
     "lv_visits": (ctypes.c_uint64, HANDLE),
     "lv_close": (None, HANDLE),
+    "lv_recast": (Written, BYTES, SIZE, BUFFER, SIZE),
 }
 
 

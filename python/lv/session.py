@@ -131,3 +131,16 @@ class Session:
 def address_of(buffer: bytearray) -> int:
     """Where the bytes of a buffer lie, as long as it is there and isn't resized. It must have some."""
     return ctypes.addressof((ctypes.c_char * len(buffer)).from_buffer(buffer))
+
+
+def recast(data: bytes | bytearray | memoryview | BinaryIO) -> bytes:
+    """The canonical stream of the table that a whole Arrow IPC stream has."""
+    stream = data.read() if hasattr(data, "read") else bytes(data)
+    room = PIECE + 2 * len(stream)
+    while True:
+        buffer = bytearray(room)
+        written = library().lv_recast(stream, len(stream), address_of(buffer), room)
+        need(written.cause)
+        if written.len <= room:
+            return bytes(memoryview(buffer)[: written.len])
+        room = written.len

@@ -9,7 +9,8 @@ from pathlib import Path
 import lv
 from lv.calls import CALLS, Handle, library
 
-REPORT = Path(__file__).parents[2] / "examples" / "report"
+EXAMPLES = Path(__file__).parents[2] / "examples"
+REPORT = EXAMPLES / "report"
 CONFIG = (REPORT / "report.toml").read_text()
 FEEDS = {it: (REPORT / f"{it}.arrows").read_bytes() for it in ("ports", "calls", "withdrawn", "corrected")}
 VIEWS = ("report", "countries", "heaviest")
@@ -215,6 +216,28 @@ class Handles(unittest.TestCase):
         self.assertEqual(self.lib.lv_write(handle, b"none", 4).cause, 54)
         self.assertEqual(self.lib.lv_copy(handle, 0, held, whole), 0)
         self.lib.lv_close(handle)
+
+
+class Recasts(unittest.TestCase):
+    def test_whole(self):
+        for line in (EXAMPLES / "canonical.sha256").read_text().splitlines():
+            wanted, name = line.split()
+            stream = (EXAMPLES / name.replace(".canon", ".arrows")).read_bytes()
+            self.assertEqual(hashlib.sha256(lv.recast(stream)).hexdigest(), wanted)
+            self.assertEqual(lv.recast(io.BytesIO(stream)), lv.recast(bytearray(stream)))
+
+    def test_short_buffer(self):
+        stream, buffer = FEEDS["calls"], ctypes.create_string_buffer(bytes(20), 20)
+        whole = lv.recast(stream)
+        written = library().lv_recast(stream, len(stream), buffer, 12)
+        self.assertEqual((written.len, written.cause, buffer.raw), (len(whole), 0, whole[:12] + bytes(8)))
+
+    def test_refused(self):
+        self.assertEqual(refusal(lv.recast, b"no stream")[:2], (1, "NoContinuation"))
+        self.assertEqual(refusal(lv.recast, b"")[:2], (8, "NoSchema"))
+        buffer = ctypes.create_string_buffer(b"kept", 4)
+        written = library().lv_recast(FEEDS["calls"][:-1], len(FEEDS["calls"]) - 1, buffer, 4)
+        self.assertEqual((written.len, written.cause, buffer.raw), (0, 30, b"kept"))
 
 
 if __name__ == "__main__":

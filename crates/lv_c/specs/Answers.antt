@@ -1,6 +1,7 @@
 -- The answers of calls as C reads them: a cause of 0 where a call was done, and otherwise the number of its cause.
 use Rattle.std.specs.Prelude.{ℕ, Option, None, Some, Result, Ok, Err}
 use Rattle.values.specs.Causes.{number_of}
+use Rattle.values.specs.declared.causes.Cause.{Cause}
 use Rattle.values.specs.declared.causes.Cause.TheVariants as cause
 use Rattle.stream_writer.specs.declared.faults.WriteFault.TheVariants as write_fault
 use Rattle.session.specs.declared.calls.Event.{Event}
@@ -9,6 +10,7 @@ use Rattle.session.specs.declared.calls.Fault.{Fault}
 use Rattle.session.specs.declared.calls.Pushed.{Pushed}
 use Rattle.session.specs.declared.calls.ViewFault.{ViewFault}
 use Rattle.session.specs.declared.calls.ViewFault.TheVariants as view_fault
+use Rattle.liveviews.specs.declared.recasting.RecastFault.{RecastFault}
 use Rattle.lv_c.specs.declared.answers.LvPushed.{LvPushed}
 use Rattle.lv_c.specs.declared.answers.LvWritten.{LvWritten}
 
@@ -31,9 +33,19 @@ abbrev pub end_told : Result (Unit {0}) Fault → ℕ
 end_told (Ok u) = 0
 end_told (Err f) = number_of f.cause
 
--- A view is written to memory alone: where its sink fails, memory was refused.
+-- Streams are written to memory alone: where its sink fails, memory was refused.
+abbrev pub written_cause : Cause → Cause
+written_cause cause.Device = cause.Memory
+written_cause c = c
+
+-- a view: as many bytes as were written, of the whole stream or of its beginning
 abbrev pub view_told : Result ℕ ViewFault → LvWritten
 view_told (Ok n) = record { len = n; cause = 0 }
 view_told (Err view_fault.UnknownView) = record { len = 0; cause = number_of cause.UnknownView }
 view_told (Err (view_fault.Write (write_fault.Memory n))) = record { len = n; cause = number_of cause.Memory }
 view_told (Err (view_fault.Write (write_fault.Device n))) = record { len = n; cause = number_of cause.Memory }
+
+-- the canonical stream of another: the length of the whole, and none where it was refused
+abbrev pub recast_told : Result ℕ RecastFault → LvWritten
+recast_told (Ok n) = record { len = n; cause = 0 }
+recast_told (Err f) = record { len = 0; cause = number_of (written_cause f.cause) }

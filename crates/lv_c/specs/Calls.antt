@@ -1,9 +1,11 @@
 -- Calls of a handle: what each answers, and what stands behind the handle then. Where nothing stands behind it, a call
 -- says so, and nothing changes.
-use Rattle.std.specs.Prelude.{◌≡◌, ◌⊎◌, ◌^◌, ◌-◌, ℕ, List, Option, None, Some, Result, count_by, length, min}
+use Rattle.std.specs.Prelude.{◌≡◌, ◌⊎◌, ◌^◌, ◌-◌, ℕ, List, [], Option, None, Some, Result, OnOk, count_by, length, min}
 use Rattle.values.specs.Causes.{number_of}
 use Rattle.values.specs.declared.causes.Cause.{Cause}
 use Rattle.values.specs.declared.causes.Cause.TheVariants as cause
+use Rattle.schema_meta.specs.Story.{story_of}
+use Rattle.stream_writer.specs.Sinks.{sunk_of}
 use Rattle.view_lang.specs.Config.{tables_of}
 use Rattle.view_lang.specs.World.{contents_at, world}
 use Rattle.upkeep.specs.LiveParts.{store_at}
@@ -12,12 +14,15 @@ use Rattle.session.specs.Steps.{State}
 use Rattle.session.specs.declared.calls.Fault.{Fault}
 use Rattle.session.specs.declared.calls.Pushed.{Pushed}
 use Rattle.session.specs.declared.calls.ViewFault.{ViewFault}
+use Rattle.liveviews.specs.Recast.{Recasts}
+use Rattle.liveviews.specs.Steps.{AreTakenSo}
+use Rattle.liveviews.specs.declared.recasting.RecastFault.{RecastFault}
 use Rattle.lv_c.specs.declared.answers.LvPushed.{LvPushed}
 use Rattle.lv_c.specs.declared.answers.LvWritten.{LvWritten}
 use Rattle.lv_c.specs.declared.held.Held.{Held}
-use Rattle.lv_c.specs.Answers.{end_told, not_open, push_told, view_told}
+use Rattle.lv_c.specs.Answers.{end_told, not_open, push_told, recast_told, view_told}
 use Rattle.lv_c.specs.Behind.{Finishes, Opens, Pushes, RefusesConfig, Undoes, WritesKept, kept_bytes}
-use Rattle.lv_c.specs.Copies.{CopiesTo}
+use Rattle.lv_c.specs.Copies.{CopiesIf, CopiesTo}
 
 -- A session is opened behind a handle that isn't open, or the bytes are refused. One that is open stays as it is.
 abbrev pub OpenCall : Option Held → List ℕ → ℕ → Option Held → Type 0
@@ -78,3 +83,14 @@ VisitsCall (Some h) result = result ≡ min (store_at h.session.tables.stores 0)
 -- A session is put behind a handle, or memory is refused for its box.
 abbrev pub IsKept : Held → ℕ → Option Held → Type 0
 IsKept h result new = ((result ≡ 0) × (new ≡ Some h)) ⊎ ((result ≡ number_of cause.Memory) × (new ≡ None))
+
+-- A recast to memory: `kept` is what went out. On success that is the whole canonical stream, and the buffer has the
+-- beginning of it that fits. Otherwise the buffer is as it was.
+pub record RecastCall (input old : List ℕ) (result : LvWritten) (new : List ℕ) : Type 0 where
+  pub answer : Result ℕ RecastFault
+  pub kept : List ℕ
+  pub failures : ℕ
+  pub recasts : Recasts (sunk_of [] 0) (sunk_of kept failures) answer (story_of input)
+  pub accepted : OnOk answer (AreTakenSo (story_of input).schema (story_of input).rows)
+  pub told : result ≡ recast_told answer
+  pub buffer : CopiesIf answer kept old new

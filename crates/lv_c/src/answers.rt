@@ -1,8 +1,9 @@
 //! The answers of calls, as C reads them.
 
 ghost use Rattle.std.specs.Prelude.{◌≡◌};
-ghost use Rattle.lv_c.specs.Answers.{end_told, event_number, push_told, view_told};
+ghost use Rattle.lv_c.specs.Answers.{end_told, event_number, push_told, recast_told, view_told, written_cause};
 
+use liveviews::RecastFault;
 use session::{Event, Fault, Pushed, ViewFault};
 use stream_writer::WriteFault;
 use values::Cause;
@@ -67,6 +68,16 @@ pub fn tell_end(answer: Result<(), Fault>) -> u8
     }
 }
 
+/// The cause of a stream that was not written whole to memory: its sink fails only where memory is refused.
+fn written_cause(cause: Cause) -> Cause
+    ensures { result ≡ written_cause cause }
+{
+    match cause {
+        Cause::Device => Cause::Memory,
+        cause => cause,
+    }
+}
+
 pub fn tell_view(answer: Result<u64, ViewFault>) -> LvWritten
     ensures { result ≡ view_told answer }
 {
@@ -83,6 +94,18 @@ pub fn tell_view(answer: Result<u64, ViewFault>) -> LvWritten
         Err(ViewFault::Write(WriteFault::Device { written })) => LvWritten {
             len: written,
             cause: Cause::Memory.number(),
+        },
+    }
+}
+
+pub fn tell_recast(answer: Result<u64, RecastFault>) -> LvWritten
+    ensures { result ≡ recast_told answer }
+{
+    match answer {
+        Ok(len) => LvWritten { len, cause: 0 },
+        Err(fault) => LvWritten {
+            len: 0,
+            cause: written_cause(fault.cause).number(),
         },
     }
 }

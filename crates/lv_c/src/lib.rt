@@ -1,6 +1,7 @@
 //! Sessions of live views for programs in C, and in any language that calls C.
 //!
-//! `calls` has the functions that are exported; `include/lv.h` declares them, and says what C owes. C keeps a `Handle`. Behind it is nothing, or a box with a session and the stream of the view that was written last:
+//! `calls` and `recasting` have the functions that are exported; `include/lv.h` declares them, and says what C owes. C
+//! keeps a `Handle`. Behind it is nothing, or a box with a session and the stream of the view that was written last:
 //! `slot` has the pointer to that box.
 #![tactic(auto)]
 
@@ -9,6 +10,7 @@ mod calls;
 mod copying;
 mod handle;
 mod held;
+mod recasting;
 mod slot;
 #[cfg(test)]
 mod tests;

@@ -2,12 +2,13 @@
 
 ghost use Rattle.std.specs.Prelude.{◌≡◌, None};
 
-use crate::answers::{LvPushed, NOT_OPEN};
+use crate::answers::{LvPushed, LvWritten, NOT_OPEN};
 use crate::calls::{
     lv_close, lv_copy, lv_finish, lv_live_rows, lv_open, lv_push, lv_stale, lv_undo, lv_visits,
     lv_write,
 };
 use crate::handle::{Handle, empty};
+use crate::recasting::lv_recast;
 use std::test::Fail;
 use values::Cause;
 
@@ -55,5 +56,17 @@ fn calls_of_a_session(rt: HostRuntime) -> Result<(), Fail> {
     assert_eq!(rt; buffer, [0xFF, 0xFF, 0xFF, 7, 7]);
     lv_close(alloc, &mut handle);
     forget(handle);
+    Ok(())
+}
+
+#[test]
+fn recast_of_no_stream(rt: HostRuntime) -> Result<(), Fail> {
+    let mut buffer = [7; 2];
+    let refused = LvWritten {
+        len: 0,
+        cause: Cause::NoSchema.number(),
+    };
+    assert_eq!(rt; lv_recast(rt.alloc(), b"", &mut buffer), refused);
+    assert_eq!(rt; buffer, [7, 7]);
     Ok(())
 }

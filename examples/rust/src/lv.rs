@@ -40,6 +40,7 @@ extern "C" {
     fn lv_live_rows(handle: &mut Handle) -> usize;
     fn lv_stale(handle: &mut Handle) -> usize;
     fn lv_close(handle: &mut Handle);
+    fn lv_recast(input: *const u8, input_len: usize, buffer: *mut u8, buffer_len: usize) -> RawWritten;
 }
 
 /// The number of the cause of a refusal, of which include/lv.h has the names, and how many bytes were consumed.
@@ -136,5 +137,20 @@ impl Drop for Session {
     fn drop(&mut self) {
         // SAFETY: as in `open`.
         unsafe { lv_close(&mut self.handle) }
+    }
+}
+
+/// The canonical stream of the table of a whole stream.
+pub fn recast(stream: &[u8]) -> Result<Vec<u8>, Refused> {
+    let mut buffer = vec![0; 2 * stream.len()];
+    loop {
+        // SAFETY: the slices' bytes are there while the call runs, and the buffer is nobody else's.
+        let written = unsafe { lv_recast(stream.as_ptr(), stream.len(), buffer.as_mut_ptr(), buffer.len()) };
+        done(written.cause, 0)?;
+        let is_whole = written.len as usize <= buffer.len();
+        buffer.resize(written.len as usize, 0);
+        if is_whole {
+            return Ok(buffer);
+        }
     }
 }

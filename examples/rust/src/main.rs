@@ -5,7 +5,7 @@
 
 mod lv;
 
-use lv::Session;
+use lv::{recast, Session};
 use std::error::Error;
 use std::fs;
 use std::path::Path;
@@ -39,5 +39,7 @@ fn main() -> Result<(), Box<dyn Error>> {
     session.undo()?;
     write_views(&mut session, folder, 3)?;
     println!("live rows {}, stale {}", session.live_rows(), session.stale());
+    let canonical = recast(&fs::read("examples/orders.arrows")?)?;
+    fs::write(folder.join("orders.canon"), canonical)?;
     Ok(())
 }
