@@ -56,7 +56,7 @@ pub fn open(rt: &impl Abort, alloc: Global) -> Result<Session, Fail> {
     Ok(session)
 }
 
-fn push(rt: &impl Abort, pushed: Result<Pushed, Fault>) {
+pub fn push(rt: &impl Abort, pushed: Result<Pushed, Fault>) {
     assert!(rt; pushed.is_ok());
 }
 
@@ -96,4 +96,17 @@ pub fn cut(rt: &impl Abort, session: &mut Session, group: u8) {
 /// Undoes the latest edit.
 pub fn undo(rt: &impl Abort, session: &mut Session) {
     assert_eq!(rt; session.undo(), Ok(()));
+}
+
+/// Pushes a whole stream to the feed `add`, message by message.
+pub fn push_all(rt: &impl Abort, session: &mut Session, bytes: &[u8]) {
+    let mut left = bytes;
+    for _ in 0..bytes.len() {
+        let pushed = session.push("add", left);
+        assert!(rt; pushed.is_ok());
+        match left.get(pushed.unwrap().used..) {
+            Some(more) => left = more,
+            None => return,
+        }
+    }
 }

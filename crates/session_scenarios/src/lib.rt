@@ -1,10 +1,14 @@
 //! Tests of sessions over a configuration that is read from its text.
 //!
-//! `ledger` opens a session, and changes it row by row with the streams of `streams`. The tests are `parts` (sessions
-//! that are taken apart and made again) and `visits` (how often edits and writes open rows). Nothing here is for other
-//! crates.
+//! `ledger` opens a session, and changes it row by row with the streams of `streams`; `batches` writes batches of many
+//! rows. The tests are `parts` (sessions that are taken apart and made again), `visits` (how often edits and writes open
+//! rows) and `filters` (which rows of a batch views keep). Nothing here is for other crates.
 #![tactic(auto)]
 
+#[cfg(test)]
+mod batches;
+#[cfg(test)]
+mod filters;
 #[cfg(test)]
 mod ledger;
 #[cfg(test)]

@@ -1,6 +1,6 @@
 //! Sessions that are taken apart and made again.
 
-use crate::ledger::{add, cut, open, put, retract, undo};
+use crate::ledger::{add, cut, open, push_all, put, retract, undo};
 use crate::streams::REPLACED;
 use crate::visits::write;
 use row_keys::RowStore;
@@ -111,19 +111,6 @@ role = "append"
 [view.texts]
 columns = [["t", "col", "t"]]
 "#;
-
-/// Pushes a whole stream, message by message.
-fn push_all(rt: &impl Abort, session: &mut Session, bytes: &[u8]) {
-    let mut left = bytes;
-    for _ in 0..bytes.len() {
-        let pushed = session.push("add", left);
-        assert!(rt; pushed.is_ok());
-        match left.get(pushed.unwrap().used..) {
-            Some(more) => left = more,
-            None => return,
-        }
-    }
-}
 
 /// Adds the keys of a row's cells.
 fn push_cells(alloc: Global, row: &[Value], keys: &mut Vec<Key>) -> Result<(), AllocError> {
