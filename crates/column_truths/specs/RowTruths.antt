@@ -42,4 +42,5 @@ truths_of_any n columns fs = map (λ i. truth_of_any (row_at columns i) fs) (ran
 
 -- A filter that names the columns of a row alone says the same of that row with more cells after it.
 abbrev pub TruthIsOfFirstCells : Type 0
-TruthIsOfFirstCells = (row more : List Datum) (f : Filter) → IsWithin (length row) f → truth (row ++ more) f ≡ truth row f
+TruthIsOfFirstCells =
+    (row more : List Datum) (f : Filter) → IsWithin (length row) f → truth (row ++ more) f ≡ truth row f

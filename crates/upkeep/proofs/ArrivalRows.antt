@@ -1,5 +1,38 @@
 -- What is known of rows of a batch, and of the rows of a table that they become.
-use Rattle.std.proofs.Common.{◌≡◌, ℕ, zero, suc, ◌+◌, ◌-◌, ◌<◌, ◌≤◌, All, Bool, true, false, if◌then◌else◌, List, [], ◌∷◌, ◌++◌, Option, None, Some, arith, cond, count_by, get_or, length, map, refl, ap, sym, subst, take, ◌∙◌}
+use Rattle.std.proofs.Common.{
+  ◌≡◌,
+  ℕ,
+  zero,
+  suc,
+  ◌+◌,
+  ◌-◌,
+  ◌<◌,
+  ◌≤◌,
+  All,
+  Bool,
+  true,
+  false,
+  if◌then◌else◌,
+  List,
+  [],
+  ◌∷◌,
+  ◌++◌,
+  Option,
+  None,
+  Some,
+  arith,
+  cond,
+  count_by,
+  get_or,
+  length,
+  map,
+  refl,
+  ap,
+  sym,
+  subst,
+  take,
+  ◌∙◌,
+}
 use Rattle.std.specs.Option.{option_and_then, option_map}
 use Rattle.std.proofs.lemmas.List.{
   get_or-append-add,
@@ -31,7 +64,17 @@ use Rattle.row_keys.specs.Batches.{batch_rows, cells_in}
 use Rattle.row_keys.specs.NumberLaws.{with_new}
 use Rattle.row_keys.specs.Slots.{Slot, new_slot, no_slot, row_of}
 use Rattle.row_keys.specs.Store.{Store}
-use Rattle.upkeep.specs.Arrivals.{AreReferring, EachTells, IsDropped, Tells, TellsOf, last_rows, opened_at, opened_first, rows_of_numbers}
+use Rattle.upkeep.specs.Arrivals.{
+  AreReferring,
+  EachTells,
+  IsDropped,
+  Tells,
+  TellsOf,
+  last_rows,
+  opened_at,
+  opened_first,
+  rows_of_numbers,
+}
 use Rattle.upkeep.specs.Stores.{rows_at, rows_in}
 use Rattle.upkeep.specs.ViewStates.{made_by, made_row}
 use Rattle.upkeep.specs.declared.arrivals.Arrival.{Arrival}

@@ -264,8 +264,8 @@ pub(crate) fn turn_rows(
     Ok(())
 }
 
-/// Brings what is kept of a view up to rows of the main table that come or go. No row is opened of which it is known that
-/// the view drops it. A stale view is left as it is; after an error it is stale.
+/// Brings what is kept of a view up to rows of the main table that come or go. No row is opened of which it is known
+/// that the view drops it. A stale view is left as it is; after an error it is stale.
 #[tactic(auto, using(crate::proofs::ArrivalRows::opened_laws))]
 pub(crate) fn follow(
     alloc: Global,

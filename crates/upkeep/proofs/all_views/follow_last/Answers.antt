@@ -16,8 +16,8 @@ follow_all-requires-clause-there c =
 
 pub follow_all-requires-clause-known : goal.follow_all-requires-clause-known
 follow_all-requires-clause-known c =
-    subst (λ (ns : List ℕ). EachTells c.args.views.now (rows_of_numbers (rows_at (rows_in c.args.stores.now.items) 0) ns)
-    c.args.arrivals.now)
+    subst (λ (ns : List ℕ). EachTells c.args.views.now
+    (rows_of_numbers (rows_at (rows_in c.args.stores.now.items) 0) ns) c.args.arrivals.now)
     (sym (c.deref.ensures.value
     ∙ last_named c.args.stores.now.items c.index.result.now c.args.count c.in-Ok.numbers.items c.index.ensures
     c.requires.these.main
