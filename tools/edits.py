@@ -13,7 +13,7 @@ import tempfile
 from concurrent.futures import ThreadPoolExecutor
 
 sys.dont_write_bytecode = True
-from lanes import Lanes, crates_of
+from lanes import Lanes, crates_of, most_lanes
 from must_fail import Trial
 from records import RECORD, all_of, none_of, part_of, plan, turn_of
 
@@ -40,7 +40,7 @@ def main():
     parts.add_argument("--due", action="store_true", help="of crates as they were recorded, a fifth alone")
     parts.add_argument("--rest", action="store_true", help="of crates as they were recorded, none")
     parser.add_argument("--record", action="store_true", help=f"note the crates of which all were refused in {RECORD}")
-    parser.add_argument("--jobs", type=int, default=len(os.sched_getaffinity(0)), help="how many checks run side by side")
+    parser.add_argument("--jobs", type=int, default=most_lanes(), help="how many checks run side by side")
     parser.add_argument("crates", nargs="*")
     words = parser.parse_args()
     of_known = part_of(ROOT) if words.due else none_of if words.rest else all_of

@@ -35,7 +35,7 @@ from functools import partial
 from typing import Callable
 
 sys.dont_write_bytecode = True
-from lanes import Lanes, PARTS, below, crates_of, files_below, link, read, run
+from lanes import Lanes, PARTS, below, crates_of, files_below, link, most_lanes, read, run
 from must_fail import Trial
 from records import RECORD, all_of, part_of, plan, turn_of
 
@@ -307,7 +307,7 @@ def apart(tree):
 
 def arguments():
     parser = argparse.ArgumentParser(description="The merge gate: proofs from nothing, contracts, layout, tests, runs, must-fail edits.")
-    parser.add_argument("--jobs", type=int, default=len(os.sched_getaffinity(0)), help="how many checks run side by side")
+    parser.add_argument("--jobs", type=int, default=most_lanes(), help="how many checks run side by side")
     parser.add_argument("--all", action="store_true", help="try all edits, also of crates whose edits were all refused as they are")
     parser.add_argument("--until", type=float, metavar="MINUTES", help=f"begin no edit later: {UNTIL}, or with --all whenever")
     parser.add_argument("--record", action="store_true", help=f"note in {RECORD} of which crates all that were due were refused")

@@ -11,6 +11,8 @@ from contextlib import contextmanager
 from dataclasses import dataclass
 
 PARTS = ("src", "specs", "proofs")
+# What a check of the largest crates takes, with their tests, in bytes.
+MEMORY_OF_A_LANE = 6 << 30
 
 
 def read(path):
@@ -65,6 +67,12 @@ def link(source, to):
         os.link(source, to)
     except OSError:
         shutil.copy2(source, to)
+
+
+def most_lanes():
+    """How many checks run side by side: one on each processor, as far as memory goes."""
+    memory = os.sysconf("SC_PAGE_SIZE") * os.sysconf("SC_PHYS_PAGES")
+    return max(1, min(len(os.sched_getaffinity(0)), memory // MEMORY_OF_A_LANE))
 
 
 class Lane:
