@@ -50,13 +50,15 @@ limits: lv need-python
 	@tools/limits.py
 
 # Time and memory of recasting 25 to 400 MB, beside `cat` of the same file; of edits; of a view with a coded column; of
-# views with filters; and of round trips with `lv live`.
+# views with filters; of round trips with `lv live`; and of joining bitmaps, by lanes and bit by bit.
 bench: lv need-python
 	@tools/bench.py
 	@tools/bench-edits.py
 	@tools/bench-coded.py
 	@tools/bench-filters.py
 	@tools/bench-live.py
+	@cd crates/kernel_bench && rt run > /dev/null
+	@tools/bench-kernels.py
 
 # The program, its manual page and its completions, below PREFIX of DESTDIR, and of the library for C what was made.
 ROOT = $(DESTDIR)$(PREFIX)
