@@ -8,15 +8,14 @@ rows of each batch have.
 import os
 import re
 import struct
-import subprocess
 import sys
 import tempfile
 
 sys.dont_write_bytecode = True
 from configurations import text_of
 from streams import END_MARK, batch, field, schema
+from timed import LV, ran
 
-LV = os.path.join(os.path.dirname(os.path.dirname(os.path.abspath(__file__))), "crates", "lv", "out", "lv")
 ROWS, BATCH, SIZE = 1_000_000, 1024, 20
 TURNS, WRITES = 3, 4
 COLUMNS = [["k", "int64"], ["t", "utf8"]]
@@ -43,17 +42,6 @@ def stream(number_of):
         held = b"".join(b"%0*d" % (SIZE, number_of(row)) for row in rows)
         parts.append(batch(len(rows), [[struct.pack(f"<{len(rows)}q", *rows)], [ends, held]]))
     return b"".join([*parts, END_MARK])
-
-
-def ran(words, room):
-    """The lines that a run of the program prints, and the seconds of processor time that it took."""
-    with subprocess.Popen([LV, *words], cwd=room, stdout=subprocess.PIPE, text=True) as started:
-        lines = started.stdout.read().splitlines()
-        _, status, used = os.wait4(started.pid, 0)
-        started.returncode = os.waitstatus_to_exitcode(status)
-    if started.returncode:
-        sys.exit(f"bench: {' '.join(words)} ended with status {started.returncode}: {lines[-1:]}")
-    return lines, used.ru_utime + used.ru_stime
 
 
 def seconds(view, room):

@@ -7,15 +7,14 @@ What is timed is looked at before: a view shows as many rows as its filter keeps
 import os
 import re
 import struct
-import subprocess
 import sys
 import tempfile
 
 sys.dont_write_bytecode = True
 from configurations import text_of
 from streams import END_MARK, batch, dictionary_batch, field, schema
+from timed import LV, ran
 
-LV = os.path.join(os.path.dirname(os.path.dirname(os.path.abspath(__file__))), "crates", "lv", "out", "lv")
 ROWS, BATCH, TEXTS, SIZE = 1_000_000, 1024, 100, 20
 TURNS, VIEWS = 3, 8
 COLUMNS = [["k", "int64"], ["a", "int64"], ["t", "utf8"], ["c", "utf8"]]
@@ -51,17 +50,6 @@ def config(wanted, views):
 def write(room, name, data):
     with open(f"{room}/{name}", "wb") as file:
         file.write(data)
-
-
-def ran(words, room):
-    """The lines that a run of the program prints, and the seconds of processor time that it took."""
-    with subprocess.Popen([LV, *words], cwd=room, stdout=subprocess.PIPE, text=True) as started:
-        lines = started.stdout.read().splitlines()
-        _, status, used = os.wait4(started.pid, 0)
-        started.returncode = os.waitstatus_to_exitcode(status)
-    if started.returncode:
-        sys.exit(f"bench: {' '.join(words)} ended with status {started.returncode}: {lines[-1:]}")
-    return lines, used.ru_utime + used.ru_stime
 
 
 def seconds(wanted, views, room):
