@@ -44,108 +44,111 @@ extern "C" {
  * docs/VIEWS.md have the rules. */
 enum lv_cause {
 /* causes: written by tools/cause_tables.py */
-    /* The first four bytes of a message aren't FF FF FF FF. */
+    /* the first four bytes of a message aren't FF FF FF FF */
     LV_CAUSE_NO_CONTINUATION = 1,
-    /* The metadata size is negative or above 2^24. */
+    /* the metadata size is negative or above 2^24 */
     LV_CAUSE_BAD_SIZE = 2,
-    /* A place that must be read lies outside the metadata, a vtable's own size is under 4, or a table that must be
-     * there is absent. */
+    /* a place that must be read lies outside the metadata, a vtable's own size is under 4, or a table that must be
+     * there is absent */
     LV_CAUSE_BAD_TABLE = 3,
-    /* A field's name isn't UTF-8 or is longer than 4,096 bytes. */
+    /* a field's name isn't UTF-8 or is longer than 4,096 bytes */
     LV_CAUSE_BAD_NAME = 4,
-    /* The metadata version is neither V4 nor V5. */
+    /* the metadata version is neither V4 nor V5 */
     LV_CAUSE_VERSION = 5,
-    /* The header is neither a Schema nor a DictionaryBatch nor a RecordBatch. */
+    /* the header is neither a Schema nor a DictionaryBatch nor a RecordBatch */
     LV_CAUSE_HEADER_KIND = 6,
-    /* The body's length is negative or above 2^28. */
+    /* the body's length is negative or above 2^28 */
     LV_CAUSE_BODY_SIZE = 7,
-    /* An end mark or a batch comes before a Schema, or the input ends without one. */
+    /* an end mark or a batch comes before a Schema, or the input ends without one */
     LV_CAUSE_NO_SCHEMA = 8,
-    /* A Schema comes after a Schema. */
+    /* a Schema comes after a Schema */
     LV_CAUSE_SECOND_SCHEMA = 9,
-    /* The schema's endianness isn't little. */
+    /* the schema's endianness isn't little */
     LV_CAUSE_BIG_ENDIAN = 10,
-    /* A type outside this profile. */
+    /* a column has a type that isn't read */
     LV_CAUSE_UNSUPPORTED_TYPE = 11,
-    /* A type's table is absent, or a parameter, the children or the slot of a type are out of range. */
+    /* a type's table is absent, or a parameter, the children or the slot of a type are out of range */
     LV_CAUSE_BAD_TYPE = 12,
-    /* More than 1,024 fields at all levels, or a field deeper than 16. */
+    /* there are more than 1,024 fields at all levels, or a field is deeper than 16 */
     LV_CAUSE_TOO_MANY_FIELDS = 13,
-    /* A RecordBatch is compressed. */
+    /* a RecordBatch is compressed */
     LV_CAUSE_COMPRESSED = 14,
-    /* Two fields use one dictionary with different types of values. */
+    /* two fields use one dictionary with different types of values */
     LV_CAUSE_DICTIONARY_CLASH = 15,
-    /* A DictionaryBatch's dictionary is in no field of the schema. */
+    /* a DictionaryBatch's dictionary is in no field of the schema */
     LV_CAUSE_UNKNOWN_DICTIONARY = 16,
-    /* A dictionary would have more than 2^20 values. */
+    /* a dictionary would have more than 2^20 values */
     LV_CAUSE_DICTIONARY_TOO_LARGE = 17,
-    /* The number of nodes isn't that of the schema's fields. */
+    /* the number of nodes isn't that of the schema's fields */
     LV_CAUSE_NODE_COUNT = 18,
-    /* The number of buffers isn't that of the schema's fields. */
+    /* the number of buffers isn't that of the schema's fields */
     LV_CAUSE_BUFFER_COUNT = 19,
-    /* A batch's or a node's length is out of range, or a node's length doesn't fit the one above it. */
+    /* a batch's or a node's length is out of range, or a node's length doesn't fit the one above it */
     LV_CAUSE_BAD_LENGTH = 20,
-    /* A buffer's offset or length is negative, or it ends past the body. */
+    /* a buffer's offset or length is negative, or it ends past the body */
     LV_CAUSE_BUFFER_RANGE = 21,
-    /* A buffer is shorter than its array needs. */
+    /* a buffer is shorter than its array needs */
     LV_CAUSE_BUFFER_SHORT = 22,
-    /* A null count isn't the number of nulls in the validity bits. */
+    /* a null count isn't the number of nulls in the validity bits */
     LV_CAUSE_NULL_COUNT = 23,
-    /* Offsets fall, are negative, or end past what they point into. */
+    /* offsets fall, are negative, or end past what they point into */
     LV_CAUSE_OFFSETS = 24,
-    /* A text isn't UTF-8. */
+    /* a text isn't UTF-8 */
     LV_CAUSE_NOT_UTF8 = 25,
-    /* A dictionary index is outside its dictionary. */
+    /* a dictionary index is outside its dictionary */
     LV_CAUSE_DICTIONARY_INDEX = 26,
-    /* A decimal has more digits than its precision. */
+    /* a decimal has more digits than its precision */
     LV_CAUSE_DECIMAL_RANGE = 27,
-    /* A feed's schema isn't the declared one. */
+    /* a feed's schema isn't the declared one */
     LV_CAUSE_SCHEMA_MISMATCH = 28,
-    /* Bytes come after the end mark, or after the feed was finished. */
+    /* bytes come after the end mark, or after the feed was finished */
     LV_CAUSE_AFTER_END = 29,
-    /* The input ends within a message. */
+    /* the input ends within a message */
     LV_CAUSE_TRUNCATED = 30,
-    /* A key is null. */
+    /* a key is null */
     LV_CAUSE_NULL_KEY = 41,
-    /* A key stands twice in a batch, or an appended key is live. */
+    /* a key stands twice in a batch, or an appended key is live */
     LV_CAUSE_DUPLICATE_KEY = 42,
-    /* A retract or a drop names a key that no live row has. */
+    /* a retract or a drop names a key that no live row has */
     LV_CAUSE_UNKNOWN_KEY = 43,
-    /* A table would have more rows than its limit. */
+    /* a table would have more rows than its limit */
     LV_CAUSE_TOO_MANY_ROWS = 44,
-    /* A cell or a row is above its weight limit. */
+    /* a cell or a row is above its weight limit */
     LV_CAUSE_CELL_TOO_HEAVY = 45,
-    /* There is no edit to undo. */
+    /* there is no edit to undo */
     LV_CAUSE_NOTHING_TO_UNDO = 51,
-    /* The feed was broken by an earlier fault. */
+    /* the feed was broken by an earlier fault */
     LV_CAUSE_FEED_BROKEN = 52,
-    /* There is no feed of that name. */
+    /* there is no feed of that name */
     LV_CAUSE_UNKNOWN_FEED = 53,
-    /* There is no view of that name. */
+    /* there is no view of that name */
     LV_CAUSE_UNKNOWN_VIEW = 54,
-    /* Memory ran out. */
+    /* memory ran out */
     LV_CAUSE_MEMORY = 55,
-    /* The sink failed. */
+    /* the sink failed */
     LV_CAUSE_DEVICE = 56,
-    /* The configuration isn't TOML. */
+    /* the configuration isn't TOML */
     LV_CAUSE_NOT_TOML = 61,
-    /* A column, a side table or an output of this name isn't declared. */
+    /* a column, a side table or an output of this name isn't declared, or a column isn't among those that rows are
+     * grouped by */
     LV_CAUSE_UNKNOWN_NAME = 62,
-    /* A name or a grouping column stands twice. */
+    /* a column, a child of a struct, an output, a coded output, or a column of an order or of the grouping stands
+     * twice */
     LV_CAUSE_DUPLICATE_COLUMN = 63,
-    /* What is written for a type is none. */
+    /* what is written for a type is none, or has a parameter out of its range */
     LV_CAUSE_TYPE_TEXT = 64,
-    /* A constant isn't of its column's type, or two columns that are compared have different types. */
+    /* a constant isn't of its column's type, or two columns that are compared have different types */
     LV_CAUSE_CONSTANT_TYPE = 65,
-    /* A sum of values that can't be added. */
+    /* a sum is of other values than integers or decimals of at most 28 digits */
     LV_CAUSE_SUM_TYPE = 66,
-    /* A list or a struct as a key, in a comparison, in a group, in an order, or under `least` or `greatest`. */
+    /* a list or a struct stands where values must have an order: as a key, in a comparison, a group or an order, or
+     * under `least` or `greatest` */
     LV_CAUSE_ORDER_TYPE = 67,
-    /* A limit of the configuration is passed. */
+    /* a count, a depth, a slot, the length of a name or how many rows a view has is out of its limits */
     LV_CAUSE_OVER_LIMIT = 68,
-    /* The configuration isn't of the right shape. */
+    /* an entry is missing or unknown, or a value isn't of the form that its place wants */
     LV_CAUSE_SHAPE = 69,
-    /* An output that isn't a text is to be written with a dictionary. */
+    /* an output that is to be written with a dictionary doesn't hold texts */
     LV_CAUSE_DICT_TYPE = 70
 /* end of causes */
 };
@@ -224,6 +227,11 @@ void lv_close(lv_handle *handle);
  * that of the whole: where it is above buffer_len, call again with a buffer of that length. After a refusal it is 0,
  * and the buffer is as it was. */
 lv_written lv_recast(const uint8_t *input, size_t input_len, uint8_t *buffer, size_t buffer_len);
+
+/* Finds where a configuration is refused, and copies its text to a buffer, as much of it as fits: the keys of the part,
+ * as "view.totals.order", or "line 3" where the configuration stops being TOML. The length is that of the whole; 0 where
+ * the configuration is accepted or isn't UTF-8, or memory ran out. */
+size_t lv_find_fault(const uint8_t *config, size_t config_len, uint8_t *buffer, size_t buffer_len);
 
 #ifdef __cplusplus
 }

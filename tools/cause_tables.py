@@ -1,7 +1,6 @@
 #!/usr/bin/env python3
-"""Writes the tables of causes of include/lv.h and of python/lv/causes.py. Their numbers, names and texts are those of
-crates/values/src: the enum `Cause` has the numbers, and the texts of faults of a stream stand beside `StreamFault`. With --check it
-writes nothing, and says which file isn't as it would be written."""
+"""Writes the tables of causes of include/lv.h, of python/lv/causes.py and of docs/CAUSES.md. Their numbers, names and texts are those of
+crates/values/src/causes.rt. With --check it writes nothing, and says which file isn't as it would be written."""
 import os
 import re
 import sys
@@ -9,12 +8,22 @@ import textwrap
 
 WIDTH = 118
 ROOT = os.path.dirname(os.path.dirname(os.path.abspath(__file__)))
-HEADER, PYTHON = "include/lv.h", "python/lv/causes.py"
-SOURCES = ("crates/values/src/causes.rt", "crates/values/src/faults.rt")
+HEADER, PYTHON, PAGE = "include/lv.h", "python/lv/causes.py", "docs/CAUSES.md"
+SOURCE = "crates/values/src/causes.rt"
 PYTHON_HEAD = '''"""The causes of a refusal by number: their names, and what they say. Written by tools/cause_tables.py."""
 
 CAUSES: dict[int, tuple[str, str]] = {
 '''
+PAGE_HEAD = """# The causes of a refusal
+
+Why a call or a command is refused. `lv` prints the number and the name, as `refused 41 NullKey`; `Display` of a `Cause`
+and the errors of the Python package give the text. 1 to 30 are faults of a stream, which break its feed
+([FORMAT.md](FORMAT.md) has their rules), 41 to 45 an edit that doesn't fit its table, 51 to 56 a call that can't be
+done, 61 to 70 a fault of a configuration ([VIEWS.md](VIEWS.md)). Written by `tools/cause_tables.py`.
+
+| Number | Name | Text |
+|---|---|---|
+"""
 
 
 def read(path):
@@ -22,22 +31,11 @@ def read(path):
         return file.read()
 
 
-def body_of(text, enum):
-    return re.search(rf"pub enum {enum} \{{\n(.*?)\n\}}", text, re.S)[1]
-
-
-def documented(body):
-    """The variants of an enum in order, each with its number, if it has one, and its text."""
-    for found in re.finditer(r"((?:^ *///.*\n)*)^ *(\w+)(?: = (\d+))?,$", body, re.M):
-        text = " ".join(it.strip()[len("///") :].strip() for it in found[1].splitlines())
-        yield found[2], found[3], text
-
-
 def causes():
     """The number, the name and the text of each cause."""
-    enum, faults = (read(path) for path in SOURCES)
-    of_streams = {name: text for name, _, text in documented(body_of(faults, "StreamFault"))}
-    return [(int(number), name, text or of_streams[name]) for name, number, text in documented(body_of(enum, "Cause"))]
+    body = re.search(r"pub enum Cause \{\n(.*?)\n\}", read(SOURCE), re.S)[1]
+    for text, name, number in re.findall(r'^ *#\[error\("(.*)"\)\]\n *(\w+) = (\d+),$', body, re.M):
+        yield int(number), name, text
 
 
 def constant(name):
@@ -59,9 +57,13 @@ def python(table):
     return PYTHON_HEAD + "".join(lines) + "}\n"
 
 
+def page(table):
+    return PAGE_HEAD + "".join(f"| {number} | {name} | {text} |\n" for number, name, text in table)
+
+
 def main():
-    table, stale = causes(), []
-    for path, text in ((HEADER, header(table)), (PYTHON, python(table))):
+    table, stale = list(causes()), []
+    for path, text in ((HEADER, header(table)), (PYTHON, python(table)), (PAGE, page(table))):
         if "--check" not in sys.argv:
             with open(f"{ROOT}/{path}", "w", encoding="utf-8") as file:
                 file.write(text)

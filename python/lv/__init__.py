@@ -12,7 +12,7 @@ names, or else the liblv that the system finds.
 """
 from lv.calls import Refused
 from lv.causes import CAUSES
-from lv.session import Event, Session, recast
+from lv.session import Event, Session, place_of_fault, recast
 
-__all__ = ["CAUSES", "Event", "Refused", "Session", "recast"]
+__all__ = ["CAUSES", "Event", "Refused", "Session", "place_of_fault", "recast"]
 __version__ = "0.1.0"

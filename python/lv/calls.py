@@ -1,4 +1,6 @@
 """The calls of liblv, as include/lv.h declares them."""
+from __future__ import annotations
+
 import ctypes
 import ctypes.util
 import os
@@ -37,17 +39,19 @@ CALLS = {
     "lv_visits": (ctypes.c_uint64, HANDLE),
     "lv_close": (None, HANDLE),
     "lv_recast": (Written, BYTES, SIZE, BUFFER, SIZE),
+    "lv_find_fault": (SIZE, BYTES, SIZE, BUFFER, SIZE),
 }
 
 
 class Refused(Exception):
     """A call was refused. `cause` is the number of the cause, `name` its name, and `used` says how many bytes of what was
-    pushed were consumed all the same."""
+    pushed were consumed all the same. Of a configuration `place` has the keys of the part that is refused, as
+    `view.totals.order`, or the line at which it stops being TOML."""
 
-    def __init__(self, cause: int, used: int = 0) -> None:
-        name, text = CAUSES.get(cause, ("NotOpen", "The session isn't open."))
-        super().__init__(f"refused {cause} {name}: {text}")
-        self.cause, self.name, self.used = cause, name, used
+    def __init__(self, cause: int, used: int = 0, place: str | None = None) -> None:
+        name, text = CAUSES.get(cause, ("NotOpen", "the session isn't open"))
+        super().__init__(f"refused {cause} {name}: {text}" + (f" ({place})" if place else ""))
+        self.cause, self.name, self.used, self.place = cause, name, used, place
 
 
 @cache

@@ -35,7 +35,8 @@ class Session:
     def __init__(self, config: str | bytes) -> None:
         self._library, self._handle, self._thread = library(), Handle(), threading.get_ident()
         text = config.encode() if isinstance(config, str) else bytes(config)
-        need(self._library.lv_open(self._handle, text, len(text)))
+        if cause := self._library.lv_open(self._handle, text, len(text)):
+            raise Refused(cause, place=place_of_fault(text))
 
     def __enter__(self) -> Session:
         return self
@@ -126,6 +127,13 @@ class Session:
                 events.append(Event(pushed.event))
             if used == len(data):
                 return events
+
+
+def place_of_fault(config: bytes) -> str | None:
+    """Where a configuration is refused, as far as that can be told."""
+    buffer = bytearray(PIECE)
+    told = library().lv_find_fault(config, len(config), address_of(buffer), len(buffer))
+    return buffer[:told].decode(errors="replace") or None
 
 
 def address_of(buffer: bytearray) -> int:

@@ -102,6 +102,31 @@ class Sessions(unittest.TestCase):
                     break
             self.assertEqual(session.live_rows, 0)
 
+    def test_place(self):
+        self.assertIsNone(lv.place_of_fault(CONFIG.encode()))
+        changes = (
+            ("[main]", "[main", "line 1"),
+            ("[main]", "[mian]", "mian"),
+            ('key = "id"', 'key = "code"', "main.key"),
+            ('["port", "utf8"]', '["port", "utf9"]', "main.columns"),
+            ('role = "append"', 'role = "add"', "feed.calls"),
+            ('"null" }', '"none" }', "view.countries.lookup"),
+            ('group = [["side", "country"]]', 'group = [["side", "land"]]', "view.countries.group"),
+            ('["calls", "count"]', '["calls", "counts"]', "view.countries.columns"),
+            ('["tonnes", "desc"]', '["tons", "desc"]', "view.countries.order"),
+            ('"10000.000"', '"10000.0000"', "view.heaviest.filter"),
+            ("first = 3", "first = -1", "view.heaviest.first"),
+            ("first = 3", 'dict = ["call"]', "view.heaviest.dict"),
+            ("first = 3", 'having = ["ge", "call", 1]', "view.heaviest.having"),
+            ("first = 3", '"a b" = 3', 'view.heaviest."a b"'),
+        )
+        for old, new, place in changes:
+            text = CONFIG.replace(old, new, 1)
+            self.assertNotEqual(text, CONFIG)
+            with self.assertRaises(lv.Refused) as raised:
+                lv.Session(text)
+            self.assertEqual(raised.exception.place, place)
+
     def test_closed(self):
         session = filled()
         session.close()

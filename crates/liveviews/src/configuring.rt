@@ -1,12 +1,14 @@
 //! `check`: reads a configuration.
 
 ghost use Rattle.liveviews.specs.Check.{RefusesConfig, MeansConfig};
-ghost use Rattle.std.specs.Prelude.{IfErr, IfOk};
+ghost use Rattle.std.specs.Prelude.{◌≡◌, IfErr, IfOk};
 ghost use Rattle.view_lang.specs.ConfigRules.{IsConfig};
 
+use crate::files::Files;
 use std::alloc::Global;
+use std::fmt;
 use values::Cause;
-use view_config::read_config;
+use view_config::{Place, find_fault, read_config};
 use view_lang::Config;
 
 /// Reads a configuration from the bytes of a file. The error is the cause of a fault of the text, `NotToml` also for
@@ -20,4 +22,40 @@ pub(crate) fn parse_config(alloc: Global, bytes: &[u8]) -> Result<Config, Cause>
         return Err(Cause::NotToml);
     };
     Ok(read_config(alloc, text)?)
+}
+
+/// Why the configuration in the file at `path` is refused, and where in it.
+#[derive(Debug, Drop)]
+struct Explained<'a> {
+    path: &'a str,
+    place: Option<Place>,
+    cause: Cause,
+}
+
+impl fmt::Display for Explained<'_> {
+    fn fmt<W: fmt::Write>(&self, f: &mut fmt::Formatter<W>) -> fmt::Result {
+        write!(f, "{}: ", self.path)?;
+        if let Some(place) = &self.place {
+            write!(f, "{place}: ")?;
+        }
+        write!(f, "{}", self.cause)
+    }
+}
+
+/// Tells where the configuration in the file at `path` is refused, whose bytes these are, and what the cause says.
+pub(crate) fn explain<F: Files>(
+    alloc: Global,
+    path: &str,
+    bytes: &[u8],
+    cause: Cause,
+    files: &mut F,
+)
+    ensures sunk { F.sunk files.new ≡ F.sunk files.old }
+    ensures content { F.content files.new ≡ F.content files.old }
+{
+    let place = match str::from_utf8(bytes) {
+        Ok(text) => find_fault(alloc, text).unwrap_or(None),
+        Err(_) => None,
+    };
+    files.remark(Explained { path, place, cause });
 }

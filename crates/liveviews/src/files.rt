@@ -3,6 +3,7 @@
 ghost use Rattle.std.specs.Prelude.{IfOk, OnOk, None};
 
 use std::alloc::AllocError;
+use std::fmt::Display;
 use std::io::{Error, ErrorKind, Read};
 use stream_writer::Sink;
 
@@ -12,10 +13,8 @@ pub(crate) const STANDARD: &str = "-";
 /// Why a file could not be used.
 #[derive(Clone, Copy, Debug, PartialEq, Eq, thiserror::Error)]
 pub enum FileFault {
-    /// The file can't be opened, read or made.
-    #[error("the file can't be used")]
+    #[error("the file can't be opened, read or made")]
     Unusable,
-    /// Memory ran out.
     #[error("memory ran out")]
     Memory,
 }
@@ -90,6 +89,11 @@ pub trait Files: Sink {
     /// Has what `lv` prints go aside from now on, to standard error, or again where it went at first: aside where
     /// standard output takes the bytes of a file.
     fn print_aside(&mut self, is_aside: bool)
+        ensures sunk { Self.sunk self.new ≡ Self.sunk self.old }
+        ensures content { content self.new ≡ content self.old };
+
+    /// Tells a person more than the answer that `lv` prints: on standard error, or nowhere.
+    fn remark<D: Display + Drop>(&mut self, remark: D)
         ensures sunk { Self.sunk self.new ≡ Self.sunk self.old }
         ensures content { content self.new ≡ content self.old };
 

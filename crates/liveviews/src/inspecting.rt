@@ -170,7 +170,8 @@ fn write_refusal(text: &mut String, fault: StreamFault) -> Result<(), AllocError
 {
     let cause = Cause::from(fault);
     let number = cause.number();
-    writeln!(text, "refused {number} {cause}")
+    let name = cause.name();
+    writeln!(text, "refused {number} {name}")
 }
 
 /// What was told of a stream, by the lines that were written of it and how taking it ended. The error is want of

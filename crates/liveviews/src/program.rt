@@ -1,6 +1,6 @@
 //! The program `lv`, over arguments, files and an output that its caller gives.
 
-ghost use Rattle.std.specs.Prelude.{◌≡◌, ◌≤◌, ◌⊎◌, IfErr, IfOk, IfSome, string_bytes, true};
+ghost use Rattle.std.specs.Prelude.{◌≡◌, ◌≤◌, ◌⊎◌, IfErr, IfOk, IfSome, length, string_bytes, true};
 ghost use Rattle.clap.specs.Words.{found_of};
 ghost use Rattle.liveviews.specs.Check.{ChecksFile};
 ghost use Rattle.liveviews.specs.Files.{InspectsFile, IsContent};
@@ -27,8 +27,9 @@ ghost use Rattle.liveviews.specs.Program.{
   status_of,
 };
 ghost use Rattle.liveviews.specs.declared.program.Refusal.TheVariants.{CannotRead, CannotWrite};
+ghost use Rattle.view_lang.specs.ConfigRules.{IsConfig};
 
-use crate::configuring::parse_config;
+use crate::configuring::{explain, parse_config};
 use crate::files::{FileFault, Files, STANDARD};
 use crate::inspecting::{Inspected, inspect_from};
 use crate::live::run_live;
@@ -42,6 +43,7 @@ use std::fmt;
 use std::io::Write;
 use thiserror::Error;
 use values::Cause;
+use view_lang::Config;
 
 /// A command over one stream or one configuration.
 #[derive(Debug, Drop)]
@@ -104,7 +106,7 @@ enum Refusal<'a> {
     CannotRead(&'a str),
     #[error("cannot write {0}")]
     CannotWrite(&'a str),
-    #[error("refused {number} {name}", number = .0.number(), name = .0)]
+    #[error("refused {number} {name}", number = .0.number(), name = .0.name())]
     Refused(Cause),
 }
 
@@ -348,6 +350,27 @@ fn stopped<'a, F: Files>(files: &F, fault: RecastFault, to: &'a str) -> Refusal<
     }
 }
 
+/// Reads the configuration at `path`. Where it is refused, the files are told where and why.
+fn read_config_file<'a, F: Files>(
+    alloc: Global,
+    path: &'a str,
+    files: &mut F,
+) -> Result<Config, Refusal<'a>>
+    ensures sunk { F.sunk files.new ≡ F.sunk files.old }
+    ensures means { IfOk result (λ c. ChecksFile (F.content files.old path.now) (length c.feeds) (length c.views)) }
+    ensures rules { IfOk result IsConfig }
+    ensures refused { IfErr result (IsNoConfig (F.content files.old path.now)) }
+{
+    let bytes = read_file(path, files)?;
+    match parse_config(alloc, &bytes) {
+        Ok(config) => Ok(config),
+        Err(cause) => {
+            explain(alloc, path, &bytes, cause, files);
+            Err(Refusal::Refused(cause))
+        }
+    }
+}
+
 /// Counts the feeds and the views of the configuration at `path`.
 fn check_file<'a, F: Files>(
     alloc: Global,
@@ -358,11 +381,8 @@ fn check_file<'a, F: Files>(
     ensures counts { IfOk result (λ counts. ChecksFile (F.content files.old path.now) counts.0 counts.1) }
     ensures refused { IfErr result (IsNoConfig (F.content files.old path.now)) }
 {
-    let bytes = read_file(path, files)?;
-    match parse_config(alloc, &bytes) {
-        Ok(config) => Ok((config.feeds.len(), config.views.len())),
-        Err(cause) => Err(Refusal::Refused(cause)),
-    }
+    let config = read_config_file(alloc, path, files)?;
+    Ok((config.feeds.len(), config.views.len()))
 }
 
 /// Runs a command over one file.
@@ -395,11 +415,7 @@ fn open_session<'a, F: Files>(
     ensures sunk { F.sunk files.new ≡ F.sunk files.old }
     ensures refused { IfErr result IsRefused }
 {
-    let bytes = read_file(config, files)?;
-    let config = match parse_config(alloc, &bytes) {
-        Ok(config) => config,
-        Err(cause) => return Err(Refusal::Refused(cause)),
-    };
+    let config = read_config_file(alloc, config, files)?;
     Ok(Session::open(alloc, config)?)
 }
 

@@ -20,7 +20,7 @@ use values::Cause;
 
 /// Why a stream was not recast. The sink took the first `written` bytes of the canonical stream.
 #[derive(Clone, Copy, Debug, PartialEq, Eq, Error)]
-#[error("refused {number} {name}", number = .cause.number(), name = .cause)]
+#[error("{cause}")]
 pub struct RecastFault {
     pub cause: Cause,
     pub written: u64,
@@ -60,8 +60,8 @@ impl From<WriteFault> for RecastFault {
 /// Why the stream that a source holds was not recast.
 #[derive(Clone, Copy, Debug, PartialEq, Eq, Error)]
 pub enum SourceFault {
-    /// The source can't be read. Nothing was put.
-    #[error("cannot read")]
+    /// Nothing was put.
+    #[error("the source can't be read")]
     Unreadable,
     /// The stream was refused, or could not be written.
     #[error(transparent)]

@@ -51,7 +51,8 @@ impl fmt::Display for Answer<'_> {
             Answer::Wrote(count) => write!(f, "wrote {count}"),
             Answer::Refused(cause) => {
                 let number = cause.number();
-                write!(f, "refused {number} {cause}")
+                let name = cause.name();
+                write!(f, "refused {number} {name}")
             }
             Answer::CannotRead(path) => write!(f, "cannot read {path}"),
             Answer::CannotWrite(path) => write!(f, "cannot write {path}"),

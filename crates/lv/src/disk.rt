@@ -5,7 +5,8 @@ ghost use Rattle.std.specs.Io.KnownBytes.{WriteAppends};
 
 use crate::standard::{Aside, STANDARD};
 use liveviews::{FileFault, Files};
-use std::io::{Error, Input, Print, Read, Write};
+use std::fmt::Display;
+use std::io::{Eprint, Error, Input, Print, Read, Write};
 use std::{fs, io};
 use stream_writer::{DeviceFault, Sink};
 
@@ -100,7 +101,7 @@ impl<R: std::rt::Files + Print + AllocGlobal> Sink for Disk<'_, R> {
     }
 }
 
-impl<R: std::rt::Files + Input + Print + AllocGlobal> Files for Disk<'_, R> {
+impl<R: std::rt::Files + Input + Print + Eprint + AllocGlobal> Files for Disk<'_, R> {
     ghost use Rattle.std.specs.Prelude.{None};
 
     ghost content = { λ _ _. None };
@@ -147,6 +148,11 @@ impl<R: std::rt::Files + Input + Print + AllocGlobal> Files for Disk<'_, R> {
 
     fn print_aside(&mut self, is_aside: bool) {
         self.aside.set(is_aside);
+    }
+
+    fn remark<D: Display + Drop>(&mut self, remark: D) {
+        // Whether it can be printed changes nothing: the answer goes to standard output.
+        let _ = self.runtime.eprintln(remark);
     }
 
     fn fault(&self) -> Option<FileFault> {

@@ -1,11 +1,12 @@
 -- Calls of a handle: what each answers, and what stands behind the handle then. Where nothing stands behind it, a call
 -- says so, and nothing changes.
-use Rattle.std.specs.Prelude.{◌≡◌, ◌⊎◌, ◌^◌, ◌-◌, ℕ, List, [], Option, None, Some, Result, OnOk, count_by, length, min}
+use Rattle.std.specs.Prelude.{◌≡◌, ◌⊎◌, ◌^◌, ◌-◌, ℕ, List, [], Option, None, Some, Result, IsErr, OnOk, count_by, length, min}
 use Rattle.values.specs.Causes.{number_of}
 use Rattle.values.specs.declared.causes.Cause.{Cause}
 use Rattle.values.specs.declared.causes.Cause.TheVariants as cause
 use Rattle.schema_meta.specs.Story.{story_of}
 use Rattle.stream_writer.specs.Sinks.{sunk_of}
+use Rattle.view_config.specs.Config.{text_means}
 use Rattle.view_lang.specs.Config.{tables_of}
 use Rattle.view_lang.specs.World.{contents_at, world}
 use Rattle.upkeep.specs.LiveParts.{store_at}
@@ -94,3 +95,15 @@ pub record RecastCall (input old : List ℕ) (result : LvWritten) (new : List �
   pub accepted : OnOk answer (AreTakenSo (story_of input).schema (story_of input).rows)
   pub told : result ≡ recast_told answer
   pub buffer : CopiesIf answer kept old new
+
+-- Of a configuration that is accepted no place is told, and the buffer is as it was. Otherwise the buffer has the text of
+-- some place, as much of it as fits, and the answer is the length of that text, or nothing is told for want of memory.
+pub record TellsPlace (old : List ℕ) (result : ℕ) (new : List ℕ) : Type 0 where
+  pub text : List ℕ
+  pub len : result ≡ length text
+  pub copied : ℕ
+  pub buffer : CopiesTo text 0 old copied new
+
+abbrev pub FindFaultCall : List ℕ → List ℕ → ℕ → List ℕ → Type 0
+FindFaultCall bytes old result new =
+    ((result ≡ 0) × (new ≡ old)) ⊎ (IsErr (text_means bytes) × TellsPlace old result new)

@@ -7,6 +7,7 @@ use crate::calls::{
     lv_close, lv_copy, lv_finish, lv_live_rows, lv_open, lv_push, lv_stale, lv_undo, lv_visits,
     lv_write,
 };
+use crate::explaining::lv_find_fault;
 use crate::handle::{Handle, empty};
 use crate::recasting::lv_recast;
 use std::test::Fail;
@@ -69,4 +70,17 @@ fn recast_of_no_stream(rt: HostRuntime) -> Result<(), Fail> {
     assert_eq!(rt; lv_recast(rt.alloc(), b"", &mut buffer), refused);
     assert_eq!(rt; buffer, [7, 7]);
     Ok(())
+}
+
+#[test]
+fn finds_a_fault(rt: HostRuntime) {
+    let mut place = [0; 8];
+    assert_eq!(rt; lv_find_fault(rt.alloc(), CONFIG.as_bytes(), &mut place), 0);
+    assert_eq!(rt; lv_find_fault(rt.alloc(), b"main = 3", &mut place), 4);
+    assert_eq!(rt; place, *b"main\0\0\0\0");
+    assert_eq!(rt;
+        lv_find_fault(rt.alloc(), b"a = 1\nb =\n", &mut place[..4]),
+        6
+    );
+    assert_eq!(rt; place, *b"line\0\0\0\0");
 }

@@ -1,11 +1,13 @@
 //! Why an edit is refused.
 
 use std::alloc::{AllocError, AllocFailed};
+use thiserror::Error;
 use values::Cause;
 use view_lang::Unfit;
 
 /// Why a store refuses an edit. The store is then as it was.
-#[derive(Clone, Copy, Debug, PartialEq, Eq)]
+#[derive(Clone, Copy, Debug, PartialEq, Eq, Error)]
+#[error("{cause}", cause = Cause::from(*self))]
 pub enum EditFault {
     /// The edit doesn't fit; of several causes this is the one with the lowest number.
     Unfit(Unfit),

@@ -3,6 +3,7 @@
 use crate::sample::SAMPLE;
 use liveviews::{FileFault, Files, lv};
 use std::alloc::Global;
+use std::fmt::Display;
 use std::io;
 use std::io::Read;
 use std::process::Abort;
@@ -104,6 +105,8 @@ impl<'a> Files for Desk<'a> {
     fn print_aside(&mut self, is_aside: bool) {
         self.is_aside = is_aside;
     }
+
+    fn remark<D: Display + Drop>(&mut self, _remark: D) {}
 
     fn fault(&self) -> Option<FileFault> {
         None

@@ -5,6 +5,7 @@ ghost use Rattle.std.specs.Prelude.{◌≡◌};
 use crate::sample::SAMPLE;
 use liveviews::{FileFault, Files, RecastFault, SourceFault, lv};
 use std::alloc::Global;
+use std::fmt::Display;
 use std::io;
 use std::io::{ErrorKind, Read};
 use std::process::Abort;
@@ -149,6 +150,8 @@ impl<'a> Files for Shelf<'a> {
     }
 
     fn print_aside(&mut self, _is_aside: bool) {}
+
+    fn remark<D: Display + Drop>(&mut self, _remark: D) {}
 
     fn fault(&self) -> Option<FileFault> {
         self.fault

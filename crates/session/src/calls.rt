@@ -5,6 +5,7 @@ ghost use Rattle.session.specs.Refusals.{refused};
 
 use std::alloc::AllocError;
 use stream_writer::WriteFault;
+use thiserror::Error;
 use values::{Cause, StreamFault};
 
 /// The kind of a message that a push completed.
@@ -31,18 +32,20 @@ pub struct Pushed {
 
 /// Why a call was refused. `used` bytes of the piece were consumed all the same: those up to the end of a batch whose
 /// edit doesn't fit, and none otherwise.
-#[derive(Clone, Copy, Debug, PartialEq, Eq)]
+#[derive(Clone, Copy, Debug, PartialEq, Eq, Error)]
+#[error("{cause}")]
 pub struct Fault {
     pub cause: Cause,
     pub used: usize,
 }
 
 /// Why a view was not written whole.
-#[derive(Clone, Copy, Debug, PartialEq, Eq)]
+#[derive(Clone, Copy, Debug, PartialEq, Eq, Error)]
 pub enum ViewFault {
-    /// There is no view of that name.
+    #[error("there is no view of that name")]
     UnknownView,
     /// Memory or the sink failed.
+    #[error(transparent)]
     Write(WriteFault),
 }
 

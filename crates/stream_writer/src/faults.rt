@@ -4,13 +4,14 @@ ghost use Rattle.std.specs.Prelude.{◌≡◌, ◌+◌, ◌^◌, ◌<◌, Err};
 ghost use Rattle.stream_writer.specs.Sinks.{written_of, fault_after};
 
 use std::alloc::AllocError;
+use thiserror::Error;
 
 /// Why a stream was not written whole. `written` is how many bytes of its beginning the sink took.
-#[derive(Clone, Copy, Debug, PartialEq, Eq)]
+#[derive(Clone, Copy, Debug, PartialEq, Eq, Error)]
 pub enum WriteFault {
-    /// Memory was refused.
+    #[error("memory ran out after {written} bytes were written")]
     Memory { written: u64 },
-    /// The sink failed.
+    #[error("the sink failed after {written} bytes were written")]
     Device { written: u64 },
 }
 

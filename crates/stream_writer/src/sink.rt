@@ -3,9 +3,11 @@
 ghost use Rattle.std.specs.Prelude.{◌+◌, ◌^◌, ◌<◌, IfErr};
 
 use crate::faults::WriteFault;
+use thiserror::Error;
 
 /// The failure of a sink to take bytes.
-#[derive(Clone, Copy, Debug, PartialEq, Eq)]
+#[derive(Clone, Copy, Debug, PartialEq, Eq, Error)]
+#[error("the sink failed")]
 pub struct DeviceFault;
 
 /// Takes bytes, as a file or a socket does.

@@ -2,72 +2,42 @@
 
 use crate::causes::Cause;
 use std::alloc::{AllocError, AllocFailed};
+use thiserror::Error;
 
-/// Why a stream is refused: a fault of its bytes, or want of memory.
-#[derive(Clone, Copy, Debug, PartialEq, Eq)]
+/// Why a stream is refused: a fault of its bytes, or want of memory. The cause of the same name says what each is.
+#[derive(Clone, Copy, Debug, PartialEq, Eq, Error)]
+#[error("{cause}", cause = Cause::from(*self))]
 pub enum StreamFault {
-    /// The first four bytes of a message aren't FF FF FF FF.
     NoContinuation,
-    /// The metadata size is negative or above 2^24.
     BadSize,
-    /// A place that must be read lies outside the metadata, a vtable's own size is under 4, or a table that must be
-    /// there is absent.
     BadTable,
-    /// A field's name isn't UTF-8 or is longer than 4,096 bytes.
     BadName,
-    /// The metadata version is neither V4 nor V5.
     Version,
-    /// The header is neither a Schema nor a DictionaryBatch nor a RecordBatch.
     HeaderKind,
-    /// The body's length is negative or above 2^28.
     BodySize,
-    /// An end mark or a batch comes before a Schema, or the input ends without one.
     NoSchema,
-    /// A Schema comes after a Schema.
     SecondSchema,
-    /// The schema's endianness isn't little.
     BigEndian,
-    /// A type outside this profile.
     UnsupportedType,
-    /// A type's table is absent, or a parameter, the children or the slot of a type are out of range.
     BadType,
-    /// More than 1,024 fields at all levels, or a field deeper than 16.
     TooManyFields,
-    /// A RecordBatch is compressed.
     Compressed,
-    /// Two fields use one dictionary with different types of values.
     DictionaryClash,
-    /// A DictionaryBatch's dictionary is in no field of the schema.
     UnknownDictionary,
-    /// A dictionary would have more than 2^20 values.
     DictionaryTooLarge,
-    /// The number of nodes isn't that of the schema's fields.
     NodeCount,
-    /// The number of buffers isn't that of the schema's fields.
     BufferCount,
-    /// A batch's or a node's length is out of range, or a node's length doesn't fit the one above it.
     BadLength,
-    /// A buffer's offset or length is negative, or it ends past the body.
     BufferRange,
-    /// A buffer is shorter than its array needs.
     BufferShort,
-    /// A null count isn't the number of nulls in the validity bits.
     NullCount,
-    /// Offsets fall, are negative, or end past what they point into.
     Offsets,
-    /// A text isn't UTF-8.
     NotUtf8,
-    /// A dictionary index is outside its dictionary.
     DictionaryIndex,
-    /// A decimal has more digits than its precision.
     DecimalRange,
-    /// A feed's schema isn't the declared one.
     SchemaMismatch,
-    /// Bytes come after the end mark, or after the feed was finished.
     AfterEnd,
-    /// The input ends within a message.
     Truncated,
-    /// Memory ran out.
     Memory,
 }
 

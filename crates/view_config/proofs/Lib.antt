@@ -15,6 +15,7 @@ pub mod OutputFields
 pub mod OutputNames
 pub mod Digits
 pub mod Pairs
+pub mod Refused
 pub mod SoundTypes
 pub mod SoundFields
 pub mod Found

@@ -12,6 +12,7 @@ pub mod Scope
 pub mod Constants
 pub mod Filters
 pub mod Outputs
+pub mod Places
 pub mod Lookups
 pub mod Dict
 pub mod Views

@@ -18,6 +18,9 @@ use std::alloc::Global;
 use toml::Table as Entries;
 use view_lang::Config;
 
+/// The entries of a document.
+pub(crate) const SECTIONS: &[&str] = &["main", "side", "feed", "view"];
+
 /// Reads a configuration from TOML.
 ///
 /// The error is a fault that stands in the text, any one where there are several, or `Memory`. A text without a fault
@@ -47,7 +50,7 @@ fn read_tree(alloc: Global, text: &str) -> Result<Entries, ConfigFault>
 fn read_entries(alloc: Global, entries: &Entries) -> Result<Config, ConfigFault>
     ensures { Answers (λ c. c) result (config_of (table_view entries.now)) }
 {
-    check_names(entries, &["main", "side", "feed", "view"])?;
+    check_names(entries, SECTIONS)?;
     let main = read_main(alloc, entries)?;
     let sides = read_sides(alloc, entries)?;
     let feeds = read_feeds(alloc, &sides, entries)?;

@@ -59,7 +59,7 @@ fn read_role(sides: &[SideTable], entries: &Entries) -> Result<Role, ConfigFault
 }
 
 #[tactic(auto, using(crate::proofs::Causes::failing), unfolding(crate::specs::Feeds::feed_of))]
-fn read_feed(
+pub(crate) fn read_feed(
     alloc: Global,
     sides: &[SideTable],
     name: &str,

@@ -17,7 +17,7 @@ use values::limits::{MAX_SIDE_ROWS, MAX_SIDE_TABLES};
 use view_lang::SideTable;
 
 #[tactic(auto, using(crate::proofs::Causes::failing), unfolding(crate::specs::Sides::side_of))]
-fn read_side(alloc: Global, name: &str, value: &Value) -> Result<SideTable, ConfigFault>
+pub(crate) fn read_side(alloc: Global, name: &str, value: &Value) -> Result<SideTable, ConfigFault>
     ensures { Answers (λ s. s) result (side_of name.now (view value.now)) }
 {
     let name = check_entry_name(name)?;

@@ -18,6 +18,9 @@ use values::LogicalField;
 use values::limits::{MAX_COLUMNS, MAX_DEPTH, MAX_MAIN_ROWS};
 use view_lang::Table;
 
+/// The entries of a table.
+pub(crate) const TABLE_ENTRIES: &[&str] = &["key", "columns"];
+
 #[tactic(auto, using(crate::proofs::Causes::failing), unfolding(crate::specs::Tables::column_of))]
 fn read_column(alloc: Global, value: &Value) -> Result<LogicalField, ConfigFault>
     ensures { Answers (λ n. n) result (column_of (view value.now)) }
@@ -52,7 +55,7 @@ pub(crate) fn check_few(values: &[Value]) -> Result<(), ConfigFault>
 }
 
 #[tactic(auto, using(crate::proofs::Causes::failing), unfolding(crate::specs::Tables::columns_of))]
-fn read_columns(alloc: Global, value: &Value) -> Result<Vec<LogicalField>, ConfigFault>
+pub(crate) fn read_columns(alloc: Global, value: &Value) -> Result<Vec<LogicalField>, ConfigFault>
     ensures { Answers (λ ns. ns.items) result (columns_of (view value.now)) }
 {
     let values = items_in(value)?;
@@ -84,7 +87,7 @@ pub(crate) fn read_table(
 ) -> Result<Table, ConfigFault>
     ensures { Answers (λ t. t) result (table_of max_rows (table_view entries.now)) }
 {
-    check_names(entries, &["key", "columns"])?;
+    check_names(entries, TABLE_ENTRIES)?;
     let name = text_in(entry(entries, "key")?)?;
     let columns = read_columns(alloc, entry(entries, "columns")?)?;
     let (key, _) = ordered_column(&columns, name)?;

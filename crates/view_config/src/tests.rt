@@ -1,6 +1,6 @@
 //! A configuration that is accepted, and texts that are refused.
 
-use crate::{ConfigFault, read_config};
+use crate::{ConfigFault, find_fault, read_config};
 use std::alloc::{AllocError, Global};
 use std::test::Fail;
 use view_lang::{Missing, Outputs, Role};
@@ -159,5 +159,27 @@ fn refuses_many_tests(rt: HostRuntime) -> Result<(), Fail> {
         fault_of_view(rt.alloc(), text.as_str())?,
         Some(ConfigFault::OverLimit)
     );
+    Ok(())
+}
+
+/// Where this text is refused, as it is printed, or nothing.
+fn told(alloc: Global, text: &str) -> Result<String, Fail> {
+    match find_fault(alloc, text)? {
+        Some(place) => Ok(format!(in alloc; "{place}")?),
+        None => Ok(String::new(alloc)),
+    }
+}
+
+#[test]
+fn finds_a_fault(rt: HostRuntime) -> Result<(), Fail> {
+    let alloc = rt.alloc();
+    assert_eq!(rt; told(alloc, ZONES)?.as_str(), "");
+    assert_eq!(rt; told(alloc, "a = 1\nb =\n")?.as_str(), "line 2");
+    let unknown = ZONES.replace(alloc, "first = 2", "firts = 2")?;
+    assert_eq!(rt; told(alloc, unknown.as_str())?.as_str(), "view.top.firts");
+    let order = ZONES.replace(alloc, "\"asc\"", "\"up\"")?;
+    assert_eq!(rt; told(alloc, order.as_str())?.as_str(), "view.top.order");
+    let side = ZONES.replace(alloc, "key = \"grp\"", "key = \"zne\"")?;
+    assert_eq!(rt; told(alloc, side.as_str())?.as_str(), "side.zones.key");
     Ok(())
 }

@@ -1,6 +1,6 @@
 //! Helpers for the values of a TOML document. A value of another kind than is asked for is `Shape`.
 
-ghost use Rattle.std.specs.Prelude.{◌≡◌, map, option_map};
+ghost use Rattle.std.specs.Prelude.{◌≡◌, ◌↔◌, IsNone, IsTrue, map, option_map};
 ghost use Rattle.values.specs.Reading.{Yields};
 ghost use Rattle.toml.specs.Data.{get_member};
 ghost use Rattle.toml.specs.View.{items_view, table_view, view};
@@ -96,16 +96,16 @@ pub(crate) fn pair_in(value: &Value) -> Option<(&Value, &Value)>
     }
 }
 
-/// Whether all entries have one of these names.
-pub(crate) fn has_only(entries: &Entries, names: &[&str]) -> bool
-    ensures { result ≡ has_only (map (λ n. n.now) names.now) (table_view entries.now) }
+/// The first entry that has none of these names.
+pub(crate) fn unknown<'a>(entries: &'a Entries, names: &[&str]) -> Option<&'a str>
+    ensures { IsNone result ↔ IsTrue (has_only (map (λ n. n.now) names.now) (table_view entries.now)) }
 {
     for (name, _) in entries {
         if !is_one_of(names, name.as_str()) {
-            return false;
+            return Some(name.as_str());
         }
     }
-    true
+    None
 }
 
 #[tactic(auto, using(crate::proofs::Names::naming))]
@@ -124,9 +124,8 @@ pub(crate) fn is_one_of(names: &[&str], name: &str) -> bool
 pub(crate) fn check_names(entries: &Entries, names: &[&str]) -> Result<(), ConfigFault>
     ensures { Yields (λ u. u) result (only (map (λ n. n.now) names.now) (table_view entries.now)) }
 {
-    if has_only(entries, names) {
-        Ok(())
-    } else {
-        Err(ConfigFault::Shape)
+    match unknown(entries, names) {
+        Some(_) => Err(ConfigFault::Shape),
+        None => Ok(()),
     }
 }

@@ -26,8 +26,13 @@ use toml::{Table as Entries, Value};
 use values::limits::MAX_VIEWS;
 use view_lang::{Filter, Lookup, SideTable, Table, View};
 
+/// The entries of a view.
+pub(crate) const VIEW_ENTRIES: &[&str] = &[
+    "lookup", "filter", "group", "columns", "having", "order", "first", "dict",
+];
+
 #[tactic(auto, using(crate::proofs::Causes::causes))]
-fn read_lookup_at<'a>(
+pub(crate) fn read_lookup_at<'a>(
     main: &Table,
     sides: &'a [SideTable],
     value: Option<&Value>,
@@ -41,7 +46,7 @@ fn read_lookup_at<'a>(
 }
 
 #[tactic(auto, using(crate::proofs::Causes::failing))]
-fn read_filter_at(
+pub(crate) fn read_filter_at(
     alloc: Global,
     scope: &Scope,
     value: Option<&Value>,
@@ -55,7 +60,7 @@ fn read_filter_at(
 }
 
 #[tactic(auto, using(crate::proofs::Causes::failing))]
-fn read_group_at(
+pub(crate) fn read_group_at(
     alloc: Global,
     scope: &Scope,
     value: Option<&Value>,
@@ -98,7 +103,7 @@ fn read_view_in(
 }
 
 #[tactic(auto, using(crate::proofs::Causes::failing), unfolding(crate::specs::Views::view_of))]
-fn read_view(
+pub(crate) fn read_view(
     alloc: Global,
     main: &Table,
     sides: &[SideTable],
@@ -108,12 +113,7 @@ fn read_view(
     ensures { Answers (λ v. v) result (view_of main.now sides.now name.now (view value.now)) }
 {
     let entries = members_in(value)?;
-    check_names(
-        entries,
-        &[
-            "lookup", "filter", "group", "columns", "having", "order", "first", "dict",
-        ],
-    )?;
+    check_names(entries, VIEW_ENTRIES)?;
     let name = check_entry_name(name)?;
     match read_lookup_at(main, sides, entry_at(entries, "lookup"))? {
         Some((lookup, side)) => {

@@ -1,10 +1,12 @@
 //! Why an edit is refused.
 
+use thiserror::Error;
 use values::Cause;
 
 /// Why an edit doesn't fit its table, in the order of the causes' numbers, 41 to 45. Where several stand, the first is
 /// reported.
-#[derive(Clone, Copy, Debug, PartialEq, Eq)]
+#[derive(Clone, Copy, Debug, PartialEq, Eq, Error)]
+#[error("{cause}", cause = Cause::from(*self))]
 pub enum Unfit {
     /// A key is null.
     NullKey,

@@ -1,7 +1,7 @@
 use Rattle.std.proofs.Common.{◌≡◌, map}
 use Rattle.toml.specs.View.{members_view, table_view}
 use Rattle.view_config.specs.Tree.{has_only}
-use Rattle.view_config.proofs.tree.has_only.Given as goal
+use Rattle.view_config.proofs.tree.unknown.Given as goal
 
 -- what is left decides the whole
 abbrev pub invariant-loop-name : goal.invariant-loop-name
