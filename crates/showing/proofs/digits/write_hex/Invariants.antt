@@ -1,0 +1,9 @@
+use Rattle.std.proofs.Common.{take}
+use Rattle.std.specs.Prelude.{flat_map}
+use Rattle.std.specs.Io.KnownBytes.{Appends}
+use Rattle.showing.specs.Digits.{hex_byte}
+use Rattle.showing.proofs.digits.write_hex.Given as goal
+
+abbrev pub invariant-loop-byte : goal.invariant-loop-byte
+invariant-loop-byte g l =
+    Appends (g.W.Write.contents l.initial.out) (g.W.Write.contents l.out) (flat_map hex_byte (take l.byte-index l.bytes))

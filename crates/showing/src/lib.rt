@@ -1,0 +1,19 @@
+//! Shows rows as text: as CSV, or as a table for a terminal.
+//!
+//! A cell is read where it lies in its column and is written piece by piece, so no cell and no claim of a length takes
+//! memory. `specs/` says what the text of a number, of a date and of a field is.
+#![tactic(auto)]
+
+mod cell;
+mod csv;
+mod date;
+mod digits;
+mod json;
+mod number;
+mod short;
+mod table;
+mod text;
+mod visible;
+
+pub use csv::{write_csv_names, write_csv_row};
+pub use table::{Table, write_count};
