@@ -12,8 +12,7 @@ import time
 
 sys.dont_write_bytecode = True
 from claims import (
-    END_MARK, FIXED, INT, LIST, STRUCT, batch, dictionary_batch, empty_bytes, empty_struct, field, fixed_bytes, integer,
-    list_of, offsets, schema,
+    END_MARK, FIXED, LIST, STRUCT, batch, dictionary_batch, empty_bytes, empty_struct, field, fixed_bytes, list_of, nested, offsets, schema,
 )
 
 LV = "crates/lv/out/lv"
@@ -104,20 +103,12 @@ def dictionary_claims():
     yield "1,000 deltas of one byte", coded([fixed_bytes("d", 1, 0)], singles, 1000), END, WRITTEN
 
 
-def nested(depth, children):
-    """One column of so many levels, of structs of so many children, which are one table, and an integer at the bottom."""
-    made = field("i", INT, integer(64))
-    for _ in range(depth - 1):
-        made = field("s", STRUCT, children=[made] * children)
-    return [schema([made]), END_MARK]
-
-
 def nested_claims():
     """Fields at the limits of their depth and their number, to which few bytes may come: two children that are one table are two fields."""
-    yield "a column of 16 levels", nested(16, 1), END, WRITTEN
-    yield "a column of 17 levels", nested(17, 1), FIELDS, FIELDS
-    yield "1,023 fields in 10 tables", nested(10, 2), END, WRITTEN
-    yield "2,047 fields in 11 tables", nested(11, 2), FIELDS, FIELDS
+    yield "r11_rows, a column of 16 levels", nested(16, 1), END, WRITTEN
+    yield "r11_rows, a column of 17 levels", nested(17, 1), FIELDS, FIELDS
+    yield "r11_rows, 1,023 fields in 10 tables", nested(10, 2), END, WRITTEN
+    yield "r11_rows, 2,047 fields in 11 tables", nested(11, 2), FIELDS, FIELDS
     yield "65,535 fields in 16 tables", nested(16, 2), FIELDS, FIELDS
     yield "1,025 columns", [schema([empty_bytes(f"c{it}") for it in range(1025)]), END_MARK], FIELDS, FIELDS
 

@@ -19,8 +19,8 @@ In the lines after `| ` of a script, {NAME} stands for the length of the file th
 A STREAM is hexadecimal digits, where A..B stands for the numbers from A to B, of 64 bits with the lowest byte first, and XX*N for N times
 the same byte; or it is `sample` (tests/sample.arrows) or `coded` (tests/coded.arrows, a column of bools with a dictionary that a delta
 grows) and how it differs: ..N its first N bytes, ..A-B each such beginning, P=XX another byte at place P, -A..B without these bytes, +XX
-with these after it, +A..B with those from A to B after it; or it is `table` and the words of a table (tools/tables.py), as
-`id:int64 n:utf8 / 1 p / 2 null`.
+with these after it, +A..B with those from A to B after it; or it is `damage` and the name of one of the streams that are damaged
+(tools/damage_streams.py); or it is `table` and the words of a table (tools/tables.py), as `id:int64 n:utf8 / 1 p / 2 null`.
 """
 import os
 import re
@@ -29,6 +29,7 @@ import sys
 import tempfile
 
 sys.dont_write_bytecode = True
+import damage_streams
 import tables
 
 ROOT = os.path.dirname(os.path.dirname(os.path.abspath(__file__)))
@@ -58,6 +59,8 @@ def streams(words):
     first, rest = words[:1], words[1:]
     if first == ["table"]:
         return [tables.read(rest)]
+    if first == ["damage"]:
+        return [damage_streams.named(rest[0]).bytes()]
     if not {*first} & {*STORED}:
         return [b"".join(map(bytes_of, words))]
     with open(f"{ROOT}/tests/{first[0]}.arrows", "rb") as file:

@@ -1,17 +1,18 @@
-"""Lays out streams that claim much and hold little: few bytes that mean many values, items, rows or fields."""
+"""Lays out streams, at will also such as claim much and hold little: few bytes that mean many values, items, rows or fields."""
 import struct
 
 END_MARK = bytes.fromhex("ffffffff00000000")
 VERSION_5 = 4
 SCHEMA, DICTIONARY_BATCH, RECORD_BATCH = 1, 2, 3
-INT, UTF8, BOOL, LIST, STRUCT, FIXED = 2, 5, 6, 12, 13, 15
+INT, BINARY, UTF8, BOOL, DECIMAL, DATE, TIME, TIMESTAMP, LIST, STRUCT, FIXED = 2, 4, 5, 6, 7, 8, 9, 10, 12, 13, 15
+DURATION, LARGE_BINARY, LARGE_UTF8, LARGE_LIST = 18, 19, 20, 21
 
 
 class Flatbuffer:
-    """Metadata in the making. An object that is placed twice stands once."""
+    """Metadata in the making. An object that is placed twice stands once, and so does the vtable of tables that are laid out alike."""
 
     def __init__(self):
-        self.bytes, self.places = bytearray(4), {}
+        self.bytes, self.places, self.vtables = bytearray(4), {}, {}
 
     def finished(self, root):
         self.refer(0, root)
@@ -29,6 +30,13 @@ class Flatbuffer:
             self.places[id(target)] = target.put(self)
         return self.places[id(target)]
 
+    def place_vtable(self, vtable):
+        if vtable not in self.vtables:
+            self.fill(2)
+            self.vtables[vtable] = len(self.bytes)
+            self.bytes += vtable
+        return self.vtables[vtable]
+
 
 class Table:
     """A table by its slots: a number with its format, another object, or nothing."""
@@ -44,11 +52,10 @@ class Table:
             size += -size % width if it else 0
             places.append(size if it else 0)
             size += width if it else 0
-        vtable = struct.pack(f"<{len(places) + 2}H", 4 + 2 * len(places), size, *places)
-        out.fill(8, len(vtable))
-        out.bytes += vtable
+        vtable = out.place_vtable(struct.pack(f"<{len(places) + 2}H", 4 + 2 * len(places), size, *places))
+        out.fill(8)
         at = len(out.bytes)
-        out.bytes += struct.pack("<i", len(vtable)) + bytes(size - 4)
+        out.bytes += struct.pack("<i", at - vtable) + bytes(size - 4)
         for it, place in zip(self.slots, places):
             if isinstance(it, tuple):
                 struct.pack_into(f"<{it[0]}", out.bytes, at + place, it[1])
@@ -102,12 +109,12 @@ def message(kind, header, body=b""):
     return b"\xff\xff\xff\xff" + struct.pack("<I", len(metadata)) + metadata + body
 
 
-def integer(bits):
-    return Table(("i", bits), ("B", 1))
+def integer(bits, is_signed=1):
+    return Table(("i", bits), ("B", is_signed))
 
 
-def field(name, kind, of=None, children=(), dictionary=None):
-    encoding = None if dictionary is None else Table(("q", dictionary), integer(32))
+def field(name, kind, of=None, children=(), dictionary=None, index=None):
+    encoding = None if dictionary is None else Table(("q", dictionary), index or integer(32))
     return Table(Text(name), ("B", 1), ("B", kind), of or Table(), encoding, Vector(*children))
 
 
@@ -128,21 +135,29 @@ def list_of(name, item):
     return field(name, LIST, children=[item])
 
 
-def schema(fields):
-    return message(SCHEMA, Table(("h", 0), Vector(*fields)))
+def nested(depth, children):
+    """The stream of one column of so many levels, of structs of so many children, which are one table, and an integer at the bottom."""
+    made = field("i", INT, integer(64))
+    for _ in range(depth - 1):
+        made = field("s", STRUCT, children=[made] * children)
+    return [schema([made]), END_MARK]
+
+
+def schema(fields, body=b""):
+    return message(SCHEMA, Table(("h", 0), Vector(*fields)), body)
 
 
 def filled(data):
     return data + bytes(-len(data) % 8)
 
 
-def batch_table(rows, nodes, buffers, nulls=0):
-    """A batch of so many rows: the length of each array, each of which has so many nulls, and its buffers."""
+def batch_table(rows, nodes, buffers):
+    """A batch of so many rows: each array's length, or its length and the number of its nulls, and all buffers."""
     body, ranges = b"", []
     for it in buffers:
         ranges += [len(body), len(it)]
         body += filled(it)
-    lengths = [number for length in nodes for number in (length, nulls)]
+    lengths = [number for it in nodes for number in (it if isinstance(it, tuple) else (it, 0))]
     return Table(("q", rows), Numbers(lengths, 2), Numbers(ranges, 2)), body
 
 
@@ -151,7 +166,7 @@ def batch(rows, nodes, buffers):
 
 
 def dictionary_batch(number, count, buffers, is_delta=0, nulls=0):
-    header, body = batch_table(count, [count], buffers, nulls)
+    header, body = batch_table(count, [(count, nulls)], buffers)
     return message(DICTIONARY_BATCH, Table(("q", number), header, ("B", is_delta)), body)
 
 

@@ -8,7 +8,8 @@ In a copy of the tree, which holds nothing of an earlier run, and in lanes besid
    with rt fmt's, its tests are proved and run, and the program is built by both compilers.
 3. The program as each compiler made it is run: as crates/lv says, over the examples, with refused memory, with outputs that take nothing.
    The library for C, as each made it, is called from C, Python and Rust, and with refused memory.
-4. `rt all check` looks for files that no crate reads, and finds every crate proved as the tree has it; what the pages name is looked up.
+4. `rt all check` looks for files that no crate reads, and finds every crate proved as the tree has it; what the pages name is looked up, and
+   the streams that the tests of `damage` change are compared with those that their tool makes.
 
 Then the must-fail edits that are due are tried (tools/must_fail.py, tools/records.py), until a time: none is begun later, and the gate
 says of which crates some weren't. With --all all edits are tried, however long it takes.
@@ -219,6 +220,11 @@ class Gate:
         ran = run([f"{ROOT}/tools/check-pages.py"], ROOT)
         return self.note("pages", "tree", ran, ran.status == 0)
 
+    def streams(self):
+        """Compares the bytes of the streams that the tests damage with those that their tool makes."""
+        ran = run([f"{self.tree}/tools/damage_streams.py", "--check"], self.tree)
+        return self.note("streams", "damage", ran, ran.status == 0)
+
     def run_stored(self, backend):
         """Runs the program with the words of crates/lv/args where the files of crates/lv/data lie."""
         folder = f"{self.tree}/crates/{PROGRAM}"
@@ -247,6 +253,7 @@ class Gate:
             yield Task(frozenset(under[it] - {it}), in_lane(self.prove, it), makes=it)
         yield Task(frozenset(crates), self.whole)
         yield Task(frozenset(), self.pages)
+        yield Task(frozenset(), self.streams)
         for it in BACKENDS if PROGRAM in crates else ():
             yield Task(frozenset([PROGRAM]), in_lane(self.build, it), makes=it)
         for it in BACKENDS if PROGRAM in crates else ():

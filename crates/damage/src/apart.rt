@@ -3,8 +3,8 @@
 
 use crate::harm::flipped;
 use crate::lockstep::{Outcome, feed_both};
-use crate::sample::SAMPLE;
-use crate::streams::{BOOLS, BYTES, CODED, DECIMALS, LISTS, NESTED, STRUCTS, TEXTS};
+use crate::stream::HexStream;
+use crate::streams::{BOOLS, BYTES, DECIMALS, GROWN, LISTS, NESTED, SAMPLE, STRUCTS, TEXTS};
 use std::alloc::AllocError;
 use std::process::Abort;
 use std::test::Fail;
@@ -36,63 +36,79 @@ fn turned(
 /// Asserts it of a stream and the same stream with one bit flipped.
 fn differs(
     rt: &(impl Abort + AllocGlobal),
-    valid: &[u8],
+    stream: &HexStream,
     place: usize,
     bit: u8,
 ) -> Result<(), AllocError> {
-    let other = turned(rt, valid, place, bit)?;
-    differ(rt, valid, &other, place)
+    let valid = stream.decode(rt)?;
+    let other = turned(rt, &valid.bytes, place, bit)?;
+    differ(rt, &valid.bytes, &other, place)
 }
 
-/// A field's name, whether it is nullable, its type, its index type, and a child's name.
+/// Whatever one flipped bit changes in an event.
 #[test]
-fn fields(rt: HostRuntime) -> Result<(), Fail> {
-    differs(&rt, &TEXTS, 92, 0)?;
-    differs(&rt, &TEXTS, 84, 0)?;
-    differs(&rt, &DECIMALS, 112, 1)?;
-    differs(&rt, &CODED, 152, 0)?;
-    differs(&rt, &STRUCTS, 156, 1)?;
+fn values(rt: HostRuntime) -> Result<(), Fail> {
+    let changes = [
+        // A field's name, whether it is nullable, its type, its index type, and a child's name.
+        (TEXTS, 120, 1),
+        (TEXTS, 104, 0),
+        (DECIMALS, 144, 0),
+        (GROWN, 192, 0),
+        (STRUCTS, 168, 1),
+        // A cell of each kind of value, also inside lists and structs, and the length of a list, also inside a list.
+        (BOOLS, 296, 0),
+        (SAMPLE, 440, 1),
+        (DECIMALS, 312, 0),
+        (TEXTS, 331, 1),
+        (BYTES, 328, 0),
+        (STRUCTS, 496, 1),
+        (LISTS, 418, 0),
+        (LISTS, 404, 0),
+        (NESTED, 608, 0),
+        (NESTED, 596, 0),
+        // An index.
+        (GROWN, 792, 0),
+    ];
+    for (stream, place, bit) in changes {
+        differs(&rt, &stream, place, bit)?;
+    }
     Ok(())
 }
 
-/// A cell of each kind of value, also inside lists and structs, and the length of a list.
-#[test]
-fn cells(rt: HostRuntime) -> Result<(), Fail> {
-    differs(&rt, &BOOLS, 248, 0)?;
-    differs(&rt, &SAMPLE, 440, 1)?;
-    differs(&rt, &TEXTS, 280, 1)?;
-    differs(&rt, &BYTES, 280, 0)?;
-    differs(&rt, &LISTS, 392, 1)?;
-    differs(&rt, &STRUCTS, 464, 1)?;
-    differs(&rt, &NESTED, 584, 0)?;
-    differs(&rt, &NESTED, 556, 1)?;
-    Ok(())
+/// The bytes from one place of a stream to another.
+fn part<'a>(rt: &impl Abort, bytes: &'a [u8], from: usize, to: usize) -> &'a [u8] {
+    assert!(rt; from <= to && to <= bytes.len());
+    &bytes[from..to]
 }
 
-/// An index, whether dictionary values are a delta, and how many they are.
-#[test]
-fn dictionaries(rt: HostRuntime) -> Result<(), Fail> {
-    differs(&rt, &CODED, 704, 0)?;
-    differs(&rt, &CODED[..560], 432, 0)?;
-    let valid = &CODED[..360];
+/// Whether dictionary values are a delta, and how many they are.
+fn dictionaries(rt: &(impl Abort + AllocGlobal), grown: &[u8]) -> Result<(), AllocError> {
+    let with_delta = part(rt, grown, 0, 632);
+    let replaced = turned(rt, with_delta, 500, 0)?;
+    differ(rt, with_delta, &replaced, 500)?;
+    let valid = part(rt, grown, 0, 416);
     // No row, and no slot.
-    let rows = turned(&rt, valid, 256, 0)?;
-    let none = turned(&rt, &rows, 272, 0)?;
-    differ(&rt, valid, &none, 256)?;
-    Ok(())
+    let rows = turned(rt, valid, 304, 0)?;
+    let none = turned(rt, &rows, 328, 0)?;
+    differ(rt, valid, &none, 304)
 }
 
 /// Another end, and another fault.
+fn ends(rt: &(impl Abort + AllocGlobal), sample: &[u8]) -> Result<(), AllocError> {
+    let pairs = [
+        (sample, part(rt, sample, 0, 496)),
+        (part(rt, sample, 0, 232), part(rt, sample, 0, 233)),
+        (part(rt, sample, 1, 504), part(rt, sample, 496, 504)),
+    ];
+    for (whole, single) in pairs {
+        assert_eq!(rt; feed_both(rt, whole, single)?, Outcome::Apart);
+    }
+    Ok(())
+}
+
 #[test]
-fn ends(rt: HostRuntime) -> Result<(), Fail> {
-    assert_eq!(rt; feed_both(&rt, &SAMPLE, &SAMPLE[..496])?, Outcome::Apart);
-    assert_eq!(rt;
-        feed_both(&rt, &SAMPLE[..232], &SAMPLE[..233])?,
-        Outcome::Apart
-    );
-    assert_eq!(rt;
-        feed_both(&rt, &SAMPLE[1..], &SAMPLE[496..])?,
-        Outcome::Apart
-    );
+fn messages(rt: HostRuntime) -> Result<(), Fail> {
+    dictionaries(&rt, &GROWN.decode(&rt)?.bytes)?;
+    ends(&rt, &SAMPLE.decode(&rt)?.bytes)?;
     Ok(())
 }

@@ -1,8 +1,8 @@
 //! Tests on damaged streams: two feeds get the same bytes, one as they are and one byte by byte, and must do the same.
 //!
-//! `streams` and `sample` have a valid stream for each kind of column, `story` has the events that are expected of one,
-//! `harm` damages one, `lockstep` feeds two feeds, and `events` compares their events. The tests are `sweeps`, each
-//! damage at each place, and `apart`, that the comparison finds each difference. Nothing here is for other crates.
+//! `streams` has the streams, each a `stream::Stream`; `harm` damages one, `lockstep` feeds two feeds, and `events`
+//! compares their events. The tests are `sweeps`, each damage at each place, `rows`, what is answered to given damage,
+//! and `apart`, that the comparison finds each difference. Nothing here is for other crates.
 #![tactic(auto)]
 
 #[cfg(test)]
@@ -14,9 +14,9 @@ mod harm;
 #[cfg(test)]
 mod lockstep;
 #[cfg(test)]
-mod sample;
+mod rows;
 #[cfg(test)]
-mod story;
+mod stream;
 #[cfg(test)]
 mod streams;
 #[cfg(test)]

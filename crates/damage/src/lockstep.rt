@@ -18,7 +18,7 @@ pub enum Outcome {
 }
 
 /// How two feeds compare after their next events.
-#[derive(Clone, Copy, Debug, PartialEq, Eq)]
+#[derive(Clone, Copy)]
 enum Step {
     /// The same event, for which both used this number of bytes.
     Event(usize),
@@ -35,7 +35,7 @@ pub fn push(rt: &impl Abort, feed: &mut Feed, piece: &[u8]) -> Result<Fed, Strea
 }
 
 /// Ends the input of a feed that isn't broken.
-pub fn finish(rt: &impl Abort, feed: &mut Feed) -> Result<(), StreamFault> {
+fn finish(rt: &impl Abort, feed: &mut Feed) -> Result<(), StreamFault> {
     assert!(rt; !feed.is_broken());
     feed.finish()
 }
