@@ -2,7 +2,8 @@
 //!
 //! `ledger` opens a session, and changes it row by row with the streams of `streams`; `batches` writes batches of many
 //! rows. The tests are `parts` (sessions that are taken apart and made again), `visits` (how often edits and writes open
-//! rows) and `filters` (which rows of a batch views keep). Nothing here is for other crates.
+//! rows), `filters` (which rows of a batch views keep) and `sinks` (writes to sinks that fail). Nothing here is for other
+//! crates.
 #![tactic(auto)]
 
 #[cfg(test)]
@@ -13,6 +14,8 @@ mod filters;
 mod ledger;
 #[cfg(test)]
 mod parts;
+#[cfg(test)]
+mod sinks;
 #[cfg(test)]
 mod streams;
 #[cfg(test)]
