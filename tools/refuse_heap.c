@@ -19,6 +19,10 @@ void heap_refuse(unsigned long at, int on) {
     requests = refusals = 0;
 }
 
+unsigned long heap_requests(void) {
+    return requests;
+}
+
 unsigned long heap_refusals(void) {
     return refusals;
 }
