@@ -1,11 +1,12 @@
 #!/usr/bin/env python3
-"""Drives `lv live` over pipes: the script of examples/report, its streams as bytes behind lines, wrong lines, refusals, and how it ends.
-Then standard input and output as files, and what is told to those who ask for help.
+"""Drives `lv live` over pipes: the script of examples/report, its streams as bytes behind lines, wrong lines, refusals, how it ends, and
+clients that go away. Then standard input and output as files, and what is told to those who ask for help.
 
 With the name of a program, that is run in place of the built lv.
 """
 import os
 import re
+import resource
 import subprocess
 import sys
 import tempfile
@@ -14,11 +15,24 @@ ROOT = os.path.dirname(os.path.dirname(os.path.abspath(__file__)))
 sys.path.insert(0, os.path.join(ROOT, "examples"))
 sys.dont_write_bytecode = True
 from live import Live
+from streams import END_MARK, INT64_SCHEMA, int64_batch
 
 REPORT = os.path.join(ROOT, "examples", "report")
 CONFIG = os.path.join(REPORT, "report.toml")
 ORDERS = os.path.join(ROOT, "examples", "orders.arrows")
 VIEWS = ("report", "countries", "heaviest")
+# A table of the rows of ORDERS, with a view of which two streams are more than a pipe holds.
+TABLE = b"""
+[main]
+key = "id"
+columns = [["id", "int64"], ["customer", "utf8"], ["quantity", "int64"], ["note", "utf8"]]
+[feed.orders]
+role = "append"
+[view.all]
+columns = [["id", "col", "id"], ["customer", "col", "customer"], ["quantity", "col", "quantity"], ["note", "col", "note"]]
+"""
+
+LINES, MOST_MEMORY = 1_000_000, 64 << 20
 
 
 def read(path):
@@ -94,7 +108,7 @@ def asked(lv):
 
 
 def ended(lv):
-    """The end of the input, also within a line and within bytes, standard streams that are closed, and a reader that is gone."""
+    """The end of the input, also within a line and within bytes, and standard streams that are closed."""
     live, none = [lv, "live", CONFIG], os.path.join(REPORT, "none")
     assert ran(live) == (0, b"", b"")
     assert ran(live, b"finish none") == (1, b"1: refused 53 UnknownFeed\n1.\n", b"")
@@ -105,11 +119,90 @@ def ended(lv):
     shell = ["bash", "-c", 'exec "$0" "$@" <&-']
     assert ran(shell + live)[:2] == (0, b"")
     assert ran(["bash", "-c", 'exec "$0" "$@" > /dev/full'] + live, b"undo\n") == (1, b"", b"")
-    process = subprocess.Popen(live, stdin=subprocess.PIPE, stdout=subprocess.PIPE)
-    process.stdout.close()
-    process.stdin.write(b"undo\n")
-    process.stdin.flush()
-    assert process.wait(60) == 1
+
+
+class Client:
+    """A program that runs lv over pipes, and can go away."""
+
+    def __init__(self, words, given):
+        self.process = subprocess.Popen(words, stdin=subprocess.PIPE, stdout=subprocess.PIPE, stderr=subprocess.PIPE)
+        self.send(given)
+
+    def send(self, held):
+        self.process.stdin.write(held)
+        self.process.stdin.flush()
+
+    def ended(self):
+        """The status with which lv ends, and what it printed to standard error. Nobody reads its answers from here on."""
+        self.process.stdout.close()
+        answer = self.process.wait(60), self.process.stderr.read()
+        self.process.stderr.close()
+        return answer
+
+
+def cut_short(lv):
+    """The end of the input within the bytes of a line: the messages before it are answered."""
+    live, calls = [lv, "live", CONFIG], stream("calls")
+    line = b"bytes calls %d\n" % len(calls)
+    whole, counts = ran(live, line + calls)[1].splitlines(keepends=True)[:-1], set()
+    for end in [*range(0, len(calls), 67), len(calls) - 1]:
+        status, printed, error = ran(live, line + calls[:end])
+        events = printed.splitlines(keepends=True)[:-2]
+        assert (status, printed, error) == (1, b"".join(events) + b"1: cannot read -\n1.\n", b""), end
+        assert events == whole[: len(events)], end
+        counts.add(len(events))
+    assert counts == {*range(len(whole))}
+
+
+def gone_within_bytes(lv):
+    """Clients that close their end of the output within the bytes of a line, and send the rest or end the input: lv ends with status 1."""
+    calls = stream("calls")
+    line = b"bytes calls %d\n" % len(calls)
+    for given, more in ((b"", b"undo\n"), (line, calls), (line + calls[:100], calls[100:]), (line + calls[:100], b"")):
+        client = Client([lv, "live", CONFIG], given)
+        client.process.stdout.close()
+        client.send(more)
+        if not more:
+            client.process.stdin.close()
+        assert client.ended() == (1, b""), (given, more)
+
+
+def gone_within_views(lv):
+    """Clients that go away while streams are on their way: lv ends with status 1, whether there is more to read or not. One that ends its
+    input alone gets them all."""
+    with tempfile.TemporaryDirectory(prefix="lv-live-") as room:
+        config = os.path.join(room, "config")
+        with open(config, "wb") as file:
+            file.write(TABLE)
+        orders = read(ORDERS)
+        lines = b"bytes orders %d\n" % len(orders) + orders + 4 * b"send all\n"
+        status, printed, _ = ran([lv, "live", config], lines)
+        assert status == 0 and len(re.findall(rb"(?m)^\d: wrote 55800$", printed)) == 4
+        for is_ended in (False, True):
+            client = Client([lv, "live", config], lines)
+            assert client.process.stdout.read(1000) == printed[:1000]
+            if is_ended:
+                client.process.stdin.close()
+            assert client.ended() == (1, b""), is_ended
+        client = Client([lv, "run", config, "-"], b"feed orders %s\n" % ORDERS.encode() + 4 * b"write all -\n")
+        client.process.stdin.close()
+        assert client.process.stdout.read(1000)
+        status, error = client.ended()
+        assert status == 1 and error.endswith(b"5: refused 56 Device\n")
+    client = Client([lv, "recast", "-", "-"], INT64_SCHEMA + int64_batch(20000, 0) + END_MARK)
+    client.process.stdin.close()
+    assert client.process.stdout.read(1000)
+    assert client.ended() == (1, b"refused 56 Device\n")
+
+
+def many_lines(lv):
+    """A million lines, each answered, within 64 MB of memory."""
+    how = {"preexec_fn": lambda: resource.setrlimit(resource.RLIMIT_AS, (MOST_MEMORY, MOST_MEMORY))}
+    answers = b"".join(b"%d: refused 51 NothingToUndo\n" % it for it in range(1, LINES + 1))
+    assert ran([lv, "run", CONFIG, "-"], b"undo\n" * LINES, **how) == (1, answers, b"")
+    assert ran([lv, "run", CONFIG, "-"], b"undo\n" * (LINES - 1) + b"undo now", **how) == (2, b"%d: wrong line\n" % LINES, b"")
+    answers = b"".join(b"%d: wrong line\n%d.\n" % (it, it) for it in range(1, LINES + 1))
+    assert ran([lv, "live", CONFIG], b"undo now\n" * LINES, **how) == (1, answers, b"")
 
 
 def examples(lv, views):
@@ -174,10 +267,14 @@ def main():
     views = same_as_run(lv)
     assert asked(lv) == views
     ended(lv)
+    cut_short(lv)
+    gone_within_bytes(lv)
+    gone_within_views(lv)
+    many_lines(lv)
     examples(lv, views)
     standard_streams(lv, views)
     helped(lv)
-    print("live: the script as run answers it, bytes, views, refusals and ends; standard streams as files; help and the version")
+    print("live: the script as run answers it, bytes, views, refusals, ends, clients that go away, a million lines; standard streams; help")
     return 0
 
 
