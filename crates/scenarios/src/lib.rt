@@ -3,7 +3,7 @@
 //!
 //! `sample` is a stored stream, and `table` the table that it means, built cell by cell. `checks` calls a feed that isn't
 //! broken. The tests are `r2_rows` (copies of values of every kind), `r3_feeds` (a stream that comes in pieces),
-//! `declared` (one whose columns were declared), `whole` (one that is at hand whole), `sinks` (a sink that fails),
+//! `declared` (one whose columns were declared), `whole` (one that is at hand whole), `sinks` (sinks that fail),
 //! `printed` (files whose reads fail, and how faults are told) and `lines` (the lines of `run` and `live`). Nothing
 //! here is for other crates.
 #![tactic(auto)]
