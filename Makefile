@@ -45,7 +45,7 @@ edits: need-rt need-python
 ci: need-rt need-python
 	@tools/ci.py
 
-# Streams at the limits of the format's profile, and just past them.
+# Streams at the limits of the format's profile, and just past them, and 64 undos of large batches.
 limits: lv need-python
 	@tools/limits.py
 

@@ -1,15 +1,18 @@
 #!/usr/bin/env python3
-"""Runs the built lv over streams at the limits of the profile and just past them: 2^24 rows, a body of 2^28 bytes, metadata of 2^24.
+"""Runs the built lv over streams at the limits of the profile and just past them: 2^24 rows, a body of 2^28 bytes, metadata of 2^24. Then
+64 undos of large batches.
 
 The greatest takes some 3 GB of memory and a minute, so this stands outside the gate: make limits.
 """
 import os
+import re
 import subprocess
 import sys
 import tempfile
 
 sys.dont_write_bytecode = True
-from streams import END_MARK, INT64_SCHEMA, batch, field, schema, word
+from canonical import decimal, integer, stream_of_rows
+from streams import END_MARK, INT64_SCHEMA, batch, field, int64_batch, schema, word
 
 ROWS = 1 << 24
 BODY = 1 << 28
@@ -17,6 +20,24 @@ METADATA = 1 << 24
 BOOL, INT = 6, 2
 LV = "crates/lv/out/lv"
 MOST_IN_A_BATCH = 1024
+UNDOS, EDIT = 64, 100_000
+LONG = integer(64)
+CONFIG = """
+[main]
+key = "k"
+columns = [["k", "int64"]]
+[feed.add]
+role = "append"
+[view.all]
+columns = [["k", "col", "k"]]
+[view.sum]
+group = []
+columns = [["n", "count"], ["s", "sum", "k"]]
+[view.last]
+columns = [["k", "col", "k"]]
+order = [["k", "desc"]]
+first = 1
+"""
 
 
 def pattern(size):
@@ -95,6 +116,32 @@ class Runs:
         self.run("metadata of 2^24 bytes", "inspect", [padded_schema(METADATA), END_MARK], "end")
         self.run("metadata of 2^24 + 8 bytes", "inspect", [padded_schema(METADATA + 8), END_MARK], "refused 2 BadSize")
 
+    def most_undos(self):
+        """Of 65 batches of 100,000 rows the last 64 are undone: what is left is what the first brought."""
+        lines = ["feed add in", *writes("before"), *["undo"] * (UNDOS + 1), *writes("after"), "write all all"]
+        batches = [int64_batch(EDIT, it * EDIT) for it in range(UNDOS + 1)]
+        held = {"config": CONFIG.encode(), "script": "\n".join(lines).encode(), "in": INT64_SCHEMA + b"".join(batches) + END_MARK}
+        for name, it in held.items():
+            with open(f"{self.folder}/{name}", "wb") as file:
+                file.write(it)
+        ran = subprocess.run([self.lv, "run", "config", "script"], cwd=self.folder, stdout=subprocess.PIPE, text=True)
+        answers = re.findall("undone|refused.*", ran.stdout)
+        self.note("64 undos of 100,000 rows each", answers == ["undone"] * UNDOS + ["refused 51 NothingToUndo"], ran.stdout[-200:])
+        wanted = shown("before", EDIT * (UNDOS + 1)) | shown("after", EDIT) | {"all": stream_of_rows([("k", LONG)], [[it] for it in range(EDIT)])}
+        for name, it in wanted.items():
+            with open(f"{self.folder}/{name}", "rb") as file:
+                self.note(f"view {name}", file.read() == it)
+
+
+def writes(moment):
+    return [f"write {view} {view}-{moment}" for view in ("sum", "last")]
+
+
+def shown(moment, rows):
+    """What these writes make, of the numbers from 0 on, so many."""
+    sums = stream_of_rows([("n", LONG), ("s", decimal(38, 0))], [[rows, rows * (rows - 1) // 2]])
+    return {f"sum-{moment}": sums, f"last-{moment}": stream_of_rows([("k", LONG)], [[rows - 1]])}
+
 
 def main():
     os.chdir(os.path.dirname(os.path.dirname(os.path.abspath(__file__))))
@@ -103,7 +150,7 @@ def main():
         sys.exit(f"{lv} is not there; make lv builds it")
     with tempfile.TemporaryDirectory(prefix="lv-limits-") as folder:
         runs = Runs(lv, folder)
-        for each in (runs.greatest_metadata, runs.most_rows, runs.greatest_body):
+        for each in (runs.greatest_metadata, runs.most_rows, runs.greatest_body, runs.most_undos):
             each()
     return 1 if runs.failed else 0
 
