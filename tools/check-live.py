@@ -196,13 +196,14 @@ def gone_within_views(lv):
 
 
 def many_lines(lv):
-    """A million lines, each answered, within 64 MB of memory."""
+    """A million lines, each answered, and a line that can't be held, within 64 MB of memory."""
     how = {"preexec_fn": lambda: resource.setrlimit(resource.RLIMIT_AS, (MOST_MEMORY, MOST_MEMORY))}
     answers = b"".join(b"%d: refused 51 NothingToUndo\n" % it for it in range(1, LINES + 1))
     assert ran([lv, "run", CONFIG, "-"], b"undo\n" * LINES, **how) == (1, answers, b"")
     assert ran([lv, "run", CONFIG, "-"], b"undo\n" * (LINES - 1) + b"undo now", **how) == (2, b"%d: wrong line\n" % LINES, b"")
     answers = b"".join(b"%d: wrong line\n%d.\n" % (it, it) for it in range(1, LINES + 1))
     assert ran([lv, "live", CONFIG], b"undo now\n" * LINES, **how) == (1, answers, b"")
+    assert ran([lv, "live", CONFIG], b"undo" * (MOST_MEMORY // 4) + b"\nundo\n", **how) == (1, b"1: refused 55 Memory\n1.\n", b"")
 
 
 def examples(lv, views):
