@@ -18,9 +18,11 @@ run: lv
 	$(LV) run examples/report/report.toml examples/report/script
 	$(LV) inspect out/report-2.arrows
 
-# A first look, within two minutes of cloning: lv is compiled with checks that stop it, and nothing is proved.
+# A first look, within two minutes of cloning: lv is compiled with checks that stop it, nothing is proved, and the report's
+# tables are printed before a correction, after it, and once it is undone.
+REPORT := report.toml tables ports.arrows calls.arrows withdrawn.arrows corrected.arrows
 try: need-rt
-	@cd crates/lv && rt try --data orders.arrows=../../examples/orders.arrows -- inspect orders.arrows
+	@cd crates/lv && rt try $(foreach it,$(REPORT),--data $(it)=../../examples/report/$(it)) -- run report.toml tables
 	@echo "(proved=no: this was a try; make run proves lv first)"
 
 # Proves and builds the library for C, include/lv.h, as out/lib/liblv.a and out/lib/liblv.so.

@@ -1,6 +1,7 @@
 #!/usr/bin/env python3
 """Drives `lv live` over pipes: the script of examples/report, its streams as bytes behind lines, wrong lines, refusals, how it ends, and
-clients that go away. Then standard input and output as files, and what is told to those who ask for help.
+clients that go away. Then standard input and output as files, and what standard error tells of a refused configuration and to those who
+ask for help.
 
 With the name of a program, that is run in place of the built lv.
 """
@@ -249,6 +250,19 @@ def standard_streams(lv, views):
     assert re.sub(rb"\d+: ", b"", ran([lv, "run", CONFIG, "-"], pieces)[1]) == b"schema\nbatch\nend\n"
 
 
+def explained(lv):
+    """Where a configuration is refused, and why, is told on standard error, beside the line of the refusal."""
+    with tempfile.TemporaryDirectory(prefix="lv-live-") as room:
+        config = os.path.join(room, "wrong.toml")
+        with open(config, "wb") as file:
+            file.write(read(CONFIG).replace(b'["tonnes", "desc"]', b'["tons", "desc"]', 1))
+        for words in (["check", config], ["run", config, config], ["live", config]):
+            status, printed, error = ran([lv, *words])
+            assert (status, printed) == (1, b"refused 62 UnknownName\n"), words
+            assert error.startswith(f"{config}: view.countries.order: a column".encode()) and error.count(b"\n") == 1, words
+    assert ran([lv, "check", "-"], b"\xff") == (1, b"refused 61 NotToml\n", b"-: the configuration isn't TOML\n")
+
+
 def helped(lv):
     """Help and the version are told on standard error, beside the line that wrong use prints."""
     version = read(os.path.join(ROOT, "VERSION")).decode().strip()
@@ -274,8 +288,9 @@ def main():
     many_lines(lv)
     examples(lv, views)
     standard_streams(lv, views)
+    explained(lv)
     helped(lv)
-    print("live: the script as run answers it, bytes, views, refusals, ends, clients that go away, a million lines; standard streams; help")
+    print("live: the script as run answers it, bytes, views, refusals, ends, clients that go away, a million lines; standard streams; what is told of refused configurations; help")
     return 0
 
 

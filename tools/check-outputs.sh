@@ -42,6 +42,10 @@ for output in closed all-closed full unread; do
     cmp "$work/whole" "$work/out" || fail "recast, standard output $output: OUT isn't the canonical stream"
     run_with "$output" inspect "$stream"
     [ "$status" -eq 1 ] || fail "inspect, standard output $output: status $status"
+    for form in "--rows 9" "--csv --rows 9"; do
+        run_with "$output" show "$stream" $form
+        [ "$status" -eq 1 ] || fail "show $form, standard output $output: status $status"
+    done
     run_with "$output" recast "$stream"
     [ "$status" -eq 1 ] || fail "wrong use, standard output $output: status $status"
     run_with "$output" check "$report/report.toml"

@@ -147,7 +147,7 @@ def fault_of_call(lv, row, room):
     if others:
         return f"it made, or didn't make, {' '.join(sorted(others))}; it printed:\n{got[1]}"
     wrong = [it for it in made if open(f"{room}/{it}", "rb").read() != made[it]]
-    lines = [re.sub(r"{(\w+)}", lambda it: str(len(made[it[1]])), line) for line in row["|"]]
+    lines = [re.sub(r"{(\w+)}", lambda it: str(len(made[it[1]])) if it[1] in made else it[0], line) for line in row["|"]]
     return f"it wrote another stream to {' '.join(wrong)}" if wrong else differs(got, status, lines)
 
 

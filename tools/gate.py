@@ -49,6 +49,7 @@ BACKENDS = {"llvm": "lv", "rattle": "lv.by-rattle"}
 RUNS = (
     "check-rows.py",
     "check-streams.py",
+    "check-show.py",
     "check-sessions.py",
     "check-configurations.py",
     "check-limits.py",

@@ -1,7 +1,7 @@
 #!/usr/bin/env bash
 # Runs the built lv, or the program that is named, with each of its requests for memory refused in turn: that one alone, then
-# that one and all after it. Each run may do the whole work, or say `refused 55 Memory` and nothing else, where recast has
-# written nothing or a beginning of its work. Where not even its words could be held it may say `wrong use` having written nothing.
+# that one and all after it. Each run may do the whole work, or say `refused 55 Memory` and nothing else, but show behind some
+# of its rows, where recast has written nothing or a beginning of its work. Where not even its words could be held it may say `wrong use` having written nothing.
 set -euo pipefail
 cd "$(dirname "$0")/.."
 
@@ -27,6 +27,7 @@ mkdir "$last" "$whole"
 # Runs the command $1 over $2 with request $3 refused, and all after it where $4 is 1.
 run() {
     local words=("$1" "$2")
+    command=$1
     [ "$1" != recast ] || words+=("$last/out")
     rm -f "$last"/* "$work/mark"
     status=0
@@ -47,7 +48,7 @@ words=8
 is_right() {
     [ ! -s "$work/error" ] || return 1
     [ -e "$work/mark" ] || [ "$status" -eq 0 ] || return 1
-    case "$status $(< "$last/line")" in
+    case "$status $(tail -n 1 "$last/line")" in
         "0 "*) diff -r "$whole" "$last" > /dev/null ;;
         "1 refused 55 Memory") is_beginning ;;
         "2 wrong use") [ -n "$no_words" ] && [ "$1" -le "$words" ] && [ ! -e "$last/out" ] ;;
@@ -55,7 +56,11 @@ is_right() {
     esac
 }
 
+# Whether nothing was printed before the last line, or by show a beginning of its rows, and nothing was put but a beginning.
 is_beginning() {
+    head -n -1 "$last/line" > "$work/rows"
+    [ ! -s "$work/rows" ] || [ "$command" = show ] || return 1
+    cmp -s -n "$(wc -c < "$work/rows")" "$work/rows" "$whole/line" || return 1
     [ ! -e "$last/out" ] || cmp -s -n "$(wc -c < "$last/out")" "$last/out" "$whole/out"
 }
 
@@ -88,6 +93,7 @@ counted=
 for stream in crates/lv/data/IN examples/*.arrows; do
     each_request recast "$stream"
     each_request inspect "$stream"
+    each_request show "$stream"
 done
 each_request check examples/report/report.toml
 echo "refused memory: each request refused in turn${counted}; every answer was right"

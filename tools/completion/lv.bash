@@ -3,8 +3,15 @@ _lv() {
     local word=${COMP_WORDS[COMP_CWORD]} files
     case $COMP_CWORD:${COMP_WORDS[1]} in
         1:*)
-            mapfile -t COMPREPLY < <(compgen -W "inspect recast check run live" -- "$word")
+            mapfile -t COMPREPLY < <(compgen -W "inspect show recast check run live" -- "$word")
             return
+            ;;
+        *:show)
+            if [[ $word == -* ]]; then
+                mapfile -t COMPREPLY < <(compgen -W "--rows --csv" -- "$word")
+                return
+            fi
+            [[ ${COMP_WORDS[COMP_CWORD - 1]} != --rows ]] || return
             ;;
         2:inspect | 2:check | 2:live | [23]:recast | [23]:run) ;;
         *) return ;;

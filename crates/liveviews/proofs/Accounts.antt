@@ -107,7 +107,7 @@ account-led : (o : Option Event) (t : Transcript) → account_in (led_by o t) �
 account-led None t = refl
 account-led (Some e) t = refl
 
-push-step :
+pub push-step :
     (law : PushKeeps) (s : FeedState) (bytes later : List ℕ) (g : Given) → gives s bytes ≡ Ok g
     → account_in (transcript s (bytes ++ later)) ≡ after_lines (given_lines g.event)
     (account_in (transcript (after_push s bytes (Ok g)) (drop g.used bytes ++ later)))
@@ -248,7 +248,7 @@ gives-fault s bytes fault.SchemaMismatch h = inr h
 gives-fault s bytes fault.AfterEnd h = inr h
 gives-fault s bytes fault.Truncated h = inr h
 
-stops-at :
+pub stops-at :
     (law : RefusalEnds) (a : Account) (s : FeedState) (text bytes later : List ℕ) (f : StreamFault) (m : Reading Given)
     → 0 < length bytes
     → a ≡ after_lines text (account_in (transcript s (bytes ++ later))) → gives s bytes ≡ m → Stands m f

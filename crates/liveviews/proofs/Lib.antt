@@ -14,3 +14,4 @@ pub mod Alike
 pub mod EndLemmas
 pub mod Counted
 pub mod KeptLemmas
+pub mod Shows

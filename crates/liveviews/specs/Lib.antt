@@ -12,3 +12,4 @@ pub mod Source
 pub mod Check
 pub mod Program
 pub mod Kept
+pub mod Showing

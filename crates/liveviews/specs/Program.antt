@@ -73,6 +73,12 @@ abbrev pub IsAllowed : {Z : Type 0} → List (String Z) → Asked → Type 0
 IsAllowed words (asked.File c) = Unit {0}
 IsAllowed words (asked.Script config script) = AsksSession words
 IsAllowed words (asked.Live config) = AsksSession words
+IsAllowed words (asked.Show show) = Unit {0}
+
+-- the command is `show`
+abbrev pub IsShow : Asked → Type 0
+IsShow (asked.Show show) = Unit {0}
+IsShow _ = ⊥
 
 -- arguments that are no command, or memory was refused before a file was read
 abbrev pub IsUnread : Refusal → Type 0

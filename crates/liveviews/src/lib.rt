@@ -15,6 +15,7 @@ mod program;
 mod recasting;
 mod running;
 mod script;
+mod show;
 mod table;
 mod types;
 

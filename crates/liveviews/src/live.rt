@@ -48,7 +48,6 @@ fn run_line<F: Files, W: Write>(
 
 /// Does what a line says, and prints the answers. The error says that the input can't be read on.
 fn answer<F: Files, R: Read, W: Write>(
-    alloc: Global,
     run: &mut Run,
     line: &[u8],
     input: &mut R,
@@ -59,7 +58,7 @@ fn answer<F: Files, R: Read, W: Write>(
     match read_live_line(line) {
         LiveLine::Script(line) => run_line(run, line, files, room, out),
         LiveLine::Bytes { name, len } => push_bytes(run, name, len, input, room, out)?,
-        LiveLine::Send { view } => run.send(alloc, view, out),
+        LiveLine::Send { view } => run.send(view, out),
     }
     Ok(())
 }
@@ -96,14 +95,12 @@ pub(crate) fn run_live<F: Files, W: Write>(
         return Err(AllocError);
     };
     let mut line = Vec::new(alloc);
-    let mut run = Run::new(session);
+    let mut run = Run::new(alloc, session);
     for _ in 0..u64::MAX {
         run.next();
         let came = match next_line(&mut input, &mut line) {
             Ok(false) => break,
-            Ok(true) => answer(
-                alloc, &mut run, &line, &mut input, files, &mut room, &mut out,
-            ),
+            Ok(true) => answer(&mut run, &line, &mut input, files, &mut room, &mut out),
             Err(fault) => Err(fault),
         };
         if let Err(fault) = came {

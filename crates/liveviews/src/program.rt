@@ -5,6 +5,7 @@ ghost use Rattle.clap.specs.Words.{found_of};
 ghost use Rattle.liveviews.specs.Check.{ChecksFile};
 ghost use Rattle.liveviews.specs.Files.{InspectsFile, IsContent};
 ghost use Rattle.liveviews.specs.Source.{HoldsFile};
+ghost use Rattle.liveviews.specs.Showing.{ShowsFile};
 ghost use Rattle.liveviews.specs.Program.{
   AsksCheck,
   AsksInspect,
@@ -18,6 +19,7 @@ ghost use Rattle.liveviews.specs.Program.{
   IsNoConfig,
   IsPrinted,
   IsRefused,
+  IsShow,
   IsWrongUse,
   IsStopped,
   IsUnread,
@@ -35,6 +37,8 @@ use crate::inspecting::{Inspected, inspect_from};
 use crate::live::run_live;
 use crate::recasting::{RecastFault, SourceFault, recast_from};
 use crate::running::run_script;
+use crate::script::number;
+use crate::show::{Form, PrintFault, ShowFault, show_from};
 use clap::error::ErrorKind;
 use clap::{Arg, ArgAction, ArgMatches, Command};
 use session::Session;
@@ -53,12 +57,21 @@ enum FileCommand<'a> {
     Check { config: &'a str },
 }
 
+/// Which stream is shown: how, and how many of its rows at most.
+#[derive(Debug, Drop)]
+struct Show<'a> {
+    file: &'a str,
+    form: Form,
+    most: u64,
+}
+
 /// The command given by the arguments.
 #[derive(Debug, Drop)]
 enum Asked<'a> {
     File(FileCommand<'a>),
     Script { config: &'a str, script: &'a str },
     Live { config: &'a str },
+    Show(Show<'a>),
 }
 
 /// The outcome of a command.
@@ -169,6 +182,10 @@ fn command<'a>(alloc: Global) -> Result<Command<'a>, AllocError> {
         .arg(required(alloc, "CONFIG"))?
         .arg(required(alloc, "SCRIPT"))?;
     let live = Command::new(alloc, "live").arg(required(alloc, "CONFIG"))?;
+    let show = Command::new(alloc, "show")
+        .arg(required(alloc, "FILE"))?
+        .arg(option(alloc, "rows").action(ArgAction::Set))?
+        .arg(option(alloc, "csv").action(ArgAction::SetTrue))?;
     Command::new(alloc, "lv")
         .no_binary_name(true)
         .subcommand_required(true)
@@ -176,11 +193,17 @@ fn command<'a>(alloc: Global) -> Result<Command<'a>, AllocError> {
         .subcommand(recast)?
         .subcommand(check)?
         .subcommand(run)?
-        .subcommand(live)
+        .subcommand(live)?
+        .subcommand(show)
 }
 
 fn required<'a>(alloc: Global, name: &'a str) -> Arg<'a> {
     Arg::new(alloc, name).required(true).action(ArgAction::Set)
+}
+
+/// An argument that is named by two dashes and this name.
+fn option<'a>(alloc: Global, name: &'a str) -> Arg<'a> {
+    Arg::new(alloc, name).long(name)
 }
 
 /// Whether the first argument is `run`.
@@ -212,6 +235,7 @@ fn parse<'a>(alloc: Global, words: &'a [String]) -> Result<Asked<'a>, Refusal<'a
         Some(("inspect", given)) => asked_inspect(given).map(Asked::File),
         Some(("recast", given)) => asked_recast(given).map(Asked::File),
         Some(("check", given)) => asked_check(given).map(Asked::File),
+        Some(("show", given)) => asked_show(given),
         Some((name, given)) => asked_lines(words, name, given),
         None => None,
     };
@@ -254,6 +278,25 @@ fn asked_live<'a>(given: &ArgMatches<'a>) -> Option<Asked<'a>> {
     Some(Asked::Live {
         config: given.get_str("CONFIG")?,
     })
+}
+
+fn asked_show<'a>(given: &ArgMatches<'a>) -> Option<Asked<'a>>
+    ensures { IfSome result IsShow }
+{
+    let most = match given.get_str("rows") {
+        Some(word) => number(word)?,
+        None => u64::MAX,
+    };
+    let form = if given.get_flag("csv") {
+        Form::Csv
+    } else {
+        Form::Table
+    };
+    Some(Asked::Show(Show {
+        file: given.get_str("FILE")?,
+        form,
+        most,
+    }))
 }
 
 /// The command of this name that runs lines, where the arguments begin with it.
@@ -453,12 +496,47 @@ fn run_input<'a, F: Files, W: Write>(
     Ok(run_live(alloc, session, input, files, out)?)
 }
 
+/// Prints the rows of a stream, and returns the program's exit status.
+fn show_file<'a, F: Files, W: Write>(
+    alloc: Global,
+    show: &Show<'a>,
+    files: &mut F,
+    out: &mut W,
+) -> Result<u8, Refusal<'a>>
+    ensures sunk { F.sunk files.new ≡ F.sunk files.old }
+    ensures bound { IfOk result (λ status. status ≤ 1) }
+    ensures valid { IfOk result (λ status. status ≡ 0 → ShowsFile (F.content files.old)) }
+    ensures refused { IfErr result IsRefused }
+{
+    let path = show.file;
+    let mut input = open_file(path, files)?;
+    match show_from(alloc, &mut input, show.form, show.most, out) {
+        Ok(()) => Ok(0),
+        Err(ShowFault::Source(fault)) => Err(unreadable(fault, path)),
+        Err(ShowFault::Stream(fault)) => Err(Refusal::Refused(Cause::from(fault))),
+        Err(ShowFault::Print(PrintFault::Memory)) => Err(Refusal::Refused(Cause::Memory)),
+        Err(ShowFault::Print(PrintFault::Unprinted)) => Ok(1),
+    }
+}
+
+/// Shows a stream, and returns the program's exit status. Beside CSV what isn't a row is printed aside, so that it isn't
+/// taken for one.
+fn run_show<F: Files, W: Write>(alloc: Global, show: &Show, files: &mut F, out: &mut W) -> u8
+    ensures sunk { F.sunk files.new ≡ F.sunk files.old }
+    ensures valid { result ≡ 0 → ShowsFile (F.content files.old) }
+    ensures bound { result ≤ 1 }
+{
+    let shown = show_file(alloc, show, files, out);
+    files.print_aside(show.form == Form::Csv);
+    end_lines(shown, out)
+}
+
 /// Prints why lines could not be run, or else has the status with which they ended.
 fn end_lines<W: Write>(came: Result<u8, Refusal>, out: &mut W) -> u8
     requires bound { IfOk came (λ status. status ≤ 2) }
     requires refused { IfErr came IsRefused }
     ensures status { IfOk came.entry (λ status. result ≡ status) }
-    ensures refused { IfErr came.entry (λ r. result ≤ 1) }
+    ensures refused { IfErr came.entry (λ r. result ≡ 1) }
 {
     match came {
         Ok(status) => status,
@@ -489,7 +567,7 @@ fn end<W: Write>(came: Result<Outcome, Refusal>, out: &mut W) -> u8
 /// Returns the program's exit status: 0 where all was done, 1 where something was refused or could not be printed, 2
 /// for arguments that are no command, or a script with a wrong line.
 pub fn lv<F: Files, W: Write>(alloc: Global, words: &[String], files: &mut F, out: &mut W) -> u8
-    ensures done { result ≡ 0 → AsksSession words.now
+    ensures done { result ≡ 0 → AsksSession words.now ⊎ ShowsFile (F.content files.old)
         ⊎ IsDone (F.content files.old) (F.sunk files.old) (F.sunk files.new) (W.contents out.old) (W.contents out.new) }
     ensures wrong_use { result ≡ 2 → F.sunk files.new ≡ F.sunk files.old }
     ensures begun { AsksSession words.now ⊎ IsBegun (F.content files.old) (F.sunk files.old) (F.sunk files.new) }
@@ -501,6 +579,7 @@ pub fn lv<F: Files, W: Write>(alloc: Global, words: &[String], files: &mut F, ou
             end_lines(run_file(alloc, config, script, files, out), out)
         }
         Ok(Asked::Live { config }) => end_lines(run_input(alloc, config, files, out), out),
+        Ok(Asked::Show(show)) => run_show(alloc, &show, files, out),
         Err(refusal) => end(Err(refusal), out),
     }
 }

@@ -5,6 +5,7 @@ ghost use Rattle.std.specs.Prelude.{◌≡◌, ◌≤◌, IfOk};
 use crate::files::{FileFault, Files, STANDARD};
 use crate::pieces::{read_at_most, room, skip};
 use crate::script::{Command, Line, read_line};
+use crate::show::{Form, PrintFault, ShowFault, show_from};
 use session::{Event, Fault, Pushed, Reply, Session, Step, ViewFault};
 use std::alloc::{AllocError, Global};
 use std::fmt;
@@ -93,14 +94,16 @@ struct Part {
 /// A run of lines: its session, the number of the current line, and whether all commands and prints so far succeeded.
 #[derive(Drop)]
 pub(crate) struct Run {
+    alloc: Global,
     session: Session,
     line: usize,
     is_clean: bool,
 }
 
 impl Run {
-    pub(crate) fn new(session: Session) -> Run {
+    pub(crate) fn new(alloc: Global, session: Session) -> Run {
         Run {
+            alloc,
             session,
             line: 0,
             is_clean: true,
@@ -260,25 +263,46 @@ impl Run {
         answer
     }
 
-    /// Prints a view: a line with the length of its stream, and then the stream. It is held whole in memory, since its
-    /// length comes first.
-    pub(crate) fn send<W: Write>(&mut self, alloc: Global, view: &str, out: &mut W) {
-        let mut sink = MemorySink::new(alloc);
+    /// The stream of a view, held whole in memory, or the cause for which there is none.
+    fn stream_of(&mut self, view: &str) -> Result<MemorySink, Cause> {
+        let mut sink = MemorySink::new(self.alloc);
         let step = Step::Write { view, sink: 0 };
         match self.session.step(&step, from_mut(&mut sink)) {
-            Reply::Write(Ok(count)) => {
-                self.print(Answer::Wrote(count), out);
-                let is_sent = out.write_all(sink.bytes()).is_ok();
+            Reply::Write(Ok(_)) => Ok(sink),
+            Reply::Write(Err(ViewFault::UnknownView)) => Err(Cause::UnknownView),
+            // A sink in memory fails where memory is refused.
+            Reply::Write(Err(ViewFault::Write(_))) => Err(Cause::Memory),
+            _ => unreachable!(),
+        }
+    }
+
+    /// Prints a view: a line with the length of its stream, and then the stream.
+    pub(crate) fn send<W: Write>(&mut self, view: &str, out: &mut W) {
+        match self.stream_of(view) {
+            Ok(sink) => {
+                let stream = sink.bytes();
+                self.print(Answer::Wrote(stream.len() as u64), out);
+                let is_sent = out.write_all(stream).is_ok();
                 self.is_clean = self.is_clean && is_sent;
             }
-            Reply::Write(Err(ViewFault::UnknownView)) => {
-                self.print(Answer::Refused(Cause::UnknownView), out);
+            Err(cause) => self.print(Answer::Refused(cause), out),
+        }
+    }
+
+    /// Prints a line with the length of the stream of a view, and then its rows as a table.
+    fn show<W: Write>(&mut self, view: &str, out: &mut W) {
+        match self.stream_of(view) {
+            Ok(sink) => {
+                let mut stream = sink.bytes();
+                self.print(Answer::Wrote(stream.len() as u64), out);
+                match show_from(self.alloc, &mut stream, Form::Table, u64::MAX, out) {
+                    Ok(()) => {}
+                    Err(ShowFault::Print(PrintFault::Unprinted)) => self.is_clean = false,
+                    // The stream of a view is accepted, so only memory can be refused.
+                    Err(_) => self.print(Answer::Refused(Cause::Memory), out),
+                }
             }
-            // A sink in memory fails where memory is refused.
-            Reply::Write(Err(ViewFault::Write(_))) => {
-                self.print(Answer::Refused(Cause::Memory), out);
-            }
-            _ => unreachable!(),
+            Err(cause) => self.print(Answer::Refused(cause), out),
         }
     }
 
@@ -307,6 +331,7 @@ impl Run {
             Command::Finish { name } => self.finish(name),
             Command::Undo => self.undo(),
             Command::Write { view, path } => self.write(view, path, files),
+            Command::Show { view } => return self.show(view, out),
         };
         self.print(answer, out);
     }
@@ -385,7 +410,7 @@ pub(crate) fn run_script<F: Files, W: Write>(
         }
         Outlook::Lines { write_standard } => files.print_aside(write_standard),
     }
-    let mut run = Run::new(session);
+    let mut run = Run::new(alloc, session);
     for line in script.split(|byte| *byte == b'\n') {
         run.next();
         if let Line::Command(command) = read_line(line) {

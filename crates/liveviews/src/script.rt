@@ -28,6 +28,10 @@ pub(crate) enum Command<'a> {
         view: &'a str,
         path: &'a str,
     },
+    /// Prints the rows of a view as a table.
+    Show {
+        view: &'a str,
+    },
 }
 
 /// A line of a script.
@@ -81,6 +85,10 @@ fn read_command(text: &str) -> Option<Command<'_>> {
             view: word(&mut words)?,
             path: word(&mut words)?,
         }
+    } else if verb == "show" {
+        Command::Show {
+            view: word(&mut words)?,
+        }
     } else {
         return None;
     };
@@ -99,7 +107,7 @@ fn word<'a>(words: &mut Split<'a, char>) -> Option<&'a str> {
 }
 
 /// A number of 1 to 18 decimal digits.
-fn number(word: &str) -> Option<u64> {
+pub(crate) fn number(word: &str) -> Option<u64> {
     let digits = word.as_bytes();
     if digits.is_empty() || digits.len() > 18 {
         return None;

@@ -6,6 +6,8 @@ const VERSION: &str = "lv 0.1.0\n";
 
 const USAGE: &str = "\
 Usage: lv inspect FILE          prints, message by message, what a stream holds
+       lv show FILE [--rows N] [--csv]
+                                prints the rows of a stream, as a table or as CSV
        lv recast IN OUT         writes the canonical stream of the table that a stream holds
        lv check CONFIG          checks a configuration of tables, feeds and views
        lv run CONFIG SCRIPT     runs a script over the tables of a configuration
