@@ -76,7 +76,8 @@ size=$(wc -c < "$work/whole")
 for ((most = 0; most * 1024 < size; most++)); do
     rm -f "$work/out"
     run_within "$most" recast "$stream" "$work/out"
-    [ "$printed" = "$refused" ] && is_cut $((most * 1024)) "$work/whole" "$work/out" || fail "recast with $most KiB: status $status, $printed"
+    [ "$printed" = "$refused" ] && is_cut $((most * 1024)) "$work/whole" "$work/out" \
+        || fail "recast with $most KiB: status $status, $printed"
 done
 run_within "$most" recast "$stream" "$work/out"
 [ "$status $printed" = "0 wrote $size" ] || fail "recast with $most KiB: status $status, $printed"

@@ -127,8 +127,8 @@ class Runs:
         ran = subprocess.run([self.lv, "run", "config", "script"], cwd=self.folder, stdout=subprocess.PIPE, text=True)
         answers = re.findall("undone|refused.*", ran.stdout)
         self.note("64 undos of 100,000 rows each", answers == ["undone"] * UNDOS + ["refused 51 NothingToUndo"], ran.stdout[-200:])
-        wanted = shown("before", EDIT * (UNDOS + 1)) | shown("after", EDIT) | {"all": stream_of_rows([("k", LONG)], [[it] for it in range(EDIT)])}
-        for name, it in wanted.items():
+        rows = stream_of_rows([("k", LONG)], [[it] for it in range(EDIT)])
+        for name, it in (shown("before", EDIT * (UNDOS + 1)) | shown("after", EDIT) | {"all": rows}).items():
             with open(f"{self.folder}/{name}", "rb") as file:
                 self.note(f"view {name}", file.read() == it)
 

@@ -1,7 +1,7 @@
 #!/usr/bin/env python3
 """Runs a script by `lv run` with each request for memory refused in turn: that one alone, then that one and all after it. The same by
-`lv live`, with views that are sent, for each fifth request. Then both over more rows, in address spaces from the least in which the program
-begins to one in which all is done.
+`lv live`, with views that are sent, for each fifth request. Then both over more rows, and `lv recast`, in address spaces from the least in
+which the program begins to one in which all is done.
 
 A line whose reply is `refused 55 Memory` must have changed nothing: all other lines print, and write, what they do where that line is
 left out of the script. A write that was refused leaves a beginning of its stream, or no file. Where the configuration, the script or
@@ -208,6 +208,25 @@ def each_space(runs, lines):
     return len(answers), sum(len(printed) > 1 for _, printed, _ in answers) - 1
 
 
+def recast_in_each_space(lv, work):
+    """Recasts a stream in each size of address space, and answers how many there are. Where it is refused, a beginning may be there."""
+    source, made = os.path.join(work, "numbers"), os.path.join(work, "recast")
+    subprocess.run([lv, "recast", source, made], stdout=subprocess.DEVNULL, check=True)
+    whole, space, spaces, answer = open(made, "rb").read(), least_space(lv), 0, None
+    done = (0, b"wrote %d\n" % len(whole), whole)
+    while answer != done:
+        os.remove(made)
+        ran = subprocess.run([lv, "recast", source, made], stdout=subprocess.PIPE, stderr=subprocess.STDOUT, **within(space))
+        held = open(made, "rb").read() if os.path.exists(made) else b""
+        answer = ran.returncode, ran.stdout, held
+        is_refused = answer[:2] == (1, b"refused 55 Memory\n") and whole.startswith(held)
+        if not (answer == done or is_refused or answer == (2, b"wrong use\n", b"")):
+            raise AssertionError(f"recast in {space} bytes of address space: status {ran.returncode}, {ran.stdout}")
+        open(made, "ab").close()
+        space, spaces = space + STEP, spaces + 1
+    return spaces
+
+
 def main():
     lv = os.path.abspath(sys.argv[1] if len(sys.argv) > 1 else os.path.join(ROOT, "crates/lv/out/lv"))
     if not shutil.which("cc"):
@@ -221,8 +240,9 @@ def main():
         for name, of, stride in (("run", Runs, 1), ("live", LiveRuns, 5)):
             refusals = each_request(of(lv, work, os.path.join(REPORT, "report.toml")), report, stride)
             spaces, some = each_space(of(lv, work, config), numbers)
-            print(f"refused memory: {name} over {len(report)} lines, {refusals} refusals; every answer was right")
-            print(f"refused memory: {name} in {spaces} sizes of address space, in {some} of which lines were refused; every answer was right")
+            print(f"refused memory: {name} over {len(report)} lines, {refusals} refusals")
+            print(f"refused memory: {name} in {spaces} sizes of address space, {some} of which were too small for some lines")
+        print(f"refused memory: recast in {recast_in_each_space(lv, work)} sizes of address space; all answers were right")
     return 0
 
 
