@@ -122,7 +122,7 @@ def told(program, text, room):
     with open(path, "w", encoding="utf-8") as file:
         file.write(text)
     ran = subprocess.run([program, "check", path], capture_output=True, text=True, timeout=60)
-    return ran.returncode, (ran.stdout + ran.stderr).strip()
+    return ran.returncode, ran.stdout.strip()
 
 
 def wrong(program):

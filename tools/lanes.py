@@ -12,7 +12,7 @@ from dataclasses import dataclass
 
 PARTS = ("src", "specs", "proofs")
 # What a check of the largest crates takes, with their tests, in bytes.
-MEMORY_OF_A_LANE = 6 << 30
+MEMORY_OF_A_LANE = 8 << 30
 
 
 def read(path):

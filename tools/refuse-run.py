@@ -60,7 +60,9 @@ class Runs:
         status, printed = self.call("\n".join(lines) + "\n", cwd=place, stdout=subprocess.PIPE, stderr=subprocess.STDOUT, **how)
         made = os.path.join(place, "out")
         written = {it: open(os.path.join(made, it), "rb").read() for it in os.listdir(made)}
-        return status, printed.decode().splitlines(), written
+        # Standard error tells that memory ran out for the configuration, beside the line that says so.
+        told = f"{self.config}: memory ran out"
+        return status, [it for it in printed.decode().splitlines() if it != told], written
 
     def call(self, script, **how):
         """What the program does with a script: its status, and what it prints."""

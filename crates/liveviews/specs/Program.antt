@@ -68,12 +68,23 @@ AsksLive (w ∷ ws) = string_bytes w ≡ codes "live"
 abbrev pub AsksSession : {Z : Type 0} → List (String Z) → Type 0
 AsksSession words = AsksRun words ⊎ AsksLive words
 
--- Lines are run only where the arguments ask for it.
+-- the arguments ask for the rows of a stream
+abbrev pub AsksShow : {Z : Type 0} → List (String Z) → Type 0
+AsksShow [] = ⊥
+AsksShow (w ∷ ws) = string_bytes w ≡ codes "show"
+
+-- Lines are run, and rows shown, only where the arguments ask for it.
 abbrev pub IsAllowed : {Z : Type 0} → List (String Z) → Asked → Type 0
 IsAllowed words (asked.File c) = Unit {0}
 IsAllowed words (asked.Script config script) = AsksSession words
 IsAllowed words (asked.Live config) = AsksSession words
-IsAllowed words (asked.Show show) = Unit {0}
+IsAllowed words (asked.Show show) = AsksShow words
+
+-- the command runs lines
+abbrev pub IsSession : Asked → Type 0
+IsSession (asked.Script config script) = Unit {0}
+IsSession (asked.Live config) = Unit {0}
+IsSession _ = ⊥
 
 -- the command is `show`
 abbrev pub IsShow : Asked → Type 0

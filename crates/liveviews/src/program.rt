@@ -11,6 +11,7 @@ ghost use Rattle.liveviews.specs.Program.{
   AsksInspect,
   AsksRecast,
   AsksSession,
+  AsksShow,
   DoesSomewhere,
   Ends,
   IsAllowed,
@@ -19,6 +20,7 @@ ghost use Rattle.liveviews.specs.Program.{
   IsNoConfig,
   IsPrinted,
   IsRefused,
+  IsSession,
   IsShow,
   IsWrongUse,
   IsStopped,
@@ -226,6 +228,16 @@ fn is_live(words: &[String]) -> bool
     }
 }
 
+/// Whether the first argument is `show`.
+fn is_show(words: &[String]) -> bool
+    ensures { result ≡ true → AsksShow words.now }
+{
+    match words.first() {
+        Some(word) => word.as_str() == "show",
+        None => false,
+    }
+}
+
 fn parse<'a>(alloc: Global, words: &'a [String]) -> Result<Asked<'a>, Refusal<'a>>
     ensures allowed { IfOk result (IsAllowed words.now) }
     ensures unread { IfErr result IsUnread }
@@ -235,7 +247,6 @@ fn parse<'a>(alloc: Global, words: &'a [String]) -> Result<Asked<'a>, Refusal<'a
         Some(("inspect", given)) => asked_inspect(given).map(Asked::File),
         Some(("recast", given)) => asked_recast(given).map(Asked::File),
         Some(("check", given)) => asked_check(given).map(Asked::File),
-        Some(("show", given)) => asked_show(given),
         Some((name, given)) => asked_lines(words, name, given),
         None => None,
     };
@@ -267,14 +278,18 @@ fn asked_check<'a>(given: &ArgMatches<'a>) -> Option<FileCommand<'a>>
     })
 }
 
-fn asked_run<'a>(given: &ArgMatches<'a>) -> Option<Asked<'a>> {
+fn asked_run<'a>(given: &ArgMatches<'a>) -> Option<Asked<'a>>
+    ensures { IfSome result IsSession }
+{
     Some(Asked::Script {
         config: given.get_str("CONFIG")?,
         script: given.get_str("SCRIPT")?,
     })
 }
 
-fn asked_live<'a>(given: &ArgMatches<'a>) -> Option<Asked<'a>> {
+fn asked_live<'a>(given: &ArgMatches<'a>) -> Option<Asked<'a>>
+    ensures { IfSome result IsSession }
+{
     Some(Asked::Live {
         config: given.get_str("CONFIG")?,
     })
@@ -299,13 +314,14 @@ fn asked_show<'a>(given: &ArgMatches<'a>) -> Option<Asked<'a>>
     }))
 }
 
-/// The command of this name that runs lines, where the arguments begin with it.
+/// The command of this name whose answers are printed as they come, where the arguments begin with it.
 fn asked_lines<'a>(words: &[String], name: &str, given: &ArgMatches<'a>) -> Option<Asked<'a>>
     ensures { IfSome result (IsAllowed words.now) }
 {
     match name {
         "run" if is_run(words) => asked_run(given),
         "live" if is_live(words) => asked_live(given),
+        "show" if is_show(words) => asked_show(given),
         _ => None,
     }
 }
@@ -567,7 +583,7 @@ fn end<W: Write>(came: Result<Outcome, Refusal>, out: &mut W) -> u8
 /// Returns the program's exit status: 0 where all was done, 1 where something was refused or could not be printed, 2
 /// for arguments that are no command, or a script with a wrong line.
 pub fn lv<F: Files, W: Write>(alloc: Global, words: &[String], files: &mut F, out: &mut W) -> u8
-    ensures done { result ≡ 0 → AsksSession words.now ⊎ ShowsFile (F.content files.old)
+    ensures done { result ≡ 0 → AsksSession words.now ⊎ (AsksShow words.now × ShowsFile (F.content files.old))
         ⊎ IsDone (F.content files.old) (F.sunk files.old) (F.sunk files.new) (W.contents out.old) (W.contents out.new) }
     ensures wrong_use { result ≡ 2 → F.sunk files.new ≡ F.sunk files.old }
     ensures begun { AsksSession words.now ⊎ IsBegun (F.content files.old) (F.sunk files.old) (F.sunk files.new) }

@@ -227,16 +227,19 @@ fn reads_that_fail_are_told(rt: HostRuntime) -> Result<(), Fail> {
     Ok(())
 }
 
-/// The faults of a source have the texts that `lv` prints, but for the path, which a source has none of.
+/// The faults of a source say what was wrong.
 #[test]
 fn source_faults_are_told(rt: HostRuntime) -> Result<(), Fail> {
     let unreadable = format!(in rt.alloc(); "{}", SourceFault::Unreadable)?;
-    assert_eq!(rt; unreadable.as_str(), "cannot read");
+    assert_eq!(rt; unreadable.as_str(), "the source can't be read");
     let fault = RecastFault::from(Cause::Offsets);
     let refused = format!(in rt.alloc(); "{}", SourceFault::Refused(fault))?;
-    assert_eq!(rt; refused.as_str(), "refused 24 Offsets");
+    assert_eq!(rt;
+        refused.as_str(),
+        "offsets fall, are negative, or end past what they point into"
+    );
     let unusable = format!(in rt.alloc(); "{}", FileFault::Unusable)?;
-    assert_eq!(rt; unusable.as_str(), "the file can't be used");
+    assert_eq!(rt; unusable.as_str(), "the file can't be opened, read or made");
     let lacking = format!(in rt.alloc(); "{}", FileFault::Memory)?;
     assert_eq!(rt; lacking.as_str(), "memory ran out");
     Ok(())
