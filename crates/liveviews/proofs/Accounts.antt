@@ -1,42 +1,5 @@
 -- What is written of a stream, message by message.
-use Rattle.std.proofs.lemmas.List.{take_all}
-use Rattle.std.proofs.Common.{
-  ◌≡◌,
-  ◌⊎◌,
-  inl,
-  inr,
-  ℕ,
-  ◌-◌,
-  ◌<◌,
-  ◌≤◌,
-  Bool,
-  true,
-  false,
-  Option,
-  None,
-  Some,
-  Result,
-  Ok,
-  Err,
-  OnOk,
-  IfErr,
-  List,
-  [],
-  ◌∷◌,
-  ◌++◌,
-  length,
-  take,
-  drop,
-  refl,
-  ap,
-  sym,
-  subst,
-  ◌∙◌,
-  arith,
-  append_assoc,
-  append-nil,
-  length-drop,
-}
+use Rattle.std.proofs.Common.{◌≡◌, ◌⊎◌, inl, inr, ℕ, ◌<◌, ◌≤◌, Bool, true, false, Option, None, Some, Result, Ok, Err, OnOk, IfErr, List, [], ◌∷◌, ◌++◌, length, drop, refl, ap, sym, subst, ◌∙◌, arith, append_assoc, append-nil}
 use Rattle.std.specs.Prelude.{if◌then◌else◌, string_bytes}
 use Rattle.std.specs.Option.{option_map}
 use Rattle.values.specs.Reading.{Reading, Stands, mapped}
@@ -50,20 +13,7 @@ use Rattle.feed.specs.CutLaw.{PartialUses, WholeUses}
 use Rattle.feed.specs.Events.{Event, Given, batch, dictionary, ended, given, schema}
 use Rattle.feed.specs.Retained.{Retained, stream_in}
 use Rattle.feed.specs.Shown.{FeedParts, Shows, breaks, event_seen, seen}
-use Rattle.feed.specs.States.{
-  FeedState,
-  Finishes,
-  Gives,
-  after_push,
-  closed,
-  condition_after,
-  finishing_when,
-  fresh,
-  gives,
-  given_when,
-  is_broken,
-  retained_in,
-}
+use Rattle.feed.specs.States.{FeedState, Finishes, Gives, after_push, closed, condition_after, finishing_when, fresh, gives, given_when, retained_in}
 use Rattle.feed.specs.Pieces.{NothingLeft, PushKeeps, RefusalEnds}
 use Rattle.feed.specs.Transcript.{Transcript, led_by, no_events, transcript}
 use Rattle.liveviews.specs.Inspect.{

@@ -1,29 +1,5 @@
 -- The rows of a batch, from its columns.
-use Rattle.std.proofs.Common.{
-  ◌≡◌,
-  ℕ,
-  zero,
-  suc,
-  List,
-  ◌++◌,
-  ◌+◌,
-  ◌<◌,
-  ◌≤◌,
-  length,
-  All,
-  Any,
-  slice_index_or,
-  OnOk,
-  Result,
-  Ok,
-  Err,
-  refl,
-  ap,
-  sym,
-  subst,
-  ◌∙◌,
-  arith,
-}
+use Rattle.std.proofs.Common.{◌≡◌, ℕ, zero, suc, List, ◌++◌, ◌+◌, ◌<◌, ◌≤◌, length, All, Any, slice_index_or, refl, ap, sym, subst, ◌∙◌, arith}
 use Rattle.std.proofs.lemmas.List.{length-append}
 use Rattle.std.proofs.lemmas.List.Elements.{All-append}
 use Rattle.values.specs.Limits.{max_main_rows}

@@ -57,17 +57,7 @@ use Rattle.liveviews.specs.Kept.{taken_rows}
 use Rattle.liveviews.specs.Source.{OfSource}
 use Rattle.liveviews.specs.declared.table.Table.{Table}
 use Rattle.liveviews.specs.declared.kept_batches.KeptBatches.{KeptBatches}
-use Rattle.liveviews.specs.Steps.{
-  AreTakenSo,
-  GoesOn,
-  HasTaken,
-  HasTakenAll,
-  IsComplete,
-  IsOpen,
-  IsRead,
-  Reached,
-  Refuses,
-}
+use Rattle.liveviews.specs.Steps.{AreTakenSo, GoesOn, HasTaken, HasTakenAll, IsComplete, IsRead, Reached, Refuses}
 use Rattle.liveviews.proofs.Accounts.{after-shows, finish-fault, finish-valid}
 use Rattle.liveviews.proofs.KeptLemmas.{kept-so-none}
 use Rattle.liveviews.proofs.Stories.{after-none, between-goes, stands-refuses}

@@ -1,33 +1,6 @@
 -- What is kept beside the rows.
-use Rattle.std.proofs.Common.{
-  ◌≡◌,
-  ℕ,
-  zero,
-  suc,
-  ◌+◌,
-  ◌<◌,
-  ◌≤◌,
-  List,
-  [],
-  ◌∷◌,
-  ◌++◌,
-  length,
-  drop,
-  get_or,
-  refl,
-  ap,
-  sym,
-  subst,
-  ◌∙◌,
-  arith,
-  append-nil,
-  All,
-  inl,
-  inr,
-  length-append,
-}
+use Rattle.std.proofs.Common.{◌≡◌, ℕ, zero, suc, ◌+◌, ◌<◌, ◌≤◌, List, [], ◌∷◌, ◌++◌, length, drop, get_or, refl, ap, sym, subst, ◌∙◌, arith, append-nil, All, length-append}
 use Rattle.std.specs.Prelude.{map, Option, None, Some}
-use Rattle.std.proofs.lemmas.Bool.{cases_lt}
 use Rattle.std.proofs.lemmas.List.{drop_more, drop_all, length-map}
 use Rattle.std.proofs.lemmas.List.Concat.{flat_map-append}
 use Rattle.std.proofs.lemmas.List.Elements.{All-append, All-cons, All-nil, All-head, All-tail, All-get_or, All-weaker}
@@ -47,20 +20,9 @@ use Rattle.row_keys.specs.Batches.{HoldsCells}
 use Rattle.column_writer.specs.declared.batch.Batch.{Batch}
 use Rattle.column_writer.specs.Batches.{IsSized, batch_rows, rows_of}
 use Rattle.stream_writer.specs.Stream.{trees}
-use Rattle.stream_writer.specs.BatchRows.{AreLightRows, max_light_row}
 use Rattle.liveviews.specs.Heavy.{IsLight, row_weight}
 use Rattle.liveviews.specs.Taken.{AreFit}
-use Rattle.liveviews.specs.Kept.{
-  AreLightUpTo,
-  HasSizes,
-  IsKept,
-  IsKeptSo,
-  IsLightAs,
-  IsLightBatch,
-  IsWritable,
-  WeighsAs,
-  taken_rows,
-}
+use Rattle.liveviews.specs.Kept.{AreLightUpTo, IsKept, IsKeptSo, IsLightBatch, IsWritable, WeighsAs, taken_rows}
 use Rattle.liveviews.specs.declared.kept_batches.KeptBatches.{KeptBatches}
 use Rattle.liveviews.proofs.BatchLemmas.{rows_from-length}
 

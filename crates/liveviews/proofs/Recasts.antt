@@ -16,7 +16,7 @@ use Rattle.stream_writer.specs.declared.faults.WriteFault.{WriteFault}
 use Rattle.liveviews.specs.ReadBack.{ReadBack}
 use Rattle.liveviews.specs.Files.{IsContent, RecastsFile, RecastsSource, source_fault_of}
 use Rattle.liveviews.specs.Kept.{taken_rows}
-use Rattle.liveviews.specs.Source.{HoldsFile, OfSource}
+use Rattle.liveviews.specs.Source.{OfSource}
 use Rattle.liveviews.specs.Steps.{AreTakenSo, IsRead, Refuses}
 use Rattle.liveviews.specs.declared.files.FileFault.{FileFault}
 use Rattle.liveviews.specs.declared.files.FileFault.TheVariants as file

@@ -1,37 +1,9 @@
 -- What was shown of a stream, message by message.
-use Rattle.std.proofs.Common.{
-  ◌≡◌,
-  ◌⊎◌,
-  inl,
-  inr,
-  ℕ,
-  ◌<◌,
-  ◌≤◌,
-  Option,
-  None,
-  Some,
-  Ok,
-  Err,
-  List,
-  [],
-  ◌++◌,
-  length,
-  drop,
-  All,
-  refl,
-  ap,
-  sym,
-  subst,
-  ◌∙◌,
-  arith,
-  append_assoc,
-  append-nil,
-}
+use Rattle.std.proofs.Common.{◌≡◌, inl, inr, ℕ, ◌<◌, ◌≤◌, Option, None, Some, Ok, Err, List, [], ◌++◌, length, drop, All, refl, ap, sym, subst, ◌∙◌, arith, append_assoc, append-nil}
 use Rattle.std.specs.Prelude.{Result, IfErr, OnOk}
 use Rattle.std.specs.Option.{IfSome, option_map}
 use Rattle.values.specs.Reading.{Reading, Stands, mapped}
 use Rattle.values.specs.declared.faults.StreamFault.{StreamFault}
-use Rattle.values.specs.declared.faults.StreamFault.TheVariants as fault
 use Rattle.values.specs.Rose.{Rose}
 use Rattle.values.proofs.Readings.{stands_mapped}
 use Rattle.arrays.specs.Checked.{CheckedColumn}
@@ -49,7 +21,6 @@ use Rattle.feed.specs.Transcript.{transcript}
 use Rattle.liveviews.specs.Inspect.{Account, EndsAlike, account_in, account_of, after_lines, last_in, last_line, status_where}
 use Rattle.liveviews.specs.Lines.{given_lines}
 use Rattle.liveviews.specs.Source.{HoldsFile, OfSource}
-use Rattle.liveviews.specs.Files.{IsContent}
 use Rattle.liveviews.specs.Showing.{HasCells, HasPassed, IsFault, IsShown, Remains, ShowsFile}
 use Rattle.liveviews.specs.declared.show.ShowFault.{ShowFault}
 use Rattle.liveviews.specs.declared.show.ShowFault.TheVariants as show

@@ -1,7 +1,6 @@
 -- How far a stream was shown.
 use Rattle.std.specs.Prelude.{◌≡◌, ◌⊎◌, ℕ, List, [], All, Option, Result, Ok, Err, length}
 use Rattle.values.specs.Reading.{Stands}
-use Rattle.values.specs.declared.faults.StreamFault.{StreamFault}
 use Rattle.values.specs.declared.faults.StreamFault.TheVariants as fault
 use Rattle.schema_meta.specs.Story.{story_of}
 use Rattle.feed.specs.Shown.{FeedParts, Shows}
