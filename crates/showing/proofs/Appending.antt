@@ -26,7 +26,7 @@ use Rattle.std.proofs.Common.{
   append_assoc,
   append-nil,
 }
-use Rattle.std.specs.Prelude.{Option, flat_map}
+use Rattle.std.specs.Prelude.{Option, Result, Ok, Err, OnOk, flat_map}
 use Rattle.std.specs.Io.KnownBytes.{Appends}
 use Rattle.std.proofs.KnownBytes.{Appends-trans}
 use Rattle.std.proofs.lemmas.Grind.{flat_map-append}
@@ -40,6 +40,22 @@ pub appends-two : (a b c : Option (List ℕ)) (s t u : List ℕ) → Appends a b
 appends-two a b c s t u first second whole = subst (Appends a c) (sym whole) (Appends-trans a b c s t first second)
 
 pub ruleset appends = (appends-two)
+
+-- the same text
+pub appends-same :
+    {E : Type 0} (r : Result (Unit {0}) E) (a b : Option (List ℕ)) (s t : List ℕ) → OnOk r (Appends a b s) → s ≡ t
+    → OnOk r (Appends a b t)
+appends-same (Ok u) a b s t wrote is = subst (Appends a b) is wrote
+appends-same (Err e) a b s t wrote is = tt
+
+-- three texts, one after the other, of which the last may fail
+pub appends-three :
+    {E : Type 0} (r : Result (Unit {0}) E) (a b c d : Option (List ℕ)) (s t u whole : List ℕ) → Appends a b s
+    → Appends b c t → OnOk r (Appends c d u) → s ++ (t ++ u) ≡ whole
+    → OnOk r (Appends a d whole)
+appends-three (Ok x) a b c d s t u whole first second third is =
+    subst (Appends a d) is (Appends-trans a b d s (t ++ u) first (Appends-trans b c d t u second third))
+appends-three (Err e) a b c d s t u whole first second third is = tt
 
 -- one digit more, from the front
 pub digit-more :

@@ -3,4 +3,8 @@ pub mod Digits
 pub mod Dates
 pub mod Numbers
 pub mod Visible
+pub mod Fields
+pub mod Joined
+pub mod Json
 pub mod Csv
+pub mod Lines

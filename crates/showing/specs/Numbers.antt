@@ -1,5 +1,5 @@
--- Numbers as text, by the type of their column.
-use Rattle.std.specs.Prelude.{ℕ, ℤ, List, ◌==◌, length, not}
+-- Numbers as text, by the type of their column, and truth values.
+use Rattle.std.specs.Prelude.{ℕ, ℤ, Bool, List, ◌==◌, codes, if◌then◌else◌, length, not}
 use Rattle.std.specs.Fmt.{signed_decimal}
 use Rattle.values.specs.declared.col_type.ColType.{ColType}
 use Rattle.values.specs.declared.col_type.ColType.TheVariants as col
@@ -19,3 +19,6 @@ number_text (col.Time u) z = time_text (scale_of u) z
 number_text (col.Timestamp u zone) z = timestamp_text (scale_of u) (not (length zone == 0)) z
 number_text (col.Duration u) z = duration_text (scale_of u) z
 number_text t z = signed_decimal z
+
+abbrev pub truth_text : Bool → List ℕ
+truth_text b = if b then codes "true" else codes "false"

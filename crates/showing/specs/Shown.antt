@@ -1,5 +1,5 @@
 -- What a cell that is seen where it lies is read as.
-use Rattle.std.specs.Prelude.{ℕ, ◌+◌, ◌-◌, ◌≤◌, List, Ok}
+use Rattle.std.specs.Prelude.{ℕ, ◌+◌, ◌-◌, ◌≤◌, List, [], Ok, Err, get_or}
 use Rattle.values.specs.Datum.{Datum, null, truth, whole, text, bytes, list, structure, items_of}
 use Rattle.values.specs.Reading.{Reading, IsValid, each}
 use Rattle.values.specs.Rose.{Rose, Roses, kids_of}
@@ -7,6 +7,7 @@ use Rattle.values.specs.declared.layout.Layout.TheVariants.{Struct as Structs}
 use Rattle.array_layout.specs.declared.array.ArrayData.{ArrayData}
 use Rattle.array_layout.specs.Cells.{cell, len_of, list_of, row, structure_of}
 use Rattle.array_layout.specs.Sound.{AreLong, AreSound, IsSound}
+use Rattle.arrays.specs.Checked.{CheckedColumn}
 use Rattle.showing.specs.declared.cell.Cell.{Cell}
 use Rattle.showing.specs.declared.cell.Cell.TheVariants.{
   Null,
@@ -38,6 +39,22 @@ shown (Listed s) = items_read s.body.now s.array.now s.from s.to
 shown (Struct s) = members_read s.body.now (kids_of s.arrays.now) s.at
 shown (HeldList vs) = Ok (list (items_of vs.now))
 shown (HeldStruct vs) = Ok (structure (items_of vs.now))
+
+-- what can be read
+abbrev pub value_of : Reading Datum → Datum
+value_of (Ok d) = d
+value_of (Err fs) = null
+
+abbrev pub values_of : Reading (List Datum) → List Datum
+values_of (Ok ds) = ds
+values_of (Err fs) = []
+
+abbrev pub seen : Cell → Datum
+seen c = value_of (shown c)
+
+-- the cell of a column at a place
+abbrev pub cell_in : CheckedColumn → ℕ → Datum
+cell_in c i = get_or c.cells i null
 
 -- these slots of an array can be read
 pub record AreItems (body : List ℕ) (array : Rose ArrayData) (from to : ℕ) : Type 0 where

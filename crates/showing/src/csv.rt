@@ -1,7 +1,9 @@
 //! Rows as CSV.
 
-ghost use Rattle.std.specs.Prelude.{◌≡◌, ◌<◌, All, length};
-ghost use Rattle.showing.specs.Shown.{IsReadable};
+ghost use Rattle.std.specs.Prelude.{◌≡◌, ◌<◌, All, OnOk, length};
+ghost use Rattle.std.specs.Io.KnownBytes.{Appends};
+ghost use Rattle.showing.specs.Lines.{bytes_field, cell_field, line, name_fields, nested_field, row_fields};
+ghost use Rattle.showing.specs.Shown.{IsReadable, seen};
 
 use crate::cell::{Cell, cell_at};
 use crate::digits::write_hex;
@@ -17,7 +19,9 @@ use std::io::Write;
 const DOUBLED: &str = "\"\"";
 
 /// Writes bytes as a field: hexadecimal digits, or an empty text for none.
-fn write_bytes<W: Write>(out: &mut W, bytes: &[u8]) -> io::Result<()> {
+fn write_bytes<W: Write>(out: &mut W, bytes: &[u8]) -> io::Result<()>
+    ensures { OnOk result (Appends (W.contents out.old) (W.contents out.new) (bytes_field bytes.now)) }
+{
     if bytes.is_empty() {
         return write_field(out, bytes);
     }
@@ -25,8 +29,11 @@ fn write_bytes<W: Write>(out: &mut W, bytes: &[u8]) -> io::Result<()> {
 }
 
 /// Writes a list or a struct as a field: JSON between quotes.
+#[tactic(auto, using(crate::proofs::Appending::appends))]
 fn write_nested<W: Write>(out: &mut W, field: &Field, cell: Cell) -> io::Result<()>
     requires { IsReadable cell }
+    ensures { OnOk result (Appends (W.contents out.old) (W.contents out.new)
+        (nested_field field.now (seen cell.entry))) }
 {
     out.write_all(b"\"")?;
     write_json(out, DOUBLED, field, cell)?;
@@ -36,6 +43,7 @@ fn write_nested<W: Write>(out: &mut W, field: &Field, cell: Cell) -> io::Result<
 /// Writes a cell as a field; nothing for a null.
 fn write_cell<W: Write>(out: &mut W, field: &Field, cell: Cell) -> io::Result<()>
     requires { IsReadable cell }
+    ensures { OnOk result (Appends (W.contents out.old) (W.contents out.new) (cell_field field.now (seen cell.entry))) }
 {
     match cell {
         Cell::Null => Ok(()),
@@ -47,8 +55,11 @@ fn write_cell<W: Write>(out: &mut W, field: &Field, cell: Cell) -> io::Result<()
     }
 }
 
-/// Writes the line of the columns' names.
-pub fn write_csv_names<W: Write>(fields: &[Field], out: &mut W) -> io::Result<()> {
+/// Writes the line of the columns' names (RFC 4180, section 2): each as a field, with a comma between each two, and a
+/// line feed. Where the writer fails, some of it may have been written.
+pub fn write_csv_names<W: Write>(fields: &[Field], out: &mut W) -> io::Result<()>
+    ensures { OnOk result (Appends (W.contents out.old) (W.contents out.new) (line (name_fields fields.now))) }
+{
     let mut comma = "";
     for field in fields {
         write!(out, "{comma}")?;
@@ -58,7 +69,8 @@ pub fn write_csv_names<W: Write>(fields: &[Field], out: &mut W) -> io::Result<()
     out.write_all(b"\n")
 }
 
-/// Writes the line of a row: the cells of some columns at one place, each as a field.
+/// Writes the line of a row (RFC 4180, section 2): the cells of some columns at one place, each as a field, with a
+/// comma between each two, and a line feed. Where the writer fails, some of it may have been written.
 pub fn write_csv_row<W: Write>(
     fields: &[Field],
     columns: &[Column],
@@ -66,6 +78,8 @@ pub fn write_csv_row<W: Write>(
     out: &mut W,
 ) -> io::Result<()>
     requires { All (λ c. row < length c.cells) columns.now }
+    ensures { OnOk result (Appends (W.contents out.old) (W.contents out.new)
+        (line (row_fields fields.now columns.now row))) }
 {
     let mut fields = fields;
     let mut comma = "";

@@ -2,8 +2,17 @@
 //!
 //! A quote is written as `quote`, so that the text can stand in a field of CSV, where quotes are doubled.
 
-ghost use Rattle.values.specs.Rose.{kids_of};
-ghost use Rattle.showing.specs.Shown.{AreItems, AreMembers, IsReadable};
+ghost use Rattle.std.specs.Prelude.{◌≡◌, ◌++◌, ◌-◌, ◌∷◌, [], OnOk, codes, flat_map};
+ghost use Rattle.std.specs.Io.KnownBytes.{Appends};
+ghost use Rattle.std.specs.Str.{chars};
+ghost use Rattle.values.specs.Datum.{items_of};
+ghost use Rattle.values.specs.Reading.{each};
+ghost use Rattle.values.specs.Rose.{kids_of, more, none};
+ghost use Rattle.array_layout.specs.Cells.{cell, row};
+ghost use Rattle.showing.specs.Digits.{hex_text};
+ghost use Rattle.showing.specs.Joined.{joined};
+ghost use Rattle.showing.specs.Json.{four_digits, items_of_first, json, json_char, json_number, json_string, members};
+ghost use Rattle.showing.specs.Shown.{AreItems, AreMembers, IsReadable, seen, values_of};
 
 use crate::cell::{Cell, Items, array_cell, value_cell};
 use crate::digits::write_hex;
@@ -16,12 +25,16 @@ use std::io::Write;
 use values::{ColType, Value};
 
 /// Writes a character that a terminal must not see by its number.
-fn write_number_of<W: Write>(out: &mut W, c: char) -> io::Result<()> {
+fn write_number_of<W: Write>(out: &mut W, c: char) -> io::Result<()>
+    ensures { OnOk result (Appends (W.contents out.old) (W.contents out.new) (codes "\\u" ++ four_digits c)) }
+{
     let number = u32::from(c);
     write!(out, "\\u{number:04x}")
 }
 
-fn write_char<W: Write>(out: &mut W, quote: &str, c: char) -> io::Result<()> {
+fn write_char<W: Write>(out: &mut W, quote: &str, c: char) -> io::Result<()>
+    ensures { OnOk result (Appends (W.contents out.old) (W.contents out.new) (json_char quote.now c)) }
+{
     match c {
         '"' => write!(out, "\\{quote}"),
         '\\' => out.write_all(b"\\\\"),
@@ -33,22 +46,38 @@ fn write_char<W: Write>(out: &mut W, quote: &str, c: char) -> io::Result<()> {
     }
 }
 
-/// Writes a text as a JSON string.
-fn write_string<W: Write>(out: &mut W, quote: &str, text: &str) -> io::Result<()> {
-    write!(out, "{quote}")?;
+/// Writes the characters of a JSON string.
+fn write_chars<W: Write>(out: &mut W, quote: &str, text: &str) -> io::Result<()>
+    ensures { OnOk result (Appends (W.contents out.old) (W.contents out.new)
+        (flat_map (json_char quote.now) (chars text.now))) }
+{
     for c in text.chars() {
         write_char(out, quote, c)?;
     }
+    Ok(())
+}
+
+/// Writes a text as a JSON string.
+#[tactic(auto, using(crate::proofs::Appending::appends))]
+fn write_string<W: Write>(out: &mut W, quote: &str, text: &str) -> io::Result<()>
+    ensures { OnOk result (Appends (W.contents out.old) (W.contents out.new) (json_string quote.now text.now)) }
+{
+    write!(out, "{quote}")?;
+    write_chars(out, quote, text)?;
     write!(out, "{quote}")
 }
 
 /// Writes a number: a whole number as one of JSON, and any other as a string.
+#[tactic(auto, using(crate::proofs::Appending::appends))]
 fn write_json_number<W: Write>(
     out: &mut W,
     quote: &str,
     stored: &ColType,
     number: i128,
-) -> io::Result<()> {
+) -> io::Result<()>
+    ensures { OnOk result (Appends (W.contents out.old) (W.contents out.new)
+        (json_number quote.now stored.now number)) }
+{
     if let ColType::Int { .. } = stored {
         return write!(out, "{number}");
     }
@@ -57,7 +86,11 @@ fn write_json_number<W: Write>(
     write!(out, "{quote}")
 }
 
-fn write_json_bytes<W: Write>(out: &mut W, quote: &str, bytes: &[u8]) -> io::Result<()> {
+#[tactic(auto, using(crate::proofs::Appending::appends))]
+fn write_json_bytes<W: Write>(out: &mut W, quote: &str, bytes: &[u8]) -> io::Result<()>
+    ensures { OnOk result (Appends (W.contents out.old) (W.contents out.new)
+        (quote.now ++ (hex_text bytes.now ++ quote.now))) }
+{
     write!(out, "{quote}")?;
     write_hex(out, bytes)?;
     write!(out, "{quote}")
@@ -72,6 +105,8 @@ pub(crate) fn write_json<W: Write>(
     cell: Cell,
 ) -> io::Result<()>
     requires { IsReadable cell }
+    ensures { OnOk result (Appends (W.contents out.old) (W.contents out.new)
+        (json quote.now field.now (seen cell.entry))) }
 {
     match cell {
         Cell::Null => out.write_all(b"null"),
@@ -97,11 +132,16 @@ pub(crate) fn write_json<W: Write>(
 #[cycle(json)]
 fn write_list<W: Write>(out: &mut W, quote: &str, fields: &[Field], items: Items) -> io::Result<()>
     requires { AreItems items.body.now items.array.now items.from items.to }
+    ensures { OnOk result (Appends (W.contents out.old) (W.contents out.new)
+        (codes "[" ++ (joined (codes ",") (items_of_first quote.now (kids_of fields.now) (items_of
+        (values_of (each (cell items.entry.body.now items.entry.array.now) items.entry.from
+        (items.entry.to - items.entry.from))))) ++ codes "]"))) }
 {
+    let Some(field) = fields.first() else {
+        return out.write_all(b"[]");
+    };
     out.write_all(b"[")?;
-    if let Some(field) = fields.first() {
-        write_items(out, quote, field, items)?;
-    }
+    write_items(out, quote, field, items)?;
     out.write_all(b"]")
 }
 
@@ -109,6 +149,10 @@ fn write_list<W: Write>(out: &mut W, quote: &str, fields: &[Field], items: Items
 #[tactic(auto, using(arrays::proofs::CopyLemmas::left_laws))]
 fn write_items<W: Write>(out: &mut W, quote: &str, field: &Field, items: Items) -> io::Result<()>
     requires { AreItems items.body.now items.array.now items.from items.to }
+    ensures { OnOk result (Appends (W.contents out.old) (W.contents out.new)
+        (joined (codes ",") (items_of_first quote.now (more field.now none) (items_of
+        (values_of (each (cell items.entry.body.now items.entry.array.now) items.entry.from
+        (items.entry.to - items.entry.from))))))) }
 {
     let Items {
         body,
@@ -137,6 +181,9 @@ fn write_struct<W: Write>(
     at: usize,
 ) -> io::Result<()>
     requires { AreMembers body.now (kids_of arrays.now) at }
+    ensures { OnOk result (Appends (W.contents out.old) (W.contents out.new)
+        (codes "{" ++ (joined (codes ",") (members quote.now (kids_of fields.now)
+        (items_of (values_of (row body.now (kids_of arrays.now) at)))) ++ codes "}"))) }
 {
     out.write_all(b"{")?;
     let mut arrays = arrays;
@@ -162,11 +209,16 @@ fn write_held_list<W: Write>(
     quote: &str,
     fields: &[Field],
     items: &[Value],
-) -> io::Result<()> {
+) -> io::Result<()>
+    ensures { OnOk result (Appends (W.contents out.old) (W.contents out.new)
+        (codes "[" ++ (joined (codes ",") (items_of_first quote.now (kids_of fields.now)
+        (items_of items.now)) ++ codes "]"))) }
+{
+    let Some(field) = fields.first() else {
+        return out.write_all(b"[]");
+    };
     out.write_all(b"[")?;
-    if let Some(field) = fields.first() {
-        write_held_items(out, quote, field, items)?;
-    }
+    write_held_items(out, quote, field, items)?;
     out.write_all(b"]")
 }
 
@@ -176,7 +228,10 @@ fn write_held_items<W: Write>(
     quote: &str,
     field: &Field,
     items: &[Value],
-) -> io::Result<()> {
+) -> io::Result<()>
+    ensures { OnOk result (Appends (W.contents out.old) (W.contents out.new)
+        (joined (codes ",") (items_of_first quote.now (more field.now none) (items_of items.now)))) }
+{
     let mut comma = "";
     for item in items {
         write!(out, "{comma}")?;
@@ -194,7 +249,11 @@ fn write_held_struct<W: Write>(
     quote: &str,
     fields: &[Field],
     cells: &[Value],
-) -> io::Result<()> {
+) -> io::Result<()>
+    ensures { OnOk result (Appends (W.contents out.old) (W.contents out.new)
+        (codes "{" ++ (joined (codes ",") (members quote.now (kids_of fields.now)
+        (items_of cells.now)) ++ codes "}"))) }
+{
     out.write_all(b"{")?;
     let mut cells = cells;
     let mut comma = "";
