@@ -2,6 +2,8 @@ pub mod Slots
 pub mod Appending
 pub mod Leaving
 pub mod Lists
+pub mod Bars
+pub mod Widths
 pub mod Numbers
 pub mod Powers
 pub mod Calendar

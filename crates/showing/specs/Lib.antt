@@ -8,3 +8,4 @@ pub mod Joined
 pub mod Json
 pub mod Csv
 pub mod Lines
+pub mod Tables

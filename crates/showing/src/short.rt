@@ -1,6 +1,7 @@
 //! A text of a bounded length.
 
 ghost use Rattle.std.specs.Prelude.{◌≡◌, []};
+ghost use Rattle.showing.specs.Tables.{width_of};
 
 use std::alloc::{AllocError, Global};
 use std::io;
@@ -36,7 +37,9 @@ impl Short {
     }
 
     /// How many characters it has: as many as bytes that begin one.
-    pub(crate) fn width(&self) -> usize {
+    pub(crate) fn width(&self) -> usize
+        ensures { result ≡ width_of self.now.bytes.items }
+    {
         self.bytes
             .iter()
             .filter(|byte| **byte < 0x80 || **byte >= 0xC0)

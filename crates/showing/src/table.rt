@@ -1,8 +1,44 @@
 //! Tables for a terminal.
 
-ghost use Rattle.std.specs.Prelude.{◌≡◌, ◌<◌, ◌≤◌, ◌++◌, ◌∷◌, [], All, OnOk, length};
+ghost use Rattle.std.specs.Prelude.{
+  ◌≡◌,
+  ◌<◌,
+  ◌≤◌,
+  [],
+  All,
+  IfOk,
+  IsTrue,
+  OnOk,
+  get_or,
+  length,
+  min,
+  replicate,
+};
 ghost use Rattle.std.specs.Io.KnownBytes.{Appends};
-ghost use Rattle.showing.specs.Shown.{IsReadable};
+ghost use Rattle.showing.specs.Fields.{entry};
+ghost use Rattle.showing.specs.Shown.{IsReadable, seen};
+ghost use Rattle.showing.specs.Tables.{
+  AreNameWidths,
+  AreWider,
+  IsAsWide,
+  IsHead,
+  IsNameWidth,
+  IsRow,
+  IsWider,
+  IsWiderAt,
+  PutsSlot,
+  Writes,
+  amount,
+  cell_slot,
+  cell_text,
+  count_line,
+  is_right,
+  name_slot,
+  rule,
+  text_slot,
+  width_of,
+};
+ghost use Rattle.showing.specs.Visible.{visible_text};
 
 use crate::cell::{Cell, cell_at};
 use crate::digits::write_hex;
@@ -31,6 +67,7 @@ const MEASURED: usize = 1024;
 /// Writes a cell for a terminal.
 fn write_cell<W: Write>(out: &mut W, field: &Field, cell: Cell) -> io::Result<()>
     requires { IsReadable cell }
+    ensures { OnOk result (Appends (W.contents out.old) (W.contents out.new) (cell_text field.now (seen cell.entry))) }
 {
     match cell {
         Cell::Null => out.write_all(b"NULL"),
@@ -43,7 +80,9 @@ fn write_cell<W: Write>(out: &mut W, field: &Field, cell: Cell) -> io::Result<()
 }
 
 /// Whether cells of this type stand at the right of their column: numbers do.
-fn is_number(stored: &ColType) -> bool {
+fn is_number(stored: &ColType) -> bool
+    ensures { result ≡ is_right stored.now }
+{
     matches!(
         stored,
         ColType::Int { .. } | ColType::Decimal { .. } | ColType::Duration { .. }
@@ -51,7 +90,9 @@ fn is_number(stored: &ColType) -> bool {
 }
 
 /// Writes a byte so many times.
-fn write_run<W: Write>(out: &mut W, byte: u8, count: usize) -> io::Result<()> {
+fn write_run<W: Write>(out: &mut W, byte: u8, count: usize) -> io::Result<()>
+    ensures { OnOk result (Appends (W.contents out.old) (W.contents out.new) (replicate count byte)) }
+{
     for _i in 0..count {
         out.write_all(&[byte])?;
     }
@@ -65,7 +106,10 @@ fn write_placed<W: Write>(
     text: &Short,
     width: usize,
     at_right: bool,
-) -> io::Result<usize> {
+) -> io::Result<usize>
+    ensures { IfOk result (PutsSlot (W.contents out.old) (W.contents out.new)
+        (text_slot at_right width text.now.bytes.items)) }
+{
     let gap = width.saturating_sub(text.width());
     if at_right {
         write_run(out, b' ', gap)?;
@@ -77,7 +121,9 @@ fn write_placed<W: Write>(
 }
 
 /// Puts the name of a field into a short text. Returns whether it fits.
-fn put_name(text: &mut Short, field: &Field) -> bool {
+fn put_name(text: &mut Short, field: &Field) -> bool
+    ensures { IsTrue result → text.new.bytes.items ≡ visible_text (entry field.now).name }
+{
     text.clear();
     write_visible(text, &field.name).is_ok()
 }
@@ -85,13 +131,16 @@ fn put_name(text: &mut Short, field: &Field) -> bool {
 /// Puts a cell into a short text. Returns whether it fits.
 fn put_cell(text: &mut Short, field: &Field, cell: Cell) -> bool
     requires { IsReadable cell }
+    ensures { IsTrue result → text.new.bytes.items ≡ cell_text field.now (seen cell.entry) }
 {
     text.clear();
     write_cell(text, field, cell).is_ok()
 }
 
 /// The width of the name of a field; 0 where it is too long to be measured.
-fn name_width(text: &mut Short, field: &Field) -> usize {
+fn name_width(text: &mut Short, field: &Field) -> usize
+    ensures { IsNameWidth field.now result }
+{
     if put_name(text, field) {
         text.width()
     } else {
@@ -99,15 +148,26 @@ fn name_width(text: &mut Short, field: &Field) -> usize {
     }
 }
 
+/// The greater of a width and that of a cell, but for a cell that is too long to be measured.
+fn wider(text: &mut Short, field: &Field, cell: Cell, width: usize) -> usize
+    requires { IsReadable cell }
+    ensures { IsAsWide field.now (seen cell.entry) width result }
+{
+    if put_cell(text, field, cell) {
+        width.max(text.width())
+    } else {
+        width
+    }
+}
+
 /// The greatest of a width and those of the first cells of a column, but for cells that are too long to be measured.
 fn widest(text: &mut Short, field: &Field, column: &Column, rows: usize, width: usize) -> usize
     requires { rows ≤ length column.now.cells }
+    ensures { IsWider field.now column.now rows width result }
 {
     let mut most = width;
     for row in 0..rows {
-        if put_cell(text, field, cell_at(column, row)) {
-            most = most.max(text.width());
-        }
+        most = wider(text, field, cell_at(column, row), most);
     }
     most
 }
@@ -118,7 +178,9 @@ fn write_name<W: Write>(
     field: &Field,
     width: usize,
     out: &mut W,
-) -> io::Result<usize> {
+) -> io::Result<usize>
+    ensures { IfOk result (PutsSlot (W.contents out.old) (W.contents out.new) (name_slot width field.now)) }
+{
     if put_name(text, field) {
         return write_placed(out, text, width, is_number(&field.stored));
     }
@@ -135,6 +197,8 @@ fn write_in_column<W: Write>(
     out: &mut W,
 ) -> io::Result<usize>
     requires { IsReadable cell }
+    ensures { IfOk result (PutsSlot (W.contents out.old) (W.contents out.new)
+        (cell_slot width field.now (seen cell.entry))) }
 {
     if put_cell(text, field, cell) {
         return write_placed(out, text, width, is_number(&field.stored));
@@ -155,7 +219,11 @@ pub struct Table {
 
 impl Table {
     /// A table whose columns are as wide as their names.
-    pub fn new(alloc: Global, fields: &[Field]) -> Result<Table, AllocError> {
+    ///
+    /// A name that is longer than 128 bytes isn't measured: the width of its column is 0. The error is want of memory.
+    pub fn new(alloc: Global, fields: &[Field]) -> Result<Table, AllocError>
+        ensures { IfOk result (λ t. AreNameWidths fields.now t.widths.items) }
+    {
         let mut text = Short::new(alloc)?;
         let mut widths = Vec::with_capacity(alloc, fields.len())?;
         for field in fields {
@@ -165,27 +233,45 @@ impl Table {
     }
 
     /// The width of a column.
-    fn width(&self, place: usize) -> usize {
+    fn width(&self, place: usize) -> usize
+        ensures { result ≡ get_or self.now.widths.items place 0 }
+    {
         self.widths.get(place).copied().unwrap_or(0)
     }
 
     /// Widens the columns for the first `rows` cells of each, but of no more than 1,024.
     pub fn measure(&mut self, fields: &[Field], columns: &[Column], rows: usize)
         requires { All (λ c. rows ≤ length c.cells) columns.now }
+        ensures { AreWider fields.now columns.now (min rows 1024) self.old.widths.items self.new.widths.items }
     {
         for (place, column) in columns.iter().enumerate() {
-            if let Some(field) = fields.get(place) {
-                let width = self.width(place);
-                let width = widest(&mut self.text, field, column, rows.min(MEASURED), width);
-                if place < self.widths.len() {
-                    self.widths[place] = width;
-                }
-            }
+            let Some(field) = fields.get(place) else {
+                break;
+            };
+            self.widen(place, field, column, rows.min(MEASURED));
+        }
+    }
+
+    /// Widens a column for its first cells.
+    fn widen(&mut self, place: usize, field: &Field, column: &Column, rows: usize)
+        requires { rows ≤ length column.now.cells }
+        ensures { IsWiderAt place field.now column.now rows self.old.widths.items self.new.widths.items }
+    {
+        if place < self.widths.len() {
+            let width = self.widths[place];
+            self.widths[place] = widest(&mut self.text, field, column, rows, width);
         }
     }
 
     /// Writes the line of the columns' names, and one of dashes.
-    pub fn write_names<W: Write>(&mut self, fields: &[Field], out: &mut W) -> io::Result<()> {
+    ///
+    /// The names stand in the order of the columns with a bar between each two, and those of numbers and durations at
+    /// the right of their columns. Where the writer fails, some of it may have been written.
+    pub fn write_names<W: Write>(&mut self, fields: &[Field], out: &mut W) -> io::Result<()>
+        ensures widths { self.new.widths.items ≡ self.old.widths.items }
+        ensures lines { OnOk result (Writes (W.contents out.old) (W.contents out.new)
+            (IsHead self.old.widths.items fields.now)) }
+    {
         let mut gap = 0;
         let mut bar = "";
         for (place, field) in fields.iter().enumerate() {
@@ -200,7 +286,9 @@ impl Table {
     }
 
     /// Writes a line of dashes.
-    fn write_rule<W: Write>(&self, out: &mut W) -> io::Result<()> {
+    fn write_rule<W: Write>(&self, out: &mut W) -> io::Result<()>
+        ensures { OnOk result (Appends (W.contents out.old) (W.contents out.new) (rule self.now.widths.items)) }
+    {
         let mut cross = "";
         for width in &self.widths {
             write!(out, "{cross}")?;
@@ -211,6 +299,9 @@ impl Table {
     }
 
     /// Writes the line of a row, the cells of some columns at one place.
+    ///
+    /// They stand in the order of the columns with a bar between each two, and numbers and durations at the right of
+    /// their columns. Where the writer fails, some of it may have been written.
     pub fn write_row<W: Write>(
         &mut self,
         fields: &[Field],
@@ -219,29 +310,46 @@ impl Table {
         out: &mut W,
     ) -> io::Result<()>
         requires { All (λ c. row < length c.cells) columns.now }
+        ensures widths { self.new.widths.items ≡ self.old.widths.items }
+        ensures line { OnOk result (Writes (W.contents out.old) (W.contents out.new)
+            (IsRow self.old.widths.items fields.now columns.now row)) }
     {
+        let mut fields = fields;
         let mut gap = 0;
         let mut bar = "";
         for (place, column) in columns.iter().enumerate() {
-            let Some(field) = fields.get(place) else {
+            let Some((field, rest)) = fields.split_first() else {
                 break;
             };
             write_run(out, b' ', gap)?;
             write!(out, "{bar}")?;
             let width = self.width(place);
             gap = write_in_column(&mut self.text, field, cell_at(column, row), width, out)?;
+            fields = rest;
             bar = BAR;
         }
         out.write_all(b"\n")
     }
 }
 
-/// Writes the line that ends a table: how many rows were shown, and of how many.
-pub fn write_count<W: Write>(shown: u64, rows: u64, out: &mut W) -> io::Result<()> {
-    let ending = if rows == 1 { "" } else { "s" };
+/// Writes how many rows were shown, and of how many.
+fn write_amount<W: Write>(shown: u64, rows: u64, out: &mut W) -> io::Result<()>
+    ensures { OnOk result (Appends (W.contents out.old) (W.contents out.new) (amount shown rows)) }
+{
     if shown == rows {
-        writeln!(out, "({rows} row{ending})")
+        write!(out, "{rows}")
     } else {
-        writeln!(out, "({shown} of {rows} row{ending})")
+        write!(out, "{shown} of {rows}")
     }
+}
+
+/// Writes the line that ends a table: how many rows were shown, and of how many. Where the writer fails, some of it may
+/// have been written.
+#[tactic(auto, using(crate::proofs::Appending::appends))]
+pub fn write_count<W: Write>(shown: u64, rows: u64, out: &mut W) -> io::Result<()>
+    ensures { OnOk result (Appends (W.contents out.old) (W.contents out.new) (count_line shown rows)) }
+{
+    out.write_all(b"(")?;
+    write_amount(shown, rows, out)?;
+    out.write_all(if rows == 1 { b" row)\n" } else { b" rows)\n" })
 }
