@@ -12,6 +12,8 @@ mod json;
 mod number;
 mod short;
 mod table;
+#[cfg(test)]
+mod tests;
 mod text;
 mod visible;
 
