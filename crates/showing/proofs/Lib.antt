@@ -2,6 +2,7 @@ pub mod Slots
 pub mod Appending
 pub mod Leaving
 pub mod Lists
+pub mod ReadingLemmas
 pub mod Bars
 pub mod Widths
 pub mod Numbers

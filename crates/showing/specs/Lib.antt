@@ -8,4 +8,5 @@ pub mod Joined
 pub mod Json
 pub mod Csv
 pub mod Lines
+pub mod Reading
 pub mod Tables

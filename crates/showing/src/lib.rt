@@ -9,6 +9,7 @@ mod csv;
 mod date;
 mod digits;
 mod json;
+mod laws;
 mod number;
 mod short;
 mod table;
@@ -18,4 +19,5 @@ mod text;
 mod visible;
 
 pub use csv::{write_csv_names, write_csv_row};
+pub use laws::csv_law;
 pub use table::{Table, write_count};
