@@ -2,6 +2,8 @@ pub mod Slots
 pub mod Appending
 pub mod Leaving
 pub mod Lists
+pub mod Unquoted
+pub mod Doubled
 pub mod ReadingLemmas
 pub mod Bars
 pub mod Widths

@@ -21,7 +21,16 @@ use Rattle.std.specs.Prelude.{◌==◌, ◌||◌, Some, if◌then◌else◌, fla
 use Rattle.std.specs.List.{list_any}
 use Rattle.std.proofs.lemmas.Bool.Decides.{nat_tests}
 use Rattle.showing.specs.Csv.{doubled, is_special, needs_quotes, quote, quoted}
-use Rattle.showing.specs.Reading.{FieldsAreRead, TextsAreNoNulls, ends_field, read_field, read_plain, read_quoted, with_first}
+use Rattle.showing.specs.Reading.{
+  FieldsAreRead,
+  QuotedAreRead,
+  TextsAreNoNulls,
+  ends_field,
+  read_field,
+  read_plain,
+  read_quoted,
+  with_first,
+}
 
 is-quote : (b : ℕ) → (b == quote) ≡ true → b ≡ quote
 is-quote b is = grind (arith, nat_tests)
@@ -116,4 +125,7 @@ some-byte false (b ∷ bs) is none = cc
 pub texts-are-no-nulls : TextsAreNoNulls
 texts-are-no-nulls text none = some-byte (needs_quotes text) text refl none
 
-pub ruleset reading = (fields-are-read, texts-are-no-nulls)
+pub quoted-are-read : QuotedAreRead
+quoted-are-read text rest ends = quoted-text text rest ends
+
+pub ruleset reading = (fields-are-read, quoted-are-read, texts-are-no-nulls)

@@ -4,7 +4,7 @@ use Rattle.values.specs.Datum.{Datum, null, truth, whole, text, bytes}
 use Rattle.values.specs.Rose.{Rose}
 use Rattle.schema_meta.specs.Entry.{Entry}
 use Rattle.arrays.specs.Checked.{CheckedColumn}
-use Rattle.showing.specs.Csv.{doubled, field_text, quote, quoted}
+use Rattle.showing.specs.Csv.{field_text, quoted}
 use Rattle.showing.specs.Digits.{hex_text}
 use Rattle.showing.specs.Fields.{entry}
 use Rattle.showing.specs.Joined.{joined}
@@ -16,9 +16,9 @@ use Rattle.showing.specs.Shown.{cell_in}
 abbrev pub bytes_field : List ℕ → List ℕ
 bytes_field b = if length b == 0 then quoted [] else hex_text b
 
--- JSON between quotes, with each quote doubled
+-- JSON, always between quotes
 abbrev pub nested_field : Rose Entry → Datum → List ℕ
-nested_field f d = quote ∷ (json (doubled quote) f d ++ quote ∷ [])
+nested_field f d = quoted (json (codes "\"") f d)
 
 -- a cell of a field of the schema
 abbrev pub cell_field : Rose Entry → Datum → List ℕ

@@ -16,7 +16,7 @@ use Rattle.std.specs.Prelude.{
   Some,
   if◌then◌else◌,
 }
-use Rattle.showing.specs.Csv.{field_text, is_special, quote}
+use Rattle.showing.specs.Csv.{field_text, is_special, quote, quoted}
 
 -- A text that was read, and what stands behind it.
 abbrev pub Read : Type 0
@@ -51,6 +51,10 @@ ends_field (b ∷ bs) = (b == 44) || (b == 13) || (b == 10)
 -- The field of a text is read back as that text.
 abbrev pub FieldsAreRead : Type 0
 FieldsAreRead = (text rest : List ℕ) → ends_field rest ≡ true → read_field (field_text text ++ rest) ≡ Some (text, rest)
+
+-- So is a text between quotes, as a list or a struct is written.
+abbrev pub QuotedAreRead : Type 0
+QuotedAreRead = (text rest : List ℕ) → ends_field rest ≡ true → read_field (quoted text ++ rest) ≡ Some (text, rest)
 
 -- Only the field of a null has no byte.
 abbrev pub TextsAreNoNulls : Type 0
