@@ -9,7 +9,7 @@ use Rattle.values.specs.declared.causes.Cause.{Cause}
 use Rattle.values.specs.declared.causes.Cause.TheVariants as cause
 use Rattle.values.specs.declared.layout.Layout.{Layout}
 use Rattle.schema_meta.specs.Rows.{rows_in, rows_from, row_at}
-use Rattle.liveviews.specs.Heavy.{IsHeavy}
+use Rattle.stream_writer.specs.Heavy.{IsHeavy}
 use Rattle.liveviews.specs.Taken.{AreFit, AreTaken, IsTakenRow, HasHeavyRow, RefusesRows}
 use Rattle.liveviews.specs.Refused.{RefusesBatch}
 

@@ -20,9 +20,10 @@ use Rattle.row_keys.specs.Batches.{HoldsCells}
 use Rattle.column_writer.specs.declared.batch.Batch.{Batch}
 use Rattle.column_writer.specs.Batches.{IsSized, batch_rows, rows_of}
 use Rattle.stream_writer.specs.Stream.{trees}
-use Rattle.liveviews.specs.Heavy.{IsLight, row_weight}
+use Rattle.stream_writer.specs.Heavy.{IsLight, row_weight}
 use Rattle.liveviews.specs.Taken.{AreFit}
-use Rattle.liveviews.specs.Kept.{AreLightUpTo, IsKept, IsKeptSo, IsLightBatch, IsWritable, WeighsAs, taken_rows}
+use Rattle.liveviews.specs.Kept.{AreLightUpTo, IsKept, IsKeptSo, IsWritable, taken_rows}
+use Rattle.stream_writer.specs.Weights.{IsLightBatch, WeighsAs}
 use Rattle.liveviews.specs.declared.kept_batches.KeptBatches.{KeptBatches}
 use Rattle.liveviews.proofs.BatchLemmas.{rows_from-length}
 

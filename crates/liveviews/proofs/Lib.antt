@@ -1,5 +1,4 @@
-pub mod WeightLemmas
-pub mod RowWeights
+pub mod BoundLemmas
 pub mod BatchLemmas
 pub mod Stories
 pub mod Tables

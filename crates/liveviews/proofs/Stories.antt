@@ -80,7 +80,7 @@ use Rattle.feed.specs.StoryLaw.{
   rest_story,
   rest_story_from,
 }
-use Rattle.liveviews.specs.Heavy.{IsHeavy}
+use Rattle.stream_writer.specs.Heavy.{IsHeavy}
 use Rattle.liveviews.specs.Refused.{RefusesBatch}
 use Rattle.liveviews.specs.Kept.{IsKept, IsKeptSo}
 use Rattle.liveviews.specs.declared.kept_batches.KeptBatches.{KeptBatches}

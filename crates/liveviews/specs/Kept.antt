@@ -9,10 +9,10 @@ use Rattle.schema_meta.specs.Entry.{Entry}
 use Rattle.schema_meta.specs.FieldLayouts.{layouts_of}
 use Rattle.schema_meta.specs.Rows.{row_at}
 use Rattle.feed.specs.Columns.{cells_in, layouts_in}
-use Rattle.column_writer.specs.declared.batch.Batch.{Batch}
 use Rattle.column_writer.specs.Batches.{IsSized, rows_of}
 use Rattle.stream_writer.specs.Stream.{trees}
-use Rattle.liveviews.specs.Heavy.{IsLight, row_weight}
+use Rattle.stream_writer.specs.Heavy.{IsLight, row_weight}
+use Rattle.stream_writer.specs.Weights.{IsLightBatch, WeighsAs}
 use Rattle.liveviews.specs.declared.kept_batches.KeptBatches.{KeptBatches}
 
 abbrev pub taken_rows : KeptBatches → List (List Datum)
@@ -20,11 +20,6 @@ taken_rows t = rows_of t.batches.items
 
 abbrev pub IsCounted : KeptBatches → Type 0
 IsCounted t = t.rows ≡ length (taken_rows t)
-
--- a row that isn't too heavy, and its weight
-pub record IsLightAs (ls : Roses Layout) (row : List Datum) (weight : ℕ) : Type 0 where
-  pub light : IsLight ls row
-  pub exact : row_weight ls row ≡ weight
 
 -- the first n rows are not too heavy, and none is heavier than this
 abbrev pub AreLightUpTo : Roses Layout → List (List Datum) → ℕ → ℕ → Type 0
@@ -36,18 +31,6 @@ abbrev pub IsRowBound : List CheckedColumn → ℕ → Type 0
 IsRowBound columns most = (k : ℕ) → All (λ (c : CheckedColumn). k < length c.cells) columns
     → IsLight (layouts_in columns) (row_at (cells_in columns) k)
     × (row_weight (layouts_in columns) (row_at (cells_in columns) k) ≤ most)
-
--- each column has a cell a row
-abbrev pub HasSizes : Batch → Type 0
-HasSizes b = All (λ (c : CheckedColumn). length c.cells ≡ b.rows) b.columns.items
-
--- no row of the batch is too heavy
-abbrev pub IsLightBatch : Batch → Type 0
-IsLightBatch b = (k : ℕ) → k < b.rows → IsLight (layouts_in b.columns.items) (row_at (cells_in b.columns.items) k)
-
--- a row of the batch's columns weighs as much as one of columns of these layouts
-abbrev pub WeighsAs : Roses Layout → Batch → Type 0
-WeighsAs ls b = (row : List Datum) → row_weight (layouts_in b.columns.items) row ≡ row_weight ls row
 
 -- each batch has n columns, which weigh as these layouts, and no row is too heavy, or heavier than `heaviest`
 pub record IsKept (n : ℕ) (ls : Roses Layout) (t : KeptBatches) : Type 0 where

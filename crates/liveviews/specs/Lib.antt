@@ -1,4 +1,3 @@
-pub mod Heavy
 pub mod Taken
 pub mod Refused
 pub mod Steps

@@ -8,7 +8,7 @@ use Rattle.values.specs.declared.layout.Layout.{Layout}
 use Rattle.values.specs.declared.causes.Cause.{Cause}
 use Rattle.values.specs.declared.causes.Cause.TheVariants as cause
 use Rattle.schema_meta.specs.Rows.{row_at}
-use Rattle.liveviews.specs.Heavy.{IsHeavy, IsLight}
+use Rattle.stream_writer.specs.Heavy.{IsHeavy, IsLight}
 
 -- Rows that are taken have a cell a column, of the column's layout, and are not too heavy; and they are not too many.
 pub record IsTakenRow (ls : Roses Layout) (row : List Datum) : Type 0 where

@@ -1,29 +1,25 @@
 //! The batches that were taken of a stream.
 
-ghost use Rattle.std.specs.Prelude.{◌≡◌, ◌++◌, All, IfErr, IfOk, OnOk, [], length};
-ghost use Rattle.values.specs.Rose.{Roses};
-ghost use Rattle.values.specs.declared.layout.Layout.{Layout};
+ghost use Rattle.std.specs.Prelude.{◌≡◌, ◌++◌, All, IfErr, OnOk, [], length};
 ghost use Rattle.schema_meta.specs.Rows.{rows_in};
 ghost use Rattle.feed.specs.Columns.{cells_in, layouts_in};
 ghost use Rattle.column_writer.specs.Batches.{rows_of};
 ghost use Rattle.stream_writer.specs.Sinks.{Writes};
 ghost use Rattle.stream_writer.specs.Stream.{canon};
 ghost use Rattle.stream_writer.specs.Table.{IsTable};
-ghost use Rattle.stream_writer.specs.WeighedRows.{weights_of};
 ghost use Rattle.liveviews.specs.Taken.{AreTaken};
-ghost use Rattle.liveviews.specs.Kept.{HasSizes, IsCounted, IsKept, IsLightBatch, IsWritable, WeighsAs, taken_rows};
+ghost use Rattle.liveviews.specs.Kept.{IsCounted, IsKept, IsWritable, taken_rows};
 ghost use Rattle.liveviews.specs.Refused.{RefusesBatch};
 
-use crate::batch::{columns_law, heaviest_row, push_weights};
+use crate::batch::{columns_law, heaviest_row};
 use arrays::Column;
 use column_writer::Batch;
-use std::alloc::{AllocError, Global};
-use stream_writer::{Sink, WriteFault, write_batches, write_weighed_batches};
+use std::alloc::Global;
+use stream_writer::{
+    MAX_LIGHT_ROW, Sink, WriteFault, weights_in, write_batches, write_weighed_batches,
+};
 use values::limits::MAX_MAIN_ROWS;
 use values::{Cause, Schema};
-
-/// Of rows that weigh no more than this, 1,024 are within the limit on a written batch's weight.
-pub(crate) const MAX_LIGHT_ROW: u64 = 1 << 17;
 
 /// The batches of a stream so far, with the number of their rows, and a weight that none of the rows is above.
 #[derive(Drop)]
@@ -31,20 +27,6 @@ pub(crate) struct KeptBatches {
     pub batches: Vec<Batch>,
     pub rows: usize,
     pub heaviest: u64,
-}
-
-/// The weights of all rows, none of which is too heavy.
-fn weights_in(alloc: Global, batches: &[Batch]) -> Result<Vec<u64>, AllocError>
-    requires sized { All HasSizes batches.now }
-    requires light { All IsLightBatch batches.now }
-    ensures { IfOk result (λ weights. (ls : Roses Layout) → All (WeighsAs ls) batches.now
-        → weights.items ≡ weights_of ls (rows_of batches.now)) }
-{
-    let mut weights = Vec::new(alloc);
-    for batch in batches {
-        push_weights(&batch.columns, batch.rows, &mut weights)?;
-    }
-    Ok(weights)
 }
 
 impl KeptBatches {

@@ -32,8 +32,17 @@ use Rattle.std.proofs.Common.{
 }
 use Rattle.std.specs.Prelude.{min}
 use Rattle.std.proofs.lemmas.Bool.{cases_lt}
-use Rattle.std.proofs.lemmas.List.{drop_more, drop_all, take_all, drop-drop}
-use Rattle.std.proofs.lemmas.List.Elements.{All-get_or, All-head, All-tail, All-drop, All-append, All-cons, All-nil}
+use Rattle.std.proofs.lemmas.List.{drop_more, drop_all, take_all, drop-drop, length-map}
+use Rattle.std.proofs.lemmas.List.Elements.{
+  All-get_or,
+  All-head,
+  All-tail,
+  All-drop,
+  All-append,
+  All-cons,
+  All-nil,
+  All-weaker,
+}
 use Rattle.std.proofs.lemmas.List.Concat.{flat_map-append}
 use Rattle.values.specs.Limits.{max_batch_rows, max_batch_weight}
 use Rattle.values.specs.Datum.{Datum}
@@ -45,7 +54,9 @@ use Rattle.schema_meta.specs.Rows.{rows_from}
 use Rattle.column_writer.specs.declared.batch.Batch.{Batch}
 use Rattle.column_writer.specs.declared.batch.RowRange.{RowRange}
 use Rattle.column_writer.specs.Batches.{batch_rows, rows_of, range_rows, ranges_rows, cells_in, IsSized}
-use Rattle.stream_writer.specs.BatchRows.{max_light_row, AreLightRows}
+use Rattle.stream_writer.specs.BatchRows.{max_light_row, AreLightRows, AreWeighed}
+use Rattle.stream_writer.specs.Weights.{weights_of}
+use Rattle.stream_writer.proofs.FittingLemmas.{weights-left}
 use Rattle.stream_writer.specs.Stream.{beginning, batch_len, trees}
 use Rattle.stream_writer.proofs.Cut.{beginning-light}
 
@@ -238,3 +249,50 @@ light-as us ls rows same light = subst (λ (ts : Roses Layout). AreLightRows ts 
 
 pub sized-as : (m n : ℕ) (bs : List Batch) → m ≡ n → All (IsSized n) bs → All (IsSized m) bs
 sized-as m n bs same sized = subst (λ (k : ℕ). All (IsSized k) bs) (sym same) sized
+
+-- what is known of the weights
+
+pub weighed-light : (ls : Roses Layout) (ws : List ℕ) (rows : List (List Datum)) → AreWeighed ls ws rows
+    → length ws ≡ 0 → AreLightRows ls rows
+weighed-light ls ws rows (inl light) e = light.1
+weighed-light ls ws rows (inr is) e =
+    let many = ap length is ∙ length-map rows (row_weight ls) in none-light ls rows (omega (arith, many, e))
+  where
+    none-light : (ls : Roses Layout) (rows : List (List Datum)) → length rows ≡ 0 → AreLightRows ls rows
+    none-light ls [] h = All-nil (λ (row : List Datum). row_weight ls row ≤ max_light_row)
+    none-light ls (row ∷ rows) h = absurd (omega (arith, h))
+
+pub weighed-each : (ls : Roses Layout) (ws : List ℕ) (rows : List (List Datum)) → AreWeighed ls ws rows
+    → 0 < length ws → ws ≡ weights_of ls rows
+weighed-each ls ws rows (inl light) some = let none_there = ap length light.0 in absurd (omega (arith, none_there, some))
+weighed-each ls ws rows (inr is) some = is
+
+pub weighed-many : (ls : Roses Layout) (ws : List ℕ) (rows : List (List Datum)) → AreWeighed ls ws rows
+    → 0 < length ws → length ws ≡ length rows
+weighed-many ls ws rows known some = ap length (weighed-each ls ws rows known some) ∙ length-map rows (row_weight ls)
+
+pub weighed-left : (ls : Roses Layout) (ws : List ℕ) (rows left : List (List Datum)) (n k : ℕ)
+    → AreWeighed ls ws rows → left ≡ drop n rows → n ≤ length rows → k ≡ min n (length ws)
+    → AreWeighed ls (drop k ws) left
+weighed-left ls ws rows left n k (inl light) is within least =
+    inl (ap (drop k) light.0 ∙ drop_all k [] (omega arith), light-left ls rows left n is light.1)
+weighed-left ls ws rows left n k (inr e) is within least =
+    let many = ap length e ∙ length-map rows (row_weight ls) in
+    let same : k ≡ n = omega (arith, many, within, least) in
+    inr (ap (λ i. drop i ws) same ∙ weights-left ls n rows left ws e is)
+
+no-items : {A : Type 0} (xs : List A) → length xs ≡ 0 → xs ≡ []
+no-items [] e = refl
+no-items (x ∷ xs) e = absurd (omega (arith, e))
+
+-- light rows beside light ones
+pub weighed-more : (ls : Roses Layout) (ws : List ℕ) (rows new : List (List Datum)) (heaviest : ℕ)
+    → AreWeighed ls ws rows → length ws ≡ 0 → heaviest ≤ max_light_row
+    → All (λ (row : List Datum). row_weight ls row ≤ heaviest) new → AreWeighed ls ws (rows ++ new)
+weighed-more ls ws rows new heaviest known none_there few light =
+    let R : List Datum → Type 0 = λ row. row_weight ls row ≤ max_light_row in
+    inl (
+      no-items ws none_there,
+      All-append R rows new (weighed-light ls ws rows known none_there)
+          (All-weaker (λ (row : List Datum). row_weight ls row ≤ heaviest) R (λ row h. omega (arith, h, few)) new light),
+    )

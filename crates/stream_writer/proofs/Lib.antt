@@ -5,6 +5,9 @@ pub mod BatchFits
 pub mod Cut
 pub mod Whole
 pub mod CutBack
+pub mod ClosedBatchLemmas
+pub mod ProgressLemmas
+pub mod TableWriterLemmas
 pub mod Trees
 pub mod AboveZero
 pub mod FramingRead
@@ -21,5 +24,8 @@ pub mod DictionaryBodies
 pub mod IndexedBodies
 pub mod StreamRead
 mod Sample
+pub mod PlainRows
 pub mod BatchRowLemmas
-pub mod WeighedRowLemmas
+pub mod FittingLemmas
+pub mod WeightLemmas
+pub mod RowWeights

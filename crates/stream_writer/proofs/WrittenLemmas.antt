@@ -115,6 +115,12 @@ WrittenSoFar-stop start old new written (Device k) whole piece rest so_far write
     writes
     ((λ h e. writes.device.0 tt (so_far.failures ∙ e)), (λ h. tt))
 
+-- memory was refused before the next piece
+pub WrittenSoFar-memory : (start now : Sunk) (written : ℕ) (whole rest : List ℕ)
+    → WrittenSoFar start now written whole rest → Writes start now (Err (Memory written)) whole
+WrittenSoFar-memory start now written whole rest so_far =
+    record { bytes = so_far.bytes; bound = so_far.bound; complete = tt; device = no-device start now so_far.failures }
+
 -- all is out
 pub WrittenSoFar-end : (start now : Sunk) (written : ℕ) (whole : List ℕ) → WrittenSoFar start now written whole []
     → Writes start now (Ok written) whole

@@ -1,10 +1,11 @@
--- Rows that lie in batches of checked columns, and are so light that each batch that is written has its 1,024 rows.
-use Rattle.std.specs.Prelude.{◌≡◌, ℕ, ◌+◌, ◌^◌, ◌<◌, ◌≤◌, All, List, length, drop}
+-- Rows that lie in batches of checked columns, and what is known of their weights.
+use Rattle.std.specs.Prelude.{◌≡◌, ◌⊎◌, ℕ, ◌+◌, ◌^◌, ◌<◌, ◌≤◌, All, List, [], length, drop}
 use Rattle.values.specs.Datum.{Datum}
 use Rattle.values.specs.Rose.{Rose, Roses, kids_of}
 use Rattle.values.specs.declared.layout.Layout.{Layout}
 use Rattle.body_writer.specs.Batch.{row_weight}
 use Rattle.column_writer.specs.Batches.{IsSized, rows_of}
+use Rattle.stream_writer.specs.Weights.{weights_of}
 use Rattle.stream_writer.specs.declared.batch_rows.BatchRows.{BatchRows}
 
 -- the greatest weight of a row of which 1,024 are within the limit of a batch, 2^27
@@ -14,11 +15,15 @@ max_light_row = 2 ^ 17
 abbrev pub AreLightRows : Roses Layout → List (List Datum) → Type 0
 AreLightRows ls rows = All (λ (row : List Datum). row_weight ls row ≤ max_light_row) rows
 
+-- No weight is given, and all rows are so light that each batch that is written has its 1,024 rows; or each row's is.
+abbrev pub AreWeighed : Roses Layout → List ℕ → List (List Datum) → Type 0
+AreWeighed ls weights rows = ((weights ≡ []) × AreLightRows ls rows) ⊎ (weights ≡ weights_of ls rows)
+
 abbrev pub rows_left : BatchRows → List (List Datum)
 rows_left r = drop r.from (rows_of r.batches.now)
 
 pub record FitsBatches (ls : List (Rose Layout)) (r : BatchRows) : Type 0 where
   pub sized : All (IsSized (length ls)) r.batches.now
-  pub light : AreLightRows (kids_of ls) (rows_left r)
+  pub weighed : AreWeighed (kids_of ls) r.weights.now (rows_left r)
   pub left : r.left ≡ length (rows_left r)
   pub small : r.from + r.left < 2 ^ 32

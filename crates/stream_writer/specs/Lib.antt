@@ -8,10 +8,14 @@ pub mod Table
 pub mod WrittenSoFar
 pub mod Sample
 pub mod CutLaw
+pub mod ClosedBatches
+pub mod Progress
+pub mod TableWriters
 pub mod BatchLaw
 pub mod FramingLaw
 pub mod RowsLaw
 pub mod DictionaryLaw
 pub mod RoundTrip
+pub mod Heavy
 pub mod BatchRows
-pub mod WeighedRows
+pub mod Weights

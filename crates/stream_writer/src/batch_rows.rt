@@ -8,46 +8,50 @@ ghost use Rattle.stream_writer.specs.Stream.{batch_messages};
 
 use crate::messages::append_record;
 use crate::rows::RowSource;
+use crate::weighing::count_fitting;
 use column_writer::{Batch, RowRange, write_body};
 use std::alloc::{AllocError, Global};
 use values::LayoutTree;
 use values::limits::MAX_BATCH_ROWS;
 
-/// The `left` rows of these batches from row `from` on. All are so light that a batch of 1,024 of them is within the
-/// limit on weight.
+/// The `left` rows of these batches from row `from` on, of which each has its weight here; or none has, and all are so
+/// light that a batch of 1,024 of them is within the limit on weight.
 #[derive(Drop)]
 pub(crate) struct BatchRows<'a> {
     pub batches: &'a [Batch],
     pub from: usize,
     pub left: usize,
+    pub weights: &'a [u64],
 }
 
-/// A row of some batches: row `from` of them, counted through all.
+/// The place of a row: so many batches lie before the one with it, in which it is row `from`.
 #[derive(Clone, Copy)]
-pub(crate) struct Position<'a> {
-    pub batches: &'a [Batch],
+pub(crate) struct Place {
+    pub batches: usize,
     pub from: usize,
 }
 
-/// The place of row `from`, counted through all batches, within the one in which it lies.
-pub(crate) fn position_at<'a>(batches: &'a [Batch], from: usize) -> Position<'a>
-    ensures rows { drop result.from (rows_of result.batches.now) ≡ drop from (rows_of batches.now) }
-    ensures sized { (n : ℕ) → All (IsSized n) batches.now → All (IsSized n) result.batches.now }
+/// The place of row `from`, counted through all batches.
+pub(crate) fn find_row(batches: &[Batch], from: usize) -> Place
+    ensures within { result.batches ≤ length batches.now }
+    ensures rows { drop result.from (rows_of (drop result.batches batches.now)) ≡ drop from (rows_of batches.now) }
     ensures bound { result.from ≤ from }
+    ensures place { from ≤ length (rows_of batches.now)
+        → result.from ≤ length (rows_of (drop result.batches batches.now)) }
 {
     let mut start = from;
     for i in 0..batches.len() {
         let rows = batches[i].rows;
         if start < rows {
-            return Position {
-                batches: &batches[i..],
+            return Place {
+                batches: i,
                 from: start,
             };
         }
         start -= rows;
     }
-    Position {
-        batches: &batches[batches.len()..],
+    Place {
+        batches: batches.len(),
         from: start,
     }
 }
@@ -120,8 +124,15 @@ impl<'a> RowSource for BatchRows<'a> {
         self.left == 0
     }
 
+    fn len(&self) -> usize {
+        self.left
+    }
+
     fn len_of_batch(&self, _layouts: &[LayoutTree]) -> usize {
-        self.left.min(MAX_BATCH_ROWS)
+        if self.weights.is_empty() {
+            return self.left.min(MAX_BATCH_ROWS);
+        }
+        count_fitting(self.weights)
     }
 
     fn encode_batch(
@@ -134,9 +145,11 @@ impl<'a> RowSource for BatchRows<'a> {
     }
 
     fn skip(&mut self, count: usize) {
-        let place = position_at(self.batches, self.from + count);
-        self.batches = place.batches;
+        let place = find_row(self.batches, self.from + count);
+        let weighed = count.min(self.weights.len());
+        self.batches = &self.batches[place.batches..];
         self.from = place.from;
         self.left -= count;
+        self.weights = &self.weights[weighed..];
     }
 }

@@ -1,6 +1,7 @@
 //! Laws of the definitions, each the contract of a function that does nothing.
 
 ghost use Rattle.stream_writer.specs.BatchLaw.{BatchLaw, CodedBatchLaw, NoneCodedBatch};
+ghost use Rattle.stream_writer.specs.ClosedBatches.{ClosedLaw};
 ghost use Rattle.stream_writer.specs.CutLaw.{CutLaw};
 ghost use Rattle.stream_writer.specs.DictionaryLaw.{
   AreTheTexts,
@@ -28,6 +29,12 @@ ghost use Rattle.stream_writer.specs.RowsLaw.{CodedRowsLaw, RowsLaw};
 /// taken the next row too.
 pub fn cut_law()
     ensures { CutLaw }
+{}
+
+/// Whatever rows come later, the closed batches of the rows that are there are the first batches of the whole table;
+/// also where some columns are coded. Fewer than 1,024 rows are in none of them, and are within the limit on weight.
+pub fn closed_law()
+    ensures { ClosedLaw }
 {}
 
 /// The metadata that is written of a batch is read under its schema with no fault, as its number of rows, its nodes and

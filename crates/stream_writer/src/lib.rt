@@ -2,7 +2,8 @@
 //!
 //! `specs/Stream.antt` says which bytes these are, `specs/Coding.antt` which values and indices coded columns have,
 //! `specs/Sinks.antt` what a writer does to a sink, `specs/Table.antt` which tables can be written,
-//! `specs/CutLaw.antt` what the cut into batches keeps.
+//! `specs/CutLaw.antt` what the cut into batches keeps, `specs/ClosedBatches.antt` which batches no later row changes,
+//! and `specs/TableWriters.antt` how far a table is written whose rows come batch by batch.
 #![tactic(auto)]
 
 mod batch_rows;
@@ -14,21 +15,28 @@ mod laws;
 mod layouts;
 mod memory;
 mod messages;
+mod progress;
 mod rows;
 mod sink;
 mod table;
-mod weighed_rows;
+mod table_writer;
+mod weighing;
 
 pub use faults::WriteFault;
 pub use laws::{
-    batch_law, canon_law, coded_law, cut_law, dictionary_law, framing_law, rows_law, values_law,
+    batch_law, canon_law, closed_law, coded_law, cut_law, dictionary_law, framing_law, rows_law,
+    values_law,
 };
 pub use layouts::layouts_of;
 pub use memory::MemorySink;
 pub use sink::{DeviceFault, Sink, put_all};
 pub use table::{write_batches, write_coded, write_table, write_weighed_batches};
+pub use table_writer::TableWriter;
+pub use weighing::{MAX_LIGHT_ROW, weigh_row, weights_in};
 
 #[cfg(test)]
 mod coded_tests;
+#[cfg(test)]
+mod table_writer_tests;
 #[cfg(test)]
 mod tests;

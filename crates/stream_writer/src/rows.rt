@@ -27,6 +27,11 @@ pub(crate) trait RowSource {
         requires { (ls : List (Rose Layout)) × fits self.now ls }
         ensures { result ≡ (length (rows self.now) == 0) };
 
+    /// How many rows are left.
+    fn len(&self) -> usize
+        requires { (ls : List (Rose Layout)) × fits self.now ls }
+        ensures { result ≡ length (rows self.now) };
+
     /// How many rows the next batch has.
     fn len_of_batch(&self, layouts: &[LayoutTree]) -> usize
         requires fits { fits self.now layouts.now }
@@ -85,6 +90,10 @@ impl<'a> RowSource for ValueRows<'a> {
 
     fn is_empty(&self) -> bool {
         self.rows.is_empty()
+    }
+
+    fn len(&self) -> usize {
+        self.rows.len()
     }
 
     fn len_of_batch(&self, layouts: &[LayoutTree]) -> usize {

@@ -1,31 +1,24 @@
 //! Writes a table, message by message.
 
-ghost use Rattle.std.specs.Prelude.{ℕ, ◌≡◌, ◌+◌, ◌^◌, ◌<◌, ◌≤◌, ◌++◌, All, IfOk, MatchResult, Err, List, length, map};
-ghost use Rattle.values.specs.Limits.{max_row_weight};
+ghost use Rattle.std.specs.Prelude.{◌≡◌, All, length, map};
 ghost use Rattle.values.specs.Rose.{kids_of};
-ghost use Rattle.body_writer.specs.Batch.{row_weight};
-ghost use Rattle.stream_writer.specs.Sinks.{Sunk, Writes};
+ghost use Rattle.stream_writer.specs.Sinks.{Writes};
 ghost use Rattle.values.specs.Coded.{AreCoded};
-ghost use Rattle.stream_writer.specs.Stream.{schema_message, batch_messages, batch_len, trees, canon, coded_canon};
+ghost use Rattle.stream_writer.specs.Stream.{trees, canon, coded_canon};
 ghost use Rattle.column_writer.specs.Batches.{IsSized, rows_of};
 ghost use Rattle.stream_writer.specs.BatchRows.{AreLightRows};
 ghost use Rattle.stream_writer.specs.Table.{IsTable};
-ghost use Rattle.stream_writer.specs.WeighedRows.{weights_of};
-ghost use Rattle.stream_writer.specs.WrittenSoFar.{WrittenSoFar};
+ghost use Rattle.stream_writer.specs.Weights.{weights_of};
 
 use crate::batch_rows::BatchRows;
 use crate::faults::WriteFault;
 use crate::layouts::layouts_of;
-use crate::messages;
+use crate::progress::{put_rest, put_schema};
 use crate::rows::{RowSource, ValueRows};
-use crate::sink::{Sink, put_all};
-use crate::weighed_rows::WeighedRows;
+use crate::sink::Sink;
 use column_writer::Batch;
 use std::alloc::Global;
 use values::{LayoutTree, Row, Schema};
-
-/// The end mark: the continuation mark, and a metadata size of 0.
-const END_MARK: [u8; 8] = [255, 255, 255, 255, 0, 0, 0, 0];
 
 /// Writes the canonical stream of a table, and returns its length in bytes.
 ///
@@ -92,6 +85,7 @@ pub fn write_batches<S: Sink>(
         batches,
         from: 0,
         left: rows,
+        weights: &[],
     };
     write_messages(alloc, sink, schema, &[], &layouts, left)
 }
@@ -113,9 +107,10 @@ pub fn write_weighed_batches<S: Sink>(
     ensures { Writes (S.sunk sink.old) (S.sunk sink.new) result (canon schema.now.fields.items (rows_of batches.now)) }
 {
     let layouts = layouts_of(alloc, schema)?;
-    let left = WeighedRows {
+    let left = BatchRows {
         batches,
         from: 0,
+        left: weights.len(),
         weights,
     };
     write_messages(alloc, sink, schema, &[], &layouts, left)
@@ -137,31 +132,6 @@ fn write_messages<S: Sink, R: RowSource + Drop>(
     ensures { Writes (S.sunk sink.old) (S.sunk sink.new) result
         (coded_canon schema.now.fields.items coded.now (R.rows rows)) }
 {
-    let message = messages::schema_message(alloc, schema, coded)?;
-    let mut written = put_after(sink, &message, 0)?;
-    let mut left = rows;
-    while !left.is_empty() {
-        let count = left.len_of_batch(layouts);
-        let Ok(message) = left.encode_batch(alloc, layouts, count) else {
-            return Err(WriteFault::Memory { written });
-        };
-        written = put_after(sink, &message, written)?;
-        left.skip(count);
-    }
-    put_after(sink, &END_MARK, written)
-}
-
-/// Puts bytes after the `written` ones that went out before.
-fn put_after<S: Sink>(sink: &mut S, bytes: &[u8], written: u64) -> Result<u64, WriteFault>
-    requires { written + length bytes.now < 2 ^ 64 }
-    ensures counted { IfOk result (λ n. n ≡ written + length bytes.now) }
-    ensures goes { (start : Sunk) (whole rest : List ℕ)
-        → WrittenSoFar start (S.sunk sink.old) written whole (bytes.now ++ rest)
-        → MatchResult result (λ n. WrittenSoFar start (S.sunk sink.new) n whole rest)
-        (λ fault. Writes start (S.sunk sink.new) (Err fault) whole) }
-{
-    match put_all(sink, bytes) {
-        Ok(more) => Ok(written + more),
-        Err(fault) => Err(fault.after(written)),
-    }
+    let written = put_schema(alloc, sink, schema, coded)?;
+    put_rest(alloc, sink, layouts, rows, written)
 }

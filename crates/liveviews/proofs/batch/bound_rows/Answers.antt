@@ -1,5 +1,5 @@
 use Rattle.std.proofs.Common.{arith}
-use Rattle.liveviews.proofs.WeightLemmas.{covers_more}
+use Rattle.liveviews.proofs.BoundLemmas.{covers_more}
 use Rattle.liveviews.proofs.batch.bound_rows.Goals as goal
 
 pub loop-column-preserved : goal.loop-column-preserved

@@ -1,6 +1,6 @@
 use Rattle.std.proofs.Common.{◌≤◌, drop}
 use Rattle.values.specs.Limits.{max_row_weight}
-use Rattle.liveviews.proofs.WeightLemmas.{Covers}
+use Rattle.liveviews.proofs.BoundLemmas.{Covers}
 use Rattle.liveviews.proofs.batch.bound_rows.Given as goal
 
 abbrev pub invariant-loop-column : goal.invariant-loop-column

@@ -1,4 +1,4 @@
-use Rattle.liveviews.proofs.WeightLemmas.{rows_bounded}
+use Rattle.liveviews.proofs.BoundLemmas.{rows_bounded}
 use Rattle.liveviews.proofs.batch.heaviest_row.Goals as goal
 
 pub returns-in-Some-clause-light : goal.returns-in-Some-clause-light

@@ -1,4 +1,4 @@
-use Rattle.std.proofs.Common.{◌≡◌, ◌∙◌, length, arith, ap}
+use Rattle.std.proofs.Common.{◌≡◌, ◌∙◌, length, arith, ap, refl, inl}
 use Rattle.values.specs.Rose.{kids_of}
 use Rattle.column_writer.specs.Batches.{rows_of}
 use Rattle.stream_writer.specs.Stream.{trees}
@@ -12,7 +12,7 @@ write_messages-requires-clause-fits g c =
     let same : kids_of ls ≡ trees fs = ap kids_of c.deref.ensures.value ∙ c.in_ok-layouts.ensures in
     record {
       sized = sized-as (length ls) (length fs) c.args.batches.now (as-many ls fs same) c.requires.sized;
-      light = light-as (kids_of ls) (trees fs) (rows_of c.args.batches.now) same c.requires.light;
+      weighed = inl (refl, light-as (kids_of ls) (trees fs) (rows_of c.args.batches.now) same c.requires.light);
       left = c.requires.rows;
       small = omega (arith, c.requires.rows, c.requires.table.few);
     }

@@ -1,10 +1,10 @@
-use Rattle.std.proofs.Common.{◌≡◌, ◌∙◌, length, arith, ap, sym}
+use Rattle.std.proofs.Common.{◌≡◌, ◌∙◌, length, arith, ap, sym, inr}
 use Rattle.std.proofs.lemmas.List.{length-map}
 use Rattle.values.specs.Rose.{kids_of}
 use Rattle.body_writer.specs.Batch.{row_weight}
 use Rattle.column_writer.specs.Batches.{rows_of}
 use Rattle.stream_writer.specs.Stream.{trees}
-use Rattle.stream_writer.specs.WeighedRows.{weights_of}
+use Rattle.stream_writer.specs.Weights.{weights_of}
 use Rattle.stream_writer.proofs.BatchRowLemmas.{as-many, sized-as}
 use Rattle.stream_writer.proofs.table.write_weighed_batches.Goals as goal
 
@@ -17,6 +17,7 @@ write_messages-requires-clause-fits g c =
     let many = ap length c.requires.weighed ∙ length-map rows (row_weight (trees fs)) in
     record {
       sized = sized-as (length ls) (length fs) c.args.batches.now (as-many ls fs same) c.requires.sized;
-      weighed = c.requires.weighed ∙ ap (λ us. weights_of us rows) (sym same);
+      weighed = inr (c.requires.weighed ∙ ap (λ us. weights_of us rows) (sym same));
+      left = many;
       small = omega (arith, many, c.requires.table.few);
     }

@@ -1,6 +1,0 @@
-use Rattle.std.proofs.Common.{drop}
-use Rattle.liveviews.proofs.WeightLemmas.{Weighs}
-use Rattle.liveviews.proofs.batch.weigh_row.Given as goal
-
-abbrev pub invariant-loop-column : goal.invariant-loop-column
-invariant-loop-column l = Weighs l.sum (drop l.column-index l.columns) l.columns l.index

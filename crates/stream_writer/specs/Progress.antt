@@ -1,0 +1,44 @@
+-- How far a table is written whose later rows are not known yet: what is out is the beginning that its stream has
+-- whatever rows come.
+use Rattle.std.specs.Prelude.{◌≡◌, ℕ, ◌+◌, ◌-◌, ◌*◌, ◌^◌, ◌≤◌, All, List, ◌++◌, drop, length, Err}
+use Rattle.values.specs.Limits.{max_main_rows}
+use Rattle.values.specs.Datum.{Datum}
+use Rattle.values.specs.Layouts.{AreLayouts}
+use Rattle.values.specs.Rose.{Rose, kids_of}
+use Rattle.values.specs.declared.layout.Layout.{Layout}
+use Rattle.values.specs.Logical.{NamedType}
+use Rattle.schema_meta.specs.SchemaTree.{AreColumns}
+use Rattle.stream_writer.specs.Sinks.{Sunk, Writes}
+use Rattle.stream_writer.specs.Stream.{batches, coded_canon, end_mark, trees}
+use Rattle.stream_writer.specs.Table.{IsRow}
+use Rattle.stream_writer.specs.WrittenSoFar.{WrittenSoFar}
+use Rattle.stream_writer.specs.declared.faults.WriteFault.{WriteFault}
+
+-- The first `written` bytes are out of the canonical stream of each table that begins with these rows; its batches of
+-- the held rows and of those after them, and the end mark, are left.
+abbrev pub HasPut :
+    Sunk → Sunk → ℕ → List (Rose NamedType) → List ℕ → List (List Datum) → List (List Datum) → Type 0
+HasPut start now written fs coded rows held =
+    (more : List (List Datum)) → All (IsRow fs) more
+    → WrittenSoFar start now written (coded_canon fs coded (rows ++ more))
+    (batches coded (trees fs) (length (held ++ more)) (held ++ more) ++ end_mark)
+
+-- A fault: what went out is a beginning of the canonical stream of each table that begins with these rows.
+abbrev pub StopsIn : Sunk → Sunk → WriteFault → List (Rose NamedType) → List ℕ → List (List Datum) → Type 0
+StopsIn start now fault fs coded rows =
+    (more : List (List Datum)) → All (IsRow fs) more → Writes start now (Err fault) (coded_canon fs coded (rows ++ more))
+
+-- Of a table with these columns, of which `rows` came so far, the held rows are the last, and may be written after
+-- `written` bytes.
+pub record IsHeld (fs : List (Rose NamedType)) (ls : List (Rose Layout)) (rows held : List (List Datum))
+    (written : ℕ) : Type 0 where
+  pub layouts : kids_of ls ≡ trees fs
+  pub columns : AreColumns fs
+  pub known : AreLayouts (trees fs)
+  pub sound : All (IsRow fs) held
+  pub few : length rows ≤ max_main_rows
+  pub short : written + 3 * 2 ^ 38 * length held ≤ 3 * 2 ^ 38 * (length rows + 1)
+
+-- the last n rows
+abbrev pub last_rows : ℕ → List (List Datum) → List (List Datum)
+last_rows n rows = drop (length rows - n) rows

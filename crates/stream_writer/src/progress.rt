@@ -1,0 +1,161 @@
+//! Writes a table of which later rows may still come.
+
+ghost use Rattle.std.specs.Prelude.{
+  ◌≡◌,
+  ℕ,
+  ◌+◌,
+  ◌-◌,
+  ◌^◌,
+  ◌<◌,
+  ◌≤◌,
+  ◌==◌,
+  ◌||◌,
+  ◌++◌,
+  [],
+  List,
+  IfOk,
+  MatchResult,
+  Err,
+  length,
+  nat_lt,
+};
+ghost use Rattle.values.specs.Datum.{Datum};
+ghost use Rattle.values.specs.Limits.{max_batch_rows};
+ghost use Rattle.values.specs.Logical.{NamedType};
+ghost use Rattle.values.specs.Rose.{Rose};
+ghost use Rattle.schema_meta.specs.SchemaTree.{AreColumns};
+ghost use Rattle.stream_writer.specs.Progress.{HasPut, IsHeld, StopsIn, last_rows};
+ghost use Rattle.stream_writer.specs.Sinks.{Sunk, Writes};
+ghost use Rattle.stream_writer.specs.Stream.{batches, end_mark, trees};
+ghost use Rattle.stream_writer.specs.WrittenSoFar.{WrittenSoFar};
+
+use crate::faults::WriteFault;
+use crate::messages;
+use crate::rows::RowSource;
+use crate::sink::{Sink, put_all};
+use std::alloc::Global;
+use values::limits::MAX_BATCH_ROWS;
+use values::{LayoutTree, Schema};
+
+/// The end mark: the continuation mark, and a metadata size of 0.
+const END_MARK: [u8; 8] = [255, 255, 255, 255, 0, 0, 0, 0];
+
+/// How far a writer has come: so many bytes are out, and the last `left` rows that were given to it are in none of them.
+#[derive(Clone, Copy)]
+pub(crate) struct Progress {
+    pub written: u64,
+    pub left: usize,
+}
+
+/// Puts bytes after the `written` ones that went out before.
+fn put_after<S: Sink>(sink: &mut S, bytes: &[u8], written: u64) -> Result<u64, WriteFault>
+    requires { written + length bytes.now < 2 ^ 64 }
+    ensures counted { IfOk result (λ n. n ≡ written + length bytes.now) }
+    ensures goes { (start : Sunk) (whole rest : List ℕ)
+        → WrittenSoFar start (S.sunk sink.old) written whole (bytes.now ++ rest)
+        → MatchResult result (λ n. WrittenSoFar start (S.sunk sink.new) n whole rest)
+        (λ fault. Writes start (S.sunk sink.new) (Err fault) whole) }
+{
+    match put_all(sink, bytes) {
+        Ok(more) => Ok(written + more),
+        Err(fault) => Err(fault.after(written)),
+    }
+}
+
+/// Puts the Schema message of a table of which no row came yet, and returns how many bytes it has.
+pub(crate) fn put_schema<S: Sink>(
+    alloc: Global,
+    sink: &mut S,
+    schema: &Schema,
+    coded: &[usize],
+) -> Result<u64, WriteFault>
+    requires { AreColumns schema.now.fields.items }
+    ensures size { IfOk result (λ n. n ≤ 2 ^ 39) }
+    ensures goes { MatchResult result
+        (λ n. HasPut (S.sunk sink.old) (S.sunk sink.new) n schema.now.fields.items coded.now [] [])
+        (λ fault. StopsIn (S.sunk sink.old) (S.sunk sink.new) fault schema.now.fields.items coded.now []) }
+{
+    let message = messages::schema_message(alloc, schema, coded)?;
+    put_after(sink, &message, 0)
+}
+
+/// Whether the next batch, which has `count` of the `rows` rows that are left, stays as it is when more come.
+fn is_closed(count: usize, rows: usize) -> bool
+    ensures { result ≡ ((count == max_batch_rows) || nat_lt count rows) }
+{
+    count == MAX_BATCH_ROWS || count < rows
+}
+
+/// Puts those batches of the rows that stay as they are when more rows come, after the `written` bytes that went out
+/// before. Fewer rows are left then than a batch may have.
+///
+/// On an error the sink took a beginning of the canonical stream of each table that begins with the rows so far.
+pub(crate) fn put_closed<S: Sink, R: RowSource + Drop>(
+    alloc: Global,
+    sink: &mut S,
+    layouts: &[LayoutTree],
+    rows: R,
+    written: u64,
+) -> Result<Progress, WriteFault>
+    requires held { (fs : List (Rose NamedType)) × (all : List (List Datum))
+        × IsHeld fs layouts.now all (R.rows rows) written }
+    requires fits { R.fits rows layouts.now }
+    ensures few { IfOk result (λ p. p.left < max_batch_rows) }
+    ensures within { IfOk result (λ p. p.left ≤ length (R.rows rows)) }
+    ensures held { IfOk result (λ p. (fs : List (Rose NamedType)) (all : List (List Datum))
+        → IsHeld fs layouts.now all (R.rows rows) written
+        → IsHeld fs layouts.now all (last_rows p.left (R.rows rows)) p.written) }
+    ensures goes { (start : Sunk) (fs : List (Rose NamedType)) (all : List (List Datum))
+        → IsHeld fs layouts.now all (R.rows rows) written
+        → HasPut start (S.sunk sink.old) written fs (R.coded rows) all (R.rows rows)
+        → MatchResult result
+        (λ p. HasPut start (S.sunk sink.new) p.written fs (R.coded rows) all (last_rows p.left (R.rows rows)))
+        (λ fault. StopsIn start (S.sunk sink.new) fault fs (R.coded rows) all) }
+{
+    let mut written = written;
+    let mut left = rows;
+    let mut count = left.len_of_batch(layouts);
+    while is_closed(count, left.len()) {
+        let Ok(message) = left.encode_batch(alloc, layouts, count) else {
+            return Err(WriteFault::Memory { written });
+        };
+        written = put_after(sink, &message, written)?;
+        left.skip(count);
+        count = left.len_of_batch(layouts);
+    }
+    Ok(Progress {
+        written,
+        left: left.len(),
+    })
+}
+
+/// Puts the batches of all rows that are left, and the end mark, after the `written` bytes that went out before.
+/// Returns how many bytes are out then.
+pub(crate) fn put_rest<S: Sink, R: RowSource + Drop>(
+    alloc: Global,
+    sink: &mut S,
+    layouts: &[LayoutTree],
+    rows: R,
+    written: u64,
+) -> Result<u64, WriteFault>
+    requires held { (fs : List (Rose NamedType)) × (all : List (List Datum))
+        × IsHeld fs layouts.now all (R.rows rows) written }
+    requires fits { R.fits rows layouts.now }
+    ensures { (start : Sunk) (fs : List (Rose NamedType)) (all : List (List Datum)) (whole : List ℕ)
+        → IsHeld fs layouts.now all (R.rows rows) written
+        → WrittenSoFar start (S.sunk sink.old) written whole
+        (batches (R.coded rows) (trees fs) (length (R.rows rows)) (R.rows rows) ++ end_mark)
+        → Writes start (S.sunk sink.new) result whole }
+{
+    let mut written = written;
+    let mut left = rows;
+    while !left.is_empty() {
+        let count = left.len_of_batch(layouts);
+        let Ok(message) = left.encode_batch(alloc, layouts, count) else {
+            return Err(WriteFault::Memory { written });
+        };
+        written = put_after(sink, &message, written)?;
+        left.skip(count);
+    }
+    put_after(sink, &END_MARK, written)
+}

@@ -1,0 +1,133 @@
+//! Weighs the rows of batches of checked columns.
+
+ghost use Rattle.std.specs.Prelude.{◌≡◌, ℕ, ◌<◌, ◌≤◌, ◌++◌, All, IfOk, IfSome, OnOk, None, drop, length};
+ghost use Rattle.values.specs.Limits.{max_batch_rows, max_batch_weight};
+ghost use Rattle.values.specs.Rose.{Roses};
+ghost use Rattle.values.specs.declared.layout.Layout.{Layout};
+ghost use Rattle.schema_meta.specs.Rows.{row_at, rows_in};
+ghost use Rattle.body_writer.specs.Batch.{row_weight};
+ghost use Rattle.column_writer.specs.Batches.{batch_rows, cells_in, rows_of};
+ghost use Rattle.stream_writer.specs.BatchRows.{AreWeighed};
+ghost use Rattle.stream_writer.specs.Heavy.{IsHeavy, IsLight};
+ghost use Rattle.stream_writer.specs.Weights.{
+  HasSizes,
+  IsLightAs,
+  IsLightBatch,
+  WeighsAs,
+  fitting,
+  layouts_in,
+  weights_of,
+};
+
+use arrays::Column;
+use column_writer::Batch;
+use std::alloc::{AllocError, Global};
+use values::limits::{MAX_BATCH_ROWS, MAX_BATCH_WEIGHT, MAX_CELL_WEIGHT, MAX_ROW_WEIGHT};
+
+/// Of rows that weigh no more than this, 1,024 are within the limit on a written batch's weight.
+pub const MAX_LIGHT_ROW: u64 = 1 << 17;
+
+/// The weight of row `index`, or `None` if one of its cells is above the limit of a cell, or the row is above that of a
+/// row. Nothing is copied.
+#[tactic(auto, using(crate::proofs::WeightLemmas::weighing))]
+pub fn weigh_row(columns: &[Column], index: usize) -> Option<u64>
+    requires { All (λ c. index < length c.cells) columns.now }
+    ensures heavy { result ≡ None → IsHeavy (layouts_in columns.now) (row_at (cells_in columns.now) index) }
+    ensures light { IfSome result (IsLightAs (layouts_in columns.now) (row_at (cells_in columns.now) index)) }
+{
+    let mut sum = 0;
+    for column in columns {
+        let weight = column.weight(index);
+        if weight > MAX_CELL_WEIGHT {
+            return None;
+        }
+        sum += weight;
+        if sum > MAX_ROW_WEIGHT {
+            return None;
+        }
+    }
+    Some(sum)
+}
+
+/// Appends the weights of the first `count` rows, none of which is too heavy.
+#[tactic(auto, using(crate::proofs::RowWeights::weights))]
+fn push_weights(columns: &[Column], count: usize, weights: &mut Vec<u64>) -> Result<(), AllocError>
+    requires sized { All (λ c. length c.cells ≡ count) columns.now }
+    requires light { (k : ℕ) → k < count → IsLight (layouts_in columns.now) (row_at (cells_in columns.now) k) }
+    ensures { OnOk result (weights.new.items ≡ weights.old.items
+        ++ weights_of (layouts_in columns.now) (rows_in count (cells_in columns.now))) }
+{
+    for index in 0..count {
+        let weight = weigh_row(columns, index).unwrap();
+        weights.push(weight)?;
+    }
+    Ok(())
+}
+
+/// The weights of all rows, none of which is too heavy.
+pub fn weights_in(alloc: Global, batches: &[Batch]) -> Result<Vec<u64>, AllocError>
+    requires sized { All HasSizes batches.now }
+    requires light { All IsLightBatch batches.now }
+    ensures { IfOk result (λ weights. (ls : Roses Layout) → All (WeighsAs ls) batches.now
+        → weights.items ≡ weights_of ls (rows_of batches.now)) }
+{
+    let mut weights = Vec::new(alloc);
+    for batch in batches {
+        push_weights(&batch.columns, batch.rows, &mut weights)?;
+    }
+    Ok(weights)
+}
+
+/// Adds the weights of a batch, of whose rows none is above `heaviest`, to those of the rows from row `from` on of the
+/// batches before it. None is kept as long as all rows are light.
+pub(crate) fn add_weights(
+    alloc: Global,
+    before: &[Batch],
+    from: usize,
+    batch: &Batch,
+    heaviest: u64,
+    weights: &mut Vec<u64>,
+) -> Result<(), AllocError>
+    requires sized { All HasSizes before.now }
+    requires light { All IsLightBatch before.now }
+    requires batch_sized { HasSizes batch.now }
+    requires batch_light { IsLightBatch batch.now }
+    requires place { from ≤ length (rows_of before.now) }
+    requires alike { (ls : Roses Layout) × All (WeighsAs ls) before.now }
+    ensures { OnOk result ((ls : Roses Layout) → All (WeighsAs ls) before.now → WeighsAs ls batch.now
+        → All (λ row. row_weight ls row ≤ heaviest) (batch_rows batch.now)
+        → AreWeighed ls weights.old.items (drop from (rows_of before.now))
+        → AreWeighed ls weights.new.items (drop from (rows_of before.now) ++ batch_rows batch.now)) }
+{
+    if !weights.is_empty() {
+        push_weights(&batch.columns, batch.rows, weights)?;
+        return Ok(());
+    }
+    if heaviest <= MAX_LIGHT_ROW {
+        return Ok(());
+    }
+    let mut all = weights_in(alloc, before)?;
+    *weights = all.split_off(from)?;
+    push_weights(&batch.columns, batch.rows, weights)?;
+    Ok(())
+}
+
+/// How many rows of these weights the next batch has: as many as are within the limits on rows and on weight.
+pub(crate) fn count_fitting(weights: &[u64]) -> usize
+    ensures value { result ≡ fitting max_batch_rows max_batch_weight weights.now }
+    ensures bound { result ≤ length weights.now }
+{
+    let mut count = 0;
+    let mut room = MAX_BATCH_WEIGHT;
+    for weight in weights {
+        if count == MAX_BATCH_ROWS {
+            return count;
+        }
+        if room < *weight {
+            return count;
+        }
+        room -= *weight;
+        count += 1;
+    }
+    count
+}
