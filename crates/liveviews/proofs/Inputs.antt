@@ -90,7 +90,7 @@ taken-rest s f t bytes later n h =
     take_all (length bytes - n) (drop n bytes) (omega (arith, size)) in
     subst (λ (xs : List ℕ). HasTaken s f t (xs ++ later)) (sym whole) h
 
-no-bytes : (bytes : List ℕ) → length bytes ≤ 0 → bytes ≡ []
+pub no-bytes : (bytes : List ℕ) → length bytes ≤ 0 → bytes ≡ []
 no-bytes [] none = refl
 no-bytes (b ∷ bs) none = absurd (omega (arith, none))
 
@@ -212,10 +212,11 @@ reached-refused tells keeps s f rows c answer (inr e) =
     (subst (λ (m : Reading (Unit {0})). Stands m c) none (finish-fault e.state c (answer e.state e.shows)))
 
 pub end-refused :
-    (tells : PartialTells) (keeps : PartialIsHeld) (s : Story) (f : FeedParts) (t : KeptBatches) (c : StreamFault)
-    → ((u : FeedState) → Shows f u → Finishes u (Err c)) → HasTaken s f t [] → Refuses s (cause_of c)
-end-refused tells keeps s f t c answer h =
-    stands-refuses s c (reached-refused tells keeps s f (taken_rows t) c answer h.0)
+    (tells : PartialTells) (keeps : PartialIsHeld) (s : Story) (f : FeedParts)
+    (rows : List (List Datum)) (c : StreamFault) → ((u : FeedState) → Shows f u → Finishes u (Err c))
+    → Reached s f rows [] → Refuses s (cause_of c)
+end-refused tells keeps s f rows c answer reached =
+    stands-refuses s c (reached-refused tells keeps s f rows c answer reached)
 
 finished-retained : (t : FeedState) (u : Unit {0}) → retained_in (after_finish t (Ok u)) ≡ retained_in t
 unfolding after_finish
@@ -224,7 +225,7 @@ finished-retained t u = refl
 abbrev ending_at : Retained → Story
 ending_at k = ends k.known (at_input_end k.known.schema)
 
-reached-complete :
+pub reached-complete :
     (tells : PartialTells) (keeps : PartialIsHeld) (s : Story) (f new : FeedParts) (rows : List (List Datum))
     (u : Unit {0}) → ((t : FeedState) → Shows f t → Finishes t (Ok u))
     → ((t : FeedState) → Shows f t → Shows new (after_finish t (Ok u))) → Reached s f rows [] → IsComplete s new rows
@@ -248,14 +249,6 @@ reached-complete tells keeps s f new rows u answer after (inr e) =
       tells = e.tells ∙ ap (λ m. after_rows rows (ends (retained_in e.state).known m)) (sym input)
           ∙ ap (λ k. after_rows rows (ending_at k)) (sym (finished-retained e.state u));
     }
-
-pub end-complete :
-    (tells : PartialTells) (keeps : PartialIsHeld) (s : Story) (f new : FeedParts) (t : KeptBatches) (u : Unit {0})
-    → ((x : FeedState) → Shows f x → Finishes x (Ok u))
-    → ((x : FeedState) → Shows f x → Shows new (after_finish x (Ok u))) → HasTaken s f t []
-    → IsComplete s new (taken_rows t)
-end-complete tells keeps s f new t u answer after h =
-    reached-complete tells keeps s f new (taken_rows t) u answer after h.0
 
 -- the table of all bytes of a source, or why there is none
 read-so :

@@ -64,7 +64,7 @@ pub fit-rows :
 fit-rows columns n most holds long light k below =
     record { held = row-held columns n k holds long below; light = (light k below).0 }
 
-all-rows : (P : List Datum → Type 0) (columns : List (List Datum)) (i n : ℕ) → ((k : ℕ) → i ≤ k → k < i + n
+pub all-rows : (P : List Datum → Type 0) (columns : List (List Datum)) (i n : ℕ) → ((k : ℕ) → i ≤ k → k < i + n
     → P (row_at columns k))
     → All P (rows_from columns i n)
 unfolding rows_from

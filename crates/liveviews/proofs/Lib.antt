@@ -14,3 +14,5 @@ pub mod EndLemmas
 pub mod Counted
 pub mod KeptLemmas
 pub mod Shows
+pub mod BroughtLemmas
+pub mod StreamLemmas

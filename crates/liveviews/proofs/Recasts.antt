@@ -28,7 +28,7 @@ untouched : (old : Sunk) → IsUntouched old old 0
 untouched old = record { same = refl; none = refl }
 
 -- no fault of a stream is the device's
-no-device : (f : StreamFault) → cause_of f ≡ cause.Device → ⊥
+pub no-device : (f : StreamFault) → cause_of f ≡ cause.Device → ⊥
 no-device fault.NoContinuation e = absurd (cc)
 no-device fault.BadSize e = absurd (cc)
 no-device fault.BadTable e = absurd (cc)
@@ -157,7 +157,7 @@ recasts-source held old new read answer source recasts =
     record { input = source.input; read = source.read; recasts = recasts source.input source.so }
 
 -- Each source holds something.
-some-content : (held : Option (List ℕ)) → (input : List ℕ) × IsContent held input
+pub some-content : (held : Option (List ℕ)) → (input : List ℕ) × IsContent held input
 some-content None = ([], tt)
 some-content (Some bytes) = (bytes, refl)
 

@@ -37,8 +37,7 @@ use Rattle.std.proofs.Math.Seq.{drop-append-add, drop-length, take-append-add, t
 use Rattle.std.proofs.lemmas.List.{drop-append-le, get_or_append_left, get_or-append-add, take-append-le}
 use Rattle.values.specs.Datum.{Datum}
 use Rattle.values.specs.Reading.{Reading, Stands, ◌>>=◌, one}
-use Rattle.values.specs.Rose.{Rose, Roses}
-use Rattle.values.specs.declared.layout.Layout.{Layout}
+use Rattle.values.specs.Rose.{Rose}
 use Rattle.arrays.specs.Checked.{CheckedColumn}
 use Rattle.values.specs.StreamCauses.{cause_of}
 use Rattle.values.specs.declared.faults.StreamFault.{StreamFault}
@@ -55,7 +54,7 @@ use Rattle.feed.specs.declared.condition.Condition.{Condition}
 use Rattle.feed.specs.declared.condition.Condition.TheVariants as condition
 use Rattle.feed.specs.declared.event.Fed.{Fed}
 use Rattle.feed.specs.declared.event.FeedEvent.{FeedEvent}
-use Rattle.feed.specs.Columns.{cells_in, layouts_in}
+use Rattle.feed.specs.Columns.{layouts_in}
 use Rattle.feed.specs.CutLaw.{FaultsStay, PartialJoins, PartialUses, WholeStays, WholeUses, shifted}
 use Rattle.feed.specs.Retained.{Retained}
 use Rattle.feed.specs.Events.{Event, Given, batch, dictionary, ended, given, given_by, reading, schema}
@@ -82,10 +81,7 @@ use Rattle.feed.specs.StoryLaw.{
 }
 use Rattle.stream_writer.specs.Heavy.{IsHeavy}
 use Rattle.liveviews.specs.Refused.{RefusesBatch}
-use Rattle.liveviews.specs.Kept.{IsKept, IsKeptSo}
-use Rattle.liveviews.specs.declared.kept_batches.KeptBatches.{KeptBatches}
 use Rattle.liveviews.proofs.Accounts.{after-shows, gave, gives-fault, uses-some}
-use Rattle.liveviews.proofs.Counted.{as-many}
 use Rattle.liveviews.proofs.Tables.{after-by}
 use Rattle.liveviews.specs.Steps.{AreTakenSo, Ended, GoesOn, HasHeavyRow, IsOpen, Reached, Refuses, Tells}
 use Rattle.liveviews.specs.Taken.{AreTaken}
@@ -472,15 +468,15 @@ end-reached st rows new rest typed c =
     })
 
 -- a batch of rows: what the stream tells, and the columns that it has
-record TellsBatch (st : Story) (new : FeedParts) (rows got : List (List Datum)) (rest : List ℕ)
+pub record TellsBatch (st : Story) (new : FeedParts) (rows got : List (List Datum)) (rest : List ℕ)
     (fields : List (Rose Entry)) : Type 0 where
-  state : FeedState
-  shows : Shows new state
-  between : IsBetween state
-  tells : st ≡ after_rows rows (after_rows got (rest_story (retained_in state) rest))
-  schema : (rest_story (retained_in state) rest).schema ≡ Some fields
+  pub state : FeedState
+  pub shows : Shows new state
+  pub between : IsBetween state
+  pub tells : st ≡ after_rows rows (after_rows got (rest_story (retained_in state) rest))
+  pub schema : (rest_story (retained_in state) rest).schema ≡ Some fields
 
-batch-tells :
+pub batch-tells :
     (knows : StoryKnowsSchema) (st : Story) (rows : List (List Datum)) (new : FeedParts) (rest : List ℕ)
     (columns : List (List Datum)) (n body : ℕ) (fields : List (Rose Entry))
     → new.framing.current.known.schema ≡ Some fields → Comes st rows new (batch columns n body) rest
@@ -564,54 +560,9 @@ typed-event o f e d typed there is =
     subst (λ (x : Option FeedEvent). IfSome x (IsTypedEvent o)) there typed in
     subst (IsTypedEvent o) is here
 
-typed-fields :
+pub typed-fields :
     (o : Option (List (Rose Entry))) (columns : List CheckedColumn) (n : ℕ)
     → IsSomeAnd o (λ fs. HasColumns fs columns n)
     → (fs : List (Rose Entry)) × (o ≡ Some fs) × (layouts_in columns ≡ layouts_of fs)
 typed-fields None columns n typed = absurd typed
 typed-fields (Some fs) columns n typed = (fs, refl, typed.0)
-
-pub columns-reached :
-    (none : NothingYet) (knows : StoryKnowsSchema) (st : Story) (rows taken : List (List Datum)) (new : FeedParts)
-    (rest : List ℕ) (columns : List CheckedColumn) (n body : ℕ)
-    → IsSomeAnd new.framing.current.known.schema (λ fs. HasColumns fs columns n)
-    → taken ≡ rows ++ rows_in n (cells_in columns)
-    → (AreTaken (layouts_in columns) rows → AreTaken (layouts_in columns) taken)
-    → Comes st rows new (batch (cells_in columns) n body) rest → Reached st new taken rest
-columns-reached none knows st rows taken new rest columns n body typed all retained c =
-    let t = typed-fields new.framing.current.known.schema columns n typed in
-    batch-reached none knows st rows taken new rest (cells_in columns) n body t.0 t.1 all
-    (subst (λ (ls : Roses Layout). AreTaken ls rows → AreTaken ls taken) t.2 retained) c
-
-pub columns-refused :
-    (knows : StoryKnowsSchema) (st : Story) (rows : List (List Datum)) (new : FeedParts) (rest : List ℕ)
-    (columns : List CheckedColumn) (n body before : ℕ) (k : Cause)
-    → IsSomeAnd new.framing.current.known.schema (λ fs. HasColumns fs columns n) → before ≡ length rows
-    → RefusesBatch (layouts_in columns) (rows_in n (cells_in columns)) before k
-    → Comes st rows new (batch (cells_in columns) n body) rest → Refuses st k
-columns-refused knows st rows new rest columns n body before k typed size refused c =
-    let t = typed-fields new.framing.current.known.schema columns n typed in
-    let got : List (List Datum) = rows_in n (cells_in columns) in
-    let sized : RefusesBatch (layouts_in columns) got (length rows) k =
-    subst (λ (m : ℕ). RefusesBatch (layouts_in columns) got m k) size refused in
-    batch-refused knows st rows new rest (cells_in columns) n body t.0 k t.1
-    (subst (λ (ls : Roses Layout). RefusesBatch ls got (length rows) k) t.2 sized) c
-
--- what is kept beside the rows
-pub columns-kept :
-    (knows : StoryKnowsSchema) (st : Story) (rows : List (List Datum)) (new : FeedParts) (rest : List ℕ)
-    (columns : List CheckedColumn) (n body : ℕ) (before after : KeptBatches)
-    → IsSomeAnd new.framing.current.known.schema (λ fs. HasColumns fs columns n)
-    → (IsKept (length columns) (layouts_in columns) before → IsKept (length columns) (layouts_in columns) after)
-    → Comes st rows new (batch (cells_in columns) n body) rest → IsKeptSo st.schema before → IsKeptSo st.schema after
-columns-kept knows st rows new rest columns n body before after typed keeps c kept =
-    let t = typed-fields new.framing.current.known.schema columns n typed in
-    let b = batch-tells knows st rows new rest (cells_in columns) n body t.0 t.1 c in
-    let schema : st.schema ≡ Some t.0 = ap (λ x. x.schema) b.tells ∙ b.schema in
-    let many : length columns ≡ length t.0 = as-many columns t.0 t.2 in
-    let P : Option (List (Rose Entry)) → KeptBatches → Type 0 = IsKeptSo in
-    let goes : IsKept (length t.0) (layouts_of t.0) before → IsKept (length t.0) (layouts_of t.0) after =
-    subst (λ (ls : Roses Layout). IsKept (length t.0) ls before → IsKept (length t.0) ls after) t.2
-    (subst (λ (m : ℕ). IsKept m (layouts_in columns) before → IsKept m (layouts_in columns) after) many keeps) in
-    subst (λ (o : Option (List (Rose Entry))). P o after) (sym schema)
-    (goes (subst (λ (o : Option (List (Rose Entry))). P o before) schema kept))

@@ -39,7 +39,7 @@ use Rattle.liveviews.specs.Steps.{AreTakenSo, IsComplete, Refuses}
 -- What is known of the logical columns is handed in: it is the contract of `logical_law`.
 module _ (trees : LogicalTrees) (fits : NarrowFits) (holds : NarrowHoldsEach) (weighs : NarrowRowWeighs) where
   -- rows that the columns hold as they are stored are rows of the logical columns
-  row-fits : (fields : List (Rose Entry)) (row : List Datum) → IsTakenRow (layouts_of fields) row
+  pub row-fits : (fields : List (Rose Entry)) (row : List Datum) → IsTakenRow (layouts_of fields) row
       → IsRow (map logical_field fields) row
   row-fits fields row taken =
       let ls : Roses Layout = layouts_of fields in

@@ -12,3 +12,5 @@ pub mod Check
 pub mod Program
 pub mod Kept
 pub mod Showing
+pub mod Brought
+pub mod Streams

@@ -2,16 +2,28 @@
 
 ghost use Rattle.std.specs.Prelude.{◌≡◌, ◌≤◌, ◌<◌, ◌++◌, ℕ, List, [], All, IfErr, IfOk, OnOk, drop, length};
 ghost use Rattle.liveviews.specs.Kept.{IsCounted, IsKeptSo, IsWritable, taken_rows};
+ghost use Rattle.values.specs.Datum.{Datum};
 ghost use Rattle.schema_meta.specs.Story.{Story, story_of};
 ghost use Rattle.schema_meta.specs.Means.{Means};
 ghost use Rattle.stream_writer.specs.Table.{IsTable};
 ghost use Rattle.liveviews.specs.Source.{OfSource};
-ghost use Rattle.liveviews.specs.Steps.{AreTakenSo, HasTaken, HasTakenAll, IsComplete, IsOpen, IsRead, Refuses};
+ghost use Rattle.liveviews.specs.Steps.{
+  AreTakenSo,
+  HasTaken,
+  HasTakenAll,
+  IsComplete,
+  IsOpen,
+  IsRead,
+  Reached,
+  Refuses,
+};
 
 use crate::files::FileFault;
 use crate::kept_batches::KeptBatches;
+use crate::next_message::{NextMessage, next_message};
 use crate::pieces::{read_piece, room};
-use feed::{Fed, Feed, FeedEvent, cut_law, story_law};
+use column_writer::Batch;
+use feed::{Feed, story_law};
 use messages::first_message_law;
 use schema_meta::{fields_law, logical_law};
 use std::alloc::Global;
@@ -41,28 +53,17 @@ fn take_message(feed: &mut Feed, piece: &[u8], rows: &mut KeptBatches) -> Result
     ensures refused { IfErr result (λ c. (s : Story) (later : List ℕ)
         → HasTaken s feed.old rows.old (piece.now ++ later) → Refuses s c) }
 {
-    // They do nothing: the proof takes from them what an event says of the stream, and that it uses some bytes.
-    first_message_law();
-    story_law();
-    cut_law();
-    let fed = feed.push(piece)?;
-    let Fed { used, event } = fed;
-    let Some(event) = event else {
+    let next = next_message(feed, piece)?;
+    let NextMessage { used, batch } = next;
+    let Some(batch) = batch else {
         return Ok(used);
     };
-    match event {
-        FeedEvent::Schema(_) => Ok(used),
-        FeedEvent::Dictionary { .. } => Ok(used),
-        FeedEvent::Batch {
-            columns,
-            rows: count,
-            ..
-        } => {
-            rows.take(columns, count)?;
-            Ok(used)
-        }
-        FeedEvent::End => Ok(used),
-    }
+    let Batch {
+        columns,
+        rows: count,
+    } = batch;
+    rows.take(columns, count)?;
+    Ok(used)
 }
 
 /// Takes all messages of a piece, and what it has of one more.
@@ -113,11 +114,12 @@ fn take_source<R: Read>(
 }
 
 /// Ends the input of a feed.
-fn end(feed: &mut Feed) -> Result<(), Cause>
+pub(crate) fn end(feed: &mut Feed) -> Result<(), Cause>
     requires open { IsOpen feed.old }
-    ensures complete { OnOk result ((s : Story) (t : KeptBatches) → HasTaken s feed.old t []
-        → IsComplete s feed.new (taken_rows t)) }
-    ensures refused { IfErr result (λ c. (s : Story) (t : KeptBatches) → HasTaken s feed.old t [] → Refuses s c) }
+    ensures complete { OnOk result ((s : Story) (rows : List (List Datum)) → Reached s feed.old rows []
+        → IsComplete s feed.new rows) }
+    ensures refused { IfErr result (λ c. (s : Story) (rows : List (List Datum)) → Reached s feed.old rows []
+        → Refuses s c) }
 {
     // It does nothing: the proof takes from it what a stream tells that ends within a message.
     story_law();

@@ -1,0 +1,65 @@
+//! Takes a stream message by message.
+
+ghost use Rattle.std.specs.Prelude.{◌≡◌, ◌≤◌, ◌<◌, ◌++◌, ℕ, List, IfErr, IfOk, IfSome, OnOk, None, drop, length};
+ghost use Rattle.values.specs.Datum.{Datum};
+ghost use Rattle.schema_meta.specs.Story.{Story};
+ghost use Rattle.stream_writer.specs.Weights.{HasSizes};
+ghost use Rattle.liveviews.specs.Brought.{Brings};
+ghost use Rattle.liveviews.specs.Steps.{IsOpen, Reached, Refuses};
+
+use column_writer::Batch;
+use feed::{Fed, Feed, FeedEvent, cut_law, story_law};
+use messages::first_message_law;
+use values::Cause;
+
+/// What became of a piece: so many of its first bytes were used, and the message that ends there is a batch, or it is
+/// none, or no message ends within the piece.
+#[derive(Drop)]
+pub(crate) struct NextMessage {
+    pub used: usize,
+    pub batch: Option<Batch>,
+}
+
+/// Takes the first message of a piece, or all of the piece where it ends before the message does.
+///
+/// What it says is said of any stream of which these rows were taken, whatever bytes come after the piece.
+pub(crate) fn next_message(feed: &mut Feed, piece: &[u8]) -> Result<NextMessage, Cause>
+    requires open { IsOpen feed.old }
+    requires some { 0 < length piece.now }
+    ensures open { OnOk result (IsOpen feed.new) }
+    ensures used { IfOk result (λ m. (0 < m.used) × (m.used ≤ length piece.now)) }
+    ensures sized { IfOk result (λ m. IfSome m.batch HasSizes) }
+    ensures passed { IfOk result (λ m. m.batch ≡ None → (s : Story) (rows : List (List Datum)) (later : List ℕ)
+        → Reached s feed.old rows (piece.now ++ later) → Reached s feed.new rows (drop m.used piece.now ++ later)) }
+    ensures brought { IfOk result (λ m. IfSome m.batch (λ b. (s : Story) (rows : List (List Datum)) (later : List ℕ)
+        → Reached s feed.old rows (piece.now ++ later)
+        → Brings s feed.new rows b (drop m.used piece.now ++ later))) }
+    ensures refused { IfErr result (λ c. (s : Story) (rows : List (List Datum)) (later : List ℕ)
+        → Reached s feed.old rows (piece.now ++ later) → Refuses s c) }
+{
+    // They do nothing: the proof takes from them what an event says of the stream, and that it uses some bytes.
+    first_message_law();
+    story_law();
+    cut_law();
+    let fed = feed.push(piece)?;
+    let Fed { used, event } = fed;
+    let Some(event) = event else {
+        return Ok(NextMessage { used, batch: None });
+    };
+    match event {
+        FeedEvent::Schema(_) => Ok(NextMessage { used, batch: None }),
+        FeedEvent::Dictionary { .. } => Ok(NextMessage { used, batch: None }),
+        FeedEvent::Batch {
+            columns,
+            rows: count,
+            ..
+        } => Ok(NextMessage {
+            used,
+            batch: Some(Batch {
+                columns,
+                rows: count,
+            }),
+        }),
+        FeedEvent::End => Ok(NextMessage { used, batch: None }),
+    }
+}
