@@ -66,7 +66,7 @@ def integers(first, rows):
 
 
 def rows_from(first, rows, zones):
-    texts = [struct.pack(f"<{rows + 1}i", *range(0, 10 * (rows + 1), 10)), b"".join(b"%010d" % it for it in range(rows))]
+    texts = [struct.pack(f"<{rows + 1}i", *range(0, 10 * (rows + 1), 10)), b"".join(b"%010d" % it for it in range(first, first + rows))]
     places = struct.pack(f"<{rows}q", *(it % zones for it in range(first, first + rows)))
     return batch(rows, [[integers(first, rows)], texts, [integers(first, rows)], [places]])
 

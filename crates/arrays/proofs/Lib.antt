@@ -15,3 +15,4 @@ pub mod BoundLemmas
 pub mod ReachLemmas
 pub mod HeldCells
 pub mod NoBytesLemmas
+pub mod ViewLemmas

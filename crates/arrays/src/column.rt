@@ -7,6 +7,7 @@ ghost use Rattle.std.specs.Prelude.{
   ◌≤◌,
   All,
   [],
+  get_or,
   length,
   replicate,
   slice_get,
@@ -16,7 +17,8 @@ ghost use Rattle.std.specs.Prelude.{
   Ok,
   true,
 };
-ghost use Rattle.values.specs.Datum.{bytes};
+ghost use Rattle.values.specs.CellViews.{shallow, viewed};
+ghost use Rattle.values.specs.Datum.{bytes, is_null, null};
 ghost use Rattle.values.specs.Limits.{max_cell_weight};
 ghost use Rattle.values.specs.Reading.{Yields, Passes, IsValid};
 ghost use Rattle.values.specs.Layouts.{Holds, weight};
@@ -29,6 +31,7 @@ ghost use Rattle.arrays.specs.Checked.{valid_of};
 ghost use Rattle.arrays.specs.Weights.{Says};
 
 use crate::bounds::weight_bound;
+use crate::cell_views::view_slot;
 use crate::no_bytes::has_no_bytes;
 use crate::read::read;
 use crate::validate::validate_items;
@@ -37,7 +40,7 @@ use array_layout::{Array, ArrayData, check_layout};
 use std::alloc::{AllocError, Global};
 use std::marker::Model;
 use std::rc::Rc;
-use values::{StreamFault, Value};
+use values::{CellView, StreamFault, Value};
 
 /// A column of a record batch whose buffers were checked and whose cells were validated. Contracts see its layouts and
 /// the list of its cells.
@@ -151,6 +154,25 @@ impl Column {
         ensures typed { IfOk result (λ v. Holds self.now.layouts v) }
     {
         read_cell(alloc, &self.body, &self.root, i)
+    }
+
+    /// Cell `i` where it lies.
+    #[tactic(auto, using(crate::proofs::ViewLemmas::column_laws))]
+    pub fn view(&self, i: usize) -> CellView<'_>
+        requires { i < length self.now.cells }
+        ensures { viewed result ≡ shallow (get_or self.now.cells i null) }
+    {
+        let parts = self.parts();
+        view_slot(parts.body, parts.own, parts.children, i)
+    }
+
+    /// Whether cell `i` is null.
+    #[tactic(auto, using(values::proofs::ShallowLemmas::shallow_laws))]
+    pub fn is_null(&self, i: usize) -> bool
+        requires { i < length self.now.cells }
+        ensures { result ≡ is_null (get_or self.now.cells i null) }
+    {
+        self.view(i).is_null()
     }
 
     /// The array and the body in which its cells lie.

@@ -5,6 +5,7 @@
 
 mod always_valid;
 mod bounds;
+mod cell_views;
 mod column;
 mod decimals;
 mod dictionary;

@@ -9,7 +9,7 @@ ghost use Rattle.array_layout.specs.Sound.{IsSound, AreSound, AreLong};
 ghost use Rattle.array_layout.specs.Cells.{cell, first_cell, row, value_by, items_at, len_of};
 
 use crate::dictionary::copy_value;
-use crate::slots::{bytes_slot, is_null_slot, text_from};
+use crate::slots::{bytes_slot, is_null_slot, text_in};
 use crate::validate::items_array;
 use array_layout::{Array, ArrayData, bit, buffer, decimal, fixed, number, offset};
 use std::alloc::{AllocError, Global};
@@ -77,9 +77,9 @@ fn read_value(
             alloc,
             fixed(values, width as usize, i),
         )?),
-        Layout::Utf8 { offsets } => Kind::Utf8(text_from(
+        Layout::Utf8 { offsets } => Kind::Utf8(String::from_str(
             alloc,
-            bytes_slot(body, own, offsets, i),
+            text_in(bytes_slot(body, own, offsets, i)),
         )?),
         Layout::Binary { offsets } => Kind::Binary(Vec::from_slice(
             alloc,

@@ -1,14 +1,12 @@
 //! Reads slots of an array's own buffers.
 
-ghost use Rattle.std.specs.Prelude.{◌≡◌, ◌*◌, ◌<◌, ◌≤◌, string_bytes, IfOk, true};
+ghost use Rattle.std.specs.Prelude.{◌≡◌, ◌*◌, ◌<◌, ◌≤◌, true};
 ghost use Rattle.std.specs.Str.{is_utf8};
 ghost use Rattle.array_layout.specs.Placing.{bytes_of};
 ghost use Rattle.array_layout.specs.Buffers.{is_null, slice_at};
 ghost use Rattle.array_layout.specs.Sound.{LiesIn, AreFit};
 
 use array_layout::{ArrayData, buffer, is_null_at, slice};
-use simdutf8::basic::from_utf8;
-use std::alloc::{AllocError, Global};
 use values::OffsetWidth;
 
 /// Whether slot `i` is null.
@@ -42,11 +40,11 @@ pub(crate) fn bytes_slot<'a>(
     )
 }
 
-/// Copies bytes, which must be UTF-8, as a string.
+/// Bytes that were validated as UTF-8, as a text: they aren't looked at again.
 #[tactic(auto, using(crate::proofs::Utf8Tests::text_tests))]
-pub(crate) fn text_from(alloc: Global, bytes: &[u8]) -> Result<String, AllocError>
+pub(crate) fn text_in(bytes: &[u8]) -> &str
     requires { is_utf8 bytes.now ≡ true }
-    ensures { IfOk result (λ t. string_bytes t ≡ bytes.now) }
+    ensures { result.now ≡ bytes.now }
 {
-    String::from_str(alloc, from_utf8(bytes).unwrap())
+    unsafe { std::str::from_utf8_unchecked(bytes) }
 }

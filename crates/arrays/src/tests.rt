@@ -14,7 +14,7 @@ use std::alloc::{AllocError, Global};
 use std::rc::Rc;
 use std::test::Fail;
 use values::limits::{MAX_CELL_WEIGHT, MAX_NODE_LENGTH};
-use values::{IntWidth, Kind, Layout, OffsetWidth, Value};
+use values::{CellView, IntWidth, Kind, Layout, OffsetWidth, Value, cmp_cells};
 
 const NOWHERE: BufferRange = BufferRange { from: 0, len: 0 };
 
@@ -178,6 +178,24 @@ fn two_texts(alloc: Global) -> Result<Column, Fail> {
         children: Vec::new(alloc),
     };
     Ok(Column::check(body, root)?)
+}
+
+/// Whether cell `i` is there, and is this one.
+fn is_viewed(column: &Column, i: usize, wanted: CellView<'_>) -> bool {
+    i < column.len() && cmp_cells(column.view(i), wanted).is_eq()
+}
+
+#[test]
+fn views_cells_where_they_lie(rt: HostRuntime) -> Result<(), Fail> {
+    let alloc = rt.alloc();
+    let texts = two_texts(alloc)?;
+    assert!(rt; is_viewed(&texts, 0, CellView::Utf8("a")));
+    assert!(rt; is_viewed(&texts, 1, CellView::Utf8("éb")));
+    assert!(rt; is_viewed(&coded(alloc)?, 0, CellView::Binary(&[2, 3])));
+    let lists = list_of(alloc, Layout::FixedSizeBinary { width: 0 })?;
+    assert!(rt; is_viewed(&lists, 0, CellView::List));
+    assert!(rt; lists.len() == 1 && !lists.is_null(0));
+    Ok(())
 }
 
 #[test]

@@ -19,8 +19,8 @@ use Rattle.std.proofs.Common.{
   ◌∙◌,
 }
 use Rattle.std.proofs.lemmas.List.{drop_all, drop_more, get_or_append_left}
-use Rattle.values.specs.Datum.{Datum, null}
-use Rattle.view_lang.specs.Cells.{cell_at, is_null}
+use Rattle.values.specs.Datum.{Datum, null, is_null}
+use Rattle.view_lang.specs.Cells.{cell_at}
 use Rattle.view_lang.specs.Filter.{Filter, compare, null_in, negation, all_of, one_of, Filters, no_part, part, parts_of}
 use Rattle.view_lang.specs.Truth.{both, compared, either, negated, operand_of, truth, truth_of_all, truth_of_any}
 use Rattle.view_lang.specs.declared.filter.Operand.{Operand}

@@ -29,9 +29,8 @@ use Rattle.std.proofs.lemmas.List.FromFn.{fill_by_all, get_or-map-range_with_len
 use Rattle.std.proofs.lemmas.List.Elements.{All-get_or}
 use Rattle.bitmaps.specs.Truths.{Truth, both as both_of, either as either_of, negated as negated_of, paired}
 use Rattle.bitmaps.proofs.TruthLemmas.{length-paired}
-use Rattle.values.specs.Datum.{Datum, null}
+use Rattle.values.specs.Datum.{Datum, null, is_null}
 use Rattle.arrays.specs.Checked.{CheckedColumn}
-use Rattle.view_lang.specs.Cells.{is_null}
 use Rattle.view_lang.specs.Filter.{Filter, compare, null_in, negation, all_of, one_of, Filters, parts_of}
 use Rattle.view_lang.specs.Truth.{compared, both, either, truth, truth_of_all, truth_of_any}
 use Rattle.view_lang.specs.declared.filter.Comparison.{Comparison}

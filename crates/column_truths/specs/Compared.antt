@@ -2,11 +2,10 @@
 use Rattle.std.specs.Prelude.{ℕ, ℤ, pos, negsuc, Bool, if◌then◌else◌, List, None, Some, get_or, length, map}
 use Rattle.std.specs.List.{range_with_len}
 use Rattle.bitmaps.specs.Truths.{Truth}
-use Rattle.values.specs.Datum.{Datum, null}
+use Rattle.values.specs.Datum.{Datum, null, is_null as is_null_datum}
 use Rattle.values.specs.Layouts.{bytes_in}
 use Rattle.values.specs.declared.layout.IntWidth.{IntWidth}
 use Rattle.array_layout.specs.Buffers.{is_null, number_at}
-use Rattle.view_lang.specs.Cells.{is_null as is_null_datum}
 use Rattle.view_lang.specs.Truth.{compared}
 use Rattle.view_lang.specs.declared.filter.Comparison.{Comparison}
 

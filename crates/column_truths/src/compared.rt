@@ -2,7 +2,7 @@
 
 ghost use Rattle.std.specs.Prelude.{◌≡◌, ◌+◌, ◌<◌, ◌^◌, ◌++◌, ◌∷◌, [], length, OnOk};
 ghost use Rattle.bitmaps.specs.Truths.{is_true, is_unknown};
-ghost use Rattle.view_lang.specs.Cells.{is_null as is_null_by};
+ghost use Rattle.values.specs.Datum.{is_null as is_null_by};
 ghost use Rattle.view_lang.specs.Truth.{compared as compared_by};
 
 use bitmaps::Bitmap;

@@ -1,22 +1,25 @@
 -- The order follows the groups.
-use Rattle.std.proofs.Common.{◌≡◌, refl, ap, sym, ◌∙◌, subst, get_or, take}
-use Rattle.std.specs.Prelude.{ℕ, ◌+◌, ◌<◌, Bool, true, false, cond, List, Option, None, length}
+use Rattle.std.proofs.Common.{◌≡◌, refl, ap, ap₂, sym, ◌∙◌, subst, get_or, take, true≢false}
+use Rattle.std.specs.Prelude.{ℕ, ◌+◌, ◌<◌, Bool, true, false, cond, List, Option, None, Some, length}
 use Rattle.std.specs.BTreeMap.{is_at}
+use Rattle.std.specs.Cmp.{Equal-is, eq_by_cmp_equiv}
 use Rattle.std.specs.List.{list_any}
 use Rattle.std.specs.Option.{option_map}
 use Rattle.values.specs.Datum.{Datum}
 use Rattle.values.specs.declared.key.Key.{Key}
 use Rattle.view_lang.specs.Shifts.{Shift}
+use Rattle.view_lang.specs.declared.view.OrderBy.{OrderBy}
 use Rattle.group_state.specs.GroupCounts.{GroupCounts}
 use Rattle.group_state.specs.Grouped.{Grouped}
 use Rattle.group_state.specs.Keys.{tuple_cmp, tuple_total}
 use Rattle.group_state.specs.Seen.{seen_row}
 use Rattle.group_state.specs.Touched.{StayBut, group_at, touches}
+use Rattle.group_state.specs.Tuples.{has_tuple, tuple_of}
 use Rattle.group_state.proofs.Members.{tuple_exact}
-use Rattle.top_rows.specs.Ties.{KeepsBy, is_place_by, pick, stands_by, without}
-use Rattle.top_rows.proofs.Ties.{all-picked, none-there, with-more, without-more}
-use Rattle.group_order.specs.GroupPlaces.{GroupPlace}
-use Rattle.group_order.specs.Ranked.{IsRanked, Ranked, Ranking, if_passing, shown_at}
+use Rattle.top_rows.specs.Ties.{KeepsBy, has_sort_keys, is_place_by, pick, place_by, stands_by, without}
+use Rattle.top_rows.proofs.Ties.{all-picked, none-there, some-here, some-there, tied_exact, with-more, without-more}
+use Rattle.group_order.specs.GroupPlaces.{GroupPlace, group_place_cmp}
+use Rattle.group_order.specs.Ranked.{IsRanked, Ranked, Ranking, if_passing, is_there, shown_at}
 
 abbrev changed_at : Bool → Ranking → Grouped → List Key → List GroupPlace → GroupPlace → Bool
 changed_at b r g t places p =
@@ -100,3 +103,118 @@ through old r next ns ns1 ns2 mid1 mid2 last a b m same takes puts k =
     let put : PutsIn next mid2 last old.ranking ns =
     subst (λ x. PutsIn next mid2 last old.ranking x) b (subst (λ x. PutsIn next mid2 last x ns2) same puts) in
     put at taken
+
+-- One row's place is put in for that before.
+module _ (order : List OrderBy) (t : List Key) (at later : List Key → Option (List Datum))
+    (places next : List GroupPlace) (k : KeepsBy tuple_cmp order places at)
+    (same : (q : List Key) → is_at (tuple_cmp t) q ≡ false → later q ≡ at q) where
+  own-name : (q : List Key) → is_at (tuple_cmp t) q ≡ true → q ≡ t
+  own-name q h = sym (tuple_exact t q ((Equal-is (tuple_cmp t q)).0 h))
+
+  own-place : (p : GroupPlace) → is_at (tuple_cmp t) p.1 ≡ true
+      → stands_by tuple_cmp places p ≡ has_sort_keys order p.0 (at t)
+  own-place p h = k.places_are p ∙ ap (λ m. has_sort_keys order p.0 (at m)) (own-name p.1 h)
+
+  -- the place before is there
+  pub stood : (p : GroupPlace) (b : Bool) → is_at (tuple_cmp t) p.1 ≡ b
+      → is_place_by tuple_cmp order t (at t) p ≡ true → stands_by tuple_cmp places p ≡ true
+  stood p true h x =
+      own-place p h ∙ sym (some-here tuple_cmp tuple_total tuple_exact order t p (at t) h) ∙ x
+  stood p false h x =
+      absurd (true≢false (sym x ∙ some-there tuple_cmp tuple_total tuple_exact order t p (at t) h))
+
+  replaced : (y x : Bool) → cond y true (cond x false x) ≡ y
+  replaced true true = refl
+  replaced true false = refl
+  replaced false true = refl
+  replaced false false = refl
+
+  pub keeps-replaced : ((p : GroupPlace) → stands_by tuple_cmp next p
+      ≡ cond (is_place_by tuple_cmp order t (later t) p) true
+      (cond (is_place_by tuple_cmp order t (at t) p) false (stands_by tuple_cmp places p)))
+      → KeepsBy tuple_cmp order next later
+  keeps-replaced f = record { places_are = λ p. f p ∙ go p (is_at (tuple_cmp t) p.1) refl }
+    where
+      go : (p : GroupPlace) (b : Bool) → is_at (tuple_cmp t) p.1 ≡ b
+          → cond (is_place_by tuple_cmp order t (later t) p) true
+          (cond (is_place_by tuple_cmp order t (at t) p) false (stands_by tuple_cmp places p))
+          ≡ has_sort_keys order p.0 (later p.1)
+      go p true h =
+          rw (
+            some-here tuple_cmp tuple_total tuple_exact order t p (later t) h,
+            some-here tuple_cmp tuple_total tuple_exact order t p (at t) h,
+            own-place p h,
+          )
+          (replaced (has_sort_keys order p.0 (later t)) (has_sort_keys order p.0 (at t)))
+          ∙ sym (ap (λ m. has_sort_keys order p.0 (later m)) (own-name p.1 h))
+      go p false h =
+          rw (
+            some-there tuple_cmp tuple_total tuple_exact order t p (later t) h,
+            some-there tuple_cmp tuple_total tuple_exact order t p (at t) h,
+          )
+          (k.places_are p ∙ sym (ap (has_sort_keys order p.0) (same p.1 h)))
+
+there-place : (order : List OrderBy) (t : List Key) (o : Option (List Datum)) (p : GroupPlace)
+    → is_there (option_map (place_by tuple_cmp order t) o) p ≡ is_place_by tuple_cmp order t o p
+there-place order t None p = refl
+there-place order t (Some row) p = refl
+
+abbrev pub Replaces : Option GroupPlace → Option GroupPlace → List GroupPlace → List GroupPlace → Type 0
+Replaces before after places next =
+    ((p : GroupPlace) → is_there before p ≡ true → stands_by tuple_cmp places p ≡ true) → (p : GroupPlace)
+    → stands_by tuple_cmp next p
+    ≡ cond (is_there after p) true (cond (is_there before p) false (stands_by tuple_cmp places p))
+
+pub said-replaced : (b c a d : Option GroupPlace) (places others next : List GroupPlace) → b ≡ c → a ≡ d
+    → places ≡ others → Replaces b a places next → Replaces c d others next
+said-replaced b c a d places others next x y z f =
+    subst (λ o. Replaces o d others next) x (subst (λ o. Replaces b o others next) y
+    (subst (λ l. Replaces b a l next) z f))
+
+itself : (q : GroupPlace) (places : List GroupPlace) → Replaces (Some q) (Some q) places places
+itself q places = λ there p. go there p (is_at (group_place_cmp q) p) refl
+  where
+    go : ((p : GroupPlace) → is_at (group_place_cmp q) p ≡ true → stands_by tuple_cmp places p ≡ true)
+        → (p : GroupPlace) (b : Bool) → is_at (group_place_cmp q) p ≡ b
+        → stands_by tuple_cmp places p ≡ cond b true (cond b false (stands_by tuple_cmp places p))
+    go there p true x = there p x
+    go there p false x = refl
+
+-- a place that stays
+pub same-place : (q r : GroupPlace) (places : List GroupPlace) → is_at (group_place_cmp q) r ≡ true
+    → Replaces (Some q) (Some r) places places
+same-place q r places h =
+    let same : q ≡ r = tied_exact tuple_cmp tuple_total tuple_exact q r ((Equal-is (group_place_cmp q r)).0 h) in
+    subst (λ x. Replaces (Some q) (Some x) places places) same (itself q places)
+
+pub is-placed : (order : List OrderBy) (t : List Key) (o : Option (List Datum)) (q p : GroupPlace)
+    (found : Option GroupPlace) → found ≡ Some q → found ≡ option_map (place_by tuple_cmp order t) o
+    → is_at (group_place_cmp q) p ≡ is_place_by tuple_cmp order t o p
+is-placed order t o q p found is e = ap (λ x. is_there x p) (sym is ∙ e) ∙ there-place order t o p
+
+-- Where one row comes or goes, the place of its group's row is put in for that before.
+pub ranked-one : (old new : Ranked) (keys : List ℕ) (row : List Datum) (t : List Key) (next : Grouped)
+    (before after : Option GroupPlace) → t ≡ tuple_of keys row
+    → StayBut (λ q. has_tuple keys q row) old.groups next → next.columns ≡ old.groups.columns
+    → new.groups ≡ next → new.ranking ≡ old.ranking
+    → before ≡ option_map (place_by tuple_cmp old.ranking.order t) (shown_at old.ranking old.groups t)
+    → after ≡ option_map (place_by tuple_cmp old.ranking.order t) (shown_at old.ranking next t)
+    → Replaces before after old.places new.places → IsRanked old → IsRanked new
+ranked-one old new keys row t next before after is stay c g r b a f k =
+    let order : List OrderBy = old.ranking.order in
+    let at : List Key → Option (List Datum) = shown_at old.ranking old.groups in
+    let later : List Key → Option (List Datum) = shown_at old.ranking next in
+    let same : (q : List Key) → is_at (tuple_cmp t) q ≡ false → later q ≡ at q =
+    λ q h. stays-shown old.ranking q old.groups next c
+    (stay q (ap (is_at (tuple_cmp q)) (sym is) ∙ (eq_by_cmp_equiv tuple_total).symm q t ∙ h)) in
+    let was : (p : GroupPlace) → is_there before p ≡ is_place_by tuple_cmp order t (at t) p =
+    λ p. ap (λ o. is_there o p) b ∙ there-place order t (at t) p in
+    let now : (p : GroupPlace) → is_there after p ≡ is_place_by tuple_cmp order t (later t) p =
+    λ p. ap (λ o. is_there o p) a ∙ there-place order t (later t) p in
+    let kept : KeepsBy tuple_cmp order new.places later =
+    keeps-replaced order t at later old.places new.places k same
+    (λ p. f (λ q x. stood order t at later old.places new.places k same q (is_at (tuple_cmp t) q.1) refl
+    (sym (was q) ∙ x)) p
+    ∙ ap₂ (λ y x. cond y true (cond x false (stands_by tuple_cmp old.places p))) (now p) (was p)) in
+    subst (λ x. KeepsBy tuple_cmp new.ranking.order new.places (shown_at new.ranking x)) (sym g)
+    (subst (λ x. KeepsBy tuple_cmp x.order new.places (shown_at x next)) (sym r) kept)

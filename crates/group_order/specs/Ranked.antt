@@ -1,5 +1,6 @@
 -- What contracts see of groups that are kept with the order of their rows.
-use Rattle.std.specs.Prelude.{◌≡◌, ℕ, cond, filter, List, None, Option, Some}
+use Rattle.std.specs.Prelude.{◌≡◌, ℕ, Bool, cond, false, filter, List, None, Option, Some}
+use Rattle.std.specs.BTreeMap.{is_at}
 use Rattle.values.specs.Datum.{Datum}
 use Rattle.values.specs.declared.key.Key.{Key}
 use Rattle.view_lang.specs.Filter.{Filter}
@@ -14,7 +15,7 @@ use Rattle.group_state.specs.Groups.{Keeps as KeepsGroups}
 use Rattle.group_state.specs.Keys.{tuple_cmp}
 use Rattle.group_state.specs.Seen.{seen_at}
 use Rattle.top_rows.specs.Ties.{KeepsBy}
-use Rattle.group_order.specs.GroupPlaces.{GroupPlace}
+use Rattle.group_order.specs.GroupPlaces.{GroupPlace, group_place_cmp}
 
 -- what is shown of groups, of which of them, and in which order
 pub record Ranking : Type 0 where
@@ -38,6 +39,11 @@ if_passing having (Some row) = cond (passes having row) (Some row) None
 -- the row that is shown of a tuple's group: none where there is no such group, or where its row doesn't pass
 abbrev pub shown_at : Ranking → Grouped → List Key → Option (List Datum)
 shown_at r g t = if_passing r.having (seen_at r.outputs g t)
+
+-- whether there is a place, and it is this one
+abbrev pub is_there : Option GroupPlace → GroupPlace → Bool
+is_there None p = false
+is_there (Some q) p = is_at (group_place_cmp q) p
 
 -- the rows that are shown of the groups of some rows, in their order
 abbrev pub ranked_rows : List ℕ → Ranking → List (List Datum) → List (List Datum)

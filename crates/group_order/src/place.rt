@@ -11,8 +11,7 @@ use std::alloc::{AllocError, Global};
 use std::cmp::Ordering;
 use std::marker::Model;
 use top_rows::SortKey;
-use values::Value;
-use view_lang::OrderBy;
+use view_lang::{OrderBy, RowView};
 
 /// The place of a group row in an order: its sort keys, one for each of the order's columns, and its group's tuple, by
 /// which ties are broken. Contracts see the pair of both.
@@ -86,13 +85,13 @@ impl Ord for GroupPlace {
 
 impl GroupPlace {
     /// The place of the row of a tuple's group.
-    pub(crate) fn of(
+    pub(crate) fn of<R: RowView>(
         alloc: Global,
         order: &[OrderBy],
         tuple: &Tuple,
-        row: &[Value],
+        row: &R,
     ) -> Result<GroupPlace, AllocError>
-        ensures { IfOk result (λ place. place ≡ place_by tuple_cmp order.now tuple.now row.now) }
+        ensures { IfOk result (λ place. place ≡ place_by tuple_cmp order.now tuple.now (R.cells row.now)) }
     {
         let mut sort_keys = Vec::with_capacity(alloc, order.len())?;
         for by in order {

@@ -1,22 +1,43 @@
 //! Groups of rows, with the order of the rows that are shown of them.
 
-ghost use Rattle.std.specs.Prelude.{◌≡◌, ◌++◌, [], All, cond, map, take, false, IfOk, List, OnOk, Option, true};
+ghost use Rattle.std.specs.Prelude.{
+  ◌≡◌,
+  ◌<◌,
+  ◌^◌,
+  ◌++◌,
+  [],
+  All,
+  cond,
+  length,
+  map,
+  take,
+  false,
+  IfOk,
+  List,
+  None,
+  OnOk,
+  Option,
+  Some,
+  true,
+  ℕ,
+};
 ghost use Rattle.std.specs.BTreeMap.{is_at};
 ghost use Rattle.std.specs.List.{cons_option, filter_map};
 ghost use Rattle.std.specs.List.Sorted.{IsStrictlySortedBy};
-ghost use Rattle.std.specs.Map.{values_of};
+ghost use Rattle.std.specs.Map.{keys_of, values_of};
+ghost use Rattle.std.specs.Ordering.{nat_cmp};
 ghost use Rattle.std.specs.Option.{option_map};
 ghost use Rattle.view_lang.specs.Cells.{rows_of};
 ghost use Rattle.group_state.specs.Reading.{CanReadAll};
 ghost use Rattle.values.specs.Datum.{Datum};
 ghost use Rattle.values.specs.declared.key.Key.{Key};
-ghost use Rattle.view_lang.specs.Shifts.{Fits, IsFew, NumberedRows, patched};
+ghost use Rattle.view_lang.specs.Shifts.{Fits, IsFew, NumberedRows, patched, row_at, with_at};
 ghost use Rattle.group_state.specs.Keys.{tuple_cmp};
 ghost use Rattle.group_state.specs.KeptColumns.{IsKept};
 ghost use Rattle.top_rows.specs.PlaceOrder.{tied_cmp};
 ghost use Rattle.top_rows.specs.Ties.{KeepsBy, is_place_by, pick, place_by, stands_by, without};
 ghost use Rattle.group_order.specs.GroupPlaces.{GroupPlace as PlaceSeen, group_place_cmp};
-ghost use Rattle.group_order.specs.Ranked.{IsRanked, Keeps, ranked_rows, shown_at};
+ghost use Rattle.group_order.specs.Ranked.{IsRanked, Keeps, is_there, ranked_rows, shown_at};
 ghost use Rattle.group_order.specs.RankedParts.{AreRanked, ranked_with};
 
 use crate::parts::RankedParts;
@@ -26,8 +47,8 @@ use group_state::{Groups, Tuple};
 use std::alloc::{AllocError, Global};
 use std::collections::BTreeSet;
 use std::marker::Model;
-use values::{Row, Value};
-use view_lang::{Change, Upkeep, group_law, passes, passing_rows};
+use values::Row;
+use view_lang::{Change, RowView, Upkeep, group_law, passes, passing_rows};
 
 /// Groups of rows, and the places of their rows in an order. Rows that tie are in the order of their tuples.
 #[derive(Debug, Drop)]
@@ -127,37 +148,52 @@ impl RankedGroups {
         let Some(row) = self.groups.row(alloc, self.ranking.outputs(), tuple)? else {
             return Ok(None);
         };
-        if passes(self.ranking.having(), &row) {
+        if passes(self.ranking.having(), &row.as_slice()) {
             Ok(Some(row))
         } else {
             Ok(None)
         }
     }
 
-    /// Takes the place of a row away, if it is there.
-    fn cut(&mut self, tuple: &Tuple, row: &[Value]) -> Result<(), AllocError>
-        ensures groups { self.new.groups ≡ self.old.groups }
-        ensures ranking { self.new.ranking ≡ self.old.ranking }
-        ensures places { OnOk result ((p : PlaceSeen) → stands_by tuple_cmp self.new.places p
-            ≡ cond (is_at (tied_cmp tuple_cmp (place_by tuple_cmp self.old.ranking.order tuple.now row.now)) p) false
-            (stands_by tuple_cmp self.old.places p)) }
+    /// The place of the row that is shown of a tuple's group, if there is one.
+    fn place_of(&self, tuple: &Tuple) -> Result<Option<GroupPlace>, AllocError>
+        ensures { IfOk result (λ place. place ≡ option_map (place_by tuple_cmp self.now.ranking.order tuple.now)
+            (shown_at self.now.ranking self.now.groups tuple.now)) }
     {
-        let place = GroupPlace::of(self.alloc, self.ranking.order(), tuple, row)?;
-        let _there = self.places.remove(&place);
-        Ok(())
+        let Some(row) = self.shown_row(self.alloc, tuple)? else {
+            return Ok(None);
+        };
+        let order = self.ranking.order();
+        Ok(Some(GroupPlace::of(self.alloc, order, tuple, &row.as_slice())?))
     }
 
-    /// Puts the place of a row in.
-    fn put(&mut self, tuple: &Tuple, row: &[Value]) -> Result<(), AllocError>
+    /// Puts a place in for another, where there are such.
+    fn replace(
+        &mut self,
+        before: Option<GroupPlace>,
+        after: Option<GroupPlace>,
+    ) -> Result<(), AllocError>
         ensures groups { self.new.groups ≡ self.old.groups }
         ensures ranking { self.new.ranking ≡ self.old.ranking }
-        ensures places { OnOk result ((p : PlaceSeen) → stands_by tuple_cmp self.new.places p
-            ≡ cond (is_at (tied_cmp tuple_cmp (place_by tuple_cmp self.old.ranking.order tuple.now row.now)) p) true
-            (stands_by tuple_cmp self.old.places p)) }
+        ensures places { OnOk result (((p : PlaceSeen) → is_there before p ≡ true
+            → stands_by tuple_cmp self.old.places p ≡ true) → (p : PlaceSeen) → stands_by tuple_cmp self.new.places p
+            ≡ cond (is_there after p) true (cond (is_there before p) false (stands_by tuple_cmp self.old.places p))) }
     {
-        let place = GroupPlace::of(self.alloc, self.ranking.order(), tuple, row)?;
-        self.places.insert(place)?;
-        Ok(())
+        match (before, after) {
+            (Some(before), Some(after)) => {
+                exchange(&mut self.places, &before, after)?;
+                Ok(())
+            }
+            (Some(before), None) => {
+                let _there = self.places.remove(&before);
+                Ok(())
+            }
+            (None, Some(after)) => {
+                self.places.insert(after)?;
+                Ok(())
+            }
+            (None, None) => Ok(()),
+        }
     }
 
     /// Takes the place of a tuple's row away, if one is shown.
@@ -168,10 +204,10 @@ impl RankedGroups {
             ≡ cond (is_place_by tuple_cmp self.old.ranking.order tuple.now (shown_at self.old.ranking self.old.groups tuple.now) p)
             false (stands_by tuple_cmp self.old.places p)) }
     {
-        match self.shown_row(self.alloc, tuple)? {
-            Some(row) => self.cut(tuple, row.as_slice()),
-            None => Ok(()),
+        if let Some(place) = self.place_of(tuple)? {
+            let _there = self.places.remove(&place);
         }
+        Ok(())
     }
 
     /// Puts the place of a tuple's row in, if one is shown.
@@ -182,10 +218,10 @@ impl RankedGroups {
             ≡ cond (is_place_by tuple_cmp self.old.ranking.order tuple.now (shown_at self.old.ranking self.old.groups tuple.now) p)
             true (stands_by tuple_cmp self.old.places p)) }
     {
-        match self.shown_row(self.alloc, tuple)? {
-            Some(row) => self.put(tuple, row.as_slice()),
-            None => Ok(()),
+        if let Some(place) = self.place_of(tuple)? {
+            self.places.insert(place)?;
         }
+        Ok(())
     }
 
     /// Takes the places of these tuples' rows away.
@@ -231,6 +267,43 @@ impl RankedGroups {
         self.take_all(touched.as_slice())?;
         self.groups.apply_change(change)?;
         self.put_all(touched.as_slice())?;
+        Ok(())
+    }
+
+    /// A row comes, under a number that no row has. After an error what is kept has no meaning.
+    pub fn come<R: RowView>(&mut self, row: &R) -> Result<(), AllocError>
+        requires { (rows : NumberedRows) × (Keeps self.old (values_of rows) × (length rows < 2 ^ 62)) }
+        ensures kept { OnOk result ((rows : NumberedRows) (n : ℕ) → IsStrictlySortedBy nat_cmp (keys_of rows)
+            → row_at n rows ≡ None → Keeps self.old (values_of rows)
+            → Keeps self.new (values_of (with_at n (Some (R.cells row.now)) rows))) }
+        ensures keys { OnOk result (self.new.groups.keys ≡ self.old.groups.keys) }
+        ensures columns { OnOk result (self.new.groups.columns ≡ self.old.groups.columns) }
+        ensures ranking { self.new.ranking ≡ self.old.ranking }
+    {
+        let tuple = self.groups.tuple_of(row)?;
+        let before = self.place_of(&tuple)?;
+        self.groups.come(row)?;
+        let after = self.place_of(&tuple)?;
+        self.replace(before, after)?;
+        Ok(())
+    }
+
+    /// The row under a number goes. After an error what is kept has no meaning.
+    pub fn go<R: RowView>(&mut self, row: &R) -> Result<(), AllocError>
+        requires { (rows : NumberedRows) × (n : ℕ) × (Keeps self.old (values_of rows)
+            × (IsStrictlySortedBy nat_cmp (keys_of rows) × (row_at n rows ≡ Some (R.cells row.now)))) }
+        ensures kept { OnOk result ((rows : NumberedRows) (n : ℕ) → IsStrictlySortedBy nat_cmp (keys_of rows)
+            → row_at n rows ≡ Some (R.cells row.now) → Keeps self.old (values_of rows)
+            → Keeps self.new (values_of (with_at n None rows))) }
+        ensures keys { OnOk result (self.new.groups.keys ≡ self.old.groups.keys) }
+        ensures columns { OnOk result (self.new.groups.columns ≡ self.old.groups.columns) }
+        ensures ranking { self.new.ranking ≡ self.old.ranking }
+    {
+        let tuple = self.groups.tuple_of(row)?;
+        let before = self.place_of(&tuple)?;
+        self.groups.go(row)?;
+        let after = self.place_of(&tuple)?;
+        self.replace(before, after)?;
         Ok(())
     }
 
@@ -295,6 +368,25 @@ impl Upkeep for RankedGroups {
         self.apply_change(change)?;
         Ok(())
     }
+}
+
+/// Puts a place in for another.
+fn exchange(
+    places: &mut BTreeSet<GroupPlace>,
+    before: &GroupPlace,
+    after: GroupPlace,
+) -> Result<(), AllocError>
+    ensures { OnOk result (((p : PlaceSeen) → is_at (group_place_cmp before.now) p ≡ true
+        → stands_by tuple_cmp places.old.keys p ≡ true) → (p : PlaceSeen) → stands_by tuple_cmp places.new.keys p
+        ≡ cond (is_at (group_place_cmp after) p) true
+        (cond (is_at (group_place_cmp before.now) p) false (stands_by tuple_cmp places.old.keys p))) }
+{
+    if *before == after {
+        return Ok(());
+    }
+    let _there = places.remove(before);
+    places.insert(after)?;
+    Ok(())
 }
 
 /// Adds a row, if there is one.

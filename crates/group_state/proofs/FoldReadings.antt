@@ -37,12 +37,11 @@ use Rattle.std.specs.declared.cmp.Ordering.TheVariants.{Less, Equal, Greater}
 use Rattle.std.proofs.lemmas.Int.{ints}
 use Rattle.std.proofs.lemmas.List.Sums.{length-filter}
 use Rattle.view_lang.specs.SortedEntries.{all_below}
-use Rattle.values.specs.Datum.{Datum, null, truth, whole, text, bytes, list, structure}
+use Rattle.values.specs.Datum.{Datum, null, truth, whole, text, bytes, list, structure, is_null}
 use Rattle.values.specs.Order.{datum_cmp}
 use Rattle.values.specs.Keys.{key_of, datum_of_key}
 use Rattle.values.specs.declared.key.Key.{Key}
 use Rattle.values.specs.declared.key.Key.TheVariants as key
-use Rattle.view_lang.specs.Cells.{is_null}
 use Rattle.view_lang.specs.RowOrder.{cell_cmp}
 use Rattle.view_lang.specs.Groups.{total, first_in, earlier, sum_of as sum_by, count_of}
 use Rattle.view_lang.specs.ViewLaws.{IsKeyCell}

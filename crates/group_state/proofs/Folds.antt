@@ -40,7 +40,7 @@ use Rattle.view_lang.specs.SortedEntries.{sorted-insert_entry, lookup-insert_ent
 use Rattle.values.specs.declared.key.Key.{Key}
 use Rattle.group_state.specs.Keys.{key_cmp, key_total}
 use Rattle.group_state.specs.Counts.{had, one, number_in, put_one, weighted}
-use Rattle.values.specs.Datum.{Datum}
+use Rattle.values.specs.Datum.{Datum, is_null}
 use Rattle.values.specs.Keys.{key_of}
 use Rattle.std.specs.Ordering.{match_ordering}
 use Rattle.std.specs.Int.{int_wrap}
@@ -49,7 +49,6 @@ use mir.Syntax.{w128}
 use Rattle.std.proofs.lemmas.Int.{int_wrap_fits}
 use Rattle.group_state.specs.declared.tally.Tally.{Tally}
 use Rattle.group_state.specs.Cells.{KeepsCells, is_value, is_key}
-use Rattle.view_lang.specs.Cells.{is_null}
 use Rattle.group_state.specs.Folds.{multiset_of, sum_of, times_in, keys_in, push_key, least_of, lesser, first_of}
 use Rattle.view_lang.proofs.ExactKeys.{key_exact}
 use Rattle.group_state.proofs.Had.{had-put}

@@ -32,8 +32,8 @@ use mir.Syntax.{w128}
 use Rattle.std.specs.List.{AllByRecursion}
 use Rattle.std.proofs.lemmas.Int.{ints}
 use Rattle.std.proofs.lemmas.List.Sums.{length-filter, count_by-le-length}
-use Rattle.values.specs.Datum.{Datum, null, truth, whole, text, bytes, list, structure}
-use Rattle.view_lang.specs.Cells.{cell_at, is_null}
+use Rattle.values.specs.Datum.{Datum, null, truth, whole, text, bytes, list, structure, is_null}
+use Rattle.view_lang.specs.Cells.{cell_at}
 use Rattle.view_lang.specs.Groups.{number_in, total, values_at}
 use Rattle.view_lang.specs.Sums.{IsSmall, IsSummable, AreSummable}
 use Rattle.view_lang.specs.ViewLaws.{ComparesKeys, UsesKeys}

@@ -23,10 +23,9 @@ use Rattle.std.specs.Prelude.{
 }
 use mir.Syntax.{w128}
 use Rattle.std.specs.List.{list_any, AllByRecursion}
-use Rattle.values.specs.Datum.{Datum, null}
+use Rattle.values.specs.Datum.{Datum, null, is_null}
 use Rattle.values.specs.Keys.{datum_of_key}
 use Rattle.values.specs.declared.key.Key.{Key}
-use Rattle.view_lang.specs.Cells.{is_null}
 use Rattle.view_lang.specs.Groups.{total, values_at, group_row}
 use Rattle.view_lang.specs.ViewLaws.{ComparesKeys, UsesKeys}
 use Rattle.view_lang.specs.Sums.{AreSummable}

@@ -2,7 +2,6 @@
 
 ghost use Rattle.std.specs.Prelude.{◌≡◌, pos};
 ghost use Rattle.values.specs.Datum.{null, whole as whole_by};
-ghost use Rattle.view_lang.specs.Cells.{is_null as is_null_by};
 
 use values::{Kind, Value};
 
@@ -11,13 +10,6 @@ pub(crate) fn no_value() -> Value
     ensures { result ≡ null }
 {
     Value { kind: Kind::Null }
-}
-
-/// Whether a value is null.
-pub(crate) fn is_null(value: &Value) -> bool
-    ensures { result ≡ is_null_by value.now }
-{
-    matches!(value.kind, Kind::Null)
 }
 
 /// A whole number as a value.

@@ -12,7 +12,7 @@ use crate::tally::Tally;
 use crate::tuple::Tuple;
 use std::alloc::{AllocError, Global};
 use std::marker::Model;
-use values::Value;
+use view_lang::RowView;
 
 /// What is kept of a group: the number of its rows, and a tally of each column that outputs read.
 #[derive(Debug, Drop)]
@@ -99,15 +99,15 @@ impl Group {
     }
 
     /// Adds a row.
-    pub(crate) fn add(
+    pub(crate) fn add<R: RowView>(
         &mut self,
         alloc: Global,
         columns: &[usize],
-        row: &[Value],
+        row: &R,
     ) -> Result<(), AllocError>
         requires { (rows : List (List Datum)) × (KeepsRows columns.now self.old rows × (length rows < 2 ^ 62)) }
         ensures { OnOk result ((rows : List (List Datum)) → KeepsRows columns.now self.old rows
-            → KeepsRows columns.now self.new (row.now ∷ rows)) }
+            → KeepsRows columns.now self.new (R.cells row.now ∷ rows)) }
     {
         add_each(self.tallies.as_mut_slice(), alloc, columns, row)?;
         self.rows += 1;
@@ -115,14 +115,14 @@ impl Group {
     }
 
     /// Removes a row.
-    pub(crate) fn remove(
+    pub(crate) fn remove<R: RowView>(
         &mut self,
         alloc: Global,
         columns: &[usize],
-        row: &[Value],
+        row: &R,
     ) -> Result<(), AllocError>
-        requires { (rows : List (List Datum)) × KeepsRows columns.now self.old (row.now ∷ rows) }
-        ensures { OnOk result ((rows : List (List Datum)) → KeepsRows columns.now self.old (row.now ∷ rows)
+        requires { (rows : List (List Datum)) × KeepsRows columns.now self.old (R.cells row.now ∷ rows) }
+        ensures { OnOk result ((rows : List (List Datum)) → KeepsRows columns.now self.old (R.cells row.now ∷ rows)
             → KeepsRows columns.now self.new rows) }
     {
         remove_each(self.tallies.as_mut_slice(), alloc, columns, row)?;
@@ -131,15 +131,15 @@ impl Group {
     }
 }
 
-fn add_each(
+fn add_each<R: RowView>(
     tallies: &mut [Tally],
     alloc: Global,
     columns: &[usize],
-    row: &[Value],
+    row: &R,
 ) -> Result<(), AllocError>
     requires { (rows : List (List Datum)) × (KeepsEach columns.now tallies.old rows × (length rows < 2 ^ 62)) }
     ensures { OnOk result ((rows : List (List Datum)) → KeepsEach columns.now tallies.old rows
-        → KeepsEach columns.now tallies.new (row.now ∷ rows)) }
+        → KeepsEach columns.now tallies.new (R.cells row.now ∷ rows)) }
 {
     for i in 0..columns.len() {
         tallies[i].add(alloc, row, columns[i])?;
@@ -147,14 +147,14 @@ fn add_each(
     Ok(())
 }
 
-fn remove_each(
+fn remove_each<R: RowView>(
     tallies: &mut [Tally],
     alloc: Global,
     columns: &[usize],
-    row: &[Value],
+    row: &R,
 ) -> Result<(), AllocError>
-    requires { (rows : List (List Datum)) × KeepsEach columns.now tallies.old (row.now ∷ rows) }
-    ensures { OnOk result ((rows : List (List Datum)) → KeepsEach columns.now tallies.old (row.now ∷ rows)
+    requires { (rows : List (List Datum)) × KeepsEach columns.now tallies.old (R.cells row.now ∷ rows) }
+    ensures { OnOk result ((rows : List (List Datum)) → KeepsEach columns.now tallies.old (R.cells row.now ∷ rows)
         → KeepsEach columns.now tallies.new rows) }
 {
     for i in 0..columns.len() {

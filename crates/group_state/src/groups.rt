@@ -7,12 +7,13 @@ ghost use Rattle.group_state.specs.KeptColumns.{IsKept};
 ghost use Rattle.group_state.specs.Reading.{CanReadAll};
 ghost use Rattle.group_state.specs.Seen.{seen_at};
 ghost use Rattle.group_state.specs.Touched.{StayBut, comes, goes, is_of, touches};
-ghost use Rattle.group_state.specs.Tuples.{has_tuple};
+ghost use Rattle.group_state.specs.Tuples.{has_tuple, tuple_of as tuple_by};
 ghost use Rattle.std.proofs.Common.{option_map};
 ghost use Rattle.std.specs.List.{list_any};
 ghost use Rattle.std.specs.BTreeMap.{is_at};
 ghost use Rattle.std.specs.List.Sorted.{IsStrictlySortedBy};
 ghost use Rattle.std.specs.Map.{keys_of, lookup, values_of};
+ghost use Rattle.std.specs.Ordering.{nat_cmp};
 ghost use Rattle.std.specs.Prelude.{
   ◌≡◌,
   ◌<◌,
@@ -25,10 +26,13 @@ ghost use Rattle.std.specs.Prelude.{
   IfOk,
   IsTrue,
   List,
+  None,
   OnOk,
+  Some,
   [],
   false,
   length,
+  ℕ,
 };
 ghost use Rattle.values.specs.Datum.{Datum};
 ghost use Rattle.values.specs.declared.key.Key.{Key};
@@ -40,6 +44,8 @@ ghost use Rattle.view_lang.specs.Shifts.{
   NumberedRows,
   patched,
   push_some,
+  row_at,
+  with_at,
   with_afters,
   with_befores,
 };
@@ -53,7 +59,7 @@ use std::alloc::{AllocError, Global};
 use std::collections::{BTreeMap, BTreeSet};
 use std::marker::Model;
 use values::{Row, Value};
-use view_lang::{Change, GroupOutput, RowChange, Upkeep, group_law};
+use view_lang::{Change, GroupOutput, RowChange, RowView, Upkeep, group_law};
 
 /// The groups of rows that are alike in the grouping columns, each with what is kept of other columns. Without grouping
 /// columns all rows are one group.
@@ -182,6 +188,13 @@ impl Groups {
         }
     }
 
+    /// The tuple of a row.
+    pub fn tuple_of<R: RowView>(&self, row: &R) -> Result<Tuple, AllocError>
+        ensures { IfOk result (λ t. t ≡ tuple_by self.now.keys (R.cells row.now)) }
+    {
+        Tuple::of(self.alloc, self.keys.as_slice(), row)
+    }
+
     /// The tuples of the rows of a change, those before and those after it, each once.
     pub fn touched(&self, change: &Change) -> Result<Vec<Tuple>, AllocError>
         ensures { IfOk result (λ tuples. (t : List Key) → list_any (is_at (tuple_cmp t)) tuples.items
@@ -274,7 +287,7 @@ impl Groups {
         ensures others { OnOk result (StayBut (λ t. comes self.old.keys t changed.now) self.old self.new) }
     {
         if let Some(row) = changed.after() {
-            self.add(row)?;
+            self.add(&row)?;
         }
         Ok(())
     }
@@ -289,19 +302,48 @@ impl Groups {
         ensures others { OnOk result (StayBut (λ t. goes self.old.keys t changed.now) self.old self.new) }
     {
         if let Some(row) = changed.before() {
-            self.remove(row)?;
+            self.remove(&row)?;
         }
         Ok(())
     }
 
-    /// Adds a row.
-    fn add(&mut self, row: &[Value]) -> Result<(), AllocError>
-        requires { (rows : List (List Datum)) × (Keeps self.old rows × (length rows < 2 ^ 62)) }
-        ensures kept { OnOk result ((rows : List (List Datum)) → Keeps self.old rows
-            → Keeps self.new (row.now ∷ rows)) }
+    /// A row comes, under a number that no row has. After an error what is kept has no meaning.
+    pub fn come<R: RowView>(&mut self, row: &R) -> Result<(), AllocError>
+        requires { (rows : NumberedRows) × (Keeps self.old (values_of rows) × (length rows < 2 ^ 62)) }
+        ensures kept { OnOk result ((rows : NumberedRows) (n : ℕ) → IsStrictlySortedBy nat_cmp (keys_of rows)
+            → row_at n rows ≡ None → Keeps self.old (values_of rows)
+            → Keeps self.new (values_of (with_at n (Some (R.cells row.now)) rows))) }
         ensures keys { self.new.keys ≡ self.old.keys }
         ensures columns { self.new.columns ≡ self.old.columns }
-        ensures others { OnOk result (StayBut (λ t. has_tuple self.old.keys t row.now) self.old self.new) }
+        ensures others { OnOk result (StayBut (λ t. has_tuple self.old.keys t (R.cells row.now)) self.old self.new) }
+    {
+        self.add(row)?;
+        Ok(())
+    }
+
+    /// The row under a number goes. After an error what is kept has no meaning.
+    pub fn go<R: RowView>(&mut self, row: &R) -> Result<(), AllocError>
+        requires { (rows : NumberedRows) × (n : ℕ) × (Keeps self.old (values_of rows)
+            × (IsStrictlySortedBy nat_cmp (keys_of rows) × (row_at n rows ≡ Some (R.cells row.now)))) }
+        ensures kept { OnOk result ((rows : NumberedRows) (n : ℕ) → IsStrictlySortedBy nat_cmp (keys_of rows)
+            → row_at n rows ≡ Some (R.cells row.now) → Keeps self.old (values_of rows)
+            → Keeps self.new (values_of (with_at n None rows))) }
+        ensures keys { self.new.keys ≡ self.old.keys }
+        ensures columns { self.new.columns ≡ self.old.columns }
+        ensures others { OnOk result (StayBut (λ t. has_tuple self.old.keys t (R.cells row.now)) self.old self.new) }
+    {
+        self.remove(row)?;
+        Ok(())
+    }
+
+    /// Adds a row.
+    fn add<R: RowView>(&mut self, row: &R) -> Result<(), AllocError>
+        requires { (rows : List (List Datum)) × (Keeps self.old rows × (length rows < 2 ^ 62)) }
+        ensures kept { OnOk result ((rows : List (List Datum)) → Keeps self.old rows
+            → Keeps self.new (R.cells row.now ∷ rows)) }
+        ensures keys { self.new.keys ≡ self.old.keys }
+        ensures columns { self.new.columns ≡ self.old.columns }
+        ensures others { OnOk result (StayBut (λ t. has_tuple self.old.keys t (R.cells row.now)) self.old self.new) }
     {
         let tuple = Tuple::of(self.alloc, self.keys.as_slice(), row)?;
         put_row(
@@ -315,13 +357,13 @@ impl Groups {
     }
 
     /// Removes a row.
-    fn remove(&mut self, row: &[Value]) -> Result<(), AllocError>
-        requires { (rows : List (List Datum)) × Keeps self.old (row.now ∷ rows) }
-        ensures kept { OnOk result ((rows : List (List Datum)) → Keeps self.old (row.now ∷ rows)
+    fn remove<R: RowView>(&mut self, row: &R) -> Result<(), AllocError>
+        requires { (rows : List (List Datum)) × Keeps self.old (R.cells row.now ∷ rows) }
+        ensures kept { OnOk result ((rows : List (List Datum)) → Keeps self.old (R.cells row.now ∷ rows)
             → Keeps self.new rows) }
         ensures keys { self.new.keys ≡ self.old.keys }
         ensures columns { self.new.columns ≡ self.old.columns }
-        ensures others { OnOk result (StayBut (λ t. has_tuple self.old.keys t row.now) self.old self.new) }
+        ensures others { OnOk result (StayBut (λ t. has_tuple self.old.keys t (R.cells row.now)) self.old self.new) }
     {
         let tuple = Tuple::of(self.alloc, self.keys.as_slice(), row)?;
         take_row(
@@ -358,7 +400,7 @@ fn insert_tuple(
         ≡ (list_any (is_at (tuple_cmp t)) tuples.old.keys || is_of keys.now t (option_map (λ r. r.now) row.entry))) }
 {
     if let Some(row) = row {
-        tuples.insert(Tuple::of(alloc, keys, row)?)?;
+        tuples.insert(Tuple::of(alloc, keys, &row)?)?;
     }
     Ok(())
 }
@@ -375,18 +417,18 @@ fn in_order(alloc: Global, tuples: BTreeSet<Tuple>) -> Result<Vec<Tuple>, AllocE
 }
 
 /// Adds a row to the group of its tuple.
-fn put_row(
+fn put_row<R: RowView>(
     groups: &mut BTreeMap<Tuple, Group>,
     alloc: Global,
     columns: &[usize],
     tuple: Tuple,
-    row: &[Value],
+    row: &R,
 ) -> Result<(), AllocError>
     requires { (rows : List (List Datum))
         × (KeepsAt columns.now rows (lookup (is_at (tuple_cmp tuple)) groups.old.entries) × (length rows < 2 ^ 62)) }
     ensures here { OnOk result ((rows : List (List Datum))
         → KeepsAt columns.now rows (lookup (is_at (tuple_cmp tuple)) groups.old.entries)
-        → KeepsAt columns.now (row.now ∷ rows) (lookup (is_at (tuple_cmp tuple)) groups.new.entries)) }
+        → KeepsAt columns.now (R.cells row.now ∷ rows) (lookup (is_at (tuple_cmp tuple)) groups.new.entries)) }
     ensures others { OnOk result ((t : List Key) → is_at (tuple_cmp tuple) t ≡ false
         → lookup (is_at (tuple_cmp t)) groups.new.entries ≡ lookup (is_at (tuple_cmp t)) groups.old.entries) }
 {
@@ -400,17 +442,17 @@ fn put_row(
 }
 
 /// Removes a row from the group of its tuple, and the group with its last row.
-fn take_row(
+fn take_row<R: RowView>(
     groups: &mut BTreeMap<Tuple, Group>,
     alloc: Global,
     columns: &[usize],
     tuple: &Tuple,
-    row: &[Value],
+    row: &R,
 ) -> Result<(), AllocError>
     requires { (rows : List (List Datum))
-        × KeepsAt columns.now (row.now ∷ rows) (lookup (is_at (tuple_cmp tuple.now)) groups.old.entries) }
+        × KeepsAt columns.now (R.cells row.now ∷ rows) (lookup (is_at (tuple_cmp tuple.now)) groups.old.entries) }
     ensures here { OnOk result ((rows : List (List Datum))
-        → KeepsAt columns.now (row.now ∷ rows) (lookup (is_at (tuple_cmp tuple.now)) groups.old.entries)
+        → KeepsAt columns.now (R.cells row.now ∷ rows) (lookup (is_at (tuple_cmp tuple.now)) groups.old.entries)
         → KeepsAt columns.now rows (lookup (is_at (tuple_cmp tuple.now)) groups.new.entries)) }
     ensures others { OnOk result ((t : List Key) → is_at (tuple_cmp tuple.now) t ≡ false
         → lookup (is_at (tuple_cmp t)) groups.new.entries ≡ lookup (is_at (tuple_cmp t)) groups.old.entries) }

@@ -1,6 +1,7 @@
 //! Values by which rows are grouped and compared.
 
-ghost use Rattle.std.specs.Prelude.{◌≡◌, IfOk, is_some};
+ghost use Rattle.std.specs.Prelude.{◌≡◌, IfOk};
+ghost use Rattle.values.specs.CellViews.{viewed};
 ghost use Rattle.values.specs.Keys.{datum_of_key, key_of};
 ghost use Rattle.values.specs.declared.key.Key.TheVariants.{Null};
 ghost use Rattle.group_state.specs.Counts.{number_in};
@@ -11,7 +12,7 @@ use crate::cells::no_value;
 use std::alloc::{AllocError, Global};
 use std::cmp::Ordering;
 use std::marker::Model;
-use values::{Kind, Value, cmp_values, key_law};
+use values::{CellView, Kind, Value, cmp_values, key_law};
 
 /// A value that is neither a list nor a struct. Contracts see the key that it is.
 #[derive(Debug, Drop)]
@@ -85,15 +86,21 @@ impl Ord for KeyCell {
 }
 
 impl KeyCell {
-    /// A copy of a value; `None` where it is a list or a struct.
-    pub(crate) fn of(alloc: Global, value: &Value) -> Result<Option<KeyCell>, AllocError>
-        ensures { IfOk result (λ key. key ≡ key_of value.now) }
+    /// A copy of a cell; `None` where it is a list or a struct.
+    pub(crate) fn of(alloc: Global, cell: CellView<'_>) -> Result<Option<KeyCell>, AllocError>
+        ensures { IfOk result (λ key. key ≡ key_of (viewed cell.entry)) }
     {
-        if is_key(value) {
-            let cell = value.copy(alloc)?;
-            return Ok(Some(KeyCell { cell }));
-        }
-        Ok(None)
+        let kind = match cell {
+            CellView::Null => Kind::Null,
+            CellView::Bool(truth) => Kind::Bool(truth),
+            CellView::Int(number) => Kind::Int(number),
+            CellView::Utf8(text) => Kind::Utf8(String::from_str(alloc, text)?),
+            CellView::Binary(bytes) => Kind::Binary(Vec::from_slice(alloc, bytes)?),
+            CellView::List | CellView::Struct => return Ok(None),
+        };
+        Ok(Some(KeyCell {
+            cell: Value { kind },
+        }))
     }
 
     /// Wraps a value, which must be neither a list nor a struct.
@@ -142,16 +149,5 @@ impl KeyCell {
             Kind::Int(number) => *number,
             _ => 0,
         }
-    }
-}
-
-/// Whether a value is neither a list nor a struct.
-fn is_key(value: &Value) -> bool
-    ensures { result ≡ is_some (key_of value.now) }
-{
-    match &value.kind {
-        Kind::List(_) => false,
-        Kind::Struct(_) => false,
-        _ => true,
     }
 }

@@ -14,6 +14,7 @@ mod key_cell;
 mod multiset;
 mod parts;
 mod reading;
+mod row_cells;
 mod tally;
 #[cfg(test)]
 mod tests;

@@ -12,12 +12,14 @@ ghost use Rattle.group_state.specs.Seen.{seen_count, seen_distinct, seen_greates
 ghost use mir.Syntax.{w128};
 ghost use Rattle.group_state.specs.Rows.{cell};
 
-use crate::cells::{count, is_null, no_value, whole};
+use crate::cells::{count, no_value, whole};
 use crate::key_cell::KeyCell;
 use crate::multiset::Multiset;
 use crate::parts::TallyParts;
+use crate::row_cells::{is_null_at, key_cell_at};
 use std::alloc::{AllocError, Global};
 use values::Value;
+use view_lang::RowView;
 
 /// The tally of a column of a group: how many cells aren't null, and the multiset of those that are neither lists nor
 /// structs.
@@ -101,23 +103,20 @@ impl Tally {
     }
 
     /// Adds a row's cell.
-    pub(crate) fn add(
+    pub(crate) fn add<R: RowView>(
         &mut self,
         alloc: Global,
-        row: &[Value],
+        row: &R,
         column: usize,
     ) -> Result<(), AllocError>
         requires { (cells : List Datum) × (KeepsCells self.old cells × (length cells < 2 ^ 62)) }
         ensures { OnOk result ((cells : List Datum) → KeepsCells self.old cells
-            → KeepsCells self.new (cell column row.now ∷ cells)) }
+            → KeepsCells self.new (cell column (R.cells row.now) ∷ cells)) }
     {
-        let Some(cell) = row.get(column) else {
-            return Ok(())
-        };
-        if is_null(cell) {
+        if is_null_at(row, column) {
             return Ok(());
         }
-        if let Some(key) = KeyCell::of(alloc, cell)? {
+        if let Some(key) = key_cell_at(alloc, row, column)? {
             self.values.add(key)?;
             let _total = self.values.total();
         }
@@ -126,22 +125,19 @@ impl Tally {
     }
 
     /// Removes a row's cell.
-    pub(crate) fn remove(
+    pub(crate) fn remove<R: RowView>(
         &mut self,
         alloc: Global,
-        row: &[Value],
+        row: &R,
         column: usize,
     ) -> Result<(), AllocError>
-        ensures { OnOk result ((cells : List Datum) → KeepsCells self.old (cell column row.now ∷ cells)
+        ensures { OnOk result ((cells : List Datum) → KeepsCells self.old (cell column (R.cells row.now) ∷ cells)
             → KeepsCells self.new cells) }
     {
-        let Some(cell) = row.get(column) else {
-            return Ok(())
-        };
-        if is_null(cell) {
+        if is_null_at(row, column) {
             return Ok(());
         }
-        if let Some(key) = KeyCell::of(alloc, cell)? {
+        if let Some(key) = key_cell_at(alloc, row, column)? {
             self.values.remove(&key);
             let _total = self.values.total();
         }

@@ -124,6 +124,29 @@ fn keeps_groups_through_a_change(rt: HostRuntime) -> Result<(), Fail> {
     Ok(())
 }
 
+/// The groups by the first column of one row of 7, after another came and went.
+fn followed_groups(alloc: Global, outputs: &[GroupOutput]) -> Result<Groups, AllocError> {
+    let three = row(alloc, 7, Some(3))?;
+    let five = row(alloc, 7, Some(5))?;
+    let mut groups = Groups::of(alloc, &[0], outputs)?;
+    groups.come(&three.as_slice())?;
+    groups.come(&five.as_slice())?;
+    groups.go(&three.as_slice())?;
+    Ok(groups)
+}
+
+#[test]
+fn follows_rows_that_come_and_go(rt: HostRuntime) -> Result<(), Fail> {
+    let outputs = outputs(rt.alloc())?;
+    let groups = followed_groups(rt.alloc(), &outputs)?;
+    let shown = groups.rows(rt.alloc(), &outputs)?;
+    let [sevens] = shown.as_slice() else {
+        return Err(Fail::from("not one group"));
+    };
+    assert!(rt; is_row(sevens, &[7, 1, 1, 1, 5, 5, 5]));
+    Ok(())
+}
+
 #[test]
 fn makes_groups_of_their_parts(rt: HostRuntime) -> Result<(), Fail> {
     let outputs = outputs(rt.alloc())?;

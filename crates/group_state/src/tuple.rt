@@ -10,10 +10,12 @@ ghost use Rattle.group_state.specs.Keys.{key_in};
 
 use crate::cells::no_value;
 use crate::key_cell::KeyCell;
+use crate::row_cells::key_cell_at;
 use std::alloc::{AllocError, Global};
 use std::cmp::Ordering;
 use std::marker::Model;
 use values::{Row, Value};
+use view_lang::RowView;
 
 /// A grouping tuple: what a row has in the grouping columns, in order. Contracts see the list of keys.
 #[derive(Debug, Drop)]
@@ -86,8 +88,12 @@ impl Ord for Tuple {
 
 impl Tuple {
     /// The tuple of a row.
-    pub(crate) fn of(alloc: Global, columns: &[usize], row: &[Value]) -> Result<Tuple, AllocError>
-        ensures { IfOk result (λ t. t ≡ tuple_of columns.now row.now) }
+    pub(crate) fn of<R: RowView>(
+        alloc: Global,
+        columns: &[usize],
+        row: &R,
+    ) -> Result<Tuple, AllocError>
+        ensures { IfOk result (λ t. t ≡ tuple_of columns.now (R.cells row.now)) }
     {
         let mut keys = Vec::with_capacity(alloc, columns.len())?;
         for column in columns {
@@ -150,11 +156,8 @@ impl Tuple {
 }
 
 /// The key of a row's cell.
-fn key_at(alloc: Global, row: &[Value], column: usize) -> Result<KeyCell, AllocError>
-    ensures { IfOk result (λ k. k ≡ key_in (cell column row.now)) }
+fn key_at<R: RowView>(alloc: Global, row: &R, column: usize) -> Result<KeyCell, AllocError>
+    ensures { IfOk result (λ k. k ≡ key_in (cell column (R.cells row.now))) }
 {
-    let Some(cell) = row.get(column) else {
-        return Ok(KeyCell::null())
-    };
-    Ok(KeyCell::of(alloc, cell)?.unwrap_or(KeyCell::null()))
+    Ok(key_cell_at(alloc, row, column)?.unwrap_or(KeyCell::null()))
 }

@@ -11,8 +11,13 @@ use Rattle.std.specs.List.Sorted.{IsStrictlySortedBy}
 use Rattle.std.specs.Map.{keys_of}
 use Rattle.std.specs.Ordering.{is_eq, nat_cmp}
 use Rattle.std.specs.Prelude.{◌==◌, ◌&&◌, ℕ, Bool, true, false, cond, List, Option, Some}
+use Rattle.values.specs.CellViews.{shallow, viewed}
 use Rattle.values.specs.Datum.{Datum}
+use Rattle.values.specs.Keys.{key_of}
+use Rattle.values.specs.declared.cell_view.CellView.{CellView}
 use Rattle.values.specs.declared.key.Key.{Key}
+use Rattle.values.proofs.ShallowLemmas.{key_of-shallow}
+use Rattle.view_lang.specs.Cells.{cell_at}
 use Rattle.view_lang.specs.Counted.{lookup-with_at}
 use Rattle.view_lang.specs.Shifts.{NumberedRows, row_at, with_at}
 
@@ -27,11 +32,20 @@ module _ (old new : RowsByKey) (held : Key) (m : ℕ) (b : Bool)
       (key_exact held k ((Equal-is (key_cmp held k)).0 e)) (here n)
   at-by k n false e = ap (λ (found : Option (List ℕ)). is_among (numbers_in found) n) (others k e)
 
-  pub refers-at : (row : Option (List Datum)) → key_held row ≡ Some held → (k : Key) (n : ℕ)
-      → refers new k n ≡ cond (holds k row && n == m) b (refers old k n)
-  refers-at row h k n =
+  pub refers-at : (o : Option Key) → o ≡ Some held → (k : Key) (n : ℕ)
+      → refers new k n ≡ cond (is_key k o && n == m) b (refers old k n)
+  refers-at o h k n =
       at-by k n (is_at (key_cmp held) k) refl
       ∙ ap (λ (o : Option Key). cond (is_key k o && n == m) b (refers old k n)) (sym h)
+
+-- the key that a cell is, read where it lies
+pub key-seen : (cell : CellView) (held : Datum) → viewed cell ≡ shallow held → key_of (viewed cell) ≡ key_of held
+key-seen cell held h = ap key_of h ∙ key_of-shallow held
+
+-- the key of a row's first cell is that which the row holds
+pub held-at : (cell : CellView) (row : Option (List Datum)) (cells : List Datum) → row ≡ Some cells
+    → viewed cell ≡ shallow (cell_at cells 0) → key_of (viewed cell) ≡ key_held row
+held-at cell row cells is h = key-seen cell (cell_at cells 0) h ∙ sym (ap key_held is)
 
 -- first the row before goes, then that after it comes
 abbrev pub moved : Bool → Bool → Bool → Bool → Bool
@@ -90,3 +104,9 @@ keeps-one old mid new n before after rows gone come s is kept = record {
       (gone k m ∙ ap (λ (b : Bool). cond (holds k before && m == n) false b) (kept.rows_are k m))
       ∙ one n before after rows s is k m;
 }
+
+-- What is said of the key of a cell is said of the row that holds it.
+module _ (old new : RowsByKey) (n : ℕ) (b : Bool) (o : Option Key) (row : Option (List Datum)) (h : o ≡ key_held row)
+    (f : (k : Key) (m : ℕ) → refers new k m ≡ cond (is_key k o && m == n) b (refers old k m)) where
+  pub said-of-row : (k : Key) (m : ℕ) → refers new k m ≡ cond (holds k row && m == n) b (refers old k m)
+  said-of-row k m = f k m ∙ ap (λ (o : Option Key). cond (is_key k o && m == n) b (refers old k m)) h

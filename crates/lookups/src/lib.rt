@@ -4,7 +4,6 @@
 //! `specs/Refers.antt` says what is kept, `specs/Keeping.antt` when it is that of some rows.
 #![tactic(auto)]
 
-mod held;
 mod laws;
 mod numbers;
 mod parts;

@@ -1,6 +1,6 @@
 //! The numbers of rows by the keys that the rows hold.
 
-ghost use Rattle.lookups.specs.Keeping.{Keeps, holds};
+ghost use Rattle.lookups.specs.Keeping.{Keeps, holds, is_key};
 ghost use Rattle.lookups.specs.ReferrersParts.{rows_with};
 ghost use Rattle.lookups.specs.Refers.{
   IsOrdered,
@@ -17,18 +17,36 @@ ghost use Rattle.std.specs.List.{list_any};
 ghost use Rattle.std.specs.List.Sorted.{IsStrictlySortedBy};
 ghost use Rattle.std.specs.Map.{keys_of};
 ghost use Rattle.std.specs.Ordering.{nat_cmp};
-ghost use Rattle.std.specs.Prelude.{◌≡◌, ◌==◌, ◌&&◌, ◌||◌, [], cond, false, true, IfOk, OnErr, OnOk, ℕ};
+ghost use Rattle.std.specs.Prelude.{
+  ◌≡◌,
+  ◌==◌,
+  ◌&&◌,
+  ◌||◌,
+  ◌∷◌,
+  [],
+  cond,
+  false,
+  true,
+  IfOk,
+  None,
+  OnErr,
+  OnOk,
+  Some,
+  ℕ,
+};
+ghost use Rattle.values.specs.CellViews.{shallow, viewed};
+ghost use Rattle.values.specs.Datum.{Datum};
+ghost use Rattle.values.specs.Keys.{key_of};
 ghost use Rattle.values.specs.declared.key.Key.{Key};
 ghost use Rattle.view_lang.specs.Shifts.{NumberedRows, row_at, with_at};
 
-use crate::held::key_held;
 use crate::numbers::NumberSet;
 use crate::parts::{KeyNumbers, ReferrersParts};
 use std::alloc::{AllocError, Global};
 use std::collections::{BTreeMap, BTreeSet};
 use std::marker::Model;
-use values::Key;
-use view_lang::{Change, RowChange, Upkeep};
+use values::{CellView, Key, KeyBuffer};
+use view_lang::{Change, RowChange, RowView, Upkeep};
 
 /// The numbers of a table's rows by the key that each holds in a column. Contracts see the numbers under each key.
 ///
@@ -37,6 +55,7 @@ use view_lang::{Change, RowChange, Upkeep};
 pub struct Referrers {
     alloc: Global,
     rows: BTreeMap<Key, NumberSet>,
+    sought: KeyBuffer,
 }
 
 impl Model for Referrers {
@@ -58,6 +77,7 @@ impl Referrers {
         Referrers {
             alloc,
             rows: BTreeMap::new(alloc),
+            sought: KeyBuffer::new(alloc),
         }
     }
 
@@ -66,7 +86,11 @@ impl Referrers {
         ensures value { IfOk result (λ parts. rows_with parts ≡ self) }
         ensures ordered { IfOk result (λ parts. IsOrdered (rows_with parts)) }
     {
-        let Referrers { alloc, rows } = self;
+        let Referrers {
+            alloc,
+            rows,
+            sought: _sought,
+        } = self;
         let mut keys = Vec::with_capacity(alloc, rows.len())?;
         for (key, numbers) in rows {
             let numbers = numbers.to_vec(alloc)?;
@@ -84,7 +108,11 @@ impl Referrers {
         for KeyNumbers { key, numbers } in parts.keys {
             rows.insert(key, NumberSet::of(alloc, numbers)?)?;
         }
-        Ok(Referrers { alloc, rows })
+        Ok(Referrers {
+            alloc,
+            rows,
+            sought: KeyBuffer::new(alloc),
+        })
     }
 
     /// Adds a row's number under the key that the row holds. If memory is refused, nothing has changed.
@@ -93,7 +121,7 @@ impl Referrers {
         ensures others { (k : Key) → is_at (key_cmp key) k ≡ false → found_at self.new k ≡ found_at self.old k }
         ensures err { OnErr result (self.new ≡ self.old) }
     {
-        put_number(&mut self.rows, self.alloc, key, number)?;
+        put_number(&mut self.rows, self.alloc, &key, number)?;
         Ok(())
     }
 
@@ -103,6 +131,54 @@ impl Referrers {
         ensures others { (k : Key) → is_at (key_cmp key.now) k ≡ false → found_at self.new k ≡ found_at self.old k }
     {
         take_number(&mut self.rows, key, number);
+    }
+
+    /// A row of one cell comes under a number that no row has. If memory is refused, nothing has changed.
+    pub fn come(&mut self, number: usize, cell: CellView<'_>) -> Result<(), AllocError>
+        ensures kept { OnOk result ((rows : NumberedRows) (held : Datum) → viewed cell.entry ≡ shallow held
+            → IsStrictlySortedBy nat_cmp (keys_of rows) → row_at number rows ≡ None → Keeps self.old rows
+            → Keeps self.new (with_at number (Some (held ∷ [])) rows)) }
+        ensures err { OnErr result (self.new ≡ self.old) }
+    {
+        self.put(number, cell)?;
+        Ok(())
+    }
+
+    /// The row of one cell under a number goes. If memory is refused, nothing has changed.
+    pub fn go(&mut self, number: usize, cell: CellView<'_>) -> Result<(), AllocError>
+        ensures kept { OnOk result ((rows : NumberedRows) (held : Datum) → viewed cell.entry ≡ shallow held
+            → IsStrictlySortedBy nat_cmp (keys_of rows) → row_at number rows ≡ Some (held ∷ []) → Keeps self.old rows
+            → Keeps self.new (with_at number None rows)) }
+        ensures err { OnErr result (self.new ≡ self.old) }
+    {
+        self.take(number, cell)?;
+        Ok(())
+    }
+
+    /// Adds a row's number under the key that a cell is, if it is one.
+    fn put(&mut self, number: usize, cell: CellView<'_>) -> Result<(), AllocError>
+        ensures rows { OnOk result ((k : Key) (n : ℕ) → refers self.new k n
+            ≡ cond (is_key k (key_of (viewed cell.entry)) && n == number) true (refers self.old k n)) }
+        ensures err { OnErr result (self.new ≡ self.old) }
+    {
+        let Some(held) = self.sought.key_of(cell)? else {
+            return Ok(());
+        };
+        put_number(&mut self.rows, self.alloc, held, number)?;
+        Ok(())
+    }
+
+    /// Removes a row's number from those under the key that a cell is, if it is one.
+    fn take(&mut self, number: usize, cell: CellView<'_>) -> Result<(), AllocError>
+        ensures rows { OnOk result ((k : Key) (n : ℕ) → refers self.new k n
+            ≡ cond (is_key k (key_of (viewed cell.entry)) && n == number) false (refers self.old k n)) }
+        ensures err { OnErr result (self.new ≡ self.old) }
+    {
+        let Some(held) = self.sought.key_of(cell)? else {
+            return Ok(());
+        };
+        take_number(&mut self.rows, held, number);
+        Ok(())
     }
 
     /// The numbers of the rows that hold the key, in ascending order.
@@ -153,8 +229,8 @@ impl Referrers {
         ensures { OnOk result ((k : Key) (n : ℕ) → refers self.new k n
             ≡ cond (holds k changed.now.before && n == changed.now.number) false (refers self.old k n)) }
     {
-        if let Some(key) = key_held(self.alloc, changed.before())? {
-            self.remove(&key, changed.number());
+        if let Some(row) = changed.before() {
+            self.take(changed.number(), row.cell(0))?;
         }
         Ok(())
     }
@@ -164,8 +240,8 @@ impl Referrers {
         ensures { OnOk result ((k : Key) (n : ℕ) → refers self.new k n
             ≡ cond (holds k changed.now.after && n == changed.now.number) true (refers self.old k n)) }
     {
-        if let Some(key) = key_held(self.alloc, changed.after())? {
-            self.add(key, changed.number())?;
+        if let Some(row) = changed.after() {
+            self.put(changed.number(), row.cell(0))?;
         }
         Ok(())
     }
@@ -206,20 +282,21 @@ impl Upkeep for Referrers {
 fn put_number(
     rows: &mut BTreeMap<Key, NumberSet>,
     alloc: Global,
-    key: Key,
+    key: &Key,
     number: usize,
 ) -> Result<(), AllocError>
-    ensures here { OnOk result
-        ((n : ℕ) → refers rows.new.entries key n ≡ cond (n == number) true (refers rows.old.entries key n)) }
-    ensures others { (k : Key) → is_at (key_cmp key) k ≡ false
+    ensures here { OnOk result ((n : ℕ) → refers rows.new.entries key.now n
+        ≡ cond (n == number) true (refers rows.old.entries key.now n)) }
+    ensures others { (k : Key) → is_at (key_cmp key.now) k ≡ false
         → found_at rows.new.entries k ≡ found_at rows.old.entries k }
     ensures err { OnErr result (rows.new.entries ≡ rows.old.entries) }
-    ensures ascending { OnOk result (IsStrictlySortedBy nat_cmp (numbers_of rows.new.entries key)) }
+    ensures ascending { OnOk result (IsStrictlySortedBy nat_cmp (numbers_of rows.new.entries key.now)) }
 {
-    if let Some(numbers) = rows.get_mut(&key) {
+    if let Some(numbers) = rows.get_mut(key) {
         numbers.insert(number)?;
         return Ok(());
     }
+    let key = key.copy(alloc)?;
     rows.insert(key, NumberSet::one(alloc, number)?)?;
     Ok(())
 }

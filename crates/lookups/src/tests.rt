@@ -4,7 +4,7 @@ use crate::Referrers;
 use std::alloc::{AllocError, Global};
 use std::process::Abort;
 use std::test::Fail;
-use values::{Key, Kind, Row, Value};
+use values::{CellView, Key, Kind, Row, Value};
 use view_lang::{Change, RowChange, Upkeep};
 
 #[test]
@@ -83,6 +83,39 @@ fn makes_referrers_of_their_parts(rt: HostRuntime) -> Result<(), Fail> {
     assert_eq!(rt;
         made.of_keys(alloc, &keys)?.as_slice(),
         [0, 2, 3].as_slice()
+    );
+    Ok(())
+}
+
+/// The numbers of the rows that hold a text.
+fn numbers_of(alloc: Global, referrers: &Referrers, text: &str) -> Result<Vec<usize>, AllocError> {
+    let Some(key) = Key::of_cell(alloc, CellView::Utf8(text))? else {
+        return Ok(Vec::new(alloc));
+    };
+    referrers.of_key(alloc, &key)
+}
+
+#[test]
+fn follows_cells_that_come_and_go(rt: HostRuntime) -> Result<(), Fail> {
+    let alloc = rt.alloc();
+    let mut referrers = Referrers::new(alloc);
+    referrers.come(4, CellView::Utf8("north"))?;
+    referrers.come(1, CellView::Utf8("north"))?;
+    referrers.come(2, CellView::Null)?;
+    referrers.come(3, CellView::List)?;
+    referrers.go(4, CellView::Utf8("north"))?;
+    referrers.come(4, CellView::Utf8("south"))?;
+    assert_eq!(rt;
+        numbers_of(alloc, &referrers, "north")?.as_slice(),
+        [1].as_slice()
+    );
+    assert_eq!(rt;
+        numbers_of(alloc, &referrers, "south")?.as_slice(),
+        [4].as_slice()
+    );
+    assert_eq!(rt;
+        referrers.of_key(alloc, &Key::Null)?.as_slice(),
+        [2].as_slice()
     );
     Ok(())
 }

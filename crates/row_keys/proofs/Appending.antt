@@ -34,7 +34,7 @@ use Rattle.std.proofs.lemmas.List.{drop_more, drop_all, length-map}
 use Rattle.std.proofs.lemmas.List.Elements.{All-append, All-cons, All-get_or, All-nil}
 use Rattle.std.proofs.lemmas.Bool.{ltb-false}
 use Rattle.std.proofs.lemmas.Option.{none-some}
-use Rattle.values.specs.Datum.{Datum, null, truth, whole, text, bytes, list, structure, Items}
+use Rattle.values.specs.Datum.{Datum, null, truth, whole, text, bytes, list, structure, Items, is_null}
 use Rattle.values.specs.Keys.{datum_of_key, key_of}
 use Rattle.values.specs.Layouts.{Holds}
 use Rattle.values.specs.Logical.{NamedType, tree_of, trees_of}
@@ -47,7 +47,7 @@ use Rattle.values.specs.declared.layout.Layout.{Layout}
 use Rattle.arrays.specs.Checked.{CheckedColumn}
 use Rattle.schema_meta.specs.Rows.{row_at, rows_from}
 use Rattle.view_lang.specs.Causes.{any_among, any_heavy, cause_of, has_null, has_repeated, layouts_of}
-use Rattle.view_lang.specs.Cells.{cell_at, is_null}
+use Rattle.view_lang.specs.Cells.{cell_at}
 use Rattle.view_lang.specs.Config.{Table}
 use Rattle.view_lang.specs.Contents.{Contents, key_in, keys_in}
 use Rattle.view_lang.specs.Edits.{append}

@@ -34,13 +34,12 @@ use Rattle.std.proofs.lemmas.Map.Text.{is_eq-slice_cmp}
 use Rattle.std.proofs.lemmas.Slice.Eq.{bytes_eq-Decides}
 use Rattle.std.proofs.lemmas.Option.{none-some}
 use Rattle.row_keys.proofs.Places.{some_same}
-use Rattle.values.specs.Datum.{Datum, null, truth, whole, text, bytes, list, structure}
+use Rattle.values.specs.Datum.{Datum, null, truth, whole, text, bytes, list, structure, is_null}
 use Rattle.values.specs.Order.{truth_cmp}
 use Rattle.values.specs.Keys.{datum_of_key, key_of}
 use Rattle.values.specs.declared.key.Key.{Key}
 use Rattle.values.specs.declared.key.Key.TheVariants as key
 use Rattle.view_lang.specs.Causes.{any_among, has_null, has_repeated}
-use Rattle.view_lang.specs.Cells.{is_null}
 use Rattle.view_lang.specs.Contents.{is_among, same_key}
 
 equal_is : (o : Ordering) → is_eq o ≡ true → o ≡ Equal

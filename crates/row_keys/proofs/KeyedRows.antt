@@ -2,10 +2,9 @@
 use Rattle.std.proofs.Common.{◌≡◌, Bool, true, false, All, List, [], ◌∷◌, length, refl, ◌≤◌, arith}
 use Rattle.std.specs.Prelude.{if◌then◌else◌}
 use Rattle.std.proofs.lemmas.List.Elements.{All-head, All-tail}
-use Rattle.values.specs.Datum.{Datum}
+use Rattle.values.specs.Datum.{Datum, is_null}
 use Rattle.arrays.specs.Checked.{CheckedColumn}
 use Rattle.view_lang.specs.Causes.{has_null}
-use Rattle.view_lang.specs.Cells.{is_null}
 use Rattle.view_lang.specs.Config.{Table}
 use Rattle.view_lang.specs.Contents.{key_in, keys_in}
 use Rattle.view_lang.specs.Laws.{AreKeyed}

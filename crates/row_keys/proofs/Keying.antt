@@ -10,6 +10,7 @@ use Rattle.std.proofs.Common.{
   ◌<◌,
   ◌≤◌,
   ◌||◌,
+  All,
   Bool,
   true,
   false,
@@ -35,17 +36,22 @@ use Rattle.std.proofs.Common.{
 use Rattle.std.specs.Prelude.{Option, slice_get, if◌then◌else◌, IsSome}
 use Rattle.std.proofs.Math.Seq.{take-suc}
 use Rattle.std.proofs.lemmas.List.{drop_more, drop_all, map-append}
+use Rattle.std.proofs.lemmas.List.Elements.{All-get_or}
 use Rattle.std.proofs.lemmas.Option.{none-some, get_or_from_slice_get}
-use Rattle.values.specs.Datum.{Datum, null}
+use Rattle.values.specs.CellViews.{shallow}
+use Rattle.values.specs.Datum.{Datum, null, is_null}
+use Rattle.values.specs.Layouts.{Holds}
+use Rattle.values.specs.Rose.{Rose}
+use Rattle.values.specs.declared.layout.Layout.{Layout}
+use Rattle.values.proofs.ShallowLemmas.{key_of-shallow}
 use Rattle.values.specs.Keys.{datum_of_key, key_of}
 use Rattle.values.specs.declared.key.Key.{Key}
 use Rattle.view_lang.specs.Causes.{any_among, has_null, has_repeated}
-use Rattle.view_lang.specs.Cells.{is_null}
 use Rattle.view_lang.specs.Contents.{is_among}
 use Rattle.view_lang.specs.declared.unfit.Unfit.TheVariants as unfit
 use Rattle.row_keys.specs.declared.faults.EditFault.{EditFault}
 use Rattle.row_keys.specs.declared.faults.EditFault.TheVariants as fault
-use Rattle.row_keys.specs.KeyColumns.{PushesKey, PushesKeys, RefusesKey, RefusesKeys, fresh}
+use Rattle.row_keys.specs.KeyColumns.{HoldsKeys, PushesKey, PushesKeys, RefusesKey, RefusesKeys, fresh}
 use Rattle.row_keys.specs.Numbers.{Numbered}
 use Rattle.row_keys.specs.Stored.{live_keys}
 use Rattle.row_keys.proofs.Joining.{unused_among, used_among}
@@ -64,43 +70,23 @@ use Rattle.row_keys.proofs.KeyFacts.{
 }
 use Rattle.row_keys.proofs.Places.{some_same, take_front}
 
--- a cell that is a key
+-- a cell that is a key, read where it lies
 pub key_read :
-    (cells : List Datum) (i : ℕ) (d : Datum) (k : Key) (o : Option Key) → slice_get cells i ≡ Some d → o ≡ key_of d
-    → o ≡ Some k
-    → datum_of_key k ≡ get_or cells i null
-key_read cells i d k o there is some = key_datum d k (sym is ∙ some) ∙ sym (get_or_from_slice_get cells i d null there)
+    (cells : List Datum) (i : ℕ) (s : Datum) (k : Key) (o : Option Key) → s ≡ shallow (get_or cells i null)
+    → o ≡ key_of s → o ≡ Some k → datum_of_key k ≡ get_or cells i null
+key_read cells i s k o same is some =
+    let d : Datum = get_or cells i null in
+    key_datum d k (sym (key_of-shallow d) ∙ ap key_of (sym same) ∙ sym is ∙ some)
 
-pub some_key : (d : Datum) (o : Option Key) → o ≡ key_of d → IsSome (key_of d) → IsSome o
-some_key d o is some = subst (λ x. IsSome x) (sym is) some
+pub key_some :
+    (t : Rose Layout) (cells : List Datum) (i : ℕ) (s : Datum) (o : Option Key) → HoldsKeys t → All (Holds t) cells
+    → i < length cells → s ≡ shallow (get_or cells i null) → o ≡ key_of s → IsSome o
+key_some t cells i s o keys held below same is =
+    let d : Datum = get_or cells i null in
+    subst (λ x. IsSome x) (sym (key_of-shallow d) ∙ ap key_of (sym same) ∙ sym is)
+    (keys d (All-get_or (Holds t) cells i null below held))
 
-pub ruleset reading = (key_read, some_key)
-
-null_here : (cells : List Datum) (i : ℕ) (d : Datum) → slice_get cells i ≡ Some d
-    → has_null (drop i cells) ≡ (is_null d || has_null (drop (i + 1) cells))
-unfolding has_null
-null_here [] i d there = absurd (none-some d there)
-null_here (c ∷ cells) zero d there = ap (λ x. is_null x || has_null cells) (some_same c d there)
-null_here (c ∷ cells) (suc i) d there =
-    let e : suc i + 1 ≡ suc (i + 1) = omega arith in
-    null_here cells i d there ∙ ap (λ n. is_null d || has_null (drop n (c ∷ cells))) (sym e)
-
-pub null_found : (cells : List Datum) (i : ℕ) (d : Datum) (all : Bool) → slice_get cells i ≡ Some d → is_null d ≡ true
-    → has_null (drop i cells) ≡ all → true ≡ all
-null_found cells i d all there is h =
-    sym (or_left (is_null d) (has_null (drop (i + 1) cells)) is) ∙ sym (null_here cells i d there) ∙ h
-
-pub null_later : (cells : List Datum) (i : ℕ) (d : Datum) (all : Bool) → slice_get cells i ≡ Some d → is_null d ≡ false
-    → has_null (drop i cells) ≡ all → has_null (drop (i + 1) cells) ≡ all
-null_later cells i d all there is h =
-    sym (ap (λ b. b || has_null (drop (i + 1) cells)) is) ∙ sym (null_here cells i d there) ∙ h
-
-pub null_never : (cells : List Datum) (i : ℕ) (all : Bool) → length cells ≤ i → has_null (drop i cells) ≡ all
-    → false ≡ all
-unfolding has_null
-null_never cells i all end h = sym (ap has_null (drop_all i cells end)) ∙ h
-
-pub ruleset nulls = (null_found, null_later, null_never)
+pub ruleset reading = (key_read, key_some)
 
 split_at : (cells : List Datum) (i : ℕ) → i < length cells → drop i cells ≡ get_or cells i null ∷ drop (i + 1) cells
 split_at cells i below = drop_more cells i null below
@@ -111,6 +97,23 @@ pub null_at : (cells : List Datum) (i : ℕ) → i < length cells → is_null (g
 unfolding has_null
 null_at cells i below is = ap has_null (split_at cells i below)
     ∙ or_left (is_null (get_or cells i null)) (has_null (drop (i + 1) cells)) is
+
+pub null_found : (cells : List Datum) (i : ℕ) (b all : Bool) → i < length cells → b ≡ is_null (get_or cells i null)
+    → b ≡ true → has_null (drop i cells) ≡ all → true ≡ all
+null_found cells i b all below is given h = sym (null_at cells i below (sym is ∙ given)) ∙ h
+
+pub null_later : (cells : List Datum) (i : ℕ) (b all : Bool) → i < length cells → b ≡ is_null (get_or cells i null)
+    → b ≡ false → has_null (drop i cells) ≡ all → has_null (drop (i + 1) cells) ≡ all
+unfolding has_null
+null_later cells i b all below is given h =
+    sym (ap (λ x. x || has_null (drop (i + 1) cells)) (sym is ∙ given)) ∙ sym (ap has_null (split_at cells i below)) ∙ h
+
+pub null_never : (cells : List Datum) (i : ℕ) (all : Bool) → length cells ≤ i → has_null (drop i cells) ≡ all
+    → false ≡ all
+unfolding has_null
+null_never cells i all end h = sym (ap has_null (drop_all i cells end)) ∙ h
+
+pub ruleset nulls = (null_found, null_later, null_never)
 
 pub null_told :
     (cells : List Datum) (i : ℕ) (k : Key) (b : Bool) → i < length cells → datum_of_key k ≡ get_or cells i null

@@ -32,3 +32,4 @@ mod NumberedKeys
 mod NumberLaw
 mod PutLaw
 mod TakenApart
+mod CellsInPlace

@@ -1,13 +1,12 @@
 -- How the keys of a batch are numbered, or why they aren't.
 use Rattle.std.specs.Prelude.{◌≡◌, ℕ, true, false, ◌||◌, IsSome, List, [], ◌∷◌, ◌++◌, drop, get_or, map}
-use Rattle.values.specs.Datum.{Datum, null}
+use Rattle.values.specs.Datum.{Datum, null, is_null}
 use Rattle.values.specs.Keys.{datum_of_key, key_of}
 use Rattle.values.specs.Layouts.{Holds}
 use Rattle.values.specs.Rose.{Rose}
 use Rattle.values.specs.declared.key.Key.{Key}
 use Rattle.values.specs.declared.layout.Layout.{Layout}
 use Rattle.view_lang.specs.Causes.{any_among, has_null, has_repeated}
-use Rattle.view_lang.specs.Cells.{is_null}
 use Rattle.view_lang.specs.declared.unfit.Unfit.TheVariants as unfit
 use Rattle.row_keys.specs.declared.faults.EditFault.{EditFault}
 use Rattle.row_keys.specs.declared.faults.EditFault.TheVariants as fault

@@ -17,13 +17,12 @@ use Rattle.std.specs.Prelude.{
   length,
   map,
 }
-use Rattle.values.specs.Datum.{Datum, items_of}
+use Rattle.values.specs.Datum.{Datum, items_of, is_null}
 use Rattle.values.specs.Keys.{datum_of_key}
 use Rattle.values.specs.Layouts.{HoldsEach}
 use Rattle.arrays.specs.Checked.{CheckedColumn}
 use Rattle.schema_meta.specs.Rows.{row_at}
 use Rattle.view_lang.specs.Causes.{is_heavy, layouts_of}
-use Rattle.view_lang.specs.Cells.{is_null}
 use Rattle.view_lang.specs.Config.{Table}
 use Rattle.view_lang.specs.Contents.{key_in}
 use Rattle.view_lang.specs.TableRules.{IsTable}

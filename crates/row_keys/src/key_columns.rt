@@ -1,10 +1,9 @@
 //! Numbers the rows of a batch by their keys, and finds live rows by them.
 
 ghost use Rattle.std.specs.Prelude.{◌≡◌, ◌<◌, ◌≤◌, [], IfErr, IfOk, OnErr, OnOk, drop, false, get_or, length};
-ghost use Rattle.values.specs.Datum.{null};
+ghost use Rattle.values.specs.Datum.{null, is_null as is_null_by};
 ghost use Rattle.values.specs.Keys.{datum_of_key};
 ghost use Rattle.view_lang.specs.Causes.{has_null, has_repeated};
-ghost use Rattle.view_lang.specs.Cells.{is_null as is_null_by};
 ghost use Rattle.view_lang.specs.Contents.{keys_in};
 ghost use Rattle.view_lang.specs.TableRules.{IsTable};
 ghost use Rattle.row_keys.specs.Batches.{IsBatch, batch_rows};
@@ -15,17 +14,8 @@ use crate::faults::EditFault;
 use crate::numbers::Numbers;
 use arrays::Column;
 use std::alloc::{AllocError, Global};
-use values::{Key, Kind, Value};
+use values::{Key, KeyBuffer};
 use view_lang::{Table, Unfit};
-
-fn is_null(value: &Value) -> bool
-    ensures { result ≡ is_null_by value.now }
-{
-    match &value.kind {
-        Kind::Null => true,
-        _ => false,
-    }
-}
 
 fn is_null_key(key: &Key) -> bool
     ensures { result ≡ is_null_by (datum_of_key key.now) }
@@ -36,29 +26,44 @@ fn is_null_key(key: &Key) -> bool
     }
 }
 
-/// The key of cell `index`.
+/// A copy of the key of cell `index`.
 #[tactic(auto, using(crate::proofs::Keying::reading))]
 pub(crate) fn read_key(alloc: Global, column: &Column, index: usize) -> Result<Key, AllocError>
     requires below { index < length column.now.cells }
     requires keys { HoldsKeys column.now.layouts }
     ensures { IfOk result (λ key. datum_of_key key ≡ get_or column.now.cells index null) }
 {
-    let value = column.cell(alloc, index)?;
-    Ok(Key::of(alloc, &value)?.unwrap())
+    column.law();
+    Ok(Key::of_cell(alloc, column.view(index))?.unwrap())
+}
+
+/// The key of cell `index`, in a buffer.
+#[tactic(auto, using(crate::proofs::Keying::reading))]
+fn buffer_key<'a>(
+    keys: &'a mut KeyBuffer,
+    column: &Column,
+    index: usize,
+) -> Result<&'a Key, AllocError>
+    requires below { index < length column.now.cells }
+    requires keys { HoldsKeys column.now.layouts }
+    ensures { IfOk result (λ key. datum_of_key key.now ≡ get_or column.now.cells index null) }
+{
+    column.law();
+    Ok(keys.key_of(column.view(index))?.unwrap())
 }
 
 /// Whether one of the cells from `from` on is null.
 #[tactic(auto, using(crate::proofs::Keying::nulls))]
-fn has_null_from(alloc: Global, column: &Column, from: usize) -> Result<bool, AllocError>
+fn has_null_from(column: &Column, from: usize) -> bool
     requires { from ≤ length column.now.cells }
-    ensures { IfOk result (λ found. found ≡ has_null (drop from column.now.cells)) }
+    ensures { result ≡ has_null (drop from column.now.cells) }
 {
     for index in from..column.len() {
-        if is_null(&column.cell(alloc, index)?) {
-            return Ok(true);
+        if column.is_null(index) {
+            return true;
         }
     }
-    Ok(false)
+    false
 }
 
 /// Adds a live row with the key of cell `index`: `NullKey` where it or a later one is null, else `DuplicateKey` where a
@@ -83,7 +88,7 @@ fn push_key(
     if numbers.push(key)? {
         return Ok(());
     }
-    if has_null_from(alloc, column, index)? {
+    if has_null_from(column, index) {
         Err(EditFault::Unfit(Unfit::NullKey))
     } else {
         Err(EditFault::Unfit(Unfit::DuplicateKey))
@@ -142,10 +147,11 @@ pub(crate) fn find_keys(
     ensures found { IfOk result (λ found. FindsAll column.now.cells numbers.now found.items) }
     ensures missed { IfErr result (MissesKey column.now.cells numbers.now) }
 {
+    let mut keys = KeyBuffer::new(alloc);
     let mut found = Vec::new(alloc);
     for index in 0..column.len() {
-        let key = read_key(alloc, column, index)?;
-        match numbers.find(&key) {
+        let key = buffer_key(&mut keys, column, index)?;
+        match numbers.find(key) {
             Some(number) => found.push(number)?,
             None => return Err(EditFault::Unfit(Unfit::UnknownKey)),
         }
@@ -160,10 +166,11 @@ fn find_known(alloc: Global, column: &Column, numbers: &Numbers) -> Result<Vec<u
     ensures { IfOk result (λ found.
         FindsAll (known_keys column.now.cells numbers.now) numbers.now found.items) }
 {
+    let mut keys = KeyBuffer::new(alloc);
     let mut found = Vec::new(alloc);
     for index in 0..column.len() {
-        let key = read_key(alloc, column, index)?;
-        if let Some(number) = numbers.find(&key) {
+        let key = buffer_key(&mut keys, column, index)?;
+        if let Some(number) = numbers.find(key) {
             found.push(number)?;
         }
     }

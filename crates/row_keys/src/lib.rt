@@ -22,4 +22,4 @@ pub use faults::EditFault;
 pub use laws::{batch_law, numbers_law};
 pub use parts::{RowParts, StoreParts};
 pub use store::RowStore;
-pub use stored_row::StoredRow;
+pub use stored_row::{StoredRow, Visit};

@@ -19,7 +19,8 @@ ghost use Rattle.std.specs.Prelude.{
   map,
 };
 ghost use Rattle.std.specs.Map.{keys_of};
-ghost use Rattle.std.specs.Option.{option_map};
+ghost use Rattle.values.specs.CellViews.{shallow, viewed};
+ghost use Rattle.values.specs.Datum.{Datum};
 ghost use Rattle.values.specs.Keys.{datum_of_key};
 ghost use Rattle.values.specs.Limits.{max_main_rows};
 ghost use Rattle.view_lang.specs.Causes.{cause_of};
@@ -69,12 +70,12 @@ use crate::faults::EditFault;
 use crate::key_columns::{find_batch, find_keys, push_batch, push_keys};
 use crate::numbers::Numbers;
 use crate::parts::{StoreParts, make_locations, make_numbers, take_rows};
-use crate::stored_row::StoredRow;
+use crate::stored_row::{StoredRow, Visit};
 use crate::turning::{retract_all, retract_from, revive_all, revive_from};
 use arrays::Column;
 use std::alloc::{AllocError, Global};
 use std::marker::Model;
-use values::{Key, Row, Value};
+use values::{CellView, Key, KeyBuffer, Row};
 use view_lang::Table;
 
 /// The rows of a table, by number. A row's number is its place in the order in which rows came. Rows are live or
@@ -424,6 +425,24 @@ impl RowStore {
         StoredRow::new(&batch.columns, place.index)
     }
 
+    /// Counts a visit of the row of this number.
+    pub fn visit(&mut self, number: usize) -> Visit
+        ensures number { result ≡ number }
+        ensures counted { self.new ≡ visited 1 self.old }
+    {
+        self.visits = self.visits.saturating_add(1);
+        Visit::new(number)
+    }
+
+    /// The row that is visited where it lies, live or retracted.
+    pub fn row(&self, visit: Visit) -> StoredRow<'_>
+        requires { visit < length self.now.slots }
+        ensures row { result ≡ row_of self.now.slots visit }
+        ensures held { IsRow self.now.table.columns result }
+    {
+        self.row_at(visit.number())
+    }
+
     /// A copy of the row of this number, live or retracted. It is counted as a visit.
     pub fn open_row(&mut self, number: usize) -> Result<Row, AllocError>
         requires { number < length self.old.slots }
@@ -431,8 +450,8 @@ impl RowStore {
         ensures held { IfOk result (λ row. IsRow self.old.table.columns row.items) }
         ensures visit { self.new ≡ visited 1 self.old }
     {
-        self.visits = self.visits.saturating_add(1);
-        self.row_at(number).copy(self.alloc)
+        let visit = self.visit(number);
+        self.row(visit).copy(self.alloc)
     }
 
     /// The number of the live row with this key. Null is no row's key.
@@ -458,18 +477,22 @@ impl RowStore {
         Some(self.row_at(number))
     }
 
-    /// A copy of the live row of a side table whose key equals a cell, if there is one. Null is no row's key.
-    pub fn row_with_key(&self, cell: &Value) -> Result<Option<Row>, AllocError>
+    /// The live row of a side table whose key equals a cell, where it lies, if there is one. Null is no row's key. The
+    /// cell is looked up by `keys`, which takes memory for a text or bytes that are longer than all before.
+    #[tactic(auto, using(values::proofs::ShallowLemmas::shallow_laws))]
+    pub fn row_with_key<'a>(
+        &'a self,
+        keys: &mut KeyBuffer,
+        cell: CellView<'_>,
+    ) -> Result<Option<StoredRow<'a>>, AllocError>
         requires { IsSideTable self.now.table }
-        ensures row { IfOk result (λ row. option_map (λ r. r.items) row
-            ≡ side_of self.now.table (contents_of self.now.slots) cell.now) }
-        ensures held { IfOk result (λ row. IfSome row (λ r. IsRow self.now.table.columns r.items)) }
+        ensures row { IfOk result (λ row. (d : Datum) → viewed cell.entry ≡ shallow d
+            → row ≡ side_of self.now.table (contents_of self.now.slots) d) }
+        ensures held { IfOk result (λ row. IfSome row (IsRow self.now.table.columns)) }
     {
-        let Some(key) = Key::of(self.alloc, cell)? else {
-            return Ok(None);
-        };
-        match self.get(&key) {
-            Some(row) => Ok(Some(row.copy(self.alloc)?)),
+        let _table = &self.table;
+        match keys.key_of(cell)? {
+            Some(key) => Ok(self.get(key)),
             None => Ok(None),
         }
     }

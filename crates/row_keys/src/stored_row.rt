@@ -2,13 +2,16 @@
 
 ghost use Rattle.std.specs.Prelude.{◌≡◌, ◌<◌, All, IfOk, length};
 ghost use Rattle.schema_meta.specs.Rows.{row_at};
+ghost use Rattle.values.specs.CellViews.{shallow, viewed};
+ghost use Rattle.view_lang.specs.Cells.{cell_at as cell_by};
 ghost use Rattle.row_keys.specs.Batches.{cells_in};
 
 use crate::batches::read_row;
 use arrays::Column;
 use std::alloc::{AllocError, Global};
 use std::marker::Model;
-use values::Row;
+use values::{CellView, Kind, Row, Value};
+use view_lang::RowView;
 
 /// A row of a store where it lies: the columns of its batch, and its index in them.
 ///
@@ -44,10 +47,87 @@ impl<'a> StoredRow<'a> {
         StoredRow { columns, index }
     }
 
+    /// How many cells the row has.
+    pub fn len(&self) -> usize
+        ensures { result ≡ length self.now }
+    {
+        self.columns.len()
+    }
+
     /// A copy of the row.
     pub fn copy(&self, alloc: Global) -> Result<Row, AllocError>
         ensures { IfOk result (λ row. row.items ≡ self.now) }
     {
         read_row(alloc, self.columns, self.index)
+    }
+}
+
+impl<'a> RowView for StoredRow<'a> {
+    ghost cells = { λ r. r };
+
+    fn cell(&self, column: usize) -> CellView<'_> {
+        cell_at(self.columns, column, self.index)
+    }
+
+    fn copy_cell(&self, alloc: Global, column: usize) -> Result<Value, AllocError> {
+        copy_at(alloc, self.columns, column, self.index)
+    }
+}
+
+/// Cell `index` of a column; null where there is no such column.
+#[tactic(auto, using(crate::proofs::CellsInPlace::cells_in_place))]
+fn cell_at(columns: &[Column], column: usize, index: usize) -> CellView<'_>
+    requires { All (λ c. index < length c.cells) columns.now }
+    ensures { viewed result ≡ shallow (cell_by (row_at (cells_in columns.now) index) column) }
+{
+    match columns.get(column) {
+        Some(column) => column.view(index),
+        None => CellView::Null,
+    }
+}
+
+/// A copy of cell `index` of a column; null where there is no such column.
+#[tactic(auto, using(crate::proofs::CellsInPlace::cells_in_place))]
+fn copy_at(
+    alloc: Global,
+    columns: &[Column],
+    column: usize,
+    index: usize,
+) -> Result<Value, AllocError>
+    requires { All (λ c. index < length c.cells) columns.now }
+    ensures { IfOk result (λ cell. cell ≡ cell_by (row_at (cells_in columns.now) index) column) }
+{
+    match columns.get(column) {
+        Some(column) => column.cell(alloc, index),
+        None => Ok(Value { kind: Kind::Null }),
+    }
+}
+
+/// The right to read one stored row of the main table: a visit of it, which is counted. Contracts see the row's number.
+#[derive(Debug, Drop)]
+pub struct Visit {
+    number: usize,
+}
+
+impl Model for Visit {
+    ghost use Rattle.std.specs.Prelude.{ℕ};
+
+    ghost Value = { ℕ };
+
+    ghost view = { λ v. v.number };
+}
+
+impl Visit {
+    pub(crate) fn new(number: usize) -> Visit
+        ensures { result ≡ number }
+    {
+        Visit { number }
+    }
+
+    /// The number of the row.
+    pub fn number(&self) -> usize
+        ensures { result ≡ self.now }
+    {
+        self.number
     }
 }

@@ -1,6 +1,6 @@
 //! The order of some rows, kept current by changes of the rows.
 
-ghost use Rattle.std.specs.Prelude.{◌≡◌, [], cond, false, IfOk, List, map, OnErr, OnOk, take, true, ℕ};
+ghost use Rattle.std.specs.Prelude.{◌≡◌, [], None, Some, cond, false, IfOk, List, map, OnErr, OnOk, take, true, ℕ};
 ghost use Rattle.std.specs.List.Sorted.{IsStrictlySortedBy};
 ghost use Rattle.std.specs.Map.{keys_of};
 ghost use Rattle.std.specs.Ordering.{nat_cmp};
@@ -16,8 +16,7 @@ use crate::place::Place;
 use std::alloc::{AllocError, Global};
 use std::collections::BTreeSet;
 use std::marker::Model;
-use values::Value;
-use view_lang::{Change, OrderBy, RowChange, Upkeep};
+use view_lang::{Change, OrderBy, RowChange, RowView, Upkeep};
 
 /// The numbers of rows, sorted by some of the rows' columns. Rows that tie are in the order of their numbers.
 #[derive(Debug, Drop)]
@@ -89,10 +88,10 @@ impl Ordered {
     }
 
     /// Inserts a row under its number. If memory is refused, nothing has changed.
-    pub fn insert(&mut self, number: usize, row: &[Value]) -> Result<(), AllocError>
+    pub fn insert<R: RowView>(&mut self, number: usize, row: &R) -> Result<(), AllocError>
         ensures order { self.new.order ≡ self.old.order }
         ensures places { OnOk result ((p : RowPlace) → stands self.new.places p
-            ≡ cond (is_place self.old.order number row.now p) true (stands self.old.places p)) }
+            ≡ cond (is_place self.old.order number (R.cells row.now) p) true (stands self.old.places p)) }
         ensures err { OnErr result (self.new ≡ self.old) }
     {
         let place = Place::of(self.alloc, self.order.as_slice(), number, row)?;
@@ -101,10 +100,10 @@ impl Ordered {
     }
 
     /// Removes a row, if it is there. The look-up takes memory; if that is refused, nothing has changed.
-    pub fn remove(&mut self, number: usize, row: &[Value]) -> Result<(), AllocError>
+    pub fn remove<R: RowView>(&mut self, number: usize, row: &R) -> Result<(), AllocError>
         ensures order { self.new.order ≡ self.old.order }
         ensures places { OnOk result ((p : RowPlace) → stands self.new.places p
-            ≡ cond (is_place self.old.order number row.now p) false (stands self.old.places p)) }
+            ≡ cond (is_place self.old.order number (R.cells row.now) p) false (stands self.old.places p)) }
         ensures err { OnErr result (self.new ≡ self.old) }
     {
         let place = Place::of(self.alloc, self.order.as_slice(), number, row)?;
@@ -119,7 +118,7 @@ impl Ordered {
             (stands self.old.places p)) }
     {
         match changed.before() {
-            Some(row) => self.remove(changed.number(), row),
+            Some(row) => self.remove(changed.number(), &row),
             None => Ok(()),
         }
     }
@@ -131,7 +130,7 @@ impl Ordered {
             (stands self.old.places p)) }
     {
         match changed.after() {
-            Some(row) => self.insert(changed.number(), row),
+            Some(row) => self.insert(changed.number(), &row),
             None => Ok(()),
         }
     }
@@ -146,6 +145,30 @@ impl Ordered {
     {
         self.remove_before(changed)?;
         self.insert_after(changed)?;
+        Ok(())
+    }
+
+    /// A row comes under a number that no row has. If memory is refused, nothing has changed.
+    pub fn come<R: RowView>(&mut self, number: usize, row: &R) -> Result<(), AllocError>
+        ensures order { self.new.order ≡ self.old.order }
+        ensures kept { OnOk result ((rows : NumberedRows) → IsStrictlySortedBy nat_cmp (keys_of rows)
+            → row_at number rows ≡ None → Keeps self.old rows
+            → Keeps self.new (with_at number (Some (R.cells row.now)) rows)) }
+        ensures err { OnErr result (self.new ≡ self.old) }
+    {
+        self.insert(number, row)?;
+        Ok(())
+    }
+
+    /// The row under a number goes. If memory is refused, nothing has changed.
+    pub fn go<R: RowView>(&mut self, number: usize, row: &R) -> Result<(), AllocError>
+        ensures order { self.new.order ≡ self.old.order }
+        ensures kept { OnOk result ((rows : NumberedRows) → IsStrictlySortedBy nat_cmp (keys_of rows)
+            → row_at number rows ≡ Some (R.cells row.now) → Keeps self.old rows
+            → Keeps self.new (with_at number None rows)) }
+        ensures err { OnErr result (self.new ≡ self.old) }
+    {
+        self.remove(number, row)?;
         Ok(())
     }
 

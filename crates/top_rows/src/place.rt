@@ -9,8 +9,7 @@ use crate::sort_key::SortKey;
 use std::alloc::{AllocError, Global};
 use std::cmp::Ordering;
 use std::marker::Model;
-use values::Value;
-use view_lang::OrderBy;
+use view_lang::{OrderBy, RowView};
 
 /// The place of a row in an order: its sort keys, one for each of the order's columns, and its number, by which ties
 /// are broken. Contracts see the pair of both.
@@ -84,13 +83,13 @@ impl Ord for Place {
 
 impl Place {
     /// The place of a row.
-    pub(crate) fn of(
+    pub(crate) fn of<R: RowView>(
         alloc: Global,
         order: &[OrderBy],
         number: usize,
-        row: &[Value],
+        row: &R,
     ) -> Result<Place, AllocError>
-        ensures { IfOk result (λ place. place ≡ place_of order.now number row.now) }
+        ensures { IfOk result (λ place. place ≡ place_of order.now number (R.cells row.now)) }
     {
         let mut sort_keys = Vec::with_capacity(alloc, order.len())?;
         for by in order {

@@ -6,8 +6,8 @@ ghost use Rattle.top_rows.specs.SortKeys.{sort_key_of};
 
 use std::alloc::{AllocError, Global};
 use std::cmp::Reverse;
-use values::{Key, Value};
-use view_lang::{Direction, OrderBy};
+use values::Key;
+use view_lang::{Direction, OrderBy, RowView};
 
 /// What a row is ordered by in one column of an order. A missing value comes last in both directions.
 #[derive(Debug, Drop, PartialEq, Eq, PartialOrd, Ord)]
@@ -20,13 +20,12 @@ pub enum SortKey {
 
 impl SortKey {
     /// The sort key of a row for one column of an order.
-    pub fn of(alloc: Global, row: &[Value], by: &OrderBy) -> Result<SortKey, AllocError>
-        ensures { IfOk result (λ key. key ≡ sort_key_of by.now.direction (cell_at row.now by.now.column)) }
+    #[tactic(auto, using(values::proofs::ShallowLemmas::shallow_laws))]
+    pub fn of<R: RowView>(alloc: Global, row: &R, by: &OrderBy) -> Result<SortKey, AllocError>
+        ensures { IfOk result (λ key. key
+            ≡ sort_key_of by.now.direction (cell_at (R.cells row.now) by.now.column)) }
     {
-        let Some(value) = row.get(by.column) else {
-            return Ok(SortKey::Missing);
-        };
-        match Key::of(alloc, value)? {
+        match Key::of_cell(alloc, row.cell(by.column))? {
             None => Ok(SortKey::Missing),
             Some(Key::Null) => Ok(SortKey::Missing),
             Some(key) => match by.direction {

@@ -21,12 +21,12 @@ fn gives_the_first_rows(rt: HostRuntime) -> Result<(), Fail> {
     let mut ordered = Ordered::new(rt.alloc(), &[falling])?;
     let nine = row(rt.alloc(), Kind::Int(9))?;
     let seven = row(rt.alloc(), Kind::Int(7))?;
-    ordered.insert(1, &row(rt.alloc(), Kind::Null)?)?;
-    ordered.insert(4, &seven)?;
-    ordered.insert(3, &nine)?;
-    ordered.insert(2, &seven)?;
+    ordered.insert(1, &row(rt.alloc(), Kind::Null)?.as_slice())?;
+    ordered.insert(4, &seven.as_slice())?;
+    ordered.insert(3, &nine.as_slice())?;
+    ordered.insert(2, &seven.as_slice())?;
     assert_eq!(rt; ordered.first(rt.alloc(), 2)?.as_slice(), [3, 2].as_slice());
-    ordered.remove(3, &nine)?;
+    ordered.remove(3, &nine.as_slice())?;
     assert_eq!(rt;
         ordered.first_of_view(rt.alloc(), 2)?.as_slice(),
         [2, 4].as_slice()
@@ -45,12 +45,33 @@ fn makes_an_order_of_its_parts(rt: HostRuntime) -> Result<(), Fail> {
         direction: Direction::Ascending,
     };
     let mut ordered = Ordered::new(rt.alloc(), &[rising])?;
-    ordered.insert(1, &row(rt.alloc(), Kind::Null)?)?;
-    ordered.insert(2, &row(rt.alloc(), Kind::Int(9))?)?;
-    ordered.insert(3, &row(rt.alloc(), Kind::Int(7))?)?;
+    ordered.insert(1, &row(rt.alloc(), Kind::Null)?.as_slice())?;
+    ordered.insert(2, &row(rt.alloc(), Kind::Int(9))?.as_slice())?;
+    ordered.insert(3, &row(rt.alloc(), Kind::Int(7))?.as_slice())?;
     let parts = ordered.into_parts()?;
     assert_eq!(rt; parts.places.len(), 3);
     let made = Ordered::from_parts(rt.alloc(), parts)?;
     assert_eq!(rt; made.first(rt.alloc(), 3)?.as_slice(), [3, 2, 1].as_slice());
+    Ok(())
+}
+
+#[test]
+fn follows_rows_that_come_and_go(rt: HostRuntime) -> Result<(), Fail> {
+    let rising = OrderBy {
+        column: 0,
+        direction: Direction::Ascending,
+    };
+    let mut ordered = Ordered::new(rt.alloc(), &[rising])?;
+    let nine = row(rt.alloc(), Kind::Int(9))?;
+    let seven = row(rt.alloc(), Kind::Int(7))?;
+    ordered.come(6, &nine.as_slice())?;
+    ordered.come(2, &nine.as_slice())?;
+    ordered.come(8, &seven.as_slice())?;
+    assert_eq!(rt;
+        ordered.first(rt.alloc(), 3)?.as_slice(),
+        [8, 2, 6].as_slice()
+    );
+    ordered.go(2, &nine.as_slice())?;
+    assert_eq!(rt; ordered.first(rt.alloc(), 3)?.as_slice(), [8, 6].as_slice());
     Ok(())
 }

@@ -246,7 +246,7 @@ tells_one v o slots ns k below tells =
     subst (TellsOf v o k) (get_or-map (row_of slots) ns k 0 [] below) (tells k (omega (arith, below, long)))
 
 -- What is made of a row that is dropped
-made-none : (os : Outputs) (o : Option (List Datum)) → o ≡ None → made_by os o ≡ None
+pub made-none : (os : Outputs) (o : Option (List Datum)) → o ≡ None → made_by os o ≡ None
 made-none (columns outputs) o is = ap (option_map (shown_row outputs)) is
 made-none (groups by outputs having) o is = is
 

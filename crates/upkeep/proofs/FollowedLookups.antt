@@ -81,6 +81,7 @@ use Rattle.upkeep.specs.ViewStates.{
   made_change,
   made_row,
   referring_row,
+  remade_change,
   swapped_at,
 }
 use Rattle.upkeep.specs.declared.table_change.TableChange.{TableChange}
@@ -255,34 +256,24 @@ module _ (laws : Laws) (tables : List Table) (n : ℕ) (u : Turn) (c : TableChan
         (map (shift_image made_with) (come main ns)) in
         omega (arith, shorter, few, less, many, go, back, both)
 
-    -- what is asked where the change is applied
-    pub apply_needs : (change : List Shift) (t : Table)
-        → change ≡ made_change tables (swapped_at n u c rows) v turn.Go ns ++ made_change tables rows v turn.Come ns
-        → IsTable t → length (live main) ≤ t.max_rows
-        → (outputs : Outputs) × (order : List OrderBy) × (kept : NumberedRows)
-        × (IsKept outputs order s.kept kept × (Fits kept change × IsFew kept change))
-    apply_needs change t is right held =
-        let P : List Shift → Type 0 = λ ch. Fits (image made_without (numbered main)) ch
-        × IsFew (image made_without (numbered main)) ch in (
-          v.outputs,
-          v.order,
-          image made_without (numbered main),
-          ((was fresh).0, subst P (sym is) (change_leads.fits, change_few t right held)),
-        )
+    -- what is asked where the change is made
+    pub remake_needs : (t : Table) → IsTable t → length (live main) ≤ t.max_rows
+        → (kept : NumberedRows) × (IsKept v.outputs v.order s.kept kept
+        × (Fits kept (remade_change tables rows v n u c ns) × IsFew kept (remade_change tables rows v n u c ns)))
+    remake_needs t right held = (
+      image made_without (numbered main),
+      ((was fresh).0, (change_leads.fits, change_few t right held)),
+    )
 
     -- and what is kept then
-    pub applied : (change : List Shift) (new : ViewState)
-        → change ≡ made_change tables (swapped_at n u c rows) v turn.Go ns ++ made_change tables rows v turn.Come ns
-        → new.referrers ≡ s.referrers
-        → ((outputs : Outputs) (order : List OrderBy) (kept : NumberedRows) → Fits kept change → s.stale ≡ false
-        → IsKept outputs order s.kept kept → IsKept outputs order new.kept (patched kept change))
+    pub remade_kept : (new : ViewState) → new.referrers ≡ s.referrers
+        → ((kept : NumberedRows) → Fits kept (remade_change tables rows v n u c ns)
+        → IsKept v.outputs v.order s.kept kept
+        → IsKept v.outputs v.order new.kept (patched kept (remade_change tables rows v n u c ns)))
         → IsCurrentWith tables rows v new
-    applied change new is same kept = λ still. (
-      subst (λ (made : NumberedRows). IsKept v.outputs v.order new.kept made)
-          (ap (patched (image made_without (numbered main))) is ∙ change_leads.patched_is)
-          (kept v.outputs v.order (image made_without (numbered main))
-          (subst (λ (ch : List Shift). Fits (image made_without (numbered main)) ch) (sym is) change_leads.fits) fresh
-          (was fresh).0),
+    remade_kept new same kept = λ still. (
+      subst (λ (made : NumberedRows). IsKept v.outputs v.order new.kept made) change_leads.patched_is
+          (kept (image made_without (numbered main)) change_leads.fits (was fresh).0),
       subst (λ (r : RowsByKey). KeepsReferrers r (image (referring_row v) (numbered main))) (sym same) (was fresh).1,
     )
 

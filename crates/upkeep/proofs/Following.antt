@@ -55,55 +55,6 @@ use Rattle.upkeep.specs.declared.view_state.Turn.{Turn}
 use Rattle.upkeep.specs.declared.view_state.Turn.TheVariants as turn
 use Rattle.upkeep.specs.declared.view_state.ViewState.{ViewState}
 
--- the change of a number more
-
-pub turned_more : (t : Turn) (slots : List Slot) (ns : List ℕ) (i : ℕ) → i < length ns
-    → turned t slots (take (i + 1) ns) ≡ turned t slots (take i ns) ++ turned t slots (get_or ns i 0 ∷ [])
-turned_more turn.Come slots ns i below =
-    ap (turned turn.Come slots) (take_more ns i 0 below)
-    ∙ map_push (λ n. shift n None (Some (row_of slots n))) (take i ns) (get_or ns i 0)
-turned_more turn.Go slots ns i below =
-    ap (turned turn.Go slots) (take_more ns i 0 below)
-    ∙ map_push (λ n. shift n (live_at slots n) None) (take i ns) (get_or ns i 0)
-
-pub changes_more :
-    (f : List Datum → Option (List Datum)) (t : Turn) (slots : List Slot) (ns : List ℕ) (i : ℕ)
-    (first done next : List Shift) → i < length ns
-    → done ≡ first ++ map (shift_image f) (turned t slots (take i ns))
-    → next ≡ done ++ map (shift_image f) (turned t slots (get_or ns i 0 ∷ []))
-    → next ≡ first ++ map (shift_image f) (turned t slots (take (i + 1) ns))
-changes_more f t slots ns i first done next below so_far pushed =
-    let last : List ℕ = get_or ns i 0 ∷ [] in
-    pushed ∙ ap (λ l. l ++ map (shift_image f) (turned t slots last)) so_far
-    ∙ append_assoc first (map (shift_image f) (turned t slots (take i ns))) (map (shift_image f) (turned t slots last))
-    ∙ ap (λ l. first ++ l)
-    (sym (map-append (shift_image f) (turned t slots (take i ns)) (turned t slots last))
-    ∙ ap (map (shift_image f)) (sym (turned_more t slots ns i below)))
-
--- the same of what a view makes of them, and of what they refer by, while rows are opened
-pub made_more :
-    (stores now : List Store) (v : View) (t : Turn) (ns : List ℕ) (i : ℕ) (first done next : List Shift)
-    → tables_in now ≡ tables_in stores → rows_in now ≡ rows_in stores → i < length ns
-    → done ≡ first ++ made_change (tables_in stores) (rows_in stores) v t (take i ns)
-    → next ≡ done ++ made_change (tables_in now) (rows_in now) v t (get_or ns i 0 ∷ [])
-    → next ≡ first ++ made_change (tables_in stores) (rows_in stores) v t (take (i + 1) ns)
-made_more stores now v t ns i first done next tables rows below so_far pushed =
-    let last : List ℕ = get_or ns i 0 ∷ [] in
-    changes_more (made_row v (side_by (tables_in stores) (rows_in stores) v)) t (rows_at (rows_in stores) 0) ns i first
-    done next below so_far
-    (pushed ∙ ap (λ ts. done ++ made_change ts (rows_in now) v t last) tables
-    ∙ ap (λ rs. done ++ made_change (tables_in stores) rs v t last) rows)
-
-pub referring_more :
-    (stores now : List Store) (v : View) (t : Turn) (ns : List ℕ) (i : ℕ) (first done next : List Shift)
-    → rows_in now ≡ rows_in stores → i < length ns
-    → done ≡ first ++ referring_change (rows_at (rows_in stores) 0) v t (take i ns)
-    → next ≡ done ++ referring_change (rows_at (rows_in now) 0) v t (get_or ns i 0 ∷ [])
-    → next ≡ first ++ referring_change (rows_at (rows_in stores) 0) v t (take (i + 1) ns)
-referring_more stores now v t ns i first done next rows below so_far pushed =
-    changes_more (referring_row v) t (rows_at (rows_in stores) 0) ns i first done next below so_far
-    (pushed ∙ ap (λ rs. done ++ referring_change (rows_at rs 0) v t (get_or ns i 0 ∷ [])) rows)
-
 -- what is kept of the rows that a view makes
 
 longer : (n k : ℕ) (o : Option (List Datum)) (rows : NumberedRows) → length rows ≤ k
@@ -125,18 +76,15 @@ image_few make rows change few =
 
 -- a change fits what is kept of the rows that it fits
 pub follow_needs :
-    (law : ImageFits) (v : View) (side : Side) (s : ViewState) (change made : List Shift) (rows : NumberedRows)
-    → made ≡ map (shift_image (made_row v side)) change → IsCurrent v side s rows → Fits rows change
-    → IsFew rows change → s.stale ≡ false
-    → (outputs : Outputs) × (order : List OrderBy) × (kept : NumberedRows)
-    × (IsKept outputs order s.kept kept × (Fits kept made × IsFew kept made))
-follow_needs law v side s change made rows is current fits few fresh =
-    let f : List Datum → Option (List Datum) = made_row v side in
-    let P : List Shift → Type 0 = λ ss. Fits (image f rows) ss × IsFew (image f rows) ss in (
-      v.outputs,
-      v.order,
+    (law : ImageFits) (v : View) (side : Side) (s : ViewState) (change : List Shift) (rows : NumberedRows)
+    → IsCurrent v side s rows → Fits rows change → IsFew rows change → s.stale ≡ false
+    → (kept : NumberedRows) × (IsKept v.outputs v.order s.kept kept
+    × (Fits kept (map (shift_image (made_row v side)) change)
+    × IsFew kept (map (shift_image (made_row v side)) change)))
+follow_needs law v side s change rows current fits few fresh =
+    let f : List Datum → Option (List Datum) = made_row v side in (
       image f rows,
-      ((current fresh).0, subst P (sym is) (law f rows change fits, image_few f rows change few)),
+      ((current fresh).0, (law f rows change fits, image_few f rows change few)),
     )
 
 -- all live rows come where there were none

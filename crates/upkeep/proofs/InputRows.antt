@@ -42,6 +42,7 @@ use Rattle.std.specs.Option.{option_and_then, option_map}
 use Rattle.std.proofs.Math.Seq.{take-suc}
 use Rattle.std.proofs.lemmas.List.{length-map, map-append}
 use Rattle.std.proofs.lemmas.List.Elements.{All-get_or, All-nil, All-push, filter-append, filter_map-append}
+use Rattle.values.specs.CellViews.{shallow}
 use Rattle.values.specs.Datum.{Datum}
 use Rattle.view_lang.specs.Cells.{cell_at, rows_of}
 use Rattle.view_lang.specs.Config.{Table, View}
@@ -119,20 +120,18 @@ look_side stores o l n s right some at is =
 
 pub look_row :
     {E : Type 0} (stores : List Store) (o : Option Lookup) (l : Lookup) (n : ℕ) (s : Store) (row : List Datum)
-    (cell : Datum) (r : Result (Option (Vec Datum Global)) E) → IsLookup (tables_in stores) o → o ≡ Some l
-    → n ≡ suc l.side → s ≡ get_or stores n s → cell ≡ cell_at row l.on
-    → IfOk r (λ found. option_map (λ x. x.items) found ≡ side_of s.table (contents_of s.slots) cell)
-    → IfOk r (λ found. option_map (λ x. x.items) found
-    ≡ looked_up o (side_in (tables_in stores) (world_of (rows_in stores)) o) row)
-look_row stores o l n s row cell (Err e) right some at is there h = tt
-look_row stores o l n s row cell (Ok found) right some at is there h =
+    (seen : Datum) (r : Result (Option (List Datum)) E) → IsLookup (tables_in stores) o → o ≡ Some l
+    → n ≡ suc l.side → s ≡ get_or stores n s → seen ≡ shallow (cell_at row l.on)
+    → IfOk r (λ found. (d : Datum) → seen ≡ shallow d → found ≡ side_of s.table (contents_of s.slots) d)
+    → IfOk r (λ found. found ≡ looked_up o (side_in (tables_in stores) (world_of (rows_in stores)) o) row)
+look_row stores o l n s row seen (Err e) right some at is there h = tt
+look_row stores o l n s row seen (Ok found) right some at is there h =
     let look : IsLookup (tables_in stores) (Some l) = subst (IsLookup (tables_in stores)) some right in
-    let made = side_found stores n s row l.on cell (option_map (λ x. x.items) found) is (look_there stores l n s look
-    at)
-    there h in
-    let P : ℕ → Type 0 = λ m. option_map (λ x. x.items) found
+    let cell : Datum = cell_at row l.on in
+    let made = side_found stores n s row l.on cell found is (look_there stores l n s look at) refl (h cell there) in
+    let P : ℕ → Type 0 = λ m. found
     ≡ side_of (table_at (tables_in stores) m) (contents_at (world_of (rows_in stores)) m) (cell_at row l.on) in
-    let Q : Option Lookup → Type 0 = λ x. option_map (λ x. x.items) found
+    let Q : Option Lookup → Type 0 = λ x. found
     ≡ looked_up x (side_in (tables_in stores) (world_of (rows_in stores)) x) row in
     subst Q (sym some) (subst P at made)
 

@@ -1,4 +1,6 @@
 pub mod InputRows
+pub mod JoinedCells
+pub mod RowByRow
 pub mod Following
 pub mod Keys
 pub mod Editing

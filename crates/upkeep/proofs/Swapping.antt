@@ -118,18 +118,3 @@ back_rows ss ss' n u w c s t s' t' turned since is slots other back =
 
 pub same_view : (v : View) (a b : List Table) → b ≡ a → IsView a v → IsView b v
 same_view v a b same is = subst (λ (ts : List Table). IsView ts v) (sym same) is
-
--- what a view makes of rows without the change goes, and what it makes of them with it comes
-pub both_made :
-    (v : View) (ts ts1 ts3 : List Table) (rs rs0 rs1 rs3 : Rows) (ns : List ℕ) (none made made' : List Shift)
-    → none ≡ [] → ts1 ≡ ts → rs1 ≡ rs0 → ts3 ≡ ts → rs3 ≡ rs → made ≡ none ++ made_change ts1 rs1 v turn.Go ns
-    → made' ≡ made ++ made_change ts3 rs3 v turn.Come ns
-    → made' ≡ made_change ts rs0 v turn.Go ns ++ made_change ts rs v turn.Come ns
-both_made v ts ts1 ts3 rs rs0 rs1 rs3 ns none made made' empty tables rows tables' rows' goes comes =
-    comes
-    ∙ ap (λ l. l ++ made_change ts3 rs3 v turn.Come ns)
-    (goes ∙ ap (λ l. l ++ made_change ts1 rs1 v turn.Go ns) empty
-    ∙ ap (λ (x : List Table). made_change x rs1 v turn.Go ns) tables
-    ∙ ap (λ (x : Rows). made_change ts x v turn.Go ns) rows)
-    ∙ ap (λ (x : List Table). made_change ts rs0 v turn.Go ns ++ made_change x rs3 v turn.Come ns) tables'
-    ∙ ap (λ (x : Rows). made_change ts rs0 v turn.Go ns ++ made_change ts x v turn.Come ns) rows'

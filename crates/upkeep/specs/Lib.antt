@@ -1,6 +1,7 @@
 pub mod Stores
 pub mod StoreLaws
 pub mod Inputs
+pub mod JoinedRows
 pub mod TableChanges
 pub mod Swaps
 pub mod ViewStates

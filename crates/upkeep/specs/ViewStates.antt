@@ -10,6 +10,7 @@ use Rattle.std.specs.Prelude.{
   List,
   [],
   ◌∷◌,
+  ◌++◌,
   Option,
   None,
   Some,
@@ -128,6 +129,12 @@ DiffersAt n old new = old ≡ slice_set new n (rows_at old n)
 -- the rows of the tables where the change of one of them is turned: taken back, or there again
 abbrev pub swapped_at : ℕ → Turn → TableChange → Rows → Rows
 swapped_at n t c rows = slice_set rows n (swapped t c (rows_at rows n))
+
+-- the change of what a view makes of these rows where the change of a side table is turned: what it made of them goes,
+-- and what it makes of them comes
+abbrev pub remade_change : List Table → Rows → View → ℕ → Turn → TableChange → List ℕ → List Shift
+remade_change tables rows v n t c ns =
+    made_change tables (swapped_at n t c rows) v turn.Go ns ++ made_change tables rows v turn.Come ns
 
 -- The rows before the change of a table was turned: the other tables' are the same, and of the table those are live
 -- that are live where the change is turned back.

@@ -18,6 +18,7 @@ ghost use Rattle.std.specs.Prelude.{
   OnOk,
   length,
   map,
+  slice_set,
   true,
 };
 ghost use Rattle.values.specs.Limits.{max_main_rows};
@@ -60,6 +61,14 @@ pub(crate) fn count_stale(states: &[ViewState]) -> usize
         }
     }
     count
+}
+
+/// Puts another state in the place of one.
+pub(crate) fn replace_state(states: &mut Vec<ViewState>, place: usize, state: ViewState)
+    requires { place < length states.old.items }
+    ensures { states.new.items ≡ slice_set states.old.items place state }
+{
+    states[place] = state;
 }
 
 /// Marks all views stale.

@@ -1,18 +1,18 @@
 //! What the columns of a batch tell of its rows, before they are stored: which rows a view drops is known without
 //! opening them.
 
-ghost use Rattle.std.specs.Prelude.{◌≡◌, ◌<◌, All, IfOk, get_or, length, not, None};
-ghost use Rattle.std.specs.Option.{IfSome, option_map};
+ghost use Rattle.std.specs.Prelude.{◌≡◌, ◌<◌, All, IfOk, get_or, length, not, None, option_copied, slice_get};
+ghost use Rattle.std.specs.Option.{IfSome};
 ghost use Rattle.view_lang.specs.Truth.{is_true};
 ghost use Rattle.row_keys.specs.Batches.{batch_rows};
-ghost use Rattle.upkeep.specs.Arrivals.{AreReferring, EachTells, Tells, cell_row};
+ghost use Rattle.upkeep.specs.Arrivals.{AreReferring, EachTells, Tells};
 
 use crate::view_state::ViewState;
 use arrays::Column;
 use bitmaps::Truths;
 use column_truths::{first_cells_law, is_within, truths};
 use std::alloc::{AllocError, Global};
-use values::{Row, Value};
+use values::Value;
 use view_lang::{Lookup, View};
 
 /// What is known of the rows of a batch for a view whose filter names columns of the main table alone.
@@ -33,16 +33,11 @@ impl Arrival {
         !self.truths.at(index).unwrap_or(false)
     }
 
-    /// The cell of a row that is looked up, as a row of one cell; `None` where the view looks up no table.
-    pub(crate) fn referring(&self, alloc: Global, index: usize) -> Result<Option<Row>, AllocError>
-        ensures { IfOk result (λ cells. option_map (λ r. r.items) cells ≡ cell_row self.now.looked_up.items index) }
+    /// The cell of a row that is looked up; `None` where the view looks up no table.
+    pub(crate) fn looked_up(&self, index: usize) -> Option<&Value>
+        ensures { option_copied result ≡ slice_get self.now.looked_up.items index }
     {
-        let Some(cell) = self.looked_up.get(index) else {
-            return Ok(None);
-        };
-        let mut cells = Vec::with_capacity(alloc, 1)?;
-        cells.push(cell.copy(alloc)?)?;
-        Ok(Some(cells))
+        self.looked_up.get(index)
     }
 }
 

@@ -1,264 +1,251 @@
 //! Brings what is kept of a view up to rows of the main table that come or go.
 
-ghost use Rattle.std.specs.Prelude.{◌≡◌, ◌<◌, ◌≤◌, ◌+◌, ◌++◌, [], ◌∷◌, All, false, IfOk, OnErr, OnOk, length, true};
-ghost use Rattle.std.specs.Option.{option_map};
+ghost use Rattle.std.specs.Prelude.{
+  ◌≡◌,
+  ◌<◌,
+  ◌≤◌,
+  ◌+◌,
+  ◌^◌,
+  [],
+  ◌∷◌,
+  All,
+  false,
+  get_or,
+  IfOk,
+  OnErr,
+  OnOk,
+  length,
+  true,
+};
 ghost use Rattle.view_lang.specs.ConfigRules.{IsView};
 ghost use Rattle.view_lang.specs.Shifts.{Fits, IsFew, NumberedRows, patched};
+ghost use Rattle.lookups.specs.Keeping.{Keeps as KeepsReferrers};
 ghost use Rattle.row_keys.specs.Numbered.{numbered};
-ghost use Rattle.row_keys.specs.Slots.{live, row_of};
+ghost use Rattle.row_keys.specs.Slots.{live, no_slot, row_of};
 ghost use Rattle.upkeep.specs.Arrivals.{Tells, TellsOf, opened_at, opened_first, rows_of_numbers};
 ghost use Rattle.upkeep.specs.Inputs.{side_by};
 ghost use Rattle.upkeep.specs.Stores.{rows_at, rows_in, tables_in, visits_in};
 ghost use Rattle.upkeep.specs.ViewStates.{
   IsCurrent,
-  made_by,
+  IsKept,
   made_change,
   made_row,
   referring_change,
-  referring_row,
   turned,
   turned_by,
 };
+ghost use Rattle.upkeep.specs.declared.view_state.Turn.TheVariants as turn_is;
 
 use crate::arrivals::Arrival;
-use crate::inputs::{join_row, referring_by};
-use crate::view_state::{Turn, ViewState};
-use row_keys::{RowStore, numbers_law};
+use crate::inputs::join_row;
+use crate::turning::{turn_joined, turn_referrer, turn_referring};
+use crate::view_state::{Kept, Turn, ViewState};
+use row_keys::{RowStore, StoredRow, numbers_law};
 use std::alloc::{AllocError, Global};
-use values::Row;
-use view_lang::{Change, Outputs, RowChange, View, image_law, project};
+use values::KeyBuffer;
+use view_lang::{View, image_law};
 
-/// What a view makes of a joined row that its filter kept, if it did: the output row of a plain view, or the joined row
-/// that is grouped.
-fn make_of(alloc: Global, view: &View, kept: Option<Row>) -> Result<Option<Row>, AllocError>
-    ensures { IfOk result (λ made. option_map (λ r. r.items) made
-        ≡ made_by view.now.outputs (option_map (λ r. r.items) kept)) }
-{
-    let Some(row) = kept else {
-        return Ok(None);
-    };
-    match &view.outputs {
-        Outputs::Columns(outputs) => Ok(Some(project(alloc, outputs, &row)?)),
-        Outputs::Groups { .. } => Ok(Some(row)),
-    }
-}
-
-/// What a view makes of a row of the main table: the row is joined, filtered, and projected in a plain view.
-fn make_from(
-    alloc: Global,
+/// Brings what is kept of a view up to a row of the main table that comes or goes: the row is joined, filtered and
+/// projected where it lies. After an error what is kept has no meaning.
+fn turn_main_row(
     stores: &[RowStore],
     view: &View,
-    row: Row,
-) -> Result<Option<Row>, AllocError>
-    requires { IsView (tables_in stores.now) view.now }
-    ensures { IfOk result (λ made. option_map (λ r. r.items) made
-        ≡ made_row view.now (side_by (tables_in stores.now) (rows_in stores.now) view.now) row.items) }
-{
-    let kept = join_row(alloc, stores, view, row)?;
-    make_of(alloc, view, kept)
-}
-
-/// What a view makes of the row of the main table with this number. The row is opened once.
-pub(crate) fn make_row(
-    alloc: Global,
-    stores: &mut Vec<RowStore>,
-    view: &View,
+    kept: &mut Kept,
+    turn: Turn,
     number: usize,
-) -> Result<Option<Row>, AllocError>
-    requires view { IsView (tables_in stores.old.items) view.now }
-    requires main { 0 < length stores.old.items }
-    requires there { number < length (rows_at (rows_in stores.old.items) 0) }
-    ensures row { IfOk result (λ made. option_map (λ r. r.items) made
-        ≡ made_row view.now (side_by (tables_in stores.old.items) (rows_in stores.old.items) view.now)
-        (row_of (rows_at (rows_in stores.old.items) 0) number)) }
-    ensures tables { tables_in stores.new.items ≡ tables_in stores.old.items }
-    ensures rows { rows_in stores.new.items ≡ rows_in stores.old.items }
-    ensures visits { visits_in stores.new.items ≤ visits_in stores.old.items + 1 }
+    row: StoredRow<'_>,
+    keys: &mut KeyBuffer,
+) -> Result<(), AllocError>
+    requires view { IsView (tables_in stores.now) view.now }
+    requires fits { (rows : NumberedRows) × (IsKept view.now.outputs view.now.order kept.old rows
+        × (Fits rows (turned_by turn number
+        (made_row view.now (side_by (tables_in stores.now) (rows_in stores.now) view.now) row) ∷ [])
+        × (length rows < 2 ^ 62))) }
+    ensures { OnOk result ((rows : NumberedRows)
+        → Fits rows (turned_by turn number
+        (made_row view.now (side_by (tables_in stores.now) (rows_in stores.now) view.now) row.entry) ∷ [])
+        → IsKept view.now.outputs view.now.order kept.old rows
+        → IsKept view.now.outputs view.now.order kept.new (patched rows (turned_by turn number
+        (made_row view.now (side_by (tables_in stores.now) (rows_in stores.now) view.now) row.entry) ∷ []))) }
 {
-    let row = stores[0].open_row(number)?;
-    make_from(alloc, stores, view, row)
+    let joined = join_row(stores, view, row, keys)?;
+    turn_joined(view, kept, turn, number, joined)
 }
 
-/// What is kept of one row of the main table for a view: what the view makes of it, and the cell that is looked up.
-#[derive(Drop)]
-struct ViewedRow {
-    made: Option<Row>,
-    referring: Option<Row>,
-}
-
-/// Opens a row of the main table once, and takes from it what is kept for a view.
-fn take_row(
-    alloc: Global,
-    stores: &mut Vec<RowStore>,
-    view: &View,
-    number: usize,
-) -> Result<ViewedRow, AllocError>
-    requires view { IsView (tables_in stores.old.items) view.now }
-    requires main { 0 < length stores.old.items }
-    requires there { number < length (rows_at (rows_in stores.old.items) 0) }
-    ensures made { IfOk result (λ taken. option_map (λ r. r.items) taken.made
-        ≡ made_row view.now (side_by (tables_in stores.old.items) (rows_in stores.old.items) view.now)
-        (row_of (rows_at (rows_in stores.old.items) 0) number)) }
-    ensures referring { IfOk result (λ taken. option_map (λ r. r.items) taken.referring
-        ≡ referring_row view.now (row_of (rows_at (rows_in stores.old.items) 0) number)) }
-    ensures tables { tables_in stores.new.items ≡ tables_in stores.old.items }
-    ensures rows { rows_in stores.new.items ≡ rows_in stores.old.items }
-    ensures visits { visits_in stores.new.items ≤ visits_in stores.old.items + 1 }
-{
-    let row = stores[0].open_row(number)?;
-    let referring = referring_by(alloc, view.lookup, &row)?;
-    let made = make_from(alloc, stores, view, row)?;
-    Ok(ViewedRow { made, referring })
-}
-
-/// The changes that rows of the main table that come or go make in what is kept of a view: in what the view makes of
-/// them, and in the cells that are looked up.
-#[derive(Drop)]
-pub(crate) struct TurnedRows {
-    pub made: Change,
-    pub referring: Change,
-}
-
-impl TurnedRows {
-    pub(crate) fn none(alloc: Global) -> TurnedRows
-        ensures made { result.made ≡ [] }
-        ensures referring { result.referring ≡ [] }
-    {
-        TurnedRows {
-            made: Change::new(alloc),
-            referring: Change::new(alloc),
-        }
-    }
-
-    /// Adds the changes of a row that comes, or goes.
-    fn push(&mut self, turn: Turn, number: usize, taken: ViewedRow) -> Result<(), AllocError>
-        ensures made { OnOk result (self.new.made ≡ self.old.made
-            ++ turned_by turn number (option_map (λ r. r.items) taken.made) ∷ []) }
-        ensures referring { OnOk result (self.new.referring ≡ self.old.referring
-            ++ turned_by turn number (option_map (λ r. r.items) taken.referring) ∷ []) }
-    {
-        self.made.push(turn_one(turn, number, taken.made))?;
-        self.referring
-            .push(turn_one(turn, number, taken.referring))?;
-        Ok(())
-    }
-}
-
-/// The change at a number where a row comes, or goes.
-fn turn_one(turn: Turn, number: usize, row: Option<Row>) -> RowChange
-    ensures { result ≡ turned_by turn number (option_map (λ r. r.items) row) }
+/// Whether the row of this number, which comes or goes, was gone before: a row that isn't live doesn't go.
+fn is_gone(stores: &[RowStore], turn: Turn, number: usize) -> bool
+    requires main { 0 < length stores.now }
+    requires there { number < length (rows_at (rows_in stores.now) 0) }
+    ensures gone { result ≡ true
+        → (turn ≡ turn_is.Go) × ((get_or (rows_at (rows_in stores.now) 0) number no_slot).live ≡ false) }
+    ensures there { result ≡ false → turn ≡ turn_is.Go
+        → (get_or (rows_at (rows_in stores.now) 0) number no_slot).live ≡ true }
 {
     match turn {
-        Turn::Come => RowChange::new(number, None, row),
-        Turn::Go => RowChange::new(number, row, None),
+        Turn::Come => false,
+        Turn::Go => !stores[0].is_live(number),
     }
 }
 
-/// Takes from a row of the main table what is kept for a view. The row, which is row `index` of those that come or go,
-/// isn't opened where it is known that the view drops it.
-#[tactic(auto, using(crate::proofs::ArrivalRows::dropped_laws))]
-fn take_known_row(
-    alloc: Global,
+/// Brings what is kept of a view up to the row of this number, which comes or goes. A row that isn't live doesn't go.
+fn turn_number(
     stores: &mut Vec<RowStore>,
     view: &View,
+    kept: &mut Kept,
+    turn: Turn,
     number: usize,
-    arrival: &Option<Arrival>,
-    index: usize,
-) -> Result<ViewedRow, AllocError>
+    keys: &mut KeyBuffer,
+) -> Result<(), AllocError>
     requires view { IsView (tables_in stores.old.items) view.now }
     requires main { 0 < length stores.old.items }
     requires there { number < length (rows_at (rows_in stores.old.items) 0) }
-    requires known { TellsOf view.now arrival.now index (row_of (rows_at (rows_in stores.old.items) 0) number) }
-    ensures made { IfOk result (λ taken. option_map (λ r. r.items) taken.made
-        ≡ made_row view.now (side_by (tables_in stores.old.items) (rows_in stores.old.items) view.now)
-        (row_of (rows_at (rows_in stores.old.items) 0) number)) }
-    ensures referring { IfOk result (λ taken. option_map (λ r. r.items) taken.referring
-        ≡ referring_row view.now (row_of (rows_at (rows_in stores.old.items) 0) number)) }
+    requires fits { (rows : NumberedRows) × (IsKept view.now.outputs view.now.order kept.old rows
+        × (Fits rows (made_change (tables_in stores.old.items) (rows_in stores.old.items) view.now turn (number ∷ []))
+        × (length rows < 2 ^ 62))) }
+    ensures kept { OnOk result ((rows : NumberedRows)
+        → Fits rows (made_change (tables_in stores.old.items) (rows_in stores.old.items) view.now turn (number ∷ []))
+        → IsKept view.now.outputs view.now.order kept.old rows
+        → IsKept view.now.outputs view.now.order kept.new (patched rows
+        (made_change (tables_in stores.old.items) (rows_in stores.old.items) view.now turn (number ∷ [])))) }
     ensures tables { tables_in stores.new.items ≡ tables_in stores.old.items }
     ensures rows { rows_in stores.new.items ≡ rows_in stores.old.items }
-    ensures visits { visits_in stores.new.items ≤ visits_in stores.old.items + opened_at arrival.now index }
+    ensures visits { visits_in stores.new.items ≤ visits_in stores.old.items + 1 }
 {
-    match arrival {
-        Some(arrival) if arrival.drops(index) => {
-            let referring = arrival.referring(alloc, index)?;
-            Ok(ViewedRow {
-                made: None,
-                referring,
-            })
-        }
-        _ => take_row(alloc, stores, view, number),
+    if is_gone(stores, turn, number) {
+        return Ok(());
     }
+    let visit = stores[0].visit(number);
+    let row = stores[0].row(visit);
+    turn_main_row(stores, view, kept, turn, number, row, keys)
 }
 
-/// Adds the changes of the row with this number, which comes or goes, as row `index` of those that do. A row that isn't
-/// live doesn't go.
-fn turn_row(
+/// Brings what is kept of a view up to the rows of these numbers, which come or go. Each is visited at most once.
+pub(crate) fn turn_numbers(
     alloc: Global,
     stores: &mut Vec<RowStore>,
     view: &View,
+    kept: &mut Kept,
+    turn: Turn,
+    numbers: &[usize],
+) -> Result<(), AllocError>
+    requires view { IsView (tables_in stores.old.items) view.now }
+    requires main { 0 < length stores.old.items }
+    requires there { All (λ n. n < length (rows_at (rows_in stores.old.items) 0)) numbers.now }
+    requires fits { (rows : NumberedRows) × (IsKept view.now.outputs view.now.order kept.old rows
+        × (Fits rows (made_change (tables_in stores.old.items) (rows_in stores.old.items) view.now turn numbers.now)
+        × IsFew rows (made_change (tables_in stores.old.items) (rows_in stores.old.items) view.now turn numbers.now))) }
+    ensures kept { OnOk result ((rows : NumberedRows)
+        → Fits rows (made_change (tables_in stores.old.items) (rows_in stores.old.items) view.now turn numbers.now)
+        → IsKept view.now.outputs view.now.order kept.old rows
+        → IsKept view.now.outputs view.now.order kept.new (patched rows
+        (made_change (tables_in stores.old.items) (rows_in stores.old.items) view.now turn numbers.now))) }
+    ensures tables { tables_in stores.new.items ≡ tables_in stores.old.items }
+    ensures rows { rows_in stores.new.items ≡ rows_in stores.old.items }
+    ensures visits { visits_in stores.new.items ≤ visits_in stores.old.items + length numbers.now }
+{
+    let mut keys = KeyBuffer::new(alloc);
+    for index in 0..numbers.len() {
+        turn_number(stores, view, kept, turn, numbers[index], &mut keys)?;
+    }
+    Ok(())
+}
+
+/// Brings the state of a view up to the row of this number, which comes or goes as row `index` of those that do. It
+/// isn't visited where it is known that the view drops it. A row that isn't live doesn't go.
+fn follow_number(
+    stores: &mut Vec<RowStore>,
+    view: &View,
+    state: &mut ViewState,
     turn: Turn,
     number: usize,
     arrival: &Option<Arrival>,
     index: usize,
-    turned_rows: &mut TurnedRows,
+    keys: &mut KeyBuffer,
 ) -> Result<(), AllocError>
     requires view { IsView (tables_in stores.old.items) view.now }
     requires main { 0 < length stores.old.items }
     requires there { number < length (rows_at (rows_in stores.old.items) 0) }
     requires known { TellsOf view.now arrival.now index (row_of (rows_at (rows_in stores.old.items) 0) number) }
-    ensures made { OnOk result (turned_rows.new.made ≡ turned_rows.old.made
-        ++ made_change (tables_in stores.old.items) (rows_in stores.old.items) view.now turn (number ∷ [])) }
-    ensures referring { OnOk result (turned_rows.new.referring ≡ turned_rows.old.referring
-        ++ referring_change (rows_at (rows_in stores.old.items) 0) view.now turn (number ∷ [])) }
+    requires fits { (rows : NumberedRows) × (IsKept view.now.outputs view.now.order state.old.kept rows
+        × (Fits rows (made_change (tables_in stores.old.items) (rows_in stores.old.items) view.now turn (number ∷ []))
+        × (length rows < 2 ^ 62))) }
+    ensures kept { OnOk result ((rows : NumberedRows)
+        → Fits rows (made_change (tables_in stores.old.items) (rows_in stores.old.items) view.now turn (number ∷ []))
+        → IsKept view.now.outputs view.now.order state.old.kept rows
+        → IsKept view.now.outputs view.now.order state.new.kept (patched rows
+        (made_change (tables_in stores.old.items) (rows_in stores.old.items) view.now turn (number ∷ [])))) }
+    ensures referrers { OnOk result ((rows : NumberedRows)
+        → Fits rows (referring_change (rows_at (rows_in stores.old.items) 0) view.now turn (number ∷ []))
+        → KeepsReferrers state.old.referrers rows
+        → KeepsReferrers state.new.referrers (patched rows
+        (referring_change (rows_at (rows_in stores.old.items) 0) view.now turn (number ∷ [])))) }
+    ensures stale { state.new.stale ≡ state.old.stale }
     ensures tables { tables_in stores.new.items ≡ tables_in stores.old.items }
     ensures rows { rows_in stores.new.items ≡ rows_in stores.old.items }
     ensures visits { visits_in stores.new.items ≤ visits_in stores.old.items + opened_at arrival.now index }
 {
-    let taken = if turn == Turn::Go && !stores[0].is_live(number) {
-        ViewedRow {
-            made: None,
-            referring: None,
+    if is_gone(stores, turn, number) {
+        return Ok(());
+    }
+    if let Some(arrival) = arrival {
+        if arrival.drops(index) {
+            return match arrival.looked_up(index) {
+                Some(cell) => turn_referrer(&mut state.referrers, turn, number, cell.view()),
+                None => Ok(()),
+            };
         }
-    } else {
-        take_known_row(alloc, stores, view, number, arrival, index)?
-    };
-    turned_rows.push(turn, number, taken)
+    }
+    let visit = stores[0].visit(number);
+    let row = stores[0].row(visit);
+    turn_referring(&mut state.referrers, view.lookup, turn, number, &row)?;
+    turn_main_row(stores, view, &mut state.kept, turn, number, row, keys)
 }
 
-/// Adds the changes of the rows with these numbers, which come or go, after those that are there. Each is opened at
-/// most once, and none of which it is known that the view drops it.
-pub(crate) fn turn_rows(
+/// Brings the state of a view up to the rows of these numbers, which come or go. Each is visited at most once, and none
+/// of which it is known that the view drops it.
+fn follow_numbers(
     alloc: Global,
     stores: &mut Vec<RowStore>,
     view: &View,
+    state: &mut ViewState,
     turn: Turn,
     numbers: &[usize],
     arrival: &Option<Arrival>,
-    turned_rows: &mut TurnedRows,
 ) -> Result<(), AllocError>
     requires view { IsView (tables_in stores.old.items) view.now }
     requires main { 0 < length stores.old.items }
     requires there { All (λ n. n < length (rows_at (rows_in stores.old.items) 0)) numbers.now }
     requires known { Tells view.now (rows_of_numbers (rows_at (rows_in stores.old.items) 0) numbers.now) arrival.now }
-    ensures made { OnOk result (turned_rows.new.made ≡ turned_rows.old.made
-        ++ made_change (tables_in stores.old.items) (rows_in stores.old.items) view.now turn numbers.now) }
-    ensures referring { OnOk result (turned_rows.new.referring ≡ turned_rows.old.referring
-        ++ referring_change (rows_at (rows_in stores.old.items) 0) view.now turn numbers.now) }
+    requires fits { (rows : NumberedRows) × (IsKept view.now.outputs view.now.order state.old.kept rows
+        × (Fits rows (made_change (tables_in stores.old.items) (rows_in stores.old.items) view.now turn numbers.now)
+        × IsFew rows (made_change (tables_in stores.old.items) (rows_in stores.old.items) view.now turn numbers.now))) }
+    ensures kept { OnOk result ((rows : NumberedRows)
+        → Fits rows (made_change (tables_in stores.old.items) (rows_in stores.old.items) view.now turn numbers.now)
+        → IsKept view.now.outputs view.now.order state.old.kept rows
+        → IsKept view.now.outputs view.now.order state.new.kept (patched rows
+        (made_change (tables_in stores.old.items) (rows_in stores.old.items) view.now turn numbers.now))) }
+    ensures referrers { OnOk result ((rows : NumberedRows)
+        → Fits rows (referring_change (rows_at (rows_in stores.old.items) 0) view.now turn numbers.now)
+        → KeepsReferrers state.old.referrers rows
+        → KeepsReferrers state.new.referrers (patched rows
+        (referring_change (rows_at (rows_in stores.old.items) 0) view.now turn numbers.now))) }
+    ensures stale { state.new.stale ≡ state.old.stale }
     ensures tables { tables_in stores.new.items ≡ tables_in stores.old.items }
     ensures rows { rows_in stores.new.items ≡ rows_in stores.old.items }
     ensures visits { visits_in stores.new.items
         ≤ visits_in stores.old.items + opened_first arrival.now (length numbers.now) }
 {
+    let mut keys = KeyBuffer::new(alloc);
     for index in 0..numbers.len() {
-        turn_row(
-            alloc,
+        follow_number(
             stores,
             view,
+            state,
             turn,
             numbers[index],
             arrival,
             index,
-            turned_rows,
+            &mut keys,
         )?;
     }
     Ok(())
@@ -303,25 +290,11 @@ pub(crate) fn follow(
     if state.stale {
         return Ok(());
     }
-    let mut turned_rows = TurnedRows::none(alloc);
-    match turn_rows(
-        alloc,
-        stores,
-        view,
-        turn,
-        numbers,
-        arrival,
-        &mut turned_rows,
-    ) {
-        Ok(()) => {
-            state.apply(&turned_rows.made)?;
-            state.refer(&turned_rows.referring)
-        }
-        Err(refused) => {
-            state.stale = true;
-            Err(refused)
-        }
+    let followed = follow_numbers(alloc, stores, view, state, turn, numbers, arrival);
+    if followed.is_err() {
+        state.stale = true;
     }
+    followed
 }
 
 /// Builds what is kept of a view anew, of all live rows of the main table.

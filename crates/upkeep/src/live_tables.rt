@@ -41,7 +41,7 @@ ghost use Rattle.upkeep.specs.TableChanges.{CanGoBack, IsBatch, IsChangeOf, back
 ghost use Rattle.upkeep.specs.TablesParts.{AreLiveParts, live_with};
 ghost use Rattle.upkeep.specs.Touched.{OpensShown, built_of, touched};
 
-use crate::all_views::{count_stale, follow_all, follow_last, fresh_states};
+use crate::all_views::{count_stale, follow_all, follow_last, fresh_states, replace_state};
 use crate::arrivals::arrivals_for;
 use crate::edits::{append_batch, find_rows, make_edit, restore};
 use crate::follow::rebuild;
@@ -422,7 +422,7 @@ impl LiveTables {
     {
         if self.states[place].stale {
             let state = rebuild(self.alloc, &mut self.stores, &self.views[place])?;
-            self.states[place] = state;
+            replace_state(&mut self.states, place, state);
         }
         Ok(())
     }

@@ -1,8 +1,9 @@
 //! Brings what is kept of views up to changes of a side table that they look up.
 
-ghost use Rattle.std.specs.Prelude.{◌≡◌, ◌<◌, ◌≤◌, ◌+◌, ◌*◌, ◌++◌, All, count_by, length, map, true, IfOk, OnErr, OnOk};
+ghost use Rattle.std.specs.Prelude.{◌≡◌, ◌<◌, ◌≤◌, ◌+◌, ◌*◌, All, count_by, length, map, true, OnErr, OnOk};
 ghost use Rattle.values.specs.Keys.{datum_of_key};
 ghost use Rattle.view_lang.specs.ConfigRules.{IsView};
+ghost use Rattle.view_lang.specs.Shifts.{Fits, IsFew, NumberedRows, patched};
 ghost use Rattle.view_lang.specs.World.{table_at};
 ghost use Rattle.row_keys.specs.Slots.{live};
 ghost use Rattle.upkeep.specs.LiveParts.{AreOf};
@@ -13,18 +14,17 @@ ghost use Rattle.upkeep.specs.ViewStates.{
   AreCurrent,
   IsBefore,
   IsCurrentWith,
+  IsKept,
   looks_up,
   lookups_stale,
-  made_change,
+  remade_change,
   stale_in,
-  swapped_at,
 };
-ghost use Rattle.upkeep.specs.declared.view_state.Turn.TheVariants as turn_is;
 
-use crate::follow::{TurnedRows, turn_rows};
+use crate::follow::turn_numbers;
 use crate::swaps::{named_keys, swap};
 use crate::table_change::TableChange;
-use crate::view_state::{Turn, ViewState};
+use crate::view_state::{Kept, Turn, ViewState};
 use row_keys::{RowStore, numbers_law};
 use std::alloc::{AllocError, Global};
 use values::{Key, key_law};
@@ -50,17 +50,19 @@ fn mark_lookups_stale(views: &[View], states: &mut Vec<ViewState>, table: usize)
     }
 }
 
-/// The changes in what a view makes of the rows of the main table with these numbers, which refer to rows that a change
-/// of a side table names: what it made of them before goes, and what it makes of them now comes.
+/// Brings what is kept of a view up to a change of a side table, by the rows of the main table with these numbers,
+/// which refer to rows that the change names: what the view made of them before goes, and what it makes of them now
+/// comes. After an error what is kept has no meaning.
 fn remake_rows(
     alloc: Global,
     stores: &mut Vec<RowStore>,
     view: &View,
+    kept: &mut Kept,
     table: usize,
     change: &TableChange,
     turn: Turn,
     numbers: &[usize],
-) -> Result<TurnedRows, AllocError>
+) -> Result<(), AllocError>
     requires view { IsView (tables_in stores.old.items) view.now }
     requires main { 0 < length stores.old.items }
     requires side { 0 < table }
@@ -68,21 +70,27 @@ fn remake_rows(
     requires swaps { CanSwap turn (table_at (tables_in stores.old.items) table) change.now
         (rows_at (rows_in stores.old.items) table) }
     requires numbers { All (λ n. n < length (rows_at (rows_in stores.old.items) 0)) numbers.now }
-    ensures made { IfOk result (λ remade. remade.made
-        ≡ made_change (tables_in stores.old.items) (swapped_at table turn change.now (rows_in stores.old.items))
-        view.now turn_is.Go numbers.now
-        ++ made_change (tables_in stores.old.items) (rows_in stores.old.items) view.now turn_is.Come numbers.now) }
+    requires fits { (rows : NumberedRows) × (IsKept view.now.outputs view.now.order kept.old rows
+        × (Fits rows (remade_change (tables_in stores.old.items) (rows_in stores.old.items) view.now table turn
+        change.now numbers.now)
+        × IsFew rows (remade_change (tables_in stores.old.items) (rows_in stores.old.items) view.now table turn
+        change.now numbers.now))) }
+    ensures kept { OnOk result ((rows : NumberedRows)
+        → Fits rows (remade_change (tables_in stores.old.items) (rows_in stores.old.items) view.now table turn
+        change.now numbers.now)
+        → IsKept view.now.outputs view.now.order kept.old rows
+        → IsKept view.now.outputs view.now.order kept.new (patched rows
+        (remade_change (tables_in stores.old.items) (rows_in stores.old.items) view.now table turn change.now
+        numbers.now))) }
     ensures tables { tables_in stores.new.items ≡ tables_in stores.old.items }
     ensures rows { rows_in stores.new.items ≡ rows_in stores.old.items }
     ensures visits { visits_in stores.new.items ≤ visits_in stores.old.items + 2 * length numbers.now }
 {
-    let mut remade = TurnedRows::none(alloc);
     swap(&mut stores[table], change, turn);
-    let gone = turn_rows(alloc, stores, view, Turn::Go, numbers, &None, &mut remade);
+    let gone = turn_numbers(alloc, stores, view, kept, Turn::Go, numbers);
     swap(&mut stores[table], change, turn.opposite());
     gone?;
-    turn_rows(alloc, stores, view, Turn::Come, numbers, &None, &mut remade)?;
-    Ok(remade)
+    turn_numbers(alloc, stores, view, kept, Turn::Come, numbers)
 }
 
 /// Brings what is kept of a view up to a change of a side table that it looks up. Only rows of the main table are
@@ -130,8 +138,16 @@ fn follow_lookup(
         return Ok(());
     }
     let numbers = state.referrers.of_keys(alloc, keys)?;
-    let remade = remake_rows(alloc, stores, view, table, change, turn, &numbers)?;
-    state.apply(&remade.made)
+    remake_rows(
+        alloc,
+        stores,
+        view,
+        &mut state.kept,
+        table,
+        change,
+        turn,
+        &numbers,
+    )
 }
 
 /// Brings what is kept of the views up to a change of a side table that names `keys`. After an error all views that

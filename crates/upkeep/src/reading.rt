@@ -1,16 +1,19 @@
 //! Reads the rows that a view shows out of what is kept of it.
 
-ghost use Rattle.std.specs.Prelude.{◌≡◌, ◌<◌, ◌≤◌, ◌+◌, All, false, IfOk, length, List};
+ghost use Rattle.std.specs.Prelude.{◌≡◌, ◌<◌, ◌≤◌, ◌+◌, ◌++◌, All, false, IfOk, OnOk, length, List};
+ghost use Rattle.std.specs.Option.{option_map};
 ghost use Rattle.view_lang.specs.Cells.{rows_of};
 ghost use Rattle.view_lang.specs.Config.{Table};
 ghost use Rattle.view_lang.specs.ConfigRules.{IsView};
 ghost use Rattle.view_lang.specs.Joined.{Side};
 ghost use Rattle.view_lang.specs.Laws.{Viewed};
 ghost use Rattle.view_lang.specs.TableRules.{IsTable};
-ghost use Rattle.view_lang.specs.Views.{view_rows};
+ghost use Rattle.view_lang.specs.Outputs.{columns};
+ghost use Rattle.view_lang.specs.Views.{shown_row, view_rows};
 ghost use Rattle.row_keys.specs.Numbered.{numbered};
-ghost use Rattle.row_keys.specs.Slots.{Slot, live};
-ghost use Rattle.upkeep.specs.Inputs.{side_by};
+ghost use Rattle.row_keys.specs.Slots.{Slot, live, row_of};
+ghost use Rattle.upkeep.specs.Inputs.{listed, side_by};
+ghost use Rattle.upkeep.specs.JoinedRows.{joined_cells};
 ghost use Rattle.upkeep.specs.Reading.{
   AreShown,
   FirstsAreShown,
@@ -20,19 +23,19 @@ ghost use Rattle.upkeep.specs.Reading.{
 };
 ghost use Rattle.upkeep.specs.Stores.{rows_at, rows_in, tables_in, visits_in};
 ghost use Rattle.upkeep.specs.Touched.{opened_of};
-ghost use Rattle.upkeep.specs.ViewStates.{IsCurrent};
+ghost use Rattle.upkeep.specs.ViewStates.{IsCurrent, made_row};
 ghost use Rattle.upkeep.specs.declared.view_state.Kept.TheVariants as kept;
 
-use crate::follow::make_row;
-use crate::inputs::push_some;
+use crate::inputs::join_row;
+use crate::joined_row::JoinedRow;
 use crate::view_state::{Kept, ViewState};
 use group_order::RankedGroups;
 use row_keys::{RowStore, numbers_law};
 use std::alloc::{AllocError, Global};
 use top_rows::Ordered;
-use values::Row;
 use values::limits::MAX_MAIN_ROWS;
-use view_lang::{View, image_law, one_by_one_law, rows_law};
+use values::{KeyBuffer, Row};
+use view_lang::{Output, Outputs, View, image_law, one_by_one_law, project, rows_law};
 
 /// What can be read out of what is kept of a view. It does nothing: its contract is the theorem.
 fn reading_law()
@@ -45,13 +48,56 @@ fn reading_law()
     rows_law();
 }
 
-/// What a view makes of the rows of these numbers. Each is opened once.
+/// The row that a plain view with these outputs makes of the row of this number, which is visited.
+fn make_row(
+    alloc: Global,
+    stores: &mut Vec<RowStore>,
+    view: &View,
+    outputs: &[Output],
+    number: usize,
+    keys: &mut KeyBuffer,
+) -> Result<Option<Row>, AllocError>
+    requires plain { view.now.outputs ≡ columns outputs.now }
+    requires view { IsView (tables_in stores.old.items) view.now }
+    requires main { 0 < length stores.old.items }
+    requires there { number < length (rows_at (rows_in stores.old.items) 0) }
+    ensures row { IfOk result (λ made. option_map (λ r. r.items) made
+        ≡ made_row view.now (side_by (tables_in stores.old.items) (rows_in stores.old.items) view.now)
+        (row_of (rows_at (rows_in stores.old.items) 0) number)) }
+    ensures tables { tables_in stores.new.items ≡ tables_in stores.old.items }
+    ensures rows { rows_in stores.new.items ≡ rows_in stores.old.items }
+    ensures visits { visits_in stores.new.items ≤ visits_in stores.old.items + 1 }
+{
+    let visit = stores[0].visit(number);
+    let row = stores[0].row(visit);
+    let joined = join_row(stores, view, row, keys)?;
+    project_some(alloc, outputs, joined)
+}
+
+/// The output row of a joined row, if there is one.
+fn project_some(
+    alloc: Global,
+    outputs: &[Output],
+    joined: Option<JoinedRow<'_>>,
+) -> Result<Option<Row>, AllocError>
+    ensures { IfOk result (λ made. option_map (λ r. r.items) made
+        ≡ option_map (shown_row outputs.now) (option_map joined_cells joined.entry)) }
+{
+    match joined {
+        Some(row) => Ok(Some(project(alloc, outputs, &row)?)),
+        None => Ok(None),
+    }
+}
+
+/// What a plain view with these outputs makes of the rows of these numbers. Each is visited once.
 fn make_rows(
     alloc: Global,
     stores: &mut Vec<RowStore>,
     view: &View,
+    outputs: &[Output],
     numbers: &[usize],
 ) -> Result<Vec<Row>, AllocError>
+    requires plain { view.now.outputs ≡ columns outputs.now }
     requires view { IsView (tables_in stores.old.items) view.now }
     requires main { 0 < length stores.old.items }
     requires there { All (λ n. n < length (rows_at (rows_in stores.old.items) 0)) numbers.now }
@@ -62,9 +108,10 @@ fn make_rows(
     ensures same_rows { rows_in stores.new.items ≡ rows_in stores.old.items }
     ensures visits { visits_in stores.new.items ≤ visits_in stores.old.items + length numbers.now }
 {
+    let mut keys = KeyBuffer::new(alloc);
     let mut made = Vec::with_capacity(alloc, numbers.len())?;
     for number in numbers {
-        let row = make_row(alloc, stores, view, *number)?;
+        let row = make_row(alloc, stores, view, outputs, *number, &mut keys)?;
         push_some(&mut made, row)?;
     }
     Ok(made)
@@ -80,7 +127,21 @@ fn first_numbers(alloc: Global, view: &View, order: &Ordered) -> Result<Vec<usiz
     order.first_of_view(alloc, view.first.unwrap_or(MAX_MAIN_ROWS))
 }
 
-/// The rows that a plain view shows. Only these are opened.
+/// Adds a row, if there is one.
+#[tactic(auto, using(crate::proofs::InputRows::pushing))]
+fn push_some(rows: &mut Vec<Row>, row: Option<Row>) -> Result<(), AllocError>
+    ensures { OnOk result (rows_of rows.new.items ≡ rows_of rows.old.items ++ listed (option_map (λ r. r.items) row)) }
+{
+    match row {
+        Some(row) => {
+            rows.push(row)?;
+            Ok(())
+        }
+        None => Ok(()),
+    }
+}
+
+/// The rows that a plain view shows. Only these are visited.
 fn first_rows(
     alloc: Global,
     stores: &mut Vec<RowStore>,
@@ -101,7 +162,10 @@ fn first_rows(
         (live (rows_at (rows_in stores.old.items) 0))) }
 {
     let numbers = first_numbers(alloc, view, order)?;
-    make_rows(alloc, stores, view, &numbers)
+    match &view.outputs {
+        Outputs::Columns(outputs) => make_rows(alloc, stores, view, outputs, &numbers),
+        Outputs::Groups { .. } => unreachable!(),
+    }
 }
 
 /// The rows that a view of groups shows. No other group is read.

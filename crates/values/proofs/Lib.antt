@@ -5,3 +5,4 @@ pub mod KeyLaws
 pub mod Equality
 pub mod WeightLemmas
 pub mod Logicals
+pub mod ShallowLemmas

@@ -1,5 +1,5 @@
 -- Values as contracts see them.
-use Rattle.std.specs.Prelude.{◌≡◌, ℕ, ℤ, pos, suc, ◌+◌, ◌==◌, ◌≤◌, Bool, false, if◌then◌else◌, List, [], ◌∷◌, refl}
+use Rattle.std.specs.Prelude.{◌≡◌, ℕ, ℤ, pos, suc, ◌+◌, ◌==◌, ◌≤◌, Bool, true, false, if◌then◌else◌, List, [], ◌∷◌, refl}
 use Rattle.std.proofs.Common.{ap, arith, ◌∙◌}
 use Rattle.std.specs.Coded.{Coded, code_by, coded×, coded_ℕ, coded_ℤ, coded_bool, coded_list}
 use denote.Param.Weighed.{most}
@@ -24,6 +24,10 @@ mutual
 abbrev pub items_of : List Datum → Items
 items_of [] = no_items
 items_of (d ∷ ds) = item d (items_of ds)
+
+abbrev pub is_null : Datum → Bool
+is_null null = true
+is_null _ = false
 
 -- how many values it is made of
 abbrev mutual

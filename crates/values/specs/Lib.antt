@@ -16,3 +16,4 @@ pub mod TypeText
 pub mod Logical
 pub mod Coded
 pub mod Weights
+pub mod CellViews

@@ -1,9 +1,11 @@
 //! Keys: values that are compared, ordered and hashed.
 
 ghost use Rattle.std.specs.Prelude.{◌≡◌, IfOk};
+ghost use Rattle.values.specs.CellViews.{viewed};
 ghost use Rattle.values.specs.Keys.{key_of};
 
-use crate::cells::{Kind, Value};
+use crate::cell_view::CellView;
+use crate::cells::Value;
 use crate::key_parts::{KeyBytes, KeyText};
 use std::alloc::{AllocError, Global};
 
@@ -26,17 +28,24 @@ pub enum Key {
 
 impl Key {
     /// The key of a value; `None` where that is a list or a struct.
+    #[tactic(auto, using(crate::proofs::ShallowLemmas::shallow_laws))]
     pub fn of(alloc: Global, value: &Value) -> Result<Option<Key>, AllocError>
         ensures { IfOk result (λ key. key ≡ key_of value.now) }
     {
-        Ok(Some(match &value.kind {
-            Kind::Null => Key::Null,
-            Kind::Bool(truth) => Key::Bool(*truth),
-            Kind::Int(number) => Key::Int(*number),
-            Kind::Utf8(text) => Key::Utf8(KeyText::new(alloc, text.as_str())?),
-            Kind::Binary(bytes) => Key::Binary(KeyBytes::new(alloc, bytes)?),
-            Kind::List(_) => return Ok(None),
-            Kind::Struct(_) => return Ok(None),
+        Key::of_cell(alloc, value.view())
+    }
+
+    /// The key of a cell; `None` where that is a list or a struct.
+    pub fn of_cell(alloc: Global, cell: CellView<'_>) -> Result<Option<Key>, AllocError>
+        ensures { IfOk result (λ key. key ≡ key_of (viewed cell.entry)) }
+    {
+        Ok(Some(match cell {
+            CellView::Null => Key::Null,
+            CellView::Bool(truth) => Key::Bool(truth),
+            CellView::Int(number) => Key::Int(number),
+            CellView::Utf8(text) => Key::Utf8(KeyText::new(alloc, text)?),
+            CellView::Binary(bytes) => Key::Binary(KeyBytes::new(alloc, bytes)?),
+            CellView::List | CellView::Struct => return Ok(None),
         }))
     }
 

@@ -1,6 +1,6 @@
 //! The owned texts and bytes of keys.
 
-ghost use Rattle.std.specs.Prelude.{◌≡◌, IfOk};
+ghost use Rattle.std.specs.Prelude.{◌≡◌, IfOk, OnOk};
 
 use std::alloc::{AllocError, Global};
 use std::cmp::Ordering;
@@ -29,6 +29,15 @@ impl KeyText {
         Ok(KeyText {
             text: String::from_str(alloc, text)?,
         })
+    }
+
+    /// Takes another text, in the memory that is there where it is large enough.
+    pub(crate) fn refill(&mut self, text: &str) -> Result<(), AllocError>
+        ensures { OnOk result (self.new ≡ text.now) }
+    {
+        self.text.clear();
+        self.text.push_str(text)?;
+        Ok(())
     }
 
     /// An equal text with memory of its own.
@@ -132,6 +141,15 @@ impl KeyBytes {
         Ok(KeyBytes {
             bytes: Vec::from_slice(alloc, bytes)?,
         })
+    }
+
+    /// Takes other bytes, in the memory that is there where it is large enough.
+    pub(crate) fn refill(&mut self, bytes: &[u8]) -> Result<(), AllocError>
+        ensures { OnOk result (self.new ≡ bytes.now) }
+    {
+        self.bytes.clear();
+        self.bytes.extend_from_slice(bytes)?;
+        Ok(())
     }
 
     /// Equal bytes with memory of their own.

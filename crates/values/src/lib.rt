@@ -9,10 +9,12 @@
 #![tactic(auto)]
 
 mod causes;
+mod cell_view;
 mod cells;
 mod col_type;
 mod faults;
 mod key;
+mod key_buffer;
 mod key_parts;
 mod laws;
 mod layout;
@@ -27,14 +29,16 @@ mod weigh;
 mod zone;
 
 pub use causes::Cause;
+pub use cell_view::CellView;
 pub use cells::{Kind, Row, Value, copy_row};
 pub use col_type::ColType;
 pub use faults::StreamFault;
 pub use key::Key;
+pub use key_buffer::KeyBuffer;
 pub use key_parts::{KeyBytes, KeyText};
 pub use laws::{equality_law, key_law, limits_law};
 pub use layout::{IntWidth, Layout, LayoutTree, OffsetWidth};
-pub use order::cmp_values;
+pub use order::{cmp_cells, cmp_values};
 pub use schema::{LogicalField, Schema};
 pub use units::{DateUnit, TimeUnit};
 pub use weigh::{row_weight, slot, weight};

@@ -1,9 +1,11 @@
 //! The order of values.
 
 ghost use Rattle.std.specs.Prelude.{◌≡◌};
+ghost use Rattle.values.specs.CellViews.{viewed};
 ghost use Rattle.values.specs.Order.{datum_cmp, kind_of};
 
-use crate::cells::{Kind, Value};
+use crate::cell_view::CellView;
+use crate::cells::Value;
 use std::cmp::Ordering;
 
 /// False before true, numbers by value, texts and bytes by their bytes (a beginning stands before its continuation),
@@ -11,29 +13,37 @@ use std::cmp::Ordering;
 ///
 /// Values of one column are of one kind or null. Two kinds stand in the order of their variants in `Kind`, nulls last,
 /// so that the order is total. Lists have no order among themselves, and structs have none: they are answered as equal.
+#[tactic(auto, using(crate::proofs::ShallowLemmas::shallow_laws))]
 pub fn cmp_values(a: &Value, b: &Value) -> Ordering
     ensures { result ≡ datum_cmp a.now b.now }
 {
-    match (&a.kind, &b.kind) {
-        (Kind::Bool(x), Kind::Bool(y)) => x.cmp(y),
-        (Kind::Int(x), Kind::Int(y)) => x.cmp(y),
-        (Kind::Utf8(x), Kind::Utf8(y)) => x.cmp(y),
-        (Kind::Binary(x), Kind::Binary(y)) => x.cmp(y),
+    cmp_cells(a.view(), b.view())
+}
+
+/// The order of `cmp_values`.
+pub fn cmp_cells(a: CellView<'_>, b: CellView<'_>) -> Ordering
+    ensures { result ≡ datum_cmp (viewed a.entry) (viewed b.entry) }
+{
+    match (a, b) {
+        (CellView::Bool(x), CellView::Bool(y)) => x.cmp(&y),
+        (CellView::Int(x), CellView::Int(y)) => x.cmp(&y),
+        (CellView::Utf8(x), CellView::Utf8(y)) => x.cmp(y),
+        (CellView::Binary(x), CellView::Binary(y)) => x.cmp(y),
         _ => rank(a).cmp(&rank(b)),
     }
 }
 
-/// The place of a value's kind among the kinds.
-fn rank(value: &Value) -> u8
-    ensures { result ≡ kind_of value.now }
+/// The place of a cell's kind among the kinds.
+fn rank(cell: CellView<'_>) -> u8
+    ensures { result ≡ kind_of (viewed cell.entry) }
 {
-    match &value.kind {
-        Kind::Bool(_) => 0,
-        Kind::Int(_) => 1,
-        Kind::Utf8(_) => 2,
-        Kind::Binary(_) => 3,
-        Kind::List(_) => 4,
-        Kind::Struct(_) => 5,
-        Kind::Null => 6,
+    match cell {
+        CellView::Bool(_) => 0,
+        CellView::Int(_) => 1,
+        CellView::Utf8(_) => 2,
+        CellView::Binary(_) => 3,
+        CellView::List => 4,
+        CellView::Struct => 5,
+        CellView::Null => 6,
     }
 }

@@ -1,8 +1,9 @@
 //! Copies, order, keys and weights of values of every kind.
 
 use crate::{
-    ColType, DateUnit, IntWidth, Key, Kind, Layout, LayoutTree, LogicalField, OffsetWidth, Schema,
-    TimeUnit, Value, cmp_values, copy_row, row_weight, slot, weight,
+    CellView, ColType, DateUnit, IntWidth, Key, KeyBuffer, Kind, Layout, LayoutTree, LogicalField,
+    OffsetWidth, Schema, TimeUnit, Value, cmp_cells, cmp_values, copy_row, row_weight, slot,
+    weight,
 };
 use std::alloc::{AllocError, Global};
 use std::cmp::Ordering;
@@ -203,5 +204,22 @@ fn drops_how_columns_are_stored(rt: HostRuntime) -> Result<(), Fail> {
     assert_eq!(rt; &lists.col_type, &ColType::List { offsets });
     assert_eq!(rt; items.name.as_str(), "item");
     assert_eq!(rt; &items.col_type, &ColType::Utf8 { offsets });
+    Ok(())
+}
+
+#[test]
+fn finds_keys_of_cells_where_they_lie(rt: HostRuntime) -> Result<(), Fail> {
+    let one = text(rt.alloc(), "one")?;
+    assert!(rt; cmp_cells(one.view(), CellView::Utf8("two")).is_lt());
+    assert!(rt; CellView::Null.is_null());
+    assert!(rt; !nested(rt.alloc())?.view().is_null());
+    let mut buffer = KeyBuffer::new(rt.alloc());
+    for value in [one, text(rt.alloc(), "two")?, bytes(rt.alloc(), &[1, 2])?] {
+        assert_eq!(rt;
+            buffer.key_of(value.view())?,
+            Key::of(rt.alloc(), &value)?.as_ref()
+        );
+    }
+    assert!(rt; buffer.key_of(nested(rt.alloc())?.view())?.is_none());
     Ok(())
 }

@@ -3,8 +3,8 @@ use Rattle.std.proofs.Common.{◌≡◌, ℕ, ◌+◌, ◌<◌, ◌≤◌, Bool,
 use Rattle.std.specs.Prelude.{Vec}
 use Rattle.std.specs.Cmp.{eq_by_cmp_equiv}
 use Rattle.std.specs.declared.alloc.Global.{Global}
-use Rattle.values.specs.Datum.{Datum}
-use Rattle.view_lang.specs.Cells.{cell_at, is_null, rows_of}
+use Rattle.values.specs.Datum.{Datum, is_null}
+use Rattle.view_lang.specs.Cells.{cell_at, rows_of}
 use Rattle.view_lang.specs.Contents.{is_among, same_key}
 use Rattle.view_lang.specs.Groups.{distinct, values_at}
 use Rattle.view_lang.proofs.Orders.{datum_cmp_total}

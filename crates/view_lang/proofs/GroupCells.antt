@@ -31,7 +31,7 @@ use Rattle.std.proofs.lemmas.List.Elements.{All-filter, All-head, All-map, All-t
 use Rattle.std.proofs.Math.Nat.{pow-le-pow_right}
 use Rattle.std.specs.Ordering.{is_gt}
 use Rattle.values.specs.ColTypes.{layout_of}
-use Rattle.values.specs.Datum.{Datum, null, truth, whole, text, bytes, list, structure}
+use Rattle.values.specs.Datum.{Datum, null, truth, whole, text, bytes, list, structure, is_null}
 use Rattle.values.specs.declared.col_type.ColType.{ColType}
 use Rattle.values.specs.declared.col_type.ColType.TheVariants as col
 use Rattle.values.specs.declared.layout.IntWidth.{IntWidth}
@@ -40,7 +40,7 @@ use Rattle.values.specs.Layouts.{FitsIn, Holds, IsDecimal, IsNumber, bytes_in}
 use Rattle.values.specs.Limits.{max_main_rows}
 use Rattle.values.specs.Logical.{NamedType, tree_of, trees_of}
 use Rattle.values.specs.Rose.{Rose, node}
-use Rattle.view_lang.specs.Cells.{cell_at, is_null}
+use Rattle.view_lang.specs.Cells.{cell_at}
 use Rattle.view_lang.specs.ConfigRules.{IsAddable, IsAggregate}
 use Rattle.view_lang.specs.Groups.{aggregate_of, distinct, first_in, number_in, sum_of, total, values_at}
 use Rattle.view_lang.specs.RowOrder.{cell_cmp}

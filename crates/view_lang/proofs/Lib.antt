@@ -12,7 +12,6 @@ pub mod Sorting
 pub mod Projecting
 pub mod Distinct
 pub mod Passing
-pub mod Showing
 pub mod TruthLaws
 pub mod OrderLaws
 pub mod Tuples
@@ -25,3 +24,4 @@ pub mod AscendingKeys
 pub mod OwnEntries
 pub mod LastEntries
 pub mod ExactKeys
+pub mod ShownCells

@@ -45,9 +45,9 @@ use Rattle.std.proofs.lemmas.List.Sorted.{
   IsPermutation-middle,
 }
 use Rattle.std.proofs.lemmas.Map.Lookups.{exact_signed, exact_bytes}
-use Rattle.values.specs.Datum.{Datum, null, truth, whole, text, bytes, list, structure}
+use Rattle.values.specs.Datum.{Datum, null, truth, whole, text, bytes, list, structure, is_null}
 use Rattle.values.specs.Order.{datum_cmp}
-use Rattle.view_lang.specs.Cells.{cell_at, cells_at, is_null}
+use Rattle.view_lang.specs.Cells.{cell_at, cells_at}
 use Rattle.view_lang.specs.Sorted.{placed, sorted}
 use Rattle.view_lang.specs.RowOrder.{cell_cmp, tuple_cmp}
 use Rattle.view_lang.specs.Groups.{

@@ -25,9 +25,9 @@ use Rattle.std.specs.Prelude.{if◌then◌else◌}
 use Rattle.std.specs.declared.cmp.Ordering.{Ordering}
 use Rattle.std.specs.declared.cmp.Ordering.TheVariants.{Less, Equal, Greater}
 use Rattle.std.specs.List.{list_any}
-use Rattle.values.specs.Datum.{Datum}
+use Rattle.values.specs.Datum.{Datum, is_null}
 use Rattle.values.specs.Order.{datum_cmp}
-use Rattle.view_lang.specs.Cells.{cell_at, is_null}
+use Rattle.view_lang.specs.Cells.{cell_at}
 use Rattle.view_lang.specs.Filter.{Filters, all_of, compare, negation, no_part, null_in, one_of, part, parts_of}
 use Rattle.view_lang.specs.Truth.{
   Truth,

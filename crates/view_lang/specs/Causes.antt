@@ -1,6 +1,6 @@
 -- Why an edit doesn't fit its table: the causes that stand, and the least of them.
 use Rattle.std.specs.Prelude.{◌+◌, Bool, true, false, cond, not, ◌||◌, nat_lt, List, [], ◌∷◌, Option, find, length}
-use Rattle.values.specs.Datum.{Datum, items_of}
+use Rattle.values.specs.Datum.{Datum, items_of, is_null}
 use Rattle.values.specs.Rose.{Roses, none, more, kids_of}
 use Rattle.values.specs.declared.layout.Layout.{Layout}
 use Rattle.values.specs.Layouts.{row_weight, weight}
@@ -8,7 +8,6 @@ use Rattle.values.specs.Limits.{max_cell_weight, max_row_weight}
 use Rattle.values.specs.Logical.{trees_of}
 use Rattle.view_lang.specs.Limits.{max_appended_rows}
 use Rattle.view_lang.specs.Config.{Table}
-use Rattle.view_lang.specs.Cells.{is_null}
 use Rattle.view_lang.specs.Contents.{Contents, is_among, keys_in, without_keys}
 use Rattle.view_lang.specs.Edits.{Edit, TableEdit, append, put, retract}
 use Rattle.view_lang.specs.World.{World, contents_at, table_at}

@@ -2,8 +2,8 @@
 use Rattle.std.specs.Prelude.{ℕ, ℤ, pos, ◌+ℤ◌, Bool, not, cond, List, [], ◌∷◌, map, length, filter}
 use Rattle.std.specs.List.{dedup}
 use Rattle.std.specs.Ordering.{is_eq, is_gt}
-use Rattle.values.specs.Datum.{Datum, null, whole}
-use Rattle.view_lang.specs.Cells.{cell_at, cells_at, is_null}
+use Rattle.values.specs.Datum.{Datum, null, whole, is_null}
+use Rattle.view_lang.specs.Cells.{cell_at, cells_at}
 use Rattle.view_lang.specs.Contents.{is_among}
 use Rattle.view_lang.specs.Sorted.{sorted}
 use Rattle.view_lang.specs.Outputs.{GroupOutput}

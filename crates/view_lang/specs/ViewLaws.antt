@@ -29,10 +29,10 @@ use Rattle.std.specs.List.{AllByRecursion, Contains, filter_map, list_any}
 use Rattle.std.specs.Option.{option_map}
 use Rattle.std.specs.List.Sorted.{IsPermutation, IsStrictlySortedBy}
 use Rattle.std.specs.Cmp.{IsTotalOrder}
-use Rattle.values.specs.Datum.{Datum, null}
+use Rattle.values.specs.Datum.{Datum, null, is_null}
 use Rattle.values.specs.Keys.{key_of}
 use Rattle.values.specs.Order.{datum_cmp}
-use Rattle.view_lang.specs.Cells.{cell_at, cells_at, is_null}
+use Rattle.view_lang.specs.Cells.{cell_at, cells_at}
 use Rattle.view_lang.specs.Filter.{Filter, Filters, all_of, compare, negation, no_part, null_in, one_of, part, parts_of}
 use Rattle.view_lang.specs.Groups.{first_in, group_rows, same_tuple, total, tuples_of}
 use Rattle.view_lang.specs.Config.{View}

@@ -1,6 +1,7 @@
 //! Filters, and their truth for a row.
 
 ghost use Rattle.std.specs.Prelude.{◌≡◌, IfOk};
+ghost use Rattle.values.specs.CellViews.{viewed};
 ghost use Rattle.view_lang.specs.Filter.{parts_of};
 ghost use Rattle.view_lang.specs.Truth.{
   both as both_by,
@@ -13,10 +14,11 @@ ghost use Rattle.view_lang.specs.Truth.{
   truth_of_any as any_by,
 };
 
-use crate::cells::{cell_or, is_null, no_value};
+use crate::row_view::RowView;
+use crate::view::View;
 use std::alloc::{AllocError, Global};
 use std::marker::Model;
-use values::{Value, cmp_values};
+use values::{CellView, Value, cmp_cells};
 
 /// A comparison of two cells, by the order of values.
 #[derive(Clone, Copy, Debug, PartialEq, Eq)]
@@ -103,13 +105,13 @@ impl Model for Filter {
 }
 
 /// The truth of a comparison of two cells; `None`, which is unknown, where one is null.
-fn compared(comparison: Comparison, a: &Value, b: &Value) -> Option<bool>
-    ensures { result ≡ compared_by comparison a.now b.now }
+fn compared(comparison: Comparison, a: CellView<'_>, b: CellView<'_>) -> Option<bool>
+    ensures { result ≡ compared_by comparison (viewed a.entry) (viewed b.entry) }
 {
-    if is_null(a) || is_null(b) {
+    if a.is_null() || b.is_null() {
         return None;
     }
-    let order = cmp_values(a, b);
+    let order = cmp_cells(a, b);
     Some(match comparison {
         Comparison::Equal => order.is_eq(),
         Comparison::Different => order.is_ne(),
@@ -178,26 +180,24 @@ impl Filter {
 
     /// Whether the filter is true of a row: `None` where that is unknown, since a null is compared.
     #[cycle(truth)]
-    #[tactic(auto, unfolding(crate::specs::Truth::truth))]
-    pub fn truth(&self, row: &[Value]) -> Option<bool>
-        ensures { result ≡ truth row.now self.now }
+    #[tactic(auto, using(crate::proofs::ShownCells::compared_cells), unfolding(crate::specs::Truth::truth))]
+    pub fn truth<R: RowView>(&self, row: &R) -> Option<bool>
+        ensures { result ≡ truth (R.cells row.now) self.now }
     {
         match &self.test {
             Test::Compare {
                 comparison,
                 column,
                 with,
-            } => {
-                let absent = no_value();
-                let cell = cell_or(row, *column, &absent);
-                match with {
-                    Operand::Constant(value) => compared(*comparison, cell, value),
-                    Operand::Column(other) => {
-                        compared(*comparison, cell, cell_or(row, *other, &absent))
-                    }
+            } => match with {
+                Operand::Constant(value) => {
+                    compared(*comparison, row.cell(*column), value.view())
                 }
-            }
-            Test::IsNull(column) => Some(is_null(cell_or(row, *column, &no_value()))),
+                Operand::Column(other) => {
+                    compared(*comparison, row.cell(*column), row.cell(*other))
+                }
+            },
+            Test::IsNull(column) => Some(row.cell(*column).is_null()),
             Test::Not(part) => negated(part.truth(row)),
             Test::And(parts) => truth_of_all(parts, row),
             Test::Or(parts) => truth_of_any(parts, row),
@@ -220,8 +220,8 @@ fn copy_parts(alloc: Global, parts: &[Filter]) -> Result<Vec<Filter>, AllocError
 /// Whether all of the filters are true.
 #[cycle(truth)]
 #[tactic(auto, using(crate::proofs::Truths::part_smaller))]
-fn truth_of_all(parts: &[Filter], row: &[Value]) -> Option<bool>
-    ensures { result ≡ all_by row.now (parts_of parts.now) }
+fn truth_of_all<R: RowView>(parts: &[Filter], row: &R) -> Option<bool>
+    ensures { result ≡ all_by (R.cells row.now) (parts_of parts.now) }
 {
     let mut known = Some(true);
     for part in parts {
@@ -233,8 +233,8 @@ fn truth_of_all(parts: &[Filter], row: &[Value]) -> Option<bool>
 /// Whether one of the filters is true.
 #[cycle(truth)]
 #[tactic(auto, using(crate::proofs::Truths::part_smaller))]
-fn truth_of_any(parts: &[Filter], row: &[Value]) -> Option<bool>
-    ensures { result ≡ any_by row.now (parts_of parts.now) }
+fn truth_of_any<R: RowView>(parts: &[Filter], row: &R) -> Option<bool>
+    ensures { result ≡ any_by (R.cells row.now) (parts_of parts.now) }
 {
     let mut known = Some(false);
     for part in parts {
@@ -245,11 +245,20 @@ fn truth_of_any(parts: &[Filter], row: &[Value]) -> Option<bool>
 
 /// Whether a filter, if there is one, is true of a row.
 #[tactic(auto, unfolding(crate::specs::Truth::passes))]
-pub fn passes(filter: &Option<Filter>, row: &[Value]) -> bool
-    ensures { result ≡ passes_by filter.now row.now }
+pub fn passes<R: RowView>(filter: &Option<Filter>, row: &R) -> bool
+    ensures { result ≡ passes_by filter.now (R.cells row.now) }
 {
     match filter {
         Some(filter) => filter.truth(row).unwrap_or(false),
         None => true,
+    }
+}
+
+impl View {
+    /// Whether the filter, if there is one, is true of a joined row.
+    pub fn keeps<R: RowView>(&self, row: &R) -> bool
+        ensures { result ≡ passes_by self.now.filter (R.cells row.now) }
+    {
+        passes(&self.filter, row)
     }
 }

@@ -12,9 +12,9 @@ mod cells;
 mod change;
 mod config;
 mod filter;
-mod join;
 mod laws;
 mod limits;
+mod row_view;
 mod rows;
 mod schemas;
 #[cfg(test)]
@@ -29,6 +29,7 @@ pub use config::{Config, FeedConfig, Role, SideTable, Table};
 pub use filter::{Comparison, Filter, Operand, Test, passes};
 pub use laws::{config_law, key_law, limits_law, rows_law, sample_law};
 pub use limits::MAX_COLUMN_NAME_LEN;
+pub use row_view::{RowView, ShownRow};
 pub use rows::{passing_rows, project};
 pub use schemas::output_fields;
 pub use unfit::Unfit;

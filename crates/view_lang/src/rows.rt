@@ -5,21 +5,20 @@ ghost use Rattle.view_lang.specs.Cells.{rows_of};
 ghost use Rattle.view_lang.specs.Truth.{passes as passes_by};
 ghost use Rattle.view_lang.specs.Views.{shown_row};
 
-use crate::cells::{cell_or, no_value};
 use crate::filter::{Filter, passes};
+use crate::row_view::RowView;
 use crate::view::Output;
 use std::alloc::{AllocError, Global};
-use values::{Row, Value};
+use values::Row;
 
 /// The output row that a view with these outputs makes of a joined row.
 #[tactic(auto, using(crate::proofs::Projecting::cell_steps))]
-pub fn project(alloc: Global, outputs: &[Output], row: &[Value]) -> Result<Row, AllocError>
-    ensures { IfOk result (λ shown. shown.items ≡ shown_row outputs.now row.now) }
+pub fn project<R: RowView>(alloc: Global, outputs: &[Output], row: &R) -> Result<Row, AllocError>
+    ensures { IfOk result (λ shown. shown.items ≡ shown_row outputs.now (R.cells row.now)) }
 {
-    let absent = no_value();
     let mut shown = Vec::with_capacity(alloc, outputs.len())?;
     for output in outputs {
-        shown.push(cell_or(row, output.column, &absent).copy(alloc)?)?;
+        shown.push(row.copy_cell(alloc, output.column)?)?;
     }
     Ok(shown)
 }
@@ -35,7 +34,7 @@ pub fn passing_rows(
 {
     let mut kept = Vec::new(alloc);
     for row in rows {
-        if passes(test, &row) {
+        if passes(test, &row.as_slice()) {
             kept.push(row)?;
         }
     }

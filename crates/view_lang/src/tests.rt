@@ -6,8 +6,8 @@ ghost use Rattle.values.specs.Limits.{max_main_rows};
 ghost use Rattle.view_lang.specs.Sums.{CanSum};
 
 use crate::{
-    Aggregate, Change, Comparison, Direction, Filter, GroupOutput, Lookup, Missing, Operand,
-    OrderBy, Output, Outputs, RowChange, Test, View,
+    Aggregate, Change, Comparison, Direction, Filter, GroupOutput, Operand, OrderBy, Output,
+    Outputs, RowChange, RowView, ShownRow, Test, View, project,
 };
 use std::alloc::{AllocError, Global};
 use std::cmp::Ordering;
@@ -59,13 +59,17 @@ fn negation(alloc: Global, filter: Filter) -> Result<Filter, AllocError> {
     })
 }
 
+fn output(alloc: Global, column: usize) -> Result<Output, AllocError> {
+    Ok(Output {
+        name: String::from_str(alloc, "shown")?,
+        column,
+    })
+}
+
 /// A view of the first column.
 fn plain(alloc: Global) -> Result<View, AllocError> {
     let mut outputs = Vec::new(alloc);
-    outputs.push(Output {
-        name: String::from_str(alloc, "shown")?,
-        column: 0,
-    })?;
+    outputs.push(output(alloc, 0)?)?;
     Ok(View {
         name: String::from_str(alloc, "plain")?,
         lookup: None,
@@ -80,9 +84,15 @@ fn plain(alloc: Global) -> Result<View, AllocError> {
 #[test]
 fn a_comparison_with_null_is_unknown(rt: HostRuntime) -> Result<(), Fail> {
     let filter = negation(rt.alloc(), at_least_zero())?;
-    assert_eq!(rt; filter.truth(&row(rt.alloc(), &[5])?), Some(false));
-    assert_eq!(rt; filter.truth(&row(rt.alloc(), &[NULL])?), None);
-    assert_eq!(rt; filter.truth(&row(rt.alloc(), &[-1])?), Some(true));
+    assert_eq!(rt;
+        filter.truth(&row(rt.alloc(), &[5])?.as_slice()),
+        Some(false)
+    );
+    assert_eq!(rt; filter.truth(&row(rt.alloc(), &[NULL])?.as_slice()), None);
+    assert_eq!(rt;
+        filter.truth(&row(rt.alloc(), &[-1])?.as_slice()),
+        Some(true)
+    );
     Ok(())
 }
 
@@ -109,49 +119,42 @@ fn is_null(column: usize) -> Filter {
 fn an_unknown_part_may_leave_all_known(rt: HostRuntime) -> Result<(), Fail> {
     let null = row(rt.alloc(), &[NULL])?;
     let both = pair(rt.alloc(), true, at_least_zero(), is_null(0))?;
-    assert_eq!(rt; both.truth(&null), None);
+    assert_eq!(rt; both.truth(&null.as_slice()), None);
     let one = pair(rt.alloc(), false, at_least_zero(), is_null(0))?;
-    assert_eq!(rt; one.truth(&null), Some(true));
+    assert_eq!(rt; one.truth(&null.as_slice()), Some(true));
     let neither = negation(rt.alloc(), is_null(0))?;
     let both = pair(rt.alloc(), true, at_least_zero(), neither)?;
-    assert_eq!(rt; both.truth(&null), Some(false));
+    assert_eq!(rt; both.truth(&null.as_slice()), Some(false));
     Ok(())
 }
 
 #[test]
 fn keeps_what_is_true(rt: HostRuntime) -> Result<(), Fail> {
     let mut view = plain(rt.alloc())?;
-    assert!(rt; view.keeps(&row(rt.alloc(), &[NULL])?));
+    assert!(rt; view.keeps(&row(rt.alloc(), &[NULL])?.as_slice()));
     view.filter = Some(at_least_zero());
-    assert!(rt; view.keeps(&row(rt.alloc(), &[0])?));
-    assert!(rt; !view.keeps(&row(rt.alloc(), &[NULL])?));
+    assert!(rt; view.keeps(&row(rt.alloc(), &[0])?.as_slice()));
+    assert!(rt; !view.keeps(&row(rt.alloc(), &[NULL])?.as_slice()));
     Ok(())
 }
 
 #[test]
-fn joins_what_is_found(rt: HostRuntime) -> Result<(), Fail> {
-    let mut view = plain(rt.alloc())?;
-    let lookup = Lookup {
-        side: 0,
-        on: 1,
-        missing: Missing::Null,
-        columns: 2,
+fn shows_rows_where_they_lie(rt: HostRuntime) -> Result<(), Fail> {
+    let cells = row(rt.alloc(), &[5, NULL])?;
+    let outputs = [output(rt.alloc(), 1)?, output(rt.alloc(), 0)?];
+    let shown = ShownRow {
+        outputs: &outputs,
+        row: &cells.as_slice(),
     };
-    view.lookup = Some(lookup);
-    let found = view.join(
-        rt.alloc(),
-        row(rt.alloc(), &[1, 7])?,
-        Some(row(rt.alloc(), &[7, 8])?),
-    )?;
-    assert!(rt; found.is_some_and(|cells| is_row(&cells, &[1, 7, 7, 8])));
-    let missing = view.join(rt.alloc(), row(rt.alloc(), &[1, 7])?, None)?;
-    assert!(rt; missing.is_some_and(|cells| is_row(&cells, &[1, 7, NULL, NULL])));
-    view.lookup = Some(Lookup {
-        missing: Missing::Drop,
-        ..lookup
-    });
-    let dropped = view.join(rt.alloc(), row(rt.alloc(), &[1, 7])?, None)?;
-    assert!(rt; dropped.is_none());
+    assert!(rt; shown.cell(0).is_null());
+    assert!(rt; !shown.cell(1).is_null());
+    assert!(rt; shown.cell(2).is_null());
+    assert!(rt;
+        is_row(
+            &project(rt.alloc(), &outputs, &cells.as_slice())?,
+            &[NULL, 5]
+        )
+    );
     Ok(())
 }
 

@@ -1,8 +1,7 @@
 use Rattle.std.proofs.Common.{◌∙◌, ap, arith, get_or, length, sym}
 use Rattle.std.proofs.lemmas.Option.{get_or_from_slice_get}
-use Rattle.values.specs.Datum.{null}
+use Rattle.values.specs.Datum.{null, is_null}
 use Rattle.std.specs.Prelude.{Some}
-use Rattle.view_lang.specs.Cells.{is_null}
 use Rattle.column_truths.specs.Compared.{nulls_in}
 use Rattle.column_truths.proofs.Gathering.{
   gathered_step,

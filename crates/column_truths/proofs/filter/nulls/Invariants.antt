@@ -1,7 +1,6 @@
 use Rattle.std.proofs.Common.{get_or}
-use Rattle.values.specs.Datum.{null}
+use Rattle.values.specs.Datum.{null, is_null}
 use Rattle.std.specs.Prelude.{Some}
-use Rattle.view_lang.specs.Cells.{is_null}
 use Rattle.column_truths.proofs.Gathering.{Gathered}
 use Rattle.column_truths.proofs.filter.nulls.Given as goal
 

@@ -5,14 +5,14 @@ use Rattle.group_state.proofs.Halfway.{Halfway, halfway-none, halfway-all, halfw
 use Rattle.group_state.proofs.group.remove_each.Goals as goal
 
 pub loop-i-init : goal.loop-i-init
-loop-i-init c = λ rows k. halfway-none _ _ _ _ k
+loop-i-init g c = λ rows k. halfway-none _ _ _ _ k
 
 pub loop-i-preserved : goal.loop-i-preserved
-loop-i-preserved c = λ rows k.
+loop-i-preserved g c = λ rows k.
     let h = c.loop-i.invariant rows k in
     halfway-more _ _ _ _ _ _ h c.loop-i-test.true
     (c.in_ok-remove.ensures (cells _ rows)
     (h.ahead c.loop-i.i c.index-tallies-i.result (omega arith) c.loop-i-test.true))
 
 pub returns : goal.returns
-returns c = λ rows k. halfway-all _ _ _ _ _ c.loop-i-test.false (c.loop-i.invariant rows k)
+returns g c = λ rows k. halfway-all _ _ _ _ _ c.loop-i-test.false (c.loop-i.invariant rows k)

@@ -5,5 +5,5 @@ use Rattle.group_state.proofs.Halfway.{Halfway}
 use Rattle.group_state.proofs.group.remove_each.Given as goal
 
 abbrev pub invariant-loop-i : goal.invariant-loop-i
-invariant-loop-i l = (rows : List (List Datum)) → KeepsEach l.columns l.fn.tallies (l.row ∷ rows)
-    → Halfway l.columns l.tallies l.i rows (l.row ∷ rows)
+invariant-loop-i g l = (rows : List (List Datum)) → KeepsEach l.columns l.fn.tallies (g.R.RowView.cells l.row ∷ rows)
+    → Halfway l.columns l.tallies l.i rows (g.R.RowView.cells l.row ∷ rows)

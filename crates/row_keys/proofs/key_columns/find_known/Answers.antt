@@ -8,13 +8,13 @@ loop-index-preserved c = elim c.match-find.branch [
   | in-Some+in_ok-push w ↦
       rw (w.found-is, w.in_ok-push.ensures.items)
       (known_found c.args.column.now.cells c.loop-index.index w.in-Some.number c.args.numbers.now
-      c.loop-index.found.items c.in_ok-key.key
+      c.loop-index.found.items c.in_ok-key.key.now
       (omega (arith, c.loop-index-test.true, c.len-index-end.ensures)) c.loop-index.invariant c.in_ok-key.ensures
       w.in-Some.ensures)
   | in_default w ↦
       rw w.found-is
       (known_passed c.args.column.now.cells c.loop-index.index c.args.numbers.now c.loop-index.found.items
-      c.in_ok-key.key
+      c.in_ok-key.key.now
       (omega (arith, c.loop-index-test.true, c.len-index-end.ensures)) c.loop-index.invariant c.in_ok-key.ensures
       w.in_default.ensures)
 ]

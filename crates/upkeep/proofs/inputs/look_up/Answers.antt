@@ -1,4 +1,5 @@
 use Rattle.std.proofs.Common.{◌+◌, add-one}
+use Rattle.values.specs.CellViews.{viewed}
 use Rattle.upkeep.proofs.InputRows.{look_row, look_side}
 use Rattle.upkeep.proofs.inputs.look_up.Goals as goal
 
@@ -10,5 +11,5 @@ row_with_key-requires c =
 pub returns : goal.returns
 returns c =
     look_row c.args.stores.now c.args.lookup c.in-Some.lookup (c.in-Some.lookup.side + 1) c.index-stores-lookup.result
-    c.args.row.now c.cell_or-cell.result.now c.row_with_key.result c.requires c.in-Some.is
-    (add-one c.in-Some.lookup.side) c.index-stores-lookup.is c.cell_or-cell.ensures c.row_with_key.ensures.row
+    c.args.row.now (viewed c.cell.result) c.row_with_key.result c.requires c.in-Some.is
+    (add-one c.in-Some.lookup.side) c.index-stores-lookup.is c.cell.ensures c.row_with_key.ensures.row

@@ -11,6 +11,7 @@ use Rattle.std.proofs.Common.{
   false,
   length,
   not,
+  refl,
   subst,
   sym,
   true,
@@ -29,7 +30,7 @@ use Rattle.upkeep.specs.Touched.{refers_by}
 use Rattle.upkeep.specs.Stores.{rows_at, rows_in, tables_in, visits_in}
 use Rattle.upkeep.specs.StoreLaws.{rows_length, rows_there}
 use Rattle.upkeep.specs.ViewStates.{looks_up}
-use Rattle.upkeep.proofs.FollowedLookups.{Laws, applied, apply_needs, counted, left_as_was, neither_one, on_ok, there}
+use Rattle.upkeep.proofs.FollowedLookups.{Laws, counted, left_as_was, neither_one, on_ok, remade_kept, remake_needs, there}
 use Rattle.upkeep.proofs.lookup_views.follow_lookup.Goals as goal
 
 pub returns-then-state-looks_up-clause-kept : goal.returns-then-state-looks_up-clause-kept
@@ -71,38 +72,6 @@ remake_rows-requires-clause-numbers c =
     c.requires.side (rows_below c.args.stores.now.items c.args.table c.requires.there) seen.1 seen.0
     c.requires.keys named ascends c.requires.current.0 c.requires.current.1 c.requires.current.2
 
-pub returns-in_err-remade-clause-visits : goal.returns-in_err-remade-clause-visits
-returns-in_err-remade-clause-visits c =
-    let laws : Laws = record {
-      fits = c.image_law.ensures.fits;
-      patched = c.image_law.ensures.patched;
-      at = c.image_law.ensures.at;
-      keys = c.key_law.ensures.ordered;
-      ascend = c.numbers_law.ensures.ascend;
-      live = c.numbers_law.ensures.live;
-      numbers = c.numbers_law.ensures.at;
-      can_go = c.numbers_law.ensures.can_go;
-      retracted = c.numbers_law.ensures.retracted;
-      come_back = c.numbers_law.ensures.come_back;
-      add = c.numbers_law.ensures.add;
-      few = c.numbers_law.ensures.few_retracted;
-    } in
-    let seen : (c.args.state.now.stale ≡ false) × (looks_up c.args.view.now.lookup c.args.table ≡ true) =
-    neither_one c.args.state.now.stale (looks_up c.args.view.now.lookup c.args.table)
-    (ap (λ b. c.args.state.now.stale || not b) (sym c.looks_up.ensures) ∙ c.if-state-looks_up.false) in
-    let named : (m : ℕ) → is_among c.deref.result.now m
-    ≡ list_any (λ k. refers c.args.state.now.referrers k m) c.args.keys.now = λ m.
-    ap (λ ns. is_among ns m) c.deref.ensures.value ∙ c.in_ok-numbers.ensures.numbers m in
-    let ascends : IsStrictlySortedBy nat_cmp c.deref.result.now =
-    subst (λ (ns : List ℕ). IsStrictlySortedBy nat_cmp ns) (sym c.deref.ensures.value)
-    c.in_ok-numbers.ensures.ascending in
-    let opened = c.remake_rows.ensures.visits in
-    let less = counted laws (tables_in c.args.stores.now.items) c.args.table c.args.turn c.args.change.now
-    (rows_in c.args.stores.now.items) c.args.view.now c.args.state.now c.args.keys.now c.deref.result.now
-    c.requires.side (rows_below c.args.stores.now.items c.args.table c.requires.there) seen.1 seen.0
-    c.requires.keys named ascends c.requires.current.0 c.requires.current.1 c.requires.current.2 in
-    omega (arith, opened, less)
-
 pub returns-clause-visits : goal.returns-clause-visits
 returns-clause-visits c =
     let laws : Laws = record {
@@ -135,8 +104,8 @@ returns-clause-visits c =
     c.requires.keys named ascends c.requires.current.0 c.requires.current.1 c.requires.current.2 in
     omega (arith, opened, less)
 
-pub apply-requires : goal.apply-requires
-apply-requires c = λ fresh.
+pub remake_rows-requires-clause-fits : goal.remake_rows-requires-clause-fits
+remake_rows-requires-clause-fits c =
     let laws : Laws = record {
       fits = c.image_law.ensures.fits;
       patched = c.image_law.ensures.patched;
@@ -164,11 +133,11 @@ apply-requires c = λ fresh.
     subst (λ (slots : List Slot). length (live slots) ≤ c.index.result.now.table.max_rows)
     (sym (rows_there c.args.stores.now.items 0 c.index.result.now c.index.ensures c.requires.main))
     c.rows_law.ensures.few in
-    apply_needs laws (tables_in c.args.stores.now.items) c.args.table c.args.turn c.args.change.now
+    remake_needs laws (tables_in c.args.stores.now.items) c.args.table c.args.turn c.args.change.now
     (rows_in c.args.stores.now.items) c.args.view.now c.args.state.now c.args.keys.now c.deref.result.now
     c.requires.side (rows_below c.args.stores.now.items c.args.table c.requires.there) seen.1 seen.0
     c.requires.keys named ascends c.requires.current.0 c.requires.current.1 c.requires.current.2
-    c.in_ok-remade.remade.made c.index.result.now.table c.in_ok-remade.ensures.made c.rows_law.ensures.table few
+    c.index.result.now.table c.rows_law.ensures.table few
 
 pub returns-clause-kept : goal.returns-clause-kept
 returns-clause-kept c =
@@ -195,11 +164,12 @@ returns-clause-kept c =
     let ascends : IsStrictlySortedBy nat_cmp c.deref.result.now =
     subst (λ (ns : List ℕ). IsStrictlySortedBy nat_cmp ns) (sym c.deref.ensures.value)
     c.in_ok-numbers.ensures.ascending in
-    on_ok _ _ c.apply.result
+    on_ok _ _ c.remake_rows.result
     (λ kept old before current.
-    applied laws (tables_in c.args.stores.now.items) c.args.table c.args.turn c.args.change.now
+    remade_kept laws (tables_in c.args.stores.now.items) c.args.table c.args.turn c.args.change.now
     (rows_in c.args.stores.now.items) c.args.view.now c.args.state.now c.args.keys.now c.deref.result.now
     c.requires.side (rows_below c.args.stores.now.items c.args.table c.requires.there) seen.1 seen.0
-    c.requires.keys named ascends old before current c.in_ok-remade.remade.made c.apply.new.self
-    c.in_ok-remade.ensures.made c.apply.ensures.referrers kept)
-    c.apply.ensures.kept
+    c.requires.keys named ascends old before current
+    (record { stale = c.args.state.now.stale; kept = c.remake_rows.new.kept; referrers = c.args.state.now.referrers })
+    refl kept)
+    c.remake_rows.ensures.kept

@@ -3,4 +3,4 @@ use Rattle.top_rows.specs.SortKeys.{sort_keys_of}
 use Rattle.group_order.proofs.place.GroupPlace.of.Given as goal
 
 abbrev pub invariant-loop-by : goal.invariant-loop-by
-invariant-loop-by l = l.sort_keys.items ≡ sort_keys_of (take l.by-index l.order) l.row
+invariant-loop-by g l = l.sort_keys.items ≡ sort_keys_of (take l.by-index l.order) (g.R.RowView.cells l.row)

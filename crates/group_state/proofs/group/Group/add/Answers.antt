@@ -7,13 +7,13 @@ use Rattle.group_state.specs.Rows.{KeepsEach, KeepsRows}
 use Rattle.group_state.proofs.group.Group.add.Goals as goal
 
 pub returns : goal.returns
-returns c = λ rows k.
-    let v = subst (λ (g : GroupCounts). KeepsRows c.args.columns.now g rows) (sym c.self.view_is) k in
+returns g c = λ rows k.
+    let v = subst (λ (x : GroupCounts). KeepsRows c.args.columns.now x rows) (sym c.self.view_is) k in
     let n = c.add_each.auto.tallies ∙ c.as_mut_slice.ensures.len in
     let t = rw (← c.as_mut_slice.ensures.value) at v.tallies_are in
     record {
       rows_are = let m = v.rows_are in omega (arith, m);
       tallies_are =
-          subst (λ (ts : List Tally). KeepsEach c.args.columns.now ts (c.args.row.now ∷ rows))
+          subst (λ (ts : List Tally). KeepsEach c.args.columns.now ts (g.R.RowView.cells c.args.row.now ∷ rows))
           (sym (with_items_is c.self.inside.tallies c.add_each.new.tallies n)) (c.in_ok-add_each.ensures rows t);
     }

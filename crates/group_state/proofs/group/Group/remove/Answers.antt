@@ -7,8 +7,8 @@ use Rattle.group_state.specs.Rows.{KeepsEach, KeepsRows}
 use Rattle.group_state.proofs.group.Group.remove.Goals as goal
 
 pub returns : goal.returns
-returns c = λ rows k.
-    let v = subst (λ (g : GroupCounts). KeepsRows c.args.columns.now g (c.args.row.now ∷ rows)) (sym c.self.view_is) k
+returns g c = λ rows k.
+    let v = subst (λ (x : GroupCounts). KeepsRows c.args.columns.now x (g.R.RowView.cells c.args.row.now ∷ rows)) (sym c.self.view_is) k
     in
     let n = c.remove_each.auto.tallies ∙ c.as_mut_slice.ensures.len in
     let t = rw (← c.as_mut_slice.ensures.value) at v.tallies_are in

@@ -14,24 +14,24 @@ use Rattle.group_state.proofs.Touched.{others-stay}
 use Rattle.group_state.proofs.groups.Groups.remove.Goals as goal
 
 pub take_row-requires : goal.take_row-requires
-take_row-requires c =
-    let k = subst (λ (g : Grouped). Keeps g (c.args.row.now ∷ c.requires.0)) (sym c.self.view_is) c.requires.1 in
+take_row-requires g c =
+    let k = subst (λ (x : Grouped). Keeps x (g.R.RowView.cells c.args.row.now ∷ c.requires.0)) (sym c.self.view_is) c.requires.1 in
     rw (c.as_slice-2.ensures.value, c.in_ok-tuple.ensures, c.as_slice.ensures.value)
     (take-needs c.self.inside.keys.items c.self.inside.columns.items c.self.inside.groups.entries
-    c.self.inside.groups.entries c.args.row.now c.requires.0 k)
+    c.self.inside.groups.entries (g.R.RowView.cells c.args.row.now) c.requires.0 k)
 
 pub returns-clause-kept : goal.returns-clause-kept
-returns-clause-kept c = λ rows k.
-    let v = subst (λ (g : Grouped). Keeps g (c.args.row.now ∷ rows)) (sym c.self.view_is) k in
+returns-clause-kept g c = λ rows k.
+    let v = subst (λ (x : Grouped). Keeps x (g.R.RowView.cells c.args.row.now ∷ rows)) (sym c.self.view_is) k in
     let here = rw (c.as_slice-2.ensures.value, c.in_ok-tuple.ensures, c.as_slice.ensures.value) at
     c.in_ok-take_row.ensures.here in
     let others = rw (c.in_ok-tuple.ensures, c.as_slice.ensures.value) at c.in_ok-take_row.ensures.others in
     keeps-take c.self.inside.keys.items c.self.inside.columns.items c.self.inside.groups.entries
-    c.take_row.new.groups.entries c.args.row.now rows others here v
+    c.take_row.new.groups.entries (g.R.RowView.cells c.args.row.now) rows others here v
 
 pub returns-clause-others : goal.returns-clause-others
-returns-clause-others c =
+returns-clause-others g c =
     let others = rw (c.in_ok-tuple.ensures, c.as_slice.ensures.value) at c.in_ok-take_row.ensures.others in
-    others-stay c.self.inside.keys.items c.args.self.now.keys c.args.row.now c.self.inside.groups.entries
+    others-stay c.self.inside.keys.items c.args.self.now.keys (g.R.RowView.cells c.args.row.now) c.self.inside.groups.entries
     c.take_row.new.groups.entries c.args.self.now.groups (ap (λ (g : Grouped). g.keys) c.self.view_is)
     (ap (λ (g : Grouped). g.groups) c.self.view_is) others

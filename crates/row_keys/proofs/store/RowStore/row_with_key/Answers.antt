@@ -1,4 +1,7 @@
-use Rattle.std.proofs.Common.{◌≡◌, None, subst, sym, ◌∙◌}
+use Rattle.std.proofs.Common.{◌≡◌, None, ap, subst, sym, ◌∙◌}
+use Rattle.std.specs.Option.{option_copied}
+use Rattle.values.specs.Keys.{key_of}
+use Rattle.values.proofs.ShallowLemmas.{key_of-shallow}
 use Rattle.view_lang.specs.Joined.{side_of}
 use Rattle.row_keys.specs.Slots.{contents_of}
 use Rattle.row_keys.specs.Store.{Store}
@@ -6,10 +9,10 @@ use Rattle.row_keys.specs.Stored.{rows_by}
 use Rattle.row_keys.proofs.Looking.{unknown_kind}
 use Rattle.row_keys.proofs.store.RowStore.row_with_key.Goals as goal
 
-pub returns-in_default-clause-row : goal.returns-in_default-clause-row
-returns-in_default-clause-row c =
-    let P : Store → Type 0 = λ s. None ≡ side_of s.table (contents_of s.slots) c.args.cell.now in
+pub returns-in-None-clause-row : goal.returns-in-None-clause-row
+returns-in-None-clause-row c = λ d same.
+    let P : Store → Type 0 = λ s. None ≡ side_of s.table (contents_of s.slots) d in
     subst P c.self.view_is
     (sym (unknown_kind c.self.inside.table (rows_by c.self.inside.batches.items c.self.inside.locations.items)
-    c.self.inside.numbers c.self.inside.visits c.args.cell.now c.self.invariant.keyed
-    (sym c.in_ok-key.ensures ∙ c.in_default.is)))
+    c.self.inside.numbers c.self.inside.visits d c.self.invariant.keyed
+    (sym (key_of-shallow d) ∙ ap key_of (sym same) ∙ sym c.in_ok-key.ensures ∙ ap option_copied c.in-None.is)))

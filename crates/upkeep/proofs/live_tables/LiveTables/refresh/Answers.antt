@@ -1,4 +1,6 @@
-use Rattle.std.proofs.Common.{◌<◌, ap, length, subst, sym}
+use Rattle.std.proofs.Common.{◌<◌, ap, length, subst, sym, ◌∙◌}
+use Rattle.upkeep.specs.LiveParts.{AreLive}
+use Rattle.upkeep.specs.ViewStates.{stale_in}
 use Rattle.upkeep.proofs.Refreshing.{fresh_at, fresh_was, opened_stays, refreshed}
 use Rattle.upkeep.proofs.SideEdits.{live_many}
 use Rattle.upkeep.proofs.live_tables.LiveTables.refresh.Goals as goal
@@ -19,29 +21,29 @@ invariant_of-self c =
     c.self.inside.states.items
     (record { tables = c.in_err-state.ensures.tables; rows = c.in_err-state.ensures.rows }) c.self.invariant
 
-pub index_mut-requires : goal.index_mut-requires
-index_mut-requires c =
+pub replace_state-requires : goal.replace_state-requires
+replace_state-requires c =
     let below : c.args.place < length c.self.inside.views.items =
     subst (λ n. c.args.place < n) (ap (λ p. length p.views) (sym c.self.view_is)) c.requires in
-    let there : c.args.place < length c.self.inside.states.items =
     subst (λ n. c.args.place < n)
     (sym (live_many c.self.inside.stores.items c.self.inside.views.items c.self.inside.states.items c.self.invariant))
-    below in
-    subst (λ n. c.args.place < n) (sym c.self.inside.states.ok.0) there
+    below
 
 pub invariant_of-self-then-index : goal.invariant_of-self-then-index
 invariant_of-self-then-index c =
     let below : c.args.place < length c.self.inside.views.items =
     subst (λ n. c.args.place < n) (ap (λ p. length p.views) (sym c.self.view_is)) c.requires in
-    refreshed c.self.inside.stores.items c.rebuild.new.stores.items c.self.inside.views.items c.self.inside.states.items
-    c.args.place c.index-then-index.result.now c.in_ok-state.state
+    subst (AreLive c.rebuild.new.stores.items c.self.inside.views.items) (sym c.replace_state.ensures)
+    (refreshed c.self.inside.stores.items c.rebuild.new.stores.items c.self.inside.views.items
+    c.self.inside.states.items c.args.place c.index-then-index.result.now c.in_ok-state.state
     (record { tables = c.in_ok-state.ensures.tables; rows = c.in_ok-state.ensures.rows })
-    c.index-then-index.ensures below c.in_ok-state.ensures.current c.self.invariant
+    c.index-then-index.ensures below c.in_ok-state.ensures.current c.self.invariant)
 
 pub returns-in_ok-state-clause-stale : goal.returns-in_ok-state-clause-stale
 returns-in_ok-state-clause-stale c =
     rw (← c.self.view_is)
-    (fresh_at c.self.inside.states.items c.args.place c.in_ok-state.state c.in_ok-state.ensures.fresh)
+    (ap stale_in c.replace_state.ensures
+    ∙ fresh_at c.self.inside.states.items c.args.place c.in_ok-state.state c.in_ok-state.ensures.fresh)
 
 pub returns-else-index-clause-stale : goal.returns-else-index-clause-stale
 returns-else-index-clause-stale c =

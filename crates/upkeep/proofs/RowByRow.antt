@@ -1,0 +1,397 @@
+-- Rows that come or go one by one.
+use Rattle.std.proofs.Common.{
+  ◌≡◌,
+  ℕ,
+  zero,
+  suc,
+  ◌+◌,
+  ◌<◌,
+  ◌≤◌,
+  Bool,
+  true,
+  false,
+  cond,
+  List,
+  [],
+  ◌∷◌,
+  ◌++◌,
+  Option,
+  None,
+  Some,
+  get_or,
+  length,
+  map,
+  take,
+  refl,
+  ap,
+  sym,
+  subst,
+  ◌∙◌,
+  arith,
+  true≢false,
+}
+use Rattle.std.specs.Prelude.{◌^◌, if◌then◌else◌, is_some, slice_set}
+use Rattle.std.specs.BTreeMap.{insert_entry, is_at}
+use Rattle.std.specs.List.Sorted.{IsStrictlySortedBy}
+use Rattle.std.specs.Map.{keys_of, lookup, remove_entry}
+use Rattle.std.specs.Ordering.{match_ordering, nat_cmp}
+use Rattle.std.specs.declared.cmp.Ordering.{Ordering}
+use Rattle.std.specs.declared.cmp.Ordering.TheVariants as ordering
+use Rattle.std.specs.Cmp.{nat_cmp_total}
+use Rattle.std.proofs.lemmas.List.{get_or_default, length-append, length-map, take_all}
+use Rattle.values.specs.Datum.{Datum}
+use Rattle.view_lang.specs.Counted.{fits-at, patched-more}
+use Rattle.view_lang.specs.Config.{Table, View}
+use Rattle.view_lang.specs.Images.{shift_image}
+use Rattle.view_lang.specs.Outputs.{Output, Outputs, columns}
+use Rattle.view_lang.specs.Shifts.{
+  Fits,
+  FitsInTurn,
+  IsFew,
+  NumberedRows,
+  Shift,
+  patched,
+  row_at,
+  shift,
+  with_at,
+}
+use Rattle.view_lang.specs.SortedEntries.{sorted-insert_entry, sorted-remove_entry}
+use Rattle.view_lang.specs.Views.{shown_row}
+use Rattle.view_lang.specs.declared.view.OrderBy.{OrderBy}
+use Rattle.top_rows.specs.Keeping.{Keeps as KeepsOrder}
+use Rattle.top_rows.specs.OrderedPlaces.{OrderedPlaces}
+use Rattle.row_keys.specs.Slots.{Slot, no_slot, row_of}
+use Rattle.row_keys.specs.Store.{Store, visited}
+use Rattle.upkeep.specs.Inputs.{side_by}
+use Rattle.upkeep.specs.StoreLaws.{rows_there, set_same, tables_length}
+use Rattle.upkeep.specs.Stores.{Rows, rows_at, rows_in, tables_in}
+use Rattle.upkeep.specs.ViewStates.{
+  IsKept,
+  made_by,
+  made_change,
+  made_row,
+  referring_change,
+  referring_row,
+  turned,
+  turned_by,
+}
+use Rattle.upkeep.specs.declared.view_state.Kept.{Kept}
+use Rattle.upkeep.specs.declared.view_state.Kept.TheVariants as kept
+use Rattle.upkeep.specs.declared.view_state.Turn.{Turn}
+use Rattle.upkeep.specs.declared.view_state.Turn.TheVariants as turn
+
+-- A change in which one row comes or goes
+
+module _ (t : Turn) (n : ℕ) (row : List Datum) (rows : NumberedRows) where
+  pub come_fits : t ≡ turn.Come → Fits rows (turned_by t n (Some row) ∷ [])
+      → IsStrictlySortedBy nat_cmp (keys_of rows) × (row_at n rows ≡ None)
+  come_fits is fits =
+      let f = subst (λ (u : Turn). Fits rows (turned_by u n (Some row) ∷ [])) is fits in (f.ascending, f.in_turn.0)
+
+  pub go_fits : t ≡ turn.Go → Fits rows (turned_by t n (Some row) ∷ [])
+      → IsStrictlySortedBy nat_cmp (keys_of rows) × (row_at n rows ≡ Some row)
+  go_fits is fits =
+      let f = subst (λ (u : Turn). Fits rows (turned_by u n (Some row) ∷ [])) is fits in (f.ascending, f.in_turn.0)
+
+  pub come_patched : t ≡ turn.Come → patched rows (turned_by t n (Some row) ∷ []) ≡ with_at n (Some row) rows
+  come_patched is = ap (λ (u : Turn). patched rows (turned_by u n (Some row) ∷ [])) is
+
+  pub go_patched : t ≡ turn.Go → patched rows (turned_by t n (Some row) ∷ []) ≡ with_at n None rows
+  go_patched is = ap (λ (u : Turn). patched rows (turned_by u n (Some row) ∷ [])) is
+
+-- where there is no row nothing changes
+
+absent-by : (b : Bool) (e : ℕ × List Datum) (es rest : NumberedRows) (o : Option (List Datum))
+    → (o ≡ None → rest ≡ es) → cond b (Some e.1) o ≡ None → cond b es (e ∷ rest) ≡ e ∷ es
+absent-by true e es rest o same some = absurd (true≢false (ap is_some some))
+absent-by false e es rest o same none = ap (λ xs. e ∷ xs) (same none)
+
+absent : (test : ℕ → Bool) (es : NumberedRows) → lookup test es ≡ None → remove_entry test es ≡ es
+absent test [] h = refl
+absent test (e ∷ es) h =
+    absent-by (test e.0) e es (remove_entry test es) (lookup test es) (λ n. absent test es n) h
+
+none_patched : (t : Turn) (n : ℕ) (rows : NumberedRows) → Fits rows (turned_by t n None ∷ [])
+    → patched rows (turned_by t n None ∷ []) ≡ rows
+none_patched turn.Come n rows fits = absent (is_at (nat_cmp n)) rows fits.in_turn.0
+none_patched turn.Go n rows fits = absent (is_at (nat_cmp n)) rows fits.in_turn.0
+
+-- what is kept of the rows is kept of them then
+pub still_kept :
+    (P : NumberedRows → Type 0) (change : List Shift) (t : Turn) (n : ℕ) (row : Option (List Datum)) (rows : NumberedRows)
+    → change ≡ turned_by t n row ∷ [] → row ≡ None → Fits rows change → P rows → P (patched rows change)
+still_kept P change t n row rows is none fits kept =
+    let one : change ≡ turned_by t n None ∷ [] = is ∙ ap (λ o. turned_by t n o ∷ []) none in
+    subst P (sym (ap (patched rows) one ∙ none_patched t n rows (subst (Fits rows) one fits))) kept
+
+-- The change of one number
+
+module _ (make : List Datum → Option (List Datum)) (slots : List Slot) (n : ℕ) where
+  pub live_change : (t : Turn) → (t ≡ turn.Go → (get_or slots n no_slot).live ≡ true)
+      → map (shift_image make) (turned t slots (n ∷ [])) ≡ turned_by t n (make (row_of slots n)) ∷ []
+  live_change turn.Come live = refl
+  live_change turn.Go live = by (get_or slots n no_slot).live (live refl) where
+    by : (b : Bool) → b ≡ true
+        → shift_image make (shift n (if b then Some (row_of slots n) else None) None) ∷ []
+        ≡ turned_by turn.Go n (make (row_of slots n)) ∷ []
+    by true h = refl
+    by false h = absurd (true≢false (sym h))
+
+  pub dead_change : (t : Turn) → t ≡ turn.Go → (get_or slots n no_slot).live ≡ false
+      → map (shift_image make) (turned t slots (n ∷ [])) ≡ turned_by t n None ∷ []
+  dead_change turn.Come is dead = absurd (cc)
+  dead_change turn.Go is dead = by (get_or slots n no_slot).live dead where
+    by : (b : Bool) → b ≡ false
+        → shift_image make (shift n (if b then Some (row_of slots n) else None) None) ∷ []
+        ≡ turned_by turn.Go n None ∷ []
+    by true h = absurd (true≢false h)
+    by false h = refl
+
+-- Changes one after the other
+
+module _ (make : List Datum → Option (List Datum)) (slots : List Slot) where
+  pub one_of : (t : Turn) (ns : List ℕ) (i : ℕ) (d : Shift) → i < length ns
+      → get_or (map (shift_image make) (turned t slots ns)) i d ∷ []
+      ≡ map (shift_image make) (turned t slots (get_or ns i 0 ∷ []))
+  one_of t [] i d below = absurd (omega (arith, below))
+  one_of turn.Come (n ∷ ns) zero d below = refl
+  one_of turn.Go (n ∷ ns) zero d below = refl
+  one_of turn.Come (n ∷ ns) (suc i) d below = one_of turn.Come ns i d (omega (arith, below))
+  one_of turn.Go (n ∷ ns) (suc i) d below = one_of turn.Go ns i d (omega (arith, below))
+
+  turned_many : (t : Turn) (ns : List ℕ) → length (turned t slots ns) ≡ length ns
+  turned_many turn.Come ns = length-map ns _
+  turned_many turn.Go ns = length-map ns _
+
+  pub change_many : (t : Turn) (ns : List ℕ) → length (map (shift_image make) (turned t slots ns)) ≡ length ns
+  change_many t ns = length-map (turned t slots ns) (shift_image make) ∙ turned_many t ns
+
+one_longer-by : (o : Ordering) (a b c : NumberedRows) (k : ℕ) → length a ≤ k → length b ≤ k → length c ≤ k
+    → length (match_ordering o a b c) ≤ k
+one_longer-by ordering.Less a b c k x y z = x
+one_longer-by ordering.Equal a b c k x y z = y
+one_longer-by ordering.Greater a b c k x y z = z
+
+one_longer : (rows : NumberedRows) (n : ℕ) (row : List Datum) → length (insert_entry nat_cmp rows n row)
+    ≤ suc (length rows)
+one_longer [] n row = omega arith
+one_longer (e ∷ es) n row =
+    let rest = one_longer es n row in
+    one_longer-by (nat_cmp n e.0) ((n, row) ∷ e ∷ es) ((e.0, row) ∷ es) (e ∷ insert_entry nat_cmp es n row)
+    (suc (suc (length es))) (omega arith) (omega arith) (omega (arith, rest))
+
+shorter-by : (b : Bool) (a c : NumberedRows) (k : ℕ) → length a ≤ k → length c ≤ k → length (cond b a c) ≤ k
+shorter-by true a c k x y = x
+shorter-by false a c k x y = y
+
+shorter : (test : ℕ → Bool) (es : NumberedRows) → length (remove_entry test es) ≤ length es
+shorter test [] = omega arith
+shorter test (e ∷ es) =
+    let rest = shorter test es in
+    shorter-by (test e.0) es (e ∷ remove_entry test es) (suc (length es)) (omega arith) (omega (arith, rest))
+
+with_few : (n : ℕ) (a : Option (List Datum)) (rows : NumberedRows) → length (with_at n a rows) ≤ suc (length rows)
+with_few n None rows = let less = shorter (is_at (nat_cmp n)) rows in omega (arith, less)
+with_few n (Some row) rows = one_longer rows n row
+
+patched_few : (rows : NumberedRows) (es : List Shift) → length (patched rows es) ≤ length rows + length es
+patched_few rows [] = omega arith
+patched_few rows (e ∷ es) =
+    let one = with_few e.number e.after rows in
+    let rest = patched_few (with_at e.number e.after rows) es in omega (arith, one, rest)
+
+taken_few : (es : List Shift) (i : ℕ) → length (take i es) ≤ length es
+taken_few [] zero = omega arith
+taken_few [] (suc i) = omega arith
+taken_few (e ∷ es) zero = omega arith
+taken_few (e ∷ es) (suc i) = let rest = taken_few es i in omega (arith, rest)
+
+-- When the changes before it are made, the next fits, and there is room for it.
+pub record IsNext (rows : NumberedRows) (es one : List Shift) (i : ℕ) : Type 0 where
+  pub fits : Fits (patched rows (take i es)) one
+  pub more : patched rows (take (i + 1) es) ≡ patched (patched rows (take i es)) one
+
+pub next_of : (make : List Datum → Option (List Datum)) (t : Turn) (slots : List Slot) (ns : List ℕ) (i : ℕ)
+    (rows : NumberedRows) → i < length ns → Fits rows (map (shift_image make) (turned t slots ns))
+    → IsNext rows (map (shift_image make) (turned t slots ns))
+    (map (shift_image make) (turned t slots (get_or ns i 0 ∷ []))) i
+next_of make t slots ns i rows below fits =
+    let es : List Shift = map (shift_image make) (turned t slots ns) in
+    let e : Shift = get_or es i (shift 0 None None) in
+    let many = change_many make slots t ns in
+    let inside : i < length es = omega (arith, below, many) in
+    let is : e ≡ get_or es i e = get_or_default es i (shift 0 None None) e inside in
+    let one = one_of make slots t ns i (shift 0 None None) below in
+    let step : i + 1 ≡ suc i = omega arith in
+    let at = fits-at rows es fits i e inside is in
+    record {
+      fits = subst (Fits (patched rows (take i es))) one (record { ascending = at.0; in_turn = (at.1, tt) });
+      more = ap (λ k. patched rows (take k es)) step ∙ patched-more rows es i e inside is
+          ∙ ap (patched (patched rows (take i es))) one;
+    }
+
+pub few_next : (rows : NumberedRows) (es : List Shift) (i : ℕ) → IsFew rows es
+    → length (patched rows (take i es)) < 2 ^ 62
+few_next rows es i few =
+    let a = patched_few rows (take i es) in
+    let b = taken_few es i in omega (arith, few, a, b)
+
+-- A row of the main table that is visited
+
+module _ (stores now : List Store) (s s' read : Store) (v : View) (n visit : ℕ) (row : List Datum)
+    (is : s ≡ get_or stores 0 s) (main : 0 < length stores) (counted : s' ≡ visited 1 s)
+    (set : now ≡ slice_set stores 0 s') (at : read ≡ get_or now 0 read) (number : visit ≡ n)
+    (here : row ≡ row_of read.slots visit) where
+  now_tables : tables_in now ≡ tables_in stores
+  now_tables =
+      ap tables_in set
+      ∙ set_same (λ (x : Store). x.table) stores 0 s s' is (ap (λ (x : Store). x.table) counted)
+
+  now_rows : rows_in now ≡ rows_in stores
+  now_rows =
+      ap rows_in set ∙ set_same (λ (x : Store). x.slots) stores 0 s s' is (ap (λ (x : Store). x.slots) counted)
+
+  row_is : row ≡ row_of (rows_at (rows_in stores) 0) n
+  row_is =
+      let before = tables_length stores in
+      let after = tables_length now in
+      let same = ap length now_tables in
+      let below : 0 < length now = omega (arith, main, before, after, same) in
+      here ∙ ap (row_of read.slots) number
+      ∙ ap (λ (ss : List Slot). row_of ss n) (sym (rows_there now 0 read at below))
+      ∙ ap (λ (rs : Rows). row_of (rows_at rs 0) n) now_rows
+
+  pub made_of_visited : (t : Turn) → (t ≡ turn.Go → (get_or (rows_at (rows_in stores) 0) n no_slot).live ≡ true)
+      → turned_by t n (made_row v (side_by (tables_in now) (rows_in now) v) row) ∷ []
+      ≡ made_change (tables_in stores) (rows_in stores) v t (n ∷ [])
+  made_of_visited t live =
+      let here : List Datum = row_of (rows_at (rows_in stores) 0) n in
+      ap (λ o. turned_by t n o ∷ [])
+      (ap (made_row v (side_by (tables_in now) (rows_in now) v)) row_is
+      ∙ ap (λ (ts : List Table). made_row v (side_by ts (rows_in now) v) here) now_tables
+      ∙ ap (λ (rs : Rows). made_row v (side_by (tables_in stores) rs v) here) now_rows)
+      ∙ sym (live_change (made_row v (side_by (tables_in stores) (rows_in stores) v)) (rows_at (rows_in stores) 0) n t
+      live)
+
+  pub referring_of_visited : (t : Turn) → (t ≡ turn.Go → (get_or (rows_at (rows_in stores) 0) n no_slot).live ≡ true)
+      → turned_by t n (referring_row v row) ∷ [] ≡ referring_change (rows_at (rows_in stores) 0) v t (n ∷ [])
+  referring_of_visited t live =
+      ap (λ r. turned_by t n (referring_row v r) ∷ []) row_is
+      ∙ sym (live_change (referring_row v) (rows_at (rows_in stores) 0) n t live)
+
+-- what is kept through a change, however the change is named
+pub same_change : (P : NumberedRows → Type 0) (Q : NumberedRows → Type 0) (one change : List Shift) → one ≡ change
+    → ((rows : NumberedRows) → Fits rows one → P rows → Q (patched rows one))
+    → (rows : NumberedRows) → Fits rows change → P rows → Q (patched rows change)
+same_change P Q one change same turned rows fits before =
+    subst (λ (ch : List Shift). Q (patched rows ch)) same (turned rows (subst (Fits rows) (sym same) fits) before)
+
+-- An order is kept of the rows that a plain view shows.
+pub order_turned :
+    (os : Outputs) (outs : List Output) (order : List OrderBy) (k : Kept) (o o' : OrderedPlaces) (t : Turn) (n : ℕ)
+    (row : List Datum) → os ≡ columns outs → k ≡ kept.Order o → o'.order ≡ o.order
+    → ((rows : NumberedRows) → Fits rows (turned_by t n (Some (shown_row outs row)) ∷ []) → KeepsOrder o rows
+    → KeepsOrder o' (patched rows (turned_by t n (Some (shown_row outs row)) ∷ [])))
+    → (rows : NumberedRows) → Fits rows (turned_by t n (made_by os (Some row)) ∷ []) → IsKept os order k rows
+    → IsKept os order (kept.Order o') (patched rows (turned_by t n (made_by os (Some row)) ∷ []))
+order_turned os outs order k o o' t n row is there same turned rows fits before =
+    let plain : Fits rows (turned_by t n (Some (shown_row outs row)) ∷ []) =
+    subst (λ (x : Outputs). Fits rows (turned_by t n (made_by x (Some row)) ∷ [])) is fits in
+    let was : IsKept (columns outs) order (kept.Order o) rows =
+    subst (λ (x : Kept). IsKept (columns outs) order x rows) there
+    (subst (λ (x : Outputs). IsKept x order k rows) is before) in
+    subst (λ (x : Outputs). IsKept x order (kept.Order o') (patched rows (turned_by t n (made_by x (Some row)) ∷ [])))
+    (sym is) (same ∙ was.0, turned rows plain was.1)
+
+-- what holds of the tables and rows of stores, however the stores are named
+pub at_stores : (P : List Table → Rows → Type 0) (ts ts' : List Table) (rs rs' : Rows) → ts ≡ ts' → rs ≡ rs' → P ts rs
+    → P ts' rs'
+at_stores P ts ts' rs rs' tables rows h = subst (P ts') rows (subst (λ (x : List Table). P x rs) tables h)
+
+-- one change more
+pub kept_more :
+    (P Q R : NumberedRows → Type 0) (make : List Datum → Option (List Datum)) (t : Turn) (slots : List Slot)
+    (ns : List ℕ) (i : ℕ) → i < length ns
+    → ((rows : NumberedRows) → Fits rows (map (shift_image make) (turned t slots ns)) → P rows
+    → Q (patched rows (take i (map (shift_image make) (turned t slots ns)))))
+    → ((rows : NumberedRows) → Fits rows (map (shift_image make) (turned t slots (get_or ns i 0 ∷ []))) → Q rows
+    → R (patched rows (map (shift_image make) (turned t slots (get_or ns i 0 ∷ [])))))
+    → (rows : NumberedRows) → Fits rows (map (shift_image make) (turned t slots ns)) → P rows
+    → R (patched rows (take (i + 1) (map (shift_image make) (turned t slots ns))))
+kept_more P Q R make t slots ns i below so_far turned_one rows fits before =
+    let next = next_of make t slots ns i rows below fits in
+    let es : List Shift = map (shift_image make) (turned t slots ns) in
+    subst R (sym next.more) (turned_one (patched rows (take i es)) next.fits (so_far rows fits before))
+
+-- all changes
+pub kept_all :
+    (P Q : NumberedRows → Type 0) (make : List Datum → Option (List Datum)) (t : Turn) (slots : List Slot)
+    (ns : List ℕ) (i : ℕ) → length ns ≤ i
+    → ((rows : NumberedRows) → Fits rows (map (shift_image make) (turned t slots ns)) → P rows
+    → Q (patched rows (take i (map (shift_image make) (turned t slots ns)))))
+    → (rows : NumberedRows) → Fits rows (map (shift_image make) (turned t slots ns)) → P rows
+    → Q (patched rows (map (shift_image make) (turned t slots ns)))
+kept_all P Q make t slots ns i past so_far rows fits before =
+    let es : List Shift = map (shift_image make) (turned t slots ns) in
+    let many = change_many make slots t ns in
+    subst (λ (ch : List Shift). Q (patched rows ch)) (take_all i es (omega (arith, past, many)))
+    (so_far rows fits before)
+
+-- what is asked for the next change
+pub next_needs :
+    (P Q : NumberedRows → Type 0) (make : List Datum → Option (List Datum)) (t : Turn) (slots : List Slot)
+    (ns : List ℕ) (i : ℕ) (rows : NumberedRows) → i < length ns
+    → ((rows : NumberedRows) → Fits rows (map (shift_image make) (turned t slots ns)) → P rows
+    → Q (patched rows (take i (map (shift_image make) (turned t slots ns)))))
+    → P rows → Fits rows (map (shift_image make) (turned t slots ns))
+    → IsFew rows (map (shift_image make) (turned t slots ns))
+    → (now : NumberedRows) × (Q now × (Fits now (map (shift_image make) (turned t slots (get_or ns i 0 ∷ [])))
+    × (length now < 2 ^ 62)))
+next_needs P Q make t slots ns i rows below so_far before fits few =
+    let es : List Shift = map (shift_image make) (turned t slots ns) in
+    let next = next_of make t slots ns i rows below fits in (
+      patched rows (take i es),
+      (so_far rows fits before, (next.fits, few_next rows es i few)),
+    )
+
+-- A change in two parts
+
+left_in_turn : (rows : NumberedRows) (a b : List Shift) → FitsInTurn rows (a ++ b) → FitsInTurn rows a
+left_in_turn rows [] b fits = tt
+left_in_turn rows (e ∷ a) b fits = (fits.0, left_in_turn (with_at e.number e.after rows) a b fits.1)
+
+right_in_turn : (rows : NumberedRows) (a b : List Shift) → FitsInTurn rows (a ++ b) → FitsInTurn (patched rows a) b
+right_in_turn rows [] b fits = fits
+right_in_turn rows (e ∷ a) b fits = right_in_turn (with_at e.number e.after rows) a b fits.1
+
+sorted_with : (n : ℕ) (a : Option (List Datum)) (rows : NumberedRows) → IsStrictlySortedBy nat_cmp (keys_of rows)
+    → IsStrictlySortedBy nat_cmp (keys_of (with_at n a rows))
+sorted_with n None rows s = sorted-remove_entry nat_cmp_total (is_at (nat_cmp n)) rows s
+sorted_with n (Some r) rows s = sorted-insert_entry nat_cmp_total n r rows s
+
+sorted_patched : (rows : NumberedRows) (es : List Shift) → IsStrictlySortedBy nat_cmp (keys_of rows)
+    → IsStrictlySortedBy nat_cmp (keys_of (patched rows es))
+sorted_patched rows [] s = s
+sorted_patched rows (e ∷ es) s =
+    sorted_patched (with_at e.number e.after rows) es (sorted_with e.number e.after rows s)
+
+pub fits_left : (rows : NumberedRows) (a b : List Shift) → Fits rows (a ++ b) → Fits rows a
+fits_left rows a b fits = record { ascending = fits.ascending; in_turn = left_in_turn rows a b fits.in_turn }
+
+pub fits_right : (rows : NumberedRows) (a b : List Shift) → Fits rows (a ++ b) → Fits (patched rows a) b
+fits_right rows a b fits = record {
+  ascending = sorted_patched rows a fits.ascending;
+  in_turn = right_in_turn rows a b fits.in_turn;
+}
+
+pub few_left : (rows : NumberedRows) (a b : List Shift) → IsFew rows (a ++ b) → IsFew rows a
+few_left rows a b few = let both = length-append a b in omega (arith, few, both)
+
+pub few_right : (rows : NumberedRows) (a b : List Shift) → IsFew rows (a ++ b) → IsFew (patched rows a) b
+few_right rows a b few =
+    let both = length-append a b in
+    let less = patched_few rows a in omega (arith, few, both, less)
+
+pub patched_both : (rows : NumberedRows) (a b : List Shift) → patched rows (a ++ b) ≡ patched (patched rows a) b
+patched_both rows [] b = refl
+patched_both rows (e ∷ a) b = patched_both (with_at e.number e.after rows) a b

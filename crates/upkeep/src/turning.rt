@@ -1,0 +1,176 @@
+//! Brings what is kept of a view up to one row that comes or goes, where the row lies.
+
+ghost use Rattle.std.specs.Prelude.{◌≡◌, ◌<◌, ◌^◌, ◌∷◌, [], OnOk, Some, length};
+ghost use Rattle.std.specs.Map.{values_of};
+ghost use Rattle.std.specs.Option.{option_map};
+ghost use Rattle.values.specs.CellViews.{shallow, viewed};
+ghost use Rattle.values.specs.Datum.{Datum};
+ghost use Rattle.view_lang.specs.Shifts.{Fits, NumberedRows, patched};
+ghost use Rattle.view_lang.specs.Views.{shown_row};
+ghost use Rattle.group_order.specs.Ranked.{Keeps as KeepsRanked};
+ghost use Rattle.lookups.specs.Keeping.{Keeps as KeepsReferrers};
+ghost use Rattle.top_rows.specs.Keeping.{Keeps as KeepsOrder};
+ghost use Rattle.upkeep.specs.JoinedRows.{joined_cells};
+ghost use Rattle.upkeep.specs.ViewStates.{IsKept, made_by, referring_by, turned_by};
+
+use crate::joined_row::JoinedRow;
+use crate::view_state::{Kept, Turn};
+use group_order::RankedGroups;
+use lookups::Referrers;
+use row_keys::StoredRow;
+use std::alloc::AllocError;
+use top_rows::Ordered;
+use values::CellView;
+use view_lang::{Lookup, Output, Outputs, RowView, ShownRow, View};
+
+/// Brings an order up to the row that is shown of a joined row.
+fn turn_order<R: RowView>(
+    order: &mut Ordered,
+    outputs: &[Output],
+    turn: Turn,
+    number: usize,
+    row: &R,
+) -> Result<(), AllocError>
+    ensures order { order.new.order ≡ order.old.order }
+    ensures kept { OnOk result ((rows : NumberedRows)
+        → Fits rows (turned_by turn number (Some (shown_row outputs.now (R.cells row.now))) ∷ [])
+        → KeepsOrder order.old rows
+        → KeepsOrder order.new
+        (patched rows (turned_by turn number (Some (shown_row outputs.now (R.cells row.now))) ∷ []))) }
+{
+    let shown = ShownRow { outputs, row };
+    match turn {
+        Turn::Come => {
+            order.come(number, &shown)?;
+            return Ok(());
+        }
+        Turn::Go => {
+            order.go(number, &shown)?;
+            return Ok(());
+        }
+    }
+}
+
+/// Brings groups up to a joined row.
+fn turn_groups<R: RowView>(
+    groups: &mut RankedGroups,
+    turn: Turn,
+    number: usize,
+    row: &R,
+) -> Result<(), AllocError>
+    requires { (rows : NumberedRows) × (KeepsRanked groups.old (values_of rows)
+        × (Fits rows (turned_by turn number (Some (R.cells row.now)) ∷ []) × (length rows < 2 ^ 62))) }
+    ensures keys { OnOk result (groups.new.groups.keys ≡ groups.old.groups.keys) }
+    ensures columns { OnOk result (groups.new.groups.columns ≡ groups.old.groups.columns) }
+    ensures ranking { groups.new.ranking ≡ groups.old.ranking }
+    ensures kept { OnOk result ((rows : NumberedRows)
+        → Fits rows (turned_by turn number (Some (R.cells row.now)) ∷ [])
+        → KeepsRanked groups.old (values_of rows)
+        → KeepsRanked groups.new (values_of (patched rows (turned_by turn number (Some (R.cells row.now)) ∷ [])))) }
+{
+    match turn {
+        Turn::Come => {
+            groups.come(row)?;
+            return Ok(());
+        }
+        Turn::Go => {
+            groups.go(row)?;
+            return Ok(());
+        }
+    }
+}
+
+/// Brings what is kept of a view up to a joined row that the view's filter keeps. After an error it has no meaning.
+fn turn_row<R: RowView>(
+    view: &View,
+    kept: &mut Kept,
+    turn: Turn,
+    number: usize,
+    row: &R,
+) -> Result<(), AllocError>
+    requires { (rows : NumberedRows) × (IsKept view.now.outputs view.now.order kept.old rows
+        × (Fits rows (turned_by turn number (made_by view.now.outputs (Some (R.cells row.now))) ∷ [])
+        × (length rows < 2 ^ 62))) }
+    ensures { OnOk result ((rows : NumberedRows)
+        → Fits rows (turned_by turn number (made_by view.now.outputs (Some (R.cells row.now))) ∷ [])
+        → IsKept view.now.outputs view.now.order kept.old rows
+        → IsKept view.now.outputs view.now.order kept.new
+        (patched rows (turned_by turn number (made_by view.now.outputs (Some (R.cells row.now))) ∷ []))) }
+{
+    match (&view.outputs, kept) {
+        (Outputs::Columns(outputs), Kept::Order(order)) => {
+            turn_order(order, outputs, turn, number, row)?;
+            return Ok(());
+        }
+        (Outputs::Groups { .. }, Kept::Groups(groups)) => {
+            turn_groups(groups, turn, number, row)?;
+            return Ok(());
+        }
+        _ => unreachable!(),
+    }
+}
+
+/// Brings what is kept of a view up to a row of the main table that comes or goes, joined; `None` changes nothing: the
+/// view leaves the row out. After an error what is kept has no meaning.
+pub(crate) fn turn_joined(
+    view: &View,
+    kept: &mut Kept,
+    turn: Turn,
+    number: usize,
+    joined: Option<JoinedRow<'_>>,
+) -> Result<(), AllocError>
+    requires { (rows : NumberedRows) × (IsKept view.now.outputs view.now.order kept.old rows
+        × (Fits rows (turned_by turn number (made_by view.now.outputs (option_map joined_cells joined)) ∷ [])
+        × (length rows < 2 ^ 62))) }
+    ensures { OnOk result ((rows : NumberedRows)
+        → Fits rows (turned_by turn number (made_by view.now.outputs (option_map joined_cells joined.entry)) ∷ [])
+        → IsKept view.now.outputs view.now.order kept.old rows
+        → IsKept view.now.outputs view.now.order kept.new
+        (patched rows (turned_by turn number (made_by view.now.outputs (option_map joined_cells joined.entry)) ∷ []))) }
+{
+    let Some(row) = joined else {
+        return Ok(());
+    };
+    turn_row(view, kept, turn, number, &row)
+}
+
+/// Brings referrers up to the cell by which a row refers.
+pub(crate) fn turn_referrer(
+    referrers: &mut Referrers,
+    turn: Turn,
+    number: usize,
+    cell: CellView<'_>,
+) -> Result<(), AllocError>
+    ensures { OnOk result ((rows : NumberedRows) (d : Datum) → viewed cell.entry ≡ shallow d
+        → Fits rows (turned_by turn number (Some (d ∷ [])) ∷ []) → KeepsReferrers referrers.old rows
+        → KeepsReferrers referrers.new (patched rows (turned_by turn number (Some (d ∷ [])) ∷ []))) }
+{
+    match turn {
+        Turn::Come => {
+            referrers.come(number, cell)?;
+            return Ok(());
+        }
+        Turn::Go => {
+            referrers.go(number, cell)?;
+            return Ok(());
+        }
+    }
+}
+
+/// Brings referrers up to a row of the main table that comes or goes. Nothing refers where no table is looked up.
+pub(crate) fn turn_referring(
+    referrers: &mut Referrers,
+    lookup: Option<Lookup>,
+    turn: Turn,
+    number: usize,
+    row: &StoredRow<'_>,
+) -> Result<(), AllocError>
+    ensures { OnOk result ((rows : NumberedRows)
+        → Fits rows (turned_by turn number (referring_by lookup row.now) ∷ []) → KeepsReferrers referrers.old rows
+        → KeepsReferrers referrers.new (patched rows (turned_by turn number (referring_by lookup row.now) ∷ []))) }
+{
+    let Some(lookup) = lookup else {
+        return Ok(());
+    };
+    turn_referrer(referrers, turn, number, row.cell(lookup.on))
+}
