@@ -19,11 +19,11 @@ use Rattle.group_state.proofs.Members.{tuple_exact}
 use Rattle.top_rows.specs.Ties.{KeepsBy, has_sort_keys, is_place_by, pick, place_by, stands_by, without}
 use Rattle.top_rows.proofs.Ties.{all-picked, none-there, some-here, some-there, tied_exact, with-more, without-more}
 use Rattle.group_order.specs.GroupPlaces.{GroupPlace, group_place_cmp}
-use Rattle.group_order.specs.Ranked.{IsRanked, Ranked, Ranking, if_passing, is_there, shown_at}
+use Rattle.group_order.specs.Ranked.{IsRanked, Ranked, Ranking, has_places, if_passing, is_there, placed_at, shown_at}
 
 abbrev changed_at : Bool → Ranking → Grouped → List Key → List GroupPlace → GroupPlace → Bool
 changed_at b r g t places p =
-    cond (is_place_by tuple_cmp r.order t (shown_at r g t) p) b (stands_by tuple_cmp places p)
+    cond (is_place_by tuple_cmp r.order t (placed_at r g t) p) b (stands_by tuple_cmp places p)
 
 -- a step of a loop, said of the state that the loop begins with
 said : (b : Bool) (old mid : Ranked) (e f : List Key) (p : GroupPlace) → mid.groups ≡ old.groups
@@ -40,31 +40,46 @@ module _ (old mid new : Ranked) (ns : List (List Key)) (i : ℕ) (e : List Key) 
     pub take-step : ((p : GroupPlace) → stands_by tuple_cmp new.places p
         ≡ changed_at false mid.ranking mid.groups e mid.places p)
         → KeepsBy tuple_cmp old.ranking.order mid.places
-        (without tuple_cmp (take i ns) (shown_at old.ranking old.groups))
+        (without tuple_cmp (take i ns) (placed_at old.ranking old.groups))
         → KeepsBy tuple_cmp old.ranking.order new.places
-        (without tuple_cmp (take (i + 1) ns) (shown_at old.ranking old.groups))
+        (without tuple_cmp (take (i + 1) ns) (placed_at old.ranking old.groups))
     take-step f k =
         without-more tuple_cmp tuple_total tuple_exact old.ranking.order ns i e h mid.places new.places
-        (shown_at old.ranking old.groups) (λ p. f p ∙ said false old mid e (get_or ns i e) p g r is) k
+        (placed_at old.ranking old.groups) (λ p. f p ∙ said false old mid e (get_or ns i e) p g r is) k
 
     pub put-step : (before : List Key → Option (List Datum)) → ((p : GroupPlace) → stands_by tuple_cmp new.places p
         ≡ changed_at true mid.ranking mid.groups e mid.places p)
         → KeepsBy tuple_cmp old.ranking.order mid.places
-        (pick tuple_cmp (take i ns) (shown_at old.ranking old.groups) (without tuple_cmp ns before))
+        (pick tuple_cmp (take i ns) (placed_at old.ranking old.groups) (without tuple_cmp ns before))
         → KeepsBy tuple_cmp old.ranking.order new.places
-        (pick tuple_cmp (take (i + 1) ns) (shown_at old.ranking old.groups) (without tuple_cmp ns before))
+        (pick tuple_cmp (take (i + 1) ns) (placed_at old.ranking old.groups) (without tuple_cmp ns before))
     put-step before f k =
         with-more tuple_cmp tuple_total tuple_exact old.ranking.order ns i e h mid.places new.places
-        (shown_at old.ranking old.groups) (without tuple_cmp ns before)
+        (placed_at old.ranking old.groups) (without tuple_cmp ns before)
         (none-there tuple_cmp tuple_total tuple_exact old.ranking.order ns i e h before)
         (λ p. f p ∙ said true old mid e (get_or ns i e) p g r is) k
 
 -- What is shown of a group that stays is shown as before.
 stays-shown : (r : Ranking) (t : List Key) (g next : Grouped) → next.columns ≡ g.columns
-    → group_at next t ≡ group_at g t → shown_at r next t ≡ shown_at r g t
+    → group_at next t ≡ group_at g t → placed_at r next t ≡ placed_at r g t
 stays-shown r t g next c e =
-    ap (λ cs. if_passing r.having (option_map (λ x. seen_row cs r.outputs (t, x)) (group_at next t))) c
-    ∙ ap (λ o. if_passing r.having (option_map (λ x. seen_row g.columns r.outputs (t, x)) o)) e
+    ap (λ o. cond (has_places r) o None)
+    (ap (λ cs. if_passing r.having (option_map (λ x. seen_row cs r.outputs (t, x)) (group_at next t))) c
+    ∙ ap (λ o. if_passing r.having (option_map (λ x. seen_row g.columns r.outputs (t, x)) o)) e)
+
+none-placed : (r : Ranking) (g : Grouped) (t : List Key) → has_places r ≡ false → placed_at r g t ≡ None
+none-placed r g t h = ap (λ b. cond b (shown_at r g t) None) h
+
+-- Where no places are kept, there are none whatever the groups are.
+pub none-follow : (old new : Ranked) → has_places old.ranking ≡ false → new.ranking ≡ old.ranking
+    → new.places ≡ old.places → IsRanked old → IsRanked new
+none-follow old new none r p k = record {
+  places_are = λ q.
+      ap (λ ps. stands_by tuple_cmp ps q) p ∙ k.places_are q
+      ∙ ap (has_sort_keys old.ranking.order q.0) (none-placed old.ranking old.groups q.1 none)
+      ∙ sym (ap (has_sort_keys new.ranking.order q.0)
+      (none-placed new.ranking new.groups q.1 (ap has_places r ∙ none)));
+}
 
 -- The places of the touched tuples are taken away, the groups are changed, and their places are put in.
 pub ranked-again : (old new : Ranked) (ns : List (List Key)) (es : List Shift) (next : Grouped)
@@ -72,31 +87,31 @@ pub ranked-again : (old new : Ranked) (ns : List (List Key)) (es : List Shift) (
     → StayBut (λ t. list_any (touches old.groups.keys t) es) old.groups next → next.columns ≡ old.groups.columns
     → new.groups ≡ next → new.ranking ≡ old.ranking
     → KeepsBy tuple_cmp old.ranking.order new.places
-    (pick tuple_cmp ns (shown_at old.ranking next) (without tuple_cmp ns (shown_at old.ranking old.groups)))
+    (pick tuple_cmp ns (placed_at old.ranking next) (without tuple_cmp ns (placed_at old.ranking old.groups)))
     → IsRanked new
 ranked-again old new ns es next touched stay c g r k =
-    let kept : KeepsBy tuple_cmp old.ranking.order new.places (shown_at old.ranking next) =
-    all-picked tuple_cmp tuple_total tuple_exact old.ranking.order ns new.places (shown_at old.ranking next)
-    (shown_at old.ranking old.groups)
+    let kept : KeepsBy tuple_cmp old.ranking.order new.places (placed_at old.ranking next) =
+    all-picked tuple_cmp tuple_total tuple_exact old.ranking.order ns new.places (placed_at old.ranking next)
+    (placed_at old.ranking old.groups)
     (λ t none. stays-shown old.ranking t old.groups next c (stay t (sym (touched t) ∙ none))) k in
-    subst (λ x. KeepsBy tuple_cmp new.ranking.order new.places (shown_at new.ranking x)) (sym g)
-    (subst (λ x. KeepsBy tuple_cmp x.order new.places (shown_at x next)) (sym r) kept)
+    subst (λ x. KeepsBy tuple_cmp new.ranking.order new.places (placed_at new.ranking x)) (sym g)
+    (subst (λ x. KeepsBy tuple_cmp x.order new.places (placed_at x next)) (sym r) kept)
 
 abbrev pub PutsIn : Grouped → List GroupPlace → List GroupPlace → Ranking → List (List Key) → Type 0
 PutsIn next mid last r ns =
     (before : List Key → Option (List Datum)) → KeepsBy tuple_cmp r.order mid (without tuple_cmp ns before)
-    → KeepsBy tuple_cmp r.order last (pick tuple_cmp ns (shown_at r next) (without tuple_cmp ns before))
+    → KeepsBy tuple_cmp r.order last (pick tuple_cmp ns (placed_at r next) (without tuple_cmp ns before))
 
 -- first the places are taken away, then put in
 pub through : (old : Ranked) (r : Ranking) (next : Grouped) (ns ns1 ns2 : List (List Key))
     (mid1 mid2 last : List GroupPlace) → ns1 ≡ ns → ns2 ≡ ns → mid2 ≡ mid1 → r ≡ old.ranking
     → (IsRanked old → KeepsBy tuple_cmp old.ranking.order mid1
-    (without tuple_cmp ns1 (shown_at old.ranking old.groups)))
+    (without tuple_cmp ns1 (placed_at old.ranking old.groups)))
     → PutsIn next mid2 last r ns2 → IsRanked old
     → KeepsBy tuple_cmp old.ranking.order last
-    (pick tuple_cmp ns (shown_at old.ranking next) (without tuple_cmp ns (shown_at old.ranking old.groups)))
+    (pick tuple_cmp ns (placed_at old.ranking next) (without tuple_cmp ns (placed_at old.ranking old.groups)))
 through old r next ns ns1 ns2 mid1 mid2 last a b m same takes puts k =
-    let at : List Key → Option (List Datum) = shown_at old.ranking old.groups in
+    let at : List Key → Option (List Datum) = placed_at old.ranking old.groups in
     let taken : KeepsBy tuple_cmp old.ranking.order mid2 (without tuple_cmp ns at) =
     subst (λ x. KeepsBy tuple_cmp old.ranking.order x (without tuple_cmp ns at)) (sym m)
     (subst (λ x. KeepsBy tuple_cmp old.ranking.order mid1 (without tuple_cmp x at)) a (takes k)) in
@@ -197,13 +212,13 @@ pub ranked-one : (old new : Ranked) (keys : List ℕ) (row : List Datum) (t : Li
     (before after : Option GroupPlace) → t ≡ tuple_of keys row
     → StayBut (λ q. has_tuple keys q row) old.groups next → next.columns ≡ old.groups.columns
     → new.groups ≡ next → new.ranking ≡ old.ranking
-    → before ≡ option_map (place_by tuple_cmp old.ranking.order t) (shown_at old.ranking old.groups t)
-    → after ≡ option_map (place_by tuple_cmp old.ranking.order t) (shown_at old.ranking next t)
+    → before ≡ option_map (place_by tuple_cmp old.ranking.order t) (placed_at old.ranking old.groups t)
+    → after ≡ option_map (place_by tuple_cmp old.ranking.order t) (placed_at old.ranking next t)
     → Replaces before after old.places new.places → IsRanked old → IsRanked new
 ranked-one old new keys row t next before after is stay c g r b a f k =
     let order : List OrderBy = old.ranking.order in
-    let at : List Key → Option (List Datum) = shown_at old.ranking old.groups in
-    let later : List Key → Option (List Datum) = shown_at old.ranking next in
+    let at : List Key → Option (List Datum) = placed_at old.ranking old.groups in
+    let later : List Key → Option (List Datum) = placed_at old.ranking next in
     let same : (q : List Key) → is_at (tuple_cmp t) q ≡ false → later q ≡ at q =
     λ q h. stays-shown old.ranking q old.groups next c
     (stay q (ap (is_at (tuple_cmp q)) (sym is) ∙ (eq_by_cmp_equiv tuple_total).symm q t ∙ h)) in
@@ -216,5 +231,5 @@ ranked-one old new keys row t next before after is stay c g r b a f k =
     (λ p. f (λ q x. stood order t at later old.places new.places k same q (is_at (tuple_cmp t) q.1) refl
     (sym (was q) ∙ x)) p
     ∙ ap₂ (λ y x. cond y true (cond x false (stands_by tuple_cmp old.places p))) (now p) (was p)) in
-    subst (λ x. KeepsBy tuple_cmp new.ranking.order new.places (shown_at new.ranking x)) (sym g)
-    (subst (λ x. KeepsBy tuple_cmp x.order new.places (shown_at x next)) (sym r) kept)
+    subst (λ x. KeepsBy tuple_cmp new.ranking.order new.places (placed_at new.ranking x)) (sym g)
+    (subst (λ x. KeepsBy tuple_cmp x.order new.places (placed_at x next)) (sym r) kept)

@@ -1,5 +1,5 @@
 -- The rows of the first places are the first of the definition's group rows.
-use Rattle.std.proofs.Common.{◌≡◌, refl, ap, ap₂, sym, ◌∙◌, subst, arith, get_or, length}
+use Rattle.std.proofs.Common.{◌≡◌, refl, ap, ap₂, sym, ◌∙◌, subst, arith, get_or, length, true≢false}
 use Rattle.std.specs.Prelude.{◌++◌, ◌+◌, ◌<◌, ℕ, zero, suc, Bool, true, false, cond, filter, List, [], ◌∷◌, map, Option, None, Some, take}
 use Rattle.std.specs.BTreeMap.{is_at}
 use Rattle.std.specs.Cmp.{Equal-is, eq_by_cmp_equiv}
@@ -13,6 +13,7 @@ use Rattle.values.specs.Keys.{datum_of_key}
 use Rattle.values.specs.declared.key.Key.{Key}
 use Rattle.values.specs.declared.key.Key.TheVariants as key
 use Rattle.view_lang.specs.Cells.{cell_at}
+use Rattle.std.proofs.lemmas.Bool.{lt-ltb}
 use Rattle.std.proofs.lemmas.List.{take_more}
 use Rattle.std.proofs.lemmas.List.Elements.{filter_map-append}
 use Rattle.std.proofs.lemmas.Map.{lookup-none}
@@ -22,7 +23,7 @@ use Rattle.view_lang.specs.Filter.{Filter}
 use Rattle.view_lang.specs.Groups.{group_row, group_rows, rows_with, tuples_of}
 use Rattle.view_lang.specs.Outputs.{GroupOutput}
 use Rattle.view_lang.specs.RowOrder.{row_cmp}
-use Rattle.view_lang.specs.Sorted.{sorted}
+use Rattle.view_lang.specs.Sorted.{placed, sorted}
 use Rattle.view_lang.specs.Truth.{passes}
 use Rattle.view_lang.specs.ViewLaws.{IsKeyCell, TuplesAsk, TuplesAscend, TuplesAreOfRows}
 use Rattle.view_lang.specs.declared.view.Aggregate.{Aggregate}
@@ -42,7 +43,7 @@ use Rattle.top_rows.specs.Ties.{KeepsBy, has_sort_keys, named, stands_by}
 use Rattle.top_rows.specs.ViewOrder.{OrdersKeys}
 use Rattle.top_rows.proofs.Ties.{first-named, keeps-same}
 use Rattle.group_order.specs.GroupPlaces.{GroupPlace, group_place_cmp}
-use Rattle.group_order.specs.Ranked.{Keeps, Ranked, Ranking, if_passing, ranked_rows, shown_at}
+use Rattle.group_order.specs.Ranked.{Keeps, Ranked, Ranking, has_places, if_passing, placed_at, ranked_rows, ranking_by, shown_at}
 
 -- What is shown of groups is neither a list nor a struct.
 
@@ -221,10 +222,10 @@ passing-at having t (e ∷ es) up =
 pub first-ranked : TuplesAsk → TuplesAscend → TuplesAreOfRows → (s : Ranked) (rows : List (List Datum)) (n : ℕ)
     → Keeps s rows → CanReadAll s.groups.keys s.groups.columns s.ranking.outputs rows
     → IsStrictlySortedBy tuple_cmp (keys_of s.groups.groups) → IsStrictlySortedBy group_place_cmp s.places
-    → ((length s.groups.keys ≡ 0) × (length s.groups.groups ≡ 0) → ⊥)
+    → has_places s.ranking ≡ true → ((length s.groups.keys ≡ 0) × (length s.groups.groups ≡ 0) → ⊥)
     → filter_map (shown_at s.ranking s.groups) (map (λ p. p.1) (take n s.places))
     ≡ take n (ranked_rows s.groups.keys s.ranking rows)
-first-ranked ask ascend of_rows s rows n k can up places_up bare =
+first-ranked ask ascend of_rows s rows n k can up places_up kept bare =
     let r : Ranking = s.ranking in
     let all : List (List Key × List Datum) = shown s.groups.columns r.outputs s.groups.groups in
     let all_up : IsStrictlySortedBy tuple_cmp (keys_of all) =
@@ -242,7 +243,8 @@ first-ranked ask ascend of_rows s rows n k can up places_up bare =
     (values_of all) refl refl up (shown-read s.groups.columns r.outputs s.groups.groups) bare) in
     let firsts : map (named tuple_cmp es) ts ≡ map Some (take n (sorted (row_cmp r.order) (values_of es))) =
     first-named tuple_cmp tuple_total tuple_exact r.order s.places es n (passing-ascends r.having all all_up) places_up
-    (keeps-same tuple_cmp tuple_total tuple_exact r.order s.places at (named tuple_cmp es) same k.ranked)
+    (keeps-same tuple_cmp tuple_total tuple_exact r.order s.places (placed_at r s.groups) (named tuple_cmp es)
+    (λ t. ap (λ b. cond b (at t) None) kept ∙ same t) k.ranked)
     (passing-ordered r.having r.order all (shown-ordered s.groups.columns r.outputs r.order s.groups.groups)) in
     made-of at ts _
     (map-same at (named tuple_cmp es) same ts ∙ firsts
@@ -299,6 +301,10 @@ none-there : {X : Type 0} (f : GroupCounts → X) (columns : List ℕ) (o : Opti
 none-there f columns None h = refl
 none-there f columns (Some g) h = absurd (omega (arith, h.0, h.1.rows_are))
 
+none-either : {X : Type 0} (b : Bool) {o : Option X} → o ≡ None → cond b o None ≡ None
+none-either true h = h
+none-either false h = refl
+
 -- Of no rows no place is kept.
 pub none-ranked : (s : Ranked) → s.places ≡ [] → KeepsGroups s.groups [] → Keeps s []
 none-ranked s e k = record {
@@ -306,8 +312,49 @@ none-ranked s e k = record {
   ranked = record {
     places_are = λ p.
         ap (λ ps. stands_by tuple_cmp ps p) e
-        ∙ ap (λ o. has_sort_keys s.ranking.order p.0 (if_passing s.ranking.having o))
-        (sym (none-there (λ c. seen_row s.groups.columns s.ranking.outputs (p.1, c)) s.groups.columns
-        (lookup (is_at (tuple_cmp p.1)) s.groups.groups) (k.groups_are p.1)));
+        ∙ ap (has_sort_keys s.ranking.order p.0)
+        (sym (none-either (has_places s.ranking)
+        (ap (if_passing s.ranking.having) (none-there (λ c. seen_row s.groups.columns s.ranking.outputs (p.1, c))
+        s.groups.columns (lookup (is_at (tuple_cmp p.1)) s.groups.groups) (k.groups_are p.1)))));
   };
 }
+
+-- Without an order rows stand as they stood, and without a filter all pass.
+
+one-stands : (row : List Datum) (rows : List (List Datum)) → placed (row_cmp []) row rows ≡ row ∷ rows
+unfolding row_cmp
+one-stands row [] = refl
+one-stands row (x ∷ xs) = refl
+
+all-stand : (rows : List (List Datum)) → sorted (row_cmp []) rows ≡ rows
+unfolding sorted
+all-stand [] = refl
+all-stand (row ∷ rows) = ap (placed (row_cmp []) row) (all-stand rows) ∙ one-stands row rows
+
+all-pass : (rows : List (List Datum)) → filter (passes None) rows ≡ rows
+unfolding passes
+all-pass [] = refl
+all-pass (row ∷ rows) = ap (λ l. row ∷ l) (all-pass rows)
+
+unranked : (by : List ℕ) (outs : List GroupOutput) (h : Option Filter) (os : List OrderBy)
+    (rows : List (List Datum)) → has_places (ranking_by outs h os) ≡ false
+    → ranked_rows by (ranking_by outs h os) rows ≡ group_rows by outs rows
+unranked by outs None [] rows e =
+    ap (sorted (row_cmp [])) (all-pass (group_rows by outs rows)) ∙ all-stand (group_rows by outs rows)
+unranked by outs None (o ∷ os) rows e = absurd (true≢false (sym (lt-ltb 0 (length (o ∷ os)) (omega arith)) ∙ e))
+unranked by outs (Some f) os rows e = absurd (true≢false e)
+
+-- Where no places are kept, the first rows of the groups are the first that are shown.
+pub first-unranked : (s : Ranked) (g : Grouped) (outs : List GroupOutput) (made : List (List Datum)) (n : ℕ)
+    → has_places s.ranking ≡ false → g ≡ s.groups → outs ≡ s.ranking.outputs
+    → ((rows : List (List Datum)) → KeepsGroups g rows → CanReadAll g.keys g.columns outs rows
+    → made ≡ take n (group_rows g.keys outs rows))
+    → (rows : List (List Datum)) → Keeps s rows
+    → CanReadAll s.groups.keys s.groups.columns s.ranking.outputs rows
+    → made ≡ take n (ranked_rows s.groups.keys s.ranking rows)
+first-unranked s g outs made n none a b read rows k can =
+    read rows (subst (λ x. KeepsGroups x rows) (sym a) k.groups_are)
+    (subst (λ x. CanReadAll g.keys g.columns x rows) (sym b)
+    (subst (λ x. CanReadAll x.keys x.columns s.ranking.outputs rows) (sym a) can))
+    ∙ ap (λ x. take n (group_rows x.keys outs rows)) a ∙ ap (λ x. take n (group_rows s.groups.keys x rows)) b
+    ∙ ap (take n) (sym (unranked s.groups.keys s.ranking.outputs s.ranking.having s.ranking.order rows none))

@@ -1,5 +1,5 @@
 -- What contracts see of groups that are kept with the order of their rows.
-use Rattle.std.specs.Prelude.{◌≡◌, ℕ, Bool, cond, false, filter, List, None, Option, Some}
+use Rattle.std.specs.Prelude.{◌≡◌, ◌||◌, ℕ, Bool, cond, false, filter, is_some, length, List, nat_lt, None, Option, Some}
 use Rattle.std.specs.BTreeMap.{is_at}
 use Rattle.values.specs.Datum.{Datum}
 use Rattle.values.specs.declared.key.Key.{Key}
@@ -40,6 +40,14 @@ if_passing having (Some row) = cond (passes having row) (Some row) None
 abbrev pub shown_at : Ranking → Grouped → List Key → Option (List Datum)
 shown_at r g t = if_passing r.having (seen_at r.outputs g t)
 
+-- Places are kept where there is an order or a filter. Else all groups are shown, in their own order.
+abbrev pub has_places : Ranking → Bool
+has_places r = is_some r.having || nat_lt 0 (length r.order)
+
+-- the row that a tuple's group has a place by
+abbrev pub placed_at : Ranking → Grouped → List Key → Option (List Datum)
+placed_at r g t = cond (has_places r) (shown_at r g t) None
+
 -- whether there is a place, and it is this one
 abbrev pub is_there : Option GroupPlace → GroupPlace → Bool
 is_there None p = false
@@ -49,9 +57,9 @@ is_there (Some q) p = is_at (group_place_cmp q) p
 abbrev pub ranked_rows : List ℕ → Ranking → List (List Datum) → List (List Datum)
 ranked_rows by r rows = sorted (row_cmp r.order) (filter (passes r.having) (group_rows by r.outputs rows))
 
--- The places are those of the rows that are shown of the groups, and no others.
+-- The places are those of the rows that are shown of the groups, and no others; there are none where none are kept.
 abbrev pub IsRanked : Ranked → Type 0
-IsRanked s = KeepsBy tuple_cmp s.ranking.order s.places (shown_at s.ranking s.groups)
+IsRanked s = KeepsBy tuple_cmp s.ranking.order s.places (placed_at s.ranking s.groups)
 
 -- The groups are those of these rows, and the order is theirs.
 pub record Keeps (s : Ranked) (rows : List (List Datum)) : Type 0 where

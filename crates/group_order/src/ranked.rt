@@ -37,7 +37,7 @@ ghost use Rattle.group_state.specs.KeptColumns.{IsKept};
 ghost use Rattle.top_rows.specs.PlaceOrder.{tied_cmp};
 ghost use Rattle.top_rows.specs.Ties.{KeepsBy, is_place_by, pick, place_by, stands_by, without};
 ghost use Rattle.group_order.specs.GroupPlaces.{GroupPlace as PlaceSeen, group_place_cmp};
-ghost use Rattle.group_order.specs.Ranked.{IsRanked, Keeps, is_there, ranked_rows, shown_at};
+ghost use Rattle.group_order.specs.Ranked.{IsRanked, Keeps, has_places, is_there, placed_at, ranked_rows, shown_at};
 ghost use Rattle.group_order.specs.RankedParts.{AreRanked, ranked_with};
 
 use crate::parts::RankedParts;
@@ -155,11 +155,14 @@ impl RankedGroups {
         }
     }
 
-    /// The place of the row that is shown of a tuple's group, if there is one.
+    /// The place of the row that is shown of a tuple's group, if there is one and places are kept.
     fn place_of(&self, tuple: &Tuple) -> Result<Option<GroupPlace>, AllocError>
         ensures { IfOk result (λ place. place ≡ option_map (place_by tuple_cmp self.now.ranking.order tuple.now)
-            (shown_at self.now.ranking self.now.groups tuple.now)) }
+            (placed_at self.now.ranking self.now.groups tuple.now)) }
     {
+        if !self.ranking.has_places() {
+            return Ok(None);
+        }
         let Some(row) = self.shown_row(self.alloc, tuple)? else {
             return Ok(None);
         };
@@ -196,12 +199,12 @@ impl RankedGroups {
         }
     }
 
-    /// Takes the place of a tuple's row away, if one is shown.
+    /// Takes the place of a tuple's row away, if one is kept.
     fn take_out(&mut self, tuple: &Tuple) -> Result<(), AllocError>
         ensures groups { self.new.groups ≡ self.old.groups }
         ensures ranking { self.new.ranking ≡ self.old.ranking }
         ensures places { OnOk result ((p : PlaceSeen) → stands_by tuple_cmp self.new.places p
-            ≡ cond (is_place_by tuple_cmp self.old.ranking.order tuple.now (shown_at self.old.ranking self.old.groups tuple.now) p)
+            ≡ cond (is_place_by tuple_cmp self.old.ranking.order tuple.now (placed_at self.old.ranking self.old.groups tuple.now) p)
             false (stands_by tuple_cmp self.old.places p)) }
     {
         if let Some(place) = self.place_of(tuple)? {
@@ -210,12 +213,12 @@ impl RankedGroups {
         Ok(())
     }
 
-    /// Puts the place of a tuple's row in, if one is shown.
+    /// Puts the place of a tuple's row in, if one is to be kept.
     fn put_in(&mut self, tuple: &Tuple) -> Result<(), AllocError>
         ensures groups { self.new.groups ≡ self.old.groups }
         ensures ranking { self.new.ranking ≡ self.old.ranking }
         ensures places { OnOk result ((p : PlaceSeen) → stands_by tuple_cmp self.new.places p
-            ≡ cond (is_place_by tuple_cmp self.old.ranking.order tuple.now (shown_at self.old.ranking self.old.groups tuple.now) p)
+            ≡ cond (is_place_by tuple_cmp self.old.ranking.order tuple.now (placed_at self.old.ranking self.old.groups tuple.now) p)
             true (stands_by tuple_cmp self.old.places p)) }
     {
         if let Some(place) = self.place_of(tuple)? {
@@ -229,7 +232,7 @@ impl RankedGroups {
         ensures groups { self.new.groups ≡ self.old.groups }
         ensures ranking { self.new.ranking ≡ self.old.ranking }
         ensures places { OnOk result (IsRanked self.old → KeepsBy tuple_cmp self.old.ranking.order self.new.places
-            (without tuple_cmp tuples.now (shown_at self.old.ranking self.old.groups))) }
+            (without tuple_cmp tuples.now (placed_at self.old.ranking self.old.groups))) }
     {
         for tuple in tuples {
             self.take_out(tuple)?;
@@ -244,7 +247,7 @@ impl RankedGroups {
         ensures places { OnOk result ((before : List Key → Option (List Datum))
             → KeepsBy tuple_cmp self.old.ranking.order self.old.places (without tuple_cmp tuples.now before)
             → KeepsBy tuple_cmp self.old.ranking.order self.new.places
-            (pick tuple_cmp tuples.now (shown_at self.old.ranking self.old.groups) (without tuple_cmp tuples.now before))) }
+            (pick tuple_cmp tuples.now (placed_at self.old.ranking self.old.groups) (without tuple_cmp tuples.now before))) }
     {
         for tuple in tuples {
             self.put_in(tuple)?;
@@ -255,6 +258,24 @@ impl RankedGroups {
     /// Applies a change of rows: the order is changed at the tuples that the change touches, and nowhere else. After an
     /// error what is kept has no meaning.
     pub fn apply_change(&mut self, change: &Change) -> Result<(), AllocError>
+        requires { (rows : NumberedRows)
+            × (Keeps self.old (values_of rows) × (Fits rows change.now × IsFew rows change.now)) }
+        ensures kept { OnOk result ((rows : NumberedRows) → Fits rows change.now → Keeps self.old (values_of rows)
+            → Keeps self.new (values_of (patched rows change.now))) }
+        ensures keys { OnOk result (self.new.groups.keys ≡ self.old.groups.keys) }
+        ensures columns { OnOk result (self.new.groups.columns ≡ self.old.groups.columns) }
+        ensures ranking { self.new.ranking ≡ self.old.ranking }
+    {
+        if self.ranking.has_places() {
+            self.change_places(change)?;
+        } else {
+            self.groups.apply_change(change)?;
+        }
+        Ok(())
+    }
+
+    /// Applies a change of rows, and changes the places of the tuples that it touches.
+    fn change_places(&mut self, change: &Change) -> Result<(), AllocError>
         requires { (rows : NumberedRows)
             × (Keeps self.old (values_of rows) × (Fits rows change.now × IsFew rows change.now)) }
         ensures kept { OnOk result ((rows : NumberedRows) → Fits rows change.now → Keeps self.old (values_of rows)
@@ -280,6 +301,24 @@ impl RankedGroups {
         ensures columns { OnOk result (self.new.groups.columns ≡ self.old.groups.columns) }
         ensures ranking { self.new.ranking ≡ self.old.ranking }
     {
+        if self.ranking.has_places() {
+            self.come_to_place(row)?;
+        } else {
+            self.groups.come(row)?;
+        }
+        Ok(())
+    }
+
+    /// A row comes, and the place of its group is put in for that before.
+    fn come_to_place<R: RowView>(&mut self, row: &R) -> Result<(), AllocError>
+        requires { (rows : NumberedRows) × (Keeps self.old (values_of rows) × (length rows < 2 ^ 62)) }
+        ensures kept { OnOk result ((rows : NumberedRows) (n : ℕ) → IsStrictlySortedBy nat_cmp (keys_of rows)
+            → row_at n rows ≡ None → Keeps self.old (values_of rows)
+            → Keeps self.new (values_of (with_at n (Some (R.cells row.now)) rows))) }
+        ensures keys { OnOk result (self.new.groups.keys ≡ self.old.groups.keys) }
+        ensures columns { OnOk result (self.new.groups.columns ≡ self.old.groups.columns) }
+        ensures ranking { self.new.ranking ≡ self.old.ranking }
+    {
         let tuple = self.groups.tuple_of(row)?;
         let before = self.place_of(&tuple)?;
         self.groups.come(row)?;
@@ -290,6 +329,25 @@ impl RankedGroups {
 
     /// The row under a number goes. After an error what is kept has no meaning.
     pub fn go<R: RowView>(&mut self, row: &R) -> Result<(), AllocError>
+        requires { (rows : NumberedRows) × (n : ℕ) × (Keeps self.old (values_of rows)
+            × (IsStrictlySortedBy nat_cmp (keys_of rows) × (row_at n rows ≡ Some (R.cells row.now)))) }
+        ensures kept { OnOk result ((rows : NumberedRows) (n : ℕ) → IsStrictlySortedBy nat_cmp (keys_of rows)
+            → row_at n rows ≡ Some (R.cells row.now) → Keeps self.old (values_of rows)
+            → Keeps self.new (values_of (with_at n None rows))) }
+        ensures keys { OnOk result (self.new.groups.keys ≡ self.old.groups.keys) }
+        ensures columns { OnOk result (self.new.groups.columns ≡ self.old.groups.columns) }
+        ensures ranking { self.new.ranking ≡ self.old.ranking }
+    {
+        if self.ranking.has_places() {
+            self.go_from_place(row)?;
+        } else {
+            self.groups.go(row)?;
+        }
+        Ok(())
+    }
+
+    /// A row goes, and the place of its group is put in for that before.
+    fn go_from_place<R: RowView>(&mut self, row: &R) -> Result<(), AllocError>
         requires { (rows : NumberedRows) × (n : ℕ) × (Keeps self.old (values_of rows)
             × (IsStrictlySortedBy nat_cmp (keys_of rows) × (row_at n rows ≡ Some (R.cells row.now)))) }
         ensures kept { OnOk result ((rows : NumberedRows) (n : ℕ) → IsStrictlySortedBy nat_cmp (keys_of rows)
@@ -339,6 +397,22 @@ impl RankedGroups {
 
     /// The first rows that are shown of the groups, at most `most` of them. No other group is read.
     pub fn first_rows(&self, alloc: Global, most: usize) -> Result<Vec<Row>, AllocError>
+        ensures { IfOk result (λ made. (rows : List (List Datum)) → Keeps self.now rows
+            → CanReadAll self.now.groups.keys self.now.groups.columns self.now.ranking.outputs rows
+            → rows_of made.items
+            ≡ take most (ranked_rows self.now.groups.keys self.now.ranking rows)) }
+    {
+        if !self.ranking.has_places() {
+            let made = self.groups.first_rows(alloc, self.ranking.outputs(), most)?;
+            return Ok(made);
+        }
+        let made = self.first_placed(alloc, most)?;
+        Ok(made)
+    }
+
+    /// The rows at the first places, at most `most` of them.
+    fn first_placed(&self, alloc: Global, most: usize) -> Result<Vec<Row>, AllocError>
+        requires { has_places self.now.ranking ≡ true }
         ensures { IfOk result (λ made. (rows : List (List Datum)) → Keeps self.now rows
             → CanReadAll self.now.groups.keys self.now.groups.columns self.now.ranking.outputs rows
             → rows_of made.items

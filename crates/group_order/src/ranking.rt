@@ -1,7 +1,7 @@
 //! Which rows are shown of groups, and in which order.
 
 ghost use Rattle.std.specs.Prelude.{◌≡◌, IfOk};
-ghost use Rattle.group_order.specs.Ranked.{ranking_by};
+ghost use Rattle.group_order.specs.Ranked.{has_places, ranking_by};
 
 use std::alloc::{AllocError, Global};
 use std::marker::Model;
@@ -61,6 +61,13 @@ impl Ranking {
         ensures { result.now ≡ self.now.order }
     {
         &self.order
+    }
+
+    /// Whether places are kept: else all groups are shown, in their own order.
+    pub(crate) fn has_places(&self) -> bool
+        ensures { result ≡ has_places self.now }
+    {
+        self.having.is_some() || self.order.len() > 0
     }
 }
 

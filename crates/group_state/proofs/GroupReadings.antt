@@ -1,6 +1,6 @@
 -- Rows that are read of groups.
 use Rattle.std.proofs.Common.{◌≡◌, refl, ap, sym, ◌∙◌, subst, arith, take, get_or}
-use Rattle.std.specs.Prelude.{ℕ, ◌+◌, ◌<◌, List, [], ◌∷◌, ◌++◌, map, length, Vec, Option, Some, true}
+use Rattle.std.specs.Prelude.{ℕ, zero, suc, ◌+◌, ◌<◌, List, [], ◌∷◌, ◌++◌, map, length, Vec, Option, Some, true}
 use Rattle.std.specs.List.{AllByRecursion}
 use Rattle.std.proofs.lemmas.List.{map_push, take_more}
 use Rattle.values.specs.Datum.{Datum}
@@ -43,3 +43,8 @@ read-more shows columns outs xs x rs next r pushed a h =
     subst P (sym (map_push shows xs x))
     (subst Q (sym (ap rows_of pushed ∙ map_push (λ (v : Vec Datum Global). v.items) rs r))
     (read-push columns outs (map shows xs) (rows_of rs) (shows x) r.items a h))
+
+pub take-map : {X Y : Type 0} (f : X → Y) (n : ℕ) (xs : List X) → map f (take n xs) ≡ take n (map f xs)
+take-map f zero xs = refl
+take-map f (suc n) [] = refl
+take-map f (suc n) (x ∷ xs) = ap (λ ys. f x ∷ ys) (take-map f n xs)

@@ -45,7 +45,7 @@ use Rattle.group_state.specs.Cells.{KeepsCells}
 use Rattle.group_state.specs.Counts.{weighted}
 use Rattle.group_state.specs.GroupCounts.{GroupCounts}
 use Rattle.group_state.specs.KeptColumns.{is_kept}
-use Rattle.group_state.specs.Reading.{CanRead, IsRead, IsThat, data_of, filled}
+use Rattle.group_state.specs.Reading.{AreRead, CanRead, IsRead, IsThat, data_of, filled}
 use Rattle.group_state.specs.Rows.{KeepsEach, KeepsRows, cells}
 use Rattle.group_state.specs.Seen.{
   index_from,
@@ -169,3 +169,9 @@ row-seen columns (o ∷ os) e rows k all =
 pub seen-read : (columns : List ℕ) (outs : List GroupOutput) (e : List Key × GroupCounts) (made : List Datum)
     → made ≡ seen_row columns outs e → IsRead columns outs e made
 seen-read columns outs e made h = record { row_is = λ rows k all. h ∙ row-seen columns outs e rows k all }
+
+-- the rows of all groups
+pub all-seen : (columns : List ℕ) (outs : List GroupOutput) (es : List (List Key × GroupCounts))
+    → AreRead columns outs es (map (seen_row columns outs) es)
+all-seen columns outs [] = tt
+all-seen columns outs (e ∷ es) = (seen-read columns outs e (seen_row columns outs e) refl, all-seen columns outs es)

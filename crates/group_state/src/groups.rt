@@ -32,6 +32,7 @@ ghost use Rattle.std.specs.Prelude.{
   [],
   false,
   length,
+  take,
   ℕ,
 };
 ghost use Rattle.values.specs.Datum.{Datum};
@@ -53,7 +54,7 @@ ghost use Rattle.view_lang.specs.Shifts.{
 use crate::group::Group;
 use crate::kept_columns::kept_columns;
 use crate::parts::GroupsParts;
-use crate::reading::{read_row, read_rows};
+use crate::reading::{read_first, read_row, read_rows};
 use crate::tuple::Tuple;
 use std::alloc::{AllocError, Global};
 use std::collections::{BTreeMap, BTreeSet};
@@ -170,6 +171,32 @@ impl Groups {
             return Ok(made);
         }
         Ok(read_rows(alloc, outputs, &self.groups, self.columns.as_slice())?)
+    }
+
+    /// The first of the rows that `rows` makes, at most `most` of them. No other group is read.
+    pub fn first_rows(
+        &self,
+        alloc: Global,
+        outputs: &[GroupOutput],
+        most: usize,
+    ) -> Result<Vec<Row>, AllocError>
+        ensures { IfOk result (λ made. (rows : List (List Datum)) → Keeps self.now rows
+            → CanReadAll self.now.keys self.now.columns outputs.now rows
+            → rows_of made.items ≡ take most (group_rows self.now.keys outputs.now rows)) }
+    {
+        group_law();
+        if self.is_bare() {
+            let mut made = self.rows(alloc, outputs)?;
+            made.truncate(most);
+            return Ok(made);
+        }
+        Ok(read_first(
+            alloc,
+            outputs,
+            &self.groups,
+            self.columns.as_slice(),
+            most,
+        )?)
     }
 
     /// The row of a tuple's group, if it has one.

@@ -1,6 +1,6 @@
 //! Group rows, read out of groups.
 
-ghost use Rattle.std.specs.Prelude.{◌≡◌, IfOk};
+ghost use Rattle.std.specs.Prelude.{◌≡◌, IfOk, map, take};
 ghost use Rattle.group_state.specs.Reading.{AreRead};
 ghost use Rattle.group_state.specs.Seen.{seen_cell, seen_row};
 ghost use Rattle.group_state.specs.Keys.{tuple_cmp};
@@ -82,6 +82,29 @@ pub(crate) fn read_rows(
     let _size = groups.len();
     let mut made = Vec::new(alloc);
     for (tuple, group) in groups.iter() {
+        made.push(read_row(alloc, outputs, tuple, group, columns)?)?;
+    }
+    Ok(made)
+}
+
+/// The rows of the first groups, at most `most` of them.
+pub(crate) fn read_first(
+    alloc: Global,
+    outputs: &[GroupOutput],
+    groups: &BTreeMap<Tuple, Group>,
+    columns: &[usize],
+    most: usize,
+) -> Result<Vec<Row>, AllocError>
+    ensures read { IfOk result (λ made. rows_of made.items
+        ≡ map (seen_row columns.now outputs.now) (take most groups.now.entries)) }
+    ensures ordered { IsStrictlySortedBy tuple_cmp (keys_of groups.now.entries) }
+{
+    let _size = groups.len();
+    let mut made = Vec::new(alloc);
+    for (tuple, group) in groups.iter() {
+        if made.len() == most {
+            break;
+        }
         made.push(read_row(alloc, outputs, tuple, group, columns)?)?;
     }
     Ok(made)

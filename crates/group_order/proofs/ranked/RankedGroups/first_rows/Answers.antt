@@ -1,42 +1,14 @@
-use Rattle.std.proofs.Common.{◌≡◌, ap, sym, ◌∙◌, subst, true≢false, length}
-use Rattle.std.specs.Prelude.{List, Vec, filter}
-use Rattle.std.specs.declared.alloc.Global.{Global}
-use Rattle.std.specs.List.{filter_map}
-use Rattle.std.specs.List.Sorted.{IsStrictlySortedBy}
-use Rattle.std.specs.Map.{keys_of}
-use Rattle.values.specs.Datum.{Datum}
+use Rattle.std.proofs.Common.{◌≡◌, ap, sym, ◌∙◌}
 use Rattle.view_lang.specs.Cells.{rows_of}
-use Rattle.view_lang.specs.Groups.{group_rows}
-use Rattle.view_lang.specs.Outputs.{GroupOutput}
-use Rattle.view_lang.specs.Truth.{passes}
-use Rattle.group_state.specs.Keys.{tuple_cmp}
-use Rattle.group_state.specs.Reading.{CanReadAll}
-use Rattle.group_order.specs.Ranked.{Ranked, shown_at}
-use Rattle.group_order.proofs.RankedRows.{bare-first, first-ranked, take-map}
+use Rattle.group_order.specs.Ranked.{Ranked, has_places}
+use Rattle.group_order.proofs.RankedRows.{first-unranked}
 use Rattle.group_order.proofs.ranked.RankedGroups.first_rows.Goals as goal
 
-pub returns-then-is_bare : goal.returns-then-is_bare
-returns-then-is_bare c =
-    bare-first c.args.self.now c.self.inside.groups c.self.inside.ranking (rows_of c.in_ok-made.made.items)
-    (rows_of c.in_ok-shown.shown.items) _ c.args.most (ap (λ (r : Ranked). r.groups) c.self.view_is)
-    (ap (λ (r : Ranked). r.ranking) c.self.view_is) (c.is_bare.ensures.0 c.if-is_bare.true).0
-    (ap rows_of c.truncate.ensures.items
-    ∙ take-map (λ (v : Vec Datum Global). v.items) c.args.most c.in_ok-shown.shown.items)
-    (c.in_ok-shown.ensures ∙ ap (λ h. filter (passes h) (rows_of c.in_ok-made.made.items)) c.having.ensures)
-    (λ rows k r.
-    c.in_ok-made.ensures rows k
-    (subst (λ (os : List GroupOutput). CanReadAll c.self.inside.groups.keys c.self.inside.groups.columns os rows)
-    (sym c.outputs.ensures) r)
-    ∙ ap (λ (os : List GroupOutput). group_rows c.self.inside.groups.keys os rows) c.outputs.ensures)
-
-pub returns : goal.returns
-returns c = λ rows k r.
-    let s : Ranked = c.args.self.now in
-    let up = subst (λ (r : Ranked). IsStrictlySortedBy tuple_cmp (keys_of r.groups.groups)) c.self.view_is
-    c.tuples_ascend.ensures in
-    let bare = subst (λ (r : Ranked). (length r.groups.keys ≡ 0) × (length r.groups.groups ≡ 0) → ⊥) c.self.view_is
-    (λ n. true≢false (sym (c.is_bare.ensures.1 n) ∙ c.if-is_bare.false)) in
-    c.in_ok-made-2.ensures
-    ∙ ap (filter_map (shown_at s.ranking s.groups)) (c.as_slice.ensures.value ∙ c.in_ok-tuples.ensures.tuples)
-    ∙ first-ranked c.group_law.ensures.ask c.group_law.ensures.ascending c.group_law.ensures.of_rows s rows c.args.most
-    k r up c.first_tuples.ensures.ascending bare
+pub returns-then-not-has_places : goal.returns-then-not-has_places
+returns-then-not-has_places c =
+    first-unranked c.args.self.now c.self.inside.groups c.outputs.result.now (rows_of c.in_ok-made.made.items)
+    c.args.most
+    (sym (ap (λ (r : Ranked). has_places r.ranking) c.self.view_is) ∙ sym c.has_places.ensures ∙ c.if-not-has_places.true)
+    (ap (λ (r : Ranked). r.groups) c.self.view_is)
+    (c.outputs.ensures ∙ ap (λ (r : Ranked). r.ranking.outputs) c.self.view_is)
+    c.in_ok-made.ensures

@@ -4,7 +4,7 @@ use Rattle.std.proofs.lemmas.List.{take_all}
 use Rattle.values.specs.declared.key.Key.{Key}
 use Rattle.group_state.specs.Keys.{tuple_cmp}
 use Rattle.top_rows.specs.Ties.{KeepsBy, pick, without}
-use Rattle.group_order.specs.Ranked.{shown_at}
+use Rattle.group_order.specs.Ranked.{placed_at}
 use Rattle.group_order.proofs.Following.{put-step}
 use Rattle.group_order.proofs.ranked.RankedGroups.put_all.Goals as goal
 
@@ -23,6 +23,6 @@ loop-tuple-preserved c =
 pub returns-clause-places : goal.returns-clause-places
 returns-clause-places c = λ before k.
     subst (λ (ts : List (List Key)). KeepsBy tuple_cmp c.args.self.now.ranking.order c.loop-tuple.self.places
-    (pick tuple_cmp ts (shown_at c.args.self.now.ranking c.args.self.now.groups)
+    (pick tuple_cmp ts (placed_at c.args.self.now.ranking c.args.self.now.groups)
     (without tuple_cmp c.args.tuples.now before)))
     (take_all c.loop-tuple.tuple-index c.args.tuples.now c.loop-tuple-test.false) (c.loop-tuple.invariant.1.1 before k)

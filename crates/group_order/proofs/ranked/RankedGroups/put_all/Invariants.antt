@@ -4,7 +4,7 @@ use Rattle.values.specs.Datum.{Datum}
 use Rattle.values.specs.declared.key.Key.{Key}
 use Rattle.group_state.specs.Keys.{tuple_cmp}
 use Rattle.top_rows.specs.Ties.{KeepsBy, pick, without}
-use Rattle.group_order.specs.Ranked.{shown_at}
+use Rattle.group_order.specs.Ranked.{placed_at}
 use Rattle.group_order.proofs.ranked.RankedGroups.put_all.Given as goal
 
 abbrev pub invariant-loop-tuple : goal.invariant-loop-tuple
@@ -14,5 +14,5 @@ invariant-loop-tuple l =
     × ((before : List Key → Option (List Datum))
     → KeepsBy tuple_cmp l.fn.self.ranking.order l.fn.self.places (without tuple_cmp l.tuples before)
     → KeepsBy tuple_cmp l.fn.self.ranking.order l.self.places
-    (pick tuple_cmp (take l.tuple-index l.tuples) (shown_at l.fn.self.ranking l.fn.self.groups)
+    (pick tuple_cmp (take l.tuple-index l.tuples) (placed_at l.fn.self.ranking l.fn.self.groups)
     (without tuple_cmp l.tuples before))))

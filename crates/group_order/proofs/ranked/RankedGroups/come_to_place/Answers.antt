@@ -9,9 +9,9 @@ use Rattle.group_state.specs.Grouped.{Grouped}
 use Rattle.group_state.specs.Groups.{Keeps as KeepsGroups}
 use Rattle.group_state.specs.Keys.{tuple_cmp}
 use Rattle.top_rows.specs.Ties.{place_by}
-use Rattle.group_order.specs.Ranked.{IsRanked, Ranked, shown_at}
+use Rattle.group_order.specs.Ranked.{IsRanked, Ranked, placed_at}
 use Rattle.group_order.proofs.Following.{ranked-one}
-use Rattle.group_order.proofs.ranked.RankedGroups.come.Goals as goal
+use Rattle.group_order.proofs.ranked.RankedGroups.come_to_place.Goals as goal
 
 pub returns-clause-kept : goal.returns-clause-kept
 returns-clause-kept g c = λ rows n s is k.
@@ -33,7 +33,7 @@ returns-clause-kept g c = λ rows n s is k.
           c.in_ok-tuple.ensures c.in_ok-come.ensures.others c.come.ensures.columns c.replace.ensures.groups
           c.replace.ensures.ranking
           (subst (λ (r : Ranked). c.in_ok-before.before
-          ≡ option_map (place_by tuple_cmp r.ranking.order t) (shown_at r.ranking r.groups t)) (sym c.self.view_is)
+          ≡ option_map (place_by tuple_cmp r.ranking.order t) (placed_at r.ranking r.groups t)) (sym c.self.view_is)
           c.in_ok-before.ensures)
           c.in_ok-after.ensures c.in_ok-replace.ensures.places (subst IsRanked (sym c.self.view_is) k.ranked);
     }

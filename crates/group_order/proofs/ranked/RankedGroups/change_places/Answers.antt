@@ -9,7 +9,7 @@ use Rattle.group_state.specs.Groups.{Keeps as KeepsGroups}
 use Rattle.group_state.specs.Touched.{StayBut, touches}
 use Rattle.group_order.specs.Ranked.{Ranked}
 use Rattle.group_order.proofs.Following.{ranked-again, through}
-use Rattle.group_order.proofs.ranked.RankedGroups.apply_change.Goals as goal
+use Rattle.group_order.proofs.ranked.RankedGroups.change_places.Goals as goal
 
 pub returns-clause-kept : goal.returns-clause-kept
 returns-clause-kept c = λ rows fits k.

@@ -1,0 +1,10 @@
+use Rattle.std.proofs.Common.{◌≡◌, ◌≤◌, length, map, take}
+use Rattle.view_lang.specs.Cells.{rows_of}
+use Rattle.group_state.specs.Seen.{seen_row}
+use Rattle.group_state.proofs.reading.read_first.Given as goal
+
+abbrev pub invariant-loop-tuple : goal.invariant-loop-tuple
+invariant-loop-tuple l =
+    (length l.made.items ≡ length l.yielded)
+    × ((length l.yielded ≤ l.most)
+    × (rows_of l.made.items ≡ map (seen_row l.columns l.outputs) (take (length l.yielded) l.groups.entries)))
