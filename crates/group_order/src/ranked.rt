@@ -43,7 +43,7 @@ ghost use Rattle.group_order.specs.RankedParts.{AreRanked, ranked_with};
 use crate::parts::RankedParts;
 use crate::place::GroupPlace;
 use crate::ranking::Ranking;
-use group_state::{Groups, Tuple};
+use group_state::{GroupRow, Groups, Tuple};
 use std::alloc::{AllocError, Global};
 use std::collections::BTreeSet;
 use std::marker::Model;
@@ -140,18 +140,28 @@ impl RankedGroups {
         })
     }
 
-    /// The row that is shown of a tuple's group, if there is one.
+    /// The row that is shown of a tuple's group where it lies, if there is one.
+    fn shown<'a>(&'a self, tuple: &'a Tuple) -> Option<GroupRow<'a>>
+        ensures { result ≡ shown_at self.now.ranking self.now.groups tuple.now }
+    {
+        let Some(row) = self.groups.row(self.ranking.outputs(), tuple) else {
+            return None;
+        };
+        if passes(self.ranking.having(), &row) {
+            Some(row)
+        } else {
+            None
+        }
+    }
+
+    /// A copy of the row that is shown of a tuple's group, if there is one.
     fn shown_row(&self, alloc: Global, tuple: &Tuple) -> Result<Option<Row>, AllocError>
         ensures { IfOk result (λ row.
             option_map (λ r. r.items) row ≡ shown_at self.now.ranking self.now.groups tuple.now) }
     {
-        let Some(row) = self.groups.row(alloc, self.ranking.outputs(), tuple)? else {
-            return Ok(None);
-        };
-        if passes(self.ranking.having(), &row.as_slice()) {
-            Ok(Some(row))
-        } else {
-            Ok(None)
+        match self.shown(tuple) {
+            Some(row) => Ok(Some(row.copy(alloc)?)),
+            None => Ok(None),
         }
     }
 
@@ -163,11 +173,11 @@ impl RankedGroups {
         if !self.ranking.has_places() {
             return Ok(None);
         }
-        let Some(row) = self.shown_row(self.alloc, tuple)? else {
+        let Some(row) = self.shown(tuple) else {
             return Ok(None);
         };
         let order = self.ranking.order();
-        Ok(Some(GroupPlace::of(self.alloc, order, tuple, &row.as_slice())?))
+        Ok(Some(GroupPlace::of(self.alloc, order, tuple, &row)?))
     }
 
     /// Puts a place in for another, where there are such.

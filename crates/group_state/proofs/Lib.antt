@@ -5,6 +5,7 @@ pub mod Halfway
 pub mod Members
 pub mod Same
 pub mod Seen
+pub mod SeenCells
 pub mod Steps
 pub mod Folds
 pub mod KeyData

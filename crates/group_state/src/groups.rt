@@ -52,6 +52,7 @@ ghost use Rattle.view_lang.specs.Shifts.{
 };
 
 use crate::group::Group;
+use crate::group_row::GroupRow;
 use crate::kept_columns::kept_columns;
 use crate::parts::GroupsParts;
 use crate::reading::{read_first, read_row, read_rows};
@@ -200,18 +201,17 @@ impl Groups {
     }
 
     /// The row of a tuple's group, if it has one.
-    pub fn row(
-        &self,
-        alloc: Global,
-        outputs: &[GroupOutput],
-        tuple: &Tuple,
-    ) -> Result<Option<Row>, AllocError>
-        ensures { IfOk result (λ row. option_map (λ r. r.items) row ≡ seen_at outputs.now self.now tuple.now) }
+    pub fn row<'a>(
+        &'a self,
+        outputs: &'a [GroupOutput],
+        tuple: &'a Tuple,
+    ) -> Option<GroupRow<'a>>
+        ensures { result ≡ seen_at outputs.now self.now tuple.now }
     {
         let columns = self.columns.as_slice();
         match self.groups.get(tuple) {
-            Some(group) => Ok(Some(read_row(alloc, outputs, tuple, group, columns)?)),
-            None => Ok(None),
+            Some(group) => Some(GroupRow::new(outputs, columns, tuple, group)),
+            None => None,
         }
     }
 

@@ -1,7 +1,7 @@
 //! Values by which rows are grouped and compared.
 
 ghost use Rattle.std.specs.Prelude.{◌≡◌, IfOk};
-ghost use Rattle.values.specs.CellViews.{viewed};
+ghost use Rattle.values.specs.CellViews.{shallow, viewed};
 ghost use Rattle.values.specs.Keys.{datum_of_key, key_of};
 ghost use Rattle.values.specs.declared.key.Key.TheVariants.{Null};
 ghost use Rattle.group_state.specs.Counts.{number_in};
@@ -124,6 +124,13 @@ impl KeyCell {
         ensures { result ≡ Null }
     {
         KeyCell { cell: no_value() }
+    }
+
+    /// The value where it lies.
+    pub(crate) fn view(&self) -> CellView<'_>
+        ensures { viewed result ≡ shallow (datum_of_key self.now) }
+    {
+        self.cell.view()
     }
 
     /// A copy of the value.

@@ -8,6 +8,7 @@
 
 mod cells;
 mod group;
+mod group_row;
 mod groups;
 mod kept_columns;
 mod key_cell;
@@ -20,6 +21,7 @@ mod tally;
 mod tests;
 mod tuple;
 
+pub use group_row::GroupRow;
 pub use groups::Groups;
 pub use parts::{GroupParts, GroupsParts, MultisetParts, TallyParts, ValueCount};
 pub use tuple::Tuple;

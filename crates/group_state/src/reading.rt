@@ -4,6 +4,7 @@ ghost use Rattle.std.specs.Prelude.{◌≡◌, IfOk, map, take};
 ghost use Rattle.group_state.specs.Reading.{AreRead};
 ghost use Rattle.group_state.specs.Seen.{seen_cell, seen_row};
 ghost use Rattle.group_state.specs.Keys.{tuple_cmp};
+ghost use Rattle.values.specs.CellViews.{shallow, viewed};
 ghost use Rattle.std.specs.Map.{keys_of};
 ghost use Rattle.std.specs.List.Sorted.{IsStrictlySortedBy};
 ghost use Rattle.view_lang.specs.Cells.{rows_of};
@@ -13,7 +14,7 @@ use crate::group::Group;
 use crate::tuple::Tuple;
 use std::alloc::{AllocError, Global};
 use std::collections::BTreeMap;
-use values::{Row, Value};
+use values::{CellView, Row, Value};
 use view_lang::{Aggregate, GroupOutput};
 
 /// What an output shows of a group.
@@ -48,6 +49,41 @@ pub(crate) fn read_cell(
         Aggregate::Greatest(k) => match group.tally(columns, k) {
             Some(tally) => Ok(tally.greatest_cell(alloc)?),
             None => Ok(no_value()),
+        },
+    }
+}
+
+/// What an output shows of a group, where it lies.
+pub(crate) fn view_cell<'a>(
+    aggregate: Aggregate,
+    tuple: &'a Tuple,
+    group: &'a Group,
+    columns: &[usize],
+) -> CellView<'a>
+    ensures { viewed result ≡ shallow (seen_cell columns.now (tuple.now, group.now) aggregate) }
+{
+    match aggregate {
+        Aggregate::Key(k) => tuple.view(k),
+        Aggregate::Count => CellView::Int(group.rows() as i128),
+        Aggregate::CountOf(k) => match group.tally(columns, k) {
+            Some(tally) => tally.view_count(),
+            None => CellView::Null,
+        },
+        Aggregate::Distinct(k) => match group.tally(columns, k) {
+            Some(tally) => tally.view_distinct(),
+            None => CellView::Null,
+        },
+        Aggregate::Sum(k) => match group.tally(columns, k) {
+            Some(tally) => tally.view_sum(),
+            None => CellView::Null,
+        },
+        Aggregate::Least(k) => match group.tally(columns, k) {
+            Some(tally) => tally.view_least(),
+            None => CellView::Null,
+        },
+        Aggregate::Greatest(k) => match group.tally(columns, k) {
+            Some(tally) => tally.view_greatest(),
+            None => CellView::Null,
         },
     }
 }

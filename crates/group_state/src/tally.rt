@@ -3,6 +3,7 @@
 ghost use Rattle.std.specs.Prelude.{◌≡◌, ◌<◌, ◌^◌, ◌∷◌, List, OnOk, IfOk, length, []};
 ghost use Rattle.std.proofs.Common.{option_map};
 ghost use Rattle.std.specs.Int.{int_wrap};
+ghost use Rattle.values.specs.CellViews.{shallow, viewed};
 ghost use Rattle.values.specs.Datum.{Datum};
 ghost use Rattle.group_state.specs.Counts.{weighted};
 ghost use Rattle.group_state.specs.Reading.{datum_in};
@@ -18,7 +19,7 @@ use crate::multiset::Multiset;
 use crate::parts::TallyParts;
 use crate::row_cells::{is_null_at, key_cell_at};
 use std::alloc::{AllocError, Global};
-use values::Value;
+use values::{CellView, Value};
 use view_lang::RowView;
 
 /// The tally of a column of a group: how many cells aren't null, and the multiset of those that are neither lists nor
@@ -102,6 +103,44 @@ impl Tally {
         Ok(key_cell(alloc, self.values.greatest())?)
     }
 
+    /// How many cells aren't null, as a cell.
+    pub(crate) fn view_count(&self) -> CellView<'_>
+        ensures { viewed result ≡ seen_count self.now }
+    {
+        CellView::Int(self.filled as i128)
+    }
+
+    /// How many distinct values the cells have, as a cell.
+    pub(crate) fn view_distinct(&self) -> CellView<'_>
+        ensures { viewed result ≡ seen_distinct self.now }
+    {
+        CellView::Int(self.values.count_distinct() as i128)
+    }
+
+    /// The sum of the cells, as a cell; null where all are null.
+    pub(crate) fn view_sum(&self) -> CellView<'_>
+        ensures { viewed result ≡ seen_sum self.now }
+    {
+        if self.filled == 0 {
+            return CellView::Null;
+        }
+        CellView::Int(self.sum())
+    }
+
+    /// The least of the cells where it lies; null where all are null.
+    pub(crate) fn view_least(&self) -> CellView<'_>
+        ensures { viewed result ≡ shallow (seen_least self.now) }
+    {
+        view_of(self.values.least())
+    }
+
+    /// The greatest of the cells where it lies; null where all are null.
+    pub(crate) fn view_greatest(&self) -> CellView<'_>
+        ensures { viewed result ≡ shallow (seen_greatest self.now) }
+    {
+        view_of(self.values.greatest())
+    }
+
     /// Adds a row's cell.
     pub(crate) fn add<R: RowView>(
         &mut self,
@@ -143,6 +182,16 @@ impl Tally {
         }
         self.filled = self.filled.saturating_sub(1);
         Ok(())
+    }
+}
+
+/// The value where it lies; null where there is none.
+fn view_of<'a>(key: Option<&'a KeyCell>) -> CellView<'a>
+    ensures { viewed result ≡ shallow (datum_in (option_map (λ k. k.now) key.entry)) }
+{
+    match key {
+        Some(key) => key.view(),
+        None => CellView::Null,
     }
 }
 

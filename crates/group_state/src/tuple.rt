@@ -2,6 +2,7 @@
 
 ghost use Rattle.std.specs.Prelude.{◌≡◌, All, IfOk, [], map};
 ghost use Rattle.view_lang.specs.ViewLaws.{IsKeyCell};
+ghost use Rattle.values.specs.CellViews.{shallow, viewed};
 ghost use Rattle.view_lang.specs.Cells.{cell_at};
 ghost use Rattle.group_state.specs.Reading.{data_of};
 ghost use Rattle.group_state.specs.Rows.{cell};
@@ -14,7 +15,7 @@ use crate::row_cells::key_cell_at;
 use std::alloc::{AllocError, Global};
 use std::cmp::Ordering;
 use std::marker::Model;
-use values::{Row, Value};
+use values::{CellView, Row, Value};
 use view_lang::RowView;
 
 /// A grouping tuple: what a row has in the grouping columns, in order. Contracts see the list of keys.
@@ -141,6 +142,16 @@ impl Tuple {
     {
         Tuple {
             keys: Vec::new(alloc),
+        }
+    }
+
+    /// The value at place `k` where it lies; null where there is none.
+    pub(crate) fn view(&self, k: usize) -> CellView<'_>
+        ensures { viewed result ≡ shallow (cell_at (data_of self.now) k) }
+    {
+        match self.keys.get(k) {
+            Some(key) => key.view(),
+            None => CellView::Null,
         }
     }
 
