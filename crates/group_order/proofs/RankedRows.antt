@@ -1,6 +1,6 @@
 -- The rows of the first places are the first of the definition's group rows.
 use Rattle.std.proofs.Common.{◌≡◌, refl, ap, ap₂, sym, ◌∙◌, subst, arith, get_or, length, true≢false}
-use Rattle.std.specs.Prelude.{◌++◌, ◌+◌, ◌<◌, ℕ, zero, suc, Bool, true, false, cond, filter, List, [], ◌∷◌, map, Option, None, Some, take}
+use Rattle.std.specs.Prelude.{◌++◌, ◌+◌, ◌<◌, ℕ, ℤ, zero, suc, Bool, true, false, cond, filter, List, [], ◌∷◌, map, Option, None, Some, take}
 use Rattle.std.specs.BTreeMap.{is_at}
 use Rattle.std.specs.Cmp.{Equal-is, eq_by_cmp_equiv}
 use Rattle.std.specs.declared.cmp.Ordering.TheVariants.{Less}
@@ -34,8 +34,23 @@ use Rattle.group_state.specs.Grouped.{Grouped}
 use Rattle.group_state.specs.Groups.{Keeps as KeepsGroups, KeepsAt}
 use Rattle.group_state.specs.Keys.{tuple_cmp, tuple_total}
 use Rattle.group_state.specs.Reading.{AreRead, CanReadAll, data_of, datum_in}
-use Rattle.group_state.specs.Seen.{seen_cell, seen_in, seen_row, sum_by, tally_at}
+use Rattle.group_state.specs.Folds.{first_of, last_of}
+use Rattle.group_state.specs.KeptColumns.{counted, valued}
+use Rattle.group_state.specs.Seen.{
+  seen_cell,
+  seen_count,
+  seen_distinct,
+  seen_greatest,
+  seen_in,
+  seen_least,
+  seen_row,
+  seen_sum,
+  sum_by,
+  tally_at,
+}
+use Rattle.group_state.specs.declared.kept_columns.KeptColumn.{KeptColumn}
 use Rattle.group_state.specs.declared.tally.Tally.{Tally}
+use Rattle.group_state.specs.declared.tally.Tally.TheVariants as tally
 use Rattle.group_state.proofs.GroupLaw.{all-read}
 use Rattle.group_state.proofs.Members.{tuple_exact}
 use Rattle.group_state.proofs.Seen.{seen-read}
@@ -63,35 +78,56 @@ data-cell [] k = refl
 data-cell (x ∷ xs) zero = key-cell x
 data-cell (x ∷ xs) (suc k) = data-cell xs k
 
-sum-cell : (n : ℕ) (es : List (Key × ℕ)) → IsKeyCell (sum_by n es)
-sum-cell zero es = refl
-sum-cell (suc n) es = refl
+sum-cell : (n : ℕ) (sum : ℤ) → IsKeyCell (sum_by n sum)
+sum-cell zero sum = refl
+sum-cell (suc n) sum = refl
+
+count-of : (t : Tally) → IsKeyCell (seen_count t)
+count-of (tally.Total t) = refl
+count-of (tally.Values es) = refl
+
+distinct-of : (t : Tally) → IsKeyCell (seen_distinct t)
+distinct-of (tally.Total t) = refl
+distinct-of (tally.Values es) = refl
+
+sum-of : (t : Tally) → IsKeyCell (seen_sum t)
+sum-of (tally.Total t) = sum-cell t.filled t.total
+sum-of (tally.Values es) = refl
+
+least-of : (t : Tally) → IsKeyCell (seen_least t)
+least-of (tally.Total t) = refl
+least-of (tally.Values es) = some-cell (first_of es)
+
+greatest-of : (t : Tally) → IsKeyCell (seen_greatest t)
+greatest-of (tally.Total t) = refl
+greatest-of (tally.Values es) = some-cell (last_of es)
 
 in-cell : (f : Tally → Datum) (o : Option Tally) → ((t : Tally) → IsKeyCell (f t)) → IsKeyCell (seen_in f o)
 in-cell f None h = refl
 in-cell f (Some t) h = h t
 
-one-cell : (columns : List ℕ) (e : List Key × GroupCounts) (a : Aggregate) → IsKeyCell (seen_cell columns e a)
+one-cell : (columns : List KeptColumn) (e : List Key × GroupCounts) (a : Aggregate)
+    → IsKeyCell (seen_cell columns e a)
 one-cell columns e (aggregate.Key k) = data-cell e.0 k
 one-cell columns e aggregate.Count = refl
-one-cell columns e (aggregate.CountOf k) = in-cell _ (tally_at columns e.1.tallies k) (λ t. refl)
-one-cell columns e (aggregate.Distinct k) = in-cell _ (tally_at columns e.1.tallies k) (λ t. refl)
-one-cell columns e (aggregate.Sum k) = in-cell _ (tally_at columns e.1.tallies k) (λ t. sum-cell t.filled t.values)
-one-cell columns e (aggregate.Least k) = in-cell _ (tally_at columns e.1.tallies k) (λ t. some-cell _)
-one-cell columns e (aggregate.Greatest k) = in-cell _ (tally_at columns e.1.tallies k) (λ t. some-cell _)
+one-cell columns e (aggregate.CountOf k) = in-cell seen_count (tally_at columns e.1.tallies (counted k)) count-of
+one-cell columns e (aggregate.Distinct k) = in-cell seen_distinct (tally_at columns e.1.tallies (valued k)) distinct-of
+one-cell columns e (aggregate.Sum k) = in-cell seen_sum (tally_at columns e.1.tallies (counted k)) sum-of
+one-cell columns e (aggregate.Least k) = in-cell seen_least (tally_at columns e.1.tallies (valued k)) least-of
+one-cell columns e (aggregate.Greatest k) = in-cell seen_greatest (tally_at columns e.1.tallies (valued k)) greatest-of
 
-each-cell : (columns : List ℕ) (outs : List GroupOutput) (e : List Key × GroupCounts) (k : ℕ)
+each-cell : (columns : List KeptColumn) (outs : List GroupOutput) (e : List Key × GroupCounts) (k : ℕ)
     → IsKeyCell (cell_at (seen_row columns outs e) k)
 each-cell columns [] e k = refl
 each-cell columns (o ∷ os) e zero = one-cell columns e o.aggregate
 each-cell columns (o ∷ os) e (suc k) = each-cell columns os e k
 
-ordered-cells : (columns : List ℕ) (outs : List GroupOutput) (e : List Key × GroupCounts) (order : List OrderBy)
+ordered-cells : (columns : List KeptColumn) (outs : List GroupOutput) (e : List Key × GroupCounts) (order : List OrderBy)
     → OrdersKeys order (seen_row columns outs e)
 ordered-cells columns outs e [] = tt
 ordered-cells columns outs e (o ∷ os) = (each-cell columns outs e o.column, ordered-cells columns outs e os)
 
-module _ (columns : List ℕ) (outs : List GroupOutput) where
+module _ (columns : List KeptColumn) (outs : List GroupOutput) where
   -- the rows that are shown of groups, by their tuples
   abbrev pub shown : List (List Key × GroupCounts) → List (List Key × List Datum)
   shown es = map (λ e. (e.0, seen_row columns outs e)) es
@@ -296,7 +332,7 @@ bare-first s g r made shown taken n a b none cut passed read rows k can =
     ∙ sym (one-sorted r.order r.having g.keys r.outputs rows none))
     ∙ ap (λ y. take n (ranked_rows y.keys r rows)) a ∙ ap (λ x. take n (ranked_rows s.groups.keys x rows)) b
 
-none-there : {X : Type 0} (f : GroupCounts → X) (columns : List ℕ) (o : Option GroupCounts) → KeepsAt columns [] o
+none-there : {X : Type 0} (f : GroupCounts → X) (columns : List KeptColumn) (o : Option GroupCounts) → KeepsAt columns [] o
     → option_map f o ≡ None
 none-there f columns None h = refl
 none-there f columns (Some g) h = absurd (omega (arith, h.0, h.1.rows_are))

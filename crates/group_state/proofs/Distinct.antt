@@ -20,12 +20,11 @@ use Rattle.view_lang.specs.Groups.{count_of, distinct}
 use Rattle.view_lang.specs.SortedEntries.{lookup-insert_entry}
 use Rattle.view_lang.specs.ViewLaws.{IsKeyCell}
 use Rattle.view_lang.proofs.Distinct.{length-distinct, one_unless}
-use Rattle.group_state.specs.Cells.{KeepsCells}
+use Rattle.group_state.specs.Cells.{KeepsValues}
 use Rattle.group_state.specs.Counts.{had}
 use Rattle.group_state.specs.Folds.{keys_in, multiset_of}
 use Rattle.group_state.specs.Keys.{key_cmp, key_total}
 use Rattle.group_state.specs.Reading.{filled}
-use Rattle.group_state.specs.declared.tally.Tally.{Tally}
 use Rattle.group_state.proofs.Folds.{kept-values, multiset-sorted}
 use Rattle.group_state.proofs.KeyData.{key-data}
 
@@ -100,8 +99,7 @@ distinct-is (bytes b ∷ ds) a = distinct_step (key.Binary b) ds a.1 (distinct-i
 distinct-is (list es ∷ ds) a = absurd (true≢false (sym a.0))
 distinct-is (structure es ∷ ds) a = absurd (true≢false (sym a.0))
 
-pub kept-distinct : (t : Tally) (cells : List Datum) → KeepsCells t cells
-    → IsStrictlySortedBy key_cmp (keys_of t.values) → All (λ n. 0 < n) (values_of t.values)
-    → AllByRecursion IsKeyCell cells → whole (pos (length t.values)) ≡ count_of (distinct (filled cells))
-kept-distinct t cells k s p a =
-    ap (λ n. whole (pos n)) (ap length (kept-values t cells s p k) ∙ distinct-is cells a)
+pub kept-distinct : (es : List (Key × ℕ)) (cells : List Datum) → KeepsValues es cells
+    → AllByRecursion IsKeyCell cells → whole (pos (length es)) ≡ count_of (distinct (filled cells))
+kept-distinct es cells k a =
+    ap (λ n. whole (pos n)) (ap length (kept-values es cells k) ∙ distinct-is cells a)

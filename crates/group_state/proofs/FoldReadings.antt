@@ -49,7 +49,7 @@ use Rattle.view_lang.specs.declared.view.Direction.{Direction}
 use Rattle.view_lang.specs.declared.view.Direction.TheVariants as direction
 use Rattle.group_state.specs.Keys.{key_cmp, key_total}
 use Rattle.group_state.specs.Counts.{number_in, had}
-use Rattle.group_state.specs.Cells.{is_filled, KeepsCells}
+use Rattle.group_state.specs.Cells.{is_filled, KeepsTotal, KeepsValues}
 use Rattle.group_state.specs.Folds.{
   keys_in,
   sum_of,
@@ -65,7 +65,8 @@ use Rattle.group_state.specs.Reading.{datum_in, filled}
 use Rattle.view_lang.proofs.ExactKeys.{key_exact}
 use Rattle.group_state.proofs.KeyData.{key-data}
 use Rattle.group_state.proofs.Folds.{multiset-sorted, multiset-least, kept-values}
-use Rattle.group_state.specs.declared.tally.Tally.{Tally}
+use Rattle.group_state.specs.declared.total.Total.{Total}
+use Rattle.std.proofs.lemmas.Int.{int_wrap_fits}
 use Rattle.std.specs.List.{All}
 use Rattle.std.specs.Map.{values_of}
 use Rattle.std.specs.Prelude.{FitsSigned, ◌<◌}
@@ -250,25 +251,22 @@ sum_some : (ds : List Datum) → 0 < length ds → whole (total ds) ≡ sum_by d
 sum_some [] h = absurd (omega (arith, h))
 sum_some (d ∷ ds) h = refl
 
-module _ (t : Tally) (cells : List Datum) (k : KeepsCells t cells) where
+module _ (t : Total) (cells : List Datum) (k : KeepsTotal t cells) where
   pub kept-count : whole (pos t.filled) ≡ count_of (filled cells)
   kept-count = ap (λ n. whole (pos n)) (k.filled_is ∙ count-filled cells)
 
   pub kept-none : t.filled ≡ 0 → null ≡ sum_by (filled cells)
   kept-none h = sum_none (filled cells) (sym (k.filled_is ∙ count-filled cells) ∙ h)
 
-  pub kept-some : 0 < t.filled → whole (total (filled cells)) ≡ sum_by (filled cells)
-  kept-some h = sum_some (filled cells) (subst (λ n. 0 < n) (k.filled_is ∙ count-filled cells) h)
+  pub kept-some : 0 < t.filled → FitsSigned w128 (total (filled cells)) → whole t.total ≡ sum_by (filled cells)
+  kept-some h f =
+      ap whole (k.total_is ∙ int_wrap_fits w128 (total (filled cells)) f)
+      ∙ sum_some (filled cells) (subst (λ n. 0 < n) (k.filled_is ∙ count-filled cells) h)
 
-  pub sum-fits : FitsSigned w128 (total (filled cells)) → FitsSigned w128 (sum_of (keys_in cells))
-  sum-fits f = subst (FitsSigned w128) (sym (sum-total cells)) f
+module _ (es : List (Key × ℕ)) (cells : List Datum) (k : KeepsValues es cells) (a : AllByRecursion IsKeyCell cells) where
+  pub kept-least : datum_in (first_of es) ≡ first_in direction.Ascending (filled cells)
+  kept-least = ap datum_in (ap first_of (kept-values es cells k) ∙ multiset-least (keys_in cells)) ∙ least-is cells a
 
-  module _ (s : IsStrictlySortedBy key_cmp (keys_of t.values)) (p : All (λ n. 0 < n) (values_of t.values))
-      (a : AllByRecursion IsKeyCell cells) where
-    pub kept-least : datum_in (first_of t.values) ≡ first_in direction.Ascending (filled cells)
-    kept-least = ap datum_in (ap first_of (kept-values t cells s p k) ∙ multiset-least (keys_in cells))
-        ∙ least-is cells a
-
-    pub kept-greatest : datum_in (last_of t.values) ≡ first_in direction.Descending (filled cells)
-    kept-greatest = ap datum_in (ap last_of (kept-values t cells s p k) ∙ multiset-greatest (keys_in cells))
-        ∙ greatest-is cells a
+  pub kept-greatest : datum_in (last_of es) ≡ first_in direction.Descending (filled cells)
+  kept-greatest =
+      ap datum_in (ap last_of (kept-values es cells k) ∙ multiset-greatest (keys_in cells)) ∙ greatest-is cells a

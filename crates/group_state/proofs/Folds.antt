@@ -47,8 +47,7 @@ use Rattle.std.specs.Int.{int_wrap}
 use Rattle.std.specs.Int.RustNames.{FitsSigned}
 use mir.Syntax.{w128}
 use Rattle.std.proofs.lemmas.Int.{int_wrap_fits}
-use Rattle.group_state.specs.declared.tally.Tally.{Tally}
-use Rattle.group_state.specs.Cells.{KeepsCells, is_value, is_key}
+use Rattle.group_state.specs.Cells.{KeepsValues, is_value, is_key}
 use Rattle.group_state.specs.Folds.{multiset_of, sum_of, times_in, keys_in, push_key, least_of, lesser, first_of}
 use Rattle.view_lang.proofs.ExactKeys.{key_exact}
 use Rattle.group_state.proofs.Had.{had-put}
@@ -178,17 +177,9 @@ count-values q [] = refl
 count-values q (d ∷ ds) = sum_by-cons (λ (x : Datum). cond (is_value q x) 1 0) d ds
     ∙ key-by q d ds (count-values q ds) (is_null d) refl (key_of d) refl
 
-pub kept-values : (t : Tally) (cells : List Datum) → IsStrictlySortedBy key_cmp (keys_of t.values)
-    → All (λ n. 0 < n) (values_of t.values) → KeepsCells t cells → t.values ≡ multiset_of (keys_in cells)
-kept-values t cells s p k = entries-from_counts t.values (keys_in cells) s p
+pub kept-values : (es : List (Key × ℕ)) (cells : List Datum) → KeepsValues es cells → es ≡ multiset_of (keys_in cells)
+kept-values es cells k = entries-from_counts es (keys_in cells) k.ascending k.present
     (λ q. k.values_are q ∙ count-values q cells)
-
-pub kept-sum : (t : Tally) (cells : List Datum) (r : ℤ) → IsStrictlySortedBy key_cmp (keys_of t.values)
-    → All (λ n. 0 < n) (values_of t.values) → r ≡ int_wrap w128 (weighted t.values)
-    → FitsSigned w128 (sum_of (keys_in cells)) → KeepsCells t cells → r ≡ sum_of (keys_in cells)
-kept-sum t cells r s p e f k =
-    e ∙ ap (int_wrap w128) (ap weighted (kept-values t cells s p k) ∙ multiset-sum (keys_in cells))
-    ∙ int_wrap_fits w128 (sum_of (keys_in cells)) f
 
 -- the first of a multiset is the least of its values
 first-put : (k : Key) (v : ℕ) (es : List (Key × ℕ)) → first_of (insert_entry key_cmp es k v)

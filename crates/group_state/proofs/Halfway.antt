@@ -28,7 +28,6 @@ use Rattle.std.specs.Prelude.{
   Bool,
   false,
   slice_index_or,
-  slice_index,
   slice_set,
   Option,
   Some,
@@ -40,38 +39,83 @@ use Rattle.std.specs.Prelude.{
 }
 use Rattle.std.proofs.lemmas.List.Sums.{sum_by-cons}
 use Rattle.std.proofs.lemmas.Bool.{cases_eq}
+use Rattle.std.proofs.lemmas.List.{length-map}
+use Rattle.std.proofs.lemmas.Int.{int_wrap_fits, ints}
+use mir.Syntax.{w128}
 use Rattle.std.proofs.Math.ListN.{length-set}
+use Rattle.std.specs.List.Sorted.{IsStrictlySortedBy}
+use Rattle.view_lang.specs.Groups.{total}
 use Rattle.values.specs.Datum.{Datum, null}
 use Rattle.values.specs.declared.key.Key.{Key}
+use Rattle.group_state.specs.declared.kept_columns.KeptColumn.{KeptColumn}
 use Rattle.group_state.specs.declared.tally.Tally.{Tally}
-use Rattle.group_state.specs.Cells.{KeepsCells, is_filled, is_value}
+use Rattle.group_state.specs.Cells.{KeepsCells, fresh}
+use Rattle.group_state.specs.declared.kept_columns.KeptForm.{KeptForm}
+use Rattle.group_state.specs.declared.kept_columns.KeptForm.TheVariants as kept
+use Rattle.std.specs.Prelude.{◌^◌, map, pos, suc, zero}
 use Rattle.group_state.specs.Rows.{KeepsEach, KeepsRows, cell, cells}
 
 -- the first n tallies are those of some rows, the others still those of others
-pub record Halfway (columns : List ℕ) (tallies : List Tally) (n : ℕ) (done left : List (List Datum)) : Type 0 where
+pub record Halfway (columns : List KeptColumn) (tallies : List Tally) (n : ℕ) (done left : List (List Datum)) : Type 0 where
   pub count : length tallies ≡ length columns
-  pub behind : (i : ℕ) (d : Tally) → i < n → i < length columns → KeepsCells (slice_index_or tallies i d)
-      (cells (slice_index columns i) done)
-  pub ahead : (i : ℕ) (d : Tally) → n ≤ i → i < length columns → KeepsCells (slice_index_or tallies i d)
-      (cells (slice_index columns i) left)
+  pub behind : (i : ℕ) (c : KeptColumn) (d : Tally) → i < n → i < length columns
+      → KeepsCells (slice_index_or columns i c).form (slice_index_or tallies i d)
+      (cells (slice_index_or columns i c).column done)
+  pub ahead : (i : ℕ) (c : KeptColumn) (d : Tally) → n ≤ i → i < length columns
+      → KeepsCells (slice_index_or columns i c).form (slice_index_or tallies i d)
+      (cells (slice_index_or columns i c).column left)
 
-pub halfway-none : (columns : List ℕ) (tallies : List Tally) (done left : List (List Datum))
+pub halfway-none : (columns : List KeptColumn) (tallies : List Tally) (done left : List (List Datum))
     → KeepsEach columns tallies left → Halfway columns tallies 0 done left
 halfway-none columns tallies done left k =
-    record { count = k.count; behind = λ i d h. absurd (omega arith); ahead = λ i d h. k.each i d }
+    record { count = k.count; behind = λ i c d h. absurd (omega arith); ahead = λ i c d h. k.each i c d }
 
-pub halfway-all : (columns : List ℕ) (tallies : List Tally) (n : ℕ) (done left : List (List Datum)) → length columns ≤ n
+pub halfway-all : (columns : List KeptColumn) (tallies : List Tally) (n : ℕ) (done left : List (List Datum)) → length columns ≤ n
     → Halfway columns tallies n done left → KeepsEach columns tallies done
-halfway-all columns tallies n done left h k = record { count = k.count; each = λ i d l. k.behind i d (omega arith) l }
+halfway-all columns tallies n done left h k = record { count = k.count; each = λ i c d l. k.behind i c d (omega arith) l }
 
-pub halfway-more : (columns : List ℕ) (tallies : List Tally) (n : ℕ) (done left : List (List Datum)) (t : Tally)
+same-at : (columns : List KeptColumn) (n : ℕ) (a b : KeptColumn) → n < length columns
+    → slice_index_or columns n a ≡ slice_index_or columns n b
+same-at [] n a b h = absurd (omega (arith, h))
+same-at (c ∷ cs) zero a b h = refl
+same-at (c ∷ cs) (suc n) a b h = same-at cs n a b (omega (arith, h))
+
+pub halfway-more : (columns : List KeptColumn) (tallies : List Tally) (n : ℕ) (done left : List (List Datum)) (t : Tally)
     → Halfway columns tallies n done left → n < length columns
-    → KeepsCells t (cells (slice_index columns n) done) → Halfway columns (slice_set tallies n t) (n + 1) done left
-halfway-more columns tallies n done left t k h e =
+    → (at : KeptColumn) → KeepsCells (slice_index_or columns n at).form t (cells (slice_index_or columns n at).column done)
+    → Halfway columns (slice_set tallies n t) (n + 1) done left
+halfway-more columns tallies n done left t k h at e =
     let small : n < length tallies = let c = k.count in omega arith in
+    let own : (c : KeptColumn)
+    → KeepsCells (slice_index_or columns n c).form t (cells (slice_index_or columns n c).column done) =
+    λ c. subst (λ (x : KeptColumn). KeepsCells x.form t (cells x.column done)) (same-at columns n at c h) e in
     record {
       count = length-set tallies n t ∙ k.count;
-      behind = λ i d b l. ⊎_elim (λ (q : i ≡ n). rw q (rw get_or-set_same e))
-          (λ (q : i ≢ n). rw get_or-set_other (k.behind i d (omega arith) l)) (cases_eq i n);
-      ahead = λ i d b l. let q : i ≢ n = omega arith in rw get_or-set_other (k.ahead i d (omega arith) l);
+      behind = λ i c d b l. ⊎_elim (λ (q : i ≡ n). rw q (rw get_or-set_same (own c)))
+          (λ (q : i ≢ n). rw get_or-set_other (k.behind i c d (omega arith) l)) (cases_eq i n);
+      ahead = λ i c d b l. let q : i ≢ n = omega arith in rw get_or-set_other (k.ahead i c d (omega arith) l);
     }
+
+pub cells-few : (j : ℕ) (rows : List (List Datum)) → length rows < 2 ^ 62 → length (cells j rows) < 2 ^ 62
+cells-few j rows h = rw length-map h
+
+-- Fresh tallies are those of no rows.
+
+pub fresh-form : (form : KeptForm) → KeepsCells form (fresh form) []
+unfolding total IsStrictlySortedBy
+fresh-form kept.Total =
+    record { filled_is = refl; total_is = sym (int_wrap_fits w128 (pos 0) (omega (arith, ints))) }
+fresh-form kept.Values =
+    record { values_are = λ q. refl; ascending = tt; present = λ i d h. absurd (omega arith) }
+
+fresh-each : (columns : List KeptColumn) (i : ℕ) (c : KeptColumn) (d : Tally) → i < length columns
+    → KeepsCells (slice_index_or columns i c).form (slice_index_or (map (λ (k : KeptColumn). fresh k.form) columns) i d) []
+fresh-each [] i c d l = absurd (omega (arith, l))
+fresh-each (k ∷ ks) zero c d l = fresh-form k.form
+fresh-each (k ∷ ks) (suc i) c d l = fresh-each ks i c d (omega (arith, l))
+
+pub fresh-rows : (columns : List KeptColumn) (tallies : List Tally)
+    → tallies ≡ map (λ (k : KeptColumn). fresh k.form) columns → KeepsEach columns tallies []
+fresh-rows columns tallies is =
+    subst (λ ts. KeepsEach columns ts []) (sym is)
+    (record { count = length-map columns (λ (k : KeptColumn). fresh k.form); each = fresh-each columns })

@@ -1,5 +1,4 @@
 pub mod Weights
-pub mod Tied
 pub mod Had
 pub mod Halfway
 pub mod Members
@@ -15,6 +14,8 @@ pub mod GroupReadings
 pub mod Sums
 pub mod GroupLaw
 pub mod Keeping
+pub mod Present
 pub mod SampleFits
 pub mod Taken
+pub mod Totals
 pub mod Touched

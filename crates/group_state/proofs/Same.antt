@@ -13,6 +13,26 @@ use Rattle.group_state.specs.Grouped.{Grouped}
 use Rattle.group_state.specs.Cells.{KeepsCells, is_filled, is_value}
 use Rattle.group_state.specs.Rows.{KeepsRows, KeepsEach, cell, cells}
 use Rattle.group_state.specs.Tuples.{has_tuple, members}
+use Rattle.std.specs.Prelude.{slice_index_or}
+use Rattle.std.specs.Int.{int_wrap}
+use mir.Syntax.{w128}
+use Rattle.view_lang.specs.Groups.{total}
+use Rattle.group_state.specs.Counts.{weighted}
+use Rattle.group_state.specs.Folds.{keys_in, multiset_of}
+use Rattle.group_state.specs.declared.kept_columns.KeptColumn.{KeptColumn}
+use Rattle.group_state.specs.declared.kept_columns.KeptForm.{KeptForm}
+use Rattle.group_state.specs.declared.kept_columns.KeptForm.TheVariants as kept
+use Rattle.group_state.specs.declared.tally.Tally.{Tally}
+use Rattle.group_state.specs.declared.tally.Tally.TheVariants as tally
+use Rattle.group_state.proofs.FoldReadings.{sum-total}
+use Rattle.group_state.proofs.Folds.{
+  count-values,
+  entries-from_counts,
+  multiset-had,
+  multiset-present,
+  multiset-sorted,
+  multiset-sum,
+}
 use Rattle.group_state.specs.Groups.{Keeps, KeepsAt}
 
 cell_by : (p : Datum → Bool) (t : List Datum → Bool) (j : ℕ) (r : List Datum) (rs : List (List Datum))
@@ -35,6 +55,19 @@ nil : {A : Type 0} (xs : List A) → length xs ≡ 0 → xs ≡ []
 nil [] h = refl
 nil (x ∷ xs) h = absurd (omega arith)
 
+-- the sum of cells is told by how often each value is among them
+total-weighted : (ds : List Datum) → total (filter is_filled ds) ≡ weighted (multiset_of (keys_in ds))
+total-weighted ds = sym (sum-total ds) ∙ sym (multiset-sum (keys_in ds))
+
+total-same : (cs ds : List Datum) → ((q : Key) → count_by (is_value q) cs ≡ count_by (is_value q) ds)
+    → total (filter is_filled cs) ≡ total (filter is_filled ds)
+total-same cs ds h =
+    total-weighted cs
+    ∙ ap weighted (entries-from_counts (multiset_of (keys_in cs)) (keys_in ds) (multiset-sorted (keys_in cs))
+    (multiset-present (keys_in cs))
+    (λ q. multiset-had (keys_in cs) q ∙ sym (count-values q cs) ∙ h q ∙ count-values q ds))
+    ∙ sym (total-weighted ds)
+
 module _ (xs ys : List (List Datum)) (same : (p : List Datum → Bool) → count_by p xs ≡ count_by p ys) where
   cells-same : (p : Datum → Bool) (t : List Datum → Bool) (j : ℕ) → count_by p (cells j (filter t xs))
       ≡ count_by p (cells j (filter t ys))
@@ -44,7 +77,23 @@ module _ (xs ys : List (List Datum)) (same : (p : List Datum → Bool) → count
   length-same : (t : List Datum → Bool) → length (filter t xs) ≡ length (filter t ys)
   length-same t = length-filter t xs ∙ same t ∙ sym (length-filter t ys)
 
-  at-same : (columns : List ℕ) (t : List Datum → Bool) (o : Option GroupCounts) → KeepsAt columns (filter t xs) o
+  tally-same : (t : List Datum → Bool) (j : ℕ) (form : KeptForm) (d : Tally)
+      → KeepsCells form d (cells j (filter t xs)) → KeepsCells form d (cells j (filter t ys))
+  tally-same t j kept.Total (tally.Total n) k = record {
+    filled_is = k.filled_is ∙ cells-same is_filled t j;
+    total_is =
+        k.total_is ∙ ap (int_wrap w128)
+        (total-same (cells j (filter t xs)) (cells j (filter t ys)) (λ q. cells-same (is_value q) t j));
+  }
+  tally-same t j kept.Total (tally.Values es) k = absurd k
+  tally-same t j kept.Values (tally.Total n) k = absurd k
+  tally-same t j kept.Values (tally.Values es) k = record {
+    values_are = λ q. k.values_are q ∙ cells-same (is_value q) t j;
+    ascending = k.ascending;
+    present = k.present;
+  }
+
+  at-same : (columns : List KeptColumn) (t : List Datum → Bool) (o : Option GroupCounts) → KeepsAt columns (filter t xs) o
       → KeepsAt columns (filter t ys) o
   at-same columns t None k = nil (filter t ys) (sym (length-same t) ∙ ap length k)
   at-same columns t (Some g) k = (
@@ -53,14 +102,8 @@ module _ (xs ys : List (List Datum)) (same : (p : List Datum → Bool) → count
       rows_are = k.1.rows_are ∙ length-same t;
       tallies_are = record {
         count = k.1.tallies_are.count;
-        each = λ i d h. let c = k.1.tallies_are.each i d h in
-            record {
-              filled_is = c.filled_is ∙ cells-same is_filled t _;
-              values_are =
-                  λ q. c.values_are q ∙ cells-same (is_value q) t _;
-              ascending = c.ascending;
-              present = c.present;
-            };
+        each = λ i c d h. tally-same t (slice_index_or columns i c).column (slice_index_or columns i c).form
+            (slice_index_or g.tallies i d) (k.1.tallies_are.each i c d h);
       };
     },
   )

@@ -40,6 +40,7 @@ use Rattle.view_lang.specs.ViewLaws.{ComparesKeys, UsesKeys}
 use Rattle.view_lang.specs.Outputs.{GroupOutput}
 use Rattle.view_lang.specs.declared.view.Aggregate.{Aggregate}
 use Rattle.view_lang.specs.declared.view.Aggregate.TheVariants as aggregate
+use Rattle.group_state.specs.declared.kept_columns.KeptColumn.{KeptColumn}
 use Rattle.group_state.specs.Reading.{filled, SumFits, CanRead, CanReadAll}
 
 next_total : (d : Datum) (ds : List Datum) → total (filled (d ∷ ds)) ≡ number_in d +ℤ total (filled ds)
@@ -107,7 +108,7 @@ compares-at by outs i d b [] a = tt
 compares-at by outs i d b (r ∷ rs) a =
     (at (λ o. ComparesKeys o.aggregate r) outs i d b a.0.1, compares-at by outs i d b rs a.1)
 
-pub can-read : (by columns : List ℕ) (outs : List GroupOutput) (rows : List (List Datum))
+pub can-read : (by : List ℕ) (columns : List KeptColumn) (outs : List GroupOutput) (rows : List (List Datum))
     → CanReadAll by columns outs rows → (p : List Datum → Bool) → All (λ o. CanRead columns (filter p rows) o.aggregate)
     outs
 can-read by columns outs rows c p = λ i d b.

@@ -42,36 +42,3 @@ module _ (k : Key) where
   weighted-put [] s = omega (arith, ints)
   weighted-put (e ∷ es) s = put_by e es s (weighted-put es (sorted_tail key_cmp e.0 (keys_of es) s)) (key_cmp k e.0)
       refl _ refl
-
-  less_by : (e : Key × ℕ) (es : List (Key × ℕ)) (m : ℕ) → 0 < m
-      → (lookup (is_at (key_cmp k)) es ≡ Some m → weighted (set_value (is_at (key_cmp k)) es (m - 1)) +ℤ number_in k
-      ≡ weighted es) → (r : Ordering) → key_cmp k e.0 ≡ r
-      → cond (is_eq r) (Some e.1) (lookup (is_at (key_cmp k)) es) ≡ Some m
-      → weighted (cond (is_eq r) ((e.0, m - 1) ∷ es) (e ∷ set_value (is_at (key_cmp k)) es (m - 1))) +ℤ number_in k
-      ≡ weighted (e ∷ es)
-  less_by e es m p h Less q l = let i = h l in omega (arith, ints, i)
-  less_by e es m p h Equal q l =
-      let at : e.1 ≡ (m - 1) + 1 = let here : e.1 ≡ m = cc in omega arith in
-      rw (at, ← (key_exact k e.0 q)) (let t = times-more (m - 1) (number_in k) in omega (arith, ints, t))
-  less_by e es m p h Greater q l = let i = h l in omega (arith, ints, i)
-
-  pub weighted-less : (es : List (Key × ℕ)) (m : ℕ) → 0 < m → lookup (is_at (key_cmp k)) es ≡ Some m
-      → weighted (set_value (is_at (key_cmp k)) es (m - 1)) +ℤ number_in k ≡ weighted es
-  weighted-less [] m p l = absurd (cc)
-  weighted-less (e ∷ es) m p l = less_by e es m p (weighted-less es m p) (key_cmp k e.0) refl l
-
-  gone_by : (e : Key × ℕ) (es : List (Key × ℕ))
-      → (lookup (is_at (key_cmp k)) es ≡ Some 1 → weighted (remove_entry (is_at (key_cmp k)) es) +ℤ number_in k
-      ≡ weighted es) → (r : Ordering) → key_cmp k e.0 ≡ r
-      → cond (is_eq r) (Some e.1) (lookup (is_at (key_cmp k)) es) ≡ Some 1
-      → weighted (cond (is_eq r) es (e ∷ remove_entry (is_at (key_cmp k)) es)) +ℤ number_in k ≡ weighted (e ∷ es)
-  gone_by e es h Less q l = let i = h l in omega (arith, ints, i)
-  gone_by e es h Equal q l =
-      let here : e.1 ≡ 1 = cc in
-      rw (here, ← (key_exact k e.0 q)) (omega (arith, ints))
-  gone_by e es h Greater q l = let i = h l in omega (arith, ints, i)
-
-  pub weighted-gone : (es : List (Key × ℕ)) → lookup (is_at (key_cmp k)) es ≡ Some 1
-      → weighted (remove_entry (is_at (key_cmp k)) es) +ℤ number_in k ≡ weighted es
-  weighted-gone [] l = absurd (cc)
-  weighted-gone (e ∷ es) l = gone_by e es (weighted-gone es) (key_cmp k e.0) refl l

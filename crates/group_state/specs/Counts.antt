@@ -21,10 +21,7 @@ use Rattle.std.specs.Prelude.{
   Some,
 }
 use Rattle.std.specs.Option.{unwrap_or}
-use Rattle.std.specs.List.{All, sum}
-use Rattle.std.specs.Int.{int_wrap}
-use mir.Syntax.{w128}
-use Rattle.std.specs.Map.{lookup, remove_entry, set_value, values_of}
+use Rattle.std.specs.Map.{lookup, remove_entry, set_value}
 use Rattle.std.specs.BTreeMap.{insert_entry, is_at}
 use Rattle.group_state.specs.Keys.{key_cmp}
 use Rattle.values.specs.declared.key.Key.{Key}
@@ -66,8 +63,3 @@ times (suc n) x = x +ℤ times n x
 abbrev pub weighted : List (Key × ℕ) → ℤ
 weighted [] = pos 0
 weighted (e ∷ es) = times e.1 (number_in e.0) +ℤ weighted es
-
--- the counts are above 0, and `total` is the sum of the values, each as often as it is there, wrapped around 128 bits
-pub record IsTied (es : List (Key × ℕ)) (total : ℤ) : Type 0 where
-  pub present : All (λ n. 0 < n) (values_of es)
-  pub total_is : total ≡ int_wrap w128 (weighted es)

@@ -1,9 +1,8 @@
 -- Groups taken apart.
 use Rattle.std.specs.List.{All}
 use Rattle.std.specs.List.Sorted.{IsStrictlySortedBy}
-use Rattle.std.specs.Map.{keys_of}
-use Rattle.std.specs.Prelude.{ℕ, List, map}
-use Rattle.group_state.specs.Counts.{IsTied}
+use Rattle.std.specs.Map.{keys_of, values_of}
+use Rattle.std.specs.Prelude.{ℕ, ◌<◌, List, map}
 use Rattle.group_state.specs.GroupCounts.{GroupCounts}
 use Rattle.group_state.specs.Grouped.{Grouped}
 use Rattle.group_state.specs.Keys.{key_cmp, key_in, tuple_cmp}
@@ -11,8 +10,10 @@ use Rattle.group_state.specs.declared.parts.GroupParts.{GroupParts}
 use Rattle.group_state.specs.declared.parts.GroupsParts.{GroupsParts}
 use Rattle.group_state.specs.declared.parts.MultisetParts.{MultisetParts}
 use Rattle.group_state.specs.declared.parts.TallyParts.{TallyParts}
+use Rattle.group_state.specs.declared.parts.TallyParts.TheVariants as parts
 use Rattle.group_state.specs.declared.parts.ValueCount.{ValueCount}
 use Rattle.group_state.specs.declared.tally.Tally.{Tally}
+use Rattle.group_state.specs.declared.tally.Tally.TheVariants as tally
 use Rattle.values.specs.declared.key.Key.{Key}
 use Rattle.view_lang.specs.ViewLaws.{IsKeyCell}
 
@@ -23,7 +24,8 @@ abbrev pub counts_with : MultisetParts → List (Key × ℕ)
 counts_with m = map count_with m.counts.items
 
 abbrev pub tally_with : TallyParts → Tally
-tally_with t = record { filled = t.filled; values = counts_with t.values }
+tally_with (parts.Total t) = tally.Total t
+tally_with (parts.Values m) = tally.Values (counts_with m)
 
 abbrev pub group_with : GroupParts → List Key × GroupCounts
 group_with g = (map key_in g.tuple.items, record { rows = g.rows; tallies = map tally_with g.tallies.items })
@@ -32,15 +34,19 @@ group_with g = (map key_in g.tuple.items, record { rows = g.rows; tallies = map 
 abbrev pub grouped_with : GroupsParts → Grouped
 grouped_with p = record { keys = p.keys.items; columns = p.columns.items; groups = map group_with p.groups.items }
 
--- Values are neither lists nor structs, they ascend, and their counts and the sum are as they are kept.
+-- Values are neither lists nor structs, they ascend, and none is there 0 times.
 pub record IsMultiset (m : MultisetParts) : Type 0 where
   pub keys : All (λ c. IsKeyCell c.value) m.counts.items
   pub ascending : IsStrictlySortedBy key_cmp (keys_of (counts_with m))
-  pub tied : IsTied (counts_with m) m.total
+  pub present : All (λ n. 0 < n) (values_of (counts_with m))
+
+abbrev pub IsTally : TallyParts → Type 0
+IsTally (parts.Total t) = Unit {0}
+IsTally (parts.Values m) = IsMultiset m
 
 pub record IsGroup (g : GroupParts) : Type 0 where
   pub keys : All IsKeyCell g.tuple.items
-  pub multisets : All (λ t. IsMultiset t.values) g.tallies.items
+  pub tallies : All IsTally g.tallies.items
 
 -- what groups keep of any rows
 pub record AreGroups (p : GroupsParts) : Type 0 where

@@ -7,11 +7,12 @@ use Rattle.values.specs.declared.key.Key.{Key}
 use Rattle.group_state.specs.Keys.{tuple_cmp}
 use Rattle.group_state.specs.GroupCounts.{GroupCounts}
 use Rattle.group_state.specs.Grouped.{Grouped}
+use Rattle.group_state.specs.declared.kept_columns.KeptColumn.{KeptColumn}
 use Rattle.group_state.specs.Rows.{KeepsRows}
 use Rattle.group_state.specs.Tuples.{members}
 
 -- a tuple that no row has has no group, and each other has one of its rows
-abbrev pub KeepsAt : List ℕ → List (List Datum) → Option GroupCounts → Type 0
+abbrev pub KeepsAt : List KeptColumn → List (List Datum) → Option GroupCounts → Type 0
 KeepsAt columns rows None = rows ≡ []
 KeepsAt columns rows (Some g) = (0 < g.rows) × KeepsRows columns g rows
 

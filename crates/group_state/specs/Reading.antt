@@ -34,7 +34,9 @@ use Rattle.view_lang.specs.declared.view.Aggregate.{Aggregate}
 use Rattle.view_lang.specs.declared.view.Aggregate.TheVariants as aggregate
 use Rattle.group_state.specs.declared.tally.Tally.{Tally}
 use Rattle.group_state.specs.Cells.{KeepsCells}
-use Rattle.group_state.specs.KeptColumns.{IsKept, is_kept}
+use Rattle.group_state.specs.KeptColumns.{IsKept}
+use Rattle.group_state.specs.declared.kept_columns.KeptColumn.{KeptColumn}
+use Rattle.group_state.specs.declared.kept_columns.KeptForm.{KeptForm}
 use Rattle.group_state.specs.GroupCounts.{GroupCounts}
 use Rattle.group_state.specs.Rows.{KeepsRows}
 
@@ -50,40 +52,35 @@ datum_in (Some k) = datum_of_key k
 abbrev pub filled : List Datum → List Datum
 filled ds = filter (λ d. not (is_null d)) ds
 
--- where a column is among others
-abbrev pub IsPlace : List ℕ → ℕ → Option ℕ → Type 0
-IsPlace columns k None = is_kept columns k ≡ false
-IsPlace columns k (Some i) = (i < length columns) × (slice_index columns i ≡ k)
-
 abbrev pub SumFits : Aggregate → List (List Datum) → Type 0
 SumFits (aggregate.Sum k) rows = FitsSigned w128 (total (values_at k rows))
 SumFits _ rows = Unit {0}
 
 -- a column of the output can be made of what is kept of these rows
-pub record CanRead (columns : List ℕ) (rows : List (List Datum)) (out : Aggregate) : Type 0 where
+pub record CanRead (columns : List KeptColumn) (rows : List (List Datum)) (out : Aggregate) : Type 0 where
   pub kept : IsKept columns out
   pub sums : SumFits out rows
   pub keys : AllByRecursion (ComparesKeys out) rows
 
--- there is a tally, and it is that of these cells
-abbrev pub IsThat : Option Tally → List Datum → Type 0
-IsThat None cells = ⊥
-IsThat (Some t) cells = KeepsCells t cells
+-- there is a tally of this form, and it is that of these cells
+abbrev pub IsThat : KeptForm → Option Tally → List Datum → Type 0
+IsThat form None cells = ⊥
+IsThat form (Some t) cells = KeepsCells form t cells
 
 -- cells are the group row of each rows that the group is kept for
-pub record IsRead (columns : List ℕ) (outs : List GroupOutput) (e : List Key × GroupCounts) (cells : List Datum) : Type
+pub record IsRead (columns : List KeptColumn) (outs : List GroupOutput) (e : List Key × GroupCounts) (cells : List Datum) : Type
     0 where
   pub row_is : (rows : List (List Datum)) → KeepsRows columns e.1 rows
       → All (λ o. CanRead columns rows o.aggregate) outs → cells ≡ group_row outs (data_of e.0) rows
 
-abbrev pub AreRead : List ℕ → List GroupOutput → List (List Key × GroupCounts) → List (List Datum) → Type 0
+abbrev pub AreRead : List KeptColumn → List GroupOutput → List (List Key × GroupCounts) → List (List Datum) → Type 0
 AreRead columns outs [] [] = Unit {0}
 AreRead columns outs [] (r ∷ rs) = ⊥
 AreRead columns outs (e ∷ es) [] = ⊥
 AreRead columns outs (e ∷ es) (r ∷ rs) = IsRead columns outs e r × AreRead columns outs es rs
 
 -- these columns of the output can be made for the groups of these rows
-pub record CanReadAll (by : List ℕ) (columns : List ℕ) (outs : List GroupOutput) (rows : List (List Datum)) : Type 0
+pub record CanReadAll (by : List ℕ) (columns : List KeptColumn) (outs : List GroupOutput) (rows : List (List Datum)) : Type 0
   where
     pub kept : All (λ o. IsKept columns o.aggregate) outs
     pub sums : AreSummable outs rows

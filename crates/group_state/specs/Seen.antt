@@ -1,66 +1,72 @@
 -- What outputs show of what is kept, whatever the rows are.
-use Rattle.std.specs.Prelude.{ℕ, zero, suc, pos, ◌==◌, cond, List, [], ◌∷◌, length, map, Option, None, Some, slice_get}
+use Rattle.std.specs.Prelude.{ℕ, zero, suc, ℤ, pos, cond, List, [], ◌∷◌, length, map, Option, None, Some, slice_get}
 use Rattle.std.specs.BTreeMap.{is_at}
-use Rattle.std.specs.Int.{int_wrap}
 use Rattle.std.specs.Map.{lookup}
 use Rattle.std.specs.Option.{option_and_then, option_map}
-use mir.Syntax.{w128}
 use Rattle.values.specs.Datum.{Datum, null, whole}
 use Rattle.values.specs.declared.key.Key.{Key}
 use Rattle.view_lang.specs.Cells.{cell_at}
 use Rattle.view_lang.specs.Outputs.{GroupOutput}
 use Rattle.view_lang.specs.declared.view.Aggregate.{Aggregate}
 use Rattle.view_lang.specs.declared.view.Aggregate.TheVariants as aggregate
-use Rattle.group_state.specs.Counts.{weighted}
 use Rattle.group_state.specs.Folds.{first_of, last_of}
 use Rattle.group_state.specs.GroupCounts.{GroupCounts}
 use Rattle.group_state.specs.Grouped.{Grouped}
 use Rattle.group_state.specs.Keys.{tuple_cmp}
 use Rattle.group_state.specs.Reading.{data_of, datum_in}
+use Rattle.group_state.specs.KeptColumns.{counted, same_column, valued}
+use Rattle.group_state.specs.declared.kept_columns.KeptColumn.{KeptColumn}
 use Rattle.group_state.specs.declared.tally.Tally.{Tally}
+use Rattle.group_state.specs.declared.tally.Tally.TheVariants as tally
 
 -- the first place of a column among others, counted from n
-abbrev pub index_from : ℕ → List ℕ → ℕ → Option ℕ
+abbrev pub index_from : ℕ → List KeptColumn → KeptColumn → Option ℕ
 index_from n [] k = None
-index_from n (c ∷ cs) k = cond (c == k) (Some n) (index_from (suc n) cs k)
+index_from n (c ∷ cs) k = cond (same_column c k) (Some n) (index_from (suc n) cs k)
 
-abbrev pub tally_at : List ℕ → List Tally → ℕ → Option Tally
+abbrev pub tally_at : List KeptColumn → List Tally → KeptColumn → Option Tally
 tally_at columns tallies k = option_and_then (slice_get tallies) (index_from 0 columns k)
 
 abbrev pub seen_count : Tally → Datum
-seen_count t = whole (pos t.filled)
+seen_count (tally.Total t) = whole (pos t.filled)
+seen_count (tally.Values es) = null
 
 abbrev pub seen_distinct : Tally → Datum
-seen_distinct t = whole (pos (length t.values))
+seen_distinct (tally.Total t) = null
+seen_distinct (tally.Values es) = whole (pos (length es))
 
-abbrev pub sum_by : ℕ → List (Key × ℕ) → Datum
-sum_by zero es = null
-sum_by (suc n) es = whole (int_wrap w128 (weighted es))
+-- null where there is nothing to add
+abbrev pub sum_by : ℕ → ℤ → Datum
+sum_by zero total = null
+sum_by (suc n) total = whole total
 
 abbrev pub seen_sum : Tally → Datum
-seen_sum t = sum_by t.filled t.values
+seen_sum (tally.Total t) = sum_by t.filled t.total
+seen_sum (tally.Values es) = null
 
 abbrev pub seen_least : Tally → Datum
-seen_least t = datum_in (first_of t.values)
+seen_least (tally.Total t) = null
+seen_least (tally.Values es) = datum_in (first_of es)
 
 abbrev pub seen_greatest : Tally → Datum
-seen_greatest t = datum_in (last_of t.values)
+seen_greatest (tally.Total t) = null
+seen_greatest (tally.Values es) = datum_in (last_of es)
 
 abbrev pub seen_in : (Tally → Datum) → Option Tally → Datum
 seen_in f None = null
 seen_in f (Some t) = f t
 
 -- what an output shows of a group
-abbrev pub seen_cell : List ℕ → List Key × GroupCounts → Aggregate → Datum
+abbrev pub seen_cell : List KeptColumn → List Key × GroupCounts → Aggregate → Datum
 seen_cell columns e (aggregate.Key k) = cell_at (data_of e.0) k
 seen_cell columns e aggregate.Count = whole (pos e.1.rows)
-seen_cell columns e (aggregate.CountOf k) = seen_in seen_count (tally_at columns e.1.tallies k)
-seen_cell columns e (aggregate.Distinct k) = seen_in seen_distinct (tally_at columns e.1.tallies k)
-seen_cell columns e (aggregate.Sum k) = seen_in seen_sum (tally_at columns e.1.tallies k)
-seen_cell columns e (aggregate.Least k) = seen_in seen_least (tally_at columns e.1.tallies k)
-seen_cell columns e (aggregate.Greatest k) = seen_in seen_greatest (tally_at columns e.1.tallies k)
+seen_cell columns e (aggregate.CountOf k) = seen_in seen_count (tally_at columns e.1.tallies (counted k))
+seen_cell columns e (aggregate.Distinct k) = seen_in seen_distinct (tally_at columns e.1.tallies (valued k))
+seen_cell columns e (aggregate.Sum k) = seen_in seen_sum (tally_at columns e.1.tallies (counted k))
+seen_cell columns e (aggregate.Least k) = seen_in seen_least (tally_at columns e.1.tallies (valued k))
+seen_cell columns e (aggregate.Greatest k) = seen_in seen_greatest (tally_at columns e.1.tallies (valued k))
 
-abbrev pub seen_row : List ℕ → List GroupOutput → List Key × GroupCounts → List Datum
+abbrev pub seen_row : List KeptColumn → List GroupOutput → List Key × GroupCounts → List Datum
 seen_row columns outs e = map (λ o. seen_cell columns e o.aggregate) outs
 
 -- the row of the group that a tuple has, if it has one

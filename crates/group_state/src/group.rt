@@ -7,6 +7,7 @@ ghost use Rattle.group_state.specs.GroupParts.{IsGroup, group_with};
 ghost use Rattle.group_state.specs.Rows.{KeepsRows, KeepsEach};
 ghost use Rattle.group_state.specs.Seen.{index_from, tally_at};
 
+use crate::kept_columns::KeptColumn;
 use crate::parts::GroupParts;
 use crate::tally::Tally;
 use crate::tuple::Tuple;
@@ -31,12 +32,12 @@ impl Model for Group {
 
 impl Group {
     /// A group without rows.
-    pub(crate) fn new(alloc: Global, columns: &[usize]) -> Result<Group, AllocError>
+    pub(crate) fn new(alloc: Global, columns: &[KeptColumn]) -> Result<Group, AllocError>
         ensures { IfOk result (λ g. KeepsRows columns.now g []) }
     {
         let mut tallies = Vec::with_capacity(alloc, columns.len())?;
-        for _column in columns {
-            tallies.push(Tally::new(alloc))?;
+        for column in columns {
+            tallies.push(Tally::new(alloc, column.form))?;
         }
         Ok(Group { rows: 0, tallies })
     }
@@ -88,8 +89,8 @@ impl Group {
         self.rows
     }
 
-    /// The tally of a column; `None` if the group keeps no tally of it.
-    pub(crate) fn tally(&self, columns: &[usize], column: usize) -> Option<&Tally>
+    /// The tally of a column in a form; `None` if the group keeps none.
+    pub(crate) fn tally(&self, columns: &[KeptColumn], column: KeptColumn) -> Option<&Tally>
         ensures { option_map (λ t. t.now) result ≡ tally_at columns.now self.now.tallies column }
     {
         match place(columns, column) {
@@ -102,7 +103,7 @@ impl Group {
     pub(crate) fn add<R: RowView>(
         &mut self,
         alloc: Global,
-        columns: &[usize],
+        columns: &[KeptColumn],
         row: &R,
     ) -> Result<(), AllocError>
         requires { (rows : List (List Datum)) × (KeepsRows columns.now self.old rows × (length rows < 2 ^ 62)) }
@@ -118,7 +119,7 @@ impl Group {
     pub(crate) fn remove<R: RowView>(
         &mut self,
         alloc: Global,
-        columns: &[usize],
+        columns: &[KeptColumn],
         row: &R,
     ) -> Result<(), AllocError>
         requires { (rows : List (List Datum)) × KeepsRows columns.now self.old (R.cells row.now ∷ rows) }
@@ -134,7 +135,7 @@ impl Group {
 fn add_each<R: RowView>(
     tallies: &mut [Tally],
     alloc: Global,
-    columns: &[usize],
+    columns: &[KeptColumn],
     row: &R,
 ) -> Result<(), AllocError>
     requires { (rows : List (List Datum)) × (KeepsEach columns.now tallies.old rows × (length rows < 2 ^ 62)) }
@@ -142,7 +143,7 @@ fn add_each<R: RowView>(
         → KeepsEach columns.now tallies.new (R.cells row.now ∷ rows)) }
 {
     for i in 0..columns.len() {
-        tallies[i].add(alloc, row, columns[i])?;
+        tallies[i].add(alloc, row, columns[i].column)?;
     }
     Ok(())
 }
@@ -150,7 +151,7 @@ fn add_each<R: RowView>(
 fn remove_each<R: RowView>(
     tallies: &mut [Tally],
     alloc: Global,
-    columns: &[usize],
+    columns: &[KeptColumn],
     row: &R,
 ) -> Result<(), AllocError>
     requires { (rows : List (List Datum)) × KeepsEach columns.now tallies.old (R.cells row.now ∷ rows) }
@@ -158,17 +159,17 @@ fn remove_each<R: RowView>(
         → KeepsEach columns.now tallies.new rows) }
 {
     for i in 0..columns.len() {
-        tallies[i].remove(alloc, row, columns[i])?;
+        tallies[i].remove(alloc, row, columns[i].column)?;
     }
     Ok(())
 }
 
-/// The place of a column among others.
-fn place(columns: &[usize], column: usize) -> Option<usize>
+/// The place of a column in a form among others.
+fn place(columns: &[KeptColumn], column: KeptColumn) -> Option<usize>
     ensures { result ≡ index_from 0 columns.now column }
 {
     for i in 0..columns.len() {
-        if columns[i] == column {
+        if columns[i].is_same(column) {
             return Some(i);
         }
     }

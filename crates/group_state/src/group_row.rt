@@ -5,6 +5,7 @@ ghost use Rattle.group_state.specs.Seen.{seen_row};
 
 use crate::cells::no_value;
 use crate::group::Group;
+use crate::kept_columns::KeptColumn;
 use crate::reading::{read_cell, read_row, view_cell};
 use crate::tuple::Tuple;
 use std::alloc::{AllocError, Global};
@@ -16,7 +17,7 @@ use view_lang::{GroupOutput, RowView};
 #[derive(Drop)]
 pub struct GroupRow<'a> {
     outputs: &'a [GroupOutput],
-    columns: &'a [usize],
+    columns: &'a [KeptColumn],
     tuple: &'a Tuple,
     group: &'a Group,
 }
@@ -38,7 +39,7 @@ impl<'a> GroupRow<'a> {
     /// The row that outputs show of a group with this tuple and tallies of these columns.
     pub(crate) fn new(
         outputs: &'a [GroupOutput],
-        columns: &'a [usize],
+        columns: &'a [KeptColumn],
         tuple: &'a Tuple,
         group: &'a Group,
     ) -> GroupRow<'a>

@@ -53,7 +53,7 @@ ghost use Rattle.view_lang.specs.Shifts.{
 
 use crate::group::Group;
 use crate::group_row::GroupRow;
-use crate::kept_columns::kept_columns;
+use crate::kept_columns::{KeptColumn, kept_columns};
 use crate::parts::GroupsParts;
 use crate::reading::{read_first, read_row, read_rows};
 use crate::tuple::Tuple;
@@ -69,7 +69,7 @@ use view_lang::{Change, GroupOutput, RowChange, RowView, Upkeep, group_law};
 pub struct Groups {
     alloc: Global,
     keys: Vec<usize>,
-    columns: Vec<usize>,
+    columns: Vec<KeptColumn>,
     groups: BTreeMap<Tuple, Group>,
 }
 
@@ -83,7 +83,7 @@ impl Model for Groups {
 
 impl Groups {
     /// The groups of no rows, by the columns `by`, with tallies of the columns `columns`.
-    pub fn new(alloc: Global, by: &[usize], columns: &[usize]) -> Result<Groups, AllocError>
+    pub fn new(alloc: Global, by: &[usize], columns: &[KeptColumn]) -> Result<Groups, AllocError>
         ensures keys { IfOk result (λ groups. groups.keys ≡ by.now) }
         ensures columns { IfOk result (λ groups. groups.columns ≡ columns.now) }
         ensures kept { IfOk result (λ groups. Keeps groups []) }
@@ -447,7 +447,7 @@ fn in_order(alloc: Global, tuples: BTreeSet<Tuple>) -> Result<Vec<Tuple>, AllocE
 fn put_row<R: RowView>(
     groups: &mut BTreeMap<Tuple, Group>,
     alloc: Global,
-    columns: &[usize],
+    columns: &[KeptColumn],
     tuple: Tuple,
     row: &R,
 ) -> Result<(), AllocError>
@@ -472,7 +472,7 @@ fn put_row<R: RowView>(
 fn take_row<R: RowView>(
     groups: &mut BTreeMap<Tuple, Group>,
     alloc: Global,
-    columns: &[usize],
+    columns: &[KeptColumn],
     tuple: &Tuple,
     row: &R,
 ) -> Result<(), AllocError>

@@ -4,7 +4,6 @@ ghost use Rattle.std.specs.Prelude.{◌≡◌, IfOk};
 ghost use Rattle.values.specs.CellViews.{shallow, viewed};
 ghost use Rattle.values.specs.Keys.{datum_of_key, key_of};
 ghost use Rattle.values.specs.declared.key.Key.TheVariants.{Null};
-ghost use Rattle.group_state.specs.Counts.{number_in};
 ghost use Rattle.group_state.specs.Keys.{key_in};
 ghost use Rattle.view_lang.specs.ViewLaws.{IsKeyCell};
 
@@ -146,15 +145,5 @@ impl KeyCell {
     {
         let cell = self.cell.copy(alloc)?;
         Ok(KeyCell { cell })
-    }
-
-    /// Its whole number; 0 where it is of another kind.
-    pub(crate) fn number(&self) -> i128
-        ensures { result ≡ number_in self.now }
-    {
-        match &self.cell.kind {
-            Kind::Int(number) => *number,
-            _ => 0,
-        }
     }
 }

@@ -19,9 +19,12 @@ mod row_cells;
 mod tally;
 #[cfg(test)]
 mod tests;
+mod total;
 mod tuple;
 
 pub use group_row::GroupRow;
 pub use groups::Groups;
+pub use kept_columns::{KeptColumn, KeptForm};
 pub use parts::{GroupParts, GroupsParts, MultisetParts, TallyParts, ValueCount};
+pub use total::Total;
 pub use tuple::Tuple;

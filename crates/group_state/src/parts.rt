@@ -1,17 +1,19 @@
 //! The parts of `Groups`, as plain lists.
 
+use crate::kept_columns::KeptColumn;
+use crate::total::Total;
 use values::{Row, Value};
 
-/// All that `Groups` keep: the numbers of the grouping columns, those of the columns with tallies, and the groups,
-/// ascending by their tuples.
+/// All that `Groups` keep: the numbers of the grouping columns, the columns with tallies, and the groups, ascending by
+/// their tuples.
 #[derive(Debug, Drop)]
 pub struct GroupsParts {
     pub keys: Vec<usize>,
-    pub columns: Vec<usize>,
+    pub columns: Vec<KeptColumn>,
     pub groups: Vec<GroupParts>,
 }
 
-/// A group: its cells in the grouping columns, the number of its rows, and a tally of each other column.
+/// A group: its cells in the grouping columns, the number of its rows, and a tally of each column that is kept.
 #[derive(Debug, Drop)]
 pub struct GroupParts {
     pub tuple: Row,
@@ -19,19 +21,19 @@ pub struct GroupParts {
     pub tallies: Vec<TallyParts>,
 }
 
-/// The tally of a column: how many cells aren't null, and the values of those that are neither lists nor structs.
+/// The tally of a column.
 #[derive(Debug, Drop)]
-pub struct TallyParts {
-    pub filled: u64,
-    pub values: MultisetParts,
+pub enum TallyParts {
+    /// How many cells aren't null, and their sum.
+    Total(Total),
+    /// The values of those cells that are neither null nor lists nor structs.
+    Values(MultisetParts),
 }
 
-/// Values with their counts, ascending, and the sum of those that are numbers, each as often as it is there, wrapped
-/// around 128 bits.
+/// Values with their counts, ascending.
 #[derive(Debug, Drop)]
 pub struct MultisetParts {
     pub counts: Vec<ValueCount>,
-    pub total: i128,
 }
 
 /// A value, and how often it is there.

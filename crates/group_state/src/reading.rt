@@ -11,6 +11,7 @@ ghost use Rattle.view_lang.specs.Cells.{rows_of};
 
 use crate::cells::{count, no_value};
 use crate::group::Group;
+use crate::kept_columns::KeptColumn;
 use crate::tuple::Tuple;
 use std::alloc::{AllocError, Global};
 use std::collections::BTreeMap;
@@ -23,30 +24,30 @@ pub(crate) fn read_cell(
     aggregate: Aggregate,
     tuple: &Tuple,
     group: &Group,
-    columns: &[usize],
+    columns: &[KeptColumn],
 ) -> Result<Value, AllocError>
     ensures { IfOk result (λ cell. cell ≡ seen_cell columns.now (tuple.now, group.now) aggregate) }
 {
     match aggregate {
         Aggregate::Key(k) => Ok(tuple.cell(alloc, k)?),
         Aggregate::Count => Ok(count(group.rows())),
-        Aggregate::CountOf(k) => match group.tally(columns, k) {
+        Aggregate::CountOf(k) => match group.tally(columns, KeptColumn::counted(k)) {
             Some(tally) => Ok(tally.count_cell()),
             None => Ok(no_value()),
         },
-        Aggregate::Distinct(k) => match group.tally(columns, k) {
+        Aggregate::Distinct(k) => match group.tally(columns, KeptColumn::valued(k)) {
             Some(tally) => Ok(tally.distinct_cell()),
             None => Ok(no_value()),
         },
-        Aggregate::Sum(k) => match group.tally(columns, k) {
+        Aggregate::Sum(k) => match group.tally(columns, KeptColumn::counted(k)) {
             Some(tally) => Ok(tally.sum_cell()),
             None => Ok(no_value()),
         },
-        Aggregate::Least(k) => match group.tally(columns, k) {
+        Aggregate::Least(k) => match group.tally(columns, KeptColumn::valued(k)) {
             Some(tally) => Ok(tally.least_cell(alloc)?),
             None => Ok(no_value()),
         },
-        Aggregate::Greatest(k) => match group.tally(columns, k) {
+        Aggregate::Greatest(k) => match group.tally(columns, KeptColumn::valued(k)) {
             Some(tally) => Ok(tally.greatest_cell(alloc)?),
             None => Ok(no_value()),
         },
@@ -58,30 +59,30 @@ pub(crate) fn view_cell<'a>(
     aggregate: Aggregate,
     tuple: &'a Tuple,
     group: &'a Group,
-    columns: &[usize],
+    columns: &[KeptColumn],
 ) -> CellView<'a>
     ensures { viewed result ≡ shallow (seen_cell columns.now (tuple.now, group.now) aggregate) }
 {
     match aggregate {
         Aggregate::Key(k) => tuple.view(k),
         Aggregate::Count => CellView::Int(group.rows() as i128),
-        Aggregate::CountOf(k) => match group.tally(columns, k) {
+        Aggregate::CountOf(k) => match group.tally(columns, KeptColumn::counted(k)) {
             Some(tally) => tally.view_count(),
             None => CellView::Null,
         },
-        Aggregate::Distinct(k) => match group.tally(columns, k) {
+        Aggregate::Distinct(k) => match group.tally(columns, KeptColumn::valued(k)) {
             Some(tally) => tally.view_distinct(),
             None => CellView::Null,
         },
-        Aggregate::Sum(k) => match group.tally(columns, k) {
+        Aggregate::Sum(k) => match group.tally(columns, KeptColumn::counted(k)) {
             Some(tally) => tally.view_sum(),
             None => CellView::Null,
         },
-        Aggregate::Least(k) => match group.tally(columns, k) {
+        Aggregate::Least(k) => match group.tally(columns, KeptColumn::valued(k)) {
             Some(tally) => tally.view_least(),
             None => CellView::Null,
         },
-        Aggregate::Greatest(k) => match group.tally(columns, k) {
+        Aggregate::Greatest(k) => match group.tally(columns, KeptColumn::valued(k)) {
             Some(tally) => tally.view_greatest(),
             None => CellView::Null,
         },
@@ -94,7 +95,7 @@ pub(crate) fn read_row(
     outputs: &[GroupOutput],
     tuple: &Tuple,
     group: &Group,
-    columns: &[usize],
+    columns: &[KeptColumn],
 ) -> Result<Row, AllocError>
     ensures { IfOk result (λ cells. cells.items ≡ seen_row columns.now outputs.now (tuple.now, group.now)) }
 {
@@ -110,7 +111,7 @@ pub(crate) fn read_rows(
     alloc: Global,
     outputs: &[GroupOutput],
     groups: &BTreeMap<Tuple, Group>,
-    columns: &[usize],
+    columns: &[KeptColumn],
 ) -> Result<Vec<Row>, AllocError>
     ensures read { IfOk result (λ made. AreRead columns.now outputs.now groups.now.entries (rows_of made.items)) }
     ensures ordered { IsStrictlySortedBy tuple_cmp (keys_of groups.now.entries) }
@@ -128,7 +129,7 @@ pub(crate) fn read_first(
     alloc: Global,
     outputs: &[GroupOutput],
     groups: &BTreeMap<Tuple, Group>,
-    columns: &[usize],
+    columns: &[KeptColumn],
     most: usize,
 ) -> Result<Vec<Row>, AllocError>
     ensures read { IfOk result (λ made. rows_of made.items

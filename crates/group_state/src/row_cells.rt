@@ -2,11 +2,14 @@
 
 ghost use Rattle.std.specs.Prelude.{◌≡◌, IfOk};
 ghost use Rattle.values.specs.Datum.{is_null as is_null_by};
+ghost use Rattle.values.specs.CellViews.{viewed};
 ghost use Rattle.values.specs.Keys.{key_of};
+ghost use Rattle.view_lang.specs.Groups.{number_in};
 ghost use Rattle.group_state.specs.Rows.{cell};
 
 use crate::key_cell::KeyCell;
 use std::alloc::{AllocError, Global};
+use values::CellView;
 use view_lang::RowView;
 
 /// Whether a row has no value in a column.
@@ -15,6 +18,24 @@ pub(crate) fn is_null_at<R: RowView>(row: &R, column: usize) -> bool
     ensures { result ≡ is_null_by (cell column (R.cells row.now)) }
 {
     row.cell(column).is_null()
+}
+
+/// The whole number that a row has in a column; 0 where it has none.
+#[tactic(auto, using(crate::proofs::Totals::number_laws))]
+pub(crate) fn number_at<R: RowView>(row: &R, column: usize) -> i128
+    ensures { result ≡ number_in (cell column (R.cells row.now)) }
+{
+    number_of(row.cell(column))
+}
+
+/// The whole number that a cell is; 0 where it is none.
+fn number_of(cell: CellView<'_>) -> i128
+    ensures { result ≡ number_in (viewed cell.entry) }
+{
+    match cell {
+        CellView::Int(number) => number,
+        _ => 0,
+    }
 }
 
 /// What a row has in a column; `None` where that is a list or a struct.

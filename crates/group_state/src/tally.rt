@@ -1,144 +1,168 @@
 //! Tallies of the cells of one column of a group.
 
-ghost use Rattle.std.specs.Prelude.{◌≡◌, ◌<◌, ◌^◌, ◌∷◌, List, OnOk, IfOk, length, []};
+ghost use Rattle.std.specs.Prelude.{◌≡◌, ◌<◌, ◌^◌, ◌∷◌, List, OnOk, IfOk, length};
 ghost use Rattle.std.proofs.Common.{option_map};
-ghost use Rattle.std.specs.Int.{int_wrap};
 ghost use Rattle.values.specs.CellViews.{shallow, viewed};
 ghost use Rattle.values.specs.Datum.{Datum};
-ghost use Rattle.group_state.specs.Counts.{weighted};
 ghost use Rattle.group_state.specs.Reading.{datum_in};
-ghost use Rattle.group_state.specs.Cells.{KeepsCells};
-ghost use Rattle.group_state.specs.GroupParts.{IsMultiset, tally_with};
+ghost use Rattle.group_state.specs.Cells.{KeepsCells, KeepsValues, fresh};
+ghost use Rattle.group_state.specs.GroupParts.{IsTally, tally_with};
 ghost use Rattle.group_state.specs.Seen.{seen_count, seen_distinct, seen_greatest, seen_least, seen_sum};
-ghost use mir.Syntax.{w128};
 ghost use Rattle.group_state.specs.Rows.{cell};
+ghost use Rattle.group_state.specs.declared.kept_columns.KeptForm.{KeptForm};
 
 use crate::cells::{count, no_value, whole};
+use crate::kept_columns::KeptForm;
 use crate::key_cell::KeyCell;
 use crate::multiset::Multiset;
 use crate::parts::TallyParts;
 use crate::row_cells::{is_null_at, key_cell_at};
+use crate::total::Total;
 use std::alloc::{AllocError, Global};
 use values::{CellView, Value};
 use view_lang::RowView;
 
-/// The tally of a column of a group: how many cells aren't null, and the multiset of those that are neither lists nor
-/// structs.
+/// What is kept of a column of a group, in one form.
 #[derive(Debug, Drop)]
-pub struct Tally {
-    pub(crate) filled: u64,
-    pub(crate) values: Multiset,
+pub enum Tally {
+    /// How many cells aren't null, and their sum.
+    Total(Total),
+    /// The multiset of the cells that are neither null nor lists nor structs.
+    Values(Multiset),
 }
 
 impl Tally {
-    pub(crate) fn new(alloc: Global) -> Tally
-        ensures { KeepsCells result [] }
+    /// The tally of no cells, in this form.
+    pub(crate) fn new(alloc: Global, form: KeptForm) -> Tally
+        ensures { result ≡ fresh form }
     {
-        Tally {
-            filled: 0,
-            values: Multiset::new(alloc),
+        match form {
+            KeptForm::Total => Tally::Total(Total {
+                filled: 0,
+                total: 0,
+            }),
+            KeptForm::Values => Tally::Values(Multiset::new(alloc)),
         }
     }
 
     pub(crate) fn into_parts(self, alloc: Global) -> Result<TallyParts, AllocError>
         ensures value { IfOk result (λ parts. tally_with parts ≡ self) }
-        ensures kept { IfOk result (λ parts. IsMultiset parts.values) }
+        ensures kept { IfOk result (λ parts. IsTally parts) }
     {
-        let Tally { filled, values } = self;
-        let values = values.into_parts(alloc)?;
-        Ok(TallyParts { filled, values })
+        match self {
+            Tally::Total(total) => Ok(TallyParts::Total(total)),
+            Tally::Values(values) => Ok(TallyParts::Values(values.into_parts(alloc)?)),
+        }
     }
 
     pub(crate) fn from_parts(alloc: Global, parts: TallyParts) -> Result<Tally, AllocError>
-        requires { IsMultiset parts.values }
+        requires { IsTally parts }
         ensures { IfOk result (λ tally. tally ≡ tally_with parts) }
     {
-        let TallyParts { filled, values } = parts;
-        let values = Multiset::from_parts(alloc, values)?;
-        Ok(Tally { filled, values })
-    }
-
-    /// The sum of the cells; it wraps around 128 bits.
-    pub fn sum(&self) -> i128
-        ensures { result ≡ int_wrap w128 (weighted self.now.values) }
-    {
-        self.values.total()
+        match parts {
+            TallyParts::Total(total) => Ok(Tally::Total(total)),
+            TallyParts::Values(values) => Ok(Tally::Values(Multiset::from_parts(alloc, values)?)),
+        }
     }
 
     /// How many cells aren't null.
     pub(crate) fn count_cell(&self) -> Value
         ensures { result ≡ seen_count self.now }
     {
-        count(self.filled)
+        match self {
+            Tally::Total(total) => count(total.filled),
+            Tally::Values(_) => no_value(),
+        }
     }
 
     /// How many distinct values the cells have, nulls left out.
     pub(crate) fn distinct_cell(&self) -> Value
         ensures { result ≡ seen_distinct self.now }
     {
-        count(self.values.count_distinct() as u64)
+        match self {
+            Tally::Total(_) => no_value(),
+            Tally::Values(values) => count(values.count_distinct() as u64),
+        }
     }
 
-    /// The sum of the cells; null where all are null.
+    /// The sum of the cells; null where all are null. It wraps around 128 bits.
     pub(crate) fn sum_cell(&self) -> Value
         ensures { result ≡ seen_sum self.now }
     {
-        if self.filled == 0 {
-            return no_value();
+        match self {
+            Tally::Total(total) if total.filled > 0 => whole(total.total),
+            _ => no_value(),
         }
-        whole(self.sum())
     }
 
     /// The least of the cells; null where all are null.
     pub(crate) fn least_cell(&self, alloc: Global) -> Result<Value, AllocError>
         ensures { IfOk result (λ cell. cell ≡ seen_least self.now) }
     {
-        Ok(key_cell(alloc, self.values.least())?)
+        match self {
+            Tally::Total(_) => Ok(no_value()),
+            Tally::Values(values) => Ok(key_cell(alloc, values.least())?),
+        }
     }
 
     /// The greatest of the cells; null where all are null.
     pub(crate) fn greatest_cell(&self, alloc: Global) -> Result<Value, AllocError>
         ensures { IfOk result (λ cell. cell ≡ seen_greatest self.now) }
     {
-        Ok(key_cell(alloc, self.values.greatest())?)
+        match self {
+            Tally::Total(_) => Ok(no_value()),
+            Tally::Values(values) => Ok(key_cell(alloc, values.greatest())?),
+        }
     }
 
     /// How many cells aren't null, as a cell.
     pub(crate) fn view_count(&self) -> CellView<'_>
         ensures { viewed result ≡ seen_count self.now }
     {
-        CellView::Int(self.filled as i128)
+        match self {
+            Tally::Total(total) => CellView::Int(total.filled as i128),
+            Tally::Values(_) => CellView::Null,
+        }
     }
 
     /// How many distinct values the cells have, as a cell.
     pub(crate) fn view_distinct(&self) -> CellView<'_>
         ensures { viewed result ≡ seen_distinct self.now }
     {
-        CellView::Int(self.values.count_distinct() as i128)
+        match self {
+            Tally::Total(_) => CellView::Null,
+            Tally::Values(values) => CellView::Int(values.count_distinct() as i128),
+        }
     }
 
     /// The sum of the cells, as a cell; null where all are null.
     pub(crate) fn view_sum(&self) -> CellView<'_>
         ensures { viewed result ≡ seen_sum self.now }
     {
-        if self.filled == 0 {
-            return CellView::Null;
+        match self {
+            Tally::Total(total) if total.filled > 0 => CellView::Int(total.total),
+            _ => CellView::Null,
         }
-        CellView::Int(self.sum())
     }
 
     /// The least of the cells where it lies; null where all are null.
     pub(crate) fn view_least(&self) -> CellView<'_>
         ensures { viewed result ≡ shallow (seen_least self.now) }
     {
-        view_of(self.values.least())
+        match self {
+            Tally::Total(_) => CellView::Null,
+            Tally::Values(values) => view_of(values.least()),
+        }
     }
 
     /// The greatest of the cells where it lies; null where all are null.
     pub(crate) fn view_greatest(&self) -> CellView<'_>
         ensures { viewed result ≡ shallow (seen_greatest self.now) }
     {
-        view_of(self.values.greatest())
+        match self {
+            Tally::Total(_) => CellView::Null,
+            Tally::Values(values) => view_of(values.greatest()),
+        }
     }
 
     /// Adds a row's cell.
@@ -148,19 +172,21 @@ impl Tally {
         row: &R,
         column: usize,
     ) -> Result<(), AllocError>
-        requires { (cells : List Datum) × (KeepsCells self.old cells × (length cells < 2 ^ 62)) }
-        ensures { OnOk result ((cells : List Datum) → KeepsCells self.old cells
-            → KeepsCells self.new (cell column (R.cells row.now) ∷ cells)) }
+        requires { (form : KeptForm) × (cells : List Datum)
+            × (KeepsCells form self.old cells × (length cells < 2 ^ 62)) }
+        ensures { OnOk result ((form : KeptForm) (cells : List Datum) → KeepsCells form self.old cells
+            → KeepsCells form self.new (cell column (R.cells row.now) ∷ cells)) }
     {
-        if is_null_at(row, column) {
-            return Ok(());
+        match self {
+            Tally::Total(total) => {
+                total.add(row, column);
+                Ok(())
+            }
+            Tally::Values(values) => {
+                add_value(values, alloc, row, column)?;
+                Ok(())
+            }
         }
-        if let Some(key) = key_cell_at(alloc, row, column)? {
-            self.values.add(key)?;
-            let _total = self.values.total();
-        }
-        self.filled += 1;
-        Ok(())
     }
 
     /// Removes a row's cell.
@@ -170,19 +196,61 @@ impl Tally {
         row: &R,
         column: usize,
     ) -> Result<(), AllocError>
-        ensures { OnOk result ((cells : List Datum) → KeepsCells self.old (cell column (R.cells row.now) ∷ cells)
-            → KeepsCells self.new cells) }
+        ensures { OnOk result ((form : KeptForm) (cells : List Datum)
+            → KeepsCells form self.old (cell column (R.cells row.now) ∷ cells) → KeepsCells form self.new cells) }
     {
-        if is_null_at(row, column) {
-            return Ok(());
+        match self {
+            Tally::Total(total) => {
+                total.remove(row, column);
+                Ok(())
+            }
+            Tally::Values(values) => {
+                remove_value(values, alloc, row, column)?;
+                Ok(())
+            }
         }
-        if let Some(key) = key_cell_at(alloc, row, column)? {
-            self.values.remove(&key);
-            let _total = self.values.total();
-        }
-        self.filled = self.filled.saturating_sub(1);
-        Ok(())
     }
+}
+
+/// Adds the value of a row's cell, if it has one with an order.
+fn add_value<R: RowView>(
+    values: &mut Multiset,
+    alloc: Global,
+    row: &R,
+    column: usize,
+) -> Result<(), AllocError>
+    requires { (cells : List Datum) × (KeepsValues values.old cells × (length cells < 2 ^ 62)) }
+    ensures { OnOk result ((cells : List Datum) → KeepsValues values.old cells
+        → KeepsValues values.new (cell column (R.cells row.now) ∷ cells)) }
+{
+    if is_null_at(row, column) {
+        return Ok(());
+    }
+    if let Some(key) = key_cell_at(alloc, row, column)? {
+        values.add(key)?;
+        let _size = values.count_distinct();
+    }
+    Ok(())
+}
+
+/// Removes the value of a row's cell, if it has one with an order.
+fn remove_value<R: RowView>(
+    values: &mut Multiset,
+    alloc: Global,
+    row: &R,
+    column: usize,
+) -> Result<(), AllocError>
+    ensures { OnOk result ((cells : List Datum) → KeepsValues values.old (cell column (R.cells row.now) ∷ cells)
+        → KeepsValues values.new cells) }
+{
+    if is_null_at(row, column) {
+        return Ok(());
+    }
+    if let Some(key) = key_cell_at(alloc, row, column)? {
+        values.remove(&key);
+        let _size = values.count_distinct();
+    }
+    Ok(())
 }
 
 /// The value where it lies; null where there is none.

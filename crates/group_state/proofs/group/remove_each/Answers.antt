@@ -1,7 +1,6 @@
-use Rattle.std.proofs.Common.{rules, ◌≡◌, ap, sym, ◌∙◌, ℕ, refl, List, ◌∷◌, arith}
-use Rattle.values.specs.Datum.{Datum}
-use Rattle.group_state.specs.Rows.{KeepsEach, cells}
-use Rattle.group_state.proofs.Halfway.{Halfway, halfway-none, halfway-all, halfway-more}
+use Rattle.std.proofs.Common.{arith}
+use Rattle.group_state.specs.Rows.{cells}
+use Rattle.group_state.proofs.Halfway.{halfway-all, halfway-more, halfway-none}
 use Rattle.group_state.proofs.group.remove_each.Goals as goal
 
 pub loop-i-init : goal.loop-i-init
@@ -10,9 +9,9 @@ loop-i-init g c = λ rows k. halfway-none _ _ _ _ k
 pub loop-i-preserved : goal.loop-i-preserved
 loop-i-preserved g c = λ rows k.
     let h = c.loop-i.invariant rows k in
-    halfway-more _ _ _ _ _ _ h c.loop-i-test.true
-    (c.in_ok-remove.ensures (cells _ rows)
-    (h.ahead c.loop-i.i c.index-tallies-i.result (omega arith) c.loop-i-test.true))
+    halfway-more _ _ _ _ _ _ h c.loop-i-test.true _
+    (c.in_ok-remove.ensures _ (cells _ rows)
+    (h.ahead c.loop-i.i _ c.index-tallies-i.result (omega arith) c.loop-i-test.true))
 
 pub returns : goal.returns
 returns g c = λ rows k. halfway-all _ _ _ _ _ c.loop-i-test.false (c.loop-i.invariant rows k)

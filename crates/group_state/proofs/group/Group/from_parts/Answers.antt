@@ -1,6 +1,6 @@
 use Rattle.group_state.proofs.Taken.{pushed-next, rest-left}
 use Rattle.group_state.proofs.group.Group.from_parts.Goals as goal
-use Rattle.group_state.specs.GroupParts.{IsMultiset, tally_with}
+use Rattle.group_state.specs.GroupParts.{IsTally, tally_with}
 use Rattle.std.proofs.Common.{◌≡◌, ◌∷◌, rules, sym, map}
 
 pub loop-tally-preserved : goal.loop-tally-preserved
@@ -10,6 +10,6 @@ loop-tally-preserved c =
       pushed-next tally_with c.loop-tally.made.items c.push.new.self.items _ x c.loop-tally.tally-iterator.rest.items
           c.next.new.self.rest.items (map tally_with c.args.parts.tallies.items) left (sym c.in_ok-from_parts.ensures)
           c.in_ok-push.ensures.items c.loop-tally.invariant.0,
-      rest-left (λ t. IsMultiset t.values) x c.loop-tally.tally-iterator.rest.items c.next.new.self.rest.items left
+      rest-left IsTally x c.loop-tally.tally-iterator.rest.items c.next.new.self.rest.items left
           c.loop-tally.invariant.1,
     )

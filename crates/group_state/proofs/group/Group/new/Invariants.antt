@@ -1,9 +1,8 @@
-use Rattle.std.proofs.Common.{List, [], ℕ, ◌<◌, ◌≡◌, slice_index_or, length}
-use Rattle.group_state.specs.Cells.{KeepsCells}
-use Rattle.group_state.specs.declared.tally.Tally.{Tally}
+use Rattle.std.proofs.Common.{◌≡◌, map, take}
+use Rattle.group_state.specs.Cells.{fresh}
+use Rattle.group_state.specs.declared.kept_columns.KeptColumn.{KeptColumn}
 use Rattle.group_state.proofs.group.Group.new.Given as goal
 
 abbrev pub invariant-loop-column : goal.invariant-loop-column
 invariant-loop-column l =
-    (length l.tallies.items ≡ l._column-index)
-    × ((i : ℕ) (d : Tally) → i < length l.tallies.items → KeepsCells (slice_index_or l.tallies.items i d) [])
+    l.tallies.items ≡ map (λ (k : KeptColumn). fresh k.form) (take l.column-index l.columns)

@@ -1,0 +1,60 @@
+//! How many cells of a column aren't null, and their sum.
+
+ghost use Rattle.std.specs.Prelude.{◌≡◌, ◌<◌, ◌^◌, ◌∷◌, ◌+ℤ◌, ◌-ℤ◌, List, length};
+ghost use Rattle.std.specs.Int.{int_wrap};
+ghost use mir.Syntax.{w128};
+ghost use Rattle.values.specs.Datum.{Datum};
+ghost use Rattle.group_state.specs.Cells.{KeepsTotal};
+ghost use Rattle.group_state.specs.Rows.{cell};
+
+use crate::row_cells::{is_null_at, number_at};
+use view_lang::RowView;
+
+/// Of the cells of a column: how many aren't null, and the sum of those that are whole numbers. The sum wraps around
+/// 128 bits.
+#[derive(Debug, Drop)]
+pub struct Total {
+    pub filled: u64,
+    pub total: i128,
+}
+
+impl Total {
+    /// Adds a row's cell. Nothing is copied of it.
+    pub(crate) fn add<R: RowView>(&mut self, row: &R, column: usize)
+        requires { (cells : List Datum) × (KeepsTotal self.old cells × (length cells < 2 ^ 62)) }
+        ensures { (cells : List Datum) → KeepsTotal self.old cells
+            → KeepsTotal self.new (cell column (R.cells row.now) ∷ cells) }
+    {
+        if is_null_at(row, column) {
+            return;
+        }
+        let number = number_at(row, column);
+        raise(&mut self.total, &number);
+        self.filled += 1;
+    }
+
+    /// Removes a row's cell.
+    pub(crate) fn remove<R: RowView>(&mut self, row: &R, column: usize)
+        ensures { (cells : List Datum) → KeepsTotal self.old (cell column (R.cells row.now) ∷ cells)
+            → KeepsTotal self.new cells }
+    {
+        if is_null_at(row, column) {
+            return;
+        }
+        let number = number_at(row, column);
+        lower(&mut self.total, &number);
+        self.filled = self.filled.saturating_sub(1);
+    }
+}
+
+fn raise(total: &mut i128, number: &i128)
+    ensures { total.new ≡ int_wrap w128 (total.old +ℤ number.now) }
+{
+    *total = total.wrapping_add(*number);
+}
+
+fn lower(total: &mut i128, number: &i128)
+    ensures { total.new ≡ int_wrap w128 (total.old -ℤ number.now) }
+{
+    *total = total.wrapping_sub(*number);
+}
