@@ -1,16 +1,15 @@
 -- A multiset has an entry for each distinct value that it counts.
-use Rattle.std.proofs.Common.{◌≡◌, refl, ap, ap₂, sym, ◌∙◌, arith, true≢false, ℕ, ◌+◌, ◌<◌, List, [], ◌∷◌, length}
+use Rattle.std.proofs.Common.{◌≡◌, refl, ap, ap₂, sym, ◌∙◌, arith, true≢false, ℕ, ◌+◌, List, [], ◌∷◌, length}
 use Rattle.std.proofs.lemmas.List.{length-map}
 use Rattle.std.proofs.lemmas.List.Sums.{sum_by-cons}
 use Rattle.std.proofs.lemmas.Map.Entries.{sum_by-insert_entry}
 use Rattle.std.specs.BTreeMap.{insert_entry, is_at}
 use Rattle.std.specs.Cmp.{eq_by_cmp_equiv}
-use Rattle.std.specs.List.{All, AllByRecursion, sum_by}
-use Rattle.std.specs.List.Sorted.{IsStrictlySortedBy}
-use Rattle.std.specs.Map.{keys_of, lookup, values_of}
+use Rattle.std.specs.List.{AllByRecursion, sum_by}
+use Rattle.std.specs.Map.{lookup, values_of}
 use Rattle.std.specs.Option.{option_map, unwrap_or}
 use Rattle.std.specs.Ordering.{is_eq}
-use Rattle.std.specs.Prelude.{Bool, true, false, cond, ◌||◌, Option, None, Some, is_some, pos, suc}
+use Rattle.std.specs.Prelude.{Bool, true, false, cond, ◌||◌, Option, None, Some, is_some, pos}
 use Rattle.values.specs.Datum.{Datum, null, truth, whole, text, bytes, list, structure}
 use Rattle.values.specs.Keys.{datum_of_key}
 use Rattle.values.specs.declared.key.Key.{Key}

@@ -1,32 +1,7 @@
 -- What is read of a multiset is the definition's fold over the cells.
 use Rattle.std.proofs.Common.{◌≡◌, refl, ap, sym, ◌∙◌, subst, true≢false, arith}
 use Rattle.std.proofs.lemmas.Option.{slice_get_within, get_or_from_slice_get}
-use Rattle.std.specs.Prelude.{
-  ℕ,
-  ◌+◌,
-  ◌-◌,
-  slice_get,
-  ℤ,
-  pos,
-  ◌+ℤ◌,
-  zero,
-  suc,
-  Bool,
-  true,
-  false,
-  cond,
-  List,
-  [],
-  ◌∷◌,
-  map,
-  filter,
-  length,
-  get_or,
-  Option,
-  None,
-  Some,
-  count_by,
-}
+use Rattle.std.specs.Prelude.{ℕ, ◌+◌, ◌-◌, slice_get, pos, ◌+ℤ◌, zero, suc, Bool, true, false, cond, List, [], ◌∷◌, length, get_or, Option, None, Some, count_by}
 use Rattle.std.specs.List.{AllByRecursion}
 use Rattle.std.specs.List.Sorted.{IsStrictlySortedBy}
 use Rattle.std.specs.Map.{keys_of}
@@ -39,16 +14,15 @@ use Rattle.std.proofs.lemmas.List.Sums.{length-filter}
 use Rattle.view_lang.specs.SortedEntries.{all_below}
 use Rattle.values.specs.Datum.{Datum, null, truth, whole, text, bytes, list, structure, is_null}
 use Rattle.values.specs.Order.{datum_cmp}
-use Rattle.values.specs.Keys.{key_of, datum_of_key}
+use Rattle.values.specs.Keys.{datum_of_key}
 use Rattle.values.specs.declared.key.Key.{Key}
 use Rattle.values.specs.declared.key.Key.TheVariants as key
 use Rattle.view_lang.specs.RowOrder.{cell_cmp}
 use Rattle.view_lang.specs.Groups.{total, first_in, earlier, sum_of as sum_by, count_of}
 use Rattle.view_lang.specs.ViewLaws.{IsKeyCell}
-use Rattle.view_lang.specs.declared.view.Direction.{Direction}
 use Rattle.view_lang.specs.declared.view.Direction.TheVariants as direction
 use Rattle.group_state.specs.Keys.{key_cmp, key_total}
-use Rattle.group_state.specs.Counts.{number_in, had}
+use Rattle.group_state.specs.Counts.{had}
 use Rattle.group_state.specs.Cells.{is_filled, KeepsTotal, KeepsValues}
 use Rattle.group_state.specs.Folds.{
   keys_in,
@@ -67,8 +41,6 @@ use Rattle.group_state.proofs.KeyData.{key-data}
 use Rattle.group_state.proofs.Folds.{multiset-sorted, multiset-least, kept-values}
 use Rattle.group_state.specs.declared.total.Total.{Total}
 use Rattle.std.proofs.lemmas.Int.{int_wrap_fits}
-use Rattle.std.specs.List.{All}
-use Rattle.std.specs.Map.{values_of}
 use Rattle.std.specs.Prelude.{FitsSigned, ◌<◌}
 use mir.Syntax.{w128}
 

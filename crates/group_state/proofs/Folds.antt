@@ -1,32 +1,12 @@
 -- A multiset that counts values has their number, their sum, their least and their greatest.
-use Rattle.std.proofs.Common.{
-  ◌≡◌,
-  refl,
-  ap,
-  sym,
-  ◌∙◌,
-  arith,
-  ℕ,
-  ◌+◌,
-  ◌-◌,
-  ◌<◌,
-  ◌≤◌,
-  List,
-  [],
-  ◌∷◌,
-  rules,
-  subst,
-  length,
-  option_map,
-}
-use Rattle.std.specs.Prelude.{ℤ, pos, ◌+ℤ◌, Bool, true, false, cond, Some, None, Option, count_by, sum, suc}
+use Rattle.std.proofs.Common.{◌≡◌, refl, ap, sym, ◌∙◌, arith, ℕ, ◌+◌, ◌<◌, List, [], ◌∷◌, subst, option_map}
+use Rattle.std.specs.Prelude.{Bool, true, false, cond, Some, None, Option, count_by, suc}
 use Rattle.std.specs.Option.{unwrap_or}
-use Rattle.std.specs.List.{All, sum_by}
+use Rattle.std.specs.List.{All}
 use Rattle.std.specs.Cmp.{eq_by_cmp_equiv, tied_itself}
 use Rattle.std.specs.Ordering.{is_eq, ordering_reverse}
 use Rattle.std.specs.declared.cmp.Ordering.{Ordering}
 use Rattle.std.specs.declared.cmp.Ordering.TheVariants.{Less, Equal, Greater}
-use Rattle.std.specs.Cmp.{Equal-is}
 use Rattle.std.proofs.lemmas.Map.{lookup-none, NonePasses}
 use Rattle.std.proofs.lemmas.Map.Keys.{sorted_tail, IsDistinct-from_sorted}
 use Rattle.std.specs.Map.{lookup, keys_of, values_of}
@@ -34,19 +14,15 @@ use Rattle.std.specs.BTreeMap.{insert_entry, is_at}
 use Rattle.std.specs.List.Sorted.{IsStrictlySortedBy}
 use Rattle.std.proofs.lemmas.Int.{ints}
 use Rattle.std.proofs.lemmas.List.Sums.{sum_by-cons}
-use Rattle.std.proofs.lemmas.Map.Entries.{sum_by-insert_entry, none_past_head, none_below_head}
+use Rattle.std.proofs.lemmas.Map.Entries.{none_past_head, none_below_head}
 use Rattle.std.proofs.lemmas.Map.Views.{All-values-insert_entry}
 use Rattle.view_lang.specs.SortedEntries.{sorted-insert_entry, lookup-insert_entry}
 use Rattle.values.specs.declared.key.Key.{Key}
 use Rattle.group_state.specs.Keys.{key_cmp, key_total}
-use Rattle.group_state.specs.Counts.{had, one, number_in, put_one, weighted}
+use Rattle.group_state.specs.Counts.{had, put_one, weighted}
 use Rattle.values.specs.Datum.{Datum, is_null}
 use Rattle.values.specs.Keys.{key_of}
 use Rattle.std.specs.Ordering.{match_ordering}
-use Rattle.std.specs.Int.{int_wrap}
-use Rattle.std.specs.Int.RustNames.{FitsSigned}
-use mir.Syntax.{w128}
-use Rattle.std.proofs.lemmas.Int.{int_wrap_fits}
 use Rattle.group_state.specs.Cells.{KeepsValues, is_value, is_key}
 use Rattle.group_state.specs.Folds.{multiset_of, sum_of, times_in, keys_in, push_key, least_of, lesser, first_of}
 use Rattle.view_lang.proofs.ExactKeys.{key_exact}

@@ -28,9 +28,8 @@ use Rattle.std.specs.List.Sorted.{IsStrictlySortedBy}
 use Rattle.std.specs.Map.{lookup, keys_of}
 use Rattle.std.specs.BTreeMap.{is_at}
 use Rattle.values.specs.Datum.{Datum}
-use Rattle.values.specs.Keys.{datum_of_key}
 use Rattle.values.specs.declared.key.Key.{Key}
-use Rattle.view_lang.specs.Cells.{cell_at, cells_at}
+use Rattle.view_lang.specs.Cells.{cells_at}
 use Rattle.view_lang.specs.RowOrder.{tuple_cmp as data_cmp}
 use Rattle.view_lang.specs.Groups.{same_tuple, tuples_of, rows_with, group_row, group_rows}
 use Rattle.view_lang.specs.ViewLaws.{IsKeyCell, TuplesAsk, TuplesAscend, TuplesAreOfRows, UsesKeys}
@@ -40,7 +39,7 @@ use Rattle.group_state.specs.GroupCounts.{GroupCounts}
 use Rattle.group_state.specs.Grouped.{Grouped}
 use Rattle.group_state.specs.declared.kept_columns.KeptColumn.{KeptColumn}
 use Rattle.group_state.specs.Rows.{KeepsRows}
-use Rattle.group_state.specs.Tuples.{tuple_of, has_tuple, members}
+use Rattle.group_state.specs.Tuples.{has_tuple, members}
 use Rattle.group_state.specs.Groups.{Keeps, KeepsAt}
 use Rattle.group_state.specs.Reading.{data_of, IsRead, AreRead, CanReadAll}
 use Rattle.group_state.proofs.KeyData.{HasKeys, tuple-data, cell-data, test-data, members-data}

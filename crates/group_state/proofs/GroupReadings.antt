@@ -1,25 +1,18 @@
 -- Rows that are read of groups.
-use Rattle.std.proofs.Common.{◌≡◌, refl, ap, sym, ◌∙◌, subst, arith, take, get_or}
-use Rattle.std.specs.Prelude.{ℕ, zero, suc, ◌+◌, ◌<◌, List, [], ◌∷◌, ◌++◌, map, length, Vec, Option, Some, true}
+use Rattle.std.proofs.Common.{◌≡◌, refl, ap, sym, ◌∙◌, subst, take}
+use Rattle.std.specs.Prelude.{ℕ, zero, suc, List, [], ◌∷◌, ◌++◌, map, Vec}
 use Rattle.std.specs.List.{AllByRecursion}
-use Rattle.std.proofs.lemmas.List.{map_push, take_more}
+use Rattle.std.proofs.lemmas.List.{map_push}
 use Rattle.values.specs.Datum.{Datum}
 use Rattle.values.specs.declared.key.Key.{Key}
 use Rattle.view_lang.specs.Cells.{cell_at, rows_of}
 use Rattle.std.specs.declared.alloc.Global.{Global}
-use Rattle.view_lang.specs.Groups.{aggregate_of, count_of, distinct, first_in}
 use Rattle.view_lang.specs.ViewLaws.{IsKeyCell}
 use Rattle.view_lang.specs.Outputs.{GroupOutput}
-use Rattle.view_lang.specs.declared.view.Aggregate.{Aggregate}
 use Rattle.group_state.specs.GroupCounts.{GroupCounts}
 use Rattle.group_state.specs.declared.kept_columns.KeptColumn.{KeptColumn}
 use Rattle.group_state.specs.Rows.{cells}
-use Rattle.group_state.specs.declared.tally.Tally.{Tally}
-use Rattle.group_state.specs.Cells.{KeepsCells}
-use Rattle.view_lang.specs.declared.view.Aggregate.TheVariants as aggregate
-use Rattle.view_lang.specs.declared.view.Direction.TheVariants as direction
-use Rattle.group_state.specs.KeptColumns.{is_kept}
-use Rattle.group_state.specs.Reading.{IsRead, AreRead, CanRead, IsThat, filled}
+use Rattle.group_state.specs.Reading.{IsRead, AreRead}
 
 pub cells-keys : (k : ℕ) (rows : List (List Datum)) → AllByRecursion (λ row. IsKeyCell (cell_at row k)) rows
     → AllByRecursion IsKeyCell (cells k rows)

@@ -1,37 +1,19 @@
 -- How often a value is there after one is put or taken.
-use Rattle.std.proofs.Common.{
-  ◌≡◌,
-  refl,
-  ap,
-  sym,
-  ◌∙◌,
-  arith,
-  ℕ,
-  ◌+◌,
-  ◌-◌,
-  ◌<◌,
-  ◌≤◌,
-  List,
-  [],
-  ◌∷◌,
-  add-one,
-  rules,
-  subst,
-}
-use Rattle.std.specs.Prelude.{Bool, true, false, cond, Some, None, Option, nat_lt, is_some, IsSome}
+use Rattle.std.proofs.Common.{◌≡◌, refl, ap, ◌∙◌, arith, ℕ, ◌+◌, ◌-◌, ◌<◌, List}
+use Rattle.std.specs.Prelude.{Bool, true, false, cond, Some, None, Option, nat_lt, IsSome}
 use Rattle.std.specs.Option.{unwrap_or}
 use Rattle.std.specs.List.{All}
 use Rattle.std.specs.Cmp.{eq_by_cmp_equiv, Equal-is}
 use Rattle.std.specs.Ordering.{eq_by_cmp}
 use Rattle.std.specs.Map.{lookup, remove_entry, set_value, keys_of, values_of}
-use Rattle.std.specs.BTreeMap.{insert_entry, is_at}
+use Rattle.std.specs.BTreeMap.{is_at}
 use Rattle.std.specs.List.Sorted.{IsStrictlySortedBy}
 use Rattle.std.proofs.lemmas.Map.{lookup-set_value, lookup-remove_entry}
 use Rattle.std.proofs.lemmas.Map.Keys.{IsDistinct-from_sorted}
 use Rattle.std.proofs.lemmas.Map.Views.{IfSome-lookup_from_All}
 use Rattle.values.specs.declared.key.Key.{Key}
 use Rattle.group_state.specs.Keys.{key_cmp, key_total}
-use Rattle.group_state.specs.Counts.{had, one, put_one, take_one, taken}
+use Rattle.group_state.specs.Counts.{had, one, take_one, taken}
 use Rattle.view_lang.proofs.ExactKeys.{key_exact}
 
 pub same_at : (k q : Key) → is_at (key_cmp k) q ≡ true → k ≡ q

@@ -1,5 +1,5 @@
 -- Columns that are kept stay kept.
-use Rattle.std.proofs.Common.{◌≡◌, refl, ap, ap₂, ◌∙◌, sym, subst, get_or, take}
+use Rattle.std.proofs.Common.{◌≡◌, refl, ap₂, sym, subst, get_or, take}
 use Rattle.std.proofs.lemmas.Bool.{eq-eqb, eqb-true}
 use Rattle.std.specs.Prelude.{All, Bool, true, false, ◌&&◌, ◌==◌, List, length, ℕ, ◌+◌, ◌<◌}
 use Rattle.std.proofs.Common.{true≢false}

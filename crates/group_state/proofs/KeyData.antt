@@ -1,13 +1,11 @@
 -- Keys, tuples of them, and the values that they are.
-use Rattle.std.proofs.Common.{◌≡◌, refl, ap, ap₂, sym, ◌∙◌, subst, true≢false}
-use Rattle.std.specs.Prelude.{ℕ, Bool, true, false, cond, List, [], ◌∷◌, map, filter, Option, None, Some}
+use Rattle.std.proofs.Common.{◌≡◌, refl, ap, ap₂, sym, ◌∙◌, true≢false}
+use Rattle.std.specs.Prelude.{ℕ, Bool, true, false, cond, List, [], ◌∷◌}
 use Rattle.std.specs.List.{AllByRecursion}
-use Rattle.std.specs.Cmp.Lexicographic.{slice_cmp}
 use Rattle.std.specs.Ordering.{is_eq, ordering_then}
-use Rattle.std.specs.BTreeMap.{is_at}
 use Rattle.values.specs.Datum.{Datum, null, truth, whole, text, bytes, list, structure}
 use Rattle.values.specs.Order.{datum_cmp}
-use Rattle.values.specs.Keys.{key_of, datum_of_key}
+use Rattle.values.specs.Keys.{datum_of_key}
 use Rattle.values.specs.declared.key.Key.{Key}
 use Rattle.values.specs.declared.key.Key.TheVariants as key
 use Rattle.view_lang.specs.Cells.{cell_at, cells_at}
@@ -15,7 +13,6 @@ use Rattle.view_lang.specs.RowOrder.{tuple_cmp as data_cmp}
 use Rattle.view_lang.specs.Groups.{same_tuple, rows_with}
 use Rattle.view_lang.specs.ViewLaws.{IsKeyCell}
 use Rattle.group_state.specs.Keys.{key_in, key_cmp, tuple_cmp}
-use Rattle.group_state.specs.Rows.{cell}
 use Rattle.group_state.specs.Tuples.{tuple_of, has_tuple, members}
 use Rattle.group_state.specs.Reading.{data_of}
 

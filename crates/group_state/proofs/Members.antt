@@ -1,9 +1,9 @@
 -- What is kept at each tuple after a row is put or taken.
-use Rattle.std.proofs.Common.{◌≡◌, refl, ap, sym, ◌∙◌, arith, ℕ, ◌+◌, ◌<◌, ◌≤◌, List, [], ◌∷◌, rules, subst, length}
-use Rattle.std.specs.Prelude.{Bool, true, false, cond, Some, None, Option, filter, ◌^◌}
+use Rattle.std.proofs.Common.{◌≡◌, refl, sym, ◌∙◌, arith, ℕ, ◌<◌, List, [], ◌∷◌, subst, length}
+use Rattle.std.specs.Prelude.{Bool, true, false, cond, Option, ◌^◌}
 use Rattle.std.specs.declared.cmp.Ordering.{Ordering}
 use Rattle.std.specs.declared.cmp.Ordering.TheVariants.{Less, Equal, Greater}
-use Rattle.std.specs.Ordering.{is_eq, ordering_then}
+use Rattle.std.specs.Ordering.{ordering_then}
 use Rattle.std.specs.Cmp.{Equal-is, tied_itself, eq_by_cmp_equiv}
 use Rattle.std.specs.Map.{lookup}
 use Rattle.std.proofs.lemmas.List.Sums.{length-filter, count_by-le-length}
@@ -13,7 +13,6 @@ use Rattle.values.specs.declared.key.Key.{Key}
 use Rattle.group_state.specs.Keys.{key_cmp, tuple_cmp, tuple_total}
 use Rattle.group_state.specs.GroupCounts.{GroupCounts}
 use Rattle.group_state.specs.declared.kept_columns.KeptColumn.{KeptColumn}
-use Rattle.group_state.specs.Grouped.{Grouped}
 use Rattle.group_state.specs.Tuples.{tuple_of, has_tuple, members}
 use Rattle.group_state.specs.Groups.{Keeps, KeepsAt}
 use Rattle.view_lang.proofs.ExactKeys.{key_exact}

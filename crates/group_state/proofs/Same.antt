@@ -1,7 +1,6 @@
 -- What is kept depends on how many rows pass each test alone.
-use Rattle.std.proofs.Common.{◌≡◌, refl, ap, sym, ◌∙◌, arith, ℕ, ◌+◌, ◌<◌, ◌≤◌, List, [], ◌∷◌, rules, subst, length}
-use Rattle.std.specs.Prelude.{Bool, true, false, cond, Some, None, Option, filter, map, count_by}
-use Rattle.std.specs.List.{sum_by}
+use Rattle.std.proofs.Common.{◌≡◌, refl, ap, sym, ◌∙◌, arith, ℕ, ◌+◌, List, [], ◌∷◌, length}
+use Rattle.std.specs.Prelude.{Bool, true, false, cond, Some, None, Option, filter, count_by}
 use Rattle.std.proofs.lemmas.List.Sums.{length-filter, sum_by-cons}
 use Rattle.std.specs.Map.{lookup}
 use Rattle.std.specs.BTreeMap.{is_at}
@@ -11,8 +10,8 @@ use Rattle.group_state.specs.Keys.{tuple_cmp}
 use Rattle.group_state.specs.GroupCounts.{GroupCounts}
 use Rattle.group_state.specs.Grouped.{Grouped}
 use Rattle.group_state.specs.Cells.{KeepsCells, is_filled, is_value}
-use Rattle.group_state.specs.Rows.{KeepsRows, KeepsEach, cell, cells}
-use Rattle.group_state.specs.Tuples.{has_tuple, members}
+use Rattle.group_state.specs.Rows.{cell, cells}
+use Rattle.group_state.specs.Tuples.{has_tuple}
 use Rattle.std.specs.Prelude.{slice_index_or}
 use Rattle.std.specs.Int.{int_wrap}
 use mir.Syntax.{w128}

@@ -1,41 +1,10 @@
 -- What outputs show of what is kept of rows is the definition's, where it can be read.
 use Rattle.std.proofs.Common.{◌≡◌, refl, ap, ap₂, sym, ◌∙◌, subst, arith, get_or}
-use Rattle.std.specs.Prelude.{
-  ℕ,
-  zero,
-  suc,
-  ◌+◌,
-  ◌<◌,
-  ◌==◌,
-  ◌||◌,
-  Bool,
-  true,
-  false,
-  cond,
-  List,
-  [],
-  ◌∷◌,
-  map,
-  length,
-  Option,
-  None,
-  Some,
-  All,
-  slice_get,
-  slice_index,
-  slice_index_or,
-  FitsSigned,
-  pos,
-}
-use Rattle.std.specs.BTreeMap.{is_at}
-use Rattle.std.specs.Int.{int_wrap}
-use Rattle.std.specs.List.{AllByRecursion}
-use Rattle.std.specs.Map.{lookup}
-use Rattle.std.specs.Option.{option_and_then, option_map}
-use Rattle.std.proofs.lemmas.Bool.{eqb-true}
+use Rattle.std.specs.Prelude.{ℕ, zero, suc, ◌+◌, ◌<◌, ◌||◌, Bool, true, false, List, [], ◌∷◌, map, length, Option, None, Some, All, slice_get, slice_index_or, FitsSigned, pos}
+use Rattle.std.specs.Option.{option_and_then}
 use Rattle.std.proofs.lemmas.Option.{slice_get-get_or}
 use mir.Syntax.{w128}
-use Rattle.values.specs.Datum.{Datum, null, whole}
+use Rattle.values.specs.Datum.{Datum, whole}
 use Rattle.values.specs.declared.key.Key.{Key}
 use Rattle.view_lang.specs.Groups.{aggregate_of, group_row, sum_of as total_by, total}
 use Rattle.view_lang.specs.Outputs.{GroupOutput}

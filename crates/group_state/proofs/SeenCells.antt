@@ -1,6 +1,5 @@
 -- The cells of rows of groups that are read where they lie.
 use Rattle.std.proofs.Common.{◌≡◌, ℕ, List, ◌<◌, ◌≤◌, length, get_or, refl, ap, sym, ◌∙◌}
-use Rattle.std.specs.Prelude.{None, slice_get}
 use Rattle.std.specs.Option.{option_map, unwrap_or}
 use Rattle.std.proofs.lemmas.Option.{
   get_or_from_slice_get,
@@ -9,7 +8,7 @@ use Rattle.std.proofs.lemmas.Option.{
   slice_get_read,
   unwrap_or-slice_get,
 }
-use Rattle.values.specs.Datum.{Datum, null}
+use Rattle.values.specs.Datum.{null}
 use Rattle.values.specs.declared.key.Key.{Key}
 use Rattle.view_lang.specs.Cells.{cell_at}
 use Rattle.view_lang.specs.Outputs.{GroupOutput}

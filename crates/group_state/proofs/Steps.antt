@@ -1,27 +1,5 @@
 -- One row after the other of a change.
-use Rattle.std.proofs.Common.{
-  ◌≡◌,
-  refl,
-  ap,
-  sym,
-  ◌∙◌,
-  arith,
-  ℕ,
-  ◌+◌,
-  ◌<◌,
-  ◌≤◌,
-  List,
-  [],
-  ◌∷◌,
-  rules,
-  subst,
-  length,
-  take,
-  drop,
-  get_or,
-  add-one,
-  drop-cons,
-}
+use Rattle.std.proofs.Common.{◌≡◌, ap, sym, ◌∙◌, arith, ℕ, ◌+◌, ◌<◌, ◌≤◌, List, [], ◌∷◌, length, take, drop, get_or, add-one, drop-cons}
 use Rattle.std.specs.Prelude.{Some, None, Option, suc}
 use Rattle.std.proofs.lemmas.List.Sums.{fold_more}
 use Rattle.std.proofs.lemmas.List.{length-take-le}

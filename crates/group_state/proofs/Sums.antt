@@ -1,41 +1,14 @@
 -- Sums of groups fit, and what a column of the output needs is there.
-use Rattle.std.proofs.Common.{◌≡◌, refl, ap, sym, ◌∙◌, subst, arith, get_or}
-use Rattle.std.specs.Prelude.{
-  ℕ,
-  zero,
-  suc,
-  ◌+◌,
-  ◌*◌,
-  ◌<◌,
-  ◌≤◌,
-  ◌^◌,
-  ℤ,
-  pos,
-  neg_ℤ,
-  ◌+ℤ◌,
-  ◌≤ℤ◌,
-  Bool,
-  true,
-  false,
-  cond,
-  not,
-  List,
-  [],
-  ◌∷◌,
-  map,
-  filter,
-  length,
-  All,
-  FitsSigned,
-}
+use Rattle.std.proofs.Common.{◌≡◌, refl, arith, get_or}
+use Rattle.std.specs.Prelude.{ℕ, zero, suc, ◌*◌, ◌<◌, ◌≤◌, ◌^◌, ℤ, pos, neg_ℤ, ◌+ℤ◌, ◌≤ℤ◌, Bool, true, false, cond, List, [], ◌∷◌, map, filter, length, All, FitsSigned}
 use mir.Syntax.{w128}
 use Rattle.std.specs.List.{AllByRecursion}
 use Rattle.std.proofs.lemmas.Int.{ints}
 use Rattle.std.proofs.lemmas.List.Sums.{length-filter, count_by-le-length}
-use Rattle.values.specs.Datum.{Datum, null, truth, whole, text, bytes, list, structure, is_null}
+use Rattle.values.specs.Datum.{Datum, null, truth, whole, text, bytes, list, structure}
 use Rattle.view_lang.specs.Cells.{cell_at}
 use Rattle.view_lang.specs.Groups.{number_in, total, values_at}
-use Rattle.view_lang.specs.Sums.{IsSmall, IsSummable, AreSummable}
+use Rattle.view_lang.specs.Sums.{IsSmall, IsSummable}
 use Rattle.view_lang.specs.ViewLaws.{ComparesKeys, UsesKeys}
 use Rattle.view_lang.specs.Outputs.{GroupOutput}
 use Rattle.view_lang.specs.declared.view.Aggregate.{Aggregate}

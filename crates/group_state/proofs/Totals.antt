@@ -1,5 +1,5 @@
 -- Totals of cells.
-use Rattle.std.proofs.Common.{◌≡◌, refl, ap, sym, ◌∙◌, subst, arith, ◌+◌, ◌-◌, List, [], ◌∷◌, rules}
+use Rattle.std.proofs.Common.{◌≡◌, refl, ap, sym, ◌∙◌, arith, ◌+◌, ◌-◌, List, ◌∷◌}
 use Rattle.std.specs.Prelude.{ℤ, ◌+ℤ◌, ◌-ℤ◌, Bool, true, false, cond, filter, not, count_by}
 use Rattle.std.specs.Int.{int_wrap}
 use mir.Syntax.{w128}

@@ -1,25 +1,5 @@
 -- Counts of values, as ascending entries.
-use Rattle.std.specs.Prelude.{
-  ℕ,
-  ℤ,
-  pos,
-  zero,
-  suc,
-  ◌+◌,
-  ◌-◌,
-  ◌<◌,
-  ◌==◌,
-  ◌+ℤ◌,
-  List,
-  [],
-  ◌∷◌,
-  if◌then◌else◌,
-  nat_lt,
-  ◌≡◌,
-  Option,
-  None,
-  Some,
-}
+use Rattle.std.specs.Prelude.{ℕ, ℤ, pos, zero, suc, ◌+◌, ◌-◌, ◌+ℤ◌, List, [], ◌∷◌, if◌then◌else◌, nat_lt, Option, None, Some}
 use Rattle.std.specs.Option.{unwrap_or}
 use Rattle.std.specs.Map.{lookup, remove_entry, set_value}
 use Rattle.std.specs.BTreeMap.{insert_entry, is_at}

@@ -1,28 +1,7 @@
 -- Reading group rows out of groups that are kept.
-use Rattle.std.specs.Prelude.{
-  ◌≡◌,
-  ◌<◌,
-  ◌==◌,
-  ℕ,
-  Bool,
-  true,
-  false,
-  List,
-  [],
-  ◌∷◌,
-  map,
-  not,
-  filter,
-  length,
-  Option,
-  None,
-  Some,
-  FitsSigned,
-  All,
-  slice_index,
-}
+use Rattle.std.specs.Prelude.{◌≡◌, ℕ, List, [], ◌∷◌, map, not, filter, Option, None, Some, FitsSigned, All}
 use mir.Syntax.{w128}
-use Rattle.std.specs.List.{list_any, AllByRecursion}
+use Rattle.std.specs.List.{AllByRecursion}
 use Rattle.values.specs.Datum.{Datum, null, is_null}
 use Rattle.values.specs.Keys.{datum_of_key}
 use Rattle.values.specs.declared.key.Key.{Key}

@@ -74,7 +74,13 @@ impl<'a> RowView for GroupRow<'a> {
 
     fn copy_cell(&self, alloc: Global, column: usize) -> Result<Value, AllocError> {
         match self.outputs.get(column) {
-            Some(output) => read_cell(alloc, output.aggregate, self.tuple, self.group, self.columns),
+            Some(output) => read_cell(
+                alloc,
+                output.aggregate,
+                self.tuple,
+                self.group,
+                self.columns,
+            ),
             None => Ok(no_value()),
         }
     }

@@ -191,21 +191,11 @@ impl Groups {
             made.truncate(most);
             return Ok(made);
         }
-        Ok(read_first(
-            alloc,
-            outputs,
-            &self.groups,
-            self.columns.as_slice(),
-            most,
-        )?)
+        Ok(read_first(alloc, outputs, &self.groups, self.columns.as_slice(), most)?)
     }
 
     /// The row of a tuple's group, if it has one.
-    pub fn row<'a>(
-        &'a self,
-        outputs: &'a [GroupOutput],
-        tuple: &'a Tuple,
-    ) -> Option<GroupRow<'a>>
+    pub fn row<'a>(&'a self, outputs: &'a [GroupOutput], tuple: &'a Tuple) -> Option<GroupRow<'a>>
         ensures { result ≡ seen_at outputs.now self.now tuple.now }
     {
         let columns = self.columns.as_slice();

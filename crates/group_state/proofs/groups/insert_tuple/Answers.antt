@@ -1,8 +1,6 @@
-use Rattle.std.proofs.Common.{Bor, ◌||◌, ◌∙◌, ap, option_map, sym}
-use Rattle.std.specs.Prelude.{List, Option}
+use Rattle.std.proofs.Common.{◌||◌, ◌∙◌, ap, option_map, sym}
 use Rattle.std.specs.BTreeMap.{is_at}
 use Rattle.std.specs.List.{list_any}
-use Rattle.values.specs.Datum.{Datum}
 use Rattle.group_state.specs.Keys.{tuple_cmp}
 use Rattle.group_state.specs.Touched.{is_of}
 use Rattle.group_state.proofs.Touched.{inserted}

@@ -1,4 +1,4 @@
-use Rattle.std.proofs.Common.{List, map}
+use Rattle.std.proofs.Common.{map}
 use Rattle.std.specs.Map.Iter.{deref_pair}
 use Rattle.view_lang.specs.Cells.{rows_of}
 use Rattle.group_state.specs.Reading.{AreRead}

@@ -1,4 +1,4 @@
-use Rattle.std.proofs.Common.{◌≡◌, [], ap, arith, refl, sym, ◌∙◌}
+use Rattle.std.proofs.Common.{[], ap, arith, refl, sym, ◌∙◌}
 use Rattle.std.specs.Prelude.{List, Some}
 use Rattle.std.specs.Map.{values_of}
 use Rattle.values.specs.Datum.{Datum}

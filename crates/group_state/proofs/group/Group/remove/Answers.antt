@@ -1,5 +1,4 @@
-use Rattle.std.proofs.Common.{rules, ◌≡◌, ap, sym, ◌∙◌, ℕ, refl, List, ◌∷◌, arith, subst}
-use Rattle.values.specs.Datum.{Datum}
+use Rattle.std.proofs.Common.{sym, ◌∙◌, List, ◌∷◌, arith, subst}
 use Rattle.std.proofs.lemmas.List.{with_items_is}
 use Rattle.group_state.specs.declared.tally.Tally.{Tally}
 use Rattle.group_state.specs.GroupCounts.{GroupCounts}

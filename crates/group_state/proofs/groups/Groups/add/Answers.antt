@@ -1,14 +1,6 @@
-use Rattle.std.proofs.Common.{rules, ◌≡◌, ap, sym, ◌∙◌, ℕ, refl, List, ◌∷◌, arith, subst, ◌<◌}
-use Rattle.std.specs.Prelude.{◌^◌, length, Ok, Err, OnOk}
-use Rattle.std.specs.Map.{lookup}
-use Rattle.std.specs.BTreeMap.{is_at}
-use Rattle.values.specs.Datum.{Datum}
-use Rattle.values.specs.declared.key.Key.{Key}
-use Rattle.group_state.specs.Keys.{tuple_cmp}
+use Rattle.std.proofs.Common.{ap, sym, subst}
 use Rattle.group_state.specs.Grouped.{Grouped}
-use Rattle.group_state.specs.Groups.{Keeps, KeepsAt}
-use Rattle.group_state.specs.Touched.{StayBut}
-use Rattle.group_state.specs.Tuples.{has_tuple}
+use Rattle.group_state.specs.Groups.{Keeps}
 use Rattle.group_state.proofs.Members.{keeps-put, put-needs}
 use Rattle.group_state.proofs.Touched.{others-stay}
 use Rattle.group_state.proofs.groups.Groups.add.Goals as goal

@@ -1,4 +1,4 @@
-use Rattle.std.proofs.Common.{List, subst, sym}
+use Rattle.std.proofs.Common.{List, subst}
 use Rattle.std.specs.Prelude.{Option}
 use Rattle.values.specs.Datum.{Datum}
 use Rattle.view_lang.specs.Shifts.{push_some}

@@ -2,7 +2,7 @@ use Rattle.std.proofs.Common.{[], ◌∷◌}
 use Rattle.std.specs.Prelude.{Some, None}
 use Rattle.std.specs.Map.{values_of}
 use Rattle.std.proofs.lemmas.Map.Entries.{length-values_of}
-use Rattle.view_lang.specs.Shifts.{Fits, patched, shift, with_at}
+use Rattle.view_lang.specs.Shifts.{Fits, shift}
 use Rattle.view_lang.specs.Counted.{counted}
 use Rattle.group_state.proofs.Same.{keeps-same}
 use Rattle.group_state.proofs.groups.Groups.come.Goals as goal

@@ -1,7 +1,7 @@
 use Rattle.std.proofs.Common.{[], ◌∷◌}
 use Rattle.std.specs.Prelude.{Some, None}
 use Rattle.std.specs.Map.{values_of}
-use Rattle.view_lang.specs.Shifts.{Fits, NumberedRows, patched, shift, with_at}
+use Rattle.view_lang.specs.Shifts.{Fits, shift, with_at}
 use Rattle.view_lang.specs.Counted.{counted}
 use Rattle.group_state.proofs.Same.{keeps-same}
 use Rattle.group_state.proofs.groups.Groups.go.Goals as goal

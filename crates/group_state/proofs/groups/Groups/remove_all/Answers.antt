@@ -1,35 +1,9 @@
-use Rattle.std.proofs.Common.{
-  rules,
-  ◌≡◌,
-  ap,
-  sym,
-  ◌∙◌,
-  ℕ,
-  refl,
-  List,
-  ◌∷◌,
-  arith,
-  subst,
-  ◌<◌,
-  ◌+◌,
-  take,
-  drop,
-  length,
-  get_or,
-  drop-cons,
-}
-use Rattle.std.specs.Prelude.{◌^◌, Some, None, Option}
-use Rattle.std.specs.Map.{values_of}
-use Rattle.std.proofs.lemmas.List.{length-take}
-use Rattle.std.proofs.lemmas.List.Sums.{fold_more}
+use Rattle.std.proofs.Common.{◌∙◌, List, subst, ◌+◌, drop}
 use Rattle.values.specs.Datum.{Datum}
-use Rattle.view_lang.specs.Shifts.{Shift, push_some, with_afters, with_befores, patched}
-use Rattle.view_lang.specs.Counted.{counted}
-use Rattle.group_state.specs.Grouped.{Grouped}
-use Rattle.group_state.specs.Groups.{Keeps, KeepsAt}
+use Rattle.view_lang.specs.Shifts.{Shift, with_befores}
+use Rattle.group_state.specs.Groups.{Keeps}
 use Rattle.std.proofs.Math.ListN.{drop_of_length-le}
 use Rattle.group_state.proofs.Steps.{befores-more}
-use Rattle.group_state.proofs.Same.{keeps-same}
 use Rattle.group_state.proofs.Touched.{stay-more}
 use Rattle.group_state.specs.Touched.{StayBut, goes}
 use Rattle.std.specs.List.{list_any}

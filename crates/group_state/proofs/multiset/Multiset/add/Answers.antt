@@ -1,5 +1,5 @@
 use Rattle.std.proofs.Common.{◌≡◌, ap, ◌∙◌, rules, ℕ, ◌+◌}
-use Rattle.std.specs.Prelude.{List, ◌<◌}
+use Rattle.std.specs.Prelude.{List}
 use Rattle.values.specs.declared.key.Key.{Key}
 use Rattle.group_state.specs.Counts.{had, one}
 use Rattle.group_state.proofs.Had.{had-put}

@@ -1,4 +1,4 @@
-use Rattle.std.proofs.Common.{◌≡◌, ap, sym, ◌∙◌}
+use Rattle.std.proofs.Common.{ap, sym, ◌∙◌}
 use Rattle.group_state.specs.Folds.{last_of}
 use Rattle.group_state.proofs.FoldReadings.{last-got}
 use Rattle.group_state.proofs.multiset.Multiset.greatest.Goals as goal
