@@ -13,7 +13,8 @@ use Rattle.std.proofs.lemmas.Map.Keys.{IsDistinct-from_sorted}
 use Rattle.std.proofs.lemmas.Map.Views.{IfSome-lookup_from_All}
 use Rattle.values.specs.declared.key.Key.{Key}
 use Rattle.group_state.specs.Keys.{key_cmp, key_total}
-use Rattle.group_state.specs.Counts.{had, one, take_one, taken}
+use Rattle.group_state.specs.Counts.{had, one, put_one, take_one, taken}
+use Rattle.view_lang.specs.SortedEntries.{lookup-insert_entry}
 use Rattle.view_lang.proofs.ExactKeys.{key_exact}
 
 pub same_at : (k q : Key) → is_at (key_cmp k) q ≡ true → k ≡ q
@@ -31,6 +32,10 @@ module _ (k : Key) (es : List (Key × ℕ)) (q : Key) where
   pub had-put : (o : Option ℕ) → o ≡ cond (is_at (key_cmp k) q) (Some (had es k + 1)) (lookup (is_at (key_cmp q)) es)
       → unwrap_or o 0 ≡ had es q + one k q
   had-put o h = ap (λ x. unwrap_or x 0) h ∙ put_by (is_at (key_cmp k) q) refl
+
+  pub had-put_one : had (put_one k es) q ≡ had es q + one k q
+  had-put_one =
+      had-put (lookup (is_at (key_cmp q)) (put_one k es)) (lookup-insert_entry key_total k q (had es k + 1) es)
 
   take_by : (w : ℕ) → had es k ≡ w + 1 → (o : Option ℕ) → unwrap_or o 0 ≡ w → (b : Bool) → is_at (key_cmp k) q ≡ b
       → unwrap_or (cond b o (lookup (is_at (key_cmp q)) es)) 0 ≡ had es q - cond b 1 0

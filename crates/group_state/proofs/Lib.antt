@@ -14,6 +14,7 @@ pub mod GroupReadings
 pub mod Sums
 pub mod GroupLaw
 pub mod Keeping
+pub mod FewValues
 pub mod Present
 pub mod SampleFits
 pub mod Taken

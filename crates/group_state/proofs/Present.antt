@@ -1,5 +1,5 @@
 -- No value is there 0 times.
-use Rattle.std.proofs.Common.{◌≡◌, refl, arith, ℕ, ◌+◌, ◌-◌, ◌<◌, List}
+use Rattle.std.proofs.Common.{◌≡◌, refl, subst, sym, arith, ℕ, ◌+◌, ◌-◌, ◌<◌, List}
 use Rattle.std.specs.Prelude.{Bool, true, false, cond, Some, None, Option, nat_lt}
 use Rattle.std.specs.List.{All}
 use Rattle.std.specs.Map.{lookup, remove_entry, set_value, values_of}
@@ -24,3 +24,8 @@ module _ (k : Key) (es : List (Key × ℕ)) (p : All (λ n. 0 < n) (values_of es
 
   pub present-take : All (λ n. 0 < n) (values_of (take_one k es))
   present-take = present-taken (lookup (is_at (key_cmp k)) es)
+
+-- the same where it is known what there is after it
+pub present_when : (k : Key) (es fs : List (Key × ℕ)) → fs ≡ put_one k es → All (λ n. 0 < n) (values_of es)
+    → All (λ n. 0 < n) (values_of fs)
+present_when k es fs is p = subst (λ (xs : List (Key × ℕ)). All (λ n. 0 < n) (values_of xs)) (sym is) (present-put k es p)

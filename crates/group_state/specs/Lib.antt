@@ -13,3 +13,5 @@ pub mod Reading
 pub mod Sample
 pub mod Seen
 pub mod Touched
+pub mod FewValues
+pub mod Multisets

@@ -7,11 +7,13 @@
 #![tactic(auto)]
 
 mod cells;
+mod few_values;
 mod group;
 mod group_row;
 mod groups;
 mod kept_columns;
 mod key_cell;
+mod many_values;
 mod multiset;
 mod parts;
 mod reading;

@@ -1,52 +1,47 @@
 //! Ordered multisets of values.
 
-ghost use Rattle.std.specs.Prelude.{
-  ◌≡◌,
-  ◌<◌,
-  ◌^◌,
-  ◌+◌,
-  ◌-◌,
-  IfOk,
-  OnErr,
-  OnOk,
-  length,
-  ℕ,
-};
-ghost use Rattle.std.proofs.Common.{option_map};
+ghost use Rattle.group_state.specs.Counts.{had, keeps_none, one, put_one, take_one};
 ghost use Rattle.group_state.specs.Folds.{first_of, last_of};
 ghost use Rattle.group_state.specs.GroupParts.{IsMultiset, counts_with};
-ghost use Rattle.std.specs.List.Sorted.{IsStrictlySortedBy};
-ghost use Rattle.values.specs.declared.key.Key.{Key};
 ghost use Rattle.group_state.specs.Keys.{key_cmp};
-ghost use Rattle.std.specs.Map.{keys_of, values_of};
+ghost use Rattle.std.proofs.Common.{option_map};
 ghost use Rattle.std.specs.List.{All};
-ghost use Rattle.group_state.specs.Counts.{put_one, take_one, had, one, keeps_none};
+ghost use Rattle.std.specs.List.Sorted.{IsStrictlySortedBy};
+ghost use Rattle.std.specs.Map.{keys_of, values_of};
+ghost use Rattle.std.specs.Prelude.{◌≡◌, ◌<◌, ◌^◌, ◌+◌, ◌-◌, IfOk, OnErr, OnOk, length};
+ghost use Rattle.values.specs.declared.key.Key.{Key};
 
+use crate::few_values::FewValues;
 use crate::key_cell::KeyCell;
-use crate::parts::{MultisetParts, ValueCount};
+use crate::many_values::ManyValues;
+use crate::parts::MultisetParts;
 use std::alloc::{AllocError, Global};
-use std::collections::BTreeMap;
 use std::marker::Model;
+
+/// More values than this are kept in a tree.
+const MOST_FEW: usize = 8;
+
+/// A few values in one piece of memory, or many in a tree.
+#[derive(Debug, Drop)]
+enum Counts {
+    Few(FewValues),
+    Many(ManyValues),
+}
 
 /// Values with how often each is there, in ascending order. Contracts see the entries; none has the count 0.
 #[derive(Debug, Drop)]
 pub struct Multiset {
-    counts: BTreeMap<KeyCell, u64>,
+    counts: Counts,
 }
 
 impl Model for Multiset {
+    ghost use Rattle.group_state.specs.Multisets.{counted_in};
     ghost use Rattle.std.specs.Prelude.{List, ℕ};
     ghost use Rattle.values.specs.declared.key.Key.{Key};
 
     ghost Value = { List (Key × ℕ) };
 
-    ghost view = { λ m. m.counts.entries };
-
-    ghost use Rattle.std.specs.List.{All};
-    ghost use Rattle.std.specs.Map.{values_of};
-    ghost use Rattle.std.specs.Prelude.{◌<◌};
-
-    ghost invariant = { λ m. All (λ n. 0 < n) (values_of m.counts.entries) };
+    ghost view = { λ m. counted_in m.counts };
 }
 
 impl Multiset {
@@ -55,7 +50,7 @@ impl Multiset {
         ensures { result ≡ keeps_none }
     {
         Multiset {
-            counts: BTreeMap::new(alloc),
+            counts: Counts::Few(FewValues::new(alloc)),
         }
     }
 
@@ -63,25 +58,22 @@ impl Multiset {
         ensures value { IfOk result (λ parts. counts_with parts ≡ self) }
         ensures kept { IfOk result (λ parts. IsMultiset parts) }
     {
-        let Multiset { counts } = self;
-        let mut taken = Vec::with_capacity(alloc, counts.len())?;
-        for (key, count) in counts {
-            let value = key.into_cell();
-            taken.push(ValueCount { value, count })?;
+        match self.counts {
+            Counts::Few(values) => values.into_parts(alloc),
+            Counts::Many(values) => values.into_parts(alloc),
         }
-        Ok(MultisetParts { counts: taken })
     }
 
     pub(crate) fn from_parts(alloc: Global, parts: MultisetParts) -> Result<Multiset, AllocError>
         requires { IsMultiset parts }
         ensures { IfOk result (λ made. made ≡ counts_with parts) }
     {
-        let MultisetParts { counts } = parts;
-        let mut made = BTreeMap::new(alloc);
-        for ValueCount { value, count } in counts {
-            made.insert(KeyCell::of_cell(value), count)?;
-        }
-        Ok(Multiset { counts: made })
+        let counts = if parts.counts.len() > MOST_FEW {
+            Counts::Many(ManyValues::from_parts(alloc, parts)?)
+        } else {
+            Counts::Few(FewValues::from_parts(alloc, parts)?)
+        };
+        Ok(Multiset { counts })
     }
 
     /// How many distinct values it has.
@@ -90,7 +82,10 @@ impl Multiset {
         ensures ordered { IsStrictlySortedBy key_cmp (keys_of self.now) }
         ensures present { All (λ n. 0 < n) (values_of self.now) }
     {
-        self.counts.len()
+        match &self.counts {
+            Counts::Few(values) => values.len(),
+            Counts::Many(values) => values.len(),
+        }
     }
 
     /// The least value; `None` where there is no value.
@@ -99,10 +94,10 @@ impl Multiset {
         ensures ordered { IsStrictlySortedBy key_cmp (keys_of self.now) }
         ensures present { All (λ n. 0 < n) (values_of self.now) }
     {
-        let _size = self.counts.len();
-        match self.counts.first_key_value() {
-            Some((key, _count)) => Some(key),
-            None => None,
+        let _size = self.count_distinct();
+        match &self.counts {
+            Counts::Few(values) => values.least(),
+            Counts::Many(values) => values.least(),
         }
     }
 
@@ -112,22 +107,54 @@ impl Multiset {
         ensures ordered { IsStrictlySortedBy key_cmp (keys_of self.now) }
         ensures present { All (λ n. 0 < n) (values_of self.now) }
     {
-        let _size = self.counts.len();
-        match self.counts.last_key_value() {
-            Some((key, _count)) => Some(key),
-            None => None,
+        let _size = self.count_distinct();
+        match &self.counts {
+            Counts::Few(values) => values.greatest(),
+            Counts::Many(values) => values.greatest(),
         }
     }
 
-    /// Adds a value.
-    pub fn add(&mut self, key: KeyCell) -> Result<(), AllocError>
+    /// Moves the values into a tree where there are no longer few. If memory is refused, nothing has changed.
+    fn make_room(&mut self, alloc: Global) -> Result<(), AllocError>
+        ensures { self.new ≡ self.old }
+    {
+        let many = match &self.counts {
+            Counts::Few(values) if values.len() >= MOST_FEW => values.to_many(alloc)?,
+            _ => return Ok(()),
+        };
+        self.counts = Counts::Many(many);
+        Ok(())
+    }
+
+    fn put(&mut self, key: KeyCell) -> Result<(), AllocError>
+        requires { had self.old key < 2 ^ 63 }
+        ensures ok { OnOk result (self.new ≡ put_one key self.old) }
+        ensures err { OnErr result (self.new ≡ self.old) }
+    {
+        match &mut self.counts {
+            Counts::Few(values) => values.add(key),
+            Counts::Many(values) => values.add(key),
+        }
+    }
+
+    fn take(&mut self, key: &KeyCell)
+        ensures { self.new ≡ take_one key.now self.old }
+    {
+        match &mut self.counts {
+            Counts::Few(values) => values.remove(key),
+            Counts::Many(values) => values.remove(key),
+        }
+    }
+
+    /// Adds a value. If memory is refused, nothing has changed.
+    pub fn add(&mut self, alloc: Global, key: KeyCell) -> Result<(), AllocError>
         requires { had self.old key < 2 ^ 63 }
         ensures ok { OnOk result (self.new ≡ put_one key self.old) }
         ensures counts { OnOk result ((q : Key) → had self.new q ≡ had self.old q + one key q) }
         ensures err { OnErr result (self.new ≡ self.old) }
     {
-        let had = self.counts.get(&key).copied().unwrap_or(0);
-        self.counts.insert(key, had + 1)?;
+        self.make_room(alloc)?;
+        self.put(key)?;
         Ok(())
     }
 
@@ -136,24 +163,7 @@ impl Multiset {
         ensures entries { self.new ≡ take_one key.now self.old }
         ensures counts { (q : Key) → had self.new q ≡ had self.old q - one key.now q }
     {
-        take_from(&mut self.counts, key);
-    }
-}
-
-/// Lowers a value's count by one, and removes the value when none is left.
-fn take_from(counts: &mut BTreeMap<KeyCell, u64>, key: &KeyCell)
-    ensures entries { counts.new.entries ≡ take_one key.now counts.old.entries }
-    ensures ordered { IsStrictlySortedBy key_cmp (keys_of counts.old.entries) }
-{
-    let _size = counts.len();
-    let Some(count) = counts.get(key).copied() else {
-        return;
-    };
-    if count > 1 {
-        if let Some(place) = counts.get_mut(key) {
-            *place = count - 1;
-        }
-    } else {
-        drop(counts.remove(key));
+        let _size = self.count_distinct();
+        self.take(key);
     }
 }

@@ -227,7 +227,7 @@ fn add_value<R: RowView>(
         return Ok(());
     }
     if let Some(key) = key_cell_at(alloc, row, column)? {
-        values.add(key)?;
+        values.add(alloc, key)?;
         let _size = values.count_distinct();
     }
     Ok(())

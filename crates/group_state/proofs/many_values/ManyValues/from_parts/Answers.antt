@@ -1,5 +1,5 @@
 use Rattle.group_state.proofs.Taken.{made-next, rest-left}
-use Rattle.group_state.proofs.multiset.Multiset.from_parts.Goals as goal
+use Rattle.group_state.proofs.many_values.ManyValues.from_parts.Goals as goal
 use Rattle.group_state.specs.GroupParts.{count_with}
 use Rattle.group_state.specs.Keys.{key_cmp, key_total}
 use Rattle.std.proofs.Common.{◌≡◌, ◌∷◌, rules, ap, sym}

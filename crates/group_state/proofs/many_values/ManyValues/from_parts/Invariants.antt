@@ -2,7 +2,7 @@ use Rattle.std.proofs.Common.{◌≡◌, ◌++◌, map}
 use Rattle.std.specs.List.{All}
 use Rattle.view_lang.specs.ViewLaws.{IsKeyCell}
 use Rattle.group_state.specs.GroupParts.{count_with}
-use Rattle.group_state.proofs.multiset.Multiset.from_parts.Given as goal
+use Rattle.group_state.proofs.many_values.ManyValues.from_parts.Given as goal
 
 abbrev pub invariant-loop-value : goal.invariant-loop-value
 invariant-loop-value l =

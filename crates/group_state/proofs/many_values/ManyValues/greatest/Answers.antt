@@ -1,7 +1,7 @@
 use Rattle.std.proofs.Common.{ap, sym, ◌∙◌}
 use Rattle.group_state.specs.Folds.{last_of}
 use Rattle.group_state.proofs.FoldReadings.{last-got}
-use Rattle.group_state.proofs.multiset.Multiset.greatest.Goals as goal
+use Rattle.group_state.proofs.many_values.ManyValues.greatest.Goals as goal
 
 pub returns-in-Some-clause-greatest : goal.returns-in-Some-clause-greatest
 returns-in-Some-clause-greatest c = sym (last-got c.self.inside.counts.entries _ c.in-Some.ensures.last)

@@ -1,0 +1,192 @@
+//! A few values, with how often each is there, in one piece of memory.
+
+ghost use Rattle.group_state.specs.Counts.{had, keeps_none, put_one, take_one};
+ghost use Rattle.group_state.specs.FewValues.{IsBefore, IsThere};
+ghost use Rattle.group_state.specs.Folds.{first_of, last_of};
+ghost use Rattle.group_state.specs.GroupParts.{IsMultiset, counts_with};
+ghost use Rattle.group_state.specs.Keys.{key_cmp};
+ghost use Rattle.std.proofs.Common.{option_map};
+ghost use Rattle.std.specs.List.Sorted.{IsStrictlySortedBy};
+ghost use Rattle.std.specs.List.{All};
+ghost use Rattle.std.specs.Map.{keys_of, values_of};
+ghost use Rattle.std.specs.Prelude.{◌≡◌, ◌<◌, ◌^◌, IfOk, MatchResult, OnErr, OnOk, length};
+ghost use Rattle.values.specs.declared.key.Key.{Key};
+
+use crate::key_cell::KeyCell;
+use crate::many_values::ManyValues;
+use crate::parts::{MultisetParts, ValueCount};
+use std::alloc::{AllocError, Global};
+use std::cmp::Ordering;
+use std::marker::Model;
+
+/// Values with how often each is there, in ascending order.
+#[derive(Debug, Drop)]
+pub(crate) struct FewValues {
+    counts: Vec<(KeyCell, u64)>,
+}
+
+impl Model for FewValues {
+    ghost use Rattle.group_state.specs.Keys.{key_cmp};
+    ghost use Rattle.std.specs.List.{All};
+    ghost use Rattle.std.specs.List.Sorted.{IsStrictlySortedBy};
+    ghost use Rattle.std.specs.Map.{keys_of, values_of};
+    ghost use Rattle.std.specs.Prelude.{◌<◌, List, ℕ};
+    ghost use Rattle.values.specs.declared.key.Key.{Key};
+
+    ghost Value = { List (Key × ℕ) };
+
+    ghost view = { λ f. f.counts.items };
+
+    ghost invariant = { λ f. IsStrictlySortedBy key_cmp (keys_of f.counts.items)
+        × All (λ n. 0 < n) (values_of f.counts.items) };
+}
+
+impl FewValues {
+    /// No values. They take no memory.
+    pub(crate) fn new(alloc: Global) -> FewValues
+        ensures { result ≡ keeps_none }
+    {
+        FewValues {
+            counts: Vec::new(alloc),
+        }
+    }
+
+    pub(crate) fn into_parts(self, alloc: Global) -> Result<MultisetParts, AllocError>
+        ensures value { IfOk result (λ parts. counts_with parts ≡ self) }
+        ensures kept { IfOk result (λ parts. IsMultiset parts) }
+    {
+        let FewValues { counts } = self;
+        let mut taken = Vec::with_capacity(alloc, counts.len())?;
+        for (key, count) in counts {
+            let value = key.into_cell();
+            taken.push(ValueCount { value, count })?;
+        }
+        Ok(MultisetParts { counts: taken })
+    }
+
+    pub(crate) fn from_parts(alloc: Global, parts: MultisetParts) -> Result<FewValues, AllocError>
+        requires { IsMultiset parts }
+        ensures { IfOk result (λ made. made ≡ counts_with parts) }
+    {
+        let MultisetParts { counts } = parts;
+        let mut made = Vec::with_capacity(alloc, counts.len())?;
+        for ValueCount { value, count } in counts {
+            made.push((KeyCell::of_cell(value), count))?;
+        }
+        Ok(FewValues { counts: made })
+    }
+
+    /// The same values in a tree.
+    pub(crate) fn to_many(&self, alloc: Global) -> Result<ManyValues, AllocError>
+        ensures { IfOk result (λ many. many ≡ self.now) }
+    {
+        let mut many = ManyValues::new(alloc);
+        for place in 0..self.counts.len() {
+            let (key, count) = &self.counts[place];
+            many.put(key.copy(alloc)?, *count)?;
+        }
+        Ok(many)
+    }
+
+    /// How many distinct values there are.
+    pub(crate) fn len(&self) -> usize
+        ensures many { result ≡ length self.now }
+        ensures ordered { IsStrictlySortedBy key_cmp (keys_of self.now) }
+        ensures present { All (λ n. 0 < n) (values_of self.now) }
+    {
+        self.counts.len()
+    }
+
+    /// The least value; `None` where there is no value.
+    pub(crate) fn least(&self) -> Option<&KeyCell>
+        ensures { option_map (λ k. k.now) result ≡ first_of self.now }
+    {
+        match self.counts.first() {
+            Some((key, _count)) => Some(key),
+            None => None,
+        }
+    }
+
+    /// The greatest value; `None` where there is no value.
+    pub(crate) fn greatest(&self) -> Option<&KeyCell>
+        ensures { option_map (λ k. k.now) result ≡ last_of self.now }
+    {
+        match self.counts.last() {
+            Some((key, _count)) => Some(key),
+            None => None,
+        }
+    }
+
+    /// Where a value is; or, as an error, where it would be.
+    fn place(&self, key: &KeyCell) -> Result<usize, usize>
+        ensures { MatchResult result (λ n. IsThere key.now n self.now) (λ n. IsBefore key.now n self.now) }
+    {
+        for place in 0..self.counts.len() {
+            match key.cmp(&self.counts[place].0) {
+                Ordering::Greater => {}
+                Ordering::Equal => return Ok(place),
+                Ordering::Less => return Err(place),
+            }
+        }
+        Err(self.counts.len())
+    }
+
+    /// Counts the value of this place once more.
+    fn raise(&mut self, place: usize)
+        requires { (key : Key) × (IsThere key place self.old × (had self.old key < 2 ^ 63)) }
+        ensures { (key : Key) → IsThere key place self.old → self.new ≡ put_one key self.old }
+    {
+        self.counts[place].1 += 1;
+    }
+
+    /// Puts a value at its place, where it isn't yet. If memory is refused, nothing has changed.
+    fn insert(&mut self, place: usize, key: KeyCell) -> Result<(), AllocError>
+        requires { IsBefore key place self.old }
+        ensures ok { OnOk result (self.new ≡ put_one key self.old) }
+        ensures err { OnErr result (self.new ≡ self.old) }
+    {
+        self.counts.reserve_exact(1)?;
+        self.counts.insert(place, (key, 1))?;
+        Ok(())
+    }
+
+    /// Counts the value of this place once less, and removes it when none is left.
+    fn lower(&mut self, place: usize)
+        requires { (key : Key) × IsThere key place self.old }
+        ensures { (key : Key) → IsThere key place self.old → self.new ≡ take_one key self.old }
+    {
+        let count = self.counts[place].1;
+        if count > 1 {
+            self.counts[place].1 = count - 1;
+        } else {
+            drop(self.counts.remove(place));
+        }
+    }
+
+    /// Adds a value. If memory is refused, nothing has changed.
+    pub(crate) fn add(&mut self, key: KeyCell) -> Result<(), AllocError>
+        requires { had self.old key < 2 ^ 63 }
+        ensures ok { OnOk result (self.new ≡ put_one key self.old) }
+        ensures err { OnErr result (self.new ≡ self.old) }
+    {
+        match self.place(&key) {
+            Ok(place) => {
+                drop(key);
+                self.raise(place);
+                Ok(())
+            }
+            Err(place) => self.insert(place, key),
+        }
+    }
+
+    /// Removes one such value, if there is one.
+    pub(crate) fn remove(&mut self, key: &KeyCell)
+        ensures { self.new ≡ take_one key.now self.old }
+    {
+        let _size = self.len();
+        match self.place(key) {
+            Ok(place) => self.lower(place),
+            Err(_place) => {}
+        }
+    }
+}

@@ -1,0 +1,167 @@
+//! Many values, with how often each is there, in a tree.
+
+ghost use Rattle.std.specs.Prelude.{
+  ◌≡◌,
+  ◌<◌,
+  ◌^◌,
+  ◌+◌,
+  ◌-◌,
+  IfOk,
+  OnErr,
+  OnOk,
+  length,
+  ℕ,
+};
+ghost use Rattle.std.proofs.Common.{option_map};
+ghost use Rattle.group_state.specs.Folds.{first_of, last_of};
+ghost use Rattle.group_state.specs.GroupParts.{IsMultiset, counts_with};
+ghost use Rattle.std.specs.BTreeMap.{insert_entry};
+ghost use Rattle.std.specs.List.Sorted.{IsStrictlySortedBy};
+ghost use Rattle.values.specs.declared.key.Key.{Key};
+ghost use Rattle.group_state.specs.Keys.{key_cmp};
+ghost use Rattle.std.specs.Map.{keys_of, values_of};
+ghost use Rattle.std.specs.List.{All};
+ghost use Rattle.group_state.specs.Counts.{put_one, take_one, had, keeps_none};
+
+use crate::key_cell::KeyCell;
+use crate::parts::{MultisetParts, ValueCount};
+use std::alloc::{AllocError, Global};
+use std::collections::BTreeMap;
+use std::marker::Model;
+
+/// Values with how often each is there, in ascending order. Contracts see the entries; none has the count 0.
+#[derive(Debug, Drop)]
+pub(crate) struct ManyValues {
+    counts: BTreeMap<KeyCell, u64>,
+}
+
+impl Model for ManyValues {
+    ghost use Rattle.std.specs.Prelude.{List, ℕ};
+    ghost use Rattle.values.specs.declared.key.Key.{Key};
+
+    ghost Value = { List (Key × ℕ) };
+
+    ghost view = { λ m. m.counts.entries };
+
+    ghost use Rattle.std.specs.List.{All};
+    ghost use Rattle.std.specs.Map.{values_of};
+    ghost use Rattle.std.specs.Prelude.{◌<◌};
+
+    ghost invariant = { λ m. All (λ n. 0 < n) (values_of m.counts.entries) };
+}
+
+impl ManyValues {
+    /// No values. They take no memory.
+    pub(crate) fn new(alloc: Global) -> ManyValues
+        ensures { result ≡ keeps_none }
+    {
+        ManyValues {
+            counts: BTreeMap::new(alloc),
+        }
+    }
+
+    pub(crate) fn into_parts(self, alloc: Global) -> Result<MultisetParts, AllocError>
+        ensures value { IfOk result (λ parts. counts_with parts ≡ self) }
+        ensures kept { IfOk result (λ parts. IsMultiset parts) }
+    {
+        let ManyValues { counts } = self;
+        let mut taken = Vec::with_capacity(alloc, counts.len())?;
+        for (key, count) in counts {
+            let value = key.into_cell();
+            taken.push(ValueCount { value, count })?;
+        }
+        Ok(MultisetParts { counts: taken })
+    }
+
+    pub(crate) fn from_parts(alloc: Global, parts: MultisetParts) -> Result<ManyValues, AllocError>
+        requires { IsMultiset parts }
+        ensures { IfOk result (λ made. made ≡ counts_with parts) }
+    {
+        let MultisetParts { counts } = parts;
+        let mut made = BTreeMap::new(alloc);
+        for ValueCount { value, count } in counts {
+            made.insert(KeyCell::of_cell(value), count)?;
+        }
+        Ok(ManyValues { counts: made })
+    }
+
+    /// How many distinct values there are.
+    pub(crate) fn len(&self) -> usize
+        ensures distinct { result ≡ length self.now }
+        ensures ordered { IsStrictlySortedBy key_cmp (keys_of self.now) }
+        ensures present { All (λ n. 0 < n) (values_of self.now) }
+    {
+        self.counts.len()
+    }
+
+    /// The least value; `None` where there is no value.
+    pub(crate) fn least(&self) -> Option<&KeyCell>
+        ensures least { option_map (λ k. k.now) result ≡ first_of self.now }
+        ensures ordered { IsStrictlySortedBy key_cmp (keys_of self.now) }
+        ensures present { All (λ n. 0 < n) (values_of self.now) }
+    {
+        let _size = self.counts.len();
+        match self.counts.first_key_value() {
+            Some((key, _count)) => Some(key),
+            None => None,
+        }
+    }
+
+    /// The greatest value; `None` where there is no value.
+    pub(crate) fn greatest(&self) -> Option<&KeyCell>
+        ensures greatest { option_map (λ k. k.now) result ≡ last_of self.now }
+        ensures ordered { IsStrictlySortedBy key_cmp (keys_of self.now) }
+        ensures present { All (λ n. 0 < n) (values_of self.now) }
+    {
+        let _size = self.counts.len();
+        match self.counts.last_key_value() {
+            Some((key, _count)) => Some(key),
+            None => None,
+        }
+    }
+
+    /// Puts a value that isn't there, so often. If memory is refused, nothing has changed.
+    pub(crate) fn put(&mut self, key: KeyCell, count: u64) -> Result<(), AllocError>
+        requires { 0 < count }
+        ensures ok { OnOk result (self.new ≡ insert_entry key_cmp self.old key count) }
+        ensures err { OnErr result (self.new ≡ self.old) }
+    {
+        self.counts.insert(key, count)?;
+        Ok(())
+    }
+
+    /// Adds a value.
+    pub(crate) fn add(&mut self, key: KeyCell) -> Result<(), AllocError>
+        requires { had self.old key < 2 ^ 63 }
+        ensures ok { OnOk result (self.new ≡ put_one key self.old) }
+        ensures err { OnErr result (self.new ≡ self.old) }
+    {
+        *self.counts.entry(key)?.or_insert(0) += 1;
+        Ok(())
+    }
+
+    /// Removes one such value, if there is one.
+    pub(crate) fn remove(&mut self, key: &KeyCell)
+        ensures { self.new ≡ take_one key.now self.old }
+    {
+        take_from(&mut self.counts, key);
+    }
+}
+
+/// Lowers a value's count by one, and removes the value when none is left.
+fn take_from(counts: &mut BTreeMap<KeyCell, u64>, key: &KeyCell)
+    ensures entries { counts.new.entries ≡ take_one key.now counts.old.entries }
+    ensures ordered { IsStrictlySortedBy key_cmp (keys_of counts.old.entries) }
+{
+    let _size = counts.len();
+    let Some(count) = counts.get(key).copied() else {
+        return;
+    };
+    if count > 1 {
+        if let Some(place) = counts.get_mut(key) {
+            *place = count - 1;
+        }
+    } else {
+        drop(counts.remove(key));
+    }
+}
