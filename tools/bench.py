@@ -1,7 +1,7 @@
 #!/usr/bin/env python3
-"""Processor time and peak memory of `lv recast` and `lv inspect`, beside programs that copy the same file: `cat`, which lets the
-kernel copy from file to file, `cat` behind what a file has, which reads and writes the bytes, and one that holds all of them in memory
-before it writes, as `recast` must, and does nothing else.
+"""Processor time and peak memory of `lv recast` to a file, to standard output and of `lv inspect`, beside programs that copy the same
+file: `cat`, which lets the kernel copy from file to file, `cat` behind what a file has, which reads and writes the bytes, and one that
+holds all of them in memory before it writes, as `recast` must where it can't write a new file, and does nothing else.
 
   tools/bench.py [--sizes 25,100,400] [--turns 3] [SHAPE..]
 
@@ -117,7 +117,8 @@ def row(name, write, size, turns, folder):
     source, target, printed = (os.path.join(folder, it) for it in ("in", "out", "printed"))
     with open(source, "wb") as file:
         write(file, size * MEGABYTE)
-    programs = {"recast": [LV, "recast", source, target], "inspect": [LV, "inspect", source], "cat": ["cat", source]}
+    programs = {"recast": [LV, "recast", source, target], "output": [LV, "recast", source, "-"], "inspect": [LV, "inspect", source]}
+    programs["cat"] = ["cat", source]
     programs["hold"] = [sys.executable, "-I", "-S", "-c", HOLD, source, target]
     programs["append"] = programs["cat"]
     runs = {it: [] for it in programs}
@@ -133,8 +134,8 @@ def row(name, write, size, turns, folder):
     peak = {it: min(most for _, most in of) for it, of in runs.items()}
     whole = os.path.getsize(source) / MEGABYTE
     print(
-        f"| {name} | {whole:.0f} MB | {seconds['recast']:.3f} s | {peak['recast'] / whole:.2f} | {seconds['inspect']:.3f} s"
-        f" | {peak['inspect'] / whole:.2f} | {seconds['hold']:.3f} s | {seconds['append']:.3f} s | {seconds['cat']:.3f} s |",
+        f"| {name} | {whole:.0f} MB | {seconds['recast']:.2f} | {peak['recast']:.0f} | {seconds['output']:.2f} | {peak['output']:.0f}"
+        f" | {seconds['inspect']:.2f} | {peak['inspect']:.0f} | {seconds['hold']:.2f} | {seconds['append']:.2f} | {seconds['cat']:.2f} |",
         flush=True,
     )
 
@@ -149,8 +150,8 @@ def main():
     for needed, how in ((LV, "make lv builds it"), (GNU_TIME, "GNU time measures peaks")):
         if not os.path.exists(needed):
             sys.exit(f"bench: {needed} is not there; {how}")
-    print("| columns of | size | recast | peak over size | inspect | peak over size | hold | cat >> | cat > |")
-    print("|---|---|---|---|---|---|---|---|---|")
+    print("| columns of | size | recast, s | its peak, MB | to -, s | its peak, MB | inspect, s | its peak, MB | hold, s | cat >>, s | cat >, s |")
+    print("|---|---|---|---|---|---|---|---|---|---|---|")
     for name in words.shapes or SHAPES:
         for size in map(int, words.sizes.split(",")):
             with tempfile.TemporaryDirectory(prefix="lv-bench-") as folder:

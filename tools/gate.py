@@ -55,6 +55,7 @@ RUNS = (
     "check-limits.py",
     "check-examples.sh",
     "check-outputs.sh",
+    "check-recast.py",
     "check-live.py",
     "check-claims.py",
     "refuse-memory.sh",

@@ -1,7 +1,7 @@
 #!/usr/bin/env bash
 # Runs the built lv, or the program that is named, with each of its requests for memory refused in turn: that one alone, then
 # that one and all after it. Each run may do the whole work, or say `refused 55 Memory` and nothing else, but show behind some
-# of its rows, where recast has written nothing or a beginning of its work. Where not even its words could be held it may say `wrong use` having written nothing.
+# of its rows; recast has written nothing then, and left no file. Where not even its words could be held it may say `wrong use` having written nothing.
 set -euo pipefail
 cd "$(dirname "$0")/.."
 
@@ -52,17 +52,17 @@ is_right() {
     case "$status $(tail -n 1 "$last/line")" in
         "0 "*) diff -r "$whole" "$last" > /dev/null ;;
         "1 refused 55 Memory") is_beginning ;;
-        "2 wrong use") [ -n "$no_words" ] && [ "$1" -le "$words" ] && [ ! -e "$last/out" ] ;;
+        "2 wrong use") [ -n "$no_words" ] && [ "$1" -le "$words" ] && [ "$(ls -A "$last")" = line ] ;;
         *) return 1 ;;
     esac
 }
 
-# Whether nothing was printed before the last line, or by show a beginning of its rows, and nothing was put but a beginning.
+# Whether nothing was printed before the last line, or by show a beginning of its rows, and no file was left.
 is_beginning() {
     head -n -1 "$last/line" > "$work/rows"
     [ ! -s "$work/rows" ] || [ "$command" = show ] || return 1
     cmp -s -n "$(wc -c < "$work/rows")" "$work/rows" "$whole/line" || return 1
-    [ ! -e "$last/out" ] || cmp -s -n "$(wc -c < "$last/out")" "$last/out" "$whole/out"
+    [ "$(ls -A "$last")" = line ]
 }
 
 # The whole work of the command $1 over $2.

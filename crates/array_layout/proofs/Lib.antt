@@ -2,5 +2,5 @@ pub mod Sample
 pub mod Bits
 pub mod OffsetLemmas
 pub mod SoundLemmas
-pub mod FullBytes
+pub mod NullRuns
 pub mod NumberLemmas

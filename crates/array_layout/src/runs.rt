@@ -4,7 +4,7 @@ ghost use Rattle.std.specs.Prelude.{◌≡◌, ℕ, ◌+◌, ◌<◌, ◌≤◌,
 ghost use Rattle.bitmaps.specs.Bits.{HasBits};
 ghost use Rattle.array_layout.specs.Buffers.{is_null};
 
-use crate::buffers::is_null_at;
+use bitmaps::Bits;
 
 /// The end of a run of slots from slot `from` on, at most `to`, by a validity buffer: all slots of the run are null, or
 /// all are valid.
@@ -18,16 +18,5 @@ pub fn run_end(bits: &[u8], from: usize, to: usize) -> usize
     if bits.is_empty() {
         return to;
     }
-    let first = is_null_at(bits, from);
-    let mut end = from + 1;
-    while end < to {
-        if !first && end % 8 == 0 && to - end >= 8 && bits[end / 8] == 255 {
-            end += 8;
-        } else if is_null_at(bits, end) == first {
-            end += 1;
-        } else {
-            return end;
-        }
-    }
-    end
+    from + Bits::new(bits, from, to - from).run_end(0)
 }

@@ -1,7 +1,7 @@
 -- One more run of bits that are gathered.
-use Rattle.std.proofs.Common.{◌≡◌, ℕ, zero, suc, ◌+◌, ◌*◌, ◌<◌, ◌≤◌, List, [], ◌∷◌, ◌++◌, length, take, drop, get_or, refl, ap, sym, ◌∙◌, arith, take-add}
+use Rattle.std.proofs.Common.{◌≡◌, ℕ, zero, suc, ◌+◌, ◌*◌, ◌<◌, ◌≤◌, List, [], ◌∷◌, ◌++◌, length, take, drop, get_or, refl, ap, sym, ◌∙◌, arith, take-add, append_assoc}
 use Rattle.std.specs.Prelude.{Bool, false}
-use Rattle.std.proofs.lemmas.List.{length-append, take_all, drop_more}
+use Rattle.std.proofs.lemmas.List.{length-append, length-take, take_all, drop_more}
 use Rattle.bitmaps.specs.Bits.{bit_at, bits_at}
 use Rattle.bitmaps.specs.Blocks.{AreBits, IsBegun}
 use Rattle.bitmaps.proofs.Runs.{length-bits_at}
@@ -57,3 +57,35 @@ none-begun bs made is = record {
   short = omega (arith, ap length is);
   same = is ∙ sym (ap (λ cs. take (length cs) bs) is);
 }
+
+-- Bits that are added behind others.
+
+pub bytes-added : (bs before made new : List Bool) (bytes : List ℕ) (i n : ℕ) → made ≡ before ++ take i bs
+    → AreBits n bytes (λ k. get_or bs (i + k) false) → i + n ≤ length bs
+    → new ≡ made ++ bits_at bytes 0 (8 * length bytes) → new ≡ before ++ take (i + n) bs
+bytes-added bs before made new bytes i n added are within is =
+    let here : bits_at bytes 0 (8 * length bytes) ≡ take n (drop i bs) =
+    ap (bits_at bytes 0) are.long
+    ∙ read-bits bytes bs 0 i n (λ k below. ap (bit_at bytes) (omega arith) ∙ are.each k below) within in
+    is ∙ ap (λ cs. cs ++ bits_at bytes 0 (8 * length bytes)) added ∙ ap (λ cs. (before ++ take i bs) ++ cs) here
+    ∙ append_assoc before (take i bs) (take n (drop i bs)) ∙ ap (λ cs. before ++ cs) (sym (take-add i n bs))
+
+pub bit-added : (bs before made new : List Bool) (b : Bool) (i : ℕ) → made ≡ before ++ take i bs → i < length bs
+    → b ≡ get_or bs i false → new ≡ made ++ b ∷ [] → new ≡ before ++ take (i + 1) bs
+bit-added bs before made new b i added below bit is =
+    let split = drop_more bs i false below in
+    let one : take 1 (drop i bs) ≡ b ∷ [] = ap (take 1) split ∙ ap (λ c. c ∷ []) (sym bit) in
+    is ∙ ap (λ cs. cs ++ b ∷ []) added ∙ ap (λ cs. (before ++ take i bs) ++ cs) (sym one)
+    ∙ append_assoc before (take i bs) (take 1 (drop i bs)) ∙ ap (λ cs. before ++ cs) (sym (take-add i 1 bs))
+
+pub all-added : (bs before made : List Bool) (i : ℕ) → made ≡ before ++ take i bs → length bs ≤ i
+    → made ≡ before ++ bs
+all-added bs before made i added past = added ∙ ap (λ cs. before ++ cs) (take_all i bs past)
+
+pub added-short : (bs before made : List Bool) (i : ℕ) → i ≤ length bs → made ≡ before ++ take i bs
+    → length made ≡ length before + i
+added-short bs before made i within added =
+    let few = length-take i bs in
+    ap length added ∙ length-append before (take i bs) ∙ omega (arith, few, within)
+
+pub ruleset adding = (bytes-added, bit-added, all-added, added-short)

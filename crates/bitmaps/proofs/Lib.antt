@@ -10,3 +10,4 @@ pub mod CountLemmas
 pub mod GatherLemmas
 pub mod KernelRuns
 pub mod TruthLemmas
+pub mod FirstBits

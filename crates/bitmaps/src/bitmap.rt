@@ -93,6 +93,29 @@ impl Bitmap {
         Ok(())
     }
 
+    /// Adds bits at the end, wherever the bits before them end in their byte: 256 or eight at a time where they fill
+    /// bytes. After a refusal some of them may have been added.
+    #[tactic(auto, using(crate::proofs::GatherLemmas::adding))]
+    pub fn extend_from_bits(&mut self, bits: &Bits) -> Result<(), AllocError>
+        requires { length self.old + length bits.now < 2 ^ 64 }
+        ensures { OnOk result (self.new ≡ self.old ++ bits.now) }
+    {
+        let mut at = 0;
+        while at < bits.len() {
+            if self.len() % 8 == 0 && bits.len() - at >= 256 {
+                self.push_bytes(&bits.block(at).to_array())?;
+                at += 256;
+            } else if self.len() % 8 == 0 && bits.len() - at >= 8 {
+                self.push_bytes(&[bits.byte(at)])?;
+                at += 8;
+            } else {
+                self.push(bits.at(at))?;
+                at += 1;
+            }
+        }
+        Ok(())
+    }
+
     /// A view of its bits.
     pub fn bits(&self) -> Bits<'_>
         ensures { result ≡ self.now }

@@ -1,6 +1,6 @@
 //! Borrowed views of bitmaps.
 
-ghost use Rattle.std.specs.Prelude.{◌≡◌, ◌+◌, ◌<◌, ◌≤◌, ◌^◌, [], ◌∷◌, if◌then◌else◌, length, false, get_or, nat_eq, slice_get};
+ghost use Rattle.std.specs.Prelude.{◌≡◌, ℕ, ◌+◌, ◌<◌, ◌≤◌, ◌^◌, [], ◌∷◌, if◌then◌else◌, length, false, get_or, nat_eq, slice_get};
 ghost use Rattle.bitmaps.specs.Bits.{HasBits, bit_at, bits_at, ones};
 ghost use Rattle.bitmaps.specs.Blocks.{AreBits};
 
@@ -51,6 +51,20 @@ pub(crate) fn pick(mask: bool, yes: bool, no: bool) -> bool
     ensures { result ≡ if mask then yes else no }
 {
     if mask { yes } else { no }
+}
+
+/// How many of the first bits of a byte are as the given one.
+#[inline(always)]
+#[tactic(auto, using(crate::proofs::FirstBits::first_bits))]
+fn count_first(byte: u8, bit: bool) -> usize
+    ensures few { result ≤ 8 }
+    ensures same { (k : ℕ) → k < result → bit_at (byte ∷ []) k ≡ bit }
+{
+    if bit {
+        byte.trailing_ones() as usize
+    } else {
+        byte.trailing_zeros() as usize
+    }
 }
 
 /// How many of the `len` bits from bit `offset` on are 1: eight at a time where they fill a byte.
@@ -149,6 +163,43 @@ impl<'a> Bits<'a> {
         ensures { AreBits 256 result (λ k. get_or self.now (i + k) false) }
     {
         load(self.bytes, self.offset + i)
+    }
+
+    /// The end of a run of bits that are all as bit `from` is, which begins there: eight at a time where they are.
+    pub fn run_end(&self, from: usize) -> usize
+        requires { from < length self.now }
+        ensures past { from < result }
+        ensures within { result ≤ length self.now }
+        ensures same { (k : ℕ) → from ≤ k → k < result → get_or self.now k false ≡ get_or self.now from false }
+    {
+        let first = self.at(from);
+        let len = self.len();
+        let mut end = from + 1;
+        while end < len {
+            let alike = self.count_alike(end, first);
+            if alike == 0 {
+                return end;
+            }
+            end += alike;
+        }
+        end
+    }
+
+    /// How many bits from bit `i` on are as the given one, of the next eight; or of one, where fewer than eight are left.
+    #[inline(always)]
+    fn count_alike(&self, i: usize, bit: bool) -> usize
+        requires { i < length self.now }
+        ensures within { i + result ≤ length self.now }
+        ensures same { (k : ℕ) → k < result → get_or self.now (i + k) false ≡ bit }
+    {
+        let left = self.len() - i;
+        if left >= 8 {
+            count_first(self.byte(i), bit)
+        } else if self.at(i) == bit {
+            1
+        } else {
+            0
+        }
     }
 
     /// How many bits are 1.

@@ -51,6 +51,60 @@ fn pushes_bits(rt: HostRuntime) -> Result<(), Fail> {
     Ok(())
 }
 
+/// Whether bits that are added behind a few others are there in their order.
+#[tactic(auto, using(crate::proofs::Runs::runs))]
+fn adds_all(alloc: Global, before: usize, offset: usize, len: usize) -> Result<bool, AllocError>
+    requires before { before < 64 }
+    requires offset { offset < 64 }
+    requires len { len ≤ 550 }
+{
+    let few = Bits::new(&MANY, 0, before);
+    let more = Bits::new(&MANY, offset, len);
+    let mut made = Bitmap::new(alloc);
+    made.extend_from_bits(&few)?;
+    made.extend_from_bits(&more)?;
+    let made = made.bits();
+    let mut all = made.len() == before + len;
+    for i in 0..before {
+        all &= made.get(i) == few.get(i);
+    }
+    for i in 0..len {
+        all &= made.get(before + i) == more.get(i);
+    }
+    Ok(all)
+}
+
+/// Bits that begin anywhere in a byte, behind bits that end anywhere in one.
+#[test]
+fn adds_bits_behind_others(rt: HostRuntime) -> Result<(), Fail> {
+    let alloc = rt.alloc();
+    for before in 0..9usize {
+        for offset in 0..9usize {
+            for len in [0usize, 1, 7, 8, 9, 255, 256, 257, 519] {
+                assert!(rt; adds_all(alloc, before, offset, len)?);
+            }
+        }
+    }
+    Ok(())
+}
+
+/// Three zeros, twenty ones, nine zeros; 0xF8, 0xFF, 0x7F, 0x00.
+const ZEROS_AND_ONES: [u8; 4] = [0xF8, 0xFF, 0x7F, 0x00];
+
+#[test]
+#[tactic(auto, using(crate::proofs::Runs::runs))]
+fn runs_end(rt: HostRuntime) -> Result<(), Fail> {
+    let bits = Bits::new(&ZEROS_AND_ONES, 0, 32);
+    assert_eq!(rt; bits.run_end(0), 3);
+    assert_eq!(rt; bits.run_end(3), 23);
+    assert_eq!(rt; bits.run_end(22), 23);
+    assert_eq!(rt; bits.run_end(23), 32);
+    let inner = Bits::new(&ZEROS_AND_ONES, 5, 13);
+    assert_eq!(rt; inner.run_end(0), 13);
+    assert_eq!(rt; inner.run_end(12), 13);
+    Ok(())
+}
+
 /// 640 bits.
 const MANY: [u8; 80] = [
     0xA5, 0x4D, 0xCA, 0x18, 0x25, 0x30, 0xBB, 0x1D, 0x6D, 0x13, 0x2C, 0xDE, 0xD6, 0x23, 0x7B, 0x2E,

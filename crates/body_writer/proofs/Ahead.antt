@@ -1,31 +1,8 @@
 -- The children of an array, one after another.
-use Rattle.std.proofs.Common.{
-  ◌≡◌,
-  ℕ,
-  suc,
-  ◌+◌,
-  ◌^◌,
-  ◌<◌,
-  ◌≤◌,
-  List,
-  ◌++◌,
-  length,
-  get_or,
-  drop,
-  All,
-  refl,
-  ap,
-  sym,
-  subst,
-  ◌∙◌,
-  arith,
-  append_assoc,
-  append-nil,
-  length-append,
-}
+use Rattle.std.proofs.Common.{◌≡◌, ℕ, suc, ◌+◌, ◌^◌, ◌<◌, List, ◌++◌, length, get_or, drop, All, refl, ap, sym, subst, ◌∙◌, arith, append_assoc, length-append}
 use Rattle.std.proofs.lemmas.List.Concat.{flat_map-append}
-use Rattle.values.specs.Rose.{Rose, node, Roses, none, more, kids_of}
-use Rattle.values.proofs.Roses.{kids_step, kids_end}
+use Rattle.values.specs.Rose.{Rose, node, Roses, more, kids_of}
+use Rattle.values.proofs.Roses.{kids_step}
 use Rattle.values.specs.Datum.{Datum}
 use Rattle.values.specs.declared.layout.Layout.{Layout}
 use Rattle.values.specs.Layouts.{IsNode, IsLayout, AreLayouts, Holds}

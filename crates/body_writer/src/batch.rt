@@ -1,4 +1,4 @@
-//! Writes the body of a record batch, column by column.
+//! The columns of rows.
 
 ghost use Rattle.std.specs.Prelude.{◌≡◌, ◌≤◌, IfOk, length, map};
 ghost use Rattle.values.specs.Limits.{max_body_size};
@@ -25,24 +25,4 @@ pub fn column_cells<'a>(
         cells.push(row.get(j))?;
     }
     Ok(cells)
-}
-
-/// The body of a record batch of these rows, in columns of these layouts, with its nodes and buffer ranges.
-#[tactic(auto, using(crate::proofs::Rows::batch), unfolding(crate::specs::Batch::body_nodes, crate::specs::Batch::body_ranges, crate::specs::Batch::body_bytes))]
-pub fn write_body(alloc: Global, layouts: &[LayoutTree], rows: &[Row]) -> Result<Body, AllocError>
-    requires { IsBatch (kids_of layouts.now) (map (λ r. r.items) rows.now) }
-    ensures nodes { IfOk result
-        (λ body. body.nodes.items ≡ body_nodes (kids_of layouts.now) (map (λ r. r.items) rows.now)) }
-    ensures ranges { IfOk result
-        (λ body. body.ranges.items ≡ body_ranges (kids_of layouts.now) (map (λ r. r.items) rows.now)) }
-    ensures bytes { IfOk result
-        (λ body. body.bytes.items ≡ body_bytes (kids_of layouts.now) (map (λ r. r.items) rows.now)) }
-    ensures size { IfOk result (λ body. length body.bytes.items ≤ max_body_size) }
-{
-    let mut body = Body::new(alloc);
-    for j in 0..layouts.len() {
-        let cells = column_cells(alloc, rows, j)?;
-        write_column(alloc, &layouts[j], &cells, &mut body)?;
-    }
-    Ok(body)
 }

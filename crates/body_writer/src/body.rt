@@ -1,7 +1,8 @@
 //! A message body under construction: its bytes, field nodes and buffer ranges.
 
-ghost use Rattle.std.specs.Prelude.{◌≡◌, OnOk, [], ◌∷◌};
-ghost use Rattle.body_writer.specs.Grows.{Appends};
+ghost use Rattle.std.specs.Prelude.{◌≡◌, ◌≤◌, ℕ, List, IfOk, OnOk, [], ◌∷◌, length};
+ghost use Rattle.body_writer.specs.Grows.{Appends, Begins};
+ghost use Rattle.body_writer.specs.declared.body.Body.{Body as BodyValue};
 
 use array_layout::{BufferRange, FieldNode};
 use std::alloc::{AllocError, Global};
@@ -31,19 +32,40 @@ impl Body {
         }
     }
 
+    /// An empty body, with room for this number of bytes.
+    pub fn with_capacity(alloc: Global, capacity: usize) -> Result<Self, AllocError>
+        ensures nodes { IfOk result (λ body. body.nodes.items ≡ []) }
+        ensures ranges { IfOk result (λ body. body.ranges.items ≡ []) }
+        ensures bytes { IfOk result (λ body. body.bytes.items ≡ []) }
+    {
+        Ok(Body {
+            nodes: Vec::new(alloc),
+            ranges: Vec::new(alloc),
+            bytes: Vec::with_capacity(alloc, capacity)?,
+        })
+    }
+
+    /// Ends a buffer, whose bytes are those from byte `from` on: appends zeros up to a multiple of 8.
+    #[tactic(auto, using(crate::proofs::GrowthLemmas::ending))]
+    pub fn end_buffer(&mut self, from: usize) -> Result<(), AllocError>
+        requires { from ≤ length self.old.bytes.items }
+        ensures { OnOk result ((before : BodyValue) (buffer : List ℕ) → length before.bytes.items ≡ from
+            → Begins before self.old buffer → Appends before self.new (buffer ∷ [])) }
+    {
+        let zeros = [0u8; 8];
+        let len = self.bytes.len() - from;
+        self.ranges.push(BufferRange { from, len })?;
+        self.bytes.extend_from_slice(&zeros[..(8 - len % 8) % 8])?;
+        Ok(())
+    }
+
     /// Appends a buffer, and zeros up to a multiple of 8.
     #[tactic(auto, using(crate::proofs::GrowthLemmas::lengths))]
     pub fn append(&mut self, buffer: &[u8]) -> Result<(), AllocError>
         ensures { OnOk result (Appends self.old self.new (buffer.now ∷ [])) }
     {
-        let zeros = [0u8; 8];
-        self.ranges.push(BufferRange {
-            from: self.bytes.len(),
-            len: buffer.len(),
-        })?;
+        let from = self.bytes.len();
         self.bytes.extend_from_slice(buffer)?;
-        self.bytes
-            .extend_from_slice(&zeros[..(8 - buffer.len() % 8) % 8])?;
-        Ok(())
+        self.end_buffer(from)
     }
 }

@@ -85,18 +85,22 @@ fn push_number(buffer: &mut Vec<u8>, number: i128, width: usize) -> Result<(), A
     buffer.extend_from_slice(&bytes[..width])
 }
 
-/// The numbers of the cells, `width` bytes each; 0 for a null.
+/// Appends the numbers of the cells, `width` bytes each; 0 for a null.
 #[tactic(auto, using(crate::proofs::Cells::steps), unfolding(crate::specs::Columns::numbers))]
-pub fn numbers(alloc: Global, cells: &[Option<&Value>], width: usize) -> Result<Vec<u8>, AllocError>
+pub fn push_numbers(
+    buffer: &mut Vec<u8>,
+    cells: &[Option<&Value>],
+    width: usize,
+) -> Result<(), AllocError>
     requires some { 1 ≤ width }
     requires few { width ≤ 16 }
-    ensures { IfOk result (λ buffer. buffer.items ≡ numbers_of width (cells_of cells.now)) }
+    ensures { OnOk result (buffer.new.items ≡ buffer.old.items ++ numbers_of width (cells_of cells.now)) }
 {
-    let mut buffer = Vec::new(alloc);
+    buffer.reserve(width.saturating_mul(cells.len()))?;
     for cell in cells {
-        push_number(&mut buffer, slots::whole_in(*cell), width)?;
+        push_number(buffer, slots::whole_in(*cell), width)?;
     }
-    Ok(buffer)
+    Ok(())
 }
 
 fn push_zeros(buffer: &mut Vec<u8>, count: usize) -> Result<(), AllocError>
@@ -120,28 +124,30 @@ fn push_fixed(buffer: &mut Vec<u8>, cell: Option<&Value>, width: usize) -> Resul
     }
 }
 
-/// The bytes of each cell, and `width` zeros for a null.
+/// Appends the bytes of each cell, and `width` zeros for a null.
 #[tactic(auto, using(crate::proofs::Cells::steps), unfolding(crate::specs::Columns::fixed))]
-pub fn fixed(alloc: Global, cells: &[Option<&Value>], width: usize) -> Result<Vec<u8>, AllocError>
-    ensures { IfOk result (λ buffer. buffer.items ≡ fixed_of width (cells_of cells.now)) }
+pub fn push_all_fixed(
+    buffer: &mut Vec<u8>,
+    cells: &[Option<&Value>],
+    width: usize,
+) -> Result<(), AllocError>
+    ensures { OnOk result (buffer.new.items ≡ buffer.old.items ++ fixed_of width (cells_of cells.now)) }
 {
-    let mut buffer = Vec::new(alloc);
     for cell in cells {
-        push_fixed(&mut buffer, *cell, width)?;
+        push_fixed(buffer, *cell, width)?;
     }
-    Ok(buffer)
+    Ok(())
 }
 
-/// The bytes of all cells, one after the other.
+/// Appends the bytes of all cells, one after the other.
 #[tactic(auto, using(crate::proofs::Cells::steps), unfolding(crate::specs::Columns::joined))]
-pub fn joined(alloc: Global, cells: &[Option<&Value>]) -> Result<Vec<u8>, AllocError>
-    ensures { IfOk result (λ buffer. buffer.items ≡ joined_of (cells_of cells.now)) }
+pub fn push_joined(buffer: &mut Vec<u8>, cells: &[Option<&Value>]) -> Result<(), AllocError>
+    ensures { OnOk result (buffer.new.items ≡ buffer.old.items ++ joined_of (cells_of cells.now)) }
 {
-    let mut buffer = Vec::new(alloc);
     for cell in cells {
         buffer.extend_from_slice(slots::bytes_in(*cell))?;
     }
-    Ok(buffer)
+    Ok(())
 }
 
 fn push_offset(buffer: &mut Vec<u8>, width: OffsetWidth, offset: u64) -> Result<(), AllocError>
@@ -156,24 +162,23 @@ fn push_offset(buffer: &mut Vec<u8>, width: OffsetWidth, offset: u64) -> Result<
     }
 }
 
-/// The offsets: where the bytes or the items of each cell start, and where the last ones end.
+/// Appends the offsets: where the bytes or the items of each cell start, and where the last ones end.
 #[tactic(auto, using(crate::proofs::Cells::steps), unfolding(crate::specs::Columns::offsets, crate::specs::Columns::offsets_from))]
-pub fn offsets(
-    alloc: Global,
+pub fn push_offsets(
+    buffer: &mut Vec<u8>,
     cells: &[Option<&Value>],
     width: OffsetWidth,
-) -> Result<Vec<u8>, AllocError>
+) -> Result<(), AllocError>
     requires { total_length (cells_of cells.now) < 2 ^ 31 }
-    ensures { IfOk result (λ buffer. buffer.items ≡ offsets_of width (cells_of cells.now)) }
+    ensures { OnOk result (buffer.new.items ≡ buffer.old.items ++ offsets_of width (cells_of cells.now)) }
 {
-    let mut buffer = Vec::new(alloc);
+    buffer.reserve(width.bytes().saturating_mul(cells.len()))?;
     let mut end = 0;
     for cell in cells {
-        push_offset(&mut buffer, width, end)?;
+        push_offset(buffer, width, end)?;
         end += slots::length_in(*cell) as u64;
     }
-    push_offset(&mut buffer, width, end)?;
-    Ok(buffer)
+    push_offset(buffer, width, end)
 }
 
 /// Appends the items of a list.

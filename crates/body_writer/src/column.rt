@@ -1,6 +1,6 @@
 //! Writes one column of any layout, with its children.
 
-ghost use Rattle.std.specs.Prelude.{◌^◌, ◌<◌, OnOk, All, length, [], ◌∷◌};
+ghost use Rattle.std.specs.Prelude.{◌^◌, ◌<◌, ◌≤◌, OnOk, All, length, [], ◌∷◌};
 ghost use Rattle.values.specs.Rose.{node, kids_of};
 ghost use Rattle.values.specs.Layouts.{IsNode, IsLayout, AreLayouts, Holds};
 ghost use Rattle.body_writer.specs.Slots.{cells_of, total_length};
@@ -12,6 +12,8 @@ ghost use Rattle.body_writer.specs.Columns.{
   nodes_below,
   buffers,
   buffers_below,
+  numbers as numbers_of,
+  fixed as fixed_of,
   offsets as offsets_of,
   joined as joined_of,
 };
@@ -24,9 +26,51 @@ use array_layout::FieldNode;
 use std::alloc::{AllocError, Global};
 use values::{Layout, LayoutTree, OffsetWidth, Value};
 
+/// Appends the buffer of whole numbers of `width` bytes.
+fn append_numbers(cells: &[Option<&Value>], width: usize, body: &mut Body) -> Result<(), AllocError>
+    requires some { 1 ≤ width }
+    requires few { width ≤ 16 }
+    ensures { OnOk result (Appends body.old body.new (numbers_of width (cells_of cells.now) ∷ [])) }
+{
+    let from = body.bytes.len();
+    buffers::push_numbers(&mut body.bytes, cells, width)?;
+    body.end_buffer(from)
+}
+
+/// Appends the buffer of bytes of a fixed width.
+fn append_fixed(cells: &[Option<&Value>], width: usize, body: &mut Body) -> Result<(), AllocError>
+    ensures { OnOk result (Appends body.old body.new (fixed_of width (cells_of cells.now) ∷ [])) }
+{
+    let from = body.bytes.len();
+    buffers::push_all_fixed(&mut body.bytes, cells, width)?;
+    body.end_buffer(from)
+}
+
+/// Appends the buffer of offsets.
+fn append_offsets(
+    cells: &[Option<&Value>],
+    offsets: OffsetWidth,
+    body: &mut Body,
+) -> Result<(), AllocError>
+    requires { total_length (cells_of cells.now) < 2 ^ 31 }
+    ensures { OnOk result (Appends body.old body.new (offsets_of offsets (cells_of cells.now) ∷ [])) }
+{
+    let from = body.bytes.len();
+    buffers::push_offsets(&mut body.bytes, cells, offsets)?;
+    body.end_buffer(from)
+}
+
+/// Appends the buffer of the bytes of all cells.
+fn append_joined(cells: &[Option<&Value>], body: &mut Body) -> Result<(), AllocError>
+    ensures { OnOk result (Appends body.old body.new (joined_of (cells_of cells.now) ∷ [])) }
+{
+    let from = body.bytes.len();
+    buffers::push_joined(&mut body.bytes, cells)?;
+    body.end_buffer(from)
+}
+
 /// Appends the offsets and the bytes of texts or of bytes.
 fn append_runs(
-    alloc: Global,
     offsets: OffsetWidth,
     cells: &[Option<&Value>],
     body: &mut Body,
@@ -35,8 +79,8 @@ fn append_runs(
     ensures { OnOk result
         (Appends body.old body.new (offsets_of offsets (cells_of cells.now) ∷ joined_of (cells_of cells.now) ∷ [])) }
 {
-    body.append(&buffers::offsets(alloc, cells, offsets)?)?;
-    body.append(&buffers::joined(alloc, cells)?)
+    append_offsets(cells, offsets, body)?;
+    append_joined(cells, body)
 }
 
 /// Appends the offsets and values of these cells, by layout.
@@ -52,18 +96,12 @@ fn append_values(
 {
     match layout {
         Layout::Bool => body.append(buffers::truths(alloc, cells)?.as_bytes()),
-        Layout::Int { width, .. } => {
-            body.append(&buffers::numbers(alloc, cells, width.bytes())?)
-        }
-        Layout::Decimal { .. } => body.append(&buffers::numbers(alloc, cells, 16)?),
-        Layout::FixedSizeBinary { width } => body.append(&buffers::fixed(
-            alloc,
-            cells,
-            width as usize,
-        )?),
-        Layout::Utf8 { offsets } => append_runs(alloc, offsets, cells, body),
-        Layout::Binary { offsets } => append_runs(alloc, offsets, cells, body),
-        Layout::List { offsets } => body.append(&buffers::offsets(alloc, cells, offsets)?),
+        Layout::Int { width, .. } => append_numbers(cells, width.bytes(), body),
+        Layout::Decimal { .. } => append_numbers(cells, 16, body),
+        Layout::FixedSizeBinary { width } => append_fixed(cells, width as usize, body),
+        Layout::Utf8 { offsets } => append_runs(offsets, cells, body),
+        Layout::Binary { offsets } => append_runs(offsets, cells, body),
+        Layout::List { offsets } => append_offsets(cells, offsets, body),
         Layout::Struct => Ok(()),
     }
 }

@@ -12,7 +12,7 @@ mod column;
 mod laws;
 mod slots;
 
-pub use batch::{column_cells, write_body};
+pub use batch::column_cells;
 pub use body::Body;
 pub use column::write_column;
 pub use laws::{column_law, count_law, size_law, standing_law};

@@ -1,34 +1,7 @@
 -- Which slots are null, and slots of one bit.
-use Rattle.std.proofs.Common.{
-  ◌≡◌,
-  ℕ,
-  zero,
-  suc,
-  ◌+◌,
-  ◌-◌,
-  ◌<◌,
-  ◌≤◌,
-  List,
-  [],
-  ◌∷◌,
-  ◌++◌,
-  length,
-  true,
-  false,
-  Bool,
-  Ok,
-  Err,
-  None,
-  refl,
-  ap,
-  sym,
-  subst,
-  ◌∙◌,
-  arith,
-  append_assoc,
-  append-nil,
-}
-use Rattle.std.specs.Prelude.{if◌then◌else◌, map, not, ◌&&◌, ℤ, nat_lt, nat_abs, ◌^◌}
+use Rattle.std.proofs.Common.{◌≡◌, ℕ, zero, suc, ◌+◌, ◌-◌, ◌<◌, ◌≤◌, List, [], ◌∷◌, ◌++◌, length, true, false, Bool, Ok, Err, None, refl, ap, sym, subst, ◌∙◌, arith, append-nil}
+use Rattle.std.specs.Prelude.{if◌then◌else◌, map, not, replicate, ◌==◌, ◌&&◌, ℤ, nat_lt, nat_abs, ◌^◌}
+use Rattle.std.proofs.lemmas.Bool.Decides.{nat_tests}
 use Rattle.std.specs.Str.{is_utf8}
 use Rattle.values.specs.Datum.{Datum, whole, text}
 use Rattle.values.specs.Reading.{Reading, IsValid, one, mapped}
@@ -45,14 +18,14 @@ use Rattle.values.specs.declared.layout.Layout.TheVariants.{
   List as Listed,
   Struct,
 }
-use Rattle.bitmaps.specs.Bits.{bit_at}
+use Rattle.bitmaps.specs.Bits.{bit_at, bits_at, ones, pairwise}
 use Rattle.array_layout.specs.declared.array.ArrayData.{ArrayData}
 use Rattle.array_layout.specs.Placing.{bytes_of}
 use Rattle.array_layout.specs.Buffers.{is_null, number_at, slice_at}
 use Rattle.array_layout.specs.Cells.{cell, value_by, first_cell, row, decimal_of, text_of, items_at}
 use Rattle.body_writer.specs.Slots.{is_valid, null_count, truth_in}
-use Rattle.column_writer.specs.Runs.{cell_in, slots, AreAlike}
-use Rattle.column_writer.proofs.RunLemmas.{null-cell, slots-split}
+use Rattle.column_writer.specs.Runs.{cell_in, slots}
+use Rattle.column_writer.proofs.RunLemmas.{null-cell}
 use Rattle.column_writer.proofs.SlotLemmas.{AllValid, plain-cell}
 
 pub length-slots : (cell : ℕ → Reading Datum) (i n : ℕ) → length (slots cell i n) ≡ n
@@ -127,8 +100,6 @@ cell-truth body bits xs p kids k t b v n l is = by_null (is_null bits k) refl is
       let read = plain-cell body p kids Booleans k l n (ap (λ ys. is_null ys k) (sym b) ∙ there) in
       e ∙ ap (λ ys. bit_at ys k) v ∙ sym (ap (λ r. truth_in (cell_in r)) read)
 
--- slot after slot, one thing each
-
 pub slots-next : (cell : ℕ → Reading Datum) (i to : ℕ) → i < to
     → slots cell i (to - i) ≡ cell_in (cell i) ∷ slots cell (i + 1) (to - (i + 1))
 unfolding slots
@@ -138,21 +109,12 @@ pub slots-none : (cell : ℕ → Reading Datum) (i to : ℕ) → to ≤ i → sl
 unfolding slots
 slots-none cell i to h = let e : to - i ≡ 0 = omega (arith, h) in ap (λ n. slots cell i n) e
 
-pub map-step : {A : Type 0} (f : Datum → A) (cell : ℕ → Reading Datum) (i to : ℕ) (made next total : List A) (b : A)
-    → i < to
-    → b ≡ f (cell_in (cell i)) → next ≡ made ++ b ∷ [] → made ++ map f (slots cell i (to - i)) ≡ total
-    → next ++ map f (slots cell (i + 1) (to - (i + 1))) ≡ total
-map-step f cell i to made next total b h e n is =
-    let rest = map f (slots cell (i + 1) (to - (i + 1))) in
-    ap (λ xs. xs ++ rest) n ∙ append_assoc made (b ∷ []) rest ∙ ap (λ x. made ++ x ∷ rest) e
-    ∙ ap (λ cs. made ++ map f cs) (sym (slots-next cell i to h)) ∙ is
-
 pub map-over : {A : Type 0} (f : Datum → A) (cell : ℕ → Reading Datum) (i to : ℕ) (made total : List A) → to ≤ i
     → made ++ map f (slots cell i (to - i)) ≡ total → made ≡ total
 map-over f cell i to made total h is =
     sym (append-nil made) ∙ ap (λ cs. made ++ map f cs) (sym (slots-none cell i to h)) ∙ is
 
--- nulls, run by run
+-- nulls
 
 pub nulls-append : (xs ys : List Datum) → null_count (xs ++ ys) ≡ null_count xs + null_count ys
 nulls-append [] ys = omega arith
@@ -165,49 +127,78 @@ nulls-few (x ∷ xs) = let rest = nulls-few xs in few-here (is_valid x) (null_co
   few-here true m n h = omega (arith, h)
   few-here false m n h = omega (arith, h)
 
--- where all of a run is null, or all of it is valid
-run-nulls : (cell : ℕ → Reading Datum) (i n : ℕ) (b : Bool) → ((k : ℕ) → i ≤ k → k < i + n
-    → b ≡ is_valid (cell_in (cell k)))
-    → null_count (slots cell i n) ≡ (if b then 0 else n)
+pub ones-nulls : (cs : List Datum) → ones (map is_valid cs) + null_count cs ≡ length cs
+unfolding ones
+ones-nulls [] = refl
+ones-nulls (c ∷ cs) = by_test (is_valid c) (ones (map is_valid cs)) (null_count cs) (length cs) (ones-nulls cs) where
+  by_test : (b : Bool) (m n k : ℕ) → m + n ≡ k → (if b then 1 else 0) + m + ((if b then 0 else 1) + n) ≡ suc k
+  by_test true m n k h = omega (arith, h)
+  by_test false m n k h = omega (arith, h)
+
+-- slots of an array with a validity buffer, and of one without
+
+valid-bit : (bits : List ℕ) (k : ℕ) → 0 < length bits → bit_at bits k ≡ not (is_null bits k)
+unfolding is_null
+valid-bit bits k some =
+    let there : (length bits == 0) ≡ false = grind (arith, nat_tests) in
+    sym (ap (λ b. not (if b then false else not (bit_at bits k))) there ∙ not-not (bit_at bits k)) where
+      not-not : (t : Bool) → not (not t) ≡ t
+      not-not true = refl
+      not-not false = refl
+
+no-null : (bits : List ℕ) (k : ℕ) → length bits ≡ 0 → true ≡ not (is_null bits k)
+unfolding is_null
+no-null bits k none = rw none refl
+
+pub valid-bits : (body bits : List ℕ) (p : ArrayData) (kids : Roses ArrayData) (i n : ℕ)
+    → bits ≡ bytes_of body p.validity → 0 < length bits → p.dictionary ≡ None → AllValid body p kids i (i + n)
+    → bits_at bits i n ≡ map is_valid (slots (cell body (node p kids)) i n)
+unfolding bits_at slots
+valid-bits body bits p kids i zero same some plain all = refl
+valid-bits body bits p kids i (suc n) same some plain all =
+    let here = valid-bit bits i some
+    ∙ cell-set body bits p kids i same plain (all i (omega arith) (omega arith)) in
+    let rest = valid-bits body bits p kids (i + 1) n same some plain
+    (λ k lo hi. all k (omega (arith, lo)) (omega (arith, hi))) in
+    ap (λ b. b ∷ bits_at bits (i + 1) n) here
+    ∙ ap (λ bs. is_valid (cell_in (cell body (node p kids) i)) ∷ bs) rest
+
+pub all-set : (body bits : List ℕ) (p : ArrayData) (kids : Roses ArrayData) (i n : ℕ)
+    → bits ≡ bytes_of body p.validity → length bits ≡ 0 → p.dictionary ≡ None → AllValid body p kids i (i + n)
+    → replicate n true ≡ map is_valid (slots (cell body (node p kids)) i n)
 unfolding slots
-run-nulls cell i zero true h = refl
-run-nulls cell i zero false h = refl
-run-nulls cell i (suc n) b h =
-    let here = h i (omega arith) (omega arith) in
-    let rest = run-nulls cell (i + 1) n b (λ k lo hi. h k (omega (arith, lo)) (omega (arith, hi))) in
-    by_test b here rest where
-      by_test : (t : Bool) → t ≡ is_valid (cell_in (cell i)) → null_count (slots cell (i + 1) n) ≡ (if t then 0 else n)
-          → null_count (cell_in (cell i) ∷ slots cell (i + 1) n) ≡ (if t then 0 else suc n)
-      by_test true here rest = rw (sym here, rest) refl
-      by_test false here rest = rw (sym here, rest) (omega arith)
+all-set body bits p kids i zero same none plain all = refl
+all-set body bits p kids i (suc n) same none plain all =
+    let here = no-null bits i none
+    ∙ cell-set body bits p kids i same plain (all i (omega arith) (omega arith)) in
+    let rest = all-set body bits p kids (i + 1) n same none plain
+    (λ k lo hi. all k (omega (arith, lo)) (omega (arith, hi))) in
+    ap (λ b. b ∷ replicate n true) here
+    ∙ ap (λ bs. is_valid (cell_in (cell body (node p kids) i)) ∷ bs) rest
 
-pub nulls-step : (body bits : List ℕ) (p : ArrayData) (kids : Roses ArrayData) (at end to nulls more total : ℕ) (b :
-    Bool)
-    → bits ≡ bytes_of body p.validity → p.dictionary ≡ None → AllValid body p kids at end → at ≤ end → end ≤ to
-    → is_null bits at ≡ b → AreAlike bits at end → more ≡ (if b then end - at else 0)
-    → nulls + null_count (slots (cell body (node p kids)) at (to - at)) ≡ total
-    → nulls + more + null_count (slots (cell body (node p kids)) end (to - end)) ≡ total
-nulls-step body bits p kids at end to nulls more total b same plain all up inside test alike is so_far =
-    let read : ℕ → Reading Datum = cell body (node p kids) in
-    let e : to - at ≡ (end - at) + (to - end) = omega (arith, up, inside) in
-    let a : at + (end - at) ≡ end = omega (arith, up) in
-    let split : slots read at (to - at) ≡ slots read at (end - at) ++ slots read end (to - end) =
-    ap (λ n. slots read at n) e ∙ slots-split read at (end - at) (to - end)
-    ∙ ap (λ i. slots read at (end - at) ++ slots read i (to - end)) a in
-    let sum = ap null_count split ∙ nulls-append (slots read at (end - at)) (slots read end (to - end)) in
-    let run = run-nulls read at (end - at) (not b)
-    (λ k lo hi. ap not (sym test) ∙ ap not (sym (alike k lo (omega (arith, hi, up))))
-    ∙ cell-set body bits p kids k same plain (all k lo (omega (arith, hi, up)))) in
-    let ends = by_test b more (end - at) (null_count (slots read at (end - at))) is run in
-    omega (arith, sum, so_far, ends)
-  where
-    by_test : (t : Bool) (m n c : ℕ) → m ≡ (if t then n else 0) → c ≡ (if not t then 0 else n) → m ≡ c
-    by_test true m n c x y = x ∙ sym y
-    by_test false m n c x y = x ∙ sym y
+pub truth-bits : (body bits xs : List ℕ) (p : ArrayData) (kids : Roses ArrayData) (i n : ℕ)
+    → bits ≡ bytes_of body p.validity → xs ≡ bytes_of body p.values → 0 < length bits → p.dictionary ≡ None
+    → p.layout ≡ Booleans
+    → pairwise (λ x y. x && y) (bits_at bits i n) (bits_at xs i n)
+    ≡ map truth_in (slots (cell body (node p kids)) i n)
+unfolding bits_at slots pairwise
+truth-bits body bits xs p kids i zero same values some plain layout = refl
+truth-bits body bits xs p kids i (suc n) same values some plain layout =
+    let here = cell-truth body bits xs p kids i (bit_at bits i && bit_at xs i) same values plain layout
+    (ap (λ b. b && bit_at xs i) (valid-bit bits i some)) in
+    let rest = truth-bits body bits xs p kids (i + 1) n same values some plain layout in
+    ap (λ b. b ∷ pairwise (λ x y. x && y) (bits_at bits (i + 1) n) (bits_at xs (i + 1) n)) here
+    ∙ ap (λ bs. truth_in (cell_in (cell body (node p kids) i)) ∷ bs) rest
 
-pub nulls-over : (read : ℕ → Reading Datum) (at to nulls total : ℕ) → to ≤ at
-    → nulls + null_count (slots read at (to - at)) ≡ total
-    → nulls ≡ total
-nulls-over read at to nulls total h is =
-    let none = ap null_count (slots-none read at to h) in
-    omega (arith, none, is)
+pub plain-truths : (body bits xs : List ℕ) (p : ArrayData) (kids : Roses ArrayData) (i n : ℕ)
+    → bits ≡ bytes_of body p.validity → xs ≡ bytes_of body p.values → length bits ≡ 0 → p.dictionary ≡ None
+    → p.layout ≡ Booleans
+    → bits_at xs i n ≡ map truth_in (slots (cell body (node p kids)) i n)
+unfolding bits_at slots
+plain-truths body bits xs p kids i zero same values none plain layout = refl
+plain-truths body bits xs p kids i (suc n) same values none plain layout =
+    let here = cell-truth body bits xs p kids i (bit_at xs i) same values plain layout
+    (ap (λ b. b && bit_at xs i) (no-null bits i none)) in
+    let rest = plain-truths body bits xs p kids (i + 1) n same values none plain layout in
+    ap (λ b. b ∷ bits_at xs (i + 1) n) here
+    ∙ ap (λ bs. truth_in (cell_in (cell body (node p kids) i)) ∷ bs) rest

@@ -34,10 +34,10 @@ use Rattle.std.proofs.Common.{
 use Rattle.std.specs.Prelude.{map, replicate}
 use Rattle.std.proofs.lemmas.Bool.{cases_lt}
 use Rattle.std.specs.List.{flat_map}
-use Rattle.values.specs.Datum.{Datum, null, items_of, list, structure}
-use Rattle.values.specs.Reading.{Reading, IsValid, each, both, cons, mapped}
-use Rattle.values.proofs.Readings.{both_Ok, valid_Ok, valid_each, valid_left, valid_right}
-use Rattle.values.specs.Rose.{Rose, Roses, node, none, more, kids_of}
+use Rattle.values.specs.Datum.{Datum, null}
+use Rattle.values.specs.Reading.{Reading, IsValid, each, cons}
+use Rattle.values.proofs.Readings.{both_Ok, valid_each}
+use Rattle.values.specs.Rose.{Rose, Roses, node, kids_of}
 use Rattle.values.proofs.Roses.{kid_within}
 use Rattle.values.specs.Layouts.{IsNode}
 use Rattle.values.specs.declared.layout.OffsetWidth.{OffsetWidth}
@@ -55,10 +55,10 @@ use Rattle.values.specs.declared.layout.Layout.TheVariants.{
 use Rattle.array_layout.specs.declared.array.ArrayData.{ArrayData}
 use Rattle.array_layout.specs.Placing.{bytes_of, layouts_of}
 use Rattle.array_layout.specs.Buffers.{is_null, offset_at}
-use Rattle.array_layout.specs.Sound.{IsSound, AreSound, AreLong, AreFit, first_len}
+use Rattle.array_layout.specs.Sound.{IsSound, AreSound, AreLong}
 use Rattle.array_layout.specs.Cells.{cell, first_cell, row, list_of, structure_of, items_at, len_of}
 use Rattle.arrays.proofs.ValidationLemmas.{at_least, and_rest}
-use Rattle.body_writer.specs.Slots.{items_in, listed, part}
+use Rattle.body_writer.specs.Slots.{items_in, part}
 use Rattle.body_writer.proofs.Cells.{listed-items_of}
 use Rattle.column_writer.specs.Runs.{cell_in, slots, AreAlike}
 use Rattle.column_writer.specs.declared.piece.SlotRange.{SlotRange}
@@ -69,7 +69,7 @@ use Rattle.std.proofs.lemmas.List.{map-append}
 use Rattle.body_writer.specs.Columns.{items, child_cells}
 use Rattle.column_writer.specs.declared.piece.Piece.{Piece}
 use Rattle.column_writer.proofs.SlotLemmas.{AllValid, plain-cell}
-use Rattle.column_writer.proofs.ByteLemmas.{list-fit-of, offsets-rise, offsets-end}
+use Rattle.column_writer.proofs.ByteLemmas.{list-fit-of}
 use Rattle.column_writer.proofs.NullLemmas.{nulls-map}
 
 -- a child of an array

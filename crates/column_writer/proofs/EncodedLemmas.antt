@@ -1,34 +1,5 @@
 -- Slots that stand for values of a dictionary.
-use Rattle.std.proofs.Common.{
-  ◌≡◌,
-  ℕ,
-  ◌+◌,
-  ◌-◌,
-  ◌<◌,
-  ◌≤◌,
-  List,
-  [],
-  ◌∷◌,
-  ◌++◌,
-  length,
-  get_or,
-  drop,
-  Option,
-  None,
-  Some,
-  Ok,
-  Err,
-  false,
-  true,
-  refl,
-  ap,
-  sym,
-  subst,
-  ◌∙◌,
-  arith,
-  append_assoc,
-  append-nil,
-}
+use Rattle.std.proofs.Common.{◌≡◌, ℕ, ◌+◌, ◌-◌, ◌<◌, ◌≤◌, List, [], ◌∷◌, ◌++◌, Option, None, Some, false, ap, sym, subst, ◌∙◌, append_assoc, append-nil}
 use Rattle.std.specs.Option.{option_copied}
 use Rattle.std.proofs.lemmas.List.{map-append}
 use denote.Ref.{Bor}
@@ -43,10 +14,7 @@ use Rattle.array_layout.specs.Buffers.{is_null}
 use Rattle.array_layout.specs.Cells.{cell, cell_by, slot_by, coded_by, first_cell, row}
 use Rattle.body_writer.specs.Slots.{cell_of, cells_of}
 use Rattle.column_writer.specs.Runs.{cell_in, slots}
-use Rattle.column_writer.specs.declared.piece.Piece.{Piece}
-use Rattle.column_writer.specs.Pieces.{piece_cells, pieces_cells}
 use Rattle.column_writer.proofs.BitLemmas.{slots-next, slots-none}
-use Rattle.column_writer.proofs.PieceLemmas.{pieces-split, pieces-none}
 
 encoded-slot :
     (body : List ℕ) (p : ArrayData) (kids : Roses ArrayData) (w : DictionaryValues) (k : ℕ) → p.dictionary ≡ Some w

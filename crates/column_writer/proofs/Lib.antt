@@ -3,6 +3,7 @@ pub mod NumberLemmas
 pub mod SlotLemmas
 pub mod ByteLemmas
 pub mod BitLemmas
+pub mod RangeBits
 pub mod NullLemmas
 pub mod LieLemmas
 pub mod ChildLemmas

@@ -23,32 +23,12 @@ use Rattle.std.proofs.Common.{
 use Rattle.std.specs.Prelude.{true, false, is_some}
 use Rattle.std.proofs.lemmas.List.Elements.{All-weaker}
 use Rattle.values.specs.Rose.{Rose, node, Roses, kids_of}
-use Rattle.values.specs.declared.layout.OffsetWidth.{OffsetWidth}
 use Rattle.values.specs.declared.layout.Layout.{Layout}
-use Rattle.values.specs.declared.layout.Layout.TheVariants.{Utf8, Binary, List as Listed}
 use Rattle.array_layout.specs.declared.array.ArrayData.{ArrayData}
 use Rattle.column_writer.specs.declared.piece.Piece.{Piece}
 use Rattle.column_writer.specs.declared.piece.Piece.TheVariants.{Slots, Nulls}
 use Rattle.column_writer.specs.declared.piece.SlotRange.{SlotRange}
-use Rattle.column_writer.specs.Pieces.{
-  with_offsets,
-  HasDictionary,
-  IsAlike,
-  Lies,
-  AllLie,
-  RangeLies,
-  LiesAs,
-  LiesBelow,
-  IsChecked,
-  IsPlain,
-  IsEncoded,
-  HasLayout,
-  HasStarts,
-  HasRuns,
-  HasChild,
-  OfSlots,
-  ChildLies,
-}
+use Rattle.column_writer.specs.Pieces.{with_offsets, HasDictionary, IsAlike, Lies, AllLie, RangeLies, LiesAs, LiesBelow, IsChecked, IsEncoded, HasLayout, HasChild, OfSlots, ChildLies}
 
 -- two arrays, both with a dictionary or both without
 

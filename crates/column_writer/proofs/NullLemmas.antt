@@ -1,28 +1,5 @@
 -- What a number of nulls gives to each buffer, and to children.
-use Rattle.std.proofs.Common.{
-  ◌≡◌,
-  ℕ,
-  zero,
-  suc,
-  ◌+◌,
-  ◌*◌,
-  ◌-◌,
-  List,
-  [],
-  ◌∷◌,
-  ◌++◌,
-  length,
-  true,
-  false,
-  Bool,
-  refl,
-  ap,
-  sym,
-  ◌∙◌,
-  arith,
-  append_assoc,
-  append-nil,
-}
+use Rattle.std.proofs.Common.{◌≡◌, ℕ, zero, suc, ◌+◌, ◌*◌, ◌-◌, List, [], ◌∷◌, ◌++◌, length, refl, ap, sym, ◌∙◌, arith, append_assoc, append-nil}
 use Rattle.std.specs.Prelude.{map, replicate}
 use Rattle.std.specs.List.{flat_map}
 use Rattle.std.proofs.lemmas.List.{replicate-append-replicate, length-replicate}
@@ -30,18 +7,9 @@ use Rattle.byteorder.specs.Endian.{little_bytes}
 use Rattle.values.specs.Datum.{Datum, null}
 use Rattle.values.specs.declared.layout.OffsetWidth.{OffsetWidth}
 use Rattle.values.specs.declared.layout.Layout.{Layout}
-use Rattle.values.specs.declared.layout.Layout.TheVariants.{
-  Bool as Booleans,
-  Int,
-  Decimal,
-  FixedSizeBinary,
-  Utf8,
-  Binary,
-  List as Listed,
-  Struct,
-}
+use Rattle.values.specs.declared.layout.Layout.TheVariants.{List as Listed, Struct}
 use Rattle.values.specs.Layouts.{offset_bytes}
-use Rattle.body_writer.specs.Slots.{is_valid, null_count, truth_in, bytes_in, items_in, length_in, total_length, part}
+use Rattle.body_writer.specs.Slots.{null_count, length_in, total_length, part}
 use Rattle.body_writer.specs.Columns.{joined, offsets_from, items, child_cells}
 use Rattle.column_writer.specs.Runs.{slot_width, slot_bytes}
 use Rattle.values.specs.Rose.{node, kids_of}

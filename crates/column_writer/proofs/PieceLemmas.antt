@@ -1,51 +1,15 @@
 -- The pieces that are left, one after the other.
-use Rattle.std.proofs.Common.{
-  ◌≡◌,
-  ℕ,
-  ◌+◌,
-  ◌<◌,
-  ◌≤◌,
-  List,
-  [],
-  ◌∷◌,
-  ◌++◌,
-  length,
-  get_or,
-  drop,
-  refl,
-  ap,
-  sym,
-  ◌∙◌,
-  subst,
-  arith,
-  append_assoc,
-  append-nil,
-  length-append,
-  All,
-}
+use Rattle.std.proofs.Common.{◌≡◌, ℕ, ◌+◌, ◌<◌, ◌≤◌, List, [], ◌∷◌, ◌++◌, length, get_or, drop, ap, sym, ◌∙◌, subst, arith, append_assoc, append-nil, length-append, All}
 use Rattle.std.specs.Prelude.{map}
 use Rattle.std.specs.List.{flat_map}
 use Rattle.std.proofs.lemmas.List.{drop_more, drop_all, map-append}
 use Rattle.std.proofs.lemmas.List.Elements.{All-get_or, All-cons}
 use Rattle.values.specs.Datum.{Datum}
 use Rattle.values.specs.declared.layout.OffsetWidth.{OffsetWidth}
-use Rattle.values.specs.declared.layout.Layout.{Layout}
-use Rattle.values.specs.declared.layout.Layout.TheVariants.{
-  Bool as Booleans,
-  Int,
-  Decimal,
-  FixedSizeBinary,
-  Utf8,
-  Binary,
-  List as Listed,
-  Struct,
-}
-use Rattle.column_writer.specs.Runs.{slot_bytes}
 use Rattle.body_writer.specs.Slots.{null_count, length_in, total_length}
 use Rattle.body_writer.specs.Columns.{offsets_from}
 use Rattle.column_writer.specs.declared.piece.Piece.{Piece}
-use Rattle.column_writer.specs.declared.piece.SlotRange.{SlotRange}
-use Rattle.column_writer.specs.Pieces.{piece_cells, pieces_cells, range_cells, with_offsets, HasLayout}
+use Rattle.column_writer.specs.Pieces.{piece_cells, pieces_cells}
 use Rattle.column_writer.proofs.RunLemmas.{flat-append}
 use Rattle.column_writer.proofs.BitLemmas.{nulls-append}
 

@@ -41,7 +41,7 @@ use Rattle.array_layout.specs.Placing.{bytes_of}
 use Rattle.array_layout.specs.Buffers.{is_null}
 use Rattle.array_layout.specs.Sound.{LiesIn}
 use Rattle.array_layout.specs.Cells.{cell, cell_by}
-use Rattle.column_writer.specs.Runs.{cell_in, slots, AreAlike}
+use Rattle.column_writer.specs.Runs.{cell_in, slots}
 
 -- m slots and then n more
 pub slots-split : (cell : ℕ → Reading Datum) (i m n : ℕ) → slots cell i (m + n) ≡ slots cell i m ++ slots cell (i + m) n

@@ -1,6 +1,6 @@
 //! Writes an array's own node and buffers, without those of its children, from the pieces in which its cells lie.
 
-ghost use Rattle.std.specs.Prelude.{◌≡◌, ◌<◌, ◌≤◌, ◌^◌, All, IfOk, OnOk, [], ◌∷◌, length};
+ghost use Rattle.std.specs.Prelude.{◌≡◌, ◌<◌, ◌≤◌, ◌^◌, ◌++◌, All, IfOk, OnOk, [], ◌∷◌, length};
 ghost use Rattle.std.specs.List.{flat_map};
 ghost use Rattle.bitmaps.specs.Packed.{bytes_of};
 ghost use Rattle.values.specs.declared.layout.Layout.TheVariants.{Bool as Booleans};
@@ -82,59 +82,94 @@ fn truths(alloc: Global, pieces: &[Piece]) -> Result<Bitmap, AllocError>
 {
     let mut bits = Bitmap::new(alloc);
     for piece in pieces {
-        push_piece_truths(&mut bits, piece)?;
+        push_piece_truths(alloc, &mut bits, piece)?;
     }
     Ok(bits)
 }
 
-/// The bytes of cells of a fixed width, `len` of them.
-fn slots(alloc: Global, layout: Layout, pieces: &[Piece], len: usize) -> Result<Vec<u8>, AllocError>
+/// Appends the bytes of cells of a fixed width.
+fn push_slots(out: &mut Vec<u8>, layout: Layout, pieces: &[Piece]) -> Result<(), AllocError>
     requires { All (OfSlots (HasLayout layout)) pieces.now }
-    ensures { IfOk result (λ buffer. buffer.items ≡ flat_map (slot_bytes layout) (pieces_cells pieces.now)) }
+    ensures { OnOk result (out.new.items ≡ out.old.items ++ flat_map (slot_bytes layout) (pieces_cells pieces.now)) }
 {
-    let mut buffer = Vec::with_capacity(alloc, slot_width(layout).saturating_mul(len))?;
     for piece in pieces {
-        push_piece_slots(&mut buffer, layout, piece)?;
+        push_piece_slots(out, layout, piece)?;
     }
-    Ok(buffer)
+    Ok(())
 }
 
-/// The bytes of all cells, one after the other.
-fn joined(alloc: Global, pieces: &[Piece]) -> Result<Vec<u8>, AllocError>
+/// Appends the bytes of all cells, one after the other.
+fn push_joined(out: &mut Vec<u8>, pieces: &[Piece]) -> Result<(), AllocError>
     requires { All (OfSlots HasRuns) pieces.now }
-    ensures { IfOk result (λ buffer. buffer.items ≡ joined_of (pieces_cells pieces.now)) }
+    ensures { OnOk result (out.new.items ≡ out.old.items ++ joined_of (pieces_cells pieces.now)) }
 {
-    let mut buffer = Vec::new(alloc);
     for piece in pieces {
-        push_piece_bytes(&mut buffer, piece)?;
+        push_piece_bytes(out, piece)?;
     }
-    Ok(buffer)
+    Ok(())
 }
 
-/// The offsets of `len` cells: where the bytes or the items of each one start, and where the last ones end.
-fn offsets(
-    alloc: Global,
-    pieces: &[Piece],
-    width: OffsetWidth,
-    len: usize,
-) -> Result<Vec<u8>, AllocError>
+/// Appends the offsets of these cells: where the bytes or the items of each one start, and where the last ones end.
+fn push_offsets(out: &mut Vec<u8>, pieces: &[Piece], width: OffsetWidth) -> Result<(), AllocError>
     requires layout { All (OfSlots HasStarts) pieces.now }
     requires short { total_length (pieces_cells pieces.now) < 2 ^ 31 }
-    ensures { IfOk result (λ buffer. buffer.items ≡ offsets_of width (pieces_cells pieces.now)) }
+    ensures { OnOk result (out.new.items ≡ out.old.items ++ offsets_of width (pieces_cells pieces.now)) }
 {
-    let room = width.bytes().saturating_mul(len.saturating_add(1));
-    let mut buffer = Vec::with_capacity(alloc, room)?;
     let mut end = 0;
     for piece in pieces {
-        end = push_piece_starts(&mut buffer, piece, width, end)?;
+        end = push_piece_starts(out, piece, width, end)?;
     }
-    push_offset(&mut buffer, width, end)?;
-    Ok(buffer)
+    push_offset(out, width, end)?;
+    Ok(())
+}
+
+/// Appends the buffer of `len` cells of a fixed width.
+fn append_slots(
+    layout: Layout,
+    pieces: &[Piece],
+    len: usize,
+    body: &mut Body,
+) -> Result<(), AllocError>
+    requires { All (OfSlots (HasLayout layout)) pieces.now }
+    ensures { OnOk result
+        (Appends body.old body.new (flat_map (slot_bytes layout) (pieces_cells pieces.now) ∷ [])) }
+{
+    let from = body.bytes.len();
+    body.bytes.reserve(slot_width(layout).saturating_mul(len))?;
+    push_slots(&mut body.bytes, layout, pieces)?;
+    body.end_buffer(from)
+}
+
+/// Appends the buffer of the offsets of `len` cells.
+fn append_offsets(
+    width: OffsetWidth,
+    pieces: &[Piece],
+    len: usize,
+    body: &mut Body,
+) -> Result<(), AllocError>
+    requires layout { All (OfSlots HasStarts) pieces.now }
+    requires short { total_length (pieces_cells pieces.now) < 2 ^ 31 }
+    ensures { OnOk result (Appends body.old body.new (offsets_of width (pieces_cells pieces.now) ∷ [])) }
+{
+    let from = body.bytes.len();
+    body.bytes
+        .reserve(width.bytes().saturating_mul(len.saturating_add(1)))?;
+    push_offsets(&mut body.bytes, pieces, width)?;
+    body.end_buffer(from)
+}
+
+/// Appends the buffer of the bytes of all cells.
+fn append_joined(pieces: &[Piece], body: &mut Body) -> Result<(), AllocError>
+    requires { All (OfSlots HasRuns) pieces.now }
+    ensures { OnOk result (Appends body.old body.new (joined_of (pieces_cells pieces.now) ∷ [])) }
+{
+    let from = body.bytes.len();
+    push_joined(&mut body.bytes, pieces)?;
+    body.end_buffer(from)
 }
 
 /// Appends the offsets and the bytes of texts or of bytes.
 fn append_runs(
-    alloc: Global,
     width: OffsetWidth,
     pieces: &[Piece],
     len: usize,
@@ -147,8 +182,8 @@ fn append_runs(
         (Appends body.old body.new
         (offsets_of width (pieces_cells pieces.now) ∷ joined_of (pieces_cells pieces.now) ∷ [])) }
 {
-    body.append(&offsets(alloc, pieces, width, len)?)?;
-    body.append(&joined(alloc, pieces)?)
+    append_offsets(width, pieces, len, body)?;
+    append_joined(pieces, body)
 }
 
 /// Appends the offsets and values of these cells, by layout.
@@ -167,12 +202,12 @@ fn append_values(
 {
     match layout {
         Layout::Bool => body.append(truths(alloc, pieces)?.as_bytes()),
-        Layout::Int { .. } => body.append(&slots(alloc, layout, pieces, len)?),
-        Layout::Decimal { .. } => body.append(&slots(alloc, layout, pieces, len)?),
-        Layout::FixedSizeBinary { .. } => body.append(&slots(alloc, layout, pieces, len)?),
-        Layout::Utf8 { offsets } => append_runs(alloc, offsets, pieces, len, body),
-        Layout::Binary { offsets } => append_runs(alloc, offsets, pieces, len, body),
-        Layout::List { offsets: width } => body.append(&offsets(alloc, pieces, width, len)?),
+        Layout::Int { .. } => append_slots(layout, pieces, len, body),
+        Layout::Decimal { .. } => append_slots(layout, pieces, len, body),
+        Layout::FixedSizeBinary { .. } => append_slots(layout, pieces, len, body),
+        Layout::Utf8 { offsets } => append_runs(offsets, pieces, len, body),
+        Layout::Binary { offsets } => append_runs(offsets, pieces, len, body),
+        Layout::List { offsets } => append_offsets(offsets, pieces, len, body),
         Layout::Struct => Ok(()),
     }
 }

@@ -14,7 +14,7 @@ use crate::byte_runs::{push_joined, push_offset, push_starts};
 use crate::piece::Piece;
 use crate::slot_runs::{push_slots, push_zeros, slot_width};
 use bitmaps::Bitmap;
-use std::alloc::AllocError;
+use std::alloc::{AllocError, Global};
 use values::{Layout, OffsetWidth};
 
 /// How many cells a piece has.
@@ -64,13 +64,17 @@ pub(crate) fn push_piece_validity(valid: &mut Bitmap, piece: &Piece) -> Result<(
 }
 
 /// Appends the bools of a piece: a bit a cell, 0 for a null.
-pub(crate) fn push_piece_truths(truths: &mut Bitmap, piece: &Piece) -> Result<(), AllocError>
+pub(crate) fn push_piece_truths(
+    alloc: Global,
+    truths: &mut Bitmap,
+    piece: &Piece,
+) -> Result<(), AllocError>
     requires layout { OfSlots (HasLayout Booleans) piece.now }
     requires room { length truths.old + length (piece_cells piece.now) < 2 ^ 32 }
     ensures { OnOk result (truths.new ≡ truths.old ++ map truth_in (piece_cells piece.now)) }
 {
     match piece {
-        Piece::Slots(range) => push_truths(truths, range),
+        Piece::Slots(range) => push_truths(alloc, truths, range),
         Piece::Nulls(count) => push_clear(truths, *count),
     }
 }

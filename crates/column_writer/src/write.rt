@@ -142,13 +142,14 @@ fn write_column(
     }
 }
 
-/// The body of a record batch of these rows, in columns of these layouts, as `body_writer::write_body` makes it of the
-/// rows' values.
+/// The body of a record batch of these rows, in columns of these layouts: the body of the rows' values, though no values
+/// are made. Room for `room` bytes of it is made at once.
 #[tactic(auto, using(body_writer::proofs::Rows::batch), unfolding(body_writer::specs::Batch::body_nodes, body_writer::specs::Batch::body_ranges, body_writer::specs::Batch::body_bytes))]
 pub fn write_body(
     alloc: Global,
     layouts: &[LayoutTree],
     ranges: &[RowRange],
+    room: usize,
 ) -> Result<Body, AllocError>
     requires ranges { All (IsRange (length layouts.now)) ranges.now }
     requires batch { IsBatch (kids_of layouts.now) (ranges_rows ranges.now) }
@@ -158,7 +159,7 @@ pub fn write_body(
     ensures bytes { IfOk result (λ body. body.bytes.items ≡ body_bytes (kids_of layouts.now) (ranges_rows ranges.now)) }
     ensures size { IfOk result (λ body. length body.bytes.items ≤ max_body_size) }
 {
-    let mut body = Body::new(alloc);
+    let mut body = Body::with_capacity(alloc, room)?;
     for j in 0..layouts.len() {
         write_column(alloc, &layouts[j], ranges, j, &mut body)?;
     }

@@ -28,8 +28,9 @@ stopped-begun content old new unmade (refusal.Refused c) path (inl memory) = inl
 stopped-begun content old new unmade (refusal.Refused c) path (inr (inl refuses)) = inl refuses.1
 stopped-begun content old new unmade (refusal.Refused c) path (inr (inr (inl none))) =
     unmade-begun content old new unmade _ path none.1
-stopped-begun content old new unmade (refusal.Refused c) path (inr (inr (inr stops))) =
+stopped-begun content old new unmade (refusal.Refused c) path (inr (inr (inr (inl stops)))) =
     inr (path, Err (record { cause = c; written = stops.0 }), stops.1)
+stopped-begun content old new unmade (refusal.Refused c) path (inr (inr (inr (inr thrown)))) = inl thrown.1
 
 pub ends-begun :
     (content : List ℕ → Option (List ℕ)) (old new : Sunk) (unmade : Option FileFault) (answer : Result Outcome Refusal)

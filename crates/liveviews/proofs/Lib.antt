@@ -16,3 +16,4 @@ pub mod KeptLemmas
 pub mod Shows
 pub mod BroughtLemmas
 pub mod StreamLemmas
+pub mod ReplaceLemmas

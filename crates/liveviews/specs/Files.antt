@@ -1,5 +1,5 @@
 -- What a command did to the files: what was read of one, and what was put to another.
-use Rattle.std.specs.Prelude.{◌≡◌, ℕ, List, Option, None, Some, Result, Ok, Err}
+use Rattle.std.specs.Prelude.{◌≡◌, ◌≢◌, ℕ, List, Option, None, Some, Result, Ok, Err}
 use Rattle.schema_meta.specs.Story.{story_of}
 use Rattle.stream_writer.specs.Sinks.{Sunk}
 use Rattle.values.specs.declared.causes.Cause.TheVariants as cause
@@ -15,6 +15,11 @@ use Rattle.liveviews.specs.declared.recasting.SourceFault.TheVariants as source
 abbrev pub IsContent : Option (List ℕ) → List ℕ → Type 0
 IsContent None bytes = Unit {0}
 IsContent (Some held) bytes = bytes ≡ held
+
+-- The file at this path holds these bytes now, and each other one what it held.
+pub record Replaces (before after : List ℕ → Option (List ℕ)) (path bytes : List ℕ) : Type 0 where
+  pub whole : IsContent (after path) bytes
+  pub others : (other : List ℕ) → other ≢ path → after other ≡ before other
 
 -- These bytes were read of a file that holds `held`, and this came of recasting them.
 pub record RecastsFile (held : Option (List ℕ)) (old new : Sunk) (answer : Result ℕ RecastFault) : Type 0 where

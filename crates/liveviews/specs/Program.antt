@@ -30,6 +30,7 @@ use Rattle.liveviews.specs.Files.{InspectsFile, RecastsFile, MakesNone}
 use Rattle.liveviews.specs.declared.files.FileFault.{FileFault}
 use Rattle.liveviews.specs.declared.files.FileFault.TheVariants as file
 use Rattle.liveviews.specs.Check.{ChecksFile, RefusesFile}
+use Rattle.liveviews.specs.Streams.{Discards}
 use Rattle.liveviews.specs.declared.program.FileCommand.{FileCommand}
 use Rattle.liveviews.specs.declared.program.FileCommand.TheVariants as command
 use Rattle.liveviews.specs.declared.program.Asked.{Asked}
@@ -39,6 +40,8 @@ use Rattle.liveviews.specs.declared.program.Outcome.TheVariants as outcome
 use Rattle.liveviews.specs.declared.program.Refusal.{Refusal}
 use Rattle.liveviews.specs.declared.program.Refusal.TheVariants as refusal
 use Rattle.liveviews.specs.declared.recasting.RecastFault.{RecastFault}
+use Rattle.liveviews.specs.declared.recasting.SourceFault.{SourceFault}
+use Rattle.liveviews.specs.declared.recasting.SourceFault.TheVariants as source
 
 -- the command is over the file, or the files, that the arguments name
 abbrev pub AsksInspect : Found → FileCommand → Type 0
@@ -117,12 +120,13 @@ IsRefusedAs kind r =
     ⊎ ((kind ≢ kinds.OutOfMemory) × (r ≡ refusal.WrongUse))
 
 -- A cause that the command names: memory was refused outside of recasting, or it stands in a configuration, or
--- recasting stopped for it.
+-- recasting stopped for it, with nothing put where what it wrote was thrown away.
 abbrev pub StopsFor : Option (List ℕ) → Sunk → Sunk → Option FileFault → Cause → Type 0
 StopsFor held old new unmade c =
     ((c ≡ cause.Memory) × (new ≡ old)) ⊎ (RefusesFile held c × (new ≡ old)) ⊎ ((c ≡ cause.Memory)
     × MakesNone held old new unmade file.Memory)
     ⊎ ((written : ℕ) × RecastsFile held old new (Err (record { cause = c; written = written })))
+    ⊎ (Discards held old c × (new ≡ old))
 
 -- what `check` is refused for: a file that can't be read, or has no configuration
 abbrev pub IsNoConfig : Option (List ℕ) → Refusal → Type 0
@@ -160,6 +164,11 @@ DoesSomewhere content old new unmade answer = (path : List ℕ) × Does (content
 abbrev pub refusal_for : Refusal → FileFault → Refusal
 refusal_for named file.Unusable = named
 refusal_for named file.Memory = refusal.Refused cause.Memory
+
+-- the refusal of a stream that was not recast: this one, which names the file, where that can't be read further
+abbrev pub refusal_after : Refusal → SourceFault → Refusal
+refusal_after named source.Unreadable = named
+refusal_after named (source.Refused f) = refusal.Refused f.cause
 
 -- A cause is named as it is, or it is the device's where the file could not be made.
 abbrev pub IsStopped : Refusal → Option FileFault → Cause → Refusal → Type 0

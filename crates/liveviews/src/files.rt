@@ -1,11 +1,11 @@
 //! The files that `lv` works on.
 
-ghost use Rattle.std.specs.Prelude.{IfOk, OnOk, None};
+ghost use Rattle.std.specs.Prelude.{[], IfErr, IfOk, IfSome, MatchResult, OnOk, Err, None};
 
 use std::alloc::AllocError;
 use std::fmt::Display;
 use std::io::{Error, ErrorKind, Read};
-use stream_writer::Sink;
+use stream_writer::{DeviceFault, Sink};
 
 /// The path that stands for standard input where a file is read, and for standard output where one is written.
 pub(crate) const STANDARD: &str = "-";
@@ -52,12 +52,17 @@ impl From<AllocError> for FileFault {
 /// says why.
 pub trait Files: Sink {
     ghost use Rattle.std.specs.Prelude.{◌≡◌, ℕ, List, Option};
-    ghost use Rattle.liveviews.specs.Files.{IsContent};
+    ghost use Rattle.std.specs.Io.KnownBytes.{Appends};
+    ghost use Rattle.stream_writer.specs.Sinks.{Puts};
+    ghost use Rattle.liveviews.specs.Files.{IsContent, Replaces};
     ghost use Rattle.liveviews.specs.Source.{HoldsFile};
     ghost use Rattle.liveviews.specs.declared.files.FileFault.{FileFault as Fault};
 
     /// A file that is open to be read. It is closed where it is dropped.
     type Input: Read + Drop;
+
+    /// A new file, which may take the place of another. It goes to `place` or to `discard`.
+    type New: Sink;
 
     /// What the file at a path holds, where the value can tell.
     ghost content: { Self → List ℕ → Option (List ℕ) };
@@ -73,6 +78,7 @@ pub trait Files: Sink {
     /// Opens the file at `path`, to be read piece by piece.
     fn open(&mut self, path: &str) -> Result<Self::Input, FileFault>
         ensures sunk { Self.sunk self.new ≡ Self.sunk self.old }
+        ensures same { content self.new ≡ content self.old }
         ensures content { IfOk result
             (λ input. HoldsFile (content self.old path.now) (Self.Input.remaining input)) };
 
@@ -85,6 +91,28 @@ pub trait Files: Sink {
     /// Closes the file that was named last. What is put then goes to no file, until another is named.
     fn close(&mut self)
         ensures { Self.sunk self.new ≡ Self.sunk self.old };
+
+    /// Begins a new file, which is to take the place of the one at `path` when it is whole. The one at `path` stays as it
+    /// is until then. `None`, with nothing done, where no new file can take its place, as that of a pipe.
+    fn begin_new(&mut self, path: &str) -> Result<Option<Self::New>, FileFault>
+        ensures sunk { Self.sunk self.new ≡ Self.sunk self.old }
+        ensures content { content self.new ≡ content self.old }
+        ensures begins { IfOk result (λ found. IfSome found (λ file. Self.New.sunk file ≡ Self.sunk self.old)) };
+
+    /// Gives a new file the place of the one at `path`, so that all that it took is put at once. Where that fails the new
+    /// file is thrown away, and one failure is counted.
+    fn place(&mut self, file: Self::New, path: &str) -> Result<(), DeviceFault>
+        ensures placed { OnOk result (Self.sunk self.new ≡ Self.New.sunk file) }
+        ensures failed { IfErr result (λ fault. Puts (Self.sunk self.old) (Self.sunk self.new) (Err fault) []) }
+        ensures content { MatchResult result
+            (λ _. (bytes : List ℕ) → Appends (Self.sunk self.old).taken (Self.New.sunk file).taken bytes
+            → Replaces (content self.old) (content self.new) path.now bytes)
+            (λ _. content self.new ≡ content self.old) };
+
+    /// Throws a new file away.
+    fn discard(&mut self, file: Self::New)
+        ensures sunk { Self.sunk self.new ≡ Self.sunk self.old }
+        ensures content { content self.new ≡ content self.old };
 
     /// Has what `lv` prints go aside from now on, to standard error, or again where it went at first: aside where
     /// standard output takes the bytes of a file.

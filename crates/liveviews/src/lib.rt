@@ -14,6 +14,7 @@ mod next_message;
 mod pieces;
 mod program;
 mod recasting;
+mod replacing;
 mod running;
 mod script;
 mod show;

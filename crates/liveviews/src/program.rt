@@ -13,7 +13,6 @@ ghost use Rattle.liveviews.specs.Program.{
   AsksSession,
   AsksShow,
   DoesSomewhere,
-  Ends,
   IsAllowed,
   IsBegun,
   IsDone,
@@ -23,9 +22,9 @@ ghost use Rattle.liveviews.specs.Program.{
   IsSession,
   IsShow,
   IsWrongUse,
-  IsStopped,
   IsUnread,
   IsUnreadable,
+  refusal_after,
   refusal_for,
   status_after,
   status_of,
@@ -37,7 +36,8 @@ use crate::configuring::{explain, parse_config};
 use crate::files::{FileFault, Files, STANDARD};
 use crate::inspecting::{Inspected, inspect_from};
 use crate::live::run_live;
-use crate::recasting::{RecastFault, SourceFault, recast_from};
+use crate::recasting::SourceFault;
+use crate::replacing::recast_file;
 use crate::running::run_script;
 use crate::script::number;
 use crate::show::{Form, PrintFault, ShowFault, show_from};
@@ -114,7 +114,7 @@ impl fmt::Display for Outcome {
 
 /// Why a command failed. Its text is the line that `lv` prints.
 #[derive(Debug, Drop, Error)]
-enum Refusal<'a> {
+pub(crate) enum Refusal<'a> {
     #[error("wrong use")]
     WrongUse,
     #[error("cannot read {0}")]
@@ -137,12 +137,22 @@ impl<'a> Refusal<'a> {
     }
 
     /// The refusal where the file at `path` could not be made.
-    fn unmade(fault: FileFault, path: &'a str) -> Refusal<'a>
+    pub fn unmade(fault: FileFault, path: &'a str) -> Refusal<'a>
         ensures { result ≡ refusal_for (CannotWrite path.entry) fault }
     {
         match fault {
             FileFault::Unusable => Refusal::CannotWrite(path),
             FileFault::Memory => Refusal::Refused(Cause::Memory),
+        }
+    }
+
+    /// The refusal of a stream that was not recast while the file at `path` was read.
+    pub fn unstreamed(fault: SourceFault, path: &'a str) -> Refusal<'a>
+        ensures { result ≡ refusal_after (CannotRead path.entry) fault }
+    {
+        match fault {
+            SourceFault::Unreadable => Refusal::CannotRead(path),
+            SourceFault::Refused(fault) => Refusal::Refused(fault.cause),
         }
     }
 }
@@ -350,7 +360,7 @@ fn read_file<'a, F: Files>(path: &'a str, files: &mut F) -> Result<Vec<u8>, Refu
 }
 
 /// Opens the file at `path`, to be read piece by piece.
-fn open_file<'a, F: Files>(path: &'a str, files: &mut F) -> Result<F::Input, Refusal<'a>>
+pub(crate) fn open_file<'a, F: Files>(path: &'a str, files: &mut F) -> Result<F::Input, Refusal<'a>>
     ensures sunk { F.sunk files.new ≡ F.sunk files.old }
     ensures content { IfOk result (λ input. HoldsFile (F.content files.old path.now) (F.Input.remaining input)) }
     ensures unread { IfErr result IsUnreadable }
@@ -375,37 +385,6 @@ fn inspect_file<'a, F: Files>(
     match inspect_from(alloc, &mut input) {
         Ok(inspected) => Ok(inspected),
         Err(fault) => Err(unreadable(fault, path)),
-    }
-}
-
-/// Recasts the file at `from` to the file at `to`, which is made when the first bytes are put.
-fn recast_file<'a, F: Files>(
-    alloc: Global,
-    from: &'a str,
-    to: &'a str,
-    files: &mut F,
-) -> Result<u64, Refusal<'a>>
-    ensures { Ends (F.content files.old from.now) (F.sunk files.old) (F.sunk files.new) (F.unmade files.new) result }
-{
-    files.print_aside(to == STANDARD);
-    let mut input = open_file(from, files)?;
-    if let Err(fault) = files.create(to) {
-        return Err(Refusal::unmade(fault, to));
-    }
-    match recast_from(alloc, &mut input, files) {
-        Ok(written) => Ok(written),
-        Err(SourceFault::Unreadable) => Err(Refusal::CannotRead(from)),
-        Err(SourceFault::Refused(fault)) => Err(stopped(files, fault, to)),
-    }
-}
-
-/// The refusal of a recast that failed: `CannotWrite` where the file at `to` could not be made.
-fn stopped<'a, F: Files>(files: &F, fault: RecastFault, to: &'a str) -> Refusal<'a>
-    ensures { IsStopped (CannotWrite to.entry) (F.unmade files.now) fault.cause result }
-{
-    match (fault.cause, files.fault()) {
-        (Cause::Device, Some(unmade)) => Refusal::unmade(unmade, to),
-        (cause, _) => Refusal::Refused(cause),
     }
 }
 

@@ -3,18 +3,26 @@
 ghost use Rattle.std.specs.Prelude.{◌≡◌, ◌≤◌, IfOk, length};
 ghost use Rattle.std.specs.Io.KnownBytes.{WriteAppends};
 
+use crate::new_file;
+use crate::new_file::NewFile;
+use crate::progress::{Progress, Tracked};
 use crate::standard::{Aside, STANDARD};
 use liveviews::{FileFault, Files};
 use std::fmt::Display;
+use std::fs::OpenFile;
 use std::io::{Eprint, Error, Input, Print, Read, Write};
+use std::rt::Clock;
 use std::{fs, io};
 use stream_writer::{DeviceFault, Sink};
 
-/// The files of the machine. `put` writes the file that was named last; the first put makes or empties it.
+/// The files of the machine. `put` writes the file that was named last; the first put makes or empties it. A new file lies
+/// beside the one whose place it may take.
 #[derive(Drop)]
 pub struct Disk<'a, R: std::rt::Files> {
     runtime: &'a R,
     aside: &'a Aside,
+    /// Whether a terminal is told how far a file was read.
+    is_told: bool,
     output: Output<R::File>,
     fault: Option<FileFault>,
     failures: u64,
@@ -50,13 +58,25 @@ impl<F: Read, I: Read> Read for Source<F, I> {
 }
 
 impl<'a, R: std::rt::Files> Disk<'a, R> {
-    pub fn new(runtime: &'a R, aside: &'a Aside) -> Self {
+    pub fn new(runtime: &'a R, aside: &'a Aside, is_told: bool) -> Self {
         Disk {
             runtime,
             aside,
+            is_told,
             output: Output::Missing,
             fault: None,
             failures: 0,
+        }
+    }
+}
+
+impl<'a, R: std::rt::Files + Clock + Eprint> Disk<'a, R> {
+    /// The progress of reading a file of so many bytes, where a terminal is told of it.
+    fn progress(&self, total: Option<u64>) -> Option<Progress<'a, R>> {
+        if self.is_told {
+            Progress::begin(self.runtime, total)
+        } else {
+            None
         }
     }
 }
@@ -101,14 +121,16 @@ impl<R: std::rt::Files + Print + AllocGlobal> Sink for Disk<'_, R> {
     }
 }
 
-impl<R: std::rt::Files + Input + Print + Eprint + AllocGlobal> Files for Disk<'_, R> {
+impl<'a, R: std::rt::Files + Input + Print + Eprint + Clock + AllocGlobal> Files for Disk<'a, R> {
     ghost use Rattle.std.specs.Prelude.{None};
 
     ghost content = { λ _ _. None };
 
     ghost unmade = { λ s. s.fault };
 
-    type Input = Source<R::File, R::Reader>;
+    type Input = Tracked<'a, R, Source<R::File, R::Reader>>;
+
+    type New = NewFile<R::File>;
 
     fn read(&mut self, path: &str) -> Result<Vec<u8>, FileFault> {
         let mut bytes = Vec::new(self.runtime.alloc());
@@ -116,12 +138,24 @@ impl<R: std::rt::Files + Input + Print + Eprint + AllocGlobal> Files for Disk<'_
         Ok(bytes)
     }
 
-    fn open(&mut self, path: &str) -> Result<Source<R::File, R::Reader>, FileFault> {
+    fn open(
+        &mut self,
+        path: &str,
+    ) -> Result<Tracked<'a, R, Source<R::File, R::Reader>>, FileFault> {
         if path == STANDARD {
-            return Ok(Source::Standard(self.runtime.reader()));
+            return Ok(Tracked {
+                source: Source::Standard(self.runtime.reader()),
+                progress: self.progress(None),
+            });
         }
         match fs::open(self.runtime, path) {
-            Ok(file) => Ok(Source::File(file)),
+            Ok(file) => {
+                let progress = self.progress(len_of(&file));
+                Ok(Tracked {
+                    source: Source::File(file),
+                    progress,
+                })
+            }
             Err(error) => Err(fault_of(error)),
         }
     }
@@ -146,6 +180,37 @@ impl<R: std::rt::Files + Input + Print + Eprint + AllocGlobal> Files for Disk<'_
         self.output = Output::Missing;
     }
 
+    fn begin_new(&mut self, path: &str) -> Result<Option<NewFile<R::File>>, FileFault> {
+        if path == STANDARD {
+            return Ok(None);
+        }
+        match new_file::begin(self.runtime, path, self.failures) {
+            Ok(found) => Ok(found),
+            Err(error) => match fault_of(error) {
+                FileFault::Memory => Err(FileFault::Memory),
+                FileFault::Unusable => Ok(None),
+            },
+        }
+    }
+
+    fn place(&mut self, file: NewFile<R::File>, _path: &str) -> Result<(), DeviceFault> {
+        let failures = file.failures;
+        match new_file::place(self.runtime, file) {
+            Ok(()) => {
+                self.failures = failures;
+                Ok(())
+            }
+            Err(_) => {
+                self.failures = self.failures.wrapping_add(1);
+                Err(DeviceFault)
+            }
+        }
+    }
+
+    fn discard(&mut self, file: NewFile<R::File>) {
+        new_file::remove(self.runtime, file);
+    }
+
     fn print_aside(&mut self, is_aside: bool) {
         self.aside.set(is_aside);
     }
@@ -162,7 +227,7 @@ impl<R: std::rt::Files + Input + Print + Eprint + AllocGlobal> Files for Disk<'_
 
 /// Writes some first bytes of a piece that isn't empty, and returns how many the file took. Where it took none, that is
 /// a failure.
-fn write_to<F: Write>(file: &mut F, piece: &[u8]) -> Result<usize, DeviceFault>
+pub fn write_to<F: Write>(file: &mut F, piece: &[u8]) -> Result<usize, DeviceFault>
     ensures bound { IfOk result (λ n. (1 ≤ n) × (n ≤ length piece.now)) }
     ensures took { WriteAppends (F.contents file.old) (F.contents file.new) result piece.now }
 {
@@ -170,6 +235,12 @@ fn write_to<F: Write>(file: &mut F, piece: &[u8]) -> Result<usize, DeviceFault>
         Ok(0) | Err(_) => Err(DeviceFault),
         Ok(taken) => Ok(taken),
     }
+}
+
+/// How many bytes a regular file has.
+fn len_of<F: OpenFile>(file: &F) -> Option<u64> {
+    let metadata = file.metadata().ok()?;
+    metadata.is_file().then_some(metadata.len())
 }
 
 fn fault_of(error: Error) -> FileFault {

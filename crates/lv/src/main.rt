@@ -3,11 +3,14 @@
 
 mod disk;
 mod help;
+mod new_file;
+mod progress;
 mod standard;
 
 use disk::Disk;
 use standard::{Answers, Aside};
 use std::alloc::Global;
+use std::io::IsTerminal;
 use std::process::ExitCode;
 use std::{env, io};
 
@@ -18,7 +21,8 @@ fn main(rt: HostRuntime) -> ExitCode {
     let alloc = rt.alloc();
     let words = words(&rt, alloc).unwrap_or(Vec::new(alloc));
     let aside = Aside::new(false);
-    let mut files = Disk::new(&rt, &aside);
+    let is_told = may_be_long(words.as_slice()) && rt.stderr().is_terminal();
+    let mut files = Disk::new(&rt, &aside, is_told);
     let mut out = Answers::new(io::writer(&rt), rt.stderr(), &aside);
     let status = liveviews::lv(alloc, words.as_slice(), &mut files, &mut out);
     if status == 2 {
@@ -31,4 +35,12 @@ fn main(rt: HostRuntime) -> ExitCode {
 fn words(rt: &HostRuntime, alloc: Global) -> io::Result<Vec<String>> {
     let words = env::args(rt)?.skip(1).collect(alloc)?;
     Ok(words)
+}
+
+/// Whether the words ask for a command that reads one file, which may be long.
+fn may_be_long(words: &[String]) -> bool {
+    match words.first() {
+        Some(word) => matches!(word.as_str(), "recast" | "inspect"),
+        None => false,
+    }
 }

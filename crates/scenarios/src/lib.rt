@@ -4,8 +4,9 @@
 //! `sample` is a stored stream, and `table` the table that it means, built cell by cell. `checks` calls a feed that isn't
 //! broken. The tests are `r2_rows` (copies of values of every kind), `r3_feeds` (a stream that comes in pieces),
 //! `declared` (one whose columns were declared), `whole` (one that is at hand whole), `sinks` (sinks that fail),
-//! `printed` (files whose reads fail, and how faults are told) and `lines` (the lines of `run` and `live`). Nothing
-//! here is for other crates.
+//! `printed` (files whose reads fail, and how faults are told), `replaced` (a file whose place a new one takes) and
+//! `lines` (the lines of `run` and `live`). `shelf` has the files of `printed` and `replaced`. Nothing here is for other
+//! crates.
 #![tactic(auto)]
 
 #[cfg(test)]
@@ -21,7 +22,11 @@ mod r2_rows;
 #[cfg(test)]
 mod r3_feeds;
 #[cfg(test)]
+mod replaced;
+#[cfg(test)]
 mod sample;
+#[cfg(test)]
+mod shelf;
 #[cfg(test)]
 mod sinks;
 #[cfg(test)]

@@ -8,7 +8,7 @@ use std::io;
 use std::io::Read;
 use std::process::Abort;
 use std::test::Fail;
-use stream_writer::{DeviceFault, Sink};
+use stream_writer::{DeviceFault, MemorySink, Sink};
 
 const CONFIG: &[u8] = br#"
 [main]
@@ -81,6 +81,8 @@ impl<'a> Files for Desk<'a> {
 
     type Input = Held<'a>;
 
+    type New = MemorySink;
+
     fn read(&mut self, path: &str) -> Result<Vec<u8>, FileFault> {
         let mut bytes = Vec::new(self.alloc);
         bytes.extend_from_slice(self.held(path)?)?;
@@ -101,6 +103,17 @@ impl<'a> Files for Desk<'a> {
     fn close(&mut self) {
         self.is_open = false;
     }
+
+    fn begin_new(&mut self, _path: &str) -> Result<Option<MemorySink>, FileFault> {
+        Ok(None)
+    }
+
+    fn place(&mut self, _file: MemorySink, _path: &str) -> Result<(), DeviceFault> {
+        self.failures = self.failures.wrapping_add(1);
+        Err(DeviceFault)
+    }
+
+    fn discard(&mut self, _file: MemorySink) {}
 
     fn print_aside(&mut self, is_aside: bool) {
         self.is_aside = is_aside;

@@ -54,7 +54,7 @@ use Rattle.schema_meta.specs.Rows.{rows_from}
 use Rattle.column_writer.specs.declared.batch.Batch.{Batch}
 use Rattle.column_writer.specs.declared.batch.RowRange.{RowRange}
 use Rattle.column_writer.specs.Batches.{batch_rows, rows_of, range_rows, ranges_rows, cells_in, IsSized}
-use Rattle.stream_writer.specs.BatchRows.{max_light_row, AreLightRows, AreWeighed}
+use Rattle.stream_writer.specs.BatchRows.{max_light_row, AreLightRows, AreWeighed, IsInFirst}
 use Rattle.stream_writer.specs.Weights.{weights_of}
 use Rattle.stream_writer.proofs.FittingLemmas.{weights-left}
 use Rattle.stream_writer.specs.Stream.{beginning, batch_len, trees}
@@ -128,6 +128,11 @@ place-step bs i b from whole some e past is =
     let same : from - b.rows ≡ from - length (batch_rows b) = omega (arith, size) in
     ap (λ k. drop k behind) same ∙ ap (λ xs. xs ++ drop (from - length (batch_rows b)) behind) (sym gone)
     ∙ sym (drop-joined from (batch_rows b) behind) ∙ ap (drop from) (sym (rows-split bs i b some e)) ∙ is
+
+pub first-is : (bs : List Batch) (i : ℕ) (b : Batch) (from : ℕ) → i < length bs → b ≡ get_or bs i b → from < b.rows
+    → IsInFirst from (drop i bs)
+first-is bs i b from h e less =
+    subst (IsInFirst from) (sym (drop_more bs i b h)) (subst (λ (x : Batch). from < x.rows) e less)
 
 pub rest-is : {A : Type 0} (xs : List A) (i : ℕ) → i ≤ length xs → take (length xs - i) (drop i xs) ≡ drop i xs
 rest-is xs i h = let left = length-drop i xs in take_all (length xs - i) (drop i xs) (omega (arith, left))

@@ -1,4 +1,5 @@
 pub mod Puts
+pub mod HeadAndBody
 pub mod WrittenLemmas
 pub mod Counts
 pub mod BatchFits

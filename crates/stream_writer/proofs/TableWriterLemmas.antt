@@ -28,9 +28,9 @@ use Rattle.std.proofs.Common.{
 }
 use Rattle.std.specs.Prelude.{Vec, min}
 use Rattle.std.specs.declared.alloc.Global.{Global}
-use Rattle.std.proofs.lemmas.List.{drop-append-le, drop-drop}
+use Rattle.std.proofs.lemmas.List.{drop-append-le, drop-drop, drop_all}
 use Rattle.std.proofs.lemmas.List.Concat.{flat_map-append}
-use Rattle.std.proofs.lemmas.List.Elements.{All-append, All-cons, All-nil, All-weaker}
+use Rattle.std.proofs.lemmas.List.Elements.{All-append, All-cons, All-head, All-nil, All-tail, All-weaker}
 use Rattle.values.specs.Datum.{Datum}
 use Rattle.values.specs.Layouts.{AreLayouts}
 use Rattle.values.specs.Rose.{Rose, Roses, kids_of}
@@ -41,7 +41,7 @@ use Rattle.schema_meta.specs.SchemaTree.{AreColumns}
 use Rattle.body_writer.specs.Batch.{row_weight}
 use Rattle.column_writer.specs.declared.batch.Batch.{Batch}
 use Rattle.column_writer.specs.Batches.{IsSized, batch_rows, rows_of}
-use Rattle.stream_writer.specs.BatchRows.{AreWeighed, FitsBatches, max_light_row}
+use Rattle.stream_writer.specs.BatchRows.{AreWeighed, FitsBatches, HasRows, IsInFirst, max_light_row}
 use Rattle.stream_writer.specs.Progress.{HasPut, IsHeld, StopsIn, last_rows}
 use Rattle.stream_writer.specs.Sinks.{Sunk}
 use Rattle.stream_writer.specs.Stream.{trees}
@@ -100,13 +100,18 @@ comes-bound fs rows b heaviest ls same comes =
 
 -- what is held with one more batch
 
+first-push : (bs : List Batch) (b : Batch) (from : ℕ) → from ≤ length (rows_of bs) → IsInFirst from bs → HasRows b
+    → IsInFirst from (bs ++ b ∷ [])
+first-push [] b from place first some = omega (arith, place, some)
+first-push (x ∷ xs) b from place first some = first
+
 pub holds-more :
     (start now : Sunk) (fs : List (Rose NamedType)) (rows : List (List Datum)) (w : TableWriter) (b : Batch)
     (heaviest : ℕ) (v : TableWriter) → Holds start now fs rows w → MayCome fs rows b heaviest
     → v.held.items ≡ w.held.items ++ b ∷ [] → v.layouts ≡ w.layouts → v.from ≡ w.from → v.left ≡ w.left + b.rows
     → v.written ≡ w.written → AreWeighed (kids_of w.layouts.items) v.weights.items (rows_held w ++ batch_rows b)
-    → Holds start now fs (rows ++ batch_rows b) v
-holds-more start now fs rows w b heaviest v holds comes is same from left written known =
+    → HasRows b → Holds start now fs (rows ++ batch_rows b) v
+holds-more start now fs rows w b heaviest v holds comes is same from left written known some =
     let ls = w.layouts.items in
     let grown : rows_held v ≡ rows_held w ++ batch_rows b =
     ap (λ k. drop k (rows_of v.held.items)) from ∙ rows-push w.held.items v.held.items b w.from holds.place is in
@@ -140,7 +145,24 @@ holds-more start now fs rows w b heaviest v holds comes is same from left writte
       within = omega (arith, both, long, within, from, left);
       place = subst (λ (n : ℕ). n ≤ length (rows_of v.held.items)) (sym from)
           (push-long w.held.items v.held.items b w.from is holds.place);
+      filled = subst (All HasRows) (sym is) (All-append HasRows w.held.items (b ∷ []) holds.filled
+          (All-cons HasRows b [] some (All-nil HasRows)));
+      first = subst (λ (n : ℕ). IsInFirst n v.held.items) (sym from)
+          (subst (IsInFirst w.from) (sym is)
+          (first-push w.held.items b w.from holds.place holds.first some));
     }
+
+-- the same where the batch has no rows
+
+no-rows : (b : Batch) → b.rows ≡ 0 → batch_rows b ≡ []
+no-rows b none = let long = batch-long b in drop_all 0 (batch_rows b) (omega (arith, long, none))
+
+pub holds-none :
+    (start now : Sunk) (fs : List (Rose NamedType)) (rows : List (List Datum)) (w : TableWriter) (b : Batch)
+    → Holds start now fs rows w → b.rows ≡ 0 → Holds start now fs (rows ++ batch_rows b) w
+holds-none start now fs rows w b holds none =
+    subst (λ (rs : List (List Datum)). Holds start now fs rs w)
+    (sym (ap (λ more. rows ++ more) (no-rows b none) ∙ append-nil rows)) holds
 
 -- the held rows as they are written
 
@@ -181,8 +203,9 @@ pub holds-last :
     → IsHeld fs w.layouts.items rows (drop gone (rows_held w)) v.written → gone ≤ w.left → v.left ≡ w.left - gone
     → rows_held v ≡ drop gone (rows_held w) → ((us : List (Rose Layout)) → All (IsWeighable us) w.held.items → All (IsWeighable us) v.held.items)
     → v.weights.items ≡ drop (min gone (length w.weights.items)) w.weights.items
-    → v.from ≤ length (rows_of v.held.items) → v.from ≤ w.from + gone → Holds start new fs rows v
-holds-last start now new fs rows w v gone holds same put held few left is each weights place bound =
+    → v.from ≤ length (rows_of v.held.items) → v.from ≤ w.from + gone → All HasRows v.held.items
+    → IsInFirst v.from v.held.items → Holds start new fs rows v
+holds-last start now new fs rows w v gone holds same put held few left is each weights place bound filled first =
     let ls = w.layouts.items in
     let size = ap length is in
     let behind = length-drop gone (rows_held w) in
@@ -203,7 +226,30 @@ holds-last start now new fs rows w v gone holds same put held few left is each w
       counted = omega (arith, size, behind, counted, left);
       within = omega (arith, within, bound, few, left);
       place = place;
+      filled = filled;
+      first = first;
     }
+
+-- how many batches have these rows
+
+many-rows : (bs : List Batch) → All HasRows bs → length bs ≤ length (rows_of bs)
+many-rows [] filled = omega arith
+many-rows (b ∷ bs) filled =
+    let long = batch-long b in
+    let both = length-append (batch_rows b) (rows_of bs) in
+    let rest = many-rows bs (All-tail HasRows b bs filled) in
+    let some : 0 < b.rows = All-head HasRows b bs filled in
+    omega (arith, long, both, rest, some)
+
+few-batches : (bs : List Batch) (from : ℕ) → All HasRows bs → IsInFirst from bs
+    → length bs ≤ length (drop from (rows_of bs))
+few-batches [] from filled first = omega arith
+few-batches (b ∷ bs) from filled first =
+    let long = batch-long b in
+    let both = length-append (batch_rows b) (rows_of bs) in
+    let behind = length-drop from (rows_of (b ∷ bs)) in
+    let rest = many-rows bs (All-tail HasRows b bs filled) in
+    omega (arith, long, both, behind, rest, first)
 
 last-held : (src held : List (List Datum)) (left all : ℕ) → src ≡ held → all ≡ length held
     → last_rows left src ≡ drop (all - left) held
@@ -218,9 +264,11 @@ pub released-writes :
     → v.written ≡ written → rows_held v ≡ drop (w.left - left) (rows_held w)
     → ((us : List (Rose Layout)) → All (IsWeighable us) w.held.items → All (IsWeighable us) v.held.items)
     → v.weights.items ≡ drop (min (w.left - left) (length w.weights.items)) w.weights.items
-    → v.from ≤ length (rows_of v.held.items) → v.from ≤ w.from + (w.left - left) → IsWriting start new fs rows v
+    → v.from ≤ length (rows_of v.held.items) → v.from ≤ w.from + (w.left - left)
+    → (All HasRows w.held.items → All HasRows v.held.items)
+    → (IsInFirst w.from w.held.items → IsInFirst v.from v.held.items) → IsWriting start new fs rows v
 released-writes start now new fs rows w v src left written holds same within few put held layouts is out rest each
-    weights place bound =
+    weights place bound filled first =
     let counted = holds.counted in
     let last = last-held src (rows_held w) left w.left same counted in
     let size = ap length same in
@@ -230,11 +278,11 @@ released-writes start now new fs rows w v src left written holds same within few
     let held_there : IsHeld fs w.layouts.items rows (drop (w.left - left) (rows_held w)) v.written =
     subst (λ (n : ℕ). IsHeld fs w.layouts.items rows (drop (w.left - left) (rows_held w)) n) (sym out)
     (subst (λ (rs : List (List Datum)). IsHeld fs w.layouts.items rows rs written) last held) in
-    record {
-      holds = holds-last start now new fs rows w v (w.left - left) holds layouts put_there held_there (omega arith)
-          (omega (arith, is, within, size, counted)) rest each weights place bound;
-      few = omega (arith, is, few);
-    }
+    let last_holds = holds-last start now new fs rows w v (w.left - left) holds layouts put_there held_there (omega arith)
+    (omega (arith, is, within, size, counted)) rest each weights place bound (filled holds.filled) (first holds.first) in
+    let many = few-batches v.held.items v.from last_holds.filled last_holds.first in
+    let all = last_holds.counted in
+    record { holds = last_holds; few = omega (arith, is, few); batches = omega (arith, many, all) }
 
 -- memory was refused before anything of the batch was put
 
@@ -290,6 +338,9 @@ begins start now fs w put same columns known none weights from left small =
         counted = left ∙ sym size;
         within = omega (arith, left, from);
         place = omega (arith, from);
+        filled = subst (All HasRows) (sym none) (All-nil HasRows);
+        first = subst (IsInFirst w.from) (sym none) tt;
       };
       few = omega (arith, left);
+      batches = let size = ap length none in omega (arith, size);
     }

@@ -1,10 +1,11 @@
 -- Rows that lie in batches of checked columns, and what is known of their weights.
-use Rattle.std.specs.Prelude.{◌≡◌, ◌⊎◌, ℕ, ◌+◌, ◌^◌, ◌<◌, ◌≤◌, All, List, [], length, drop}
+use Rattle.std.specs.Prelude.{◌≡◌, ◌⊎◌, ℕ, ◌+◌, ◌^◌, ◌<◌, ◌≤◌, All, List, [], ◌∷◌, length, drop, ⊤}
 use Rattle.values.specs.Datum.{Datum}
 use Rattle.values.specs.Rose.{Rose, Roses, kids_of}
 use Rattle.values.specs.declared.layout.Layout.{Layout}
 use Rattle.body_writer.specs.Batch.{row_weight}
 use Rattle.column_writer.specs.Batches.{IsSized, rows_of}
+use Rattle.column_writer.specs.declared.batch.Batch.{Batch}
 use Rattle.stream_writer.specs.Weights.{weights_of}
 use Rattle.stream_writer.specs.declared.batch_rows.BatchRows.{BatchRows}
 
@@ -18,6 +19,15 @@ AreLightRows ls rows = All (λ (row : List Datum). row_weight ls row ≤ max_lig
 -- No weight is given, and all rows are so light that each batch that is written has its 1,024 rows; or each row's is.
 abbrev pub AreWeighed : Roses Layout → List ℕ → List (List Datum) → Type 0
 AreWeighed ls weights rows = ((weights ≡ []) × AreLightRows ls rows) ⊎ (weights ≡ weights_of ls rows)
+
+-- the batch has a row
+abbrev pub HasRows : Batch → Type 0
+HasRows b = 0 < b.rows
+
+-- the first of these batches has more rows than that, if there is one
+abbrev pub IsInFirst : ℕ → List Batch → Type 0
+IsInFirst from [] = ⊤
+IsInFirst from (b ∷ bs) = from < b.rows
 
 abbrev pub rows_left : BatchRows → List (List Datum)
 rows_left r = drop r.from (rows_of r.batches.now)

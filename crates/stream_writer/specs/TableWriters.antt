@@ -8,7 +8,7 @@ use Rattle.values.specs.declared.layout.Layout.{Layout}
 use Rattle.body_writer.specs.Batch.{row_weight}
 use Rattle.column_writer.specs.declared.batch.Batch.{Batch}
 use Rattle.column_writer.specs.Batches.{IsSized, batch_rows, rows_of}
-use Rattle.stream_writer.specs.BatchRows.{AreWeighed}
+use Rattle.stream_writer.specs.BatchRows.{AreWeighed, HasRows, IsInFirst}
 use Rattle.stream_writer.specs.Progress.{HasPut, IsHeld}
 use Rattle.stream_writer.specs.Sinks.{Sunk}
 use Rattle.stream_writer.specs.Stream.{trees}
@@ -47,9 +47,12 @@ pub record Holds (start now : Sunk) (fs : List (Rose NamedType)) (rows : List (L
   pub counted : w.left ≡ length (rows_held w)
   pub within : w.from + w.left ≤ length rows
   pub place : w.from ≤ length (rows_of w.held.items)
+  pub filled : All HasRows w.held.items
+  pub first : IsInFirst w.from w.held.items
 
--- The same, and fewer rows are held than a batch may have.
+-- The same, and fewer rows are held than a batch may have, in no more batches than there are rows.
 pub record IsWriting (start now : Sunk) (fs : List (Rose NamedType)) (rows : List (List Datum)) (w : TableWriter) :
     Type 0 where
   pub holds : Holds start now fs rows w
   pub few : w.left < max_batch_rows
+  pub batches : length w.held.items ≤ w.left

@@ -4,9 +4,11 @@ ghost use Rattle.std.specs.Prelude.{◌≡◌, ℕ, ◌+◌, ◌^◌, ◌<◌, �
 ghost use Rattle.values.specs.Rose.{kids_of};
 ghost use Rattle.body_writer.specs.Batch.{IsBatch};
 ghost use Rattle.column_writer.specs.Batches.{IsRange, IsSized, ranges_rows, rows_of};
+ghost use Rattle.stream_writer.specs.BatchRows.{IsInFirst};
 ghost use Rattle.stream_writer.specs.Stream.{batch_messages};
 
-use crate::messages::append_record;
+use crate::encoded::Encoded;
+use crate::messages::record_message;
 use crate::rows::RowSource;
 use crate::weighing::count_fitting;
 use column_writer::{Batch, RowRange, write_body};
@@ -38,6 +40,7 @@ pub(crate) fn find_row(batches: &[Batch], from: usize) -> Place
     ensures bound { result.from ≤ from }
     ensures place { from ≤ length (rows_of batches.now)
         → result.from ≤ length (rows_of (drop result.batches batches.now)) }
+    ensures first { IsInFirst result.from (drop result.batches batches.now) }
 {
     let mut start = from;
     for i in 0..batches.len() {
@@ -88,27 +91,27 @@ pub(crate) fn ranges_of<'a>(
     Ok(ranges)
 }
 
-/// The RecordBatch message of `count` rows, from row `from` on.
+/// The RecordBatch message of `count` rows, from row `from` on. Room for `room` bytes of its body is made at once.
 pub(crate) fn encode_rows(
     alloc: Global,
     layouts: &[LayoutTree],
     batches: &[Batch],
     from: usize,
     count: usize,
-) -> Result<Vec<u8>, AllocError>
+    room: usize,
+) -> Result<Encoded, AllocError>
     requires small { from + count < 2 ^ 32 }
     requires within { count ≤ length (drop from (rows_of batches.now)) }
     requires sized { All (IsSized (length layouts.now)) batches.now }
     requires batch { IsBatch (kids_of layouts.now) (take count (drop from (rows_of batches.now))) }
-    ensures bytes { IfOk result (λ bytes. bytes.items
+    ensures bytes { IfOk result (λ bytes. bytes
         ≡ batch_messages [] (kids_of layouts.now) (take count (drop from (rows_of batches.now)))) }
-    ensures size { IfOk result (λ bytes. length bytes.items ≤ 2 ^ 29) }
+    ensures size { IfOk result (λ bytes. length bytes ≤ 2 ^ 29) }
 {
     let ranges = ranges_of(alloc, batches, from, count)?;
-    let body = write_body(alloc, layouts, &ranges)?;
-    let mut bytes = Vec::new(alloc);
-    append_record(alloc, count, &body, &mut bytes)?;
-    Ok(bytes)
+    let body = write_body(alloc, layouts, &ranges, room)?;
+    let message = record_message(alloc, count, body, Vec::new(alloc))?;
+    Ok(message)
 }
 
 impl<'a> RowSource for BatchRows<'a> {
@@ -140,8 +143,9 @@ impl<'a> RowSource for BatchRows<'a> {
         alloc: Global,
         layouts: &[LayoutTree],
         count: usize,
-    ) -> Result<Vec<u8>, AllocError> {
-        encode_rows(alloc, layouts, self.batches, self.from, count)
+        room: usize,
+    ) -> Result<Encoded, AllocError> {
+        encode_rows(alloc, layouts, self.batches, self.from, count, room)
     }
 
     fn skip(&mut self, count: usize) {

@@ -17,7 +17,8 @@ ghost use Rattle.stream_writer.specs.Coding.{
 ghost use Rattle.stream_writer.specs.Stream.{batch_messages};
 
 use crate::dictionary_batch::write_dictionaries;
-use crate::messages::append_record;
+use crate::encoded::Encoded;
+use crate::messages::record_message;
 use body_writer::{Body, column_cells, write_column};
 use std::alloc::{AllocError, Global};
 use values::{IntWidth, Layout, LayoutTree, Row, Value};
@@ -88,13 +89,14 @@ fn column_shown<'a>(
     }
 }
 
-/// The body of a batch of these rows, with indices in the coded columns.
+/// The body of a batch of these rows, with indices in the coded columns. Room for `room` bytes of it is made at once.
 fn write_indexed_body(
     alloc: Global,
     layouts: &[LayoutTree],
     rows: &[Row],
     coded: &[usize],
     columns: &[Vec<Value>],
+    room: usize,
 ) -> Result<Body, AllocError>
     requires columns { map (λ column. column.items) columns.now
         ≡ map (λ j. indices_at j (map (λ row. row.items) rows.now)) coded.now }
@@ -111,7 +113,7 @@ fn write_indexed_body(
         (indexed_rows coded.now (map (λ row. row.items) rows.now))) }
 {
     let indices = index_tree(alloc);
-    let mut body = Body::new(alloc);
+    let mut body = Body::with_capacity(alloc, room)?;
     for j in 0..layouts.len() {
         let layout = layout_shown(layouts, coded, &indices, j);
         let cells = column_shown(alloc, rows, coded, columns, j)?;
@@ -126,16 +128,17 @@ pub(crate) fn coded_batch(
     layouts: &[LayoutTree],
     coded: &[usize],
     rows: &[Row],
-) -> Result<Vec<u8>, AllocError>
+    room: usize,
+) -> Result<Encoded, AllocError>
     requires texts { AreTextsIn coded.now (kids_of layouts.now) }
     requires batch { IsBatch (kids_of layouts.now) (map (λ row. row.items) rows.now) }
-    ensures bytes { IfOk result (λ bytes. bytes.items
+    ensures bytes { IfOk result (λ bytes. bytes
         ≡ batch_messages coded.now (kids_of layouts.now) (map (λ row. row.items) rows.now)) }
-    ensures size { IfOk result (λ bytes. length bytes.items ≤ 3 * 2 ^ 38) }
+    ensures size { IfOk result (λ bytes. length bytes ≤ 3 * 2 ^ 38) }
 {
     let mut bytes = Vec::new(alloc);
     let columns = write_dictionaries(alloc, coded, rows, &mut bytes)?;
-    let body = write_indexed_body(alloc, layouts, rows, coded, &columns)?;
-    append_record(alloc, rows.len(), &body, &mut bytes)?;
-    Ok(bytes)
+    let body = write_indexed_body(alloc, layouts, rows, coded, &columns, room)?;
+    let message = record_message(alloc, rows.len(), body, bytes)?;
+    Ok(message)
 }

@@ -10,6 +10,7 @@ mod batch_rows;
 mod coded_batch;
 mod dictionary_batch;
 mod dictionary_builder;
+mod encoded;
 mod faults;
 mod laws;
 mod layouts;

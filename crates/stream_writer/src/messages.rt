@@ -1,6 +1,6 @@
 //! Encodes the messages of a stream.
 
-ghost use Rattle.std.specs.Prelude.{◌≡◌, ◌+◌, ◌*◌, ◌^◌, ◌<◌, ◌≤◌, ◌++◌, IfOk, OnOk, length};
+ghost use Rattle.std.specs.Prelude.{◌≡◌, ◌+◌, ◌*◌, ◌^◌, ◌<◌, ◌≤◌, ◌++◌, [], IfOk, OnOk, length};
 ghost use Rattle.std.specs.Int.{w64};
 ghost use Rattle.byteorder.specs.Endian.{little_bytes, low_bytes};
 ghost use Rattle.flatbuf.specs.Built.{slots};
@@ -10,6 +10,7 @@ ghost use Rattle.stream_writer.specs.Batch.{node_bytes as nodes_as, range_bytes 
 ghost use Rattle.stream_writer.specs.DictionaryBatch.{dictionary_slots, dictionary_whole};
 ghost use Rattle.stream_writer.specs.Stream as stream;
 
+use crate::encoded::Encoded;
 use array_layout::{BufferRange, FieldNode};
 use body_writer::Body;
 use byteorder::{ByteOrder, LittleEndian};
@@ -18,17 +19,24 @@ use schema_meta::{MessageKind, write_message, write_schema};
 use std::alloc::{AllocError, Global};
 use values::Schema;
 
-/// Appends a message with this metadata and this body: the continuation mark, the metadata's size, and both.
-fn append_message(metadata: &[u8], body: &[u8], bytes: &mut Vec<u8>) -> Result<(), AllocError>
-    requires metadata { length metadata.now < 2 ^ 32 }
-    requires body { length body.now ≤ 2 ^ 38 }
-    ensures { OnOk result (bytes.new.items ≡ bytes.old.items ++ stream.message metadata.now body.now) }
+/// Appends a message with this metadata, up to its body: the continuation mark, the metadata's size, and the metadata.
+fn append_head(metadata: &[u8], bytes: &mut Vec<u8>) -> Result<(), AllocError>
+    requires { length metadata.now < 2 ^ 32 }
+    ensures { OnOk result (bytes.new.items ≡ bytes.old.items ++ stream.message metadata.now []) }
 {
     let mut prefix = [255u8; 8];
     LittleEndian::write_u32(&mut prefix[4..], metadata.len() as u32);
-    bytes.reserve(8 + metadata.len() + body.len())?;
     bytes.extend_from_slice(&prefix)?;
-    bytes.extend_from_slice(metadata)?;
+    bytes.extend_from_slice(metadata)
+}
+
+/// Appends a message with this metadata and this body.
+#[tactic(auto, using(crate::proofs::HeadAndBody::behind))]
+fn append_message(metadata: &[u8], body: &[u8], bytes: &mut Vec<u8>) -> Result<(), AllocError>
+    requires { length metadata.now < 2 ^ 32 }
+    ensures { OnOk result (bytes.new.items ≡ bytes.old.items ++ stream.message metadata.now body.now) }
+{
+    append_head(metadata, bytes)?;
     bytes.extend_from_slice(body)
 }
 
@@ -45,7 +53,7 @@ pub fn schema_message(
 {
     let metadata = write_schema(alloc, schema, coded)?;
     let mut bytes = Vec::new(alloc);
-    append_message(&metadata, &[], &mut bytes)?;
+    append_head(&metadata, &mut bytes)?;
     Ok(bytes)
 }
 
@@ -91,23 +99,26 @@ fn range_pair(range: &BufferRange) -> [u8; 16]
     bytes
 }
 
-/// Appends the RecordBatch message of `rows` rows with this body.
-pub(crate) fn append_record(
+/// The RecordBatch message of `rows` rows with this body, after the messages that `head` has.
+pub(crate) fn record_message(
     alloc: Global,
     rows: usize,
-    body: &Body,
-    bytes: &mut Vec<u8>,
-) -> Result<(), AllocError>
-    requires nodes { length body.now.nodes.items ≤ max_fields }
-    requires ranges { length body.now.ranges.items ≤ 3 * max_fields }
-    requires size { length body.now.bytes.items ≤ max_body_size }
-    ensures bytes { OnOk result (bytes.new.items ≡ bytes.old.items ++ stream.message
-        (batch_whole rows body.now.nodes.items body.now.ranges.items (length body.now.bytes.items))
-        body.now.bytes.items) }
-    ensures size { OnOk result (length bytes.new.items ≤ length bytes.old.items + 2 ^ 29) }
+    body: Body,
+    head: Vec<u8>,
+) -> Result<Encoded, AllocError>
+    requires nodes { length body.nodes.items ≤ max_fields }
+    requires ranges { length body.ranges.items ≤ 3 * max_fields }
+    requires size { length body.bytes.items ≤ max_body_size }
+    ensures bytes { IfOk result (λ e. e ≡ head.items ++ stream.message
+        (batch_whole rows body.nodes.items body.ranges.items (length body.bytes.items)) body.bytes.items) }
+    ensures size { IfOk result (λ e. length e ≤ length head.items + 2 ^ 29) }
 {
-    let metadata = batch_metadata(alloc, rows as u64, body)?;
-    append_message(&metadata, &body.bytes, bytes)
+    let mut head = head;
+    let metadata = batch_metadata(alloc, rows as u64, &body)?;
+    append_head(&metadata, &mut head)?;
+    let Body { bytes, .. } = body;
+    let message = Encoded::new(alloc, head, bytes)?;
+    Ok(message)
 }
 
 /// Appends the DictionaryBatch message of this id, of `count` values with this body.

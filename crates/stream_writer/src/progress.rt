@@ -48,7 +48,11 @@ pub(crate) struct Progress {
 }
 
 /// Puts bytes after the `written` ones that went out before.
-fn put_after<S: Sink>(sink: &mut S, bytes: &[u8], written: u64) -> Result<u64, WriteFault>
+pub(crate) fn put_after<S: Sink>(
+    sink: &mut S,
+    bytes: &[u8],
+    written: u64,
+) -> Result<u64, WriteFault>
     requires { written + length bytes.now < 2 ^ 64 }
     ensures counted { IfOk result (λ n. n ≡ written + length bytes.now) }
     ensures goes { (start : Sunk) (whole rest : List ℕ)
@@ -113,13 +117,15 @@ pub(crate) fn put_closed<S: Sink, R: RowSource + Drop>(
         (λ fault. StopsIn start (S.sunk sink.new) fault fs (R.coded rows) all) }
 {
     let mut written = written;
+    let mut room = 0;
     let mut left = rows;
     let mut count = left.len_of_batch(layouts);
     while is_closed(count, left.len()) {
-        let Ok(message) = left.encode_batch(alloc, layouts, count) else {
+        let Ok(message) = left.encode_batch(alloc, layouts, count, room) else {
             return Err(WriteFault::Memory { written });
         };
-        written = put_after(sink, &message, written)?;
+        written = message.put_after(sink, written)?;
+        room = message.room();
         left.skip(count);
         count = left.len_of_batch(layouts);
     }
@@ -148,13 +154,15 @@ pub(crate) fn put_rest<S: Sink, R: RowSource + Drop>(
         → Writes start (S.sunk sink.new) result whole }
 {
     let mut written = written;
+    let mut room = 0;
     let mut left = rows;
     while !left.is_empty() {
         let count = left.len_of_batch(layouts);
-        let Ok(message) = left.encode_batch(alloc, layouts, count) else {
+        let Ok(message) = left.encode_batch(alloc, layouts, count, room) else {
             return Err(WriteFault::Memory { written });
         };
-        written = put_after(sink, &message, written)?;
+        written = message.put_after(sink, written)?;
+        room = message.room();
         left.skip(count);
     }
     put_after(sink, &END_MARK, written)

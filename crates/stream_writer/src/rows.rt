@@ -1,6 +1,7 @@
 //! Sources of the rows of a table: values, or batches of checked columns.
 
 use crate::coded_batch::coded_batch;
+use crate::encoded::Encoded;
 use std::alloc::{AllocError, Global};
 use values::{LayoutTree, Row};
 
@@ -39,19 +40,21 @@ pub(crate) trait RowSource {
         ensures value { result ≡ batch_len (kids_of layouts.now) (rows self.now) }
         ensures bound { result ≤ length (rows self.now) };
 
-    /// The messages of the batch of the first `count` rows: dictionaries, and the record batch.
+    /// The messages of the batch of the first `count` rows: dictionaries, and the record batch. Room for `room` bytes of
+    /// its body is made at once.
     fn encode_batch(
         &self,
         alloc: Global,
         layouts: &[LayoutTree],
         count: usize,
-    ) -> Result<Vec<u8>, AllocError>
+        room: usize,
+    ) -> Result<Encoded, AllocError>
         requires fits { fits self.now layouts.now }
         requires within { count ≤ length (rows self.now) }
         requires batch { IsBatch (kids_of layouts.now) (take count (rows self.now)) }
-        ensures bytes { IfOk result (λ bytes. bytes.items
+        ensures bytes { IfOk result (λ bytes. bytes
             ≡ batch_messages (coded self.now) (kids_of layouts.now) (take count (rows self.now))) }
-        ensures size { IfOk result (λ bytes. length bytes.items ≤ 3 * 2 ^ 38) };
+        ensures size { IfOk result (λ bytes. length bytes ≤ 3 * 2 ^ 38) };
 
     /// Drops the first `count` rows.
     fn skip(&mut self, count: usize)
@@ -105,8 +108,9 @@ impl<'a> RowSource for ValueRows<'a> {
         alloc: Global,
         layouts: &[LayoutTree],
         count: usize,
-    ) -> Result<Vec<u8>, AllocError> {
-        coded_batch(alloc, layouts, self.coded, &self.rows[..count])
+        room: usize,
+    ) -> Result<Encoded, AllocError> {
+        coded_batch(alloc, layouts, self.coded, &self.rows[..count], room)
     }
 
     fn skip(&mut self, count: usize) {

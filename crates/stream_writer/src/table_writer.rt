@@ -25,7 +25,7 @@ ghost use Rattle.values.specs.Rose.{Rose};
 ghost use Rattle.values.specs.declared.layout.Layout.{Layout};
 ghost use Rattle.schema_meta.specs.SchemaTree.{AreColumns};
 ghost use Rattle.column_writer.specs.Batches.{batch_rows, rows_of};
-ghost use Rattle.stream_writer.specs.BatchRows.{FitsBatches, rows_left};
+ghost use Rattle.stream_writer.specs.BatchRows.{FitsBatches, HasRows, IsInFirst, rows_left};
 ghost use Rattle.stream_writer.specs.Progress.{StopsIn};
 ghost use Rattle.stream_writer.specs.Sinks.{Sunk, Writes};
 ghost use Rattle.stream_writer.specs.Stream.{canon, trees};
@@ -42,7 +42,7 @@ use std::alloc::{AllocError, Global};
 use values::{LayoutTree, Schema};
 
 /// A table that is written while its rows come. The batches that later rows can't change are out; the rows after them
-/// are held, in the batches in which they came. They are fewer than 1,024.
+/// are held, in the batches in which they came. They are fewer than 1,024, and lie in no more batches than they are.
 #[derive(Drop)]
 pub struct TableWriter {
     layouts: Vec<LayoutTree>,
@@ -144,7 +144,7 @@ impl TableWriter {
         }
     }
 
-    /// Adds a batch to those that are held, and weighs its rows where one of the held rows is not light.
+    /// Adds a batch to those that are held, if it has a row, and weighs its rows where one of the held rows is not light.
     fn hold(&mut self, alloc: Global, batch: Batch, heaviest: u64) -> Result<(), AllocError>
         requires comes { (start : Sunk) × (now : Sunk) × (fs : List (Rose NamedType)) × (rows : List (List Datum))
             × Holds start now fs rows self.old × MayCome fs rows batch heaviest }
@@ -153,6 +153,9 @@ impl TableWriter {
             → Holds start now fs (rows ++ batch_rows batch) self.new) }
         ensures same { self.new.written ≡ self.old.written }
     {
+        if batch.rows == 0 {
+            return Ok(());
+        }
         add_weights(
             alloc,
             &self.held,
@@ -178,6 +181,9 @@ impl TableWriter {
             (self.new.weights.items ≡ drop (min count (length self.old.weights.items)) self.old.weights.items) }
         ensures place { OnOk result (self.new.from ≤ length (rows_of self.new.held.items)) }
         ensures bound { OnOk result (self.new.from ≤ self.old.from + count) }
+        ensures filled { OnOk result (All HasRows self.old.held.items → All HasRows self.new.held.items) }
+        ensures first { OnOk result (IsInFirst self.old.from self.old.held.items
+            → IsInFirst self.new.from self.new.held.items) }
         ensures same { (self.new.layouts ≡ self.old.layouts) × (self.new.left ≡ self.old.left)
             × (self.new.written ≡ self.old.written) }
     {

@@ -1,4 +1,4 @@
-use Rattle.std.proofs.Common.{◌≤◌, ◌++◌, All, rules, subst, ap, sym, ◌∙◌, arith, append-nil, []}
+use Rattle.std.proofs.Common.{◌≤◌, All, rules, subst, ap, sym, ◌∙◌, arith, append-nil, []}
 use Rattle.values.specs.Rose.{node, kids_of}
 use Rattle.array_layout.specs.Buffers.{is_null}
 use Rattle.array_layout.specs.Cells.{cell}

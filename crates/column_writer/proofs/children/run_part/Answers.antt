@@ -1,11 +1,6 @@
-use Rattle.std.proofs.Common.{◌≤◌, rules, subst, ap, sym, ◌∙◌, ◌-◌, arith}
-use Rattle.values.specs.Rose.{Rose, kids_of}
-use Rattle.values.specs.Reading.{IsValid}
-use Rattle.array_layout.specs.declared.array.ArrayData.{ArrayData}
+use Rattle.std.proofs.Common.{rules, ap, sym, ◌∙◌, arith}
+use Rattle.values.specs.Rose.{kids_of}
 use Rattle.array_layout.specs.Buffers.{is_null}
-use Rattle.array_layout.specs.Sound.{IsSound}
-use Rattle.array_layout.specs.Cells.{cell, len_of}
-use Rattle.column_writer.specs.Runs.{slots}
 use Rattle.column_writer.proofs.ChildLemmas.{part-run, null-parts}
 use Rattle.column_writer.proofs.children.run_part.Goals as goal
 

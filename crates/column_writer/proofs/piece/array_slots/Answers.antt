@@ -1,4 +1,4 @@
-use Rattle.std.proofs.Common.{◌≡◌, ◌≤◌, ap, sym, subst, ◌∙◌}
+use Rattle.std.proofs.Common.{◌≤◌, ap, sym, subst, ◌∙◌}
 use Rattle.values.specs.Rose.{Rose, node, kids_of}
 use Rattle.values.specs.Reading.{IsValid}
 use Rattle.array_layout.specs.declared.array.ArrayData.{ArrayData}

@@ -1,4 +1,4 @@
-use Rattle.std.proofs.Common.{◌≡◌, ◌+◌, ◌++◌, ℕ, List, ap, sym, subst, arith, ◌∙◌}
+use Rattle.std.proofs.Common.{◌++◌, ap, sym, arith, ◌∙◌}
 use Rattle.std.specs.Prelude.{map}
 use Rattle.body_writer.specs.Slots.{length_in, total_length}
 use Rattle.body_writer.specs.Columns.{offsets_from}

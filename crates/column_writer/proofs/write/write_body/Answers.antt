@@ -10,9 +10,9 @@ use Rattle.column_writer.proofs.write.write_body.Goals as goal
 
 pub loop-j-init : goal.loop-j-init
 loop-j-init c =
-    write-start (kids_of c.args.layouts.now) (ranges_rows c.args.ranges.now) c.new-body.result c.requires.batch
-    c.new-body.ensures.nodes
-    c.new-body.ensures.ranges c.new-body.ensures.bytes
+    write-start (kids_of c.args.layouts.now) (ranges_rows c.args.ranges.now) c.in_ok-body.body c.requires.batch
+    c.in_ok-body.ensures.nodes
+    c.in_ok-body.ensures.ranges c.in_ok-body.ensures.bytes
 
 pub write_column-requires : goal.write_column-requires
 write_column-requires c =

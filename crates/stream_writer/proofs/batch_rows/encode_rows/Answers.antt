@@ -22,16 +22,16 @@ write_body-requires-clause-batch c =
     let same = ap ranges_rows c.deref.ensures.value ∙ c.in_ok-ranges.ensures.rows in
     subst (IsBatch (kids_of c.args.layouts.now)) (sym same) c.requires.batch
 
-pub append_record-requires-clause-nodes : goal.append_record-requires-clause-nodes
-append_record-requires-clause-nodes c =
+pub record_message-requires-clause-nodes : goal.record_message-requires-clause-nodes
+record_message-requires-clause-nodes c =
     let ls = kids_of c.args.layouts.now in
     let rows = take c.args.count (drop c.args.from (rows_of c.args.batches.now)) in
     let same = ap ranges_rows c.deref.ensures.value ∙ c.in_ok-ranges.ensures.rows in
     subst (λ (ns : List FieldNode). length ns ≤ max_fields)
     (sym (c.in_ok-body.ensures.nodes ∙ ap (body_nodes ls) same)) (body_nodes-few ls rows c.requires.batch)
 
-pub append_record-requires-clause-ranges : goal.append_record-requires-clause-ranges
-append_record-requires-clause-ranges c =
+pub record_message-requires-clause-ranges : goal.record_message-requires-clause-ranges
+record_message-requires-clause-ranges c =
     let ls = kids_of c.args.layouts.now in
     let rows = take c.args.count (drop c.args.from (rows_of c.args.batches.now)) in
     let same = ap ranges_rows c.deref.ensures.value ∙ c.in_ok-ranges.ensures.rows in
@@ -50,7 +50,7 @@ returns-clause-bytes c =
     record-made c.args.count ls rows body.nodes.items body.ranges.items body.bytes.items
     (omega (arith, cut, c.requires.within)) (c.in_ok-body.ensures.nodes ∙ ap (body_nodes ls) same)
     (c.in_ok-body.ensures.ranges ∙ ap (body_ranges ls) same) (c.in_ok-body.ensures.bytes ∙ ap (body_bytes ls) same) in
-    c.in_ok-append_record.ensures.bytes
+    c.in_ok-message.ensures.bytes
     ∙ ap (λ (before : List ℕ). before ++ message (batch_whole c.args.count body.nodes.items body.ranges.items
-    (length body.bytes.items)) body.bytes.items) c.new-bytes.ensures.items
+    (length body.bytes.items)) body.bytes.items) c.new.ensures.items
     ∙ made ∙ sym (plain-messages ls rows)

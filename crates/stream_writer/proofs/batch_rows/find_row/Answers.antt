@@ -1,5 +1,5 @@
 use Rattle.std.proofs.Common.{arith, ap, get_or}
-use Rattle.stream_writer.proofs.BatchRowLemmas.{place-step}
+use Rattle.stream_writer.proofs.BatchRowLemmas.{first-is, place-step}
 use Rattle.stream_writer.proofs.TableWriterLemmas.{within-step}
 use Rattle.stream_writer.proofs.batch_rows.find_row.Goals as goal
 
@@ -15,3 +15,9 @@ loop-i-preserved c =
           c.loop-i-test.true
           (ap (get_or batches c.loop-i.i) c.index-batches-i.is) (omega arith) (c.loop-i.invariant.place h);
     }
+
+pub returns-then-start-rows-clause-first : goal.returns-then-start-rows-clause-first
+returns-then-start-rows-clause-first c =
+    let batches = c.args.batches.now in
+    first-is batches c.loop-i.i (get_or batches c.loop-i.i c.index-batches-i.result) c.loop-i.start
+    c.loop-i-test.true (ap (get_or batches c.loop-i.i) c.index-batches-i.is) (omega arith)

@@ -33,8 +33,8 @@ write_indexed_body-requires-clause-batch c =
     indexed-batch c.args.coded.now ls (cells_in c.args.rows.now)
     (text-trees c.args.coded.now ls c.requires.texts.texts) c.requires.batch
 
-pub append_record-requires-clause-nodes : goal.append_record-requires-clause-nodes
-append_record-requires-clause-nodes c =
+pub record_message-requires-clause-nodes : goal.record_message-requires-clause-nodes
+record_message-requires-clause-nodes c =
     let ls = kids_of c.args.layouts.now in
     let coded = c.args.coded.now in
     let rows = cells_in c.args.rows.now in
@@ -42,8 +42,8 @@ append_record-requires-clause-nodes c =
     subst (λ (ns : List FieldNode). length ns ≤ max_fields) (sym c.in_ok-body.ensures.nodes)
     (body_nodes-few (indexed_layouts coded 0 ls) (indexed_rows coded rows) own)
 
-pub append_record-requires-clause-ranges : goal.append_record-requires-clause-ranges
-append_record-requires-clause-ranges c =
+pub record_message-requires-clause-ranges : goal.record_message-requires-clause-ranges
+record_message-requires-clause-ranges c =
     let ls = kids_of c.args.layouts.now in
     let coded = c.args.coded.now in
     let rows = cells_in c.args.rows.now in
@@ -51,8 +51,8 @@ append_record-requires-clause-ranges c =
     subst (λ (ss : List BufferRange). length ss ≤ 3 * max_fields) (sym c.in_ok-body.ensures.ranges)
     (body_ranges-few (indexed_layouts coded 0 ls) (indexed_rows coded rows) own)
 
-pub append_record-requires-clause-size : goal.append_record-requires-clause-size
-append_record-requires-clause-size c =
+pub record_message-requires-clause-size : goal.record_message-requires-clause-size
+record_message-requires-clause-size c =
     let ls = kids_of c.args.layouts.now in
     let coded = c.args.coded.now in
     let rows = cells_in c.args.rows.now in
@@ -76,7 +76,7 @@ returns-clause-bytes c =
     batch-made coded ls rows c.write_dictionaries.new.bytes.items
     (message (batch_whole (length c.args.rows.now) body.nodes.items body.ranges.items (length body.bytes.items))
     body.bytes.items)
-    c.append_record.new.bytes.items
+    c.in_ok-message.message
     (c.in_ok-columns.ensures.bytes
     ∙ ap (λ (before : List ℕ). before ++ dictionary_messages coded rows) c.new-bytes.ensures.items)
-    made c.in_ok-append_record.ensures.bytes
+    made c.in_ok-message.ensures.bytes

@@ -10,8 +10,8 @@ use Rattle.stream_writer.proofs.coded_batch.write_indexed_body.Goals as goal
 
 pub loop-j-init : goal.loop-j-init
 loop-j-init c =
-    indexing-start c.args.coded.now c.args.layouts.now (cells_in c.args.rows.now) c.new-body.result c.requires.batch
-    (record { nodes = c.new-body.ensures.nodes; ranges = c.new-body.ensures.ranges; bytes = c.new-body.ensures.bytes })
+    indexing-start c.args.coded.now c.args.layouts.now (cells_in c.args.rows.now) c.in_ok-body.body c.requires.batch
+    (record { nodes = c.in_ok-body.ensures.nodes; ranges = c.in_ok-body.ensures.ranges; bytes = c.in_ok-body.ensures.bytes })
 
 pub write_column-requires : goal.write_column-requires
 write_column-requires c =

@@ -62,9 +62,8 @@ put_after-requires g c =
     h.layouts c.loop-alloc.invariant.counted c.len.ensures c.is_closed.ensures c.loop-alloc-test.true in
     let some = closed-some (trees fs) left closed in
     let size = c.in-Ok.ensures.size in
-    let same = ap length c.deref.ensures.value in
     let short = h.short in
-    omega (arith, some, size, same, short)
+    omega (arith, some, size, short)
 
 pub returns-in_err-written-clause-goes : goal.returns-in_err-written-clause-goes
 returns-in_err-written-clause-goes g c = λ start fs rows h0 put.
@@ -78,7 +77,7 @@ returns-in_err-written-clause-goes g c = λ start fs rows h0 put.
     let closed = closed-is fs (kids_of c.args.layouts.now) left n c.len.result c.is_closed.result
     h.layouts inv.counted c.len.ensures c.is_closed.ensures c.loop-alloc-test.true in
     let value = inv.counted ∙ ap (λ us. batch_len us left) h.layouts in
-    let bytes = c.deref.ensures.value ∙ c.in-Ok.ensures.bytes
+    let bytes = c.in-Ok.ensures.bytes
     ∙ ap (λ ks. batch_messages ks (kids_of c.args.layouts.now) (take n left)) inv.coded
     ∙ ap (λ us. batch_messages coded us (take n left)) h.layouts in
     stops-err c.from_residual.result c.in_err-written.field-0.0
@@ -87,7 +86,7 @@ returns-in_err-written-clause-goes g c = λ start fs rows h0 put.
     c.from_residual.ensures.1
     (λ more later. c.in_err-written.ensures.goes start (coded_canon fs coded (rows ++ more))
     (batches coded (trees fs) (length (drop n left ++ more)) (drop n left ++ more) ++ end_mark)
-    (closed-comes start now c.loop-alloc.written fs coded rows left (drop n left) n c.deref.result.now
+    (closed-comes start now c.loop-alloc.written fs coded rows left (drop n left) n c.in-Ok.message
     (inv.goes start fs rows h0 put) closed h.sound value bytes refl more later))
 
 pub skip-requires-clause-fits : goal.skip-requires-clause-fits
@@ -138,7 +137,6 @@ loop-alloc-preserved g c =
     let now = g.S.Sink.sunk c.loop-alloc.sink in
     let ls = c.args.layouts.now in
     let size = c.in-Ok.ensures.size in
-    let same = ap length c.deref.ensures.value in
     record {
       coded = c.skip.ensures.coded ∙ inv.coded;
       fits = c.skip.ensures.fits ls inv.fits;
@@ -147,8 +145,8 @@ loop-alloc-preserved g c =
           let h = inv.held fs rows h0 in
           let closed = closed-is fs (kids_of ls) left n c.len.result c.is_closed.result h.layouts inv.counted
           c.len.ensures c.is_closed.ensures c.loop-alloc-test.true in
-          held-after fs ls rows left behind c.loop-alloc.written (length c.deref.result.now) n c.in_ok-written.written h
-          closed inv.counted c.skip.ensures.rows (omega (arith, size, same)) c.in_ok-written.ensures.counted;
+          held-after fs ls rows left behind c.loop-alloc.written (length c.in-Ok.message) n c.in_ok-written.written h
+          closed inv.counted c.skip.ensures.rows (omega (arith, size)) c.in_ok-written.ensures.counted;
       last = gone-more (g.R.RowSource.rows c.args.rows) left behind n inv.last c.skip.ensures.rows
           (let counted = inv.counted in let within = (batch_len-within (kids_of ls) left).0 in
           omega (arith, counted, within));
@@ -157,12 +155,12 @@ loop-alloc-preserved g c =
           let closed = closed-is fs (kids_of ls) left n c.len.result c.is_closed.result h.layouts inv.counted
           c.len.ensures c.is_closed.ensures c.loop-alloc-test.true in
           let value = inv.counted ∙ ap (λ us. batch_len us left) h.layouts in
-          let bytes = c.deref.ensures.value ∙ c.in-Ok.ensures.bytes
+          let bytes = c.in-Ok.ensures.bytes
           ∙ ap (λ ks. batch_messages ks (kids_of c.args.layouts.now) (take n left)) inv.coded
           ∙ ap (λ us. batch_messages coded us (take n left)) h.layouts in
           c.in_ok-written.ensures.goes start (coded_canon fs coded (rows ++ more))
           (batches coded (trees fs) (length (behind ++ more)) (behind ++ more) ++ end_mark)
-          (closed-comes start now c.loop-alloc.written fs coded rows left behind n c.deref.result.now
+          (closed-comes start now c.loop-alloc.written fs coded rows left behind n c.in-Ok.message
           (inv.goes start fs rows h0 put) closed h.sound value bytes c.skip.ensures.rows more later);
     }
 

@@ -42,10 +42,9 @@ put_after-requires g c =
     let h = c.loop-alloc.invariant.held c.requires.held.0 c.requires.held.1 c.requires.held.2 in
     let some = some-left c.is_empty.result (length left) c.is_empty.ensures c.loop-alloc-test.true in
     let size = c.in-Ok.ensures.size in
-    let same = ap length c.deref.ensures.value in
     let short = h.short in
     let few = h.few in
-    omega (arith, some, size, same, short, few)
+    omega (arith, some, size, short, few)
 
 pub returns-in_err-written : goal.returns-in_err-written
 returns-in_err-written g c = λ start fs all whole h0 so_far.
@@ -55,12 +54,12 @@ returns-in_err-written g c = λ start fs all whole h0 so_far.
     let h = c.loop-alloc.invariant.held fs all h0 in
     let some = some-left c.is_empty.result (length left) c.is_empty.ensures c.loop-alloc-test.true in
     let value = c.len_of_batch-count.ensures.value ∙ ap (λ us. batch_len us left) h.layouts in
-    let bytes = c.deref.ensures.value ∙ c.in-Ok.ensures.bytes
+    let bytes = c.in-Ok.ensures.bytes
     ∙ ap (λ ks. batch_messages ks (kids_of c.args.layouts.now) (take n left)) c.loop-alloc.invariant.coded
     ∙ ap (λ us. batch_messages coded us (take n left)) h.layouts in
     let comes =
     batch-comes start (g.S.Sink.sunk c.loop-alloc.sink) c.loop-alloc.written whole fs coded left (drop n left) n
-    c.deref.result.now (c.loop-alloc.invariant.goes start fs all whole h0 so_far) some h.sound value bytes refl in
+    c.in-Ok.message (c.loop-alloc.invariant.goes start fs all whole h0 so_far) some h.sound value bytes refl in
     from-err start (g.S.Sink.sunk c.put_after.new.sink) c.from_residual.result
     c.in_err-written.field-0.0 whole c.from_residual.ensures.1
     (c.in_err-written.ensures.goes start whole (batches coded (trees fs) (length (drop n left)) (drop n left) ++ end_mark)
@@ -92,23 +91,22 @@ loop-alloc-preserved g c =
     let ls = c.args.layouts.now in
     let some = some-left c.is_empty.result (length left) c.is_empty.ensures c.loop-alloc-test.true in
     let size = c.in-Ok.ensures.size in
-    let same = ap length c.deref.ensures.value in
     record {
       coded = c.skip.ensures.coded ∙ inv.coded;
       fits = c.skip.ensures.fits ls inv.fits;
       held = λ fs all h0.
-          held-rest fs ls all left behind c.loop-alloc.written (length c.deref.result.now) n c.in_ok-written.written
-          (inv.held fs all h0) some c.len_of_batch-count.ensures.value c.skip.ensures.rows (omega (arith, size, same))
+          held-rest fs ls all left behind c.loop-alloc.written (length c.in-Ok.message) n c.in_ok-written.written
+          (inv.held fs all h0) some c.len_of_batch-count.ensures.value c.skip.ensures.rows (omega (arith, size))
           c.in_ok-written.ensures.counted;
       goes = λ start fs all whole h0 so_far.
           let h = inv.held fs all h0 in
           let value = c.len_of_batch-count.ensures.value ∙ ap (λ us. batch_len us left) h.layouts in
-          let bytes = c.deref.ensures.value ∙ c.in-Ok.ensures.bytes
+          let bytes = c.in-Ok.ensures.bytes
           ∙ ap (λ ks. batch_messages ks (kids_of ls) (take n left)) inv.coded
           ∙ ap (λ us. batch_messages coded us (take n left)) h.layouts in
           c.in_ok-written.ensures.goes start whole (batches coded (trees fs) (length behind) behind ++ end_mark)
           (batch-comes start (g.S.Sink.sunk c.loop-alloc.sink) c.loop-alloc.written whole fs coded left behind n
-          c.deref.result.now (inv.goes start fs all whole h0 so_far) some h.sound value bytes c.skip.ensures.rows);
+          c.in-Ok.message (inv.goes start fs all whole h0 so_far) some h.sound value bytes c.skip.ensures.rows);
     }
 
 pub returns : goal.returns

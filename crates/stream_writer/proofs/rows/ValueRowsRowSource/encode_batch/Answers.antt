@@ -15,5 +15,5 @@ pub returns-clause-bytes : goal.returns-clause-bytes
 returns-clause-bytes c =
     let P : List (List Datum) → Type 0 =
     λ rows. IfOk c.coded_batch.result
-    (λ bytes. bytes.items ≡ batch_messages c.args.self.now.coded.now (kids_of c.args.layouts.now) rows) in
+    (λ bytes. bytes ≡ batch_messages c.args.self.now.coded.now (kids_of c.args.layouts.now) rows) in
     subst P (sym (cells-take c.args.self.now.rows.now c.args.count)) c.coded_batch.ensures.bytes

@@ -2,7 +2,7 @@ use Rattle.std.proofs.Common.{All, ◌++◌, ◌≤◌, List, arith, drop, lengt
 use Rattle.values.specs.Rose.{kids_of}
 use Rattle.column_writer.specs.declared.batch.Batch.{Batch}
 use Rattle.column_writer.specs.Batches.{batch_rows, rows_of}
-use Rattle.stream_writer.specs.BatchRows.{AreWeighed}
+use Rattle.stream_writer.specs.BatchRows.{AreWeighed, HasRows}
 use Rattle.stream_writer.specs.Weights.{HasSizes, IsLightBatch, WeighsAs}
 use Rattle.stream_writer.proofs.TableWriterLemmas.{
   comes-bound,
@@ -11,6 +11,7 @@ use Rattle.stream_writer.proofs.TableWriterLemmas.{
   held-light,
   held-sizes,
   holds-more,
+  holds-none,
 }
 use Rattle.stream_writer.proofs.table_writer.TableWriter.hold.Goals as goal
 
@@ -64,4 +65,9 @@ returns-clause-holds c = λ start now fs rows holds comes.
     (λ before weighed. c.in_ok-add_weights.ensures us before one.alike
     (comes-bound fs rows b c.args.heaviest ls holds.held.layouts comes) weighed)
     (held-alike ls w.held.items holds.each) holds.weighed in
-    holds-more start now fs rows w b c.args.heaviest _ holds comes c.in_ok-push.ensures.items refl refl refl refl known
+    let some : HasRows b = omega (arith, c.if-batch-eq0.false) in
+    holds-more start now fs rows w b c.args.heaviest _ holds comes c.in_ok-push.ensures.items refl refl refl refl known some
+
+pub returns-then-batch-eq0-clause-holds : goal.returns-then-batch-eq0-clause-holds
+returns-then-batch-eq0-clause-holds c = λ start now fs rows holds comes.
+    holds-none start now fs rows _ c.args.batch holds c.if-batch-eq0.true

@@ -104,7 +104,7 @@ returns-in-Ok-release-clause-writing g c = λ start fs rows writing comes.
     c.in_ok-written.ensures.within c.in_ok-written.ensures.few
     (c.in_ok-written.ensures.goes start fs all held (subst P (sym c.source.ensures.rows) holds.put))
     (subst H c.deref.ensures.value (c.in_ok-written.ensures.held fs all held)) done.same.0 done.same.1 done.same.2
-    done.rows done.each done.weights done.place done.bound
+    done.rows done.each done.weights done.place done.bound done.filled done.first
 
 pub returns-in-Err-clause-stops : goal.returns-in-Err-clause-stops
 returns-in-Err-clause-stops g c = λ start fs rows writing comes.
