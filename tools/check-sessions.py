@@ -27,9 +27,10 @@ class Session:
         self.config = self.large() if number % 25 == 1 else Configuration(self.random).made()
         self.tables, self.feeds = Tables(self.config), {name: Feed(**it) for name, it in self.config["feed"].items()}
         self.lines, self.printed, self.made, self.decoded = [], [], {}, {}
-        # Some sessions have more edits than can be undone, which they undo at last, others more rows than a written batch, and some enough
-        # of them for groups of many.
-        self.steps, self.undos = (300, UNDOS + 1) if number % 25 == 0 else (40, 0)
+        # Some sessions have more edits than can be undone, which they undo at last, and few of these thousands of edits, with undos to the
+        # floor between them; others have more rows than a written batch, and some enough of them for groups of many.
+        self.is_long = number % 100 == 50
+        self.steps, self.undos = (3000 if self.is_long else 300, UNDOS + 1) if number % 25 == 0 else (40, 0)
         self.most_rows = 1500 if number % 25 == 1 else 30 if number % 5 == 2 else 4
         self.make()
 
@@ -48,10 +49,11 @@ class Session:
         self.printed += [f"{len(self.lines)}: {it}" for it in answers]
 
     def make(self):
-        for _ in range(self.steps):
-            self.random.choices((self.push, self.undo, self.write), (6, 1, 1))[0]()
-        for _ in range(self.undos):
-            self.undo()
+        for step in range(1, self.steps + 1):
+            self.random.choices((self.push, self.undo, self.write), (60, 10, 1) if self.is_long else (6, 1, 1))[0]()
+            if step % 600 == 0 or step == self.steps:
+                for _ in range(self.undos):
+                    self.undo()
         for name in self.config["view"]:
             self.write(name)
         for name in self.feeds:

@@ -53,27 +53,16 @@ use Rattle.view_lang.specs.Contents.{Contents, key_in, keys_in}
 use Rattle.view_lang.specs.Edits.{append}
 use Rattle.view_lang.specs.TableRules.{IsTable, type_of}
 use Rattle.view_lang.specs.declared.unfit.Unfit.TheVariants as unfit
-use Rattle.row_keys.specs.declared.batches.RowLocation.{RowLocation}
 use Rattle.row_keys.specs.declared.faults.EditFault.{EditFault}
 use Rattle.row_keys.specs.declared.faults.EditFault.TheVariants as fault
 use Rattle.row_keys.specs.Batches.{AreAlike, HoldsCells, IsAlike, IsBatch, batch_rows, cells_in, layouts_in}
 use Rattle.row_keys.specs.RefusedRows.{RefusesRows, are_many}
 use Rattle.row_keys.specs.KeyColumns.{HoldsKeys, PushesKeys, RefusesKeys, fresh}
-use Rattle.row_keys.specs.Numbers.{Numbered, live_count}
+use Rattle.row_keys.specs.Numbers.{Numbered, live_count, numbered}
 use Rattle.row_keys.specs.Slots.{CanTakeBack, Slot, live, new_slot, taken_back, contents_of}
 use Rattle.row_keys.specs.Store.{Refuses}
-use Rattle.row_keys.specs.Stored.{
-  AreKeyed,
-  HasKey,
-  HoldsRow,
-  IsLightRow,
-  IsStored,
-  joined,
-  live_keys,
-  locations_from,
-  rows_by,
-}
-use Rattle.row_keys.proofs.Batching.{none_heavy, placed_joined, rows_joined}
+use Rattle.row_keys.specs.Stored.{AreGiven, AreKeyed, IsRight, IsStored, joined, live_keys}
+use Rattle.row_keys.proofs.Batching.{none_heavy}
 use Rattle.row_keys.proofs.HeavyRows.{alike_any}
 use Rattle.row_keys.proofs.HeldRows.{rows_held}
 use Rattle.row_keys.proofs.Joining.{
@@ -86,6 +75,7 @@ use Rattle.row_keys.proofs.Joining.{
   taken_added,
 }
 use Rattle.row_keys.proofs.KeyFacts.{neither}
+use Rattle.row_keys.proofs.Places.{some_same}
 
 -- What a column of a single type holds is a key.
 
@@ -211,15 +201,14 @@ keyed_new t (r ∷ rs) [] h = absurd (cc h)
 keyed_new t (r ∷ rs) (k ∷ ks) h = (cc h, keyed_new t rs ks (cc h))
 
 pub slots_appended :
-    (t : Table) (bs : List (List CheckedColumn)) (ps : List RowLocation) (xs new : List Numbered)
+    (t : Table) (stored : List (List Datum)) (xs new : List Numbered)
     (columns : List CheckedColumn) (n : ℕ)
-    → IsStored t bs ps xs → PushesKeys (keys_in t (batch_rows n columns)) xs new
-    → joined (rows_by (bs ++ columns ∷ []) (ps ++ locations_from (length bs) 0 n)) new
-    ≡ joined (rows_by bs ps) xs ++ map new_slot (batch_rows n columns)
-slots_appended t bs ps xs new columns n is p =
-    ap (λ rs. joined rs new) (rows_joined t bs columns ps n is.placed)
-    ∙ ap (λ ys. joined (rows_by bs ps ++ batch_rows n columns) ys) p.pushed
-    ∙ joined_added t (rows_by bs ps) (batch_rows n columns) xs p.keys is.keyed
+    → IsStored t stored xs → PushesKeys (keys_in t (batch_rows n columns)) xs new
+    → joined (stored ++ batch_rows n columns) new
+    ≡ joined stored xs ++ map new_slot (batch_rows n columns)
+slots_appended t stored xs new columns n is p =
+    ap (λ ys. joined (stored ++ batch_rows n columns) ys) p.pushed
+    ∙ joined_added t stored (batch_rows n columns) xs p.keys is.keyed
     (keyed_new t (batch_rows n columns) p.keys p.are)
 
 count_added : (xs : List Numbered) (ks : List Key) → live_count (xs ++ map fresh ks) ≡ live_count xs + length ks
@@ -233,27 +222,34 @@ count_added (x ∷ xs) ks = by x.live (count_added xs ks)
     by true h = omega (arith, h)
     by false h = h
 
-none_null : (t : Table) (rows : List (List Datum)) → has_null (keys_in t rows) ≡ false → All (HasKey t) rows
+-- No key of a row that comes is null.
+given_added : (xs : List Numbered) (ks : List Key) → AreGiven xs → has_null (map datum_of_key ks) ≡ false
+    → AreGiven (xs ++ map fresh ks)
 unfolding has_null
-none_null t [] h = All-nil (HasKey t)
-none_null t (r ∷ rs) h =
-    let a = neither (is_null (key_in t r)) (has_null (keys_in t rs)) h in
-    All-cons (HasKey t) r rs a.0 (none_null t rs a.1)
+given_added [] [] given none n k at = given n k at
+given_added [] (j ∷ ks) given none zero k at =
+    let a = neither (is_null (datum_of_key j)) (has_null (map datum_of_key ks)) none in
+    ap (λ x. is_null (datum_of_key x.key)) (sym (some_same (fresh j) (numbered k true) at)) ∙ a.0
+given_added [] (j ∷ ks) given none (suc n) k at =
+    let a = neither (is_null (datum_of_key j)) (has_null (map datum_of_key ks)) none in
+    given_added [] ks given a.1 n k at
+given_added (x ∷ xs) ks given none zero k at = given 0 k at
+given_added (x ∷ xs) ks given none (suc n) k at = given_added xs ks (λ m j there. given (suc m) j there) none n k at
 
 pub stored_appended :
-    (t : Table) (bs : List (List CheckedColumn)) (ps : List RowLocation) (xs new : List Numbered)
+    (t : Table) (stored : List (List Datum)) (xs new : List Numbered)
     (columns : List CheckedColumn) (n appended : ℕ)
-    → IsStored t bs ps xs → IsBatch t n columns → PushesKeys (keys_in t (batch_rows n columns)) xs new
+    → IsStored t stored xs → IsBatch t n columns → PushesKeys (keys_in t (batch_rows n columns)) xs new
     → are_many t.max_rows (live_count xs) appended n ≡ false → any_heavy (layouts_in columns) (batch_rows n columns) ≡
     false → All HoldsCells columns
-    → IsStored t (bs ++ columns ∷ []) (ps ++ locations_from (length bs) 0 n) new
-stored_appended t bs ps xs new columns n appended is batch p few light holds =
-    let rows = rows_joined t bs columns ps n is.placed in
-    let P : List (List Datum) → Type 0 = λ rs. All (IsLightRow t) rs in
-    let G : List (List Datum) → Type 0 = λ rs. All (HasKey t) rs in
-    let H : List (List Datum) → Type 0 = λ rs. All (HoldsRow t) rs in
-    let Q : List (List Datum) → Type 0 = λ rs. AreKeyed t rs new in
-    let R : List Numbered → Type 0 = λ ys. AreKeyed t (rows_by bs ps ++ batch_rows n columns) ys in
+    → IsStored t (stored ++ batch_rows n columns) new
+stored_appended t stored xs new columns n appended is batch p few light holds =
+    let held = rows_held t columns n 0 n batch.alike holds batch.long (omega arith) in
+    let lights = none_heavy t (batch_rows n columns)
+    (alike_any (layouts_of t) (layouts_in columns) (batch_rows n columns) batch.alike ∙ light) in
+    let N : List Datum → Type 0 = λ ds. has_null ds ≡ false in
+    let G : List Numbered → Type 0 = λ ys. AreGiven ys in
+    let R : List Numbered → Type 0 = λ ys. AreKeyed t (stored ++ batch_rows n columns) ys in
     let parts = neither (nat_lt t.max_rows (live_count xs + n)) _ few in
     let within : live_count xs + n ≤ t.max_rows = ltb-false t.max_rows (live_count xs + n) parts.0 in
     let many : length p.keys ≡ n =
@@ -262,17 +258,12 @@ stored_appended t bs ps xs new columns n appended is batch p few light holds =
     let counted : live_count new ≡ live_count xs + length p.keys = ap live_count p.pushed ∙ count_added xs p.keys in
     record {
       table = is.table;
-      placed = placed_joined t bs columns ps n is.placed batch.alike batch.long;
-      held = subst H (sym rows) (All-append (HoldsRow t) (rows_by bs ps) (batch_rows n columns) is.held
-          (rows_held t columns n 0 n batch.alike holds batch.long (omega arith)));
-      light = subst P (sym rows) (All-append (IsLightRow t) (rows_by bs ps) (batch_rows n columns) is.light
-          (none_heavy t (batch_rows n columns)
-          (alike_any (layouts_of t) (layouts_in columns) (batch_rows n columns) batch.alike ∙ light)));
-      given = subst G (sym rows) (All-append (HasKey t) (rows_by bs ps) (batch_rows n columns) is.given
-          (none_null t (batch_rows n columns) p.given));
-      keyed = subst Q (sym rows) (subst R (sym p.pushed)
-          (keyed_added t (rows_by bs ps) (batch_rows n columns) xs (map fresh p.keys) is.keyed
-          (keyed_new t (batch_rows n columns) p.keys p.are)));
+      right = All-append (IsRight t) stored (batch_rows n columns) is.right
+          (λ k d below key. record { held = held k d below; light = lights k d below });
+      given = subst G (sym p.pushed) (given_added xs p.keys is.given (subst N (sym p.are) p.given));
+      keyed = subst R (sym p.pushed)
+          (keyed_added t stored (batch_rows n columns) xs (map fresh p.keys) is.keyed
+          (keyed_new t (batch_rows n columns) p.keys p.are));
       few = omega (arith, counted, many, within);
     }
 
@@ -315,78 +306,78 @@ unfolding cause_of
 cause_heavy t w rows a b c d = rw (a, b, c, d) refl
 
 pub live_keys_are :
-    (t : Table) (bs : List (List CheckedColumn)) (ps : List RowLocation) (xs : List Numbered) → IsStored t bs ps xs
-    → live_keys xs ≡ keys_in t (live (joined (rows_by bs ps) xs))
-live_keys_are t bs ps xs is = sym (keys_live t (rows_by bs ps) xs is.keyed)
+    (t : Table) (stored : List (List Datum)) (xs : List Numbered) → IsStored t stored xs
+    → live_keys xs ≡ keys_in t (live (joined stored xs))
+live_keys_are t stored xs is = sym (keys_live t stored xs is.keyed)
 
 pub keys_unfit :
-    (t : Table) (bs : List (List CheckedColumn)) (ps : List RowLocation) (xs : List Numbered) (rows : List (List Datum))
-    (e : EditFault) → IsStored t bs ps xs
-    → RefusesKeys (keys_in t rows) xs e → Refuses (cause_of t (contents_of (joined (rows_by bs ps) xs)) (append rows)) e
-keys_unfit t bs ps xs rows (fault.Unfit unfit.NullKey) is h = cause_null t (contents_of (joined (rows_by bs ps) xs))
+    (t : Table) (stored : List (List Datum)) (xs : List Numbered) (rows : List (List Datum))
+    (e : EditFault) → IsStored t stored xs
+    → RefusesKeys (keys_in t rows) xs e → Refuses (cause_of t (contents_of (joined stored xs)) (append rows)) e
+keys_unfit t stored xs rows (fault.Unfit unfit.NullKey) is h = cause_null t (contents_of (joined stored xs))
     rows h
-keys_unfit t bs ps xs rows (fault.Unfit unfit.DuplicateKey) is h =
-    cause_repeated t (contents_of (joined (rows_by bs ps) xs)) rows h.0
-    (ap (λ ks. has_repeated (keys_in t rows) || any_among (keys_in t rows) ks) (sym (live_keys_are t bs ps xs is))
+keys_unfit t stored xs rows (fault.Unfit unfit.DuplicateKey) is h =
+    cause_repeated t (contents_of (joined stored xs)) rows h.0
+    (ap (λ ks. has_repeated (keys_in t rows) || any_among (keys_in t rows) ks) (sym (live_keys_are t stored xs is))
     ∙ h.1)
-keys_unfit t bs ps xs rows fault.Memory is h = tt
-keys_unfit t bs ps xs rows (fault.Unfit u) is h = absurd h
+keys_unfit t stored xs rows fault.Memory is h = tt
+keys_unfit t stored xs rows (fault.Unfit u) is h = absurd h
 
 single_keys :
-    (t : Table) (bs : List (List CheckedColumn)) (ps : List RowLocation) (xs new : List Numbered)
+    (t : Table) (stored : List (List Datum)) (xs new : List Numbered)
     (rows : List (List Datum))
-    → IsStored t bs ps xs
+    → IsStored t stored xs
     → PushesKeys (keys_in t rows) xs new
     → (has_repeated (keys_in t rows)
-    || any_among (keys_in t rows) (keys_in t (live (joined (rows_by bs ps) xs)))) ≡ false
-single_keys t bs ps xs new rows is p =
-    ap (λ b. b || any_among (keys_in t rows) (keys_in t (live (joined (rows_by bs ps) xs)))) p.single
-    ∙ ap (λ ks. any_among (keys_in t rows) ks) (sym (live_keys_are t bs ps xs is)) ∙ p.unused
+    || any_among (keys_in t rows) (keys_in t (live (joined stored xs)))) ≡ false
+single_keys t stored xs new rows is p =
+    ap (λ b. b || any_among (keys_in t rows) (keys_in t (live (joined stored xs)))) p.single
+    ∙ ap (λ ks. any_among (keys_in t rows) ks) (sym (live_keys_are t stored xs is)) ∙ p.unused
 
 many_same :
-    (t : Table) (bs : List (List CheckedColumn)) (ps : List RowLocation) (xs : List Numbered)
+    (t : Table) (stored : List (List Datum)) (xs : List Numbered)
     (columns : List CheckedColumn)
-    (n : ℕ) (b : Bool) → IsStored t bs ps xs
+    (n : ℕ) (b : Bool) → IsStored t stored xs
     → are_many t.max_rows (live_count xs) (length xs) n ≡ b
-    → are_many t.max_rows (length (live (joined (rows_by bs ps) xs))) (length (joined (rows_by bs ps) xs))
+    → are_many t.max_rows (length (live (joined stored xs))) (length (joined stored xs))
     (length (batch_rows n columns)) ≡ b
-many_same t bs ps xs columns n b is h =
-    ap (λ m. are_many t.max_rows m (length (joined (rows_by bs ps) xs)) (length (batch_rows n columns)))
-    (live_counted t (rows_by bs ps) xs is.keyed)
+many_same t stored xs columns n b is h =
+    ap (λ m. are_many t.max_rows m (length (joined stored xs)) (length (batch_rows n columns)))
+    (live_counted t stored xs is.keyed)
     ∙ ap (λ m. are_many t.max_rows (live_count xs) m (length (batch_rows n columns)))
-    (keyed_length t (rows_by bs ps) xs is.keyed).1
+    (keyed_length t stored xs is.keyed).1
     ∙ ap (λ m. are_many t.max_rows (live_count xs) (length xs) m) (batch_counted columns n) ∙ h
 
 pub batch_fits :
-    (t : Table) (bs : List (List CheckedColumn)) (ps : List RowLocation) (xs new : List Numbered)
-    (columns : List CheckedColumn) (n : ℕ) → IsStored t bs ps xs
+    (t : Table) (stored : List (List Datum)) (xs new : List Numbered)
+    (columns : List CheckedColumn) (n : ℕ) → IsStored t stored xs
     → IsBatch t n columns → PushesKeys (keys_in t (batch_rows n columns)) xs new
     → are_many t.max_rows (live_count xs) (length xs) n ≡ false
     → any_heavy (layouts_in columns) (batch_rows n columns) ≡ false
-    → cause_of t (contents_of (joined (rows_by bs ps) xs)) (append (batch_rows n columns)) ≡ None
-batch_fits t bs ps xs new columns n is batch p few light =
-    cause_none t (contents_of (joined (rows_by bs ps) xs)) (batch_rows n columns) p.given
-    (single_keys t bs ps xs new (batch_rows n columns) is p)
-    (many_same t bs ps xs columns n false is few)
+    → cause_of t (contents_of (joined stored xs)) (append (batch_rows n columns)) ≡ None
+batch_fits t stored xs new columns n is batch p few light =
+    cause_none t (contents_of (joined stored xs)) (batch_rows n columns) p.given
+    (single_keys t stored xs new (batch_rows n columns) is p)
+    (many_same t stored xs columns n false is few)
     (alike_any (layouts_of t) (layouts_in columns) (batch_rows n columns) batch.alike ∙ light)
 
 pub rows_unfit :
-    (t : Table) (bs : List (List CheckedColumn)) (ps : List RowLocation) (xs new : List Numbered)
+    (t : Table) (stored : List (List Datum)) (xs new : List Numbered)
     (columns : List CheckedColumn) (n : ℕ) (e : EditFault)
-    → IsStored t bs ps xs → IsBatch t n columns → PushesKeys (keys_in t (batch_rows n columns)) xs new
+    → IsStored t stored xs → IsBatch t n columns → PushesKeys (keys_in t (batch_rows n columns)) xs new
     → RefusesRows t.max_rows (live_count xs) (length xs) n columns e
-    → Refuses (cause_of t (contents_of (joined (rows_by bs ps) xs)) (append (batch_rows n columns))) e
-rows_unfit t bs ps xs new columns n (fault.Unfit unfit.TooManyRows) is batch p h =
-    cause_many t (contents_of (joined (rows_by bs ps) xs)) (batch_rows n columns) p.given
-    (single_keys t bs ps xs new (batch_rows n columns) is p)
-    (many_same t bs ps xs columns n true is h)
-rows_unfit t bs ps xs new columns n (fault.Unfit unfit.CellTooHeavy) is batch p h =
-    cause_heavy t (contents_of (joined (rows_by bs ps) xs)) (batch_rows n columns) p.given
-    (single_keys t bs ps xs new (batch_rows n columns) is p)
-    (many_same t bs ps xs columns n false is h.0)
+    → Refuses (cause_of t (contents_of (joined stored xs)) (append (batch_rows n columns))) e
+rows_unfit t stored xs new columns n (fault.Unfit unfit.TooManyRows) is batch p h =
+    cause_many t (contents_of (joined stored xs)) (batch_rows n columns) p.given
+    (single_keys t stored xs new (batch_rows n columns) is p)
+    (many_same t stored xs columns n true is h)
+rows_unfit t stored xs new columns n (fault.Unfit unfit.CellTooHeavy) is batch p h =
+    cause_heavy t (contents_of (joined stored xs)) (batch_rows n columns) p.given
+    (single_keys t stored xs new (batch_rows n columns) is p)
+    (many_same t stored xs columns n false is h.0)
     (alike_any (layouts_of t) (layouts_in columns) (batch_rows n columns) batch.alike ∙ h.1)
-rows_unfit t bs ps xs new columns n fault.Memory is batch p h = tt
-rows_unfit t bs ps xs new columns n (fault.Unfit u) is batch p h = absurd h
+rows_unfit t stored xs new columns n fault.Memory is batch p h = tt
+rows_unfit t stored xs new columns n (fault.Unfit u) is batch p h = absurd h
 
 pub appended_back :
     (slots new : List Slot) (columns : List CheckedColumn) (n : ℕ) → new ≡ slots ++ map new_slot (batch_rows n columns)

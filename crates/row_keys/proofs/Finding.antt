@@ -47,7 +47,6 @@ use Rattle.view_lang.specs.Edits.{retract}
 use Rattle.view_lang.specs.TableRules.{IsTable}
 use Rattle.view_lang.specs.ViewColumns.{no_field}
 use Rattle.view_lang.specs.declared.unfit.Unfit.TheVariants as unfit
-use Rattle.row_keys.specs.declared.batches.RowLocation.{RowLocation}
 use Rattle.row_keys.specs.declared.faults.EditFault.{EditFault}
 use Rattle.row_keys.specs.declared.faults.EditFault.TheVariants as fault
 use Rattle.row_keys.specs.Batches.{AreKeys, IsAlike}
@@ -56,7 +55,7 @@ use Rattle.row_keys.specs.KeyColumns.{HoldsKeys, PushesKeys, RefusesKeys}
 use Rattle.row_keys.specs.Numbers.{IsAt, IsUnused, Numbered, numbered, turned}
 use Rattle.row_keys.specs.Slots.{CanRetract, Slot, keys_at, live, contents_of}
 use Rattle.row_keys.specs.Store.{Refuses}
-use Rattle.row_keys.specs.Stored.{AreKeyed, IsStored, joined, live_keys, rows_by}
+use Rattle.row_keys.specs.Stored.{AreKeyed, IsStored, joined, live_keys}
 use Rattle.row_keys.proofs.Appending.{live_keys_are, single_holds}
 use Rattle.row_keys.proofs.Joining.{joined_at, joined_turned, keyed_turned, unused_among, used_among}
 use Rattle.row_keys.proofs.KeyFacts.{either, neither, same_refl}
@@ -186,28 +185,28 @@ twice_named cells h = elim (either (has_repeated cells) (any_among cells []) h) 
 ]
 
 pub found_fits :
-    (t : Table) (bs : List (List CheckedColumn)) (ps : List RowLocation) (xs seen : List Numbered) (cells : List Datum)
-    (ns : List ℕ) → IsStored t bs ps xs
+    (t : Table) (stored : List (List Datum)) (xs seen : List Numbered) (cells : List Datum)
+    (ns : List ℕ) → IsStored t stored xs
     → PushesKeys cells [] seen → FindsAll cells xs ns
-    → cause_of t (contents_of (joined (rows_by bs ps) xs)) (retract cells) ≡ None
+    → cause_of t (contents_of (joined stored xs)) (retract cells) ≡ None
 unfolding cause_of
-found_fits t bs ps xs seen cells ns is p all =
-    let among : all_among cells (keys_in t (live (joined (rows_by bs ps) xs))) ≡ true =
-    ap (λ ks. all_among cells ks) (sym (live_keys_are t bs ps xs is)) ∙ found_among cells xs ns all in
+found_fits t stored xs seen cells ns is p all =
+    let among : all_among cells (keys_in t (live (joined stored xs))) ≡ true =
+    ap (λ ks. all_among cells ks) (sym (live_keys_are t stored xs is)) ∙ found_among cells xs ns all in
     rw (p.given, p.single, among) refl
 
 pub keys_unknown :
-    (t : Table) (bs : List (List CheckedColumn)) (ps : List RowLocation) (xs seen : List Numbered) (cells : List Datum)
-    (e : EditFault) → IsStored t bs ps xs
+    (t : Table) (stored : List (List Datum)) (xs seen : List Numbered) (cells : List Datum)
+    (e : EditFault) → IsStored t stored xs
     → PushesKeys cells [] seen → MissesKey cells xs e
-    → Refuses (cause_of t (contents_of (joined (rows_by bs ps) xs)) (retract cells)) e
+    → Refuses (cause_of t (contents_of (joined stored xs)) (retract cells)) e
 unfolding cause_of
-keys_unknown t bs ps xs seen cells (fault.Unfit unfit.UnknownKey) is p h =
-    let among : all_among cells (keys_in t (live (joined (rows_by bs ps) xs))) ≡ false =
-    ap (λ ks. all_among cells ks) (sym (live_keys_are t bs ps xs is)) ∙ h in
+keys_unknown t stored xs seen cells (fault.Unfit unfit.UnknownKey) is p h =
+    let among : all_among cells (keys_in t (live (joined stored xs))) ≡ false =
+    ap (λ ks. all_among cells ks) (sym (live_keys_are t stored xs is)) ∙ h in
     rw (p.given, p.single, among) refl
-keys_unknown t bs ps xs seen cells fault.Memory is p h = tt
-keys_unknown t bs ps xs seen cells (fault.Unfit u) is p h = absurd h
+keys_unknown t stored xs seen cells fault.Memory is p h = tt
+keys_unknown t stored xs seen cells (fault.Unfit u) is p h = absurd h
 
 pub keys_refused : (t : Table) (w : Contents) (cells : List Datum) (e : EditFault) → RefusesKeys cells [] e
     → Refuses (cause_of t w (retract cells)) e

@@ -8,19 +8,27 @@ use Rattle.std.proofs.Common.{
   ◌<◌,
   ◌≤◌,
   All,
+  Bool,
+  true,
+  false,
+  Some,
   List,
   [],
   ◌∷◌,
   drop,
   get_or,
   length,
+  ap,
+  refl,
+  ◌∙◌,
   subst,
   sym,
   arith,
 }
+use Rattle.std.specs.Prelude.{if◌then◌else◌}
 use Rattle.std.proofs.lemmas.List.{drop_all, drop_more}
 use Rattle.std.proofs.lemmas.List.Elements.{All-cons, All-get_or, All-head, All-nil, All-tail}
-use Rattle.values.specs.Datum.{Datum, items_of, null}
+use Rattle.values.specs.Datum.{Datum, items_of, is_null, null}
 use Rattle.values.specs.Layouts.{Holds, HoldsEach}
 use Rattle.arrays.specs.Checked.{CheckedColumn}
 use Rattle.schema_meta.specs.Rows.{row_at, rows_from}
@@ -28,9 +36,9 @@ use Rattle.view_lang.specs.Causes.{layouts_of}
 use Rattle.view_lang.specs.Config.{Table}
 use Rattle.view_lang.specs.Rows.{IsRow}
 use Rattle.row_keys.specs.Batches.{AreAlike, HoldsCells, cells_in, layouts_in}
-use Rattle.row_keys.specs.Numbers.{Numbered}
-use Rattle.row_keys.specs.Slots.{slot}
-use Rattle.row_keys.specs.Stored.{HoldsRow, IsLightRow, joined}
+use Rattle.row_keys.specs.Numbers.{Numbered, numbered}
+use Rattle.row_keys.specs.Slots.{live}
+use Rattle.row_keys.specs.Stored.{AreGiven, AreKeyed, HoldsRow, IsRight, joined}
 use Rattle.row_keys.proofs.Storing.{held_alike}
 
 -- those of the columns from one on: what is left to say
@@ -75,12 +83,21 @@ rows_held t columns rows i (suc n) alike holds long below =
     (row_held columns rows i holds long (omega (arith, below))))
     (rows_held t columns rows (i + 1) n alike holds long (omega (arith, below)))
 
+-- Live rows are rows of the table.
 pub rows_right :
-    (t : Table) (rows : List (List Datum)) (xs : List Numbered) → All (HoldsRow t) rows → All (IsLightRow t) rows
-    → All (λ s. IsRow t.columns s.row) (joined rows xs)
-rows_right t [] xs held light = All-nil (λ s. IsRow t.columns s.row)
-rows_right t (r ∷ rs) [] held light = All-nil (λ s. IsRow t.columns s.row)
-rows_right t (r ∷ rs) (x ∷ xs) held light =
-    All-cons (λ s. IsRow t.columns s.row) (slot r x.live) (joined rs xs)
-    (record { held = All-head (HoldsRow t) r rs held; light = All-head (IsLightRow t) r rs light })
-    (rows_right t rs xs (All-tail (HoldsRow t) r rs held) (All-tail (IsLightRow t) r rs light))
+    (t : Table) (rows : List (List Datum)) (xs : List Numbered) → AreKeyed t rows xs → AreGiven xs
+    → All (IsRight t) rows → All (IsRow t.columns) (live (joined rows xs))
+unfolding live
+rows_right t [] [] keyed given right = All-nil (IsRow t.columns)
+rows_right t [] (x ∷ xs) keyed given right = absurd keyed
+rows_right t (r ∷ rs) [] keyed given right = absurd keyed
+rows_right t (r ∷ rs) (x ∷ xs) keyed given right =
+    by x.live refl
+    (rows_right t rs xs keyed.1 (λ n k at. given (suc n) k at) (All-tail (IsRight t) r rs right))
+  where
+    by : (b : Bool) → x.live ≡ b → All (IsRow t.columns) (live (joined rs xs))
+        → All (IsRow t.columns) (if b then r ∷ live (joined rs xs) else live (joined rs xs))
+    by true lives rest =
+        let key = ap is_null keyed.0 ∙ given 0 x.key (ap (λ b. Some (numbered x.key b)) lives) in
+        All-cons (IsRow t.columns) r (live (joined rs xs)) (All-head (IsRight t) r rs right key) rest
+    by false lives rest = rest

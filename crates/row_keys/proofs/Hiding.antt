@@ -31,7 +31,7 @@ use Rattle.std.specs.Prelude.{slice_get, if◌then◌else◌}
 use Rattle.std.specs.List.{range_with_len}
 use Rattle.std.proofs.lemmas.List.{append_assoc, length-drop, length-map, take-append-drop}
 use Rattle.std.proofs.lemmas.Option.{none-some}
-use Rattle.values.specs.Datum.{Datum}
+use Rattle.values.specs.Datum.{Datum, is_null}
 use Rattle.arrays.specs.Checked.{CheckedColumn}
 use Rattle.view_lang.specs.Config.{Table}
 use Rattle.view_lang.specs.Contents.{is_among, key_in, keys_in}
@@ -216,6 +216,7 @@ are_front t (n ∷ ns) xs ys are =
       subst P (sym split) (are.1.0, at_more (put_back ns xs) (all_off ys) n (slot are.1.0 false) are.1.1),
       ap (λ r. is_among (key_in t r) (keys_in t (live (put_back ns all)))) row
           ∙ ap (λ rs. is_among (key_in t (row_of xs n)) (keys_in t rs)) (live_back t ns xs ys are.0) ∙ are.2,
+      ap (λ r. is_null (key_in t r)) row ∙ are.3,
     )
 
 can_front : (t : Table) (ns : List ℕ) (xs ys : List Slot) → CanPutBack t ns xs → CanPutBack t ns (xs ++ all_off ys)

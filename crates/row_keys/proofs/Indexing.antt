@@ -126,10 +126,10 @@ rows_pushed keys new hs hs_new es live p k fresh is ins puts =
 
 pub index_pushed :
     (keys new : List Key) (hs hs_new : List ℕ) (es : List Entry) (live p : ℕ) (k : Key) (fresh : Bool)
-    → IsIndex keys hs es live
+    → IsIndex keys hs es live → 0 < length keys
     → Inserts keys k p new → IsFree hs es p → Puts hs p (length es) hs_new → (fresh ≡ true → p ≡ length hs)
     → IsIndex new hs_new (es ++ new_entry p fresh ∷ []) (live + 1)
-index_pushed keys new hs hs_new es live p k fresh is ins free puts last =
+index_pushed keys new hs hs_new es live p k fresh is some ins free puts last =
     let c : Came keys new hs hs_new es p k = came keys new hs hs_new es live p k is ins puts in
     let e0 : Entry = new_entry p fresh in
     record {
@@ -165,6 +165,20 @@ index_pushed keys new hs hs_new es live p k fresh is ins free puts last =
           let all : live_count (seen_all new (es ++ e0 ∷ [])) ≡ suc (live_count (seen_all keys es)) =
           ap live_count (seen_pushed keys new hs hs_new es p k fresh c) ∙ count_pushed (seen_all keys es) k in
           omega (arith, all, is.counted);
+      null_first = λ any. elim ins [
+        | inl i ↦
+            let P : List Key → Type 0 = λ ks. slice_get ks 0 ≡ Some key.Null in
+            subst P (sym i.1) (is.null_first some)
+        | inr i ↦
+            let P : List Key → Type 0 = λ ks. slice_get ks 0 ≡ Some key.Null in
+            subst P (sym i.2) (at_more keys (k ∷ []) 0 key.Null (is.null_first some))
+      ];
+      after_null = λ n f at new_one. elim (at_pushed es e0 n f at) [
+        | inl old ↦ is.after_null n f old new_one
+        | inr it ↦
+            let P : Entry → Type 0 = λ g. g.is_new ≡ true → 0 < g.key in
+            subst P it.1 (λ h. let first = last h in omega (arith, first, some, is.as_many)) new_one
+      ];
     }
 
 count_with : (xs : List Numbered) (x : Numbered) → live_count (xs ++ x ∷ []) ≡ live_count xs + (if x.live then 1 else 0)
@@ -207,6 +221,10 @@ index_popped keys hs es e live kept is within below = record {
       let same : live_count (seen_all (take kept keys) es) ≡ live_count (seen_all keys es) =
       ap live_count (seen_fewer keys kept es below) in
       omega (arith, all, same, is.counted);
+  null_first = λ any.
+      let b : length (take kept keys) ≡ min kept (length keys) = length-take kept keys in
+      at_kept keys kept 0 key.Null (omega (arith, any, b)) (is.null_first (omega (arith, any, b)));
+  after_null = λ n f at new_one. is.after_null n f (at_more es (e ∷ []) n f at) new_one;
 }
 
 -- the place up to which keys are kept
@@ -321,6 +339,11 @@ index_retracted keys hs es live n k is at = record {
       let s : live_count (seen_all keys (flagged false es n)) ≡ live_count (turned false (seen_all keys es) n) =
       ap live_count (rows_flagged keys es false n) in
       omega (arith, c, s, is.counted);
+  null_first = is.null_first;
+  after_null = λ m f there new_one.
+      let w = was false es n m f there in
+      let above = is.after_null m w.entry w.there (sym w.new_one ∙ new_one) in
+      omega (arith, above, w.key);
 }
 
 pub index_revived :
@@ -363,6 +386,11 @@ index_revived keys hs es live n k e is read at unused =
           let s : live_count (seen_all keys (flagged true es n)) ≡ live_count (turned true (seen_all keys es) n) =
           ap live_count (rows_flagged keys es true n) in
           omega (arith, c, s, is.counted);
+      null_first = is.null_first;
+      after_null = λ m f here new_one.
+          let w = was true es n m f here in
+          let above = is.after_null m w.entry w.there (sym w.new_one ∙ new_one) in
+          omega (arith, above, w.key);
     }
 
 -- what the last row counted was counted

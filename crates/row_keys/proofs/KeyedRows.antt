@@ -1,43 +1,39 @@
 -- Live rows have keys of their own, and none is null.
-use Rattle.std.proofs.Common.{◌≡◌, Bool, true, false, All, List, [], ◌∷◌, length, refl, ◌≤◌, arith}
+use Rattle.std.proofs.Common.{◌≡◌, suc, Bool, true, false, Some, List, [], ◌∷◌, length, refl, ap, ◌∙◌, ◌≤◌, arith}
 use Rattle.std.specs.Prelude.{if◌then◌else◌}
-use Rattle.std.proofs.lemmas.List.Elements.{All-head, All-tail}
 use Rattle.values.specs.Datum.{Datum, is_null}
-use Rattle.arrays.specs.Checked.{CheckedColumn}
+use Rattle.values.specs.Keys.{datum_of_key}
 use Rattle.view_lang.specs.Causes.{has_null}
 use Rattle.view_lang.specs.Config.{Table}
-use Rattle.view_lang.specs.Contents.{key_in, keys_in}
 use Rattle.view_lang.specs.Laws.{AreKeyed}
-use Rattle.row_keys.specs.declared.batches.RowLocation.{RowLocation}
-use Rattle.row_keys.specs.Numbers.{AreDistinct, Numbered}
+use Rattle.row_keys.specs.Numbers.{AreDistinct, Numbered, numbered}
 use Rattle.row_keys.specs.Slots.{contents_of, live}
-use Rattle.row_keys.specs.Stored.{HasKey, IsStored, joined, rows_by}
-use Rattle.row_keys.proofs.Joining.{live_counted}
+use Rattle.row_keys.specs.Stored.{AreGiven, IsStored, joined, live_keys}
+use Rattle.row_keys.proofs.Joining.{keys_live, live_counted}
 use Rattle.row_keys.proofs.KeyFacts.{or_none}
-use Rattle.row_keys.proofs.TurnedRows.{proper_joined}
+use Rattle.row_keys.proofs.TurnedRows.{distinct_joined}
 
-live_given : (t : Table) (rows : List (List Datum)) (xs : List Numbered) → All (HasKey t) rows
-    → has_null (keys_in t (live (joined rows xs))) ≡ false
-unfolding live has_null
-live_given t [] xs all = refl
-live_given t (r ∷ rs) [] all = refl
-live_given t (r ∷ rs) (x ∷ xs) all =
-    by x.live (All-head (HasKey t) r rs all) (live_given t rs xs (All-tail (HasKey t) r rs all))
+live_given : (xs : List Numbered) → AreGiven xs → has_null (live_keys xs) ≡ false
+unfolding has_null
+live_given [] given = refl
+live_given (x ∷ xs) given = by x.live refl (live_given xs (λ n k at. given (suc n) k at))
   where
-    by : (b : Bool) → is_null (key_in t r) ≡ false → has_null (keys_in t (live (joined rs xs))) ≡ false
-        → has_null (keys_in t (if b then r ∷ live (joined rs xs) else live (joined rs xs))) ≡ false
-    by true e h = or_none (is_null (key_in t r)) (has_null (keys_in t (live (joined rs xs)))) e h
-    by false e h = h
+    by : (b : Bool) → x.live ≡ b → has_null (live_keys xs) ≡ false
+        → has_null (if b then datum_of_key x.key ∷ live_keys xs else live_keys xs) ≡ false
+    by true lives rest =
+        or_none (is_null (datum_of_key x.key)) (has_null (live_keys xs))
+        (given 0 x.key (ap (λ b. Some (numbered x.key b)) lives)) rest
+    by false lives rest = rest
 
 pub stored_keyed :
-    (t : Table) (bs : List (List CheckedColumn)) (ps : List RowLocation) (xs : List Numbered) → IsStored t bs ps xs
-    → AreDistinct xs → AreKeyed t (contents_of (joined (rows_by bs ps) xs))
-stored_keyed t bs ps xs is distinct = record {
-  not_null = live_given t (rows_by bs ps) xs is.given;
-  distinct = (proper_joined t (rows_by bs ps) xs is.keyed distinct).distinct;
+    (t : Table) (stored : List (List Datum)) (xs : List Numbered) → IsStored t stored xs
+    → AreDistinct xs → AreKeyed t (contents_of (joined stored xs))
+stored_keyed t stored xs is distinct = record {
+  not_null = ap has_null (keys_live t stored xs is.keyed) ∙ live_given xs is.given;
+  distinct = distinct_joined t stored xs is.keyed distinct;
 }
 
 pub stored_few :
-    (t : Table) (bs : List (List CheckedColumn)) (ps : List RowLocation) (xs : List Numbered) → IsStored t bs ps xs
-    → length (live (joined (rows_by bs ps) xs)) ≤ t.max_rows
-stored_few t bs ps xs is = let many = live_counted t (rows_by bs ps) xs is.keyed in omega (arith, many, is.few)
+    (t : Table) (stored : List (List Datum)) (xs : List Numbered) → IsStored t stored xs
+    → length (live (joined stored xs)) ≤ t.max_rows
+stored_few t stored xs is = let many = live_counted t stored xs is.keyed in omega (arith, many, is.few)

@@ -29,13 +29,12 @@ use Rattle.std.proofs.Common.{
 }
 use Rattle.std.specs.Prelude.{nat_lt}
 use Rattle.std.specs.List.{range_with_len}
+use Rattle.values.specs.Datum.{Datum}
 use Rattle.values.specs.declared.key.Key.{Key}
-use Rattle.row_keys.specs.declared.batches.RowLocation.{RowLocation}
-use Rattle.arrays.specs.Checked.{CheckedColumn}
 use Rattle.view_lang.specs.Config.{Table}
-use Rattle.row_keys.specs.Numbers.{AreLive, CanRevive, IsAt, IsUnused, Numbered, revived, turned, turned_off}
+use Rattle.row_keys.specs.Numbers.{AreLive, CanRevive, CanTurnOn, IsAt, Numbered, revived, turned, turned_off}
 use Rattle.row_keys.specs.Slots.{CanPutBack, CanRetract, CanTakeBack, last_numbers}
-use Rattle.row_keys.specs.Stored.{IsStored, joined, rows_by}
+use Rattle.row_keys.specs.Stored.{IsStored, joined}
 use Rattle.row_keys.proofs.Joining.{keyed_length}
 use Rattle.row_keys.proofs.Storing.{revive_can}
 use Rattle.row_keys.proofs.TurnedRows.{are_live}
@@ -91,13 +90,11 @@ can_from a k end rows above within h =
 
 pub revive_this :
     (a k end : ℕ) (rows first : List Numbered) → a ≤ k → k < end → rows ≡ revived (from (k + 1) end) first
-    → CanRevive (from a end) first → (key : Key) × IsAt rows k key false × IsUnused rows key
+    → CanRevive (from a end) first → CanTurnOn rows k
 revive_this a k end rows first above below h can =
     let Q : List ℕ → Type 0 = λ ms. CanRevive ms first in
-    let R : List Numbered → Type 0 = λ xs. (key : Key) × IsAt xs k key false × IsUnused xs key in
-    let both : CanRevive (from (k + 1) end) first
-    × ((key : Key) × IsAt (revived (from (k + 1) end) first) k key false
-    × IsUnused (revived (from (k + 1) end) first) key) =
+    let R : List Numbered → Type 0 = λ xs. CanTurnOn xs k in
+    let both : CanRevive (from (k + 1) end) first × CanTurnOn (revived (from (k + 1) end) first) k =
     subst Q (from_more k end below) (can_from a k end first above (omega (arith, below)) can) in
     subst R (sym h) both.1
 
@@ -111,29 +108,29 @@ revived_none end rows = sym (ap (λ ms. revived ms rows) (from_end end end (omeg
 
 -- The last numbers of a store are those from a number on.
 pub from_last :
-    (t : Table) (bs : List (List CheckedColumn)) (ps : List RowLocation) (xs : List Numbered) (n len : ℕ)
-    → IsStored t bs ps xs → CanTakeBack n (joined (rows_by bs ps) xs) → len ≡ length xs
-    → from (len - n) (length xs) ≡ last_numbers n (joined (rows_by bs ps) xs)
+    (t : Table) (stored : List (List Datum)) (xs : List Numbered) (n len : ℕ)
+    → IsStored t stored xs → CanTakeBack n (joined stored xs) → len ≡ length xs
+    → from (len - n) (length xs) ≡ last_numbers n (joined stored xs)
 unfolding CanTakeBack
-from_last t bs ps xs n len is few long =
-    let many = (keyed_length t (rows_by bs ps) xs is.keyed).1 in
-    let first : len - n ≡ length (joined (rows_by bs ps) xs) - n = omega (arith, many, long) in
+from_last t stored xs n len is few long =
+    let many = (keyed_length t stored xs is.keyed).1 in
+    let first : len - n ≡ length (joined stored xs) - n = omega (arith, many, long) in
     let left : length xs - (len - n) ≡ n = omega (arith, many, long, few) in
     ap (λ k. range_with_len (len - n) k) left ∙ ap (λ k. range_with_len k n) first
 
-module _ (t : Table) (bs : List (List CheckedColumn)) (ps : List RowLocation) (xs : List Numbered) (n len : ℕ) where
-  pub live_last : IsStored t bs ps xs → CanTakeBack n (joined (rows_by bs ps) xs) → len ≡ length xs
-      → CanRetract (last_numbers n (joined (rows_by bs ps) xs)) (joined (rows_by bs ps) xs)
+module _ (t : Table) (stored : List (List Datum)) (xs : List Numbered) (n len : ℕ) where
+  pub live_last : IsStored t stored xs → CanTakeBack n (joined stored xs) → len ≡ length xs
+      → CanRetract (last_numbers n (joined stored xs)) (joined stored xs)
       → AreLive (from (len - n) (length xs)) xs
   live_last is few long can =
       let P : List ℕ → Type 0 = λ ms. AreLive ms xs in
-      subst P (sym (from_last t bs ps xs n len is few long))
-      (are_live t (rows_by bs ps) (last_numbers n (joined (rows_by bs ps) xs)) xs is.keyed can)
+      subst P (sym (from_last t stored xs n len is few long))
+      (are_live t stored (last_numbers n (joined stored xs)) xs is.keyed can)
 
-  pub revive_last : IsStored t bs ps xs → CanTakeBack n (joined (rows_by bs ps) xs) → len ≡ length xs
-      → CanPutBack t (last_numbers n (joined (rows_by bs ps) xs)) (joined (rows_by bs ps) xs)
+  pub revive_last : IsStored t stored xs → CanTakeBack n (joined stored xs) → len ≡ length xs
+      → CanPutBack t (last_numbers n (joined stored xs)) (joined stored xs)
       → CanRevive (from (len - n) (length xs)) xs
   revive_last is few long can =
       let P : List ℕ → Type 0 = λ ms. CanRevive ms xs in
-      subst P (sym (from_last t bs ps xs n len is few long))
-      (revive_can t bs ps xs (last_numbers n (joined (rows_by bs ps) xs)) is can)
+      subst P (sym (from_last t stored xs n len is few long))
+      (revive_can t stored xs (last_numbers n (joined stored xs)) is can)

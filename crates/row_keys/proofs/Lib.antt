@@ -21,6 +21,7 @@ mod BatchKeys
 mod Results
 mod LiveNumbers
 mod Listing
+mod FirstLive
 mod Looking
 mod Finding
 mod Replacing
@@ -33,3 +34,10 @@ mod NumberLaw
 mod PutLaw
 mod TakenApart
 mod CellsInPlace
+mod ListedItems
+mod KeptEntries
+mod KeptIndex
+mod Chunking
+mod ChunkedRows
+mod GoneRows
+pub mod Emptied

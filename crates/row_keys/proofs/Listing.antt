@@ -22,6 +22,7 @@ use Rattle.std.proofs.Common.{
   refl,
   ap,
   sym,
+  subst,
   ◌∙◌,
   arith,
   append-nil,
@@ -120,6 +121,17 @@ listed_same slots n numbers l below dead = record {
   are = l.are ∙ sym (taken_dead slots n below dead);
   there = l.there;
 }
+
+-- numbers of rows that aren't live are passed over
+pub listed_over :
+    (slots : List Slot) (n k m : ℕ) (numbers : List ℕ) → n + k ≡ m → Listed slots n numbers → m ≤ length slots
+    → ((i : ℕ) → n ≤ i → i < m → (get_or slots i no_slot).live ≡ false) → Listed slots m numbers
+listed_over slots n zero m numbers is l within dead =
+    subst (λ (i : ℕ). Listed slots i numbers) (omega (arith, is)) l
+listed_over slots n (suc k) m numbers is l within dead =
+    listed_over slots (n + 1) k m numbers (omega (arith, is))
+    (listed_same slots n numbers l (omega (arith, is, within)) (dead n (omega arith) (omega (arith, is)))) within
+    (λ i above below. dead i (omega (arith, above)) below)
 
 all_taken : (slots : List Slot) (n : ℕ) → length slots ≤ n → take n slots ≡ slots
 all_taken [] zero h = refl

@@ -23,10 +23,10 @@ use Rattle.row_keys.specs.Numbered.{numbered, numbered_from}
 use Rattle.row_keys.specs.Slots.{Slot}
 
 -- the numbers of the live rows from i on
-abbrev from : ℕ → List Slot → List ℕ
+abbrev pub from : ℕ → List Slot → List ℕ
 from i slots = keys_of (numbered_from i slots)
 
-from_joined : (i : ℕ) (xs ys : List Slot) → from i (xs ++ ys) ≡ from i xs ++ from (length xs + i) ys
+pub from_joined : (i : ℕ) (xs ys : List Slot) → from i (xs ++ ys) ≡ from i xs ++ from (length xs + i) ys
 from_joined i [] ys = let e : i ≡ 0 + i = omega arith in ap (λ n. from n ys) e
 from_joined i (s ∷ ss) ys =
     let e : length ss + suc i ≡ length (s ∷ ss) + i = omega arith in

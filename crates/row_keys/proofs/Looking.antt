@@ -9,7 +9,6 @@ use Rattle.std.proofs.Common.{
   true,
   false,
   cond,
-  All,
   List,
   [],
   ◌∷◌,
@@ -39,12 +38,12 @@ use Rattle.view_lang.specs.Joined.{side_of}
 use Rattle.row_keys.specs.Numbers.{AreDistinct, IsAt, IsUnused, Numbered, numbered}
 use Rattle.row_keys.specs.Slots.{IsThere, Slot, contents_of, live, row_of, slot}
 use Rattle.row_keys.specs.Store.{IsKnown, IsUnknown, Store}
-use Rattle.row_keys.specs.Stored.{AreKeyed, HasKey, joined, live_keys}
+use Rattle.row_keys.specs.Stored.{AreGiven, AreKeyed, joined, live_keys}
 use Rattle.row_keys.proofs.Joining.{joined_at, keys_live, unused_among}
 use Rattle.row_keys.proofs.KeyFacts.{key_datum, neither, or_none, same_refl, same_sym}
 use Rattle.row_keys.proofs.Places.{some_same}
 use Rattle.row_keys.proofs.Retracting.{among_live}
-use Rattle.row_keys.proofs.TurnedRows.{proper_joined}
+use Rattle.row_keys.proofs.TurnedRows.{distinct_joined}
 
 side_given : (t : Table) (c : Contents) (d : Datum) → is_null d ≡ false
     → side_of t c d ≡ find (λ row. same_key d (key_in t row)) c.live
@@ -174,26 +173,15 @@ known_by t rows xs v d k (Some n) keyed distinct given is at =
       there_below (joined rows xs) n true here.0,
       side_given t (contents_of (joined rows xs)) d given
           ∙ find_some t d (joined rows xs) n here.0 (here.1 ∙ exact) same
-          (proper_joined t rows xs keyed distinct).distinct,
+          (distinct_joined t rows xs keyed distinct),
+      ap is_null (here.1 ∙ exact) ∙ given,
     )
 
 -- A stored key is no null, so null finds no row.
 
-no_null_key :
-    (t : Table) (rows : List (List Datum)) (xs : List Numbered) (n : ℕ) → AreKeyed t rows xs → All (HasKey t) rows
-    → IsAt xs n key.Null true → ⊥
-no_null_key t [] [] n keyed given at = none-some (numbered key.Null true) at
-no_null_key t [] (x ∷ xs) n keyed given at = keyed
-no_null_key t (r ∷ rs) [] n keyed given at = none-some (numbered key.Null true) at
-no_null_key t (r ∷ rs) (x ∷ xs) zero keyed given at =
-    let same : x ≡ numbered key.Null true = some_same x (numbered key.Null true) at in
-    true≢false (sym (ap is_null (keyed.0 ∙ ap (λ y. datum_of_key y.key) same)) ∙ given zero r (omega arith))
-no_null_key t (r ∷ rs) (x ∷ xs) (suc n) keyed given at = no_null_key t rs xs n keyed.1 (λ k d below. given (suc k) d
-    (omega (arith, below))) at
-
 pub key_known :
     (t : Table) (rows : List (List Datum)) (xs : List Numbered) (v : ℕ) (k : Key) (found : Option ℕ)
-    → AreKeyed t rows xs → AreDistinct xs → All (HasKey t) rows
+    → AreKeyed t rows xs → AreDistinct xs → AreGiven xs
     → MatchOption found (IsUnused xs k) (λ n. IsAt xs n k true)
     → MatchOption found (IsUnknown (store_of t rows xs v) (datum_of_key k)) (IsKnown (store_of t rows xs v)
     (datum_of_key k))
@@ -207,4 +195,4 @@ key_known t rows xs v (key.Binary b) found keyed distinct given at =
     known_by t rows xs v (bytes b) (key.Binary b) found keyed distinct refl refl at
 key_known t rows xs v key.Null None keyed distinct given at = side_null t (contents_of (joined rows xs)) null refl
 key_known t rows xs v key.Null (Some n) keyed distinct given at =
-    absurd (no_null_key t rows xs n keyed given at)
+    absurd (true≢false (given n key.Null at))

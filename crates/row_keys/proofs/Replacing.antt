@@ -39,7 +39,6 @@ use Rattle.view_lang.specs.Config.{Table}
 use Rattle.view_lang.specs.Contents.{Contents, applied, is_among, key_in, keys_in, same_key, without}
 use Rattle.view_lang.specs.Edits.{append, put, retract}
 use Rattle.view_lang.specs.declared.unfit.Unfit.TheVariants as unfit
-use Rattle.row_keys.specs.declared.batches.RowLocation.{RowLocation}
 use Rattle.row_keys.specs.declared.faults.EditFault.{EditFault}
 use Rattle.row_keys.specs.declared.faults.EditFault.TheVariants as fault
 use Rattle.arrays.specs.Checked.{CheckedColumn}
@@ -48,7 +47,7 @@ use Rattle.row_keys.specs.KeyColumns.{RefusesKeys}
 use Rattle.row_keys.specs.Numbers.{IsAt, IsUnused, Numbered}
 use Rattle.row_keys.specs.Slots.{CanRetract, contents_of, keys_at, live, retracted}
 use Rattle.row_keys.specs.Store.{Refuses, Store, with_slots}
-use Rattle.row_keys.specs.Stored.{IsStored, joined, live_keys, rows_by}
+use Rattle.row_keys.specs.Stored.{IsStored, joined, live_keys}
 use Rattle.row_keys.proofs.Appending.{live_keys_are}
 use Rattle.row_keys.proofs.Finding.{all_taken, finds_pushed, found_can, found_keys, twice_named}
 use Rattle.row_keys.proofs.Joining.{unused_among, used_among}
@@ -156,23 +155,23 @@ without_some t p ks (r ∷ rs) stay =
 -- rows that are replaced
 
 pub replaced_can :
-    (t : Table) (bs : List (List CheckedColumn)) (ps : List RowLocation) (xs : List Numbered) (cells : List Datum)
-    (ns : List ℕ) → IsStored t bs ps xs → FindsAll (known_keys cells xs) xs ns → has_repeated cells ≡ false
-    → CanRetract ns (joined (rows_by bs ps) xs)
-replaced_can t bs ps xs cells ns is all single =
-    found_can t (rows_by bs ps) (known_keys cells xs) xs ns is.keyed all
+    (t : Table) (stored : List (List Datum)) (xs : List Numbered) (cells : List Datum)
+    (ns : List ℕ) → IsStored t stored xs → FindsAll (known_keys cells xs) xs ns → has_repeated cells ≡ false
+    → CanRetract ns (joined stored xs)
+replaced_can t stored xs cells ns is all single =
+    found_can t stored (known_keys cells xs) xs ns is.keyed all
     (repeated_some (λ d. is_among d (live_keys xs)) cells single)
 
 pub replaced_gone :
-    (t : Table) (bs : List (List CheckedColumn)) (ps : List RowLocation) (xs : List Numbered) (cells : List Datum)
-    (ns : List ℕ) → IsStored t bs ps xs → FindsAll (known_keys cells xs) xs ns
-    → without t (keys_at t ns (joined (rows_by bs ps) xs)) (live (joined (rows_by bs ps) xs))
-    ≡ without t cells (live (joined (rows_by bs ps) xs))
-replaced_gone t bs ps xs cells ns is all =
-    let rows : List (List Datum) = live (joined (rows_by bs ps) xs) in
-    ap (λ ks. without t ks rows) (found_keys t (rows_by bs ps) (known_keys cells xs) xs ns is.keyed all)
+    (t : Table) (stored : List (List Datum)) (xs : List Numbered) (cells : List Datum)
+    (ns : List ℕ) → IsStored t stored xs → FindsAll (known_keys cells xs) xs ns
+    → without t (keys_at t ns (joined stored xs)) (live (joined stored xs))
+    ≡ without t cells (live (joined stored xs))
+replaced_gone t stored xs cells ns is all =
+    let rows : List (List Datum) = live (joined stored xs) in
+    ap (λ ks. without t ks rows) (found_keys t stored (known_keys cells xs) xs ns is.keyed all)
     ∙ without_some t (λ d. is_among d (live_keys xs)) cells rows
-    (λ k among. ap (λ ks. is_among k ks) (live_keys_are t bs ps xs is) ∙ among)
+    (λ k among. ap (λ ks. is_among k ks) (live_keys_are t stored xs is) ∙ among)
 
 pub put_refused :
     (t : Table) (c : Contents) (rows : List (List Datum)) (e : EditFault) → RefusesKeys (keys_in t rows) [] e

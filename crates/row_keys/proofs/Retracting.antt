@@ -33,6 +33,7 @@ use Rattle.row_keys.specs.Slots.{
   AreRetracted,
   CanPutBack,
   CanRetract,
+  HasKey,
   IsThere,
   Slot,
   keys_at,
@@ -52,6 +53,7 @@ pub record IsProper (t : Table) (slots : List Slot) : Type 0 where
   pub distinct : has_repeated (keys_in t (live slots)) ≡ false
   pub reflects : (n : ℕ) → IsThere slots n true
       → same_key (key_in t (row_of slots n)) (key_in t (row_of slots n)) ≡ true
+  pub given : (n : ℕ) → IsThere slots n true → HasKey t (row_of slots n)
 
 abbrev others : Table → Datum → List (List Datum) → List (List Datum)
 others t k rows = without t (k ∷ []) rows
@@ -236,6 +238,9 @@ proper_marked t slots n there proper = record {
   reflects = λ m here.
       let P : List Datum → Type 0 = λ r. same_key (key_in t r) (key_in t r) ≡ true in
       subst P (sym (row_marked false slots n m)) (proper.reflects m (there_before slots n m here));
+  given = λ m here.
+      let P : List Datum → Type 0 = λ r. HasKey t r in
+      subst P (sym (row_marked false slots n m)) (proper.given m (there_before slots n m here));
 }
 
 live_retracted : (t : Table) (ns : List ℕ) (slots : List Slot) → CanRetract ns slots → IsProper t slots
@@ -281,6 +286,7 @@ are_retracted t (n ∷ ns) slots can proper =
     let row : row_of (retracted ns (marked false slots n)) n ≡ row_of slots n =
     row_retracted ns (marked false slots n) n ∙ row_marked false slots n n in
     let P : List Slot → Type 0 = λ xs. IsThere xs n false in
+    let K : List Datum → Type 0 = λ r. HasKey t r in
     let Q : List Slot → Type 0 = λ xs. is_among (key_in t (row_of slots n)) (keys_in t (live xs)) ≡ false in
     let R : List Datum
     → Type 0 =
@@ -291,6 +297,7 @@ are_retracted t (n ∷ ns) slots can proper =
       subst R (sym row)
           (subst Q (sym back) (subst L (sym (one_less t slots n can.0 proper.distinct (proper.reflects n can.0)))
           (taken_out t (key_in t (row_of slots n)) (live slots)))),
+      subst K (sym row) (proper.given n can.0),
     )
 
 pub can_put_back :

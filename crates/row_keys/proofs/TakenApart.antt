@@ -30,44 +30,31 @@ use Rattle.std.proofs.Common.{
   true≢false,
 }
 use Rattle.std.proofs.Math.Seq.{take-suc}
-use Rattle.std.proofs.lemmas.List.{map-append}
+use Rattle.std.proofs.lemmas.List.{length-map, map-append}
 use Rattle.std.proofs.lemmas.Option.{none-some, slice_get_read}
+use Rattle.values.specs.Datum.{Datum}
 use Rattle.values.specs.declared.key.Key.{Key}
-use Rattle.row_keys.specs.declared.batches.RowLocation.{RowLocation}
+use Rattle.view_lang.specs.Config.{Table}
 use Rattle.row_keys.specs.declared.parts.RowParts.{RowParts}
-use Rattle.row_keys.specs.Numbers.{AreDistinct, IsAt, IsUnused, Numbered, Pushes, no_row, numbered, turned}
-use Rattle.row_keys.specs.Parts.{locations_in, numbers_in, retracted_in}
+use Rattle.row_keys.specs.Numbers.{AreDistinct, CanTurnOn, IsAt, IsUnused, Numbered, Pushes, no_row, numbered, turned}
+use Rattle.row_keys.specs.Parts.{numbers_in, retracted_in}
+use Rattle.row_keys.specs.Stored.{AreGiven, AreKeyed}
+use Rattle.row_keys.proofs.Joining.{keyed_length}
 use Rattle.row_keys.proofs.Places.{some_same}
 
 -- Taking rows apart
 
--- the parts of the first i rows
-pub record AreTaken (rows : List RowParts) (locations : List RowLocation) (numbers : List Numbered) (i : ℕ) : Type 0
-  where
-    pub locations_are : locations_in rows ≡ take i locations
-    pub numbers_are : numbers_in rows ≡ take i numbers
-
 pub taken_more :
-    (rows more : List RowParts) (locations : List RowLocation) (numbers : List Numbered) (i : ℕ) (r : RowParts)
-    → AreTaken rows locations numbers i → i < length locations → length locations ≡ length numbers
-    → r.location ≡ get_or locations i r.location → r.key ≡ (get_or numbers i no_row).key
-    → r.is_live ≡ (get_or numbers i no_row).live → more ≡ rows ++ r ∷ []
-    → AreTaken more locations numbers (i + 1)
-taken_more rows more locations numbers i r so_far below same location key live pushed =
+    (rows more : List RowParts) (numbers : List Numbered) (i : ℕ) (r : RowParts) → numbers_in rows ≡ take i numbers
+    → i < length numbers → r.key ≡ (get_or numbers i no_row).key → r.is_live ≡ (get_or numbers i no_row).live
+    → more ≡ rows ++ r ∷ [] → numbers_in more ≡ take (i + 1) numbers
+taken_more rows more numbers i r so_far below key live pushed =
     let kept = get_or numbers i no_row in
     let one : numbered r.key r.is_live ≡ kept = ap (λ k. numbered k r.is_live) key ∙ ap (numbered kept.key) live in
-    record {
-      locations_are =
-          ap locations_in pushed ∙ map-append (λ (x : RowParts). x.location) rows (r ∷ [])
-          ∙ ap (λ xs. xs ++ r.location ∷ []) so_far.locations_are
-          ∙ ap (λ x. take i locations ++ x ∷ []) location
-          ∙ sym (ap (λ n. take n locations) (add-one i) ∙ take-suc locations i r.location below);
-      numbers_are =
-          ap numbers_in pushed ∙ map-append (λ (x : RowParts). numbered x.key x.is_live) rows (r ∷ [])
-          ∙ ap (λ xs. xs ++ numbered r.key r.is_live ∷ []) so_far.numbers_are
-          ∙ ap (λ x. take i numbers ++ x ∷ []) one
-          ∙ sym (ap (λ n. take n numbers) (add-one i) ∙ take-suc numbers i no_row (omega (arith, below, same)));
-    }
+    ap numbers_in pushed ∙ map-append (λ (x : RowParts). numbered x.key x.is_live) rows (r ∷ [])
+    ∙ ap (λ xs. xs ++ numbered r.key r.is_live ∷ []) so_far
+    ∙ ap (λ x. take i numbers ++ x ∷ []) one
+    ∙ sym (ap (λ n. take n numbers) (add-one i) ∙ take-suc numbers i no_row below)
 
 -- Numbering rows as retracted ones
 
@@ -168,18 +155,19 @@ live_before (x ∷ xs) (suc i) (suc n) k there =
 
 pub can_revive :
     (rows : List RowParts) (i : ℕ) (r : RowParts) (numbers : List Numbered) → AreDistinct (numbers_in rows)
-    → numbers ≡ revived_to i rows → i < length rows → r ≡ get_or rows i r → r.is_live ≡ true
-    → (key : Key) × IsAt numbers i key false × IsUnused numbers key
-can_revive rows i r numbers distinct so_far below is on =
+    → AreGiven (numbers_in rows) → numbers ≡ revived_to i rows → i < length rows → r ≡ get_or rows i r → r.is_live ≡ true
+    → CanTurnOn numbers i
+can_revive rows i r numbers distinct given so_far below is on =
     let at = slice_get_read rows (length rows) i r refl below is in
-    let P : List Numbered → Type 0 = λ xs. (key : Key) × IsAt xs i key false × IsUnused xs key in
+    let P : List Numbered → Type 0 = λ xs. CanTurnOn xs i in
     let unused : IsUnused (revived_to i rows) r.key =
     λ n there.
     let before = live_before rows i n r.key there in
     let less = before.0 in
     let same = distinct n i r.key before.1 (live_there rows i r at on) in
     omega (arith, less, same) in
-    subst P (sym so_far) (r.key, retracted_there rows i r at, unused)
+    subst P (sym so_far)
+    (r.key, retracted_there rows i r at, unused, given i r.key (live_there rows i r at on))
 
 pub revived_more :
     (rows : List RowParts) (i : ℕ) (r : RowParts) (old new : List Numbered) → old ≡ revived_to i rows → i < length rows
@@ -195,3 +183,11 @@ pub revived_same :
 revived_same rows i r old so_far below is off =
     so_far ∙ sym (dead_one rows i r (slice_get_read rows (length rows) i r refl below is) off)
     ∙ ap (λ n. revived_to n rows) (sym (add-one i))
+
+-- The parts of a store are as many as its rows.
+pub keys_long :
+    (t : Table) (stored : List (List Datum)) (numbers : List Numbered) (rows : List RowParts)
+    → AreKeyed t stored numbers → numbers_in rows ≡ numbers → length stored ≡ length rows
+keys_long t stored numbers rows keyed are =
+    (keyed_length t stored numbers keyed).0 ∙ ap length (sym are)
+    ∙ length-map rows (λ (x : RowParts). numbered x.key x.is_live)

@@ -7,6 +7,7 @@ use Rattle.std.specs.Prelude.{
   zero,
   suc,
   ◌<◌,
+  ◌^◌,
   Bool,
   true,
   List,
@@ -22,7 +23,9 @@ use Rattle.std.specs.Prelude.{
 }
 use Rattle.values.specs.declared.key.Key.{Key}
 use Rattle.values.specs.declared.key.Key.TheVariants as key
+use Rattle.row_keys.specs.Entries.{AreInOrder, all_entries}
 use Rattle.row_keys.specs.declared.numbers.Entry.{Entry}
+use Rattle.row_keys.specs.declared.numbers.KeptEntry.{KeptEntry}
 use Rattle.row_keys.specs.Numbers.{Numbered, live_count, numbered}
 
 abbrev pub seen : List Key → Entry → Numbered
@@ -48,6 +51,12 @@ flagged b [] n = []
 flagged b (e ∷ es) zero = record { key = e.key; is_live = b; is_new = e.is_new } ∷ es
 flagged b (e ∷ es) (suc n) = e ∷ flagged b es n
 
+-- Place 0 is that of the null key, which is the key of rows that are gone. It is given before the first row comes.
+abbrev pub StartsWithNull : List Key → List ℕ → List Key → List ℕ → Type 0
+StartsWithNull keys holders keys_new holders_new =
+    ((0 < length keys) × (keys_new ≡ keys) × (holders_new ≡ holders))
+    ⊎ ((keys ≡ []) × (holders ≡ []) × (keys_new ≡ key.Null ∷ []) × (holders_new ≡ 0 ∷ []))
+
 -- What holds of keys, holders and entries. A row that brought its key has a key after those of all rows before it, so
 -- that the key can go when the row does.
 pub record IsIndex (keys : List Key) (holders : List ℕ) (entries : List Entry) (live : ℕ) : Type 0 where
@@ -58,3 +67,11 @@ pub record IsIndex (keys : List Key) (holders : List ℕ) (entries : List Entry)
       (m n : ℕ) (e f : Entry) → m < n → slice_get entries m ≡ Some e → slice_get entries n ≡ Some f → f.is_new ≡ true
       → e.key < f.key
   pub counted : live ≡ live_count (seen_all keys entries)
+  pub null_first : 0 < length keys → slice_get keys 0 ≡ Some key.Null
+  pub after_null : (n : ℕ) (e : Entry) → slice_get entries n ≡ Some e → e.is_new ≡ true → 0 < e.key
+
+-- The same of what is kept of rows: there are no more numbers than can be counted.
+pub record IsKeptIndex (keys : List Key) (holders : List ℕ) (kept : List KeptEntry) (len live : ℕ) : Type 0 where
+  pub index : IsIndex keys holders (all_entries kept len) live
+  pub order : AreInOrder 0 kept len
+  pub bound : len < 2 ^ 63

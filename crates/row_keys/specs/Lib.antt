@@ -1,5 +1,7 @@
 pub mod FaultCauses
 pub mod Slots
+pub mod Listed
+pub mod Chunks
 pub mod Numbered
 pub mod NumberLaws
 pub mod Store
@@ -12,3 +14,4 @@ pub mod Stored
 pub mod KeyColumns
 pub mod RefusedRows
 pub mod Found
+pub mod Entries

@@ -9,12 +9,14 @@ use Rattle.view_lang.specs.Config.{Table}
 use Rattle.view_lang.specs.Shifts.{Fits, NumberedRows, Shift, patched, row_at}
 use Rattle.row_keys.specs.Numbered.{come, gone, live_at, numbered}
 use Rattle.row_keys.specs.Slots.{
+  AllOut,
   CanPutBack,
   CanRetract,
   CanShowPut,
   CanTakeBack,
   CanUndoPut,
   Slot,
+  contents_of,
   last_numbers,
   live,
   new_slot,
@@ -22,6 +24,7 @@ use Rattle.row_keys.specs.Slots.{
   put_hidden,
   put_shown,
   put_undone,
+  released,
   retracted,
   row_of,
   taken_back,
@@ -126,3 +129,10 @@ ShownPutComes =
 -- All live rows come where there were none.
 abbrev pub AllCome : Type 0
 AllCome = (slots : List Slot) → Leads [] (come slots (keys_of (numbered slots))) (numbered slots)
+
+-- Where rows are gone that aren't live, nothing is seen of it: the table is what it was, and so are the live rows under
+-- their numbers.
+abbrev pub ReleasedUnseen : Type 0
+ReleasedUnseen =
+    (ns : List ℕ) (slots : List Slot) → AllOut ns slots
+    → (contents_of (released ns slots) ≡ contents_of slots) × (numbered (released ns slots) ≡ numbered slots)

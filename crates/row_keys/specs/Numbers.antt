@@ -17,6 +17,8 @@ use Rattle.std.specs.Prelude.{
   slice_get,
 }
 use Rattle.std.specs.Coded.{Coded, code_by, coded×, coded_bool, coded_list}
+use Rattle.values.specs.Datum.{is_null}
+use Rattle.values.specs.Keys.{datum_of_key}
 use Rattle.values.specs.contracts.key.Key.{the_row}
 use Rattle.values.specs.declared.key.Key.{Key}
 use Rattle.values.specs.declared.key.Key.TheVariants as key
@@ -74,6 +76,10 @@ abbrev pub AreLive : List ℕ → List Numbered → Type 0
 AreLive [] rows = Unit {0}
 AreLive (n ∷ ns) rows = ((k : Key) × IsAt rows n k true) × AreLive ns (turned false rows n)
 
+-- Row n was retracted, and isn't gone, and no live row has its key.
+abbrev pub CanTurnOn : List Numbered → ℕ → Type 0
+CanTurnOn rows n = (k : Key) × IsAt rows n k false × IsUnused rows k × (is_null (datum_of_key k) ≡ false)
+
 -- These rows were retracted, and become live, the last one first. In their turn none of their keys is a live row's.
 
 abbrev pub revived : List ℕ → List Numbered → List Numbered
@@ -82,5 +88,4 @@ revived (n ∷ ns) rows = turned true (revived ns rows) n
 
 abbrev pub CanRevive : List ℕ → List Numbered → Type 0
 CanRevive [] rows = Unit {0}
-CanRevive (n ∷ ns) rows =
-    CanRevive ns rows × ((k : Key) × IsAt (revived ns rows) n k false × IsUnused (revived ns rows) k)
+CanRevive (n ∷ ns) rows = CanRevive ns rows × CanTurnOn (revived ns rows) n

@@ -1,14 +1,11 @@
 -- What a store is made of.
-use Rattle.std.specs.Prelude.{false, List, map}
+use Rattle.std.specs.Prelude.{false, List, length, map}
+use Rattle.row_keys.specs.Chunks.{AreChunks, stored_rows}
 use Rattle.row_keys.specs.Numbers.{AreDistinct, Numbered, numbered}
 use Rattle.row_keys.specs.Store.{Store}
-use Rattle.row_keys.specs.Stored.{IsStored, joined, rows_by}
-use Rattle.row_keys.specs.declared.batches.RowLocation.{RowLocation}
+use Rattle.row_keys.specs.Stored.{IsStored, joined}
 use Rattle.row_keys.specs.declared.parts.RowParts.{RowParts}
 use Rattle.row_keys.specs.declared.parts.StoreParts.{StoreParts}
-
-abbrev pub locations_in : List RowParts → List RowLocation
-locations_in rows = map (λ r. r.location) rows
 
 abbrev pub numbers_in : List RowParts → List Numbered
 numbers_in rows = map (λ r. numbered r.key r.is_live) rows
@@ -21,11 +18,12 @@ retracted_in rows = map (λ r. numbered r.key false) rows
 abbrev pub store_with : StoreParts → Store
 store_with p = record {
   table = p.table;
-  slots = joined (rows_by p.batches.items (locations_in p.rows.items)) (numbers_in p.rows.items);
+  slots = joined (stored_rows p.chunks.items (length p.rows.items)) (numbers_in p.rows.items);
   visits = p.visits;
 }
 
--- The rows are rows of the table, each under its own key, and no two live ones have the same.
+-- The rows are rows of the table or gone, each under its own key, and no two live ones have the same.
 pub record AreStoreParts (p : StoreParts) : Type 0 where
-  pub stored : IsStored p.table p.batches.items (locations_in p.rows.items) (numbers_in p.rows.items)
+  pub chunks : AreChunks 0 p.chunks.items (length p.rows.items)
+  pub stored : IsStored p.table (stored_rows p.chunks.items (length p.rows.items)) (numbers_in p.rows.items)
   pub distinct : AreDistinct (numbers_in p.rows.items)

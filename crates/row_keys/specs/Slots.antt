@@ -6,6 +6,7 @@ use Rattle.std.specs.Prelude.{
   zero,
   suc,
   ◌-◌,
+  ◌<◌,
   ◌≤◌,
   Bool,
   true,
@@ -22,7 +23,7 @@ use Rattle.std.specs.Prelude.{
   take,
 }
 use Rattle.std.specs.List.{range_with_len}
-use Rattle.values.specs.Datum.{Datum}
+use Rattle.values.specs.Datum.{Datum, is_null}
 use Rattle.view_lang.specs.Config.{Table}
 use Rattle.view_lang.specs.Contents.{Contents, is_among, key_in, keys_in}
 
@@ -80,12 +81,17 @@ unfoldable pub put_back : List ℕ → List Slot → List Slot
 put_back [] slots = slots
 put_back (n ∷ ns) slots = marked true (put_back ns slots) n
 
--- These rows were retracted, and in their turn none of their keys is live.
+-- The row has a key, so it isn't gone.
+abbrev pub HasKey : Table → List Datum → Type 0
+HasKey t row = is_null (key_in t row) ≡ false
+
+-- These rows were retracted and aren't gone, and in their turn none of their keys is live.
 unfoldable pub AreRetracted : Table → List ℕ → List Slot → Type 0
 AreRetracted t [] slots = Unit {0}
 AreRetracted t (n ∷ ns) slots =
     AreRetracted t ns slots × IsThere (put_back ns slots) n false
     × (is_among (key_in t (row_of slots n)) (keys_in t (live (put_back ns slots))) ≡ false)
+    × HasKey t (row_of slots n)
 
 -- and there is room for them
 unfoldable pub CanPutBack : Table → List ℕ → List Slot → Type 0
@@ -124,3 +130,22 @@ put_shown n replaced slots = put_back (last_numbers n slots) (retracted replaced
 abbrev pub CanShowPut : Table → ℕ → List ℕ → List Slot → Type 0
 CanShowPut t n replaced slots =
     CanTakeBack n slots × CanRetract replaced slots × CanPutBack t (last_numbers n slots) (retracted replaced slots)
+
+-- the slots when the row of that number is gone: of it no more is known than that it had a number
+abbrev pub emptied : List Slot → ℕ → List Slot
+emptied [] n = []
+emptied (s ∷ ss) zero = no_slot ∷ ss
+emptied (s ∷ ss) (suc n) = s ∷ emptied ss n
+
+-- the slots when those of all these are
+abbrev pub released : List ℕ → List Slot → List Slot
+released [] slots = slots
+released (n ∷ ns) slots = released ns (emptied slots n)
+
+-- There is a row of that number, and it isn't live.
+abbrev pub IsOut : List Slot → ℕ → Type 0
+IsOut slots n = (n < length slots) × ((get_or slots n no_slot).live ≡ false)
+
+abbrev pub AllOut : List ℕ → List Slot → Type 0
+AllOut [] slots = Unit {0}
+AllOut (n ∷ ns) slots = IsOut slots n × AllOut ns slots

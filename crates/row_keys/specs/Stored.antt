@@ -1,61 +1,22 @@
--- How rows are stored: the columns of their batches are kept as they came, and of each row its place in them.
-use Rattle.std.specs.Prelude.{
-  ◌≡◌,
-  ℕ,
-  zero,
-  suc,
-  ◌+◌,
-  ◌<◌,
-  ◌≤◌,
-  false,
-  All,
-  List,
-  [],
-  ◌∷◌,
-  get_or,
-  if◌then◌else◌,
-  length,
-  map,
-}
+-- How rows are stored: their cells, and the keys under which they are numbered.
+use Rattle.std.specs.Prelude.{◌≡◌, ℕ, ◌≤◌, true, false, All, List, [], ◌∷◌, if◌then◌else◌}
 use Rattle.values.specs.Datum.{Datum, items_of, is_null}
 use Rattle.values.specs.Keys.{datum_of_key}
 use Rattle.values.specs.Layouts.{HoldsEach}
-use Rattle.arrays.specs.Checked.{CheckedColumn}
-use Rattle.schema_meta.specs.Rows.{row_at}
+use Rattle.values.specs.declared.key.Key.{Key}
 use Rattle.view_lang.specs.Causes.{is_heavy, layouts_of}
 use Rattle.view_lang.specs.Config.{Table}
 use Rattle.view_lang.specs.Contents.{key_in}
+use Rattle.view_lang.specs.Rows.{IsRow}
 use Rattle.view_lang.specs.TableRules.{IsTable}
-use Rattle.row_keys.specs.declared.batches.RowLocation.{RowLocation}
-use Rattle.row_keys.specs.Batches.{AreAlike, cells_in, layouts_in}
-use Rattle.row_keys.specs.Numbers.{Numbered, live_count}
-use Rattle.row_keys.specs.Slots.{Slot, slot}
-
-abbrev pub columns_of : List (List CheckedColumn) → RowLocation → List CheckedColumn
-columns_of batches p = get_or batches p.batch []
-
-abbrev pub row_by : List (List CheckedColumn) → RowLocation → List Datum
-row_by batches p = row_at (cells_in (columns_of batches p)) p.index
-
-abbrev pub rows_by : List (List CheckedColumn) → List RowLocation → List (List Datum)
-rows_by batches locations = map (row_by batches) locations
-
--- the locations of n rows of a batch, the first of them row i
-unfoldable pub locations_from : ℕ → ℕ → ℕ → List RowLocation
-locations_from batch i zero = []
-locations_from batch i (suc n) = record { batch = batch; index = i } ∷ locations_from batch (i + 1) n
+use Rattle.row_keys.specs.Numbers.{IsAt, Numbered, live_count}
+use Rattle.row_keys.specs.Slots.{HasKey, Slot, slot}
 
 -- the rows, each live or retracted
 abbrev pub joined : List (List Datum) → List Numbered → List Slot
 joined [] numbers = []
 joined (r ∷ rs) [] = []
 joined (r ∷ rs) (n ∷ ns) = slot r n.live ∷ joined rs ns
-
--- a place in a batch of the table
-pub record IsPlaced (t : Table) (batches : List (List CheckedColumn)) (p : RowLocation) : Type 0 where
-  pub there : p.batch < length batches
-  pub long : All (λ c. p.index < length c.cells) (columns_of batches p)
-  pub alike : AreAlike (layouts_of t) (layouts_in (columns_of batches p))
 
 -- each row's key is the one under which it is numbered
 abbrev pub AreKeyed : Table → List (List Datum) → List Numbered → Type 0
@@ -70,17 +31,20 @@ IsLightRow t row = is_heavy (layouts_of t) row ≡ false
 abbrev pub HoldsRow : Table → List Datum → Type 0
 HoldsRow t row = HoldsEach (layouts_of t) (items_of row)
 
-abbrev pub HasKey : Table → List Datum → Type 0
-HasKey t row = is_null (key_in t row) ≡ false
+-- a row of the table, unless it is gone
+abbrev pub IsRight : Table → List Datum → Type 0
+IsRight t row = HasKey t row → IsRow t.columns row
 
-pub record IsStored (t : Table) (batches : List (List CheckedColumn)) (locations : List RowLocation)
-    (numbers : List Numbered) : Type 0 where
+-- The keys of live rows aren't null.
+abbrev pub AreGiven : List Numbered → Type 0
+AreGiven numbers = (n : ℕ) (k : Key) → IsAt numbers n k true → is_null (datum_of_key k) ≡ false
+
+-- What holds of rows and of their numbers. A row that is gone has no cells, and is numbered under the null key.
+pub record IsStored (t : Table) (rows : List (List Datum)) (numbers : List Numbered) : Type 0 where
   pub table : IsTable t
-  pub placed : All (IsPlaced t batches) locations
-  pub held : All (HoldsRow t) (rows_by batches locations)
-  pub light : All (IsLightRow t) (rows_by batches locations)
-  pub given : All (HasKey t) (rows_by batches locations)
-  pub keyed : AreKeyed t (rows_by batches locations) numbers
+  pub right : All (IsRight t) rows
+  pub given : AreGiven numbers
+  pub keyed : AreKeyed t rows numbers
   pub few : live_count numbers ≤ t.max_rows
 
 -- the keys of the live rows

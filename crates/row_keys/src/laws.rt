@@ -12,6 +12,7 @@ ghost use Rattle.row_keys.specs.NumberLaws.{
   NewCome,
   NumbersAscend,
   PutBackCome,
+  ReleasedUnseen,
   RetractedComeBack,
   RetractedGo,
   RetractedWereLive,
@@ -45,4 +46,5 @@ pub fn numbers_law()
     ensures put_came { HiddenPutGoes }
     ensures hidden { HiddenIsUndone }
     ensures put_came_back { ShownPutComes }
+    ensures released { ReleasedUnseen }
 {}

@@ -7,6 +7,7 @@
 
 mod batches;
 mod faults;
+mod first_live;
 mod key_columns;
 mod key_table;
 mod laws;
@@ -14,12 +15,13 @@ mod numbers;
 mod parts;
 mod store;
 mod stored_row;
+mod stored_rows;
 mod turning;
 mod weighing;
 
-pub use batches::{RowLocation, StoredBatch};
 pub use faults::EditFault;
 pub use laws::{batch_law, numbers_law};
 pub use parts::{RowParts, StoreParts};
 pub use store::RowStore;
 pub use stored_row::{StoredRow, Visit};
+pub use stored_rows::StoredChunk;

@@ -9,18 +9,28 @@ ghost use Rattle.std.specs.Prelude.{
   IfOk,
   MatchOption,
   OnErr,
+  OnOk,
   get_or,
   length,
+  slice_set,
   take,
   true,
   false,
   ◌^◌,
+  ◌+◌,
+  ◌++◌,
+  ◌∷◌,
+  ℕ,
+  filter,
+  nat_lt,
   if◌then◌else◌,
 };
+ghost use Rattle.std.specs.List.Sorted.{IsPartitionPoint};
 ghost use Rattle.std.specs.Vec.{vec_capacity, vec_len};
 ghost use Rattle.values.specs.declared.key.Key.{Key};
-ghost use Rattle.row_keys.specs.Index.{HoldsPlace, IsFree, Puts, flagged};
-ghost use Rattle.row_keys.specs.Numbers.{AreDistinct, IsAt, IsUnused, Pushes, live_count, no_row, turned};
+ghost use Rattle.row_keys.specs.Entries.{AreInOrder, Changes, EndsAt, IsKeptAt, all_entries, entry_in, gone_entry, is_kept};
+ghost use Rattle.row_keys.specs.Index.{HoldsPlace, IsFree, Puts, StartsWithNull, flagged};
+ghost use Rattle.row_keys.specs.Numbers.{AreDistinct, CanTurnOn, IsAt, IsUnused, Pushes, live_count, no_row, turned};
 
 use crate::key_table::KeyTable;
 use std::alloc::{AllocError, Global};
@@ -36,8 +46,25 @@ struct Entry {
     is_new: bool,
 }
 
+/// The number of a row, and what is kept of it.
+#[derive(Clone, Copy, Debug)]
+struct KeptEntry {
+    number: usize,
+    entry: Entry,
+}
+
+/// What stands for a row that is gone: the place of the null key.
+const GONE: Entry = Entry {
+    key: 0,
+    is_live: false,
+    is_new: false,
+};
+
+/// How many rows there can be at most.
+const MOST_ROWS: usize = (1 << 63) - 1;
+
 /// Row numbers, each with its row's key and whether the row is live. Keys are stored once, also where retracted rows
-/// had the same.
+/// had the same. Place 0 is that of the null key, which rows that are gone have.
 ///
 /// Contracts see a list of `Numbered`.
 #[derive(Drop)]
@@ -45,31 +72,108 @@ pub(crate) struct Numbers {
     keys: KeyTable,
     // For each key the number of the row that was added last with it.
     holders: Vec<usize>,
-    entries: Vec<Entry>,
+    // By number. Of a row that isn't among them nothing is kept: it is gone.
+    kept: Vec<KeptEntry>,
+    len: usize,
     live: usize,
+    // How many of those that are kept are gone.
+    gone: usize,
 }
 
 impl Model for Numbers {
     ghost use Rattle.std.specs.Prelude.{List};
-    ghost use Rattle.row_keys.specs.Index.{IsIndex, seen_all};
+    ghost use Rattle.row_keys.specs.Entries.{all_entries};
+    ghost use Rattle.row_keys.specs.Index.{IsKeptIndex, seen_all};
     ghost use Rattle.row_keys.specs.Numbers.{Numbered, numbers_code};
 
     ghost Value = { List Numbered };
 
     ghost coded = { numbers_code };
 
-    ghost view = { λ s. seen_all s.keys s.entries.items };
+    ghost view = { λ s. seen_all s.keys (all_entries s.kept.items s.len) };
 
-    ghost invariant = { λ s. IsIndex s.keys s.holders.items s.entries.items s.live };
+    ghost invariant = { λ s. IsKeptIndex s.keys s.holders.items s.kept.items s.len s.live };
+}
+
+/// How many of these have smaller numbers.
+fn count_below(kept: &[KeptEntry], number: usize) -> usize
+    requires { (len : ℕ) × AreInOrder 0 kept.now len }
+    ensures { IsPartitionPoint (λ k. nat_lt k.number number ≡ true) (λ k. nat_lt k.number number ≡ false) kept.now
+        result }
+{
+    kept.partition_point(
+        |one: &KeptEntry| -> bool
+            ensures { result ≡ nat_lt one.now.number number }
+        { one.number < number },
+    )
+}
+
+/// Whether what is kept at a place is of this number.
+fn is_at(kept: &[KeptEntry], place: usize, number: usize) -> bool
+    ensures yes { result ≡ true → IsKeptAt kept.now number place }
+    ensures no { result ≡ false → IsKeptAt kept.now number place → ⊥ }
+{
+    match kept.get(place) {
+        Some(one) => one.number == number,
+        None => false,
+    }
+}
+
+/// The place of the entry of this number, if it is kept.
+fn place_of(kept: &[KeptEntry], number: usize) -> Option<usize>
+    requires { (len : ℕ) × AreInOrder 0 kept.now len }
+    ensures { MatchOption result (entry_in kept.now number ≡ gone_entry) (IsKeptAt kept.now number) }
+{
+    // Where none is gone, its place is the number itself.
+    if is_at(kept, number, number) {
+        return Some(number);
+    }
+    let place = count_below(kept, number);
+    if is_at(kept, place, number) {
+        Some(place)
+    } else {
+        None
+    }
+}
+
+/// The least number from this one on that has an entry; `len` where there is none.
+fn next_kept(kept: &[KeptEntry], number: usize, len: usize) -> usize
+    requires order { AreInOrder 0 kept.now len }
+    requires inside { number ≤ len }
+    ensures from { number ≤ result }
+    ensures within { result ≤ len }
+    ensures gone { (k : ℕ) → number ≤ k → k < result → entry_in kept.now k ≡ gone_entry }
+{
+    // Where none is gone, its place is the number itself.
+    if is_at(kept, number, number) {
+        return number;
+    }
+    match kept.get(count_below(kept, number)) {
+        Some(one) => one.number,
+        None => len,
+    }
+}
+
+/// The entry of this number.
+fn entry_at(kept: &[KeptEntry], number: usize) -> Entry
+    requires { (len : ℕ) × AreInOrder 0 kept.now len }
+    ensures { result ≡ entry_in kept.now number }
+{
+    match place_of(kept, number) {
+        Some(place) => kept[place].entry,
+        None => GONE,
+    }
 }
 
 /// The number of the live row with the key at this place, if any.
-#[tactic(auto, using(crate::proofs::Indexes::holding))]
-fn holder(holders: &[usize], entries: &[Entry], place: usize) -> Option<usize>
-    ensures { MatchOption result (IsFree holders.now entries.now place) (HoldsPlace entries.now place) }
+fn holder(holders: &[usize], kept: &[KeptEntry], place: usize) -> Option<usize>
+    requires { (len : ℕ) × AreInOrder 0 kept.now len }
+    ensures { (len : ℕ) → AreInOrder 0 kept.now len
+        → MatchOption result (IsFree holders.now (all_entries kept.now len) place)
+        (HoldsPlace (all_entries kept.now len) place) }
 {
     let number = *holders.get(place)?;
-    let entry = entries.get(number)?;
+    let entry = entry_at(kept, number);
     if entry.key == place && entry.is_live {
         Some(number)
     } else {
@@ -91,12 +195,110 @@ fn hold(holders: &mut Vec<usize>, place: usize, number: usize)
     }
 }
 
-#[tactic(auto, using(crate::proofs::Indexes::flagging))]
-fn set_live(entries: &mut Vec<Entry>, number: usize, is_live: bool)
-    requires { number < length entries.old.items }
-    ensures { entries.new.items ≡ flagged is_live entries.old.items number }
+/// Puts another entry in the place of that of a number which is kept.
+fn set_entry(kept: &mut Vec<KeptEntry>, place: usize, entry: Entry)
+    requires { place < length kept.old.items }
+    ensures { (number : ℕ) → IsKeptAt kept.old.items number place
+        → Changes kept.old.items number entry kept.new.items }
 {
-    entries[number].is_live = is_live;
+    let number = kept[place].number;
+    kept[place] = KeptEntry { number, entry };
+}
+
+/// Makes the row of this number live, or retracted.
+fn set_live(kept: &mut Vec<KeptEntry>, number: usize, is_live: bool)
+    requires order { (len : ℕ) × AreInOrder 0 kept.old.items len }
+    requires kept { (entry_in kept.old.items number ≡ gone_entry) → is_live ≡ false }
+    ensures order { (len : ℕ) → AreInOrder 0 kept.old.items len → AreInOrder 0 kept.new.items len }
+    ensures flagged { (len : ℕ) → AreInOrder 0 kept.old.items len
+        → all_entries kept.new.items len ≡ flagged is_live (all_entries kept.old.items len) number }
+{
+    match place_of(kept, number) {
+        Some(place) => {
+            let entry = kept[place].entry;
+            set_entry(kept, place, Entry { is_live, ..entry });
+        }
+        None => {}
+    }
+}
+
+/// Forgets what is kept of the row of this number. It returns whether anything was.
+fn forget(kept: &mut Vec<KeptEntry>, number: usize) -> bool
+    requires order { (len : ℕ) × AreInOrder 0 kept.old.items len }
+    ensures order { (len : ℕ) → AreInOrder 0 kept.old.items len → AreInOrder 0 kept.new.items len }
+    ensures gone { (len : ℕ) → AreInOrder 0 kept.old.items len
+        → all_entries kept.new.items len ≡ slice_set (all_entries kept.old.items len) number gone_entry }
+{
+    match place_of(kept, number) {
+        Some(place) => {
+            set_entry(kept, place, GONE);
+            true
+        }
+        None => false,
+    }
+}
+
+/// Whether the last entry is of this number.
+fn ends_at(kept: &[KeptEntry], number: usize) -> bool
+    ensures { EndsAt kept.now number result }
+{
+    match kept.last() {
+        Some(one) => one.number == number,
+        None => false,
+    }
+}
+
+/// Removes the entry of number `last`, above which there is none, if it is kept, and returns it.
+fn pop_entry(kept: &mut Vec<KeptEntry>, last: usize) -> Entry
+    requires { AreInOrder 0 kept.old.items (last + 1) }
+    ensures order { AreInOrder 0 kept.new.items last }
+    ensures entries { all_entries kept.old.items (last + 1) ≡ all_entries kept.new.items last ++ result ∷ [] }
+{
+    if !ends_at(kept, last) {
+        return GONE;
+    }
+    let Some(one) = kept.pop() else {
+        return GONE;
+    };
+    one.entry
+}
+
+/// Gives place 0 to the null key, unless it has it.
+#[tactic(auto, using(crate::proofs::KeyTables::key_tables))]
+fn place_null(keys: &mut KeyTable, holders: &mut Vec<usize>) -> Result<(), AllocError>
+    requires { length holders.old.items ≡ length keys.old }
+    ensures ok { OnOk result (StartsWithNull keys.old holders.old.items keys.new holders.new.items) }
+    ensures err { OnErr result ((keys.new ≡ keys.old) × (holders.new.items ≡ holders.old.items)) }
+{
+    if !holders.is_empty() {
+        return Ok(());
+    }
+    holders.reserve(1)?;
+    keys.insert(Key::Null)?;
+    holders.push(0).unwrap();
+    Ok(())
+}
+
+/// How many rows there are with one more.
+fn one_more(len: usize) -> Result<usize, AllocError>
+    requires { len < 2 ^ 63 }
+    ensures { IfOk result (λ more. (more ≡ len + 1) × (more < 2 ^ 63)) }
+{
+    if len >= MOST_ROWS {
+        return Err(AllocError);
+    }
+    Ok(len + 1)
+}
+
+/// Removes the entries of rows that are gone.
+fn sweep(kept: &mut Vec<KeptEntry>)
+    ensures { kept.new.items ≡ filter is_kept kept.old.items }
+{
+    kept.retain(
+        |one: &KeptEntry| -> bool
+            ensures { result ≡ is_kept one.now }
+        { one.entry.key > 0 || one.entry.is_live || one.entry.is_new },
+    );
 }
 
 fn count(is_live: bool) -> usize
@@ -119,8 +321,10 @@ impl Numbers {
         Numbers {
             keys: KeyTable::new(alloc),
             holders: Vec::new(alloc),
-            entries: Vec::new(alloc),
+            kept: Vec::new(alloc),
+            len: 0,
             live: 0,
+            gone: 0,
         }
     }
 
@@ -129,7 +333,20 @@ impl Numbers {
         ensures value { result ≡ length self.now }
         ensures bound { result < 2 ^ 63 }
     {
-        self.entries.len()
+        let _keys = &self.keys;
+        self.len
+    }
+
+    /// The least number from this one on of which something is kept; the number of rows where there is none. Those before
+    /// it aren't live.
+    pub(crate) fn next_kept(&self, number: usize) -> usize
+        requires { number ≤ length self.now }
+        ensures from { number ≤ result }
+        ensures within { result ≤ length self.now }
+        ensures dead { (k : ℕ) → number ≤ k → k < result → (get_or self.now k no_row).live ≡ false }
+    {
+        let _keys = &self.keys;
+        next_kept(&self.kept, number, self.len)
     }
 
     /// Whether a row is live.
@@ -137,21 +354,24 @@ impl Numbers {
         requires { number < length self.now }
         ensures { result ≡ (get_or self.now number no_row).live }
     {
-        self.entries[number].is_live
+        let _keys = &self.keys;
+        entry_at(&self.kept, number).is_live
     }
 
-    /// The key of a row.
+    /// The key of a row: null where the row is gone.
     pub(crate) fn key(&self, number: usize) -> &Key
         requires { number < length self.now }
         ensures { result.now ≡ (get_or self.now number no_row).key }
     {
-        self.keys.get(self.entries[number].key).unwrap()
+        let entry = entry_at(&self.kept, number);
+        self.keys.get(entry.key).unwrap()
     }
 
     /// The number of live rows.
     pub(crate) fn live(&self) -> usize
         ensures { result ≡ live_count self.now }
     {
+        let _keys = &self.keys;
         self.live
     }
 
@@ -169,7 +389,7 @@ impl Numbers {
     {
         self.keys.distinct_law();
         match self.keys.find(key) {
-            Some(place) => holder(&self.holders, &self.entries, place),
+            Some(place) => holder(&self.holders, &self.kept, place),
             None => None,
         }
     }
@@ -179,23 +399,30 @@ impl Numbers {
         ensures pushed { IfOk result (λ added. Pushes self.old key added self.new) }
         ensures err { OnErr result (self.new ≡ self.old) }
     {
+        let len = one_more(self.len)?;
+        self.kept.reserve(1)?;
+        place_null(&mut self.keys, &mut self.holders)?;
         self.keys.distinct_law();
-        self.entries.reserve(1)?;
         self.holders.reserve(1)?;
         let place = self.keys.insert(key)?;
         let is_new = place == self.holders.len();
-        match holder(&self.holders, &self.entries, place) {
+        match holder(&self.holders, &self.kept, place) {
             Some(_) => return Ok(false),
             None => {}
         }
-        hold(&mut self.holders, place, self.entries.len());
-        self.entries
-            .push(Entry {
-                key: place,
-                is_live: true,
-                is_new,
+        hold(&mut self.holders, place, self.len);
+        let entry = Entry {
+            key: place,
+            is_live: true,
+            is_new,
+        };
+        self.kept
+            .push(KeptEntry {
+                number: self.len,
+                entry,
             })
             .unwrap();
+        self.len = len;
         self.live += 1;
         Ok(true)
     }
@@ -204,9 +431,12 @@ impl Numbers {
     fn pop(&mut self)
         ensures { self.new ≡ take (length self.old - 1) self.old }
     {
-        let Some(entry) = self.entries.pop() else {
+        if self.len == 0 {
             return;
-        };
+        }
+        let last = self.len - 1;
+        let entry = pop_entry(&mut self.kept, last);
+        self.len = last;
         let kept = kept(entry, self.holders.len());
         self.keys.truncate(kept);
         self.holders.truncate(kept);
@@ -227,18 +457,39 @@ impl Numbers {
         requires { (key : Key) × IsAt self.old number key true }
         ensures { self.new ≡ turned false self.old number }
     {
-        set_live(&mut self.entries, number, false);
+        set_live(&mut self.kept, number, false);
         self.live -= 1;
     }
 
-    /// Makes a retracted row live, whose key no live row has. It takes no memory.
+    /// Forgets the key of a row that isn't live: the row is gone. It takes no memory.
+    pub(crate) fn release(&mut self, number: usize)
+        requires there { number < length self.old }
+        requires out { (get_or self.old number no_row).live ≡ false }
+        ensures { self.new ≡ slice_set self.old number no_row }
+    {
+        if forget(&mut self.kept, number) {
+            self.gone = self.gone.saturating_add(1);
+        }
+    }
+
+    /// Forgets that the rows which are gone were kept, where they are many. It takes no memory.
+    pub(crate) fn tidy(&mut self)
+        ensures { self.new ≡ self.old }
+    {
+        if self.gone > self.kept.len() / 2 {
+            sweep(&mut self.kept);
+            self.gone = 0;
+        }
+    }
+
+    /// Makes a retracted row live, which isn't gone, and whose key no live row has. It takes no memory.
     pub(crate) fn revive(&mut self, number: usize)
-        requires { (key : Key) × IsAt self.old number key false × IsUnused self.old key }
+        requires { CanTurnOn self.old number }
         ensures { self.new ≡ turned true self.old number }
     {
-        let place = self.entries[number].key;
+        let place = entry_at(&self.kept, number).key;
         self.holders[place] = number;
-        set_live(&mut self.entries, number, true);
+        set_live(&mut self.kept, number, true);
         self.live += 1;
     }
 }

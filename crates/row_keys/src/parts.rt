@@ -1,11 +1,12 @@
-//! The parts of a `RowStore`: columns, places, keys and counts, and no row.
+//! The parts of a `RowStore`: chunks of columns, keys and counts, and no row.
 
-ghost use Rattle.std.specs.Prelude.{◌≡◌, IfOk, length};
+ghost use Rattle.std.specs.Prelude.{◌≡◌, IfOk};
 ghost use Rattle.row_keys.specs.Numbers.{AreDistinct};
-ghost use Rattle.row_keys.specs.Parts.{locations_in, numbers_in, retracted_in};
+ghost use Rattle.row_keys.specs.Parts.{numbers_in, retracted_in};
+ghost use Rattle.row_keys.specs.Stored.{AreGiven};
 
-use crate::batches::{RowLocation, StoredBatch};
 use crate::numbers::Numbers;
+use crate::stored_rows::StoredChunk;
 use std::alloc::{AllocError, Global};
 use values::Key;
 use view_lang::Table;
@@ -14,54 +15,33 @@ use view_lang::Table;
 #[derive(Drop)]
 pub struct StoreParts {
     pub table: Table,
-    pub batches: Vec<StoredBatch>,
-    /// What is kept of each row, by its number.
+    /// Where the rows lie, by their numbers.
+    pub chunks: Vec<StoredChunk>,
+    /// Under which key each row is known, by its number.
     pub rows: Vec<RowParts>,
     /// How many rows were opened.
     pub visits: u128,
 }
 
-/// What is kept of a row: where it is stored, its key, and whether it is live.
+/// What is kept of a row besides its cells: its key, which is null where the row is gone, and whether it is live.
 #[derive(Drop)]
 pub struct RowParts {
-    pub location: RowLocation,
     pub key: Key,
     pub is_live: bool,
 }
 
-/// What is kept of each row, by its number.
-pub(crate) fn take_rows(
-    alloc: Global,
-    locations: &[RowLocation],
-    numbers: &Numbers,
-) -> Result<Vec<RowParts>, AllocError>
-    requires { length locations.now ≡ length numbers.now }
-    ensures locations { IfOk result (λ rows. locations_in rows.items ≡ locations.now) }
-    ensures numbers { IfOk result (λ rows. numbers_in rows.items ≡ numbers.now) }
+/// What is kept of each row besides its cells, by its number.
+pub(crate) fn take_rows(alloc: Global, numbers: &Numbers) -> Result<Vec<RowParts>, AllocError>
+    ensures { IfOk result (λ rows. numbers_in rows.items ≡ numbers.now) }
 {
-    let mut rows = Vec::with_capacity(alloc, locations.len())?;
-    for number in 0..locations.len() {
+    let mut rows = Vec::with_capacity(alloc, numbers.len())?;
+    for number in 0..numbers.len() {
         rows.push(RowParts {
-            location: locations[number],
             key: numbers.key(number).copy(alloc)?,
             is_live: numbers.is_live(number),
         })?;
     }
     Ok(rows)
-}
-
-/// Where the rows are stored.
-pub(crate) fn make_locations(
-    alloc: Global,
-    rows: &[RowParts],
-) -> Result<Vec<RowLocation>, AllocError>
-    ensures { IfOk result (λ locations. locations.items ≡ locations_in rows.now) }
-{
-    let mut locations = Vec::with_capacity(alloc, rows.len())?;
-    for row in rows {
-        locations.push(row.location)?;
-    }
-    Ok(locations)
 }
 
 /// Numbers the rows as if all were retracted.
@@ -82,6 +62,7 @@ fn number_rows(alloc: Global, rows: &[RowParts]) -> Result<Numbers, AllocError>
 fn revive_rows(numbers: &mut Numbers, rows: &[RowParts])
     requires retracted { numbers.old ≡ retracted_in rows.now }
     requires distinct { AreDistinct (numbers_in rows.now) }
+    requires given { AreGiven (numbers_in rows.now) }
     ensures { numbers.new ≡ numbers_in rows.now }
 {
     for number in 0..rows.len() {
@@ -93,7 +74,8 @@ fn revive_rows(numbers: &mut Numbers, rows: &[RowParts])
 
 /// Numbers the rows.
 pub(crate) fn make_numbers(alloc: Global, rows: &[RowParts]) -> Result<Numbers, AllocError>
-    requires { AreDistinct (numbers_in rows.now) }
+    requires distinct { AreDistinct (numbers_in rows.now) }
+    requires given { AreGiven (numbers_in rows.now) }
     ensures { IfOk result (λ numbers. numbers ≡ numbers_in rows.now) }
 {
     let mut numbers = number_rows(alloc, rows)?;

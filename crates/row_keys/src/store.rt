@@ -2,12 +2,14 @@
 
 ghost use Rattle.std.specs.Prelude.{
   ◌≡◌,
+  ℕ,
   ◌++◌,
   ◌<◌,
   ◌≤◌,
   [],
   All,
   None,
+  false,
   IfErr,
   IfOk,
   IfSome,
@@ -39,6 +41,10 @@ ghost use Rattle.row_keys.specs.Slots.{
   CanShowPut,
   CanTakeBack,
   CanUndoPut,
+  AllOut,
+  HasKey,
+  IsOut,
+  emptied,
   keys_at,
   last_numbers,
   live,
@@ -48,6 +54,7 @@ ghost use Rattle.row_keys.specs.Slots.{
   put_hidden,
   put_shown,
   put_undone,
+  released,
   retracted,
   row_of,
   taken_back,
@@ -65,12 +72,13 @@ ghost use Rattle.row_keys.specs.Store.{
   with_slots,
 };
 
-use crate::batches::{RowLocation, StoredBatch, keep_rows};
+use crate::batches::keep_rows;
 use crate::faults::EditFault;
 use crate::key_columns::{find_batch, find_keys, push_batch, push_keys};
 use crate::numbers::Numbers;
-use crate::parts::{StoreParts, make_locations, make_numbers, take_rows};
+use crate::parts::{StoreParts, make_numbers, take_rows};
 use crate::stored_row::{StoredRow, Visit};
+use crate::stored_rows::StoredRows;
 use crate::turning::{retract_all, retract_from, revive_all, revive_from};
 use arrays::Column;
 use std::alloc::{AllocError, Global};
@@ -86,16 +94,14 @@ use view_lang::Table;
 pub struct RowStore {
     alloc: Global,
     table: Table,
-    batches: Vec<StoredBatch>,
-    // Where each row is stored, by its number.
-    locations: Vec<RowLocation>,
+    rows: StoredRows,
     numbers: Numbers,
     visits: u128,
 }
 
 impl Model for RowStore {
     ghost use Rattle.row_keys.specs.Store.{Store, store_code};
-    ghost use Rattle.row_keys.specs.Stored.{IsStored, joined, rows_by};
+    ghost use Rattle.row_keys.specs.Stored.{IsStored, joined};
 
     ghost Value = { Store };
 
@@ -103,11 +109,11 @@ impl Model for RowStore {
 
     ghost view = { λ s. record {
       table = s.table;
-      slots = joined (rows_by s.batches.items s.locations.items) s.numbers;
+      slots = joined s.rows s.numbers;
       visits = s.visits;
     } };
 
-    ghost invariant = { λ s. IsStored s.table s.batches.items s.locations.items s.numbers };
+    ghost invariant = { λ s. IsStored s.table s.rows s.numbers };
 }
 
 impl RowStore {
@@ -119,8 +125,7 @@ impl RowStore {
         RowStore {
             alloc,
             table,
-            batches: Vec::new(alloc),
-            locations: Vec::new(alloc),
+            rows: StoredRows::new(alloc),
             numbers: Numbers::new(alloc),
             visits: 0,
         }
@@ -134,17 +139,16 @@ impl RowStore {
         let RowStore {
             alloc,
             table,
-            batches,
-            locations,
+            rows,
             numbers,
             visits,
         } = self;
         numbers.distinct_law();
-        let rows = take_rows(alloc, &locations, &numbers)?;
+        let keys = take_rows(alloc, &numbers)?;
         Ok(StoreParts {
             table,
-            batches,
-            rows,
+            chunks: rows.into_chunks(),
+            rows: keys,
             visits,
         })
     }
@@ -156,17 +160,15 @@ impl RowStore {
     {
         let StoreParts {
             table,
-            batches,
+            chunks,
             rows,
             visits,
         } = parts;
-        let locations = make_locations(alloc, &rows)?;
         let numbers = make_numbers(alloc, &rows)?;
         Ok(RowStore {
             alloc,
             table,
-            batches,
-            locations,
+            rows: StoredRows::from_chunks(alloc, chunks, rows.len()),
             numbers,
             visits,
         })
@@ -180,9 +182,9 @@ impl RowStore {
         &self.table
     }
 
-    /// What holds of all rows, live or retracted, and of the live ones. It does nothing: its contract is the theorem.
+    /// What holds of the live rows. It does nothing: its contract is the theorem.
     pub fn rows_law(&self)
-        ensures held { All (λ s. IsRow self.now.table.columns s.row) self.now.slots }
+        ensures held { All (IsRow self.now.table.columns) (live_in self.now) }
         ensures table { IsTable self.now.table }
         ensures few { length (live_in self.now) ≤ self.now.table.max_rows }
         ensures keyed { AreKeyed self.now.table (contents_of self.now.slots) }
@@ -240,15 +242,7 @@ impl RowStore {
             Ok(()) => {}
             Err(fault) => return Err(fault),
         }
-        match keep_rows(
-            &self.table,
-            &mut self.batches,
-            &mut self.locations,
-            columns,
-            rows,
-            live,
-            before,
-        ) {
+        match keep_rows(&self.table, &mut self.rows, columns, rows, live, before) {
             Ok(()) => Ok(()),
             Err(fault) => {
                 self.numbers.truncate(before);
@@ -263,8 +257,37 @@ impl RowStore {
         ensures { self.new ≡ with_slots self.old (taken_back count self.old.slots) }
     {
         let left = self.numbers.len() - count;
-        self.locations.truncate(left);
+        self.rows.truncate(left);
         self.numbers.truncate(left);
+    }
+
+    /// Forgets the row of this number, which isn't live.
+    fn release_row(&mut self, number: usize)
+        requires { IsOut self.old.slots number }
+        ensures { self.new ≡ with_slots self.old (emptied self.old.slots number) }
+    {
+        self.rows.release(number);
+        self.numbers.release(number);
+    }
+
+    /// Forgets the rows of these numbers, which aren't live: they are gone, and can't be put back. A batch goes with
+    /// the last of its rows. It takes no memory.
+    pub fn release(&mut self, numbers: &[usize])
+        requires { AllOut numbers.now self.old.slots }
+        ensures { self.new ≡ with_slots self.old (released numbers.now self.old.slots) }
+    {
+        for number in numbers {
+            self.release_row(*number);
+        }
+        self.tidy();
+    }
+
+    /// Forgets what is kept of batches that went.
+    fn tidy(&mut self)
+        ensures { self.new ≡ self.old }
+    {
+        self.rows.tidy();
+        self.numbers.tidy();
     }
 
     /// The numbers of the live rows with these keys, in order. The error is the first cause for which the keys can't be
@@ -414,15 +437,14 @@ impl RowStore {
         revive_all(&mut self.numbers, numbers);
     }
 
-    /// The row of this number where it lies, live or retracted.
+    /// The row of this number where it lies, live or retracted. One that is gone has no cells.
     fn row_at(&self, number: usize) -> StoredRow<'_>
         requires { number < length self.now.slots }
         ensures row { result ≡ row_of self.now.slots number }
-        ensures held { IsRow self.now.table.columns result }
+        ensures held { HasKey self.now.table result → IsRow self.now.table.columns result }
     {
-        let place = self.locations[number];
-        let batch = &self.batches[place.batch];
-        StoredRow::new(&batch.columns, place.index)
+        let _table = &self.table;
+        self.rows.row(number)
     }
 
     /// Counts a visit of the row of this number.
@@ -434,20 +456,21 @@ impl RowStore {
         Visit::new(number)
     }
 
-    /// The row that is visited where it lies, live or retracted.
+    /// The row that is visited where it lies, live or retracted. One that is gone has no cells.
     pub fn row(&self, visit: Visit) -> StoredRow<'_>
         requires { visit < length self.now.slots }
         ensures row { result ≡ row_of self.now.slots visit }
-        ensures held { IsRow self.now.table.columns result }
+        ensures held { HasKey self.now.table result → IsRow self.now.table.columns result }
     {
         self.row_at(visit.number())
     }
 
-    /// A copy of the row of this number, live or retracted. It is counted as a visit.
+    /// A copy of the row of this number, live or retracted; one that is gone has no cells. It is counted as a visit.
     pub fn open_row(&mut self, number: usize) -> Result<Row, AllocError>
         requires { number < length self.old.slots }
         ensures row { IfOk result (λ row. row.items ≡ row_of self.old.slots number) }
-        ensures held { IfOk result (λ row. IsRow self.old.table.columns row.items) }
+        ensures held { IfOk result (λ row.
+            HasKey self.old.table row.items → IsRow self.old.table.columns row.items) }
         ensures visit { self.new ≡ visited 1 self.old }
     {
         let visit = self.visit(number);
@@ -497,7 +520,7 @@ impl RowStore {
         }
     }
 
-    /// Copies of the keys of a side table's rows of these numbers, live or retracted.
+    /// Copies of the keys of a side table's rows of these numbers, live or retracted; null for those that are gone.
     pub fn keys_of(&self, numbers: &[usize]) -> Result<Vec<Key>, AllocError>
         requires side { IsSideTable self.now.table }
         requires there { All (λ n. n < length self.now.slots) numbers.now }
@@ -520,10 +543,12 @@ impl RowStore {
         ensures few { length (live_in self.now) ≤ max_main_rows }
     {
         let mut numbers = Vec::with_capacity(self.alloc, self.len())?;
-        for number in 0..self.appended() {
+        let mut number = self.next_kept(0);
+        while number < self.appended() {
             if self.is_live(number) {
                 numbers.push(number)?;
             }
+            number = self.next_kept(number + 1);
         }
         Ok(numbers)
     }
@@ -534,6 +559,18 @@ impl RowStore {
     {
         let _table = &self.table;
         self.numbers.len()
+    }
+
+    /// The least number from this one on of which something is kept; the number of rows where there is none. The rows
+    /// before it aren't live.
+    pub(crate) fn next_kept(&self, number: usize) -> usize
+        requires { number ≤ length self.now.slots }
+        ensures from { number ≤ result }
+        ensures within { result ≤ length self.now.slots }
+        ensures dead { (k : ℕ) → number ≤ k → k < result → (get_or self.now.slots k no_slot).live ≡ false }
+    {
+        let _table = &self.table;
+        self.numbers.next_kept(number)
     }
 
     /// Whether the row of this number is live.

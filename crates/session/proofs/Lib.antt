@@ -14,3 +14,7 @@ pub mod Readings
 mod Telling
 mod Replaying
 mod Breaking
+mod Restored
+mod Releasing
+mod Evicting
+mod Touching

@@ -58,7 +58,7 @@ holds_take tables (suc n) rows [] es h = h
 holds_take tables (suc n) rows (r ∷ rs) [] h = absurd h
 holds_take tables (suc n) rows (r ∷ rs) (e ∷ es) h = (h.0, h.1, holds_take tables n (before r rows) rs es h.2)
 
-can_held :
+pub can_held :
     (tables : List Table) (rows : Rows) (r : UndoRecord) (rs : List UndoRecord) (es : List Edit)
     → HoldsBack tables rows (r ∷ rs) es → CanUndo tables r rows
 can_held tables rows r rs [] h = absurd h
@@ -72,19 +72,25 @@ rest_held tables rows r rs [] h = absurd h
 rest_held tables rows r rs (e ∷ es) h = h.2
 
 -- an edit on top of others
-pub edit_shown :
+edit_held :
     (tables : List Table) (old new : Rows) (rs : List UndoRecord) (past : Past) (r : UndoRecord) (e : Edit)
     → ShowsPast tables old rs past
     → AreWorld tables new (e ∷ past.edits) → CanUndo tables r new → before r new ≡ old
-    → ShowsPast tables new (take 64 (r ∷ rs)) (accepted past e)
-edit_shown tables old new rs past r e shown world can is =
+    → HoldsBack tables new (r ∷ rs) (e ∷ past.edits)
+edit_held tables old new rs past r e shown world can is =
     let below : HoldsBack tables (before r new) rs past.edits =
     subst (λ (rows : Rows). HoldsBack tables rows rs past.edits) (sym is) shown.holds in
-    let whole : HoldsBack tables new (r ∷ rs) (e ∷ past.edits) = (world, can, below) in
-    record {
-      holds = holds_take tables 64 new (r ∷ rs) (e ∷ past.edits) whole;
-      depth = ap (λ n. min 64 (suc n)) shown.depth ∙ sym (length-take 64 (r ∷ rs));
-    }
+    (world, can, below)
+
+-- of which the latest 64 can be undone
+pub edit_shown :
+    (tables : List Table) (rows : Rows) (rs kept : List UndoRecord) (past : Past) (r : UndoRecord) (e : Edit)
+    → past.depth ≡ length rs → kept ≡ take 64 (r ∷ rs) → HoldsBack tables rows kept (e ∷ past.edits)
+    → ShowsPast tables rows kept (accepted past e)
+edit_shown tables rows rs kept past r e deep first holds = record {
+  holds = holds;
+  depth = ap (λ n. min 64 (suc n)) deep ∙ sym (length-take 64 (r ∷ rs)) ∙ ap length (sym first);
+}
 
 -- the record that is in front
 front_is : {X : Type 0} (xs : List X) (x : X) → slice_get xs 0 ≡ Some x → xs ≡ x ∷ drop 1 xs
@@ -197,8 +203,7 @@ pub edit_made :
     → Makes (table_at tables e.table) e.change (rows_at old e.table) new (Ok c) → IsChangeOf e.table c
     → ShowsPast tables old rs past
     → (unfit_in tables past e ≡ None)
-    × ShowsPast tables (slice_set old e.table new) (take 64 (record { table = e.table; change = c } ∷ rs))
-    (accepted past e)
+    × HoldsBack tables (slice_set old e.table new) (record { table = e.table; change = c } ∷ rs) (e ∷ past.edits)
 edit_made tables e old new rs past c below made kind shown =
     let held : AreWorld tables old past.edits = holds_world tables old rs past.edits shown.holds in
     let there : rows_at (slice_set old e.table new) e.table ≡ new = rows_placed old e.table new below in
@@ -206,8 +211,25 @@ edit_made tables e old new rs past c below made kind shown =
     let can : CanGoBack (table_at tables e.table) c (rows_at (slice_set old e.table new) e.table) =
     subst (λ (slots : List Slot). CanGoBack (table_at tables e.table) c slots) (sym there) made.2 in (
       sym (unfit_there tables e old past held below) ∙ made.0,
-      edit_shown tables old (slice_set old e.table new) rs past (record { table = e.table; change = c }) e shown
+      edit_held tables old (slice_set old e.table new) rs past (record { table = e.table; change = c }) e shown
           (world_edited tables e old new past.edits held below made.1)
           (omega (arith, many, below), kind, can)
           (rows_restored old e.table new (back c) made.3),
     )
+
+-- the same of the rows that an edit leaves
+pub edit_whole :
+    (tables same : List Table) (e : Edit) (old new : Rows) (n : ℕ) (rs : List UndoRecord) (past : Past)
+    (c : TableChange) → e.table < length old
+    → Makes (table_at tables e.table) e.change (rows_at old e.table) (rows_at new e.table) (Ok c)
+    → IsChangeOf e.table c → new ≡ slice_set old e.table (rows_at new e.table) → same ≡ tables → n ≡ e.table
+    → ShowsPast tables old rs past
+    → (unfit_in tables past e ≡ None)
+    × HoldsBack same new (record { table = n; change = c } ∷ rs) (e ∷ past.edits)
+edit_whole tables same e old new n rs past c below made kind others is at shown =
+    let held = edit_made tables e old (rows_at new e.table) rs past c below made kind shown in
+    let P : Rows → Type 0 = λ rows. HoldsBack tables rows (record { table = e.table; change = c } ∷ rs)
+    (e ∷ past.edits) in
+    let Q : ℕ → Type 0 = λ k. HoldsBack tables new (record { table = k; change = c } ∷ rs) (e ∷ past.edits) in
+    let R : List Table → Type 0 = λ ts. HoldsBack ts new (record { table = n; change = c } ∷ rs) (e ∷ past.edits) in
+    (held.0, subst R (sym is) (subst Q (sym at) (subst P (sym others) held.1)))

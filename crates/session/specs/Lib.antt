@@ -11,3 +11,4 @@ pub mod Stale
 pub mod Visits
 pub mod Parts
 pub mod Bounds
+pub mod Released

@@ -8,9 +8,12 @@ ghost use Rattle.upkeep.specs.LiveEdits.{StaleByMemory};
 ghost use Rattle.upkeep.specs.Stores.{rows_in, tables_in};
 ghost use Rattle.upkeep.specs.TableChanges.{IsBatch};
 ghost use Rattle.session.specs.Changes.{Edits, IsBatchEvent, Takes, edit_by};
+ghost use Rattle.session.specs.Shows.{ShowsPast};
+ghost use Rattle.session.specs.Steps.{Past};
 ghost use Rattle.session.specs.Visits.{EditOpens, MessageOpens};
 
 use crate::calls::Event;
+use crate::records::record_change;
 use crate::undo::UndoRecord;
 use arrays::Column;
 use circular_buffer::HeapCircularBuffer;
@@ -30,6 +33,8 @@ fn edit(
     requires there { table_of role < length tables.old.stores }
     requires batch { IsBatch (feed_columns (tables_in tables.old.stores) role) columns.items rows }
     requires capacity { records.old.capacity ≡ 64 }
+    requires past { (past : Past)
+        × ShowsPast (tables_in tables.old.stores) (rows_in tables.old.stores) records.old.items past }
     ensures edits { Edits (tables_in tables.old.stores) (edit_by role columns.items rows)
         (rows_in tables.old.stores) records.old.items (rows_in tables.new.stores) records.new.items result }
     ensures tables { tables_in tables.new.stores ≡ tables_in tables.old.stores }
@@ -40,7 +45,7 @@ fn edit(
 {
     let table = tables.table_of(role);
     let change = tables.edit(role, columns, rows)?;
-    records.push_front(UndoRecord { table, change });
+    record_change(tables, records, UndoRecord { table, change });
     Ok(())
 }
 
@@ -54,6 +59,8 @@ pub(crate) fn respond(
     requires there { table_of role < length tables.old.stores }
     requires batch { IsBatchEvent (tables_in tables.old.stores) role event }
     requires capacity { records.old.capacity ≡ 64 }
+    requires past { (past : Past)
+        × ShowsPast (tables_in tables.old.stores) (rows_in tables.old.stores) records.old.items past }
     ensures takes { Takes (tables_in tables.old.stores) role (event_seen event) (rows_in tables.old.stores)
         records.old.items (rows_in tables.new.stores) records.new.items result }
     ensures tables { tables_in tables.new.stores ≡ tables_in tables.old.stores }

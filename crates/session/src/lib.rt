@@ -16,6 +16,7 @@ mod names;
 mod parts;
 mod push;
 mod records;
+mod releases;
 mod session;
 mod undo;
 mod view;
@@ -25,6 +26,7 @@ pub use cuts::cut_law;
 pub use laws::{reading_law, refusal_law, sample_law};
 pub use link::Link;
 pub use parts::SessionParts;
+pub use releases::release_law;
 pub use session::Session;
 pub use undo::UndoRecord;
 

@@ -2,10 +2,10 @@
 
 ghost use Rattle.std.specs.Prelude.{◌≡◌};
 ghost use Rattle.upkeep.specs.Stores.{rows_in, tables_in};
-ghost use Rattle.session.specs.Shows.{ShowsChannel};
+ghost use Rattle.session.specs.Shows.{ShowsChannel, ShowsPast};
 ghost use Rattle.session.specs.Changes.{PushesTo};
 ghost use Rattle.session.specs.Stale.{StaleByMemory};
-ghost use Rattle.session.specs.Steps.{Channel};
+ghost use Rattle.session.specs.Steps.{Channel, Past};
 ghost use Rattle.session.specs.Visits.{PushOpens};
 
 use crate::calls::{Fault, Pushed};
@@ -29,6 +29,8 @@ pub(crate) fn push_to(
 ) -> Result<Pushed, Fault>
     requires link { (c : Channel) × ShowsChannel (tables_in tables.old.stores) link.old c }
     requires capacity { records.old.capacity ≡ 64 }
+    requires past { (past : Past)
+        × ShowsPast (tables_in tables.old.stores) (rows_in tables.old.stores) records.old.items past }
     ensures pushes { PushesTo (tables_in tables.old.stores) link.old (rows_in tables.old.stores) records.old.items
         piece.now result link.new (rows_in tables.new.stores) records.new.items }
     ensures tables { tables_in tables.new.stores ≡ tables_in tables.old.stores }

@@ -1,11 +1,17 @@
 //! Undo records, as a list and in the session's buffer.
 
-ghost use Rattle.std.specs.Prelude.{◌≡◌, ◌≤◌, IfOk, length};
+ghost use Rattle.std.specs.Prelude.{◌≡◌, ◌≤◌, ◌++◌, [], ◌∷◌, None, IfOk, IfSome, List, length, take};
 ghost use Rattle.circular_buffer.specs.Buffer.{buffer};
+ghost use Rattle.view_lang.specs.Edits.{Edit};
+ghost use Rattle.upkeep.specs.Stores.{rows_in, tables_in, visits_in};
+ghost use Rattle.upkeep.specs.Touched.{touched};
+ghost use Rattle.session.specs.Shows.{HoldsBack};
 
+use crate::releases::release_law;
 use crate::undo::UndoRecord;
 use circular_buffer::HeapCircularBuffer;
 use std::alloc::{AllocError, Global};
+use upkeep::LiveTables;
 use values::limits::MAX_UNDO_DEPTH;
 
 /// The records of a session as a list, the newest first.
@@ -36,4 +42,50 @@ pub(crate) fn make_records(
         drop(made.push_back(record));
     }
     Ok(made)
+}
+
+/// Puts a record before the others, and returns the oldest if it is given up: where there were 64.
+fn push_record(
+    records: &mut HeapCircularBuffer<UndoRecord>,
+    newest: UndoRecord,
+) -> Option<UndoRecord>
+    requires { records.old.capacity ≡ 64 }
+    ensures records { records.new.items ≡ take 64 (newest ∷ records.old.items) }
+    ensures capacity { records.new.capacity ≡ 64 }
+    ensures oldest { IfSome result (λ oldest. newest ∷ records.old.items ≡ records.new.items ++ oldest ∷ []) }
+    ensures all { result ≡ None → records.new.items ≡ newest ∷ records.old.items }
+{
+    // No more are kept than there is room for.
+    let _room = records.capacity();
+    records.push_front(newest)
+}
+
+/// Records how the newest edit is undone. Where the oldest record is given up, the rows go that it alone could bring
+/// back. It takes no memory.
+pub(crate) fn record_change(
+    tables: &mut LiveTables,
+    records: &mut HeapCircularBuffer<UndoRecord>,
+    newest: UndoRecord,
+)
+    requires capacity { records.old.capacity ≡ 64 }
+    requires holds { (edits : List Edit) × HoldsBack (tables_in tables.old.stores) (rows_in tables.old.stores)
+        (newest ∷ records.old.items) edits }
+    ensures records { records.new.items ≡ take 64 (newest ∷ records.old.items) }
+    ensures capacity { records.new.capacity ≡ 64 }
+    ensures holds { (edits : List Edit)
+        → HoldsBack (tables_in tables.old.stores) (rows_in tables.old.stores) (newest ∷ records.old.items) edits
+        → HoldsBack (tables_in tables.old.stores) (rows_in tables.new.stores) records.new.items edits }
+    ensures tables { tables_in tables.new.stores ≡ tables_in tables.old.stores }
+    ensures views { tables.new.views ≡ tables.old.views }
+    ensures stale { tables.new.stale ≡ tables.old.stale }
+    ensures visits { visits_in tables.new.stores ≡ visits_in tables.old.stores }
+    ensures touched { touched (tables_in tables.old.stores) tables.old.views (rows_in tables.new.stores) newest.table
+        newest.change ≡ touched (tables_in tables.old.stores) tables.old.views (rows_in tables.old.stores)
+        newest.table newest.change }
+{
+    // It does nothing: the proof takes from it which rows can go.
+    release_law();
+    if let Some(oldest) = push_record(records, newest) {
+        tables.release(oldest.table, &oldest.change);
+    }
 }

@@ -132,7 +132,8 @@ fn read_cells(alloc: Global, store: &mut RowStore) -> Result<Vec<Key>, AllocErro
     Ok(keys)
 }
 
-/// A store made again of its parts has the same rows, also those whose dictionary another took the place of.
+/// A view of all rows, of which nothing is kept, opens each once. A store made again of its parts has the same rows, also
+/// those whose dictionary another took the place of.
 #[test]
 fn store_of_columns(rt: HostRuntime) -> Result<(), Fail> {
     let config = read_config(rt.alloc(), TEXTS);
@@ -140,6 +141,8 @@ fn store_of_columns(rt: HostRuntime) -> Result<(), Fail> {
     let mut session = Session::open(rt.alloc(), config.unwrap())?;
     push_all(&rt, &mut session, &REPLACED);
     assert_eq!(rt; session.live_rows(), 3);
+    let mut sink = MemorySink::new(rt.alloc());
+    assert_eq!(rt; write(&rt, &mut session, "texts", &mut sink), 3);
     let SessionParts { tables, .. } = session.into_parts()?;
     let LiveTablesParts { stores, .. } = tables;
     for store in stores {
@@ -150,8 +153,56 @@ fn store_of_columns(rt: HostRuntime) -> Result<(), Fail> {
         let mut made = RowStore::from_parts(rt.alloc(), store.into_parts()?)?;
         assert_eq!(rt; made.visits(), visits);
         assert_eq!(rt; made.len(), 3);
+        let first = made.first_live_numbers(rt.alloc(), 2)?;
+        assert_eq!(rt; first.as_slice(), [0, 1].as_slice());
         let after = read_cells(rt.alloc(), &mut made)?;
         assert_eq!(rt; after.as_slice(), before.as_slice());
     }
+    Ok(())
+}
+
+/// How many batches the store of the main table keeps.
+fn count_batches(session: Session) -> Result<usize, AllocError> {
+    let SessionParts { tables, .. } = session.into_parts()?;
+    let LiveTablesParts { stores, .. } = tables;
+    let mut batches = 0usize;
+    for (place, store) in stores.into_iter().enumerate() {
+        let parts = store.into_parts()?;
+        if place == 0 {
+            batches = parts
+                .chunks
+                .iter()
+                .filter(|chunk| !chunk.columns.is_empty())
+                .count();
+        }
+    }
+    Ok(batches)
+}
+
+/// Rows go that no undo brings back, and their batches with them: of a hundred that came and were retracted those are
+/// left that the last 64 edits retracted. All of these come back.
+#[test]
+fn rows_that_went(rt: HostRuntime) -> Result<(), Fail> {
+    let mut session = open(&rt, rt.alloc())?;
+    for id in 1..4u16 {
+        add(&rt, &mut session, id, b'p', 5);
+    }
+    let before = show(&rt, rt.alloc(), &mut session)?;
+    for _ in 0..100 {
+        add(&rt, &mut session, 9, b'p', 1);
+        retract(&rt, &mut session, 9);
+    }
+    let mut again = make_again(&rt, rt.alloc(), session)?;
+    for _ in 0..64 {
+        undo(&rt, &mut again);
+    }
+    assert!(rt; again.undo().is_err());
+    let after = show(&rt, rt.alloc(), &mut again)?;
+    assert_eq!(rt; after.sink.bytes(), before.sink.bytes());
+    for _ in 0..100 {
+        add(&rt, &mut again, 9, b'p', 1);
+        retract(&rt, &mut again, 9);
+    }
+    assert!(rt; count_batches(again)? <= 3 + 32);
     Ok(())
 }

@@ -258,7 +258,7 @@ module _ (laws : Laws) (tables : List Table) (n : ℕ) (u : Turn) (c : TableChan
 
     -- what is asked where the change is made
     pub remake_needs : (t : Table) → IsTable t → length (live main) ≤ t.max_rows
-        → (kept : NumberedRows) × (IsKept v.outputs v.order s.kept kept
+        → (kept : NumberedRows) × (IsKept v s.kept kept
         × (Fits kept (remade_change tables rows v n u c ns) × IsFew kept (remade_change tables rows v n u c ns)))
     remake_needs t right held = (
       image made_without (numbered main),
@@ -268,11 +268,11 @@ module _ (laws : Laws) (tables : List Table) (n : ℕ) (u : Turn) (c : TableChan
     -- and what is kept then
     pub remade_kept : (new : ViewState) → new.referrers ≡ s.referrers
         → ((kept : NumberedRows) → Fits kept (remade_change tables rows v n u c ns)
-        → IsKept v.outputs v.order s.kept kept
-        → IsKept v.outputs v.order new.kept (patched kept (remade_change tables rows v n u c ns)))
+        → IsKept v s.kept kept
+        → IsKept v new.kept (patched kept (remade_change tables rows v n u c ns)))
         → IsCurrentWith tables rows v new
     remade_kept new same kept = λ still. (
-      subst (λ (made : NumberedRows). IsKept v.outputs v.order new.kept made) change_leads.patched_is
+      subst (λ (made : NumberedRows). IsKept v new.kept made) change_leads.patched_is
           (kept (image made_without (numbered main)) change_leads.fits (was fresh).0),
       subst (λ (r : RowsByKey). KeepsReferrers r (image (referring_row v) (numbered main))) (sym same) (was fresh).1,
     )

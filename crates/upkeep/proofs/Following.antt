@@ -78,7 +78,7 @@ image_few make rows change few =
 pub follow_needs :
     (law : ImageFits) (v : View) (side : Side) (s : ViewState) (change : List Shift) (rows : NumberedRows)
     → IsCurrent v side s rows → Fits rows change → IsFew rows change → s.stale ≡ false
-    → (kept : NumberedRows) × (IsKept v.outputs v.order s.kept kept
+    → (kept : NumberedRows) × (IsKept v s.kept kept
     × (Fits kept (map (shift_image (made_row v side)) change)
     × IsFew kept (map (shift_image (made_row v side)) change)))
 follow_needs law v side s change rows current fits few fresh =

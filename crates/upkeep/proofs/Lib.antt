@@ -6,6 +6,7 @@ pub mod Keys
 pub mod Editing
 pub mod Viewing
 pub mod MadeRows
+pub mod EachRow
 pub mod Mixtures
 pub mod LookedUpViews
 pub mod FollowedViews
@@ -23,3 +24,4 @@ pub mod SideEdits
 pub mod Refreshing
 pub mod Taken
 pub mod TakenApart
+pub mod GoneRows

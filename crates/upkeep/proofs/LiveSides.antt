@@ -78,7 +78,7 @@ pub current_same :
     (v : View) (a b : Side) (s : ViewState) (rows : NumberedRows) → ((d : Datum) → a d ≡ b d) → IsCurrent v a s rows
     → IsCurrent v b s rows
 current_same v a b s rows same current = λ fresh. (
-  subst (λ (made : NumberedRows). IsKept v.outputs v.order s.kept made)
+  subst (λ (made : NumberedRows). IsKept v s.kept made)
       (image_same (made_row v a) (made_row v b) (made_same v a b same) rows) (current fresh).0,
   (current fresh).1,
 )

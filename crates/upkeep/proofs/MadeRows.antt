@@ -74,7 +74,7 @@ use Rattle.upkeep.specs.Reading.{
   IsReadable,
   made_at,
 }
-use Rattle.upkeep.specs.ViewStates.{IsKept, made_by, made_row}
+use Rattle.upkeep.specs.ViewStates.{IsKept, IsKeptBy, ShowsEach, made_by, made_row}
 use Rattle.upkeep.specs.declared.view_state.Kept.TheVariants as kept
 
 -- the laws of the crates below that are used
@@ -94,7 +94,7 @@ pub record Laws : Type 0 where
 
 -- Rows that are made of all live rows
 
-abbrev made_rows : Outputs → List (List Datum) → List (List Datum)
+abbrev pub made_rows : Outputs → List (List Datum) → List (List Datum)
 made_rows (columns outputs) rows = map (shown_row outputs) rows
 made_rows (groups by outputs having) rows = rows
 
@@ -105,7 +105,7 @@ module _ (laws : Laws) where
   made_each (columns outputs) v side rows = laws.shown v outputs side rows
   made_each (groups by outputs having) v side rows = laws.kept v side rows
 
-  made_values :
+  pub made_values :
       (os : Outputs) (v : View) (side : Side) (slots : List Slot)
       → values_of (image (λ row. made_by os (kept_row v side row)) (numbered slots))
       ≡ made_rows os (view_input v side (live slots))
@@ -131,11 +131,11 @@ abbrev tail_of : {X : Type 0} → List X → List X
 tail_of [] = []
 tail_of (x ∷ xs) = xs
 
-record Are (make : ℕ → Option (List Datum)) (P : ℕ → Type 0) (numbers : List ℕ) (rows : List (List Datum)) : Type 0
+pub record Are (make : ℕ → Option (List Datum)) (P : ℕ → Type 0) (numbers : List ℕ) (rows : List (List Datum)) : Type 0
   where
-    made : filter_map make numbers ≡ rows
-    all : All P numbers
-    many : length numbers ≡ length rows
+    pub made : filter_map make numbers ≡ rows
+    pub all : All P numbers
+    pub many : length numbers ≡ length rows
 
 made_numbers :
     (given make : ℕ → Option (List Datum)) (P : ℕ → Type 0)
@@ -162,7 +162,7 @@ all_at P [] all = tt
 all_at P (e ∷ es) all = (all.0, all_at P es all.1)
 
 -- a view without a number asks for as many as there may be
-first_taken : {X : Type 0} (first : Option ℕ) (most : ℕ) (xs : List X) → most ≡ unwrap_or first max_main_rows
+pub first_taken : {X : Type 0} (first : Option ℕ) (most : ℕ) (xs : List X) → most ≡ unwrap_or first max_main_rows
     → length (first_of first xs) ≤ max_main_rows → take most xs ≡ first_of first xs
 first_taken None most xs is few = take_all most xs (omega (arith, is, few))
 first_taken (Some n) most xs is few = ap (λ m. take m xs) is
@@ -173,24 +173,45 @@ record IsPlain (v : View) (side : Side) (slots : List Slot) (o : OrderedPlaces) 
   outputs : values_of es ≡ output_rows v.outputs (view_input v side (live slots))
 
 module _ (laws : Laws) where
+  made_there :
+      (v : View) (side : Side) (slots : List Slot) (n : ℕ) (r : List Datum)
+      → row_at n (image (made_row v side) (numbered slots)) ≡ Some r
+      → (made_row v side (row_of slots n) ≡ Some r) × (n < length slots)
+  made_there v side slots n r here =
+      let s : Slot = get_or slots n no_slot in
+      let made : option_and_then (made_row v side) (live_at slots n) ≡ Some r =
+      sym (laws.at (made_row v side) (numbered slots) n (laws.ascend slots)
+      ∙ ap (option_and_then (made_row v side)) (laws.numbers slots n)) ∙ here in
+      let both = live_made (made_row v side) s.live s.row r made in
+      (both.0, live_there slots n both.1)
+
+  -- the rows of numbers under which there is something
+  pub are_made :
+      (v : View) (side : Side) (slots : List Slot) (numbers : List ℕ) (rows : List (List Datum))
+      → map (λ n. row_at n (image (made_row v side) (numbered slots))) numbers ≡ map Some rows
+      → Are (λ n. made_row v side (row_of slots n)) (λ n. n < length slots) numbers rows
+  are_made v side slots numbers rows same =
+      made_numbers (λ n. row_at n (image (made_row v side) (numbered slots)))
+      (λ n. made_row v side (row_of slots n)) (λ n. n < length slots) (made_there v side slots) numbers rows same
+
   plain_by :
-      (v : View) (side : Side) (slots : List Slot) (os : Outputs) (o : OrderedPlaces) → v.outputs ≡ os
-      → IsKept os v.order (kept.Order o) (image (λ row. made_by os (kept_row v side row)) (numbered slots))
+      (Each : Type 0) (v : View) (side : Side) (slots : List Slot) (os : Outputs) (o : OrderedPlaces) → v.outputs ≡ os
+      → IsKeptBy Each (kept.Order o) os v.order (image (λ row. made_by os (kept_row v side row)) (numbered slots))
       → IsPlain v side slots o (image (λ row. made_by os (kept_row v side row)) (numbered slots))
   unfolding output_rows
-  plain_by v side slots (columns outputs) o same k = record {
+  plain_by Each v side slots (columns outputs) o same k = record {
     order = k.0;
     keeps = k.1;
     outputs = made_values laws (columns outputs) v side slots
         ∙ ap (λ x. output_rows x (view_input v side (live slots))) (sym same);
   }
-  plain_by v side slots (groups by outputs having) o same k = absurd k
+  plain_by Each v side slots (groups by outputs having) o same k = absurd k
 
   module _ (tables : List Table) (v : View) (side : Side) (slots : List Slot) (o : OrderedPlaces)
       (is : Viewed tables v side (live slots))
-      (k : IsKept v.outputs v.order (kept.Order o) (image (made_row v side) (numbered slots))) where
+      (k : IsKept v (kept.Order o) (image (made_row v side) (numbered slots))) where
     plain : IsPlain v side slots o (image (made_row v side) (numbered slots))
-    plain = plain_by v side slots v.outputs o refl k
+    plain = plain_by (ShowsEach v) v side slots v.outputs o refl k
 
     order_readable : IsKeptFor o (image (made_row v side) (numbered slots))
     order_readable =
@@ -216,38 +237,25 @@ module _ (laws : Laws) where
         ∙ ap (λ xs. take most (sorted (row_cmp v.order) xs)) plain.outputs
         ∙ first_taken v.first most (sorted (row_cmp v.order) made) asked (laws.few tables v side (live slots) is)
 
-    made_there :
-        (n : ℕ) (r : List Datum) → row_at n (image (made_row v side) (numbered slots)) ≡ Some r
-        → (made_row v side (row_of slots n) ≡ Some r) × (n < length slots)
-    made_there n r here =
-        let s : Slot = get_or slots n no_slot in
-        let made : option_and_then (made_row v side) (live_at slots n) ≡ Some r =
-        sym (laws.at (made_row v side) (numbered slots) n (laws.ascend slots)
-        ∙ ap (option_and_then (made_row v side)) (laws.numbers slots n)) ∙ here in
-        let both = live_made (made_row v side) s.live s.row r made in
-        (both.0, live_there slots n both.1)
-
     firsts :
         (most : ℕ) (numbers : List ℕ) → most ≡ unwrap_or v.first max_main_rows
         → AreFirst o.order most (image (made_row v side) (numbered slots)) numbers
         → Are (λ n. made_row v side (row_of slots n)) (λ n. n < length slots) numbers (view_rows v side (live slots))
     firsts most numbers asked first =
-        made_numbers (λ n. row_at n (image (made_row v side) (numbered slots)))
-        (λ n. made_row v side (row_of slots n)) (λ n. n < length slots) made_there numbers
-        (view_rows v side (live slots)) (first ∙ ap (map Some) (shown_first most asked))
+        are_made v side slots numbers (view_rows v side (live slots)) (first ∙ ap (map Some) (shown_first most asked))
 
 module _ (laws : Laws) where
   groups_by :
-      (tables : List Table) (v : View) (side : Side) (slots : List Slot) (os : Outputs) (g : Ranked)
+      (Each : Type 0) (tables : List Table) (v : View) (side : Side) (slots : List Slot) (os : Outputs) (g : Ranked)
       (made : List (List Datum)) → v.outputs ≡ os → Viewed tables v side (live slots)
-      → IsKept os v.order (kept.Groups g) (image (λ row. made_by os (kept_row v side row)) (numbered slots))
+      → IsKeptBy Each (kept.Groups g) os v.order (image (λ row. made_by os (kept_row v side row)) (numbered slots))
       → ((rows : List (List Datum)) → KeepsRanked g rows
       → CanReadAll g.groups.keys g.groups.columns g.ranking.outputs rows
       → made ≡ take (unwrap_or v.first max_main_rows) (ranked_rows g.groups.keys g.ranking rows))
       → made ≡ view_rows v side (live slots)
   unfolding view_rows shown_rows output_rows
-  groups_by tables v side slots (columns outputs) g made same is k read = absurd k
-  groups_by tables v side slots (groups by outputs having) g made same is k read =
+  groups_by Each tables v side slots (columns outputs) g made same is k read = absurd k
+  groups_by Each tables v side slots (groups by outputs having) g made same is k read =
       let rows : List (List Datum) = view_input v side (live slots) in
       let most : ℕ = unwrap_or v.first max_main_rows in
       let r : Ranking = ranking_by outputs having v.order in
@@ -271,7 +279,7 @@ module _ (laws : Laws) where
 
 pub groups_are_shown : Laws → GroupsAreShown
 groups_are_shown laws tables v side slots g made is read =
-    groups_by laws tables v side slots v.outputs g made refl is.viewed is.kept read
+    groups_by laws (ShowsEach v) tables v side slots v.outputs g made refl is.viewed is.kept read
 
 pub firsts_are_shown : Laws → FirstsAreShown
 firsts_are_shown laws tables v side slots o numbers is first =

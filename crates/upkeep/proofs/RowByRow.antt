@@ -66,7 +66,7 @@ use Rattle.upkeep.specs.Inputs.{side_by}
 use Rattle.upkeep.specs.StoreLaws.{rows_there, set_same, tables_length}
 use Rattle.upkeep.specs.Stores.{Rows, rows_at, rows_in, tables_in}
 use Rattle.upkeep.specs.ViewStates.{
-  IsKept,
+  IsKeptBy,
   made_by,
   made_change,
   made_row,
@@ -288,19 +288,19 @@ same_change P Q one change same turned rows fits before =
 
 -- An order is kept of the rows that a plain view shows.
 pub order_turned :
-    (os : Outputs) (outs : List Output) (order : List OrderBy) (k : Kept) (o o' : OrderedPlaces) (t : Turn) (n : ℕ)
+    (Each : Type 0) (os : Outputs) (outs : List Output) (order : List OrderBy) (k : Kept) (o o' : OrderedPlaces) (t : Turn) (n : ℕ)
     (row : List Datum) → os ≡ columns outs → k ≡ kept.Order o → o'.order ≡ o.order
     → ((rows : NumberedRows) → Fits rows (turned_by t n (Some (shown_row outs row)) ∷ []) → KeepsOrder o rows
     → KeepsOrder o' (patched rows (turned_by t n (Some (shown_row outs row)) ∷ [])))
-    → (rows : NumberedRows) → Fits rows (turned_by t n (made_by os (Some row)) ∷ []) → IsKept os order k rows
-    → IsKept os order (kept.Order o') (patched rows (turned_by t n (made_by os (Some row)) ∷ []))
-order_turned os outs order k o o' t n row is there same turned rows fits before =
+    → (rows : NumberedRows) → Fits rows (turned_by t n (made_by os (Some row)) ∷ []) → IsKeptBy Each k os order rows
+    → IsKeptBy Each (kept.Order o') os order (patched rows (turned_by t n (made_by os (Some row)) ∷ []))
+order_turned Each os outs order k o o' t n row is there same turned rows fits before =
     let plain : Fits rows (turned_by t n (Some (shown_row outs row)) ∷ []) =
     subst (λ (x : Outputs). Fits rows (turned_by t n (made_by x (Some row)) ∷ [])) is fits in
-    let was : IsKept (columns outs) order (kept.Order o) rows =
-    subst (λ (x : Kept). IsKept (columns outs) order x rows) there
-    (subst (λ (x : Outputs). IsKept x order k rows) is before) in
-    subst (λ (x : Outputs). IsKept x order (kept.Order o') (patched rows (turned_by t n (made_by x (Some row)) ∷ [])))
+    let was : IsKeptBy Each (kept.Order o) (columns outs) order rows =
+    subst (λ (x : Kept). IsKeptBy Each x (columns outs) order rows) there
+    (subst (λ (x : Outputs). IsKeptBy Each k x order rows) is before) in
+    subst (λ (x : Outputs). IsKeptBy Each (kept.Order o') x order (patched rows (turned_by t n (made_by x (Some row)) ∷ [])))
     (sym is) (same ∙ was.0, turned rows plain was.1)
 
 -- what holds of the tables and rows of stores, however the stores are named

@@ -72,7 +72,7 @@ counted (s ∷ ss) =
 
 current_more :
     (tables : List Table) (rows : Rows) (views : List View) (states : List ViewState) (v : View) (s : ViewState)
-    → EachIsCurrent tables rows [] views states → IsKept v.outputs v.order s.kept [] → KeepsReferrers s.referrers []
+    → EachIsCurrent tables rows [] views states → IsKept v s.kept [] → KeepsReferrers s.referrers []
     → EachIsCurrent tables rows [] (views ++ v ∷ []) (states ++ s ∷ [])
 current_more tables rows [] [] v s each kept refers = (λ fresh. (kept, refers), tt)
 current_more tables rows [] (t ∷ ts) v s each kept refers = absurd each
@@ -84,7 +84,7 @@ pub fresh_more :
     (tables : List Table) (rows : Rows) (views : List View) (i : ℕ) (old new : List ViewState) (v : View) (s :
     ViewState)
     → EachIsCurrent tables rows [] (take i views) old → i < length views → v ≡ get_or views i v
-    → IsKept v.outputs v.order s.kept [] → KeepsReferrers s.referrers [] → new ≡ old ++ s ∷ []
+    → IsKept v s.kept [] → KeepsReferrers s.referrers [] → new ≡ old ++ s ∷ []
     → EachIsCurrent tables rows [] (take (i + 1) views) new
 fresh_more tables rows views i old new v s each below at kept refers more =
     let next : take (i + 1) views ≡ take i views ++ v ∷ [] =

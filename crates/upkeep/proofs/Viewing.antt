@@ -46,19 +46,6 @@ use Rattle.upkeep.specs.Stores.{Rows, rows_at, rows_in, tables_in, world_of}
 use Rattle.upkeep.specs.StoreLaws.{rows_there, table_there}
 use Rattle.upkeep.proofs.InputRows.{contents_stored}
 
--- live rows are some of the rows
-live_held_by : (P : List Datum → Type 0) (s : Slot) (ss : List Slot) (b : Bool) → P s.row → All P (live ss)
-    → All P (cond b (s.row ∷ live ss) (live ss))
-live_held_by P s ss true here rest = All-cons P s.row (live ss) here rest
-live_held_by P s ss false here rest = rest
-
-live_held : (P : List Datum → Type 0) (slots : List Slot) → All (λ s. P s.row) slots → All P (live slots)
-unfolding live
-live_held P [] held = All-nil P
-live_held P (s ∷ ss) held =
-    live_held_by P s ss s.live (All-head (λ (x : Slot). P x.row) s ss held)
-    (live_held P ss (All-tail (λ (x : Slot). P x.row) s ss held))
-
 -- a row that is found is one of those
 found_held_by : (P : List Datum → Type 0) (r : List Datum) (o : Option (List Datum)) (b : Bool) → P r → IfSome o P
     → IfSome (cond b (Some r) o) P
@@ -84,7 +71,7 @@ each_held P (r ∷ rs) all = All-cons P r rs (all r) (each_held P rs all)
 
 module _ (stores : List Store) (v : View) (s : Store) (right : All IsTable (tables_in stores))
     (is_view : IsView (tables_in stores) v) (some : 0 < length stores) (main : s ≡ get_or stores 0 s)
-    (held : All (λ (x : Slot). IsRow s.table.columns x.row) s.slots) (table : IsTable s.table)
+    (held : All (IsRow s.table.columns) (live s.slots)) (table : IsTable s.table)
     (few : length (live s.slots) ≤ s.table.max_rows) where
   abbrev rows : Rows
   rows = rows_in stores
@@ -93,7 +80,7 @@ module _ (stores : List Store) (v : View) (s : Store) (right : All IsTable (tabl
   main_held =
       subst (λ (t : Table). All (IsRow t.columns) (live (rows_at rows 0))) (sym (table_there stores 0 s main some))
       (subst (λ (ss : List Slot). All (IsRow s.table.columns) (live ss)) (sym (rows_there stores 0 s main some))
-      (live_held (IsRow s.table.columns) s.slots held))
+      held)
 
   main_few : length (live (rows_at rows 0)) ≤ max_main_rows
   main_few =
@@ -121,12 +108,12 @@ module _ (stores : List Store) (v : View) (s : Store) (right : All IsTable (tabl
 
   pub viewed_joined : (l : Lookup) (n : ℕ) (side : Store) → v.lookup ≡ Some l → n ≡ suc l.side
       → side ≡ get_or stores n side → n < length stores
-      → All (λ (x : Slot). IsRow side.table.columns x.row) side.slots
+      → All (IsRow side.table.columns) (live side.slots)
       → Viewed (tables_in stores) v (side_by (tables_in stores) rows v) (live (rows_at rows 0))
   viewed_joined l n side is at there below side_rows = viewed_with (λ row.
       let P : List Datum → Type 0 = IsRow side.table.columns in
       let found : IfSome (side_of side.table (contents_of side.slots) (cell_at row l.on)) P =
-      side_held P side.table (contents_of side.slots) (cell_at row l.on) (live_held P side.slots side_rows) in
+      side_held P side.table (contents_of side.slots) (cell_at row l.on) side_rows in
       let Q : Table → Contents → Type 0 = λ t c. IfSome (side_of t c (cell_at row l.on)) (IsRow t.columns) in
       let here : Q (table_at (tables_in stores) n) (contents_at (world_of rows) n) =
       subst (λ (c : Contents). Q (table_at (tables_in stores) n) c) (sym (contents_stored stores n side there below))

@@ -1,6 +1,7 @@
 -- What a view shows, read out of what is kept of it.
 use Rattle.std.specs.Prelude.{◌≡◌, ℕ, ◌<◌, All, List, length, take}
 use Rattle.std.specs.List.{filter_map}
+use Rattle.std.specs.Map.{keys_of}
 use Rattle.std.specs.Option.{unwrap_or}
 use Rattle.values.specs.Datum.{Datum}
 use Rattle.values.specs.Limits.{max_main_rows}
@@ -26,7 +27,7 @@ made_at v side slots numbers = filter_map (λ n. made_row v side (row_of slots n
 -- What is kept of a view is made of the live rows of the main table, which can be viewed.
 pub record IsReadable (tables : List Table) (v : View) (side : Side) (slots : List Slot) (k : Kept) : Type 0 where
   pub viewed : Viewed tables v side (live slots)
-  pub kept : IsKept v.outputs v.order k (image (made_row v side) (numbered slots))
+  pub kept : IsKept v k (image (made_row v side) (numbered slots))
 
 -- The first rows of groups that are kept of a view, as many as it asks for, are those that it shows.
 abbrev pub GroupsAreShown : Type 0
@@ -44,8 +45,14 @@ pub record AreShown (v : View) (side : Side) (slots : List Slot) (numbers : List
   pub rows : made_at v side slots numbers ≡ view_rows v side (live slots)
   pub many : length numbers ≡ length (view_rows v side (live slots))
 
--- So are the first in an order that is kept of it, as many as it asks for. A view that shows all rows asks for as many
--- as there may be.
+-- So are those of the first live rows where the view shows each row, as many as it asks for. A view that shows all rows
+-- asks for as many as there may be.
+abbrev pub LiveAreShown : Type 0
+LiveAreShown =
+    (tables : List Table) (v : View) (side : Side) (slots : List Slot) → IsReadable tables v side slots kept.Live
+    → AreShown v side slots (take (unwrap_or v.first max_main_rows) (keys_of (numbered slots)))
+
+-- So are the first in an order that is kept of it, as many as it asks for.
 abbrev pub FirstsAreShown : Type 0
 FirstsAreShown =
     (tables : List Table) (v : View) (side : Side) (slots : List Slot) (o : OrderedPlaces) (numbers : List ℕ)

@@ -1,5 +1,5 @@
 -- How edits change the rows of their tables, and how that is taken back.
-use Rattle.std.specs.Prelude.{◌≡◌, ℕ, zero, suc, All, List, None, Result, Ok, Err, length}
+use Rattle.std.specs.Prelude.{◌≡◌, ℕ, zero, suc, All, List, [], None, Result, Ok, Err, length, slice_set}
 use Rattle.values.specs.Logical.{NamedType, trees_of}
 use Rattle.values.specs.Rose.{Rose, kids_of}
 use Rattle.arrays.specs.Checked.{CheckedColumn}
@@ -17,10 +17,12 @@ use Rattle.row_keys.specs.Slots.{
   contents_of,
   put_back,
   put_undone,
+  released,
   taken_back,
 }
 use Rattle.row_keys.specs.Store.{Refuses}
 use Rattle.row_keys.specs.declared.faults.EditFault.{EditFault}
+use Rattle.upkeep.specs.Stores.{Rows, rows_at}
 use Rattle.upkeep.specs.declared.table_change.TableChange.{TableChange}
 use Rattle.upkeep.specs.declared.table_change.TableChange.TheVariants.{Appended, Put, Retracted}
 
@@ -29,6 +31,16 @@ abbrev pub back : TableChange → List Slot → List Slot
 back (Appended n) slots = taken_back n slots
 back (Retracted ns) slots = put_back ns.items slots
 back (Put n replaced) slots = put_undone n replaced.items slots
+
+-- the numbers of the retracted rows that come back where a change is taken back
+abbrev pub restores : TableChange → List ℕ
+restores (Appended n) = []
+restores (Retracted ns) = ns.items
+restores (Put n replaced) = replaced.items
+
+-- the rows of all tables, when some of table k are gone
+abbrev pub released_at : ℕ → List ℕ → Rows → Rows
+released_at k ns rows = slice_set rows k (released ns (rows_at rows k))
 
 -- A change of a table's rows can be taken back.
 abbrev pub CanGoBack : Table → TableChange → List Slot → Type 0

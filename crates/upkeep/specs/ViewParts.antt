@@ -11,6 +11,7 @@ use Rattle.upkeep.specs.declared.view_state.Kept.TheVariants as kept
 use Rattle.upkeep.specs.declared.view_state.ViewState.{ViewState}
 
 abbrev pub kept_with : KeptParts → Kept
+kept_with parts.Live = kept.Live
 kept_with (parts.Order o) = kept.Order (ordered_with o)
 kept_with (parts.Groups g) = kept.Groups (ranked_with g)
 
@@ -20,6 +21,7 @@ state_with p = record { stale = p.stale; kept = kept_with p.kept; referrers = ro
 
 -- Places ascend, and groups are such as are kept of rows.
 abbrev pub IsKeptParts : KeptParts → Type 0
+IsKeptParts parts.Live = Unit {0}
 IsKeptParts (parts.Order o) = AreAscending o
 IsKeptParts (parts.Groups g) = AreRanked g
 

@@ -3,6 +3,7 @@ use Rattle.std.specs.Prelude.{
   ◌≡◌,
   ℕ,
   suc,
+  true,
   false,
   ◌||◌,
   All,
@@ -29,6 +30,8 @@ use Rattle.view_lang.specs.Outputs.{Outputs, columns, groups}
 use Rattle.view_lang.specs.Shifts.{NumberedRows, Shift, shift}
 use Rattle.view_lang.specs.Views.{kept_row, shown_row}
 use Rattle.view_lang.specs.declared.view.Lookup.{Lookup}
+use Rattle.view_lang.specs.declared.view.Missing.{Missing}
+use Rattle.view_lang.specs.declared.view.Missing.TheVariants as missing
 use Rattle.view_lang.specs.declared.view.OrderBy.{OrderBy}
 use Rattle.group_order.specs.Ranked.{Keeps as KeepsRanked, ranking_by}
 use Rattle.group_state.specs.KeptColumns.{IsKept as IsKeptColumn}
@@ -56,16 +59,42 @@ made_by (groups by outputs having) joined = joined
 abbrev pub made_row : View → Side → List Datum → Option (List Datum)
 made_row v side row = made_by v.outputs (kept_row v side row)
 
--- What is kept is that of these numbered rows: their places in the view's order, or their groups and the places of the
--- groups' rows in it.
-abbrev pub IsKept : Outputs → List OrderBy → Kept → NumberedRows → Type 0
-IsKept (columns outputs) order (kept.Order o) rows = (o.order ≡ order) × KeepsOrder o rows
-IsKept (groups by outputs having) order (kept.Groups g) rows =
+-- whether a row stays for which the side table has no row
+abbrev pub stays : Missing → Bool
+stays missing.Null = true
+stays missing.Drop = false
+
+-- whether no row is left out for want of a row of a side table
+abbrev pub leaves_none : Option Lookup → Bool
+leaves_none None = true
+leaves_none (Some l) = stays l.missing
+
+abbrev pub is_plain : Outputs → Bool
+is_plain (columns outputs) = true
+is_plain (groups by outputs having) = false
+
+-- A view shows each row of the main table in its place: it is plain, has no order and no filter, and leaves no row out.
+pub record ShowsEach (v : View) : Type 0 where
+  pub plain : is_plain v.outputs ≡ true
+  pub order : v.order ≡ []
+  pub filter : v.filter ≡ None
+  pub lookup : leaves_none v.lookup ≡ true
+
+-- What is kept is that of these numbered rows: their places in a view's order, or their groups and the places of the
+-- groups' rows in it; nothing is kept where the view shows each row.
+abbrev pub IsKeptBy : Type 0 → Kept → Outputs → List OrderBy → NumberedRows → Type 0
+IsKeptBy Each kept.Live outputs order rows = Each
+IsKeptBy Each (kept.Order o) (columns outputs) order rows = (o.order ≡ order) × KeepsOrder o rows
+IsKeptBy Each (kept.Order o) (groups by outputs having) order rows = ⊥
+IsKeptBy Each (kept.Groups g) (columns outputs) order rows = ⊥
+IsKeptBy Each (kept.Groups g) (groups by outputs having) order rows =
     (g.groups.keys ≡ by) × All (λ o. IsKeptColumn g.groups.columns o.aggregate) outputs
     × (g.ranking ≡ ranking_by outputs having order)
     × KeepsRanked g (values_of rows)
-IsKept (columns outputs) order (kept.Groups g) rows = ⊥
-IsKept (groups by outputs having) order (kept.Order o) rows = ⊥
+
+-- What is kept of a view is that of these numbered rows.
+abbrev pub IsKept : View → Kept → NumberedRows → Type 0
+IsKept v k rows = IsKeptBy (ShowsEach v) k v.outputs v.order rows
 
 -- the cell of a row of the main table that is looked up, if the view looks up a table
 abbrev pub referring_by : Option Lookup → List Datum → Option (List Datum)
@@ -80,7 +109,7 @@ referring_row v row = referring_by v.lookup row
 abbrev pub IsCurrent : View → Side → ViewState → NumberedRows → Type 0
 IsCurrent v side s rows =
     s.stale ≡ false
-    → IsKept v.outputs v.order s.kept (image (made_row v side) rows)
+    → IsKept v s.kept (image (made_row v side) rows)
     × KeepsReferrers s.referrers (image (referring_row v) rows)
 
 abbrev pub EachIsCurrent : List Table → Rows → NumberedRows → List View → List ViewState → Type 0

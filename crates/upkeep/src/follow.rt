@@ -39,7 +39,7 @@ ghost use Rattle.upkeep.specs.declared.view_state.Turn.TheVariants as turn_is;
 use crate::arrivals::Arrival;
 use crate::inputs::join_row;
 use crate::turning::{turn_joined, turn_referrer, turn_referring};
-use crate::view_state::{Kept, Turn, ViewState};
+use crate::view_state::{Kept, Turn, ViewState, keeps_nothing};
 use row_keys::{RowStore, StoredRow, numbers_law};
 use std::alloc::{AllocError, Global};
 use values::KeyBuffer;
@@ -57,17 +57,20 @@ fn turn_main_row(
     keys: &mut KeyBuffer,
 ) -> Result<(), AllocError>
     requires view { IsView (tables_in stores.now) view.now }
-    requires fits { (rows : NumberedRows) × (IsKept view.now.outputs view.now.order kept.old rows
+    requires fits { (rows : NumberedRows) × (IsKept view.now kept.old rows
         × (Fits rows (turned_by turn number
         (made_row view.now (side_by (tables_in stores.now) (rows_in stores.now) view.now) row) ∷ [])
         × (length rows < 2 ^ 62))) }
     ensures { OnOk result ((rows : NumberedRows)
         → Fits rows (turned_by turn number
         (made_row view.now (side_by (tables_in stores.now) (rows_in stores.now) view.now) row.entry) ∷ [])
-        → IsKept view.now.outputs view.now.order kept.old rows
-        → IsKept view.now.outputs view.now.order kept.new (patched rows (turned_by turn number
+        → IsKept view.now kept.old rows
+        → IsKept view.now kept.new (patched rows (turned_by turn number
         (made_row view.now (side_by (tables_in stores.now) (rows_in stores.now) view.now) row.entry) ∷ []))) }
 {
+    if let Kept::Live = kept {
+        return Ok(());
+    }
     let joined = join_row(stores, view, row, keys)?;
     turn_joined(view, kept, turn, number, joined)
 }
@@ -99,13 +102,13 @@ fn turn_number(
     requires view { IsView (tables_in stores.old.items) view.now }
     requires main { 0 < length stores.old.items }
     requires there { number < length (rows_at (rows_in stores.old.items) 0) }
-    requires fits { (rows : NumberedRows) × (IsKept view.now.outputs view.now.order kept.old rows
+    requires fits { (rows : NumberedRows) × (IsKept view.now kept.old rows
         × (Fits rows (made_change (tables_in stores.old.items) (rows_in stores.old.items) view.now turn (number ∷ []))
         × (length rows < 2 ^ 62))) }
     ensures kept { OnOk result ((rows : NumberedRows)
         → Fits rows (made_change (tables_in stores.old.items) (rows_in stores.old.items) view.now turn (number ∷ []))
-        → IsKept view.now.outputs view.now.order kept.old rows
-        → IsKept view.now.outputs view.now.order kept.new (patched rows
+        → IsKept view.now kept.old rows
+        → IsKept view.now kept.new (patched rows
         (made_change (tables_in stores.old.items) (rows_in stores.old.items) view.now turn (number ∷ [])))) }
     ensures tables { tables_in stores.new.items ≡ tables_in stores.old.items }
     ensures rows { rows_in stores.new.items ≡ rows_in stores.old.items }
@@ -131,18 +134,21 @@ pub(crate) fn turn_numbers(
     requires view { IsView (tables_in stores.old.items) view.now }
     requires main { 0 < length stores.old.items }
     requires there { All (λ n. n < length (rows_at (rows_in stores.old.items) 0)) numbers.now }
-    requires fits { (rows : NumberedRows) × (IsKept view.now.outputs view.now.order kept.old rows
+    requires fits { (rows : NumberedRows) × (IsKept view.now kept.old rows
         × (Fits rows (made_change (tables_in stores.old.items) (rows_in stores.old.items) view.now turn numbers.now)
         × IsFew rows (made_change (tables_in stores.old.items) (rows_in stores.old.items) view.now turn numbers.now))) }
     ensures kept { OnOk result ((rows : NumberedRows)
         → Fits rows (made_change (tables_in stores.old.items) (rows_in stores.old.items) view.now turn numbers.now)
-        → IsKept view.now.outputs view.now.order kept.old rows
-        → IsKept view.now.outputs view.now.order kept.new (patched rows
+        → IsKept view.now kept.old rows
+        → IsKept view.now kept.new (patched rows
         (made_change (tables_in stores.old.items) (rows_in stores.old.items) view.now turn numbers.now))) }
     ensures tables { tables_in stores.new.items ≡ tables_in stores.old.items }
     ensures rows { rows_in stores.new.items ≡ rows_in stores.old.items }
     ensures visits { visits_in stores.new.items ≤ visits_in stores.old.items + length numbers.now }
 {
+    if let Kept::Live = kept {
+        return Ok(());
+    }
     let mut keys = KeyBuffer::new(alloc);
     for index in 0..numbers.len() {
         turn_number(stores, view, kept, turn, numbers[index], &mut keys)?;
@@ -166,13 +172,13 @@ fn follow_number(
     requires main { 0 < length stores.old.items }
     requires there { number < length (rows_at (rows_in stores.old.items) 0) }
     requires known { TellsOf view.now arrival.now index (row_of (rows_at (rows_in stores.old.items) 0) number) }
-    requires fits { (rows : NumberedRows) × (IsKept view.now.outputs view.now.order state.old.kept rows
+    requires fits { (rows : NumberedRows) × (IsKept view.now state.old.kept rows
         × (Fits rows (made_change (tables_in stores.old.items) (rows_in stores.old.items) view.now turn (number ∷ []))
         × (length rows < 2 ^ 62))) }
     ensures kept { OnOk result ((rows : NumberedRows)
         → Fits rows (made_change (tables_in stores.old.items) (rows_in stores.old.items) view.now turn (number ∷ []))
-        → IsKept view.now.outputs view.now.order state.old.kept rows
-        → IsKept view.now.outputs view.now.order state.new.kept (patched rows
+        → IsKept view.now state.old.kept rows
+        → IsKept view.now state.new.kept (patched rows
         (made_change (tables_in stores.old.items) (rows_in stores.old.items) view.now turn (number ∷ [])))) }
     ensures referrers { OnOk result ((rows : NumberedRows)
         → Fits rows (referring_change (rows_at (rows_in stores.old.items) 0) view.now turn (number ∷ []))
@@ -216,13 +222,13 @@ fn follow_numbers(
     requires main { 0 < length stores.old.items }
     requires there { All (λ n. n < length (rows_at (rows_in stores.old.items) 0)) numbers.now }
     requires known { Tells view.now (rows_of_numbers (rows_at (rows_in stores.old.items) 0) numbers.now) arrival.now }
-    requires fits { (rows : NumberedRows) × (IsKept view.now.outputs view.now.order state.old.kept rows
+    requires fits { (rows : NumberedRows) × (IsKept view.now state.old.kept rows
         × (Fits rows (made_change (tables_in stores.old.items) (rows_in stores.old.items) view.now turn numbers.now)
         × IsFew rows (made_change (tables_in stores.old.items) (rows_in stores.old.items) view.now turn numbers.now))) }
     ensures kept { OnOk result ((rows : NumberedRows)
         → Fits rows (made_change (tables_in stores.old.items) (rows_in stores.old.items) view.now turn numbers.now)
-        → IsKept view.now.outputs view.now.order state.old.kept rows
-        → IsKept view.now.outputs view.now.order state.new.kept (patched rows
+        → IsKept view.now state.old.kept rows
+        → IsKept view.now state.new.kept (patched rows
         (made_change (tables_in stores.old.items) (rows_in stores.old.items) view.now turn numbers.now))) }
     ensures referrers { OnOk result ((rows : NumberedRows)
         → Fits rows (referring_change (rows_at (rows_in stores.old.items) 0) view.now turn numbers.now)
@@ -288,6 +294,9 @@ pub(crate) fn follow(
 {
     image_law();
     if state.stale {
+        return Ok(());
+    }
+    if keeps_nothing(view, state) {
         return Ok(());
     }
     let followed = follow_numbers(alloc, stores, view, state, turn, numbers, arrival);

@@ -17,6 +17,7 @@ mod live_tables;
 mod lookup_views;
 mod parts;
 mod reading;
+mod release;
 mod swaps;
 mod table_change;
 mod turning;

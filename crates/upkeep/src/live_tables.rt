@@ -26,6 +26,7 @@ ghost use Rattle.view_lang.specs.Views.{view_rows};
 ghost use Rattle.view_lang.specs.World.{table_at};
 ghost use Rattle.view_lang.specs.declared.config.Role.TheVariants.{Append, Retract};
 ghost use Rattle.row_keys.specs.Slots.{
+  AllOut,
   CanPutBack,
   CanTakeBack,
   live,
@@ -37,7 +38,15 @@ ghost use Rattle.upkeep.specs.Inputs.{side_by};
 ghost use Rattle.upkeep.specs.LiveParts.{AreOf, store_at, view_at};
 ghost use Rattle.upkeep.specs.LiveEdits.{Edited, NoneBecomesStale, WentBack};
 ghost use Rattle.upkeep.specs.Stores.{rows_at, rows_in, tables_in, visits_in};
-ghost use Rattle.upkeep.specs.TableChanges.{CanGoBack, IsBatch, IsChangeOf, back, change_by};
+ghost use Rattle.upkeep.specs.TableChanges.{
+  CanGoBack,
+  IsBatch,
+  IsChangeOf,
+  back,
+  change_by,
+  released_at,
+  restores,
+};
 ghost use Rattle.upkeep.specs.TablesParts.{AreLiveParts, live_with};
 ghost use Rattle.upkeep.specs.Touched.{OpensShown, built_of, touched};
 
@@ -48,6 +57,7 @@ use crate::follow::rebuild;
 use crate::lookup_views::follow_lookups;
 use crate::parts::LiveTablesParts;
 use crate::reading::kept_rows;
+use crate::release::release;
 use crate::swaps::{forget, swap};
 use crate::table_change::TableChange;
 use crate::view_parts::{make_states, take_states};
@@ -407,6 +417,21 @@ impl LiveTables {
         } else {
             self.go_back_side(table, change)
         }
+    }
+
+    /// Forgets the rows of a table that taking back a change would bring back: nothing else can, and the change will
+    /// never be taken back. It takes no memory.
+    pub fn release(&mut self, table: usize, change: &TableChange)
+        requires there { table < length self.old.stores }
+        requires out { AllOut (restores change.now) (rows_at (rows_in self.old.stores) table) }
+        ensures rows { rows_in self.new.stores ≡ released_at table (restores change.now) (rows_in self.old.stores) }
+        ensures tables { tables_in self.new.stores ≡ tables_in self.old.stores }
+        ensures views { self.new.views ≡ self.old.views }
+        ensures stale { self.new.stale ≡ self.old.stale }
+        ensures visits { visits_in self.new.stores ≡ visits_in self.old.stores }
+    {
+        numbers_law();
+        release(&mut self.stores[table], change);
     }
 
     /// Builds a view anew if it is stale.

@@ -70,7 +70,7 @@ fn remake_rows(
     requires swaps { CanSwap turn (table_at (tables_in stores.old.items) table) change.now
         (rows_at (rows_in stores.old.items) table) }
     requires numbers { All (λ n. n < length (rows_at (rows_in stores.old.items) 0)) numbers.now }
-    requires fits { (rows : NumberedRows) × (IsKept view.now.outputs view.now.order kept.old rows
+    requires fits { (rows : NumberedRows) × (IsKept view.now kept.old rows
         × (Fits rows (remade_change (tables_in stores.old.items) (rows_in stores.old.items) view.now table turn
         change.now numbers.now)
         × IsFew rows (remade_change (tables_in stores.old.items) (rows_in stores.old.items) view.now table turn
@@ -78,8 +78,8 @@ fn remake_rows(
     ensures kept { OnOk result ((rows : NumberedRows)
         → Fits rows (remade_change (tables_in stores.old.items) (rows_in stores.old.items) view.now table turn
         change.now numbers.now)
-        → IsKept view.now.outputs view.now.order kept.old rows
-        → IsKept view.now.outputs view.now.order kept.new (patched rows
+        → IsKept view.now kept.old rows
+        → IsKept view.now kept.new (patched rows
         (remade_change (tables_in stores.old.items) (rows_in stores.old.items) view.now table turn change.now
         numbers.now))) }
     ensures tables { tables_in stores.new.items ≡ tables_in stores.old.items }

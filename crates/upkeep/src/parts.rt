@@ -18,6 +18,8 @@ pub struct ViewParts {
 /// What is kept of the rows that a view is made of: their order, or their groups.
 #[derive(Debug, Drop)]
 pub enum KeptParts {
+    /// Nothing, of a plain view that shows each live row in its place.
+    Live,
     /// The places of the rows of a plain view in its order.
     Order(OrderedParts),
     Groups(RankedParts),

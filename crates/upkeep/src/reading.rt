@@ -1,6 +1,6 @@
 //! Reads the rows that a view shows out of what is kept of it.
 
-ghost use Rattle.std.specs.Prelude.{◌≡◌, ◌<◌, ◌≤◌, ◌+◌, ◌++◌, All, false, IfOk, OnOk, length, List};
+ghost use Rattle.std.specs.Prelude.{◌≡◌, ◌<◌, ◌≤◌, ◌+◌, ◌++◌, All, false, IfOk, OnOk, length, List, true};
 ghost use Rattle.std.specs.Option.{option_map};
 ghost use Rattle.view_lang.specs.Cells.{rows_of};
 ghost use Rattle.view_lang.specs.Config.{Table};
@@ -19,11 +19,12 @@ ghost use Rattle.upkeep.specs.Reading.{
   FirstsAreShown,
   GroupsAreShown,
   IsReadable,
+  LiveAreShown,
   made_at,
 };
 ghost use Rattle.upkeep.specs.Stores.{rows_at, rows_in, tables_in, visits_in};
 ghost use Rattle.upkeep.specs.Touched.{opened_of};
-ghost use Rattle.upkeep.specs.ViewStates.{IsCurrent, made_row};
+ghost use Rattle.upkeep.specs.ViewStates.{IsCurrent, is_plain, made_row};
 ghost use Rattle.upkeep.specs.declared.view_state.Kept.TheVariants as kept;
 
 use crate::inputs::join_row;
@@ -40,6 +41,7 @@ use view_lang::{Output, Outputs, View, image_law, one_by_one_law, project, rows_
 /// What can be read out of what is kept of a view. It does nothing: its contract is the theorem.
 fn reading_law()
     ensures groups { GroupsAreShown }
+    ensures live { LiveAreShown }
     ensures first { FirstsAreShown }
 {
     image_law();
@@ -117,6 +119,17 @@ fn make_rows(
     Ok(made)
 }
 
+/// The numbers of the rows that a plain view shows where it shows each row in its place.
+fn first_live(alloc: Global, stores: &[RowStore], view: &View) -> Result<Vec<usize>, AllocError>
+    requires { 0 < length stores.now }
+    ensures { IfOk result (λ numbers. (tables : List Table) → (side : Side)
+        → IsReadable tables view.now side (rows_at (rows_in stores.now) 0) kept.Live
+        → AreShown view.now side (rows_at (rows_in stores.now) 0) numbers.items) }
+{
+    reading_law();
+    stores[0].first_live_numbers(alloc, view.first.unwrap_or(MAX_MAIN_ROWS))
+}
+
 /// The numbers of the rows that a plain view shows, in their order.
 fn first_numbers(alloc: Global, view: &View, order: &Ordered) -> Result<Vec<usize>, AllocError>
     ensures { IfOk result (λ numbers. (tables : List Table) → (side : Side) → (slots : List Slot)
@@ -141,7 +154,35 @@ fn push_some(rows: &mut Vec<Row>, row: Option<Row>) -> Result<(), AllocError>
     }
 }
 
-/// The rows that a plain view shows. Only these are visited.
+/// The rows that a plain view shows, of which these are the numbers. Only these are visited.
+fn shown_rows(
+    alloc: Global,
+    stores: &mut Vec<RowStore>,
+    view: &View,
+    numbers: &[usize],
+) -> Result<Vec<Row>, AllocError>
+    requires main { 0 < length stores.old.items }
+    requires view { IsView (tables_in stores.old.items) view.now }
+    requires plain { is_plain view.now.outputs ≡ true }
+    requires shown { AreShown view.now
+        (side_by (tables_in stores.old.items) (rows_in stores.old.items) view.now)
+        (rows_at (rows_in stores.old.items) 0) numbers.now }
+    ensures rows { IfOk result (λ rows. rows_of rows.items
+        ≡ view_rows view.now (side_by (tables_in stores.old.items) (rows_in stores.old.items) view.now)
+        (live (rows_at (rows_in stores.old.items) 0))) }
+    ensures tables { tables_in stores.new.items ≡ tables_in stores.old.items }
+    ensures same_rows { rows_in stores.new.items ≡ rows_in stores.old.items }
+    ensures visits { visits_in stores.new.items ≤ visits_in stores.old.items + length (view_rows view.now
+        (side_by (tables_in stores.old.items) (rows_in stores.old.items) view.now)
+        (live (rows_at (rows_in stores.old.items) 0))) }
+{
+    match &view.outputs {
+        Outputs::Columns(outputs) => make_rows(alloc, stores, view, outputs, numbers),
+        Outputs::Groups { .. } => unreachable!(),
+    }
+}
+
+/// The rows that a plain view shows in the order that is kept of it.
 fn first_rows(
     alloc: Global,
     stores: &mut Vec<RowStore>,
@@ -162,10 +203,26 @@ fn first_rows(
         (live (rows_at (rows_in stores.old.items) 0))) }
 {
     let numbers = first_numbers(alloc, view, order)?;
-    match &view.outputs {
-        Outputs::Columns(outputs) => make_rows(alloc, stores, view, outputs, &numbers),
-        Outputs::Groups { .. } => unreachable!(),
-    }
+    shown_rows(alloc, stores, view, &numbers)
+}
+
+/// The rows that a plain view shows where it shows each row in its place.
+fn live_rows(alloc: Global, stores: &mut Vec<RowStore>, view: &View) -> Result<Vec<Row>, AllocError>
+    requires main { 0 < length stores.old.items }
+    requires kept { IsReadable (tables_in stores.old.items) view.now
+        (side_by (tables_in stores.old.items) (rows_in stores.old.items) view.now)
+        (rows_at (rows_in stores.old.items) 0) kept.Live }
+    ensures rows { IfOk result (λ rows. rows_of rows.items
+        ≡ view_rows view.now (side_by (tables_in stores.old.items) (rows_in stores.old.items) view.now)
+        (live (rows_at (rows_in stores.old.items) 0))) }
+    ensures tables { tables_in stores.new.items ≡ tables_in stores.old.items }
+    ensures same_rows { rows_in stores.new.items ≡ rows_in stores.old.items }
+    ensures visits { visits_in stores.new.items ≤ visits_in stores.old.items + length (view_rows view.now
+        (side_by (tables_in stores.old.items) (rows_in stores.old.items) view.now)
+        (live (rows_at (rows_in stores.old.items) 0))) }
+{
+    let numbers = first_live(alloc, stores, view)?;
+    shown_rows(alloc, stores, view, &numbers)
 }
 
 /// The rows that a view of groups shows. No other group is read.
@@ -205,6 +262,7 @@ pub(crate) fn kept_rows(
         (rows_at (rows_in stores.old.items) 0) }
 {
     match &state.kept {
+        Kept::Live => live_rows(alloc, stores, view),
         Kept::Order(order) => first_rows(alloc, stores, view, order),
         Kept::Groups(groups) => group_rows(alloc, view, groups),
     }

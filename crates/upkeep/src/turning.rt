@@ -88,16 +88,17 @@ fn turn_row<R: RowView>(
     number: usize,
     row: &R,
 ) -> Result<(), AllocError>
-    requires { (rows : NumberedRows) × (IsKept view.now.outputs view.now.order kept.old rows
+    requires { (rows : NumberedRows) × (IsKept view.now kept.old rows
         × (Fits rows (turned_by turn number (made_by view.now.outputs (Some (R.cells row.now))) ∷ [])
         × (length rows < 2 ^ 62))) }
     ensures { OnOk result ((rows : NumberedRows)
         → Fits rows (turned_by turn number (made_by view.now.outputs (Some (R.cells row.now))) ∷ [])
-        → IsKept view.now.outputs view.now.order kept.old rows
-        → IsKept view.now.outputs view.now.order kept.new
+        → IsKept view.now kept.old rows
+        → IsKept view.now kept.new
         (patched rows (turned_by turn number (made_by view.now.outputs (Some (R.cells row.now))) ∷ []))) }
 {
     match (&view.outputs, kept) {
+        (_, Kept::Live) => return Ok(()),
         (Outputs::Columns(outputs), Kept::Order(order)) => {
             turn_order(order, outputs, turn, number, row)?;
             return Ok(());
@@ -119,13 +120,13 @@ pub(crate) fn turn_joined(
     number: usize,
     joined: Option<JoinedRow<'_>>,
 ) -> Result<(), AllocError>
-    requires { (rows : NumberedRows) × (IsKept view.now.outputs view.now.order kept.old rows
+    requires { (rows : NumberedRows) × (IsKept view.now kept.old rows
         × (Fits rows (turned_by turn number (made_by view.now.outputs (option_map joined_cells joined)) ∷ [])
         × (length rows < 2 ^ 62))) }
     ensures { OnOk result ((rows : NumberedRows)
         → Fits rows (turned_by turn number (made_by view.now.outputs (option_map joined_cells joined.entry)) ∷ [])
-        → IsKept view.now.outputs view.now.order kept.old rows
-        → IsKept view.now.outputs view.now.order kept.new
+        → IsKept view.now kept.old rows
+        → IsKept view.now kept.new
         (patched rows (turned_by turn number (made_by view.now.outputs (option_map joined_cells joined.entry)) ∷ []))) }
 {
     let Some(row) = joined else {

@@ -17,6 +17,7 @@ impl Kept {
         ensures kept { IfOk result (λ parts. IsKeptParts parts) }
     {
         match self {
+            Kept::Live => Ok(KeptParts::Live),
             Kept::Order(order) => Ok(KeptParts::Order(order.into_parts()?)),
             Kept::Groups(groups) => Ok(KeptParts::Groups(groups.into_parts()?)),
         }
@@ -28,6 +29,7 @@ impl Kept {
         ensures { IfOk result (λ kept. kept ≡ kept_with parts) }
     {
         match parts {
+            KeptParts::Live => Ok(Kept::Live),
             KeptParts::Order(order) => Ok(Kept::Order(Ordered::from_parts(alloc, order)?)),
             KeptParts::Groups(groups) => Ok(Kept::Groups(RankedGroups::from_parts(alloc, groups)?)),
         }

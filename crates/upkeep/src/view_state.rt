@@ -1,18 +1,22 @@
 //! States of views: what is kept of each.
 
-ghost use Rattle.std.specs.Prelude.{◌≡◌, [], false, IfOk};
+ghost use Rattle.std.specs.Prelude.{◌≡◌, [], false, IfOk, None, true};
+ghost use Rattle.view_lang.specs.OutputsSeen.{outputs_of};
 ghost use Rattle.lookups.specs.Keeping.{Keeps as KeepsReferrers};
-ghost use Rattle.upkeep.specs.ViewStates.{IsKept};
+ghost use Rattle.upkeep.specs.ViewStates.{IsKept, ShowsEach, is_plain, leaves_none};
+ghost use Rattle.upkeep.specs.declared.view_state.Kept.TheVariants as kept_is;
 
 use group_order::{RankedGroups, Ranking};
 use lookups::Referrers;
 use std::alloc::{AllocError, Global};
 use top_rows::Ordered;
-use view_lang::{Outputs, View};
+use view_lang::{Lookup, Missing, Outputs, View};
 
 /// What is kept of the rows that a view is made of: their order, or their groups and the order of the groups' rows.
 #[derive(Debug, Drop)]
 pub(crate) enum Kept {
+    /// Nothing, of a plain view that shows each row in its place: the numbers of the live rows are its order.
+    Live,
     /// The places of the rows of a plain view in its order.
     Order(Ordered),
     /// The groups of the rows, and the places of the groups' rows in the view's order.
@@ -36,10 +40,46 @@ pub(crate) struct ViewState {
     pub referrers: Referrers,
 }
 
+fn is_plain(outputs: &Outputs) -> bool
+    ensures { result ≡ is_plain (outputs_of outputs.now) }
+{
+    match outputs {
+        Outputs::Columns(_) => true,
+        Outputs::Groups { .. } => false,
+    }
+}
+
+/// Whether no row is left out for want of a row of a side table.
+fn leaves_none(lookup: Option<Lookup>) -> bool
+    ensures { result ≡ leaves_none lookup }
+{
+    match lookup {
+        Some(lookup) => match lookup.missing {
+            Missing::Null => true,
+            Missing::Drop => false,
+        },
+        None => true,
+    }
+}
+
+/// Whether a view shows each row of the main table in its place: a plain one that has no order and no filter, and leaves
+/// no row out.
+fn shows_each(view: &View) -> bool
+    ensures { result ≡ true → ShowsEach view.now }
+{
+    is_plain(&view.outputs)
+        && view.order.is_empty()
+        && view.filter.is_none()
+        && leaves_none(view.lookup)
+}
+
 /// What is kept of a view of no rows.
 fn kept_of_none(alloc: Global, view: &View) -> Result<Kept, AllocError>
-    ensures { IfOk result (λ kept. IsKept view.now.outputs view.now.order kept []) }
+    ensures { IfOk result (λ kept. IsKept view.now kept []) }
 {
+    if shows_each(view) {
+        return Ok(Kept::Live);
+    }
     match &view.outputs {
         Outputs::Columns(_) => Ok(Kept::Order(Ordered::new(alloc, &view.order)?)),
         Outputs::Groups {
@@ -53,11 +93,21 @@ fn kept_of_none(alloc: Global, view: &View) -> Result<Kept, AllocError>
     }
 }
 
+/// Whether nothing is kept of a view and of what refers for it: rows come and go without it.
+pub(crate) fn keeps_nothing(view: &View, state: &ViewState) -> bool
+    ensures { result ≡ true → (state.now.kept ≡ kept_is.Live) × (view.now.lookup ≡ None) }
+{
+    match (&state.kept, view.lookup) {
+        (Kept::Live, None) => true,
+        _ => false,
+    }
+}
+
 impl ViewState {
     /// The state of a view of no rows.
     pub(crate) fn new(alloc: Global, view: &View) -> Result<ViewState, AllocError>
         ensures fresh { IfOk result (λ s. s.stale ≡ false) }
-        ensures kept { IfOk result (λ s. IsKept view.now.outputs view.now.order s.kept []) }
+        ensures kept { IfOk result (λ s. IsKept view.now s.kept []) }
         ensures referrers { IfOk result (λ s. KeepsReferrers s.referrers []) }
     {
         Ok(ViewState {

@@ -1,5 +1,6 @@
 use Rattle.row_keys.proofs.Changing.{changes_add}
 use Rattle.row_keys.proofs.ComingBack.{live_can_go, retracted_come_back}
+use Rattle.row_keys.proofs.Emptied.{released_unseen}
 use Rattle.row_keys.proofs.Hiding.{hidden_live}
 use Rattle.row_keys.proofs.NumberLaw.{
   all_come,
@@ -34,4 +35,5 @@ returns c = record {
   put_came = hidden_put_goes;
   hidden = λ t ns n slots can. hidden_live t n ns slots can;
   put_came_back = shown_put_comes;
+  released = released_unseen;
 }

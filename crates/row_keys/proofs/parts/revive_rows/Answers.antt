@@ -6,6 +6,7 @@ use Rattle.row_keys.proofs.parts.revive_rows.Goals.{then-rows-number, else-rows-
 pub revive-requires : goal.revive-requires
 revive-requires c =
     can_revive c.args.rows.now c.loop-number.number c.index-rows-number.result c.loop-number.numbers c.requires.distinct
+    c.requires.given
     c.loop-number.invariant c.loop-number-test.true c.index-rows-number.is
     (ap (λ r. r.is_live) c.index-rows-number.is ∙ c.if-rows-number.true)
 

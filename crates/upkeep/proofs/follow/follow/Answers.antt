@@ -1,6 +1,7 @@
 use Rattle.upkeep.specs.Inputs.{side_by}
 use Rattle.upkeep.specs.Stores.{rows_at, rows_in, tables_in}
 use Rattle.upkeep.specs.ViewStates.{turned}
+use Rattle.upkeep.proofs.EachRow.{still_current}
 use Rattle.upkeep.proofs.Following.{follow_needs}
 use Rattle.upkeep.proofs.follow.follow.Goals as goal
 
@@ -10,3 +11,9 @@ follow_numbers-followed-requires-clause-fits c =
     (side_by (tables_in c.args.stores.now.items) (rows_in c.args.stores.now.items) c.args.view.now) c.args.state.now
     (turned c.args.turn (rows_at (rows_in c.args.stores.now.items) 0) c.args.numbers.now)
     c.requires.fits.0 c.requires.fits.1.0 c.requires.fits.1.1.0 c.requires.fits.1.1.1 c.if-state.false
+
+pub returns-then-keeps_nothing-clause-kept : goal.returns-then-keeps_nothing-clause-kept
+returns-then-keeps_nothing-clause-kept c = λ rows fits current.
+    still_current c.args.view.now
+    (side_by (tables_in c.args.stores.now.items) (rows_in c.args.stores.now.items) c.args.view.now) c.args.state.now
+    rows _ (c.keeps_nothing.ensures c.if-keeps_nothing.true) current

@@ -55,7 +55,7 @@ returns-then-is_gone-clause-kept c = λ rows fits k.
     let gone = c.is_gone.ensures.gone c.if-is_gone.true in
     let dead = subst (λ (ss : List Store). (get_or (rows_at (rows_in ss) 0) c.args.number no_slot).live ≡ false)
     c.deref.ensures.value gone.1 in
-    still_kept (IsKept v.outputs v.order c.args.state.now.kept) (map (shift_image make) (turned c.args.turn slots
+    still_kept (IsKept v c.args.state.now.kept) (map (shift_image make) (turned c.args.turn slots
     (c.args.number ∷ []))) c.args.turn c.args.number None rows
     (dead_change make slots c.args.number c.args.turn gone.0 dead) refl fits k
 
@@ -87,7 +87,7 @@ returns-in-Some-looked_up-clause-kept c =
     let none = made_none v (side_by (tables_in stores) (rows_in stores) v) row
     (told.dropped (not_true _ (sym c.drops.ensures ∙ c.if-drops.true))) in
     on_ok _ _ c.turn_referrer.result
-    (λ done rows fits k. still_kept (IsKept v.outputs v.order c.args.state.now.kept) (map (shift_image make)
+    (λ done rows fits k. still_kept (IsKept v c.args.state.now.kept) (map (shift_image make)
     (turned c.args.turn slots (c.args.number ∷ []))) c.args.turn c.args.number (make row) rows
     (live_change make slots c.args.number c.args.turn live) none fits k)
     c.turn_referrer.ensures
@@ -129,7 +129,7 @@ returns-in-None-clause-kept c = λ rows fits k.
     subst (λ o. TellsOf v o c.args.index row) c.in-Some.is c.requires.known in
     let none = made_none v (side_by (tables_in stores) (rows_in stores) v) row
     (told.dropped (not_true _ (sym c.drops.ensures ∙ c.if-drops.true))) in
-    still_kept (IsKept v.outputs v.order c.args.state.now.kept) (map (shift_image make) (turned c.args.turn slots
+    still_kept (IsKept v c.args.state.now.kept) (map (shift_image make) (turned c.args.turn slots
     (c.args.number ∷ []))) c.args.turn c.args.number (make row) rows
     (live_change make slots c.args.number c.args.turn live) none fits k
 
@@ -183,7 +183,7 @@ returns-clause-kept c =
     c.index.ensures)
     c.visit-visit.ensures.number c.row-row.ensures.row c.args.turn live in
     on_ok _ _ c.turn_main_row.result
-    (λ turned_one. same_change (IsKept v.outputs v.order c.args.state.now.kept) (IsKept v.outputs v.order c.turn_main_row.new.kept) _
+    (λ turned_one. same_change (IsKept v c.args.state.now.kept) (IsKept v c.turn_main_row.new.kept) _
     _ same turned_one)
     c.turn_main_row.ensures
 

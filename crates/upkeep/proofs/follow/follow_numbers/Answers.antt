@@ -27,11 +27,11 @@ follow_number-requires-clause-fits c =
     let make = made_row v (side_by (tables_in stores) (rows_in stores) v) in
     let n : ℕ = get_or c.args.numbers.now c.loop-index.index 0 in
     at_stores (λ (ts : List Table) (rs : Rows). (rows : NumberedRows)
-    × (IsKept v.outputs v.order c.loop-index.state.kept rows
+    × (IsKept v c.loop-index.state.kept rows
     × (Fits rows (made_change ts rs v c.args.turn (n ∷ [])) × (length rows < 2 ^ 62))))
     (tables_in stores) (tables_in now) (rows_in stores) (rows_in now) (sym c.loop-index.invariant.tables)
     (sym c.loop-index.invariant.rows)
-    (next_needs (IsKept v.outputs v.order c.args.state.now.kept) (IsKept v.outputs v.order c.loop-index.state.kept) make
+    (next_needs (IsKept v c.args.state.now.kept) (IsKept v c.loop-index.state.kept) make
     c.args.turn slots c.args.numbers.now c.loop-index.index c.requires.fits.0 (omega (arith, c.loop-index-test.true))
     c.loop-index.invariant.kept c.requires.fits.1.0 c.requires.fits.1.1.0 c.requires.fits.1.1.1)
 
@@ -44,13 +44,13 @@ loop-index-preserved c =
     let make = made_row v (side_by (tables_in stores) (rows_in stores) v) in
     let n : ℕ = get_or c.args.numbers.now c.loop-index.index 0 in
     record {
-      kept = kept_more (IsKept v.outputs v.order c.args.state.now.kept)
-          (IsKept v.outputs v.order c.loop-index.state.kept) (IsKept v.outputs v.order c.follow_number.new.state.kept)
+      kept = kept_more (IsKept v c.args.state.now.kept)
+          (IsKept v c.loop-index.state.kept) (IsKept v c.follow_number.new.state.kept)
           make c.args.turn slots c.args.numbers.now c.loop-index.index (omega (arith, c.loop-index-test.true))
           c.loop-index.invariant.kept
           (at_stores (λ (ts : List Table) (rs : Rows). (rows : NumberedRows)
-          → Fits rows (made_change ts rs v c.args.turn (n ∷ [])) → IsKept v.outputs v.order c.loop-index.state.kept rows
-          → IsKept v.outputs v.order c.follow_number.new.state.kept
+          → Fits rows (made_change ts rs v c.args.turn (n ∷ [])) → IsKept v c.loop-index.state.kept rows
+          → IsKept v c.follow_number.new.state.kept
           (patched rows (made_change ts rs v c.args.turn (n ∷ []))))
           (tables_in now) (tables_in stores) (rows_in now) (rows_in stores) c.loop-index.invariant.tables
           c.loop-index.invariant.rows c.in_ok-follow_number.ensures.kept);
@@ -96,7 +96,7 @@ pub returns-clause-kept : goal.returns-clause-kept
 returns-clause-kept c =
     let v = c.args.view.now in
     let stores = c.args.stores.now.items in
-    kept_all (IsKept v.outputs v.order c.args.state.now.kept) (IsKept v.outputs v.order c.loop-index.state.kept)
+    kept_all (IsKept v c.args.state.now.kept) (IsKept v c.loop-index.state.kept)
     (made_row v (side_by (tables_in stores) (rows_in stores) v)) c.args.turn (rows_at (rows_in stores) 0)
     c.args.numbers.now c.loop-index.index (omega (arith, c.loop-index-test.false)) c.loop-index.invariant.kept
 

@@ -11,8 +11,8 @@ invariant-loop-index l = record {
   kept :
       (rows : NumberedRows)
       → Fits rows (made_change (tables_in l.fn.stores.items) (rows_in l.fn.stores.items) l.view l.turn l.numbers)
-      → IsKept l.view.outputs l.view.order l.fn.state.kept rows
-      → IsKept l.view.outputs l.view.order l.state.kept (patched rows (take l.index
+      → IsKept l.view l.fn.state.kept rows
+      → IsKept l.view l.state.kept (patched rows (take l.index
       (made_change (tables_in l.fn.stores.items) (rows_in l.fn.stores.items) l.view l.turn l.numbers)));
   referrers :
       (rows : NumberedRows)

@@ -20,7 +20,7 @@ returns-then-is_gone-clause-kept c = λ rows fits k.
     let gone = c.is_gone.ensures.gone c.if-is_gone.true in
     let dead = subst (λ (ss : List Store). (get_or (rows_at (rows_in ss) 0) c.args.number no_slot).live ≡ false)
     c.deref.ensures.value gone.1 in
-    still_kept (IsKept v.outputs v.order c.args.kept.now) (map (shift_image make) (turned c.args.turn slots
+    still_kept (IsKept v c.args.kept.now) (map (shift_image make) (turned c.args.turn slots
     (c.args.number ∷ []))) c.args.turn c.args.number None rows
     (dead_change make slots c.args.number c.args.turn gone.0 dead) refl fits k
 
@@ -55,6 +55,6 @@ returns-clause-kept c =
     c.index.ensures)
     c.visit-visit.ensures.number c.row-row.ensures.row c.args.turn live in
     on_ok _ _ c.turn_main_row.result
-    (λ turned. same_change (IsKept v.outputs v.order c.args.kept.now)
-    (IsKept v.outputs v.order c.turn_main_row.new.kept) _ _ same turned)
+    (λ turned. same_change (IsKept v c.args.kept.now)
+    (IsKept v c.turn_main_row.new.kept) _ _ same turned)
     c.turn_main_row.ensures

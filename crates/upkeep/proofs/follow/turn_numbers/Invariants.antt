@@ -9,8 +9,8 @@ invariant-loop-index l = record {
   kept :
       (rows : NumberedRows)
       → Fits rows (made_change (tables_in l.fn.stores.items) (rows_in l.fn.stores.items) l.view l.turn l.numbers)
-      → IsKept l.view.outputs l.view.order l.fn.kept rows
-      → IsKept l.view.outputs l.view.order l.kept (patched rows (take l.index
+      → IsKept l.view l.fn.kept rows
+      → IsKept l.view l.kept (patched rows (take l.index
       (made_change (tables_in l.fn.stores.items) (rows_in l.fn.stores.items) l.view l.turn l.numbers)));
   tables : tables_in l.stores.items ≡ tables_in l.fn.stores.items;
   rows : rows_in l.stores.items ≡ rows_in l.fn.stores.items;

@@ -154,7 +154,7 @@ turn_numbers-gone-requires-clause-fits c =
     c.swap.new.store turned in
     let rows = c.requires.fits.0 in
     at_stores (λ (ts : List Table) (rs : Rows). (now : NumberedRows)
-    × (IsKept v.outputs v.order c.args.kept.now now
+    × (IsKept v c.args.kept.now now
     × (Fits now (made_change ts rs v turn.Go ns) × IsFew now (made_change ts rs v turn.Go ns))))
     (tables_in stores) (tables_in went) hidden (rows_in went) (sym to_tables) (sym to_rows) (
       rows,
@@ -196,12 +196,12 @@ turn_numbers-requires-clause-fits c =
     c.index_mut-2.result.now c.swap-2.new.store turned since c.index_mut-2.ensures.value c.swap-2.ensures.slots
     c.opposite.ensures c.swap.ensures.back in
     let gone_kept = at_stores (λ (ts : List Table) (rs : Rows). (rows : NumberedRows)
-    → Fits rows (made_change ts rs v turn.Go ns) → IsKept v.outputs v.order c.args.kept.now rows
-    → IsKept v.outputs v.order c.turn_numbers-gone.new.kept (patched rows (made_change ts rs v turn.Go ns)))
+    → Fits rows (made_change ts rs v turn.Go ns) → IsKept v c.args.kept.now rows
+    → IsKept v c.turn_numbers-gone.new.kept (patched rows (made_change ts rs v turn.Go ns)))
     (tables_in went) (tables_in stores) (rows_in went) hidden to_tables to_rows c.in_ok-gone.ensures.kept in
     let rows = c.requires.fits.0 in
     at_stores (λ (ts : List Table) (rs : Rows). (now : NumberedRows)
-    × (IsKept v.outputs v.order c.turn_numbers-gone.new.kept now
+    × (IsKept v c.turn_numbers-gone.new.kept now
     × (Fits now (made_change ts rs v turn.Come ns) × IsFew now (made_change ts rs v turn.Come ns))))
     (tables_in stores) (tables_in back) (rows_in stores) (rows_in back) (sym back_to_tables) (sym back_to_rows) (
       patched rows goes,
@@ -243,15 +243,15 @@ returns-clause-kept c =
     c.index_mut-2.result.now c.swap-2.new.store turned since c.index_mut-2.ensures.value c.swap-2.ensures.slots
     c.opposite.ensures c.swap.ensures.back in
     let gone_kept = at_stores (λ (ts : List Table) (rs : Rows). (rows : NumberedRows)
-    → Fits rows (made_change ts rs v turn.Go ns) → IsKept v.outputs v.order c.args.kept.now rows
-    → IsKept v.outputs v.order c.turn_numbers-gone.new.kept (patched rows (made_change ts rs v turn.Go ns)))
+    → Fits rows (made_change ts rs v turn.Go ns) → IsKept v c.args.kept.now rows
+    → IsKept v c.turn_numbers-gone.new.kept (patched rows (made_change ts rs v turn.Go ns)))
     (tables_in went) (tables_in stores) (rows_in went) hidden to_tables to_rows c.in_ok-gone.ensures.kept in
     on_ok _ _ c.turn_numbers.result
     (λ come_kept rows fits before.
-    subst (IsKept v.outputs v.order c.turn_numbers.new.kept) (sym (patched_both rows goes comes))
+    subst (IsKept v c.turn_numbers.new.kept) (sym (patched_both rows goes comes))
     (at_stores (λ (ts : List Table) (rs : Rows). (now : NumberedRows)
-    → Fits now (made_change ts rs v turn.Come ns) → IsKept v.outputs v.order c.turn_numbers-gone.new.kept now
-    → IsKept v.outputs v.order c.turn_numbers.new.kept (patched now (made_change ts rs v turn.Come ns)))
+    → Fits now (made_change ts rs v turn.Come ns) → IsKept v c.turn_numbers-gone.new.kept now
+    → IsKept v c.turn_numbers.new.kept (patched now (made_change ts rs v turn.Come ns)))
     (tables_in back) (tables_in stores) (rows_in back) (rows_in stores) back_to_tables back_to_rows come_kept
     (patched rows goes) (fits_right rows goes comes fits)
     (gone_kept rows (fits_left rows goes comes fits) before)))

@@ -1,26 +1,21 @@
-use Rattle.std.proofs.Common.{◌<◌, ◌≤◌, ◌+◌, All, ap, length, subst, sym, ◌∙◌}
-use Rattle.std.proofs.lemmas.Result.{IfOk-weaker}
+use Rattle.std.proofs.Common.{subst, sym}
 use Rattle.upkeep.specs.Inputs.{side_by}
-use Rattle.upkeep.specs.Reading.{made_at}
-use Rattle.upkeep.specs.Stores.{rows_at, rows_in, tables_in, visits_in}
+use Rattle.upkeep.specs.Reading.{AreShown}
+use Rattle.upkeep.specs.Stores.{rows_at, rows_in, tables_in}
+use Rattle.upkeep.specs.ViewStates.{ShowsEach}
+use Rattle.upkeep.proofs.EachRow.{order_is_plain}
 use Rattle.upkeep.proofs.reading.first_rows.Goals as goal
 
-pub make_rows-requires-clause-there : goal.make_rows-requires-clause-there
-make_rows-requires-clause-there c =
-    subst (All (λ n. n < length (rows_at (rows_in c.args.stores.now.items) 0))) (sym c.deref-in-Columns.ensures.value)
-    (c.in_ok-numbers.ensures _ _ _ c.requires.kept).there
+pub shown_rows-requires-clause-view : goal.shown_rows-requires-clause-view
+shown_rows-requires-clause-view c = c.requires.kept.viewed.view
 
-pub returns-clause-rows : goal.returns-clause-rows
-returns-clause-rows c =
-    IfOk-weaker c.make_rows.result _ _
-    (λ rows made. made
-    ∙ ap (made_at c.args.view.now (side_by (tables_in c.args.stores.now.items) (rows_in c.args.stores.now.items)
-    c.args.view.now) (rows_at (rows_in c.args.stores.now.items) 0)) c.deref-in-Columns.ensures.value
-    ∙ (c.in_ok-numbers.ensures _ _ _ c.requires.kept).rows)
-    c.make_rows.ensures.rows
+pub shown_rows-requires-clause-plain : goal.shown_rows-requires-clause-plain
+shown_rows-requires-clause-plain c =
+    order_is_plain (ShowsEach c.args.view.now) c.args.view.now.outputs c.args.view.now.order c.args.order.now _
+    c.requires.kept.kept
 
-pub returns-clause-visits : goal.returns-clause-visits
-returns-clause-visits c =
-    let shown = c.in_ok-numbers.ensures _ _ _ c.requires.kept in
-    subst (λ n. visits_in c.make_rows.new.stores.items ≤ visits_in c.args.stores.now.items + n)
-    (ap length c.deref-in-Columns.ensures.value ∙ shown.many) c.make_rows.ensures.visits
+pub shown_rows-requires-clause-shown : goal.shown_rows-requires-clause-shown
+shown_rows-requires-clause-shown c =
+    let stores = c.args.stores.now.items in
+    subst (AreShown c.args.view.now (side_by (tables_in stores) (rows_in stores) c.args.view.now)
+    (rows_at (rows_in stores) 0)) (sym c.deref.ensures.value) (c.in_ok-numbers.ensures _ _ _ c.requires.kept)

@@ -1,3 +1,4 @@
+use Rattle.upkeep.proofs.EachRow.{live_are_shown}
 use Rattle.upkeep.proofs.MadeRows.{Laws, firsts_are_shown, groups_are_shown}
 use Rattle.upkeep.proofs.reading.reading_law.Goals as goal
 
@@ -17,4 +18,4 @@ returns c =
       keys = c.rows_law.ensures.keys;
       ordered = c.rows_law.ensures.ordered;
     } in
-    record { groups = groups_are_shown laws; first = firsts_are_shown laws }
+    record { groups = groups_are_shown laws; live = live_are_shown laws; first = firsts_are_shown laws }

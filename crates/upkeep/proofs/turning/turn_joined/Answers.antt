@@ -9,6 +9,6 @@ use Rattle.upkeep.proofs.turning.turn_joined.Goals as goal
 pub returns-in_default : goal.returns-in_default
 returns-in_default c = λ rows fits k.
     let outputs = c.args.view.now.outputs in
-    still_kept (IsKept outputs c.args.view.now.order c.args.kept.now) _ c.args.turn c.args.number
+    still_kept (IsKept c.args.view.now c.args.kept.now) _ c.args.turn c.args.number
     (made_by outputs (option_map joined_cells c.args.joined)) rows refl
     (made-none outputs (option_map joined_cells c.args.joined) (ap (option_map joined_cells) c.in_default.is)) fits k

@@ -1,6 +1,7 @@
-use Rattle.std.proofs.Common.{ℕ, List, subst, true}
+use Rattle.std.proofs.Common.{ℕ, List, subst, sym, true}
 use Rattle.std.specs.Prelude.{MatchOption}
-use Rattle.row_keys.specs.declared.numbers.Entry.{Entry}
+use Rattle.row_keys.specs.Entries.{AreInOrder, all_entries}
+use Rattle.row_keys.specs.declared.numbers.KeptEntry.{KeptEntry}
 use Rattle.row_keys.specs.Index.{HoldsPlace, IsFree}
 use Rattle.row_keys.specs.Numbers.{IsAt, IsUnused, Numbered}
 use Rattle.row_keys.proofs.Indexes.{found_row, no_row}
@@ -10,22 +11,30 @@ pub returns-in-Some : goal.returns-in-Some
 returns-in-Some c =
     let P : List ℕ
     → Type 0 =
-    λ hs. MatchOption c.holder.result (IsFree hs c.deref-in-Some.result.now c.in-Some.place)
-    (HoldsPlace c.deref-in-Some.result.now c.in-Some.place) in
-    let Q : List Entry
+    λ hs. MatchOption c.holder.result
+    (IsFree hs (all_entries c.self.inside.kept.items c.self.inside.len) c.in-Some.place)
+    (HoldsPlace (all_entries c.self.inside.kept.items c.self.inside.len) c.in-Some.place) in
+    let Q : List KeptEntry
     → Type 0 =
-    λ es. MatchOption c.holder.result (IsFree c.self.inside.holders.items es c.in-Some.place)
-    (HoldsPlace es c.in-Some.place) in
+    λ ks. AreInOrder 0 ks c.self.inside.len
+    → MatchOption c.holder.result (IsFree c.deref.result.now (all_entries ks c.self.inside.len) c.in-Some.place)
+    (HoldsPlace (all_entries ks c.self.inside.len) c.in-Some.place) in
     let R : List Numbered → Type 0 =
     λ xs. MatchOption c.holder.result (IsUnused xs c.args.key.now) (λ n. IsAt xs n c.args.key.now true) in
     subst R c.self.view_is
-    (found_row c.self.inside.keys c.self.inside.holders.items c.self.inside.entries.items c.self.inside.live
-    c.in-Some.place c.args.key.now
-    c.holder.result c.self.invariant c.distinct_law.ensures c.in-Some.ensures
-    (subst Q c.deref-in-Some.ensures.value (subst P c.deref.ensures.value c.holder.ensures)))
+    (found_row c.self.inside.keys c.self.inside.holders.items (all_entries c.self.inside.kept.items c.self.inside.len)
+    c.self.inside.live c.in-Some.place c.args.key.now
+    c.holder.result c.self.invariant.index c.distinct_law.ensures c.in-Some.ensures
+    (subst P c.deref.ensures.value
+    (subst Q c.deref-in-Some.ensures.value (c.holder.ensures c.self.inside.len) c.self.invariant.order)))
 
 pub returns-in-None : goal.returns-in-None
 returns-in-None c =
     subst (λ xs. IsUnused xs c.args.key.now) c.self.view_is
-    (no_row c.self.inside.keys c.self.inside.holders.items c.self.inside.entries.items c.self.inside.live c.args.key.now
-    c.self.invariant c.in-None.ensures)
+    (no_row c.self.inside.keys c.self.inside.holders.items (all_entries c.self.inside.kept.items c.self.inside.len)
+    c.self.inside.live c.args.key.now c.self.invariant.index c.in-None.ensures)
+
+pub holder-requires : goal.holder-requires
+holder-requires c =
+    let P : List KeptEntry → Type 0 = λ ks. AreInOrder 0 ks c.self.inside.len in
+    (c.self.inside.len, subst P (sym c.deref-in-Some.ensures.value) c.self.invariant.order)

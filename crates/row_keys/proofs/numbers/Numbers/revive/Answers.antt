@@ -1,28 +1,40 @@
-use Rattle.std.proofs.Common.{List, ap, arith, subst, sym, ◌∙◌, true, false}
-use Rattle.row_keys.specs.Index.{seen_all}
-use Rattle.row_keys.specs.Numbers.{IsAt, IsUnused, Numbered, turned}
-use Rattle.row_keys.proofs.Indexing.{index_revived, live_within, rows_flagged}
+use Rattle.std.proofs.Common.{arith, false, true}
+use Rattle.row_keys.proofs.KeptIndex.{at_below, gone_not, index_on, kept_keyed, live_fits, seen_turned}
 use Rattle.row_keys.proofs.numbers.Numbers.revive.Goals as goal
+
+pub index_mut-requires : goal.index_mut-requires
+index_mut-requires c =
+    let keyed =
+    kept_keyed c.self.inside.keys c.self.inside.holders.items c.self.inside.kept.items c.deref.result.now
+    c.self.inside.len c.self.inside.live c.args.number c.entry_at-place.result c.args.self.now c.self.invariant
+    c.self.view_is (at_below c.args.self.now c.args.number c.requires.0 false c.requires.1)
+    c.entry_at-place.ensures c.deref.ensures.value in
+    let many = c.self.invariant.index.as_many in
+    omega (arith, keyed, many)
+
+pub set_live-requires-clause-kept : goal.set_live-requires-clause-kept
+set_live-requires-clause-kept c = λ gone.
+    absurd (gone_not c.self.inside.keys c.self.inside.holders.items c.self.inside.kept.items c.self.inside.len
+    c.self.inside.live c.args.number c.requires.0 c.args.self.now c.self.invariant c.self.view_is c.requires.1
+    c.requires.3 gone)
 
 pub overflow_add-self : goal.overflow_add-self
 overflow_add-self c =
-    let few =
-    live_within c.self.inside.keys c.self.inside.holders.items c.self.inside.entries.items c.self.inside.live
-    c.self.invariant in
-    omega (arith, few, c.self.inside.entries.small)
+    let fits =
+    live_fits c.self.inside.keys c.self.inside.holders.items c.self.inside.kept.items c.self.inside.len
+    c.self.inside.live c.self.invariant in
+    omega (arith, fits)
 
 pub invariant_of-self : goal.invariant_of-self
 invariant_of-self c =
-    let P : List Numbered → Type 0 = λ xs. IsAt xs c.args.number c.requires.0 false in
-    let Q : List Numbered → Type 0 = λ xs. IsUnused xs c.requires.0 in
-    rw c.set_live.ensures
-    (index_revived c.self.inside.keys c.self.inside.holders.items c.self.inside.entries.items c.self.inside.live
-    c.args.number c.requires.0 c.index.result.now c.self.invariant c.index.ensures
-    (subst P (sym c.self.view_is) c.requires.1)
-    (subst Q (sym c.self.view_is) c.requires.2))
+    index_on c.self.inside.keys c.self.inside.holders.items c.self.inside.kept.items c.deref.result.now
+    c.set_live.new.kept.items
+    c.self.inside.len c.self.inside.live c.args.number c.requires.0 c.entry_at-place.result c.args.self.now
+    c.self.invariant c.self.view_is c.entry_at-place.ensures c.deref.ensures.value c.requires.1 c.requires.2
+    (c.set_live.ensures.order c.self.inside.len c.self.invariant.order)
+    (c.set_live.ensures.flagged c.self.inside.len c.self.invariant.order)
 
 pub returns : goal.returns
 returns c =
-    ap (λ es. seen_all c.self.inside.keys es) c.set_live.ensures
-    ∙ rows_flagged c.self.inside.keys c.self.inside.entries.items true c.args.number
-    ∙ ap (λ xs. turned true xs c.args.number) c.self.view_is
+    seen_turned c.self.inside.keys c.self.inside.kept.items c.set_live.new.kept.items c.self.inside.len c.args.number
+    true c.args.self.now c.self.view_is (c.set_live.ensures.flagged c.self.inside.len c.self.invariant.order)

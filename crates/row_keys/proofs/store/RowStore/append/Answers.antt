@@ -9,7 +9,7 @@ use Rattle.row_keys.specs.KeyColumns.{PushesKeys, RefusesKeys}
 use Rattle.row_keys.specs.Numbers.{live_count}
 use Rattle.row_keys.specs.Slots.{new_slot, contents_of}
 use Rattle.row_keys.specs.Store.{Refuses, Store}
-use Rattle.row_keys.specs.Stored.{joined, rows_by}
+use Rattle.row_keys.specs.Stored.{joined}
 use Rattle.row_keys.proofs.Appending.{
   appended_back,
   batch_fits,
@@ -31,7 +31,7 @@ returns-in-Err-clause-refused c =
     λ s. Refuses (cause_of s.table (contents_of s.slots) (append (batch_rows c.args.rows c.args.columns.items)))
     c.in-Err.fault in
     subst P c.self.view_is
-    (keys_unfit c.self.inside.table c.self.inside.batches.items c.self.inside.locations.items c.self.inside.numbers
+    (keys_unfit c.self.inside.table c.self.inside.rows c.self.inside.numbers
     (batch_rows c.args.rows c.args.columns.items)
     c.in-Err.fault c.self.invariant (subst K c.deref.ensures.value c.in-Err.ensures.refused))
 
@@ -53,8 +53,8 @@ invariant_of-self-in-Ok-keep_rows c =
     let few : are_many c.self.inside.table.max_rows (live_count c.self.inside.numbers) (length c.self.inside.numbers)
     c.args.rows ≡ false =
     subst G c.len-before.ensures.value (subst F c.live-live.ensures c.in-Ok-keep_rows.ensures.few) in
-    rw (c.in-Ok-keep_rows.ensures.batches, c.in-Ok-keep_rows.ensures.locations)
-    (stored_appended c.self.inside.table c.self.inside.batches.items c.self.inside.locations.items c.self.inside.numbers
+    rw c.in-Ok-keep_rows.ensures.kept
+    (stored_appended c.self.inside.table c.self.inside.rows c.self.inside.numbers
     c.push_batch.new.numbers c.args.columns.items c.args.rows
     (length c.self.inside.numbers) c.self.invariant batch pushed few c.in-Ok-keep_rows.ensures.light
     c.in-Ok-keep_rows.ensures.held)
@@ -71,18 +71,14 @@ returns-in-Ok-keep_rows-clause-contents c =
     PushesKeys (keys_in c.self.inside.table (batch_rows c.args.rows c.args.columns.items)) c.self.inside.numbers
     c.push_batch.new.numbers =
     subst K c.deref.ensures.value c.in-Ok.ensures.pushed in
-    let slots : joined (rows_by c.keep_rows.new.batches.items c.keep_rows.new.locations.items) c.push_batch.new.numbers
-    ≡ joined (rows_by c.self.inside.batches.items c.self.inside.locations.items) c.self.inside.numbers
-    ++ map new_slot (batch_rows c.args.rows c.args.columns.items) =
-    ap (λ bs. joined (rows_by bs c.keep_rows.new.locations.items) c.push_batch.new.numbers)
-    c.in-Ok-keep_rows.ensures.batches
-    ∙ ap (λ ps. joined (rows_by (c.self.inside.batches.items ++ c.args.columns.items ∷ []) ps) c.push_batch.new.numbers)
-    c.in-Ok-keep_rows.ensures.locations
-    ∙ slots_appended c.self.inside.table c.self.inside.batches.items c.self.inside.locations.items c.self.inside.numbers
+    let slots : joined c.keep_rows.new.kept c.push_batch.new.numbers
+    ≡ joined c.self.inside.rows c.self.inside.numbers ++ map new_slot (batch_rows c.args.rows c.args.columns.items) =
+    ap (λ rows. joined rows c.push_batch.new.numbers) c.in-Ok-keep_rows.ensures.kept
+    ∙ slots_appended c.self.inside.table c.self.inside.rows c.self.inside.numbers
     c.push_batch.new.numbers c.args.columns.items c.args.rows c.self.invariant pushed in
     ap contents_of slots
     ∙ world_added c.self.inside.table
-    (joined (rows_by c.self.inside.batches.items c.self.inside.locations.items) c.self.inside.numbers)
+    (joined c.self.inside.rows c.self.inside.numbers)
     (batch_rows c.args.rows c.args.columns.items)
     ∙ ap (λ (s : Store). applied s.table (append (batch_rows c.args.rows c.args.columns.items)) (contents_of s.slots))
     c.self.view_is
@@ -109,7 +105,7 @@ returns-in-Ok-keep_rows-clause-fits c =
     → Type 0 =
     λ s. cause_of s.table (contents_of s.slots) (append (batch_rows c.args.rows c.args.columns.items)) ≡ None in
     subst P c.self.view_is
-    (batch_fits c.self.inside.table c.self.inside.batches.items c.self.inside.locations.items c.self.inside.numbers
+    (batch_fits c.self.inside.table c.self.inside.rows c.self.inside.numbers
     c.push_batch.new.numbers c.args.columns.items c.args.rows
     c.self.invariant batch pushed few c.in-Ok-keep_rows.ensures.light)
 
@@ -125,16 +121,12 @@ returns-in-Ok-keep_rows-clause-can_go_back c =
     PushesKeys (keys_in c.self.inside.table (batch_rows c.args.rows c.args.columns.items)) c.self.inside.numbers
     c.push_batch.new.numbers =
     subst K c.deref.ensures.value c.in-Ok.ensures.pushed in
-    let slots : joined (rows_by c.keep_rows.new.batches.items c.keep_rows.new.locations.items) c.push_batch.new.numbers
-    ≡ joined (rows_by c.self.inside.batches.items c.self.inside.locations.items) c.self.inside.numbers
-    ++ map new_slot (batch_rows c.args.rows c.args.columns.items) =
-    ap (λ bs. joined (rows_by bs c.keep_rows.new.locations.items) c.push_batch.new.numbers)
-    c.in-Ok-keep_rows.ensures.batches
-    ∙ ap (λ ps. joined (rows_by (c.self.inside.batches.items ++ c.args.columns.items ∷ []) ps) c.push_batch.new.numbers)
-    c.in-Ok-keep_rows.ensures.locations
-    ∙ slots_appended c.self.inside.table c.self.inside.batches.items c.self.inside.locations.items c.self.inside.numbers
+    let slots : joined c.keep_rows.new.kept c.push_batch.new.numbers
+    ≡ joined c.self.inside.rows c.self.inside.numbers ++ map new_slot (batch_rows c.args.rows c.args.columns.items) =
+    ap (λ rows. joined rows c.push_batch.new.numbers) c.in-Ok-keep_rows.ensures.kept
+    ∙ slots_appended c.self.inside.table c.self.inside.rows c.self.inside.numbers
     c.push_batch.new.numbers c.args.columns.items c.args.rows c.self.invariant pushed in
-    (appended_back (joined (rows_by c.self.inside.batches.items c.self.inside.locations.items) c.self.inside.numbers) _
+    (appended_back (joined c.self.inside.rows c.self.inside.numbers) _
     c.args.columns.items c.args.rows slots).0
 
 pub returns-in-Ok-keep_rows-clause-back : goal.returns-in-Ok-keep_rows-clause-back
@@ -149,16 +141,12 @@ returns-in-Ok-keep_rows-clause-back c =
     PushesKeys (keys_in c.self.inside.table (batch_rows c.args.rows c.args.columns.items)) c.self.inside.numbers
     c.push_batch.new.numbers =
     subst K c.deref.ensures.value c.in-Ok.ensures.pushed in
-    let slots : joined (rows_by c.keep_rows.new.batches.items c.keep_rows.new.locations.items) c.push_batch.new.numbers
-    ≡ joined (rows_by c.self.inside.batches.items c.self.inside.locations.items) c.self.inside.numbers
-    ++ map new_slot (batch_rows c.args.rows c.args.columns.items) =
-    ap (λ bs. joined (rows_by bs c.keep_rows.new.locations.items) c.push_batch.new.numbers)
-    c.in-Ok-keep_rows.ensures.batches
-    ∙ ap (λ ps. joined (rows_by (c.self.inside.batches.items ++ c.args.columns.items ∷ []) ps) c.push_batch.new.numbers)
-    c.in-Ok-keep_rows.ensures.locations
-    ∙ slots_appended c.self.inside.table c.self.inside.batches.items c.self.inside.locations.items c.self.inside.numbers
+    let slots : joined c.keep_rows.new.kept c.push_batch.new.numbers
+    ≡ joined c.self.inside.rows c.self.inside.numbers ++ map new_slot (batch_rows c.args.rows c.args.columns.items) =
+    ap (λ rows. joined rows c.push_batch.new.numbers) c.in-Ok-keep_rows.ensures.kept
+    ∙ slots_appended c.self.inside.table c.self.inside.rows c.self.inside.numbers
     c.push_batch.new.numbers c.args.columns.items c.args.rows c.self.invariant pushed in
-    (appended_back (joined (rows_by c.self.inside.batches.items c.self.inside.locations.items) c.self.inside.numbers) _
+    (appended_back (joined c.self.inside.rows c.self.inside.numbers) _
     c.args.columns.items c.args.rows slots).1
     ∙ ap (λ (s : Store). s.slots) c.self.view_is
 
@@ -174,14 +162,10 @@ returns-in-Ok-keep_rows-clause-slots c =
     PushesKeys (keys_in c.self.inside.table (batch_rows c.args.rows c.args.columns.items)) c.self.inside.numbers
     c.push_batch.new.numbers =
     subst K c.deref.ensures.value c.in-Ok.ensures.pushed in
-    let slots : joined (rows_by c.keep_rows.new.batches.items c.keep_rows.new.locations.items) c.push_batch.new.numbers
-    ≡ joined (rows_by c.self.inside.batches.items c.self.inside.locations.items) c.self.inside.numbers
-    ++ map new_slot (batch_rows c.args.rows c.args.columns.items) =
-    ap (λ bs. joined (rows_by bs c.keep_rows.new.locations.items) c.push_batch.new.numbers)
-    c.in-Ok-keep_rows.ensures.batches
-    ∙ ap (λ ps. joined (rows_by (c.self.inside.batches.items ++ c.args.columns.items ∷ []) ps) c.push_batch.new.numbers)
-    c.in-Ok-keep_rows.ensures.locations
-    ∙ slots_appended c.self.inside.table c.self.inside.batches.items c.self.inside.locations.items c.self.inside.numbers
+    let slots : joined c.keep_rows.new.kept c.push_batch.new.numbers
+    ≡ joined c.self.inside.rows c.self.inside.numbers ++ map new_slot (batch_rows c.args.rows c.args.columns.items) =
+    ap (λ rows. joined rows c.push_batch.new.numbers) c.in-Ok-keep_rows.ensures.kept
+    ∙ slots_appended c.self.inside.table c.self.inside.rows c.self.inside.numbers
     c.push_batch.new.numbers c.args.columns.items c.args.rows c.self.invariant pushed in
     slots ∙ ap (λ (s : Store). s.slots ++ map new_slot (batch_rows c.args.rows c.args.columns.items)) c.self.view_is
 
@@ -209,7 +193,7 @@ returns-in-Err-keep_rows-clause-refused c =
     λ s. Refuses (cause_of s.table (contents_of s.slots) (append (batch_rows c.args.rows c.args.columns.items)))
     c.in-Err-keep_rows.fault in
     subst P c.self.view_is
-    (rows_unfit c.self.inside.table c.self.inside.batches.items c.self.inside.locations.items c.self.inside.numbers
+    (rows_unfit c.self.inside.table c.self.inside.rows c.self.inside.numbers
     c.push_batch.new.numbers c.args.columns.items c.args.rows
     c.in-Err-keep_rows.fault c.self.invariant batch pushed
     (subst G c.len-before.ensures.value (subst F c.live-live.ensures c.in-Err-keep_rows.ensures.refused)))

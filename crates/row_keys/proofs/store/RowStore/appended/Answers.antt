@@ -1,12 +1,11 @@
 use Rattle.std.proofs.Common.{ap, length, sym, ◌∙◌}
 use Rattle.row_keys.specs.Store.{Store}
-use Rattle.row_keys.specs.Stored.{rows_by}
 use Rattle.row_keys.proofs.Joining.{keyed_length}
 use Rattle.row_keys.proofs.store.RowStore.appended.Goals as goal
 
 pub returns : goal.returns
 returns c =
     c.len.ensures.value
-    ∙ sym (keyed_length c.self.inside.table (rows_by c.self.inside.batches.items c.self.inside.locations.items)
+    ∙ sym (keyed_length c.self.inside.table c.self.inside.rows
     c.self.inside.numbers c.self.invariant.keyed).1
     ∙ ap (λ (s : Store). length s.slots) c.self.view_is

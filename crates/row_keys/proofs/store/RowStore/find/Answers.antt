@@ -8,6 +8,6 @@ pub returns : goal.returns
 returns c =
     let P : Store → Type 0 = λ s. MatchOption c.find.result (IsAbsent s c.args.key.now) (IsFound s c.args.key.now) in
     subst P c.self.view_is
-    (found_in c.self.inside.table c.self.inside.batches.items c.self.inside.locations.items c.self.inside.numbers
+    (found_in c.self.inside.table c.self.inside.rows c.self.inside.numbers
     c.self.inside.visits
     c.args.key.now c.find.result c.self.invariant c.find.ensures)

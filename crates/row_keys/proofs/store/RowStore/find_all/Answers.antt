@@ -8,7 +8,7 @@ use Rattle.row_keys.specs.KeyColumns.{PushesKeys, RefusesKeys}
 use Rattle.row_keys.specs.Numbers.{Numbered}
 use Rattle.row_keys.specs.Slots.{CanRetract, keys_at, contents_of}
 use Rattle.row_keys.specs.Store.{Refuses, Store}
-use Rattle.row_keys.specs.Stored.{joined, rows_by}
+use Rattle.row_keys.specs.Stored.{joined}
 use Rattle.row_keys.proofs.Finding.{found_can, found_fits, found_keys, keys_refused, keys_unknown}
 use Rattle.row_keys.proofs.Results.{if_err, if_ok, on_ok}
 use Rattle.row_keys.proofs.store.RowStore.find_all.Goals as goal
@@ -22,9 +22,9 @@ returns-in-Ok-clause-numbers c =
     subst P c.self.view_is
     (if_ok (λ (ns : Vec ℕ Global). FindsAll c.args.keys.now.cells c.self.inside.numbers ns.items)
     (λ ns. CanRetract ns.items
-    (joined (rows_by c.self.inside.batches.items c.self.inside.locations.items) c.self.inside.numbers))
+    (joined c.self.inside.rows c.self.inside.numbers))
     c.find_keys.result
-    (λ ns h. found_can c.self.inside.table (rows_by c.self.inside.batches.items c.self.inside.locations.items)
+    (λ ns h. found_can c.self.inside.table c.self.inside.rows
     c.args.keys.now.cells c.self.inside.numbers ns.items c.self.invariant.keyed h pushed.single)
     c.find_keys.ensures.found)
 
@@ -35,9 +35,9 @@ returns-in-Ok-clause-keys c =
     subst P c.self.view_is
     (if_ok (λ (ns : Vec ℕ Global). FindsAll c.args.keys.now.cells c.self.inside.numbers ns.items)
     (λ ns. keys_at c.self.inside.table ns.items
-    (joined (rows_by c.self.inside.batches.items c.self.inside.locations.items)
+    (joined c.self.inside.rows
     c.self.inside.numbers) ≡ c.args.keys.now.cells) c.find_keys.result
-    (λ ns h. found_keys c.self.inside.table (rows_by c.self.inside.batches.items c.self.inside.locations.items)
+    (λ ns h. found_keys c.self.inside.table c.self.inside.rows
     c.args.keys.now.cells c.self.inside.numbers ns.items c.self.invariant.keyed h)
     c.find_keys.ensures.found)
 
@@ -52,9 +52,9 @@ returns-in-Ok-clause-fits c =
     subst P c.self.view_is
     (on_ok (λ (ns : Vec ℕ Global). FindsAll c.args.keys.now.cells c.self.inside.numbers ns.items)
     (cause_of c.self.inside.table
-    (contents_of (joined (rows_by c.self.inside.batches.items c.self.inside.locations.items) c.self.inside.numbers))
+    (contents_of (joined c.self.inside.rows c.self.inside.numbers))
     (retract c.args.keys.now.cells) ≡ None) c.find_keys.result
-    (λ ns h. found_fits c.self.inside.table c.self.inside.batches.items c.self.inside.locations.items
+    (λ ns h. found_fits c.self.inside.table c.self.inside.rows
     c.self.inside.numbers c.push_keys.new.numbers c.args.keys.now.cells ns.items c.self.invariant pushed h)
     c.find_keys.ensures.found)
 
@@ -70,10 +70,10 @@ returns-in-Ok-clause-refused c =
     (if_err (MissesKey c.args.keys.now.cells c.self.inside.numbers)
     (Refuses
     (cause_of c.self.inside.table
-    (contents_of (joined (rows_by c.self.inside.batches.items c.self.inside.locations.items) c.self.inside.numbers))
+    (contents_of (joined c.self.inside.rows c.self.inside.numbers))
     (retract c.args.keys.now.cells)))
     c.find_keys.result
-    (λ e h. keys_unknown c.self.inside.table c.self.inside.batches.items c.self.inside.locations.items
+    (λ e h. keys_unknown c.self.inside.table c.self.inside.rows
     c.self.inside.numbers c.push_keys.new.numbers c.args.keys.now.cells e c.self.invariant pushed h)
     c.find_keys.ensures.missed)
 

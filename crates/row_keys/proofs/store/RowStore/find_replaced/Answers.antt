@@ -10,7 +10,7 @@ use Rattle.row_keys.specs.Found.{FindsAll, known_keys}
 use Rattle.row_keys.specs.KeyColumns.{RefusesKeys}
 use Rattle.row_keys.specs.Slots.{CanRetract, contents_of, keys_at, live}
 use Rattle.row_keys.specs.Store.{Refuses, Store}
-use Rattle.row_keys.specs.Stored.{joined, rows_by}
+use Rattle.row_keys.specs.Stored.{joined}
 use Rattle.row_keys.proofs.Results.{if_both, if_err, if_ok}
 use Rattle.row_keys.proofs.Replacing.{put_refused, replaced_can, replaced_gone}
 use Rattle.row_keys.proofs.store.RowStore.find_replaced.Goals as goal
@@ -27,9 +27,9 @@ returns-clause-numbers c =
     subst P c.self.view_is
     (if_both (Found c)
     (λ ns. CanRetract ns.items
-    (joined (rows_by c.self.inside.batches.items c.self.inside.locations.items) c.self.inside.numbers))
+    (joined c.self.inside.rows c.self.inside.numbers))
     (has_repeated (keys c) ≡ false) c.find_batch.result
-    (λ ns h single. replaced_can c.self.inside.table c.self.inside.batches.items c.self.inside.locations.items
+    (λ ns h single. replaced_can c.self.inside.table c.self.inside.rows
     c.self.inside.numbers (keys c) ns.items c.self.invariant h single)
     c.find_batch.ensures.found c.find_batch.ensures.single)
 
@@ -39,12 +39,12 @@ returns-clause-rest c =
     IfOk c.find_batch.result
     (λ ns. without s.table (keys_at s.table ns.items s.slots) (live s.slots)
     ≡ without s.table (keys_in s.table (batch_rows c.args.rows c.args.columns.now)) (live s.slots)) in
-    let slots = joined (rows_by c.self.inside.batches.items c.self.inside.locations.items) c.self.inside.numbers in
+    let slots = joined c.self.inside.rows c.self.inside.numbers in
     subst P c.self.view_is
     (if_ok (Found c)
     (λ ns. without c.self.inside.table (keys_at c.self.inside.table ns.items slots) (live slots)
     ≡ without c.self.inside.table (keys c) (live slots)) c.find_batch.result
-    (λ ns h. replaced_gone c.self.inside.table c.self.inside.batches.items c.self.inside.locations.items
+    (λ ns h. replaced_gone c.self.inside.table c.self.inside.rows
     c.self.inside.numbers (keys c) ns.items c.self.invariant h)
     c.find_batch.ensures.found)
 
@@ -53,7 +53,7 @@ returns-clause-refused c =
     let P : Store → Type 0 = λ s.
     IfErr c.find_batch.result
     (Refuses (cause_of s.table (contents_of s.slots) (put (batch_rows c.args.rows c.args.columns.now)))) in
-    let slots = joined (rows_by c.self.inside.batches.items c.self.inside.locations.items) c.self.inside.numbers in
+    let slots = joined c.self.inside.rows c.self.inside.numbers in
     subst P c.self.view_is
     (if_err (λ e. RefusesKeys (keys c) [] e)
     (Refuses

@@ -2,7 +2,7 @@ use Rattle.std.proofs.Common.{◌≡◌, List, ap, arith, subst, sym, ◌∙◌}
 use Rattle.row_keys.specs.Numbers.{Numbered, revived}
 use Rattle.row_keys.specs.Slots.{CanPutBack, CanTakeBack, Slot, last_numbers, put_back}
 use Rattle.row_keys.specs.Store.{Store, with_slots}
-use Rattle.row_keys.specs.Stored.{IsStored, joined, rows_by}
+use Rattle.row_keys.specs.Stored.{IsStored, joined}
 use Rattle.row_keys.proofs.LastRows.{from_last, revive_last}
 use Rattle.row_keys.proofs.Storing.{can_take, stored_revived}
 use Rattle.row_keys.proofs.TurnedRows.{joined_revived}
@@ -12,7 +12,7 @@ pub overflow_sub-first : goal.overflow_sub-first
 overflow_sub-first c =
     let P : Store → Type 0 = λ s. CanTakeBack c.args.count s.slots in
     let below =
-    can_take c.self.inside.table c.self.inside.batches.items c.self.inside.locations.items c.self.inside.numbers
+    can_take c.self.inside.table c.self.inside.rows c.self.inside.numbers
     c.args.count c.self.invariant (subst P (sym c.self.view_is) c.requires.few) in
     omega (arith, below, c.len.ensures.value)
 
@@ -20,12 +20,12 @@ pub revive_from-requires-clause-retracted : goal.revive_from-requires-clause-ret
 revive_from-requires-clause-retracted c =
     let P : Store → Type 0 = λ s. CanTakeBack c.args.count s.slots in
     let Q : Store → Type 0 = λ s. CanPutBack s.table (last_numbers c.args.count s.slots) s.slots in
-    revive_last c.self.inside.table c.self.inside.batches.items c.self.inside.locations.items c.self.inside.numbers
+    revive_last c.self.inside.table c.self.inside.rows c.self.inside.numbers
     c.args.count c.len.result c.self.invariant (subst P (sym c.self.view_is) c.requires.few) c.len.ensures.value
     (subst Q (sym c.self.view_is) c.requires.retracted)
 
 abbrev slots : goal.After-revive_from → List Slot
-slots c = joined (rows_by c.self.inside.batches.items c.self.inside.locations.items) c.self.inside.numbers
+slots c = joined c.self.inside.rows c.self.inside.numbers
 
 on : (c : goal.After-revive_from)
     → c.revive_from.new.rows ≡ revived (last_numbers c.args.count (slots c)) c.self.inside.numbers
@@ -33,28 +33,28 @@ on c =
     let P : Store → Type 0 = λ s. CanTakeBack c.args.count s.slots in
     c.revive_from.ensures
     ∙ ap (λ ms. revived ms c.self.inside.numbers)
-    (from_last c.self.inside.table c.self.inside.batches.items c.self.inside.locations.items c.self.inside.numbers
+    (from_last c.self.inside.table c.self.inside.rows c.self.inside.numbers
     c.args.count c.len.result c.self.invariant (subst P (sym c.self.view_is) c.requires.few) c.len.ensures.value)
 
 pub invariant_of-self : goal.invariant_of-self
 invariant_of-self c =
     let P : Store → Type 0 = λ s. CanPutBack s.table (last_numbers c.args.count s.slots) s.slots in
     let Q : List Numbered → Type 0 =
-    λ xs. IsStored c.self.inside.table c.self.inside.batches.items c.self.inside.locations.items xs in
+    λ xs. IsStored c.self.inside.table c.self.inside.rows xs in
     subst Q (sym (on c))
-    (stored_revived c.self.inside.table c.self.inside.batches.items c.self.inside.locations.items c.self.inside.numbers
+    (stored_revived c.self.inside.table c.self.inside.rows c.self.inside.numbers
     (last_numbers c.args.count (slots c)) c.self.invariant (subst P (sym c.self.view_is) c.requires.retracted))
 
 pub returns : goal.returns
 returns c =
     ap (λ xs. record {
       table = c.self.inside.table;
-      slots = joined (rows_by c.self.inside.batches.items c.self.inside.locations.items) xs;
+      slots = joined c.self.inside.rows xs;
       visits =
           c.self.inside.visits;
     })
     (on c)
     ∙ ap (λ ss. record { table = c.self.inside.table; slots = ss; visits = c.self.inside.visits })
-    (joined_revived (rows_by c.self.inside.batches.items c.self.inside.locations.items)
+    (joined_revived c.self.inside.rows
     (last_numbers c.args.count (slots c)) c.self.inside.numbers)
     ∙ ap (λ (s : Store). with_slots s (put_back (last_numbers c.args.count s.slots) s.slots)) c.self.view_is

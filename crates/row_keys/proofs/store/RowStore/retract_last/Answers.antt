@@ -2,7 +2,7 @@ use Rattle.std.proofs.Common.{◌≡◌, List, ap, arith, subst, sym, ◌∙◌}
 use Rattle.row_keys.specs.Numbers.{Numbered, turned_off}
 use Rattle.row_keys.specs.Slots.{CanPutBack, CanRetract, CanTakeBack, Slot, last_numbers, put_back, retracted}
 use Rattle.row_keys.specs.Store.{Store, with_slots}
-use Rattle.row_keys.specs.Stored.{IsStored, joined, rows_by}
+use Rattle.row_keys.specs.Stored.{IsStored, joined}
 use Rattle.row_keys.proofs.LastRows.{from_last, live_last}
 use Rattle.row_keys.proofs.Storing.{can_take, off_back, off_can, stored_off}
 use Rattle.row_keys.proofs.TurnedRows.{are_live, joined_off}
@@ -12,7 +12,7 @@ pub overflow_sub-first : goal.overflow_sub-first
 overflow_sub-first c =
     let P : Store → Type 0 = λ s. CanTakeBack c.args.count s.slots in
     let below =
-    can_take c.self.inside.table c.self.inside.batches.items c.self.inside.locations.items c.self.inside.numbers
+    can_take c.self.inside.table c.self.inside.rows c.self.inside.numbers
     c.args.count c.self.invariant (subst P (sym c.self.view_is) c.requires.few) in
     omega (arith, below, c.len.ensures.value)
 
@@ -20,12 +20,12 @@ pub retract_from-requires : goal.retract_from-requires
 retract_from-requires c =
     let P : Store → Type 0 = λ s. CanTakeBack c.args.count s.slots in
     let Q : Store → Type 0 = λ s. CanRetract (last_numbers c.args.count s.slots) s.slots in
-    live_last c.self.inside.table c.self.inside.batches.items c.self.inside.locations.items c.self.inside.numbers
+    live_last c.self.inside.table c.self.inside.rows c.self.inside.numbers
     c.args.count c.len.result c.self.invariant (subst P (sym c.self.view_is) c.requires.few) c.len.ensures.value
     (subst Q (sym c.self.view_is) c.requires.live)
 
 abbrev slots : goal.After-retract_from → List Slot
-slots c = joined (rows_by c.self.inside.batches.items c.self.inside.locations.items) c.self.inside.numbers
+slots c = joined c.self.inside.rows c.self.inside.numbers
 
 can : (c : goal.After-retract_from) → CanRetract (last_numbers c.args.count (slots c)) (slots c)
 can c =
@@ -38,30 +38,30 @@ off c =
     let P : Store → Type 0 = λ s. CanTakeBack c.args.count s.slots in
     c.retract_from.ensures
     ∙ ap (λ ms. turned_off ms c.self.inside.numbers)
-    (from_last c.self.inside.table c.self.inside.batches.items c.self.inside.locations.items c.self.inside.numbers
+    (from_last c.self.inside.table c.self.inside.rows c.self.inside.numbers
     c.args.count c.len.result c.self.invariant (subst P (sym c.self.view_is) c.requires.few) c.len.ensures.value)
 
 pub invariant_of-self : goal.invariant_of-self
 invariant_of-self c =
     let Q : List Numbered → Type 0 =
-    λ xs. IsStored c.self.inside.table c.self.inside.batches.items c.self.inside.locations.items xs in
+    λ xs. IsStored c.self.inside.table c.self.inside.rows xs in
     subst Q (sym (off c))
-    (stored_off c.self.inside.table c.self.inside.batches.items c.self.inside.locations.items c.self.inside.numbers
+    (stored_off c.self.inside.table c.self.inside.rows c.self.inside.numbers
     (last_numbers c.args.count (slots c)) c.self.invariant
-    (are_live c.self.inside.table (rows_by c.self.inside.batches.items c.self.inside.locations.items)
+    (are_live c.self.inside.table c.self.inside.rows
     (last_numbers c.args.count (slots c)) c.self.inside.numbers c.self.invariant.keyed (can c)))
 
 pub returns-clause-slots : goal.returns-clause-slots
 returns-clause-slots c =
     ap (λ xs. record {
       table = c.self.inside.table;
-      slots = joined (rows_by c.self.inside.batches.items c.self.inside.locations.items) xs;
+      slots = joined c.self.inside.rows xs;
       visits =
           c.self.inside.visits;
     })
     (off c)
     ∙ ap (λ ss. record { table = c.self.inside.table; slots = ss; visits = c.self.inside.visits })
-    (joined_off (rows_by c.self.inside.batches.items c.self.inside.locations.items)
+    (joined_off c.self.inside.rows
     (last_numbers c.args.count (slots c))
     c.self.inside.numbers)
     ∙ ap (λ (s : Store). with_slots s (retracted (last_numbers c.args.count s.slots) s.slots)) c.self.view_is
@@ -70,9 +70,9 @@ pub returns-clause-can_go_back : goal.returns-clause-can_go_back
 returns-clause-can_go_back c =
     let Q : Store → Type 0 = λ s.
     CanPutBack s.table (last_numbers c.args.count s.slots)
-    (joined (rows_by c.self.inside.batches.items c.self.inside.locations.items) c.retract_from.new.rows) in
+    (joined c.self.inside.rows c.retract_from.new.rows) in
     subst Q c.self.view_is
-    (off_can c.self.inside.table c.self.inside.batches.items c.self.inside.locations.items c.self.inside.numbers
+    (off_can c.self.inside.table c.self.inside.rows c.self.inside.numbers
     c.retract_from.new.rows (last_numbers c.args.count (slots c)) c.self.invariant c.distinct_law.ensures (can c)
     (off c))
 
@@ -80,7 +80,7 @@ pub returns-clause-back : goal.returns-clause-back
 returns-clause-back c =
     let Q : Store → Type 0 = λ s.
     put_back (last_numbers c.args.count s.slots)
-    (joined (rows_by c.self.inside.batches.items c.self.inside.locations.items) c.retract_from.new.rows) ≡ s.slots in
+    (joined c.self.inside.rows c.retract_from.new.rows) ≡ s.slots in
     subst Q c.self.view_is
-    (off_back c.self.inside.batches.items c.self.inside.locations.items c.self.inside.numbers c.retract_from.new.rows
+    (off_back c.self.inside.rows c.self.inside.numbers c.retract_from.new.rows
     (last_numbers c.args.count (slots c)) (can c) (off c))

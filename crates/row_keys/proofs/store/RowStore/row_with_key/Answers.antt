@@ -5,7 +5,6 @@ use Rattle.values.proofs.ShallowLemmas.{key_of-shallow}
 use Rattle.view_lang.specs.Joined.{side_of}
 use Rattle.row_keys.specs.Slots.{contents_of}
 use Rattle.row_keys.specs.Store.{Store}
-use Rattle.row_keys.specs.Stored.{rows_by}
 use Rattle.row_keys.proofs.Looking.{unknown_kind}
 use Rattle.row_keys.proofs.store.RowStore.row_with_key.Goals as goal
 
@@ -13,6 +12,6 @@ pub returns-in-None-clause-row : goal.returns-in-None-clause-row
 returns-in-None-clause-row c = λ d same.
     let P : Store → Type 0 = λ s. None ≡ side_of s.table (contents_of s.slots) d in
     subst P c.self.view_is
-    (sym (unknown_kind c.self.inside.table (rows_by c.self.inside.batches.items c.self.inside.locations.items)
+    (sym (unknown_kind c.self.inside.table c.self.inside.rows
     c.self.inside.numbers c.self.inside.visits d c.self.invariant.keyed
     (sym (key_of-shallow d) ∙ ap key_of (sym same) ∙ sym c.in_ok-key.ensures ∙ ap option_copied c.in-None.is)))

@@ -1,7 +1,7 @@
 use Rattle.std.proofs.Common.{◌-◌, ap, arith, subst, sym, take, ◌∙◌}
 use Rattle.row_keys.specs.Slots.{CanTakeBack, taken_back}
 use Rattle.row_keys.specs.Store.{Store, with_slots}
-use Rattle.row_keys.specs.Stored.{joined, rows_by}
+use Rattle.row_keys.specs.Stored.{joined}
 use Rattle.row_keys.proofs.Storing.{can_take, stored_taken, taken_slots}
 use Rattle.row_keys.proofs.store.RowStore.take_back.Goals as goal
 
@@ -9,39 +9,36 @@ pub overflow_sub-left : goal.overflow_sub-left
 overflow_sub-left c =
     let P : Store → Type 0 = λ s. CanTakeBack c.args.count s.slots in
     let below =
-    can_take c.self.inside.table c.self.inside.batches.items c.self.inside.locations.items c.self.inside.numbers
-    c.args.count c.self.invariant (subst P (sym c.self.view_is) c.requires) in
+    can_take c.self.inside.table c.self.inside.rows c.self.inside.numbers c.args.count c.self.invariant
+    (subst P (sym c.self.view_is) c.requires) in
     omega (arith, below, c.len.ensures.value)
 
 pub invariant_of-self : goal.invariant_of-self
 invariant_of-self c =
-    rw (c.truncate.ensures.items, c.truncate-2.ensures)
-    (stored_taken c.self.inside.table c.self.inside.batches.items c.self.inside.locations.items c.self.inside.numbers
-    (c.len.result - c.args.count) c.self.invariant)
+    rw (c.truncate.ensures, c.truncate-2.ensures)
+    (stored_taken c.self.inside.table c.self.inside.rows c.self.inside.numbers (c.len.result - c.args.count)
+    c.self.invariant)
 
 pub returns : goal.returns
 returns c =
-    ap (λ ps. record {
+    ap (λ rows. record {
       table = c.self.inside.table;
-      slots = joined (rows_by c.self.inside.batches.items ps) c.truncate-2.new.self;
+      slots = joined rows c.truncate-2.new.self;
       visits = c.self.inside.visits;
     })
-    c.truncate.ensures.items
+    c.truncate.ensures
     ∙ ap (λ xs. record {
       table = c.self.inside.table;
-      slots = joined
-          (rows_by c.self.inside.batches.items (take (c.len.result - c.args.count) c.self.inside.locations.items)) xs;
+      slots = joined (take (c.len.result - c.args.count) c.self.inside.rows) xs;
       visits = c.self.inside.visits;
     })
     c.truncate-2.ensures
     ∙ ap (λ n. record {
       table = c.self.inside.table;
-      slots = joined (rows_by c.self.inside.batches.items (take (n - c.args.count) c.self.inside.locations.items))
-          (take (n - c.args.count) c.self.inside.numbers);
+      slots = joined (take (n - c.args.count) c.self.inside.rows) (take (n - c.args.count) c.self.inside.numbers);
       visits = c.self.inside.visits;
     })
     c.len.ensures.value
     ∙ ap (λ ss. record { table = c.self.inside.table; slots = ss; visits = c.self.inside.visits })
-    (taken_slots c.self.inside.table c.self.inside.batches.items c.self.inside.locations.items c.self.inside.numbers
-    c.args.count c.self.invariant)
+    (taken_slots c.self.inside.table c.self.inside.rows c.self.inside.numbers c.args.count c.self.invariant)
     ∙ ap (λ (s : Store). with_slots s (taken_back c.args.count s.slots)) c.self.view_is

@@ -1,0 +1,20 @@
+use Rattle.std.proofs.Common.{◌<◌, ap, get_or, length, sym, ◌∙◌}
+use Rattle.row_keys.specs.Numbers.{Numbered}
+use Rattle.row_keys.proofs.KeptIndex.{key_got, key_is, kept_keyed, kept_seen}
+use Rattle.row_keys.proofs.numbers.Numbers.key.Goals as goal
+
+pub unwrap-requires : goal.unwrap-requires
+unwrap-requires c =
+    let within : c.entry_at-entry.result.key < length c.self.inside.keys =
+    kept_keyed c.self.inside.keys c.self.inside.holders.items c.self.inside.kept.items c.deref.result.now
+    c.self.inside.len c.self.inside.live c.args.number c.entry_at-entry.result c.args.self.now c.self.invariant
+    c.self.view_is c.requires c.entry_at-entry.ensures c.deref.ensures.value in
+    key_got c.get.result c.self.inside.keys c.entry_at-entry.result.key c.get.ensures within
+
+pub returns : goal.returns
+returns c =
+    let seen =
+    ap (λ (x : Numbered). x.key)
+    (kept_seen c.self.inside.keys c.self.inside.kept.items c.deref.result.now c.self.inside.len c.args.number
+    c.entry_at-entry.result c.args.self.now c.self.view_is c.requires c.entry_at-entry.ensures c.deref.ensures.value) in
+    key_is c.get.result c.unwrap.result c.self.inside.keys c.entry_at-entry.result.key c.get.ensures c.unwrap.ensures ∙ seen

@@ -1,0 +1,19 @@
+use Rattle.std.proofs.Common.{◌∙◌, List, ap, filter, subst, sym}
+use Rattle.row_keys.specs.Entries.{all_entries, is_kept}
+use Rattle.row_keys.specs.Index.{IsKeptIndex, seen_all}
+use Rattle.row_keys.specs.declared.numbers.KeptEntry.{KeptEntry}
+use Rattle.row_keys.proofs.KeptEntries.{entries_swept, index_swept}
+use Rattle.row_keys.proofs.numbers.Numbers.tidy.Goals as goal
+
+pub invariant_of-self : goal.invariant_of-self
+invariant_of-self c =
+    rw c.sweep.ensures
+    (index_swept c.self.inside.keys c.self.inside.holders.items c.self.inside.kept.items c.self.inside.len
+    c.self.inside.live c.self.invariant)
+
+pub returns-then-self-len : goal.returns-then-self-len
+returns-then-self-len c =
+    ap (λ ks. seen_all c.self.inside.keys (all_entries ks c.self.inside.len)) c.sweep.ensures
+    ∙ ap (seen_all c.self.inside.keys)
+    (entries_swept c.self.inside.kept.items c.self.inside.len c.self.invariant.order).1
+    ∙ c.self.view_is

@@ -1,0 +1,24 @@
+use Rattle.std.proofs.Common.{List, arith, subst, true, false}
+use Rattle.std.proofs.lemmas.Grind.{common_steps}
+use Rattle.row_keys.specs.Chunks.{Chunk, EndsAbove}
+use Rattle.row_keys.proofs.ChunkedRows.{cut_end, cut_more, popped}
+use Rattle.row_keys.proofs.stored_rows.cut.Goals as goal
+
+pub loop-chunks-preserved-in-loop-chunks : goal.loop-chunks-preserved-in-loop-chunks
+loop-chunks-preserved-in-loop-chunks c =
+    let P : List Chunk → Type 0 = λ cs. EndsAbove cs c.args.len true in
+    let last = subst P c.deref.ensures.value c.loop-chunks-test.ensures in
+    cut_more c.args.chunks.now.items c.loop-chunks.chunks.items c.pop.new.self.items c.args.len last.1
+    c.loop-chunks.invariant
+    (popped c.loop-chunks.chunks.items c.pop.new.self.items last.0 last.1 _ c.loop-chunks.chunks.ok.0
+    c.pop.ensures.rest last.2)
+    last.3
+
+pub returns-then-not-is_empty : goal.returns-then-not-is_empty
+returns-then-not-is_empty c =
+    let P : List Chunk → Type 0 = λ cs. EndsAbove cs c.args.len false in
+    cut_end c.args.chunks.now.items c.loop-chunks.chunks.items c.args.len c.len-last.result c.index_mut.result.now
+    c.shorten.new.chunk c.loop-chunks.invariant (subst P c.deref.ensures.value c.loop-chunks-test.ensures)
+    (grind (arith, common_steps, c.len-last.ensures))
+    (grind (arith, common_steps, c.len-last.ensures, c.is_empty.ensures, c.if-not-is_empty.ensures))
+    c.index_mut.ensures.value c.shorten.ensures

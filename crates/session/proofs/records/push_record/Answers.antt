@@ -1,0 +1,30 @@
+use Rattle.std.proofs.Common.{◌≡◌, ◌∷◌, ◌++◌, [], ◌≤◌, List, ap, arith, length, slice_get, subst, suc, sym, take, ◌∙◌}
+use Rattle.std.specs.Prelude.{IfSome}
+use Rattle.circular_buffer.specs.Buffer.{Buffer}
+use Rattle.session.specs.declared.undo.UndoRecord.{UndoRecord}
+use Rattle.session.proofs.Evicting.{if_oldest, none_out}
+use Rattle.session.proofs.records.push_record.Goals as goal
+
+pub returns-clause-oldest : goal.returns-clause-oldest
+returns-clause-oldest c =
+    let all : List UndoRecord = c.args.newest ∷ c.args.records.now.items in
+    let items : c.push_front.new.self.items ≡ take 64 (c.args.newest ∷ c.args.records.now.items) =
+    ap (λ (b : Buffer UndoRecord). b.items) c.push_front.ensures.items
+    ∙ ap (λ n. take n (c.args.newest ∷ c.args.records.now.items)) c.requires in
+    let room = c.capacity-room.ensures.within.0 in
+    let is = c.capacity-room.ensures.capacity in
+    let want = c.requires in
+    let few : length (c.args.newest ∷ c.args.records.now.items) ≤ suc 64 = omega (arith, room, is, want) in
+    rw items
+    (if_oldest c.push_front.result 64 (c.args.newest ∷ c.args.records.now.items) few
+    (c.push_front.ensures.value ∙ ap (λ n. slice_get (c.args.newest ∷ c.args.records.now.items) n) c.requires))
+
+pub returns-clause-all : goal.returns-clause-all
+returns-clause-all c = λ none.
+    let items : c.push_front.new.self.items ≡ take 64 (c.args.newest ∷ c.args.records.now.items) =
+    ap (λ (b : Buffer UndoRecord). b.items) c.push_front.ensures.items
+    ∙ ap (λ n. take n (c.args.newest ∷ c.args.records.now.items)) c.requires in
+    items
+    ∙ none_out 64 (c.args.newest ∷ c.args.records.now.items)
+    (sym (ap (λ n. slice_get (c.args.newest ∷ c.args.records.now.items) n) c.requires)
+    ∙ sym c.push_front.ensures.value ∙ none)

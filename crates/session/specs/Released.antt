@@ -1,0 +1,43 @@
+-- Rows that nothing can bring back any more: when the oldest record is given up.
+use Rattle.std.specs.Prelude.{◌≡◌, ◌<◌, List, [], ◌∷◌, ◌++◌, length, map}
+use Rattle.view_lang.specs.Config.{Table, View}
+use Rattle.view_lang.specs.Edits.{Edit}
+use Rattle.row_keys.specs.Numbered.{numbered}
+use Rattle.row_keys.specs.Slots.{AllOut}
+use Rattle.upkeep.specs.Stores.{Rows, rows_at, world_of}
+use Rattle.upkeep.specs.TableChanges.{released_at, restores}
+use Rattle.upkeep.specs.Touched.{touched}
+use Rattle.session.specs.Shows.{HoldsBack}
+use Rattle.session.specs.declared.undo.UndoRecord.{UndoRecord}
+
+-- Where the oldest record is given up, the rows can go that it alone could bring back: the other records lead back as
+-- before, to the same contents of all tables.
+abbrev pub EvictedGo : Type 0
+EvictedGo =
+    (tables : List Table) (rows : Rows) (records : List UndoRecord) (oldest : UndoRecord) (edits : List Edit)
+    → HoldsBack tables rows (records ++ oldest ∷ []) edits
+    → HoldsBack tables (released_at oldest.table (restores oldest.change) rows) records edits
+
+-- The live rows, and their numbers, are what they were.
+abbrev pub NothingIsSeen : Type 0
+NothingIsSeen =
+    (tables : List Table) (rows : Rows) (records : List UndoRecord) (oldest : UndoRecord) (edits : List Edit)
+    → HoldsBack tables rows (records ++ oldest ∷ []) edits
+    → (world_of (released_at oldest.table (restores oldest.change) rows) ≡ world_of rows)
+    × (map numbered (released_at oldest.table (restores oldest.change) rows) ≡ map numbered rows)
+
+-- None of those rows is live.
+abbrev pub OldestIsOut : Type 0
+OldestIsOut =
+    (tables : List Table) (rows : Rows) (records : List UndoRecord) (oldest : UndoRecord) (edits : List Edit)
+    → HoldsBack tables rows (records ++ oldest ∷ []) edits
+    → (oldest.table < length rows) × AllOut (restores oldest.change) (rows_at rows oldest.table)
+
+-- The newest record's change touches as many rows as before.
+abbrev pub NewestTouches : Type 0
+NewestTouches =
+    (tables : List Table) (views : List View) (rows : Rows) (newest : UndoRecord) (records : List UndoRecord)
+    (oldest : UndoRecord) (edits : List Edit)
+    → HoldsBack tables rows (newest ∷ records ++ oldest ∷ []) edits
+    → touched tables views (released_at oldest.table (restores oldest.change) rows) newest.table newest.change
+    ≡ touched tables views rows newest.table newest.change

@@ -1,0 +1,13 @@
+//! The law that rows can go which no undo record brings back: a function that does nothing, whose contract is the
+//! theorem.
+
+ghost use Rattle.session.specs.Released.{EvictedGo, NewestTouches, NothingIsSeen, OldestIsOut};
+
+/// Where the oldest record is given up, the rows can go that it alone could bring back: nothing that callers see
+/// changes, and the other records lead back as before.
+pub fn release_law()
+    ensures out { OldestIsOut }
+    ensures go { EvictedGo }
+    ensures seen { NothingIsSeen }
+    ensures touches { NewestTouches }
+{}

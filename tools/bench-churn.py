@@ -1,0 +1,147 @@
+#!/usr/bin/env python3
+"""Resident memory and time of a session that lives long: `lv live` over 10,000 live rows of the main table and 10,000 of a side table, with five
+views, after some thousands of rounds and after many more, of which each leaves the tables as they were: a row appended and retracted, each time
+under another key or under the same, a row appended and undone, a row of the side table put again, and one put and undone.
+
+With a number, that many rounds of each, in place of a million. With a number and the name of a program, that program.
+"""
+import os
+import re
+import struct
+import subprocess
+import sys
+import tempfile
+import time
+
+sys.dont_write_bytecode = True
+from streams import batch, field, schema
+
+ROOT = os.path.dirname(os.path.dirname(os.path.abspath(__file__)))
+LIVE, SIDES, FIRST, ROUNDS, TOGETHER = 10000, 10000, 10000, 1000000, 500
+CONFIG = """
+[main]
+key = "i"
+columns = [["i", "int64"], ["n", "utf8"], ["a", "int64"], ["z", "int64"]]
+[side.zones]
+key = "z"
+columns = [["z", "int64"], ["t", "utf8"]]
+[feed.rows]
+role = "append"
+[feed.gone]
+role = "retract"
+[feed.zones]
+role = "put"
+side = "zones"
+[view.all]
+columns = [["i", "col", "i"], ["n", "col", "n"], ["a", "col", "a"]]
+[view.first]
+columns = [["i", "col", "i"], ["n", "col", "n"], ["a", "col", "a"]]
+order = [["n", "asc"], ["a", "desc"]]
+first = 10
+[view.groups]
+group = ["n"]
+columns = [["n", "col", "n"], ["rows", "count"], ["sum", "sum", "a"]]
+order = [["sum", "desc"]]
+first = 10
+[view.zones]
+group = ["z"]
+columns = [["z", "col", "z"], ["rows", "count"], ["sum", "sum", "a"]]
+[view.named]
+lookup = { side = "zones", on = "z", missing = "null" }
+columns = [["i", "col", "i"], ["name", "col", ["side", "t"]]]
+"""
+NUMBER = field(2, 64, 1, name=b"i")
+ROW_SCHEMA = schema([NUMBER, field(5, name=b"n"), field(2, 64, 1, name=b"a"), field(2, 64, 1, name=b"z")])
+ZONE_SCHEMA = schema([field(2, 64, 1, name=b"z"), field(5, name=b"t")])
+
+
+def integers(numbers):
+    return struct.pack(f"<{len(numbers)}q", *numbers)
+
+
+def texts(numbers):
+    return [struct.pack(f"<{len(numbers) + 1}i", *range(0, 10 * (len(numbers) + 1), 10)), b"".join(b"%010d" % it for it in numbers)]
+
+
+def rows(numbers):
+    zones = [it % SIDES for it in numbers]
+    return batch(len(numbers), [[integers(numbers)], texts([it % 1024 for it in numbers]), [integers(numbers)], [integers(zones)]])
+
+
+def keys(numbers):
+    return batch(len(numbers), [[integers(numbers)]])
+
+
+def zones(numbers):
+    return batch(len(numbers), [[integers(numbers)], texts(numbers)])
+
+
+class Live:
+    """A session of `lv live`, to which many lines are sent at once."""
+
+    def __init__(self, program, folder):
+        path = os.path.join(folder, "config")
+        with open(path, "w") as file:
+            file.write(CONFIG)
+        self.process = subprocess.Popen([program, "live", path], stdin=subprocess.PIPE, stdout=subprocess.PIPE)
+        self.line = 0
+        for feed, start in (("rows", ROW_SCHEMA), ("gone", schema([NUMBER])), ("zones", ZONE_SCHEMA)):
+            self.send([push(feed, start)])
+        for first in range(0, LIVE, 1000):
+            self.send([push("rows", rows(range(first, first + 1000)))])
+        for first in range(0, SIDES, 1000):
+            self.send([push("zones", zones(range(first, first + 1000)))])
+
+    def send(self, lines):
+        self.process.stdin.write(b"".join(lines))
+        self.process.stdin.flush()
+        self.line += len(lines)
+        while (said := self.process.stdout.readline()) != b"%d.\n" % self.line:
+            if not said or b"refused" in said:
+                sys.exit(f"bench: {said!r}")
+
+    def resident(self):
+        with open(f"/proc/{self.process.pid}/status") as file:
+            return 1024 * int(re.search(r"VmRSS:\s+(\d+)", file.read()).group(1))
+
+
+def push(feed, data):
+    return b"bytes %s %d\n" % (feed.encode(), len(data)) + data
+
+
+SAME_ROW, SAME_KEY, SAME_ZONE, UNDO = push("rows", rows([LIVE])), push("gone", keys([LIVE])), push("zones", zones([7])), b"undo\n"
+KINDS = {
+    "a row appended and retracted": lambda it: [push("rows", rows([LIVE + it])), push("gone", keys([LIVE + it]))],
+    "the same key each time": lambda it: [SAME_ROW, SAME_KEY],
+    "a row appended and undone": lambda it: [SAME_ROW, UNDO],
+    "a row put again": lambda it: [SAME_ZONE],
+    "a row put and undone": lambda it: [SAME_ZONE, UNDO],
+}
+
+
+def churn(program, name, round_of, many):
+    with tempfile.TemporaryDirectory() as folder:
+        live = Live(program, folder)
+        said, began, taken = [], time.monotonic(), 0
+        for first in range(0, many, TOGETHER):
+            lines = [line for it in range(first, first + TOGETHER) for line in round_of(it)]
+            start = time.monotonic()
+            live.send(lines)
+            taken += time.monotonic() - start
+            if first + TOGETHER in (min(FIRST, many), many):
+                said.append(live.resident())
+        live.process.kill()
+        live.process.wait()
+        print(f"{name}: {said[0]:,} bytes after {min(FIRST, many):,} rounds, {said[-1]:,} after {many:,}, ", end="")
+        print(f"{1e6 * taken / many:.1f} microseconds a round")
+
+
+def main():
+    os.chdir(ROOT)
+    many = int(sys.argv[1]) if len(sys.argv) > 1 else ROUNDS
+    program = sys.argv[2] if len(sys.argv) > 2 else "crates/lv/out/lv"
+    for name, round_of in KINDS.items():
+        churn(program, name, round_of, many)
+
+
+main()
