@@ -1,12 +1,12 @@
-# What to make: `make try`, `make run`, `make lib`, `make install`, `make uninstall`, `make test`, `make edits`, `make ci`,
-# `make limits` and `make bench`.
+# What to make: `make try`, `make run`, `make lib`, `make install`, `make uninstall`, `make dist`, `make test`,
+# `make edits`, `make ci`, `make limits` and `make bench`.
 
 PREFIX ?= /usr/local
 LV := crates/lv/out/lv
 LIBRARY := out/lib
 OUT ?= out/orders.canon.arrows
 
-.PHONY: try run lib test edits ci limits bench install uninstall lv need-rt need-python
+.PHONY: try run lib test edits ci limits bench dist install install-files uninstall lv need-rt need-python
 
 # Recasts the sample stream to a file of its own, and inspects that file; then runs the script of the report, which
 # writes three views.
@@ -59,6 +59,7 @@ bench: lv need-python
 	@tools/bench-coded.py
 	@tools/bench-filters.py
 	@tools/bench-live.py
+	@tools/bench-churn.py
 	@cd crates/kernel_bench && rt run > /dev/null
 	@tools/bench-kernels.py
 
@@ -69,7 +70,9 @@ PARTS = $(ROOT)/bin/lv $(SHARE)/man/man1/lv.1 $(SHARE)/bash-completion/completio
     $(SHARE)/zsh/site-functions/_lv $(SHARE)/fish/vendor_completions.d/lv.fish \
     $(ROOT)/lib/liblv.a $(ROOT)/lib/liblv.so $(ROOT)/lib/pkgconfig/lv.pc $(ROOT)/include/lv.h
 
-install: lv
+install: lv install-files
+
+install-files:
 	install -D -m 755 $(LV) $(ROOT)/bin/lv
 	install -D -m 644 docs/lv.1 $(SHARE)/man/man1/lv.1
 	install -D -m 644 tools/completion/lv.bash $(SHARE)/bash-completion/completions/lv
@@ -82,6 +85,11 @@ ifneq ($(wildcard $(LIBRARY)/liblv.so),)
 	mkdir -p $(ROOT)/lib/pkgconfig
 	sed 's|@PREFIX@|$(PREFIX)|; s|@VERSION@|$(shell cat VERSION)|' lv.pc.in > $(ROOT)/lib/pkgconfig/lv.pc
 endif
+
+# A tarball that is installed without the toolchain, a Debian package, and their checksums, of the program and the library
+# as they were proved and built.
+dist: lv lib need-python
+	@tools/dist.py
 
 # Takes away what `make install` puts there, with the same PREFIX and DESTDIR.
 uninstall:
