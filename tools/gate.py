@@ -67,7 +67,27 @@ CALLS = ("check-library.py", "refuse-calls.py")
 PROVED = {"logic", "functions", "sum", "axioms", "target", "cpu", "native", "logic-built", "libraries-built", "statements", "incremental"}
 # What rt says of a check that begins with the work of another checkout.
 BORROWED = re.compile(r": begins with what a check kept in ")
+# How many failures are told once more at the end, where CI shows no more than that.
+MOST_TOLD = 12
 EMPTY = re.compile(r"^(warning: no call of `(?![^`]*::fn::)|note: the search for empty contracts did not end)", re.M)
+
+
+def free(folder):
+    """What is free of the disk that holds a folder, and of memory, in words."""
+    memory = re.search(r"^MemAvailable: +(\d+)", read("/proc/meminfo"), re.M)
+    return f"free: {shutil.disk_usage(folder).free >> 30} GB of disk, {int(memory[1]) >> 20} GB of memory"
+
+
+def told(text):
+    """The line of an output that says most of why something failed: the first error, or the last line."""
+    lines = [it.strip() for it in text.split("\n") if it.strip()]
+    errors = [it for it in lines if re.search(r"\b(error|refused|killed|FAILED|No space)\b", it)]
+    return (errors or lines[-1:] or ["nothing was said"])[0][:160]
+
+
+def linked_libraries(source, to):
+    """Copies a file of a tree, but links what was built as a library: rt replaces that as a whole."""
+    return (link if f"{os.sep}rlib{os.sep}" in source else shutil.copy2)(source, to)
 
 
 @dataclass(frozen=True)
@@ -131,7 +151,7 @@ class Gate:
         self.tree, self.room, self.jobs, self.noting = tree, room, jobs, threading.Lock()
         self.crates, self.every_lane = crates_of(tree), Lanes(tree, room, jobs)
         self.lanes = [*self.every_lane.free]
-        self.passed, self.failed, self.minutes = 0, [], {}
+        self.passed, self.failed, self.reasons, self.minutes = 0, [], [], {}
 
     def note(self, part, name, ran, is_well, text=""):
         """Counts one answer, prints its line, and all that was said where it failed."""
@@ -139,6 +159,7 @@ class Gate:
             self.minutes[part] = self.minutes.get(part, 0) + ran.seconds / 60
             self.passed += is_well
             self.failed += [] if is_well else [f"{name} ({part})"]
+            self.reasons += [] if is_well else [f"{part} {name}: {text or told(ran.text)}; {free(self.room)}"]
             said = f"well, {ran.seconds:.0f} s" if is_well else f"FAILED{': ' * bool(text)}{text}\n{ran.text}"
             print(f"{part} {name}: {said}", flush=True)
         return is_well
@@ -146,7 +167,7 @@ class Gate:
     def prove(self, lane, crate):
         """Proves a crate from nothing, and gives its library to all lanes and what was kept of its proof to the tree."""
         is_library = any(crate in it for it in self.crates.values())
-        ran = lane.rt(crate, "lib" if is_library else "check", "--jobs", "1")
+        ran = lane.rt(crate, "lib" if is_library else "check", "--jobs", "1", keeps=True)
         is_proved = ran.status == 0 and re.search("^logic=proved ", ran.text, re.M) is not None
         is_well = self.note("proof", crate, ran, is_proved and not BORROWED.search(ran.text))
         if is_well:
@@ -163,7 +184,7 @@ class Gate:
         """Finds every crate proved as the tree has it, and every file read by one. That is done in a copy, since the lanes take the kept
         work of the tree."""
         with tempfile.TemporaryDirectory(prefix="whole-", dir=self.room) as room:
-            shutil.copytree(self.tree, f"{room}/tree")
+            shutil.copytree(self.tree, f"{room}/tree", copy_function=linked_libraries)
             ran = run(["rt", "all", "check", "--jobs", "1"], f"{room}/tree")
         proved = [it for it in self.crates if re.search(rf"^{it}: ok$", ran.text, re.M)]
         is_well = ran.status == 0 and proved == [*self.crates] and "rt verdict refuses this" not in ran.text
@@ -330,6 +351,7 @@ def main():
     words, began = arguments(), time.monotonic()
     with tempfile.TemporaryDirectory(prefix="lv-gate-") as room:
         gate = Gate(apart(copied(f"{room}/tree")), room, words.jobs)
+        print(free(room), flush=True)
         if read(f"{ROOT}/HANDLES") != "Handles allowed: none.\n":
             gate.failed.append("HANDLES")
         planned = plan(gate.tree, [*gate.crates], all_of if words.all else part_of(ROOT), turn_of(ROOT))
@@ -342,6 +364,7 @@ def main():
     print(*planned.bad, planned.said(trial), sep="\n")
     if gate.failed:
         print(f"FAILED: {', '.join(gate.failed)}")
+        print(*gate.reasons[:MOST_TOLD], sep="\n")
     print(f"{gate.passed} passed, {len(gate.failed)} failed")
     return 1 if gate.failed else 0
 

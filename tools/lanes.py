@@ -96,8 +96,9 @@ class Lane:
         if os.path.isdir(source):
             shutil.copytree(source, to, copy_function=copy)
 
-    def rt(self, crate, *words, texts=None):
-        """Runs rt in the crate's folder, with these texts in place of the files of these names."""
+    def rt(self, crate, *words, texts=None, keeps=False):
+        """Runs rt in the crate's folder, with these texts in place of the files of these names. What rt kept of its work there is removed,
+        unless the caller takes it: in all crates together that is some gigabytes."""
         here, texts = f"{self.folder}/crates/{crate}", texts or {}
         self.take(crate, "incremental", shutil.copy2)
         for path, text in texts.items():
@@ -108,6 +109,8 @@ class Lane:
         finally:
             for path in texts:
                 shutil.copy(f"{self.root}/crates/{crate}/{path}", f"{here}/{path}")
+            if not keeps:
+                shutil.rmtree(f"{here}/out/incremental", ignore_errors=True)
 
 
 class Lanes:
