@@ -31,7 +31,7 @@ use Rattle.std.proofs.Common.{
 }
 use Rattle.std.specs.Prelude.{slice_get, IsSome, nat_lt, if◌then◌else◌}
 use Rattle.std.proofs.lemmas.List.{drop_more, drop_all, length-map}
-use Rattle.std.proofs.lemmas.List.Elements.{All-append, All-cons, All-get_or, All-nil}
+use Rattle.std.proofs.lemmas.List.Elements.{All-append, All-get_or}
 use Rattle.std.proofs.lemmas.Bool.{ltb-false}
 use Rattle.std.proofs.lemmas.Option.{none-some}
 use Rattle.values.specs.Datum.{Datum, null, truth, whole, text, bytes, list, structure, Items, is_null}

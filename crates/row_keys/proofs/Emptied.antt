@@ -32,27 +32,8 @@ use Rattle.values.specs.Datum.{Datum, is_null}
 use Rattle.view_lang.specs.Config.{Table}
 use Rattle.view_lang.specs.Contents.{Contents, is_among, key_in, keys_in}
 use Rattle.row_keys.specs.NumberLaws.{ReleasedUnseen}
-use Rattle.row_keys.specs.Numbered.{numbered, numbered_from}
-use Rattle.row_keys.specs.Slots.{
-  AllOut,
-  AreRetracted,
-  CanPutBack,
-  CanRetract,
-  CanTakeBack,
-  IsOut,
-  IsThere,
-  Slot,
-  contents_of,
-  emptied,
-  live,
-  marked,
-  no_slot,
-  put_back,
-  released,
-  row_of,
-  slot,
-  taken_back,
-}
+use Rattle.row_keys.specs.Numbered.{numbered_from}
+use Rattle.row_keys.specs.Slots.{AllOut, AreRetracted, CanPutBack, CanRetract, CanTakeBack, IsOut, IsThere, Slot, contents_of, emptied, live, marked, no_slot, put_back, row_of, slot, taken_back}
 
 -- The row of this number isn't live.
 abbrev pub IsOff : List Slot → ℕ → Type 0

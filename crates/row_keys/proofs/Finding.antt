@@ -33,30 +33,23 @@ use Rattle.std.proofs.Common.{
 }
 use Rattle.std.specs.Prelude.{slice_get}
 use Rattle.std.proofs.Math.Seq.{take-suc}
-use Rattle.std.proofs.lemmas.Option.{get_or_from_slice_get}
 use Rattle.values.specs.Datum.{Datum, null}
 use Rattle.values.specs.Keys.{datum_of_key}
-use Rattle.values.specs.Logical.{NamedType, tree_of}
-use Rattle.values.specs.Rose.{Rose}
 use Rattle.values.specs.declared.key.Key.{Key}
-use Rattle.arrays.specs.Checked.{CheckedColumn}
 use Rattle.view_lang.specs.Causes.{all_among, any_among, cause_of, has_repeated}
 use Rattle.view_lang.specs.Config.{Table}
 use Rattle.view_lang.specs.Contents.{Contents, is_among, keys_in, same_key}
 use Rattle.view_lang.specs.Edits.{retract}
-use Rattle.view_lang.specs.TableRules.{IsTable}
-use Rattle.view_lang.specs.ViewColumns.{no_field}
 use Rattle.view_lang.specs.declared.unfit.Unfit.TheVariants as unfit
 use Rattle.row_keys.specs.declared.faults.EditFault.{EditFault}
 use Rattle.row_keys.specs.declared.faults.EditFault.TheVariants as fault
-use Rattle.row_keys.specs.Batches.{AreKeys, IsAlike}
 use Rattle.row_keys.specs.Found.{FindsAll, MissesKey}
-use Rattle.row_keys.specs.KeyColumns.{HoldsKeys, PushesKeys, RefusesKeys}
+use Rattle.row_keys.specs.KeyColumns.{PushesKeys, RefusesKeys}
 use Rattle.row_keys.specs.Numbers.{IsAt, IsUnused, Numbered, numbered, turned}
 use Rattle.row_keys.specs.Slots.{CanRetract, Slot, keys_at, live, contents_of}
 use Rattle.row_keys.specs.Store.{Refuses}
 use Rattle.row_keys.specs.Stored.{AreKeyed, IsStored, joined, live_keys}
-use Rattle.row_keys.proofs.Appending.{live_keys_are, single_holds}
+use Rattle.row_keys.proofs.Appending.{live_keys_are}
 use Rattle.row_keys.proofs.Joining.{joined_at, joined_turned, keyed_turned, unused_among, used_among}
 use Rattle.row_keys.proofs.KeyFacts.{either, neither, same_refl}
 use Rattle.row_keys.proofs.Places.{some_same}

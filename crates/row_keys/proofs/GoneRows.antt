@@ -1,32 +1,6 @@
 -- The index of rows by key, where place 0 is that of the null key and a row is gone.
-use Rattle.std.proofs.Common.{
-  ◌≡◌,
-  ◌⊎◌,
-  inl,
-  inr,
-  ℕ,
-  zero,
-  suc,
-  ◌<◌,
-  ◌≤◌,
-  true,
-  false,
-  List,
-  [],
-  ◌∷◌,
-  ◌++◌,
-  Some,
-  length,
-  get_or,
-  refl,
-  ap,
-  sym,
-  subst,
-  ◌∙◌,
-  arith,
-  true≢false,
-}
-use Rattle.std.specs.Prelude.{slice_get, slice_set}
+use Rattle.std.proofs.Common.{◌≡◌, ◌⊎◌, inl, inr, ℕ, zero, suc, ◌<◌, ◌≤◌, false, List, [], ◌∷◌, ◌++◌, Some, length, get_or, refl, ap, sym, subst, ◌∙◌, arith, true≢false}
+use Rattle.std.specs.Prelude.{if◌then◌else◌, replicate, slice_get, slice_set}
 use Rattle.std.proofs.lemmas.Option.{none-some, get_or_from_slice_get, slice_get_within}
 use Rattle.values.specs.declared.key.Key.{Key}
 use Rattle.values.specs.declared.key.Key.TheVariants as key
@@ -34,7 +8,7 @@ use Rattle.row_keys.specs.KeyTable.{Inserts}
 use Rattle.row_keys.specs.declared.numbers.Entry.{Entry}
 use Rattle.row_keys.specs.Entries.{gone_entry}
 use Rattle.row_keys.specs.Index.{HoldsPlace, IsIndex, StartsWithNull, seen, seen_all}
-use Rattle.row_keys.specs.Numbers.{live_count, no_row, numbered}
+use Rattle.row_keys.specs.Numbers.{Numbered, live_count, no_row, numbered}
 use Rattle.row_keys.proofs.Places.{some_same}
 use Rattle.row_keys.proofs.Indexes.{seen_more}
 use Rattle.row_keys.proofs.Storing.{count_gone}
@@ -94,6 +68,11 @@ was_or (x ∷ es) (suc n) (suc m) e at = was_or es n m e at
 
 null_known : (keys : List Key) → slice_get keys 0 ≡ Some key.Null → seen keys gone_entry ≡ no_row
 null_known keys first = ap (λ k. numbered k false) (get_or_from_slice_get keys 0 key.Null key.Null first)
+
+-- what stands for a row that is gone is seen as one, also where there are no keys yet
+pub unkeyed : (keys : List Key) → (0 < length keys → slice_get keys 0 ≡ Some key.Null) → seen keys gone_entry ≡ no_row
+unkeyed [] first = refl
+unkeyed (k ∷ ks) first = null_known (k ∷ ks) (first (omega arith))
 
 pub seen_gone : (keys : List Key) (es : List Entry) (n : ℕ) → slice_get keys 0 ≡ Some key.Null
     → seen_all keys (slice_set es n gone_entry) ≡ slice_set (seen_all keys es) n no_row
@@ -168,3 +147,58 @@ place_within keys new hs es live p k is ins = elim ins [
   | inl had ↦ let within = slice_get_within keys p k had.0 in omega (arith, within, is.as_many)
   | inr got ↦ let last = got.0 in omega (arith, last, is.as_many)
 ]
+
+-- Numbers are passed over: the rows that had them are gone.
+
+gone_or : (es : List Entry) (m n : ℕ) (e : Entry) → slice_get (es ++ replicate m gone_entry) n ≡ Some e
+    → (e ≡ gone_entry) ⊎ (slice_get es n ≡ Some e)
+gone_or [] zero n e at = absurd (none-some e at)
+gone_or [] (suc m) zero e at = inl (sym (some_same gone_entry e at))
+gone_or [] (suc m) (suc n) e at = gone_or [] m n e at
+gone_or (x ∷ es) m zero e at = inr at
+gone_or (x ∷ es) m (suc n) e at = gone_or es m n e at
+
+count_skipped : (xs : List Numbered) (m : ℕ) → live_count (xs ++ replicate m no_row) ≡ live_count xs
+count_skipped [] zero = refl
+count_skipped [] (suc m) = count_skipped [] m
+count_skipped (x ∷ xs) m = ap (λ n. if x.live then suc n else n) (count_skipped xs m)
+
+pub seen_skipped : (keys : List Key) (es : List Entry) (m : ℕ) → slice_get keys 0 ≡ Some key.Null
+    → seen_all keys (es ++ replicate m gone_entry) ≡ seen_all keys es ++ replicate m no_row
+seen_skipped keys [] zero first = refl
+seen_skipped keys [] (suc m) first =
+    ap (λ x. x ∷ seen_all keys (replicate m gone_entry)) (null_known keys first)
+    ∙ ap (λ xs. no_row ∷ xs) (seen_skipped keys [] m first)
+seen_skipped keys (e ∷ es) m first = ap (λ xs. seen keys e ∷ xs) (seen_skipped keys es m first)
+
+pub index_skipped :
+    (keys : List Key) (hs : List ℕ) (es : List Entry) (live m : ℕ) → IsIndex keys hs es live → 0 < length keys
+    → IsIndex keys hs (es ++ replicate m gone_entry) live
+index_skipped keys hs es live m is some = record {
+  as_many = is.as_many;
+  keyed = λ n e at. elim (gone_or es m n e at) [
+    | inl gone ↦ let zeroth = ap (λ (x : Entry). x.key) gone in omega (arith, zeroth, some)
+    | inr was ↦ is.keyed n e was
+  ];
+  held = λ n e at lives. elim (gone_or es m n e at) [
+    | inl gone ↦ absurd (true≢false (sym lives ∙ ap (λ (x : Entry). x.is_live) gone))
+    | inr was ↦ is.held n e was lives
+  ];
+  stacked = λ l n e f before first second new_one. elim (gone_or es m n f second) [
+    | inl gone ↦ absurd (true≢false (sym new_one ∙ ap (λ (x : Entry). x.is_new) gone))
+    | inr two ↦ elim (gone_or es m l e first) [
+      | inl gone ↦
+          let zeroth = ap (λ (x : Entry). x.key) gone in
+          let above = is.after_null n f two new_one in
+          omega (arith, zeroth, above)
+      | inr one ↦ is.stacked l n e f before one two new_one
+    ]
+  ];
+  counted = is.counted
+      ∙ sym (ap live_count (seen_skipped keys es m (is.null_first some)) ∙ count_skipped (seen_all keys es) m);
+  null_first = is.null_first;
+  after_null = λ n e at new_one. elim (gone_or es m n e at) [
+    | inl gone ↦ absurd (true≢false (sym new_one ∙ ap (λ (x : Entry). x.is_new) gone))
+    | inr was ↦ is.after_null n e was new_one
+  ];
+}

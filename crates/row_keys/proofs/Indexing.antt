@@ -41,7 +41,7 @@ use Rattle.values.specs.declared.key.Key.{Key}
 use Rattle.values.specs.declared.key.Key.TheVariants as key
 use Rattle.row_keys.specs.KeyTable.{AreApart, Inserts}
 use Rattle.row_keys.specs.declared.numbers.Entry.{Entry}
-use Rattle.row_keys.specs.Index.{HoldsPlace, IsFree, IsIndex, Puts, flagged, seen, seen_all}
+use Rattle.row_keys.specs.Index.{IsFree, IsIndex, Puts, flagged, seen, seen_all}
 use Rattle.row_keys.specs.Numbers.{IsAt, IsUnused, Numbered, live_count, numbered, turned}
 use Rattle.row_keys.proofs.Places.{at_end, at_kept, at_more, at_new, at_other, at_pushed, some_same, take_init}
 use Rattle.row_keys.proofs.Indexes.{

@@ -1,41 +1,6 @@
 -- The entries of rows by number.
-use Rattle.std.proofs.Common.{
-  ◌≡◌,
-  ◌⊎◌,
-  inl,
-  inr,
-  ℕ,
-  zero,
-  suc,
-  ◌+◌,
-  ◌-◌,
-  ◌<◌,
-  ◌≤◌,
-  Bool,
-  true,
-  false,
-  Option,
-  None,
-  Some,
-  List,
-  [],
-  ◌∷◌,
-  ◌++◌,
-  ◌||◌,
-  cond,
-  filter,
-  get_or,
-  length,
-  take,
-  refl,
-  ap,
-  sym,
-  subst,
-  ◌∙◌,
-  arith,
-  true≢false,
-}
-use Rattle.std.specs.Prelude.{if◌then◌else◌, nat_eq, nat_lt, slice_get, slice_set}
+use Rattle.std.proofs.Common.{◌≡◌, ◌⊎◌, inl, inr, ℕ, zero, suc, ◌+◌, ◌-◌, ◌<◌, ◌≤◌, Bool, true, false, None, Some, List, [], ◌∷◌, ◌++◌, ◌||◌, cond, filter, get_or, length, refl, ap, sym, subst, ◌∙◌, arith, true≢false}
+use Rattle.std.specs.Prelude.{if◌then◌else◌, nat_eq, nat_lt, replicate, slice_get, slice_set}
 use Rattle.std.specs.List.Sorted.{IsPartitionPoint, IsPartitionedBy}
 use Rattle.std.proofs.lemmas.Bool.{ltb-false, ltb-true, lt-ltb, ne_eqb}
 use Rattle.std.proofs.lemmas.Bool.Decides.{eqb_tells, leb_tells}
@@ -48,6 +13,7 @@ use Rattle.row_keys.specs.declared.numbers.Entry.{Entry}
 use Rattle.row_keys.specs.declared.numbers.KeptEntry.{KeptEntry}
 use Rattle.row_keys.proofs.ListedItems.{
   listed_add,
+  listed_all,
   listed_at,
   listed_long,
   listed_past,
@@ -317,6 +283,16 @@ pub entries_skipped : (ks : List KeptEntry) (len : ℕ) → AreInOrder 0 ks len
     → all_entries ks (len + 1) ≡ all_entries ks len ++ gone_entry ∷ []
 entries_skipped ks len are =
     entries_more ks ks len gone_entry (λ i below. refl) (none_past 0 len len ks are (omega arith))
+
+-- or many
+pub entries_passed : (ks : List KeptEntry) (len end : ℕ) → AreInOrder 0 ks len → len ≤ end
+    → all_entries ks end ≡ all_entries ks len ++ replicate (end - len) gone_entry
+entries_passed ks len end are le =
+    let split : end ≡ len + (end - len) = omega (arith, le) in
+    listed_add (entry_in ks) 0 len (end - len) end split
+    ∙ ap (λ es. all_entries ks len ++ es)
+    (listed_all (entry_in ks) gone_entry (0 + len) (end - len)
+    (λ i from. none_past 0 len i ks are (omega (arith, from))))
 
 -- What is kept of rows that are gone is forgotten.
 

@@ -33,11 +33,10 @@ use Rattle.std.proofs.Common.{
   append_assoc,
   append-nil,
 }
-use Rattle.std.specs.Prelude.{Option, slice_get, if◌then◌else◌, IsSome}
+use Rattle.std.specs.Prelude.{Option, if◌then◌else◌, IsSome}
 use Rattle.std.proofs.Math.Seq.{take-suc}
 use Rattle.std.proofs.lemmas.List.{drop_more, drop_all, map-append}
 use Rattle.std.proofs.lemmas.List.Elements.{All-get_or}
-use Rattle.std.proofs.lemmas.Option.{none-some, get_or_from_slice_get}
 use Rattle.values.specs.CellViews.{shallow}
 use Rattle.values.specs.Datum.{Datum, null, is_null}
 use Rattle.values.specs.Layouts.{Holds}
@@ -68,7 +67,7 @@ use Rattle.row_keys.proofs.KeyFacts.{
   repeated_by,
   repeated_pushed,
 }
-use Rattle.row_keys.proofs.Places.{some_same, take_front}
+use Rattle.row_keys.proofs.Places.{take_front}
 
 -- a cell that is a key, read where it lies
 pub key_read :

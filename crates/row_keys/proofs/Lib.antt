@@ -32,7 +32,6 @@ mod ComingBack
 mod NumberedKeys
 mod NumberLaw
 mod PutLaw
-mod TakenApart
 mod CellsInPlace
 mod ListedItems
 mod KeptEntries
@@ -40,4 +39,5 @@ mod KeptIndex
 mod Chunking
 mod ChunkedRows
 mod GoneRows
+mod TakenApart
 pub mod Emptied

@@ -1,25 +1,6 @@
 -- Lists of what a function has for numbers.
-use Rattle.std.proofs.Common.{
-  ◌≡◌,
-  ℕ,
-  zero,
-  suc,
-  ◌+◌,
-  ◌<◌,
-  ◌≤◌,
-  List,
-  [],
-  ◌∷◌,
-  ◌++◌,
-  get_or,
-  length,
-  take,
-  refl,
-  ap,
-  ◌∙◌,
-  arith,
-}
-use Rattle.std.specs.Prelude.{slice_set}
+use Rattle.std.proofs.Common.{◌≡◌, ℕ, zero, suc, ◌+◌, ◌<◌, ◌≤◌, ◌∷◌, ◌++◌, get_or, length, map, take, refl, ap, ◌∙◌, arith}
+use Rattle.std.specs.Prelude.{replicate, slice_set}
 use Rattle.row_keys.specs.Listed.{listed}
 
 pub listed_long : {X : Type 0} (f : ℕ → X) (n m : ℕ) → length (listed f n m) ≡ m
@@ -66,6 +47,17 @@ listed_whole f n zero zero le = refl
 listed_whole f n zero (suc k) le = refl
 listed_whole f n (suc m) zero le = absurd (omega (arith, le))
 listed_whole f n (suc m) (suc k) le = ap (λ rs. f n ∷ rs) (listed_whole f (suc n) m k (omega (arith, le)))
+
+-- all are the same
+pub listed_all : {X : Type 0} (f : ℕ → X) (x : X) (n m : ℕ) → ((i : ℕ) → n ≤ i → f i ≡ x) → listed f n m ≡ replicate m x
+listed_all f x n zero is = refl
+listed_all f x n (suc m) is =
+    ap (λ y. y ∷ listed f (suc n) m) (is n (omega arith))
+    ∙ ap (λ ys. x ∷ ys) (listed_all f x (suc n) m (λ i from. is i (omega (arith, from))))
+
+pub map_listed : {X Y : Type 0} (f : X → Y) (g : ℕ → X) (n m : ℕ) → map f (listed g n m) ≡ listed (λ i. f (g i)) n m
+map_listed f g n zero = refl
+map_listed f g n (suc m) = ap (λ ys. f (g n) ∷ ys) (map_listed f g (suc n) m)
 
 -- one is another
 pub listed_set :

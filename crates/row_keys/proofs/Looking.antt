@@ -35,7 +35,7 @@ use Rattle.view_lang.specs.Causes.{has_repeated}
 use Rattle.view_lang.specs.Config.{Table}
 use Rattle.view_lang.specs.Contents.{Contents, is_among, key_in, keys_in, same_key}
 use Rattle.view_lang.specs.Joined.{side_of}
-use Rattle.row_keys.specs.Numbers.{AreDistinct, IsAt, IsUnused, Numbered, numbered}
+use Rattle.row_keys.specs.Numbers.{AreDistinct, IsAt, IsUnused, Numbered}
 use Rattle.row_keys.specs.Slots.{IsThere, Slot, contents_of, live, row_of, slot}
 use Rattle.row_keys.specs.Store.{IsKnown, IsUnknown, Store}
 use Rattle.row_keys.specs.Stored.{AreGiven, AreKeyed, joined, live_keys}

@@ -41,7 +41,6 @@ use Rattle.view_lang.specs.Edits.{append, put, retract}
 use Rattle.view_lang.specs.declared.unfit.Unfit.TheVariants as unfit
 use Rattle.row_keys.specs.declared.faults.EditFault.{EditFault}
 use Rattle.row_keys.specs.declared.faults.EditFault.TheVariants as fault
-use Rattle.arrays.specs.Checked.{CheckedColumn}
 use Rattle.row_keys.specs.Found.{FindsAll, known_keys}
 use Rattle.row_keys.specs.KeyColumns.{RefusesKeys}
 use Rattle.row_keys.specs.Numbers.{IsAt, IsUnused, Numbered}

@@ -6,12 +6,15 @@ ghost use Rattle.std.specs.Prelude.{
   ◌≤◌,
   ◌-◌,
   [],
+  All,
   IfOk,
   MatchOption,
   OnErr,
   OnOk,
   get_or,
   length,
+  map,
+  replicate,
   slice_set,
   take,
   true,
@@ -31,8 +34,10 @@ ghost use Rattle.values.specs.declared.key.Key.{Key};
 ghost use Rattle.row_keys.specs.Entries.{AreInOrder, Changes, EndsAt, IsKeptAt, all_entries, entry_in, gone_entry, is_kept};
 ghost use Rattle.row_keys.specs.Index.{HoldsPlace, IsFree, Puts, StartsWithNull, flagged};
 ghost use Rattle.row_keys.specs.Numbers.{AreDistinct, CanTurnOn, IsAt, IsUnused, Pushes, live_count, no_row, turned};
+ghost use Rattle.row_keys.specs.Parts.{AreNumbered, numbers_in, part_of};
 
 use crate::key_table::KeyTable;
+use crate::parts::RowParts;
 use std::alloc::{AllocError, Global};
 use std::marker::Model;
 use values::Key;
@@ -59,6 +64,9 @@ const GONE: Entry = Entry {
     is_live: false,
     is_new: false,
 };
+
+/// So many keys that no row has are always kept.
+const FEW_KEYS: usize = 32;
 
 /// How many rows there can be at most.
 const MOST_ROWS: usize = (1 << 63) - 1;
@@ -301,6 +309,30 @@ fn sweep(kept: &mut Vec<KeptEntry>)
     );
 }
 
+/// What is kept of a row.
+fn row_of(alloc: Global, keys: &KeyTable, one: &KeptEntry) -> Result<RowParts, AllocError>
+    requires { one.now.entry.key < length keys.now }
+    ensures { IfOk result (λ row. row ≡ part_of keys.now one.now) }
+{
+    Ok(RowParts {
+        number: one.number,
+        key: keys.get(one.entry.key).unwrap().copy(alloc)?,
+        is_live: one.entry.is_live,
+    })
+}
+
+/// What is kept of all rows.
+fn rows_of(alloc: Global, keys: &KeyTable, kept: &[KeptEntry]) -> Result<Vec<RowParts>, AllocError>
+    requires { All (λ k. k.entry.key < length keys.now) kept.now }
+    ensures { IfOk result (λ rows. rows.items ≡ map (part_of keys.now) kept.now) }
+{
+    let mut rows = Vec::with_capacity(alloc, kept.len())?;
+    for one in kept {
+        rows.push(row_of(alloc, keys, one)?)?;
+    }
+    Ok(rows)
+}
+
 fn count(is_live: bool) -> usize
     ensures { result ≡ (if is_live then 1 else 0) }
 {
@@ -308,7 +340,7 @@ fn count(is_live: bool) -> usize
 }
 
 /// How many of `keys` keys are left when the last row is removed: its own goes if it came with it.
-fn kept(entry: Entry, keys: usize) -> usize
+fn keys_left(entry: Entry, keys: usize) -> usize
     ensures { result ≡ (if entry.is_new then entry.key else keys) }
 {
     if entry.is_new { entry.key } else { keys }
@@ -365,6 +397,22 @@ impl Numbers {
     {
         let entry = entry_at(&self.kept, number);
         self.keys.get(entry.key).unwrap()
+    }
+
+    /// What is kept of the rows, by their numbers.
+    pub(crate) fn kept_rows(&self, alloc: Global) -> Result<Vec<RowParts>, AllocError>
+        ensures order { IfOk result (λ rows. AreNumbered 0 rows.items (length self.now)) }
+        ensures rows { IfOk result (λ rows. numbers_in rows.items (length self.now) ≡ self.now) }
+    {
+        let _len = self.len;
+        let rows = rows_of(alloc, &self.keys, &self.kept)?;
+        Ok(rows)
+    }
+
+    /// Whether most keys are of no row that is kept.
+    pub(crate) fn has_spare_keys(&self) -> bool {
+        let left = self.kept.len().saturating_sub(self.gone);
+        self.holders.len() / 2 > left.saturating_add(FEW_KEYS)
     }
 
     /// The number of live rows.
@@ -427,6 +475,18 @@ impl Numbers {
         Ok(true)
     }
 
+    /// Adds rows that are gone, up to this number.
+    pub(crate) fn skip_to(&mut self, number: usize) -> Result<(), AllocError>
+        requires from { length self.old ≤ number }
+        requires bound { number < 2 ^ 63 }
+        ensures ok { OnOk result (self.new ≡ self.old ++ replicate (number - length self.old) no_row) }
+        ensures err { OnErr result (self.new ≡ self.old) }
+    {
+        place_null(&mut self.keys, &mut self.holders)?;
+        self.len = number;
+        Ok(())
+    }
+
     /// Removes the last row.
     fn pop(&mut self)
         ensures { self.new ≡ take (length self.old - 1) self.old }
@@ -437,9 +497,9 @@ impl Numbers {
         let last = self.len - 1;
         let entry = pop_entry(&mut self.kept, last);
         self.len = last;
-        let kept = kept(entry, self.holders.len());
-        self.keys.truncate(kept);
-        self.holders.truncate(kept);
+        let keys = keys_left(entry, self.holders.len());
+        self.keys.truncate(keys);
+        self.holders.truncate(keys);
         self.live -= count(entry.is_live);
     }
 

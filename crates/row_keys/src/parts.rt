@@ -1,8 +1,8 @@
 //! The parts of a `RowStore`: chunks of columns, keys and counts, and no row.
 
-ghost use Rattle.std.specs.Prelude.{◌≡◌, IfOk};
+ghost use Rattle.std.specs.Prelude.{◌≡◌, ◌<◌, ◌^◌, IfOk, length};
 ghost use Rattle.row_keys.specs.Numbers.{AreDistinct};
-ghost use Rattle.row_keys.specs.Parts.{numbers_in, retracted_in};
+ghost use Rattle.row_keys.specs.Parts.{AreNumbered, numbers_in, retracted_in};
 ghost use Rattle.row_keys.specs.Stored.{AreGiven};
 
 use crate::numbers::Numbers;
@@ -17,68 +17,77 @@ pub struct StoreParts {
     pub table: Table,
     /// Where the rows lie, by their numbers.
     pub chunks: Vec<StoredChunk>,
-    /// Under which key each row is known, by its number.
+    /// What is kept of the rows besides their cells, by their numbers. Rows that are gone need not be among them.
     pub rows: Vec<RowParts>,
+    /// How many numbers were given.
+    pub appended: usize,
     /// How many rows were opened.
     pub visits: u128,
 }
 
-/// What is kept of a row besides its cells: its key, which is null where the row is gone, and whether it is live.
+/// What is kept of a row besides its cells: its number, its key, and whether it is live.
 #[derive(Drop)]
 pub struct RowParts {
+    pub number: usize,
     pub key: Key,
     pub is_live: bool,
 }
 
-/// What is kept of each row besides its cells, by its number.
-pub(crate) fn take_rows(alloc: Global, numbers: &Numbers) -> Result<Vec<RowParts>, AllocError>
-    ensures { IfOk result (λ rows. numbers_in rows.items ≡ numbers.now) }
-{
-    let mut rows = Vec::with_capacity(alloc, numbers.len())?;
-    for number in 0..numbers.len() {
-        rows.push(RowParts {
-            key: numbers.key(number).copy(alloc)?,
-            is_live: numbers.is_live(number),
-        })?;
-    }
-    Ok(rows)
-}
-
-/// Numbers the rows as if all were retracted.
-fn number_rows(alloc: Global, rows: &[RowParts]) -> Result<Numbers, AllocError>
-    ensures { IfOk result (λ numbers. numbers ≡ retracted_in rows.now) }
+/// Numbers the rows below `len` as if all were retracted.
+fn number_rows(alloc: Global, rows: &[RowParts], len: usize) -> Result<Numbers, AllocError>
+    requires order { AreNumbered 0 rows.now len }
+    requires bound { len < 2 ^ 63 }
+    ensures { IfOk result (λ numbers. numbers ≡ retracted_in rows.now len) }
 {
     let mut numbers = Numbers::new(alloc);
     for row in rows {
+        numbers.skip_to(row.number)?;
         // No row is live, so each is added.
-        let number = numbers.len();
         numbers.push(row.key.copy(alloc)?)?;
-        numbers.retract(number);
+        numbers.retract(row.number);
     }
+    numbers.skip_to(len)?;
     Ok(numbers)
 }
 
 /// Makes those rows live that are so in the parts.
-fn revive_rows(numbers: &mut Numbers, rows: &[RowParts])
-    requires retracted { numbers.old ≡ retracted_in rows.now }
-    requires distinct { AreDistinct (numbers_in rows.now) }
-    requires given { AreGiven (numbers_in rows.now) }
-    ensures { numbers.new ≡ numbers_in rows.now }
+fn revive_rows(numbers: &mut Numbers, rows: &[RowParts], len: usize)
+    requires order { AreNumbered 0 rows.now len }
+    requires retracted { numbers.old ≡ retracted_in rows.now len }
+    requires distinct { AreDistinct (numbers_in rows.now len) }
+    requires given { AreGiven (numbers_in rows.now len) }
+    ensures { numbers.new ≡ numbers_in rows.now len }
 {
-    for number in 0..rows.len() {
-        if rows[number].is_live {
-            numbers.revive(number);
+    for row in rows {
+        if row.is_live {
+            numbers.revive(row.number);
         }
     }
 }
 
-/// Numbers the rows.
-pub(crate) fn make_numbers(alloc: Global, rows: &[RowParts]) -> Result<Numbers, AllocError>
-    requires distinct { AreDistinct (numbers_in rows.now) }
-    requires given { AreGiven (numbers_in rows.now) }
-    ensures { IfOk result (λ numbers. numbers ≡ numbers_in rows.now) }
+/// Numbers the rows below `len`, of which these are kept.
+pub(crate) fn make_numbers(
+    alloc: Global,
+    rows: &[RowParts],
+    len: usize,
+) -> Result<Numbers, AllocError>
+    requires order { AreNumbered 0 rows.now len }
+    requires bound { len < 2 ^ 63 }
+    requires distinct { AreDistinct (numbers_in rows.now len) }
+    requires given { AreGiven (numbers_in rows.now len) }
+    ensures { IfOk result (λ numbers. numbers ≡ numbers_in rows.now len) }
 {
-    let mut numbers = number_rows(alloc, rows)?;
-    revive_rows(&mut numbers, rows);
+    let mut numbers = number_rows(alloc, rows, len)?;
+    revive_rows(&mut numbers, rows, len);
     Ok(numbers)
+}
+
+/// The same numbers, without the keys that no row has which is kept.
+pub(crate) fn renumbered(alloc: Global, numbers: &Numbers) -> Result<Numbers, AllocError>
+    requires { AreGiven numbers.now }
+    ensures { IfOk result (λ made. made ≡ numbers.now) }
+{
+    numbers.distinct_law();
+    let rows = numbers.kept_rows(alloc)?;
+    make_numbers(alloc, &rows, numbers.len())
 }

@@ -76,7 +76,7 @@ use crate::batches::keep_rows;
 use crate::faults::EditFault;
 use crate::key_columns::{find_batch, find_keys, push_batch, push_keys};
 use crate::numbers::Numbers;
-use crate::parts::{StoreParts, make_numbers, take_rows};
+use crate::parts::{StoreParts, make_numbers, renumbered};
 use crate::stored_row::{StoredRow, Visit};
 use crate::stored_rows::StoredRows;
 use crate::turning::{retract_all, retract_from, revive_all, revive_from};
@@ -144,11 +144,12 @@ impl RowStore {
             visits,
         } = self;
         numbers.distinct_law();
-        let keys = take_rows(alloc, &numbers)?;
+        let kept = numbers.kept_rows(alloc)?;
         Ok(StoreParts {
             table,
             chunks: rows.into_chunks(),
-            rows: keys,
+            rows: kept,
+            appended: numbers.len(),
             visits,
         })
     }
@@ -162,13 +163,14 @@ impl RowStore {
             table,
             chunks,
             rows,
+            appended,
             visits,
         } = parts;
-        let numbers = make_numbers(alloc, &rows)?;
+        let numbers = make_numbers(alloc, &rows, appended)?;
         Ok(RowStore {
             alloc,
             table,
-            rows: StoredRows::from_chunks(alloc, chunks, rows.len()),
+            rows: StoredRows::from_chunks(alloc, chunks, appended),
             numbers,
             visits,
         })
@@ -271,7 +273,7 @@ impl RowStore {
     }
 
     /// Forgets the rows of these numbers, which aren't live: they are gone, and can't be put back. A batch goes with
-    /// the last of its rows. It takes no memory.
+    /// the last of its rows, and keys that no row has are dropped. Where memory for that is refused, they stay.
     pub fn release(&mut self, numbers: &[usize])
         requires { AllOut numbers.now self.old.slots }
         ensures { self.new ≡ with_slots self.old (released numbers.now self.old.slots) }
@@ -282,12 +284,26 @@ impl RowStore {
         self.tidy();
     }
 
-    /// Forgets what is kept of batches that went.
+    /// Drops the keys of rows that went, where they are more than those of the rows that are kept. Where memory for the
+    /// other keys is refused, they stay.
+    fn tidy_keys(&mut self)
+        ensures { self.new ≡ self.old }
+    {
+        if !self.numbers.has_spare_keys() {
+            return;
+        }
+        if let Ok(numbers) = renumbered(self.alloc, &self.numbers) {
+            self.numbers = numbers;
+        }
+    }
+
+    /// Forgets what is kept of batches that went, and of the keys of their rows.
     fn tidy(&mut self)
         ensures { self.new ≡ self.old }
     {
         self.rows.tidy();
         self.numbers.tidy();
+        self.tidy_keys();
     }
 
     /// The numbers of the live rows with these keys, in order. The error is the first cause for which the keys can't be

@@ -206,3 +206,60 @@ fn rows_that_went(rt: HostRuntime) -> Result<(), Fail> {
     assert!(rt; count_batches(again)? <= 3 + 32);
     Ok(())
 }
+
+/// Keys go with the last row that no undo brings back. Rows come again under keys that went, are found by them, and are
+/// refused while they are live.
+#[test]
+fn keys_that_went(rt: HostRuntime) -> Result<(), Fail> {
+    let mut session = open(&rt, rt.alloc())?;
+    for id in 1..4u16 {
+        add(&rt, &mut session, id, b'p', 5);
+    }
+    let before = show(&rt, rt.alloc(), &mut session)?;
+    for id in 10..210u16 {
+        add(&rt, &mut session, id, b'p', 1);
+        retract(&rt, &mut session, id);
+    }
+    let after = show(&rt, rt.alloc(), &mut session)?;
+    assert_eq!(rt; after.sink.bytes(), before.sink.bytes());
+    for id in 10..210u16 {
+        add(&rt, &mut session, id, b'p', 1);
+    }
+    assert_eq!(rt; session.live_rows(), 203);
+    for id in 10..210u16 {
+        retract(&rt, &mut session, id);
+    }
+    let mut again = make_again(&rt, rt.alloc(), session)?;
+    for _ in 0..64 {
+        undo(&rt, &mut again);
+    }
+    assert!(rt; again.undo().is_err());
+    assert_eq!(rt; again.live_rows(), 67);
+    Ok(())
+}
+
+/// The same rows come in two orders, with more values in a group than a list keeps, and all but three go again.
+#[test]
+fn many_values(rt: HostRuntime) -> Result<(), Fail> {
+    let mut session = open(&rt, rt.alloc())?;
+    let mut other = open(&rt, rt.alloc())?;
+    for id in 1..31u8 {
+        add(&rt, &mut session, id.into(), b'p', id);
+        add(&rt, &mut other, (31 - id).into(), b'p', 31 - id);
+    }
+    let up = show(&rt, rt.alloc(), &mut session)?;
+    let down = show(&rt, rt.alloc(), &mut other)?;
+    assert_eq!(rt; up.sink.bytes(), down.sink.bytes());
+    let mut again = make_again(&rt, rt.alloc(), session)?;
+    for id in 4..31u8 {
+        retract(&rt, &mut again, id);
+    }
+    let mut few = open(&rt, rt.alloc())?;
+    for id in 1..4u8 {
+        add(&rt, &mut few, id.into(), b'p', id);
+    }
+    let left = show(&rt, rt.alloc(), &mut again)?;
+    let three = show(&rt, rt.alloc(), &mut few)?;
+    assert_eq!(rt; left.sink.bytes(), three.sink.bytes());
+    Ok(())
+}

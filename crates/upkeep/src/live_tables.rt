@@ -420,7 +420,7 @@ impl LiveTables {
     }
 
     /// Forgets the rows of a table that taking back a change would bring back: nothing else can, and the change will
-    /// never be taken back. It takes no memory.
+    /// never be taken back. It can't fail.
     pub fn release(&mut self, table: usize, change: &TableChange)
         requires there { table < length self.old.stores }
         requires out { AllOut (restores change.now) (rows_at (rows_in self.old.stores) table) }

@@ -8,7 +8,7 @@ ghost use Rattle.upkeep.specs.TableChanges.{restores};
 use crate::table_change::TableChange;
 use row_keys::RowStore;
 
-/// Forgets the rows of a store that taking back a change would bring back. It takes no memory.
+/// Forgets the rows of a store that taking back a change would bring back. It can't fail.
 pub(crate) fn release(store: &mut RowStore, change: &TableChange)
     requires { AllOut (restores change.now) store.old.slots }
     ensures { store.new ≡ with_slots store.old (released (restores change.now) store.old.slots) }

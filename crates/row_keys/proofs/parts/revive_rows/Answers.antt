@@ -1,30 +1,28 @@
-use Rattle.std.proofs.Common.{ap, ◌∙◌}
+use Rattle.std.proofs.Common.{◌∙◌}
 use Rattle.row_keys.proofs.TakenApart.{can_revive, revived_all, revived_more, revived_same}
 use Rattle.row_keys.proofs.parts.revive_rows.Goals as goal
-use Rattle.row_keys.proofs.parts.revive_rows.Goals.{then-rows-number, else-rows-number}
+use Rattle.row_keys.proofs.parts.revive_rows.Goals.{then-row, else-row}
 
 pub revive-requires : goal.revive-requires
 revive-requires c =
-    can_revive c.args.rows.now c.loop-number.number c.index-rows-number.result c.loop-number.numbers c.requires.distinct
-    c.requires.given
-    c.loop-number.invariant c.loop-number-test.true c.index-rows-number.is
-    (ap (λ r. r.is_live) c.index-rows-number.is ∙ c.if-rows-number.true)
+    can_revive c.args.rows.now c.loop-row.row-index c.args.len c.row-item.result
+    c.loop-row.numbers c.requires.order c.requires.distinct c.requires.given c.loop-row.invariant
+    c.loop-row-test.true c.row-item.is c.if-row.true
 
-pub loop-number-preserved : goal.loop-number-preserved
-loop-number-preserved c =
-    elim c.if-rows-number.branch [
-      | then-rows-number w ↦
+pub loop-row-preserved : goal.loop-row-preserved
+loop-row-preserved c =
+    elim c.if-row.branch [
+      | then-row w ↦
           w.numbers-is
-          ∙ revived_more c.args.rows.now c.loop-number.number c.index-rows-number.result c.loop-number.numbers
-          w.revive.new.self c.loop-number.invariant c.loop-number-test.true c.index-rows-number.is
-          (ap (λ r. r.is_live) c.index-rows-number.is ∙ w.if-rows-number.true) w.revive.ensures
-      | else-rows-number w ↦
+          ∙ revived_more c.args.rows.now c.loop-row.row-index c.args.len c.row-item.result c.loop-row.numbers
+          w.revive.new.self c.requires.order c.loop-row.invariant c.loop-row-test.true c.row-item.is
+          w.if-row.true w.revive.ensures
+      | else-row w ↦
           w.numbers-is
-          ∙ revived_same c.args.rows.now c.loop-number.number c.index-rows-number.result c.loop-number.numbers
-          c.loop-number.invariant c.loop-number-test.true c.index-rows-number.is
-          (ap (λ r. r.is_live) c.index-rows-number.is ∙ w.if-rows-number.false)
+          ∙ revived_same c.args.rows.now c.loop-row.row-index c.args.len c.row-item.result c.loop-row.numbers
+          c.loop-row.invariant c.loop-row-test.true c.row-item.is w.if-row.false
     ]
 
 pub returns : goal.returns
 returns c =
-    c.loop-number.invariant ∙ revived_all c.args.rows.now c.loop-number.number c.loop-number-test.false
+    c.loop-row.invariant ∙ revived_all c.args.rows.now c.loop-row.row-index c.args.len c.loop-row-test.false

@@ -1,6 +1,6 @@
-use Rattle.std.proofs.Common.{◌≡◌, ◌∙◌, ap, arith, length, subst, sym}
+use Rattle.std.proofs.Common.{◌∙◌, ap, arith, length, sym}
 use Rattle.std.proofs.lemmas.List.{length-map}
-use Rattle.row_keys.specs.Entries.{all_entries, entry_in, gone_entry}
+use Rattle.row_keys.specs.Entries.{all_entries, gone_entry}
 use Rattle.row_keys.specs.Index.{seen}
 use Rattle.row_keys.specs.Numbers.{Numbered}
 use Rattle.row_keys.proofs.KeptEntries.{entries_long}

@@ -1,6 +1,6 @@
-use Rattle.std.proofs.Common.{◌≡◌, ℕ, List, ap, arith, rules, subst, sym, ◌∙◌, ◌+◌, ◌-◌, ◌++◌, [], ◌∷◌, length, take}
+use Rattle.std.proofs.Common.{◌≡◌, List, ap, arith, rules, subst, sym, ◌∙◌, ◌+◌, ◌-◌, ◌++◌, [], ◌∷◌, length, take}
 use Rattle.std.specs.Prelude.{if◌then◌else◌}
-use Rattle.row_keys.specs.Entries.{AreInOrder, all_entries}
+use Rattle.row_keys.specs.Entries.{all_entries}
 use Rattle.row_keys.specs.declared.numbers.Entry.{Entry}
 use Rattle.row_keys.specs.Index.{IsIndex, seen_all}
 use Rattle.row_keys.proofs.Indexing.{index_popped, kept_below, kept_within, live_covers, rows_popped}
@@ -24,7 +24,7 @@ all c =
     subst P (split c) c.self.invariant.index
 
 which :
-    (c : goal.After-self-2-1) → c.kept-kept.result ≡ (if c.pop_entry-entry.result.is_new then c.pop_entry-entry.result.key
+    (c : goal.After-self-2-1) → c.keys_left-keys.result ≡ (if c.pop_entry-entry.result.is_new then c.pop_entry-entry.result.key
     else length c.self.inside.holders.items)
 which c = search rules
 
@@ -46,11 +46,11 @@ invariant_of-self c =
     rw (c.truncate.ensures, c.truncate-2.ensures.items, c.count.ensures)
     (record {
       index = index_popped c.self.inside.keys c.self.inside.holders.items (rest c) c.pop_entry-entry.result
-          c.self.inside.live c.kept-kept.result (all c)
+          c.self.inside.live c.keys_left-keys.result (all c)
           (kept_within c.self.inside.keys c.self.inside.holders.items (rest c) c.pop_entry-entry.result
-          c.self.inside.live c.kept-kept.result (all c) (which c))
+          c.self.inside.live c.keys_left-keys.result (all c) (which c))
           (kept_below c.self.inside.keys c.self.inside.holders.items (rest c) c.pop_entry-entry.result
-          c.self.inside.live c.kept-kept.result (all c) (which c));
+          c.self.inside.live c.keys_left-keys.result (all c) (which c));
       order = c.pop_entry-entry.ensures.order;
       bound = omega (arith, few);
     })
@@ -58,9 +58,9 @@ invariant_of-self c =
 pub returns : goal.returns
 returns c =
     ap (λ ks. seen_all ks (rest c)) c.truncate.ensures
-    ∙ rows_popped c.self.inside.keys (rest c) c.pop_entry-entry.result c.kept-kept.result
+    ∙ rows_popped c.self.inside.keys (rest c) c.pop_entry-entry.result c.keys_left-keys.result
     (kept_below c.self.inside.keys c.self.inside.holders.items (rest c) c.pop_entry-entry.result c.self.inside.live
-    c.kept-kept.result (all c) (which c))
+    c.keys_left-keys.result (all c) (which c))
     ∙ ap (λ es. take (length (seen_all c.self.inside.keys es) - 1) (seen_all c.self.inside.keys es))
     (sym (split c))
     ∙ ap (λ xs. take (length xs - 1) xs) c.self.view_is

@@ -1,10 +1,10 @@
-use Rattle.std.proofs.Common.{◌≡◌, ℕ, List, Bool, [], ◌∷◌, ◌++◌, ◌+◌, ◌<◌, ◌≤◌, Some, slice_get, ap, subst, sym, ◌∙◌, true, arith, length, nat_eq}
+use Rattle.std.proofs.Common.{◌≡◌, ℕ, List, Bool, [], ◌∷◌, ◌++◌, ◌+◌, ◌≤◌, Some, slice_get, ap, subst, sym, ◌∙◌, true, arith, length, nat_eq}
 use Rattle.std.specs.Prelude.{if◌then◌else◌, is_ok}
 use Rattle.std.proofs.lemmas.Grind.{common_steps}
 use Rattle.row_keys.specs.Entries.{AreInOrder, all_entries}
 use Rattle.row_keys.specs.declared.numbers.Entry.{Entry}
 use Rattle.row_keys.specs.declared.numbers.KeptEntry.{KeptEntry}
-use Rattle.row_keys.specs.Index.{HoldsPlace, IsFree, IsIndex, Puts, StartsWithNull, seen_all}
+use Rattle.row_keys.specs.Index.{HoldsPlace, IsFree, IsIndex, Puts, seen_all}
 use Rattle.row_keys.specs.Numbers.{IsAt, IsUnused, Numbered, numbered}
 use Rattle.row_keys.proofs.GoneRows.{Started, key_there, place_within, started}
 use Rattle.row_keys.proofs.Indexes.{found_row}

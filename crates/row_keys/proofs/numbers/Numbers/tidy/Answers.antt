@@ -1,7 +1,6 @@
-use Rattle.std.proofs.Common.{◌∙◌, List, ap, filter, subst, sym}
-use Rattle.row_keys.specs.Entries.{all_entries, is_kept}
-use Rattle.row_keys.specs.Index.{IsKeptIndex, seen_all}
-use Rattle.row_keys.specs.declared.numbers.KeptEntry.{KeptEntry}
+use Rattle.std.proofs.Common.{◌∙◌, ap}
+use Rattle.row_keys.specs.Entries.{all_entries}
+use Rattle.row_keys.specs.Index.{seen_all}
 use Rattle.row_keys.proofs.KeptEntries.{entries_swept, index_swept}
 use Rattle.row_keys.proofs.numbers.Numbers.tidy.Goals as goal
 

@@ -1,4 +1,4 @@
-use Rattle.std.proofs.Common.{◌≡◌, ℕ, false, List, [], ◌∷◌, ◌++◌, None, ap, length, map, subst, sym, ◌∙◌}
+use Rattle.std.proofs.Common.{◌≡◌, ℕ, false, List, ◌++◌, None, ap, length, map, subst, sym, ◌∙◌}
 use Rattle.arrays.specs.Checked.{CheckedColumn}
 use Rattle.view_lang.specs.Causes.{cause_of}
 use Rattle.view_lang.specs.Contents.{applied, keys_in}

@@ -1,4 +1,4 @@
-use Rattle.std.proofs.Common.{◌∙◌, ◌≡◌, get_or}
+use Rattle.std.proofs.Common.{◌∙◌}
 use Rattle.row_keys.proofs.Storing.{left_first, left_next, left_none, out_next}
 use Rattle.row_keys.proofs.store.RowStore.release.Goals as goal
 

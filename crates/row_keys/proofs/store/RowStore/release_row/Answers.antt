@@ -1,4 +1,4 @@
-use Rattle.std.proofs.Common.{◌≡◌, ◌∙◌, [], ap, false, get_or, length, subst, sym}
+use Rattle.std.proofs.Common.{◌≡◌, ◌∙◌, [], ap, false, get_or, subst, sym}
 use Rattle.std.specs.Prelude.{slice_set}
 use Rattle.row_keys.specs.Numbers.{no_row}
 use Rattle.row_keys.specs.Slots.{IsOut, emptied}
