@@ -216,17 +216,17 @@ fn keys_that_went(rt: HostRuntime) -> Result<(), Fail> {
         add(&rt, &mut session, id, b'p', 5);
     }
     let before = show(&rt, rt.alloc(), &mut session)?;
-    for id in 10..210u16 {
-        add(&rt, &mut session, id, b'p', 1);
+    for id in 10..210u8 {
+        add(&rt, &mut session, id.into(), b'p', 1);
         retract(&rt, &mut session, id);
     }
     let after = show(&rt, rt.alloc(), &mut session)?;
     assert_eq!(rt; after.sink.bytes(), before.sink.bytes());
-    for id in 10..210u16 {
-        add(&rt, &mut session, id, b'p', 1);
+    for id in 10..210u8 {
+        add(&rt, &mut session, id.into(), b'p', 1);
     }
     assert_eq!(rt; session.live_rows(), 203);
-    for id in 10..210u16 {
+    for id in 10..210u8 {
         retract(&rt, &mut session, id);
     }
     let mut again = make_again(&rt, rt.alloc(), session)?;
