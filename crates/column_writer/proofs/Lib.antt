@@ -10,3 +10,4 @@ pub mod ChildLemmas
 pub mod PieceLemmas
 pub mod BatchLemmas
 pub mod EncodedLemmas
+pub mod TextLemmas

@@ -124,10 +124,10 @@ number-bytes w xs small room =
 abbrev IsKept : ℕ → Type 0
 IsKept w = (s : Bool) (x : ℕ) → x < 256 ^ w → low_bytes w128 w (number_by s w x) ≡ x
 
-low-half : (w x : ℕ) → x < 2 ^ (8 * w - 1) → twos_complement w x ≡ pos x
+pub low-half : (w x : ℕ) → x < 2 ^ (8 * w - 1) → twos_complement w x ≡ pos x
 low-half w x h = rw (lt-ltb x (2 ^ (8 * w - 1)) h) refl
 
-high-half : (w x : ℕ) → 2 ^ (8 * w - 1) ≤ x → twos_complement w x ≡ pos x -ℤ pos (2 ^ (8 * w))
+pub high-half : (w x : ℕ) → 2 ^ (8 * w - 1) ≤ x → twos_complement w x ≡ pos x -ℤ pos (2 ^ (8 * w))
 high-half w x h = rw (le-ltb x (2 ^ (8 * w - 1)) h) refl
 
 kept-8 : IsKept 8

@@ -1,27 +1,32 @@
 //! Writes the body of a record batch straight from checked columns.
 
-ghost use Rattle.std.specs.Prelude.{◌≡◌, ◌^◌, ◌<◌, ◌≤◌, All, IfOk, OnOk, length};
+ghost use Rattle.std.specs.Prelude.{◌≡◌, ◌^◌, ◌<◌, ◌≤◌, All, IfOk, OnOk, [], ◌∷◌, length, map};
 ghost use Rattle.values.specs.Limits.{max_body_size};
 ghost use Rattle.values.specs.Rose.{node, kids_of};
 ghost use Rattle.values.specs.Layouts.{IsNode, IsLayout, AreLayouts, Holds};
 ghost use Rattle.values.specs.Weights.{weights};
-ghost use Rattle.body_writer.specs.Columns.{nodes, nodes_below, buffers, buffers_below};
+ghost use Rattle.values.specs.declared.layout.Layout.TheVariants.{Binary as Bytes};
+ghost use Rattle.body_writer.specs.Slots.{total_length};
+ghost use Rattle.body_writer.specs.Columns.{nodes, nodes_below, buffers, buffers_below, own_buffers, own_node};
 ghost use Rattle.body_writer.specs.Grows.{Grows};
 ghost use Rattle.body_writer.specs.Batch.{IsBatch, body_bytes, body_nodes, body_ranges};
 ghost use Rattle.column_writer.specs.Pieces.{AllLie, IsEncoded, Lies, LiesAs, LiesBelow, OfSlots, pieces_cells};
 ghost use Rattle.column_writer.specs.Batches.{HasColumn, IsRange, column_in, ranges_rows};
+ghost use Rattle.column_writer.specs.Texts.{as_bytes};
 
 use crate::batch::RowRange;
 use crate::children::{child_at, child_pieces};
 use crate::encoded::encoded_cells;
+use crate::encoded_texts::encoded_texts;
 use crate::gather::{pieces_of, refs_of, values_of};
 use crate::kinds::model_of;
 use crate::own::{count_cells, write_own};
 use crate::piece::Piece;
+use crate::texts::write_texts;
 use array_layout::{Array, ArrayData};
 use body_writer::Body;
 use std::alloc::{AllocError, Global};
-use values::{Layout, LayoutTree};
+use values::{Layout, LayoutTree, OffsetWidth};
 
 /// Appends column `j` of these rows from copies of its cells.
 fn write_values(
@@ -44,8 +49,25 @@ fn write_values(
     body_writer::write_column(alloc, layout, &cells, body)
 }
 
+/// Appends the column of these texts or bytes, which stand for values of dictionaries, from slices of the values.
+fn write_encoded_texts(
+    alloc: Global,
+    width: OffsetWidth,
+    pieces: &[Piece],
+    body: &mut Body,
+) -> Result<(), AllocError>
+    requires encoded { All (OfSlots IsEncoded) pieces.now }
+    requires few { length (pieces_cells pieces.now) < 2 ^ 31 }
+    requires short { total_length (map as_bytes (pieces_cells pieces.now)) < 2 ^ 31 }
+    ensures { OnOk result (Grows body.old body.new (own_node (map as_bytes (pieces_cells pieces.now)) ∷ [])
+        (own_buffers (Bytes width) (map as_bytes (pieces_cells pieces.now)))) }
+{
+    let texts = encoded_texts(alloc, pieces, count_cells(pieces))?;
+    write_texts(alloc, width, &texts, body)
+}
+
 /// Appends the column of these cells, which stand for values of dictionaries, from references to the values.
-fn write_encoded(
+fn write_encoded_values(
     alloc: Global,
     layout: &LayoutTree,
     pieces: &[Piece],
@@ -60,6 +82,32 @@ fn write_encoded(
 {
     let cells = encoded_cells(alloc, pieces, count_cells(pieces))?;
     body_writer::write_column(alloc, layout, &cells, body)
+}
+
+/// Appends the column of these cells, which stand for values of dictionaries.
+fn write_encoded(
+    alloc: Global,
+    layout: &LayoutTree,
+    pieces: &[Piece],
+    body: &mut Body,
+) -> Result<(), AllocError>
+    requires layouts { IsLayout layout.now }
+    requires encoded { All (OfSlots IsEncoded) pieces.now }
+    requires held { All (Holds layout.now) (pieces_cells pieces.now) }
+    requires light { weights layout.now (pieces_cells pieces.now) < 2 ^ 31 }
+    ensures { OnOk result (Grows body.old body.new (nodes layout.now (pieces_cells pieces.now))
+        (buffers layout.now (pieces_cells pieces.now))) }
+{
+    match layout.layout {
+        Layout::Utf8 { offsets } => write_encoded_texts(alloc, offsets, pieces, body),
+        Layout::Binary { offsets } => write_encoded_texts(alloc, offsets, pieces, body),
+        Layout::Bool
+        | Layout::Int { .. }
+        | Layout::Decimal { .. }
+        | Layout::FixedSizeBinary { .. }
+        | Layout::List { .. }
+        | Layout::Struct => write_encoded_values(alloc, layout, pieces, body),
+    }
 }
 
 /// Appends the columns of the children of an array with this layout and these cells. The children's arrays are of the

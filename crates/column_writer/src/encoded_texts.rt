@@ -1,0 +1,97 @@
+//! Texts or bytes of arrays with a dictionary, as slices of the values that their indices stand for.
+
+ghost use Rattle.std.specs.Prelude.{◌≡◌, ◌<◌, ◌≤◌, ◌++◌, All, IfOk, OnOk, Some, map, replicate};
+ghost use Rattle.values.specs.Datum.{null};
+ghost use Rattle.body_writer.specs.Slots.{cell_of};
+ghost use Rattle.column_writer.specs.Pieces.{IsChecked, IsEncoded, OfSlots, piece_cells, pieces_cells, range_cells};
+ghost use Rattle.column_writer.specs.Texts.{as_bytes, bytes_cell, bytes_cells};
+
+use crate::encoded::value_of;
+use crate::piece::{Piece, SlotRange};
+use array_layout::{DictionaryValues, buffer};
+use std::alloc::{AllocError, Global};
+use values::{Kind, Value};
+
+/// The bytes of a text or of bytes; `None` for a null.
+fn text_of<'a>(value: Option<&'a Value>) -> Option<&'a [u8]>
+    ensures { bytes_cell result ≡ as_bytes (cell_of value.entry) }
+{
+    let Some(value) = value else {
+        return None;
+    };
+    match &value.kind {
+        Kind::Utf8(text) => Some(text.as_bytes()),
+        Kind::Binary(bytes) => Some(bytes),
+        _ => None,
+    }
+}
+
+/// Appends the bytes of each of these slots.
+fn push_encoded<'a>(
+    texts: &mut Vec<Option<&'a [u8]>>,
+    range: &SlotRange<'a>,
+    dictionary: &'a DictionaryValues,
+) -> Result<(), AllocError>
+    requires checked { IsChecked range.now }
+    requires encoded { range.now.parts.own.now.dictionary ≡ Some dictionary.now }
+    ensures { OnOk result
+        (bytes_cells texts.new.items ≡ bytes_cells texts.old.items ++ map as_bytes (range_cells range.now)) }
+{
+    let bits = buffer(range.parts.body, &range.parts.own.validity);
+    let indices = buffer(range.parts.body, &range.parts.own.values);
+    for i in range.from..range.to {
+        texts.push(text_of(value_of(range, dictionary, bits, indices, i)))?;
+    }
+    Ok(())
+}
+
+/// Appends the bytes of each slot of an array with a dictionary.
+fn push_slots<'a>(
+    texts: &mut Vec<Option<&'a [u8]>>,
+    range: &SlotRange<'a>,
+) -> Result<(), AllocError>
+    requires { IsEncoded range.now }
+    ensures { OnOk result
+        (bytes_cells texts.new.items ≡ bytes_cells texts.old.items ++ map as_bytes (range_cells range.now)) }
+{
+    let dictionary = range.parts.own.dictionary.as_ref().unwrap();
+    push_encoded(texts, range, dictionary)
+}
+
+fn push_nulls(texts: &mut Vec<Option<&[u8]>>, count: usize) -> Result<(), AllocError>
+    ensures { OnOk result
+        (bytes_cells texts.new.items ≡ bytes_cells texts.old.items ++ map as_bytes (replicate count null)) }
+{
+    for _ in 0..count {
+        texts.push(None)?;
+    }
+    Ok(())
+}
+
+/// Appends the bytes of each cell of a piece.
+fn push_piece<'a>(texts: &mut Vec<Option<&'a [u8]>>, piece: &Piece<'a>) -> Result<(), AllocError>
+    requires { OfSlots IsEncoded piece.now }
+    ensures { OnOk result
+        (bytes_cells texts.new.items ≡ bytes_cells texts.old.items ++ map as_bytes (piece_cells piece.now)) }
+{
+    match piece {
+        Piece::Slots(range) => push_slots(texts, range),
+        Piece::Nulls(count) => push_nulls(texts, *count),
+    }
+}
+
+/// The bytes of these cells, `len` of them, texts or bytes whose arrays have dictionaries; `None` for a null.
+pub(crate) fn encoded_texts<'a>(
+    alloc: Global,
+    pieces: &[Piece<'a>],
+    len: usize,
+) -> Result<Vec<Option<&'a [u8]>>, AllocError>
+    requires { All (OfSlots IsEncoded) pieces.now }
+    ensures { IfOk result (λ texts. bytes_cells texts.items ≡ map as_bytes (pieces_cells pieces.now)) }
+{
+    let mut texts = Vec::with_capacity(alloc, len)?;
+    for piece in pieces {
+        push_piece(&mut texts, piece)?;
+    }
+    Ok(texts)
+}
