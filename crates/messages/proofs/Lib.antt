@@ -4,6 +4,7 @@ pub mod Stages
 pub mod Messages
 pub mod WantedLemmas
 pub mod GatherLemmas
+pub mod AcrossLemmas
 pub mod Facts
 pub mod Sounds
 pub mod Streams

@@ -86,7 +86,7 @@ unfolding message_at
 in_body len front m h =
     elim (lt_cases len front) [ inl t ↦ rw t.0 refl | inr t ↦ rw (t.0, is_lt len (front + m.body) h) refl ]
 
-same_metadata :
+pub same_metadata :
     (bytes more : List ℕ) (front : ℕ) → 8 ≤ front → front ≤ length bytes
     → slice_range (bytes ++ more) 8 front ≡ slice_range bytes 8 front
 same_metadata bytes more front h l =

@@ -1,8 +1,9 @@
 //! Parses the message at the front of some bytes: Arrow Columnar Format, "Encapsulated message format".
 
-ghost use Rattle.std.specs.Prelude.{◌≤◌, ◌+◌, Some, length, slice_range, IfOk};
+ghost use Rattle.std.specs.Prelude.{◌≡◌, ◌≤◌, ◌+◌, ◌++◌, Ok, Some, drop, length, slice_range, IfErr, IfOk, IfSome};
+ghost use Rattle.byteorder.specs.Endian.{little_number};
 ghost use Rattle.values.specs.Limits.{max_metadata_size};
-ghost use Rattle.values.specs.Reading.{Answers, Yields};
+ghost use Rattle.values.specs.Reading.{Answers, Fails, Yields};
 ghost use Rattle.schema_meta.specs.Framing.{end_mark, first, framed, message_at};
 ghost use Rattle.schema_meta.specs.Message.{meta_of};
 ghost use Rattle.messages.specs.State.{IsRead, known_of, progress_seen, whole_seen};
@@ -113,4 +114,67 @@ pub(crate) fn first(alloc: Global, state: &State, bytes: &[u8]) -> Result<Progre
         return Ok(Progress::Whole(end_mark(state)?));
     }
     message_at(alloc, state, bytes, 8 + size)
+}
+
+/// How long the metadata of the first message is, if it is all there.
+fn metadata_held(bytes: &[u8]) -> Option<usize>
+    ensures some { IfSome result (λ n. 1 ≤ n) }
+    ensures there { IfSome result (λ n. 8 + n ≤ length bytes.now) }
+    ensures size { IfSome result (λ n. framed (little_number 4 bytes.now) (little_number 4 (drop 4 bytes.now)) ≡ Ok n) }
+{
+    if bytes.len() < 8 {
+        return None;
+    }
+    match metadata_size(
+        LittleEndian::read_u32(bytes),
+        LittleEndian::read_u32(&bytes[4..]),
+    ) {
+        Ok(size) if 0 < size && size <= bytes.len() - 8 => Some(size),
+        _ => None,
+    }
+}
+
+/// Parses the message whose body begins at `front`, of some bytes that hold its metadata and of `more` bytes that come
+/// after them. `None` where they don't complete it.
+#[tactic(auto, using(values::proofs::Readings::failing, crate::proofs::AcrossLemmas::across), unfolding(schema_meta::specs::Framing::message_at))]
+fn message_across(
+    alloc: Global,
+    state: &State,
+    bytes: &[u8],
+    more: &[u8],
+    front: usize,
+) -> Result<Option<Found>, StreamFault>
+    requires in_range { 8 ≤ front }
+    requires there { front ≤ length bytes.now }
+    requires small { IsRead (known_of state.now).schema }
+    ensures found { IfOk result (λ o. IfSome o
+        (λ f. followed_at (known_of state.now) bytes.now front more.now ≡ Ok (Some (whole_seen f)))) }
+    ensures fault { IfErr result (λ e. Fails e (followed_at (known_of state.now) bytes.now front more.now)) }
+    ensures front { IfOk result (λ o. IfSome o (λ f. f.front ≡ front)) }
+{
+    let metadata = read_metadata(alloc, state, &bytes[8..front])?;
+    if bytes.len() - front + more.len() < metadata.body {
+        return Ok(None);
+    }
+    Ok(Some(Found { front, metadata }))
+}
+
+/// Parses the first message of some bytes that hold its metadata and of `more` bytes that come after them. `None` where
+/// the metadata isn't held, or the message isn't complete.
+pub(crate) fn first_across(
+    alloc: Global,
+    state: &State,
+    bytes: &[u8],
+    more: &[u8],
+) -> Result<Option<Found>, StreamFault>
+    requires { IsRead (known_of state.now).schema }
+    ensures found { IfOk result (λ o. IfSome o
+        (λ f. first (known_of state.now) (bytes.now ++ more.now) ≡ Ok (Some (whole_seen f)))) }
+    ensures fault { IfErr result (λ e. Fails e (first (known_of state.now) (bytes.now ++ more.now))) }
+    ensures front { IfOk result (λ o. IfSome o (λ f. f.front ≤ length bytes.now)) }
+{
+    match metadata_held(bytes) {
+        Some(size) => message_across(alloc, state, bytes, more, 8 + size),
+        None => Ok(None),
+    }
 }

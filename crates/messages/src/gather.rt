@@ -24,7 +24,7 @@ ghost use Rattle.messages.specs.Gather.{Gathers, IsWaiting, Steps, first_with};
 ghost use Rattle.messages.specs.State.{IsRead, known_of, progress_seen, whole_seen};
 ghost use Rattle.messages.specs.Wanted.{Awaits, Wants, followed};
 
-use crate::framing::{Found, Progress, first};
+use crate::framing::{Found, Progress, first, first_across};
 use crate::state::State;
 use std::alloc::Global;
 use values::StreamFault;
@@ -125,6 +125,28 @@ fn take_whole(alloc: Global, state: &State, found: Found, piece: &[u8]) -> Resul
     })
 }
 
+/// Takes the message that the piece completes, whose metadata is held: its body is copied out of both.
+#[tactic(auto, using(crate::proofs::AcrossLemmas::taking))]
+fn take_across(
+    alloc: Global,
+    state: &State,
+    held: &[u8],
+    found: Found,
+    piece: &[u8],
+) -> Result<Step, StreamFault>
+    requires partial { first (known_of state.now) held.now ≡ Ok None }
+    requires found { first (known_of state.now) (held.now ++ piece.now) ≡ Ok (Some (whole_seen found)) }
+    requires front { found.front ≤ length held.now }
+    ensures ok { IfOk result (λ s. Steps (known_of state.now) held.now piece.now s held.now) }
+    ensures fault { IfErr result (λ e. Fails e (first (known_of state.now) (held.now ++ piece.now))) }
+{
+    let used = found.front + found.metadata.body - held.len();
+    let mut body = Vec::with_capacity(alloc, found.metadata.body)?;
+    body.extend_from_slice(&held[found.front..held.len()])?;
+    body.extend_from_slice(&piece[..used])?;
+    Ok(Step::Whole { used, found, body })
+}
+
 /// Looks for a message in the held bytes and the piece, which is copied after them.
 fn advance_held(
     alloc: Global,
@@ -159,7 +181,8 @@ fn advance_held(
 }
 
 /// Looks for a message in the held bytes and the piece. Afterwards all of the piece is held, or nothing if it completed
-/// a message. Where nothing is held, a message that the piece holds whole is read where it lies.
+/// a message. Where nothing is held, a message that the piece holds whole is read where it lies; where its metadata is
+/// held, and the piece completes it, the rest of its body is.
 #[tactic(auto, using(crate::proofs::Messages::first_within))]
 pub(crate) fn advance(
     alloc: Global,
@@ -179,6 +202,11 @@ pub(crate) fn advance(
     if held.is_empty() && !piece.is_empty() {
         if let Progress::Whole(found) = first(alloc, state, piece)? {
             return take_whole(alloc, state, found, piece);
+        }
+    }
+    if piece.len() >= wanted {
+        if let Some(found) = first_across(alloc, state, held, piece)? {
+            return take_across(alloc, state, held, found, piece);
         }
     }
     advance_held(alloc, state, held, piece, wanted)
