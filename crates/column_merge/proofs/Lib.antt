@@ -1,0 +1,4 @@
+mod Places
+mod Reading
+mod Writing
+mod ByteRows

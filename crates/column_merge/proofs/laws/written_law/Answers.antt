@@ -1,0 +1,5 @@
+use Rattle.column_merge.proofs.Writing.{written-law}
+use Rattle.column_merge.proofs.laws.written_law.Goals as goal
+
+pub returns : goal.returns
+returns c = written-law
