@@ -163,7 +163,9 @@ def main():
             print(f"{live:,} rows in batches of 1,024: {rows[0]:.2f} s, {rows[1] / live:.0f} bytes a row; recast {recast[0]:.2f} s")
             each = 1e6 * (all_edits[0] - rows[0]) / (edits * ROUNDS)
             print(f"  then {edits * ROUNDS:,} appends of one row, and the retract of each: {each:.1f} microseconds for both")
-            for view, writes in (("all", 1), ("sorted", 1), ("groups", 1), ("first", 10_000), ("zones", 2_000)):
+            # So often that what they take is more than two runs differ by.
+            many = 4_000_000 // live
+            for view, writes in (("all", many), ("sorted", many), ("groups", many), ("first", 10_000), ("zones", 2_000)):
                 written = bench.run(["rows"], [view] * writes)
                 print(f"  view {view} written: {1e3 * (written[0] - rows[0]) / writes:.2f} ms")
             if live < 100_000 and shutil.which("valgrind"):

@@ -4,7 +4,9 @@
 Each is a few hundred bytes to 200 KB long. The program must answer what docs/FORMAT.md says, in the memory and the time that stand here.
 """
 import os
+import re
 import resource
+import struct
 import subprocess
 import sys
 import tempfile
@@ -12,7 +14,8 @@ import time
 
 sys.dont_write_bytecode = True
 from claims import (
-    END_MARK, FIXED, LIST, STRUCT, batch, dictionary_batch, empty_bytes, empty_struct, field, fixed_bytes, list_of, nested, offsets, schema,
+    END_MARK, FIXED, INT, LIST, STRUCT, UTF8, batch, dictionary_batch, empty_bytes, empty_struct, field, fixed_bytes, integer, list_of, nested,
+    offsets, schema,
 )
 
 LV = "crates/lv/out/lv"
@@ -113,6 +116,54 @@ def nested_claims():
     yield "1,025 columns", [schema([empty_bytes(f"c{it}") for it in range(1025)]), END_MARK], FIELDS, FIELDS
 
 
+def keyed(column, nodes, buffers, rows, dictionaries=()):
+    """The stream of a table with a key, 0 and up, and one more column."""
+    keys = struct.pack(f"<{rows}q", *range(rows))
+    fields = [field("k", INT, integer(64)), column]
+    return [schema(fields), *dictionaries, batch(rows, [rows, *nodes], [b"", keys, *buffers]), END_MARK]
+
+
+CONFIG = """
+[main]
+key = "k"
+columns = [["k", "int64"], ["c", {}]]
+[feed.rows]
+role = "append"
+[view.all]
+group = []
+columns = [["rows", "count"], ["filled", "count", "c"]]
+[view.keys]
+columns = [["k", "col", "k"]]
+[view.filled]
+filter = ["not", ["is_null", "c"]]
+columns = [["k", "col", "k"]]
+order = [["k", "desc"]]
+first = 10
+"""
+OF_TEXTS = """
+[view.compared]
+group = []
+columns = [["distinct", "distinct", "c"], ["least", "least", "c"], ["greatest", "greatest", "c"]]
+[view.groups]
+group = ["c"]
+columns = [["rows", "count"]]
+[view.others]
+filter = ["ne", "c", "x"]
+columns = [["k", "col", "k"]]
+"""
+
+
+def view_claims():
+    """The name, the stream and the configuration of a table of few bytes, of which views read what takes few bytes too."""
+    ends = range(0, 61 * MOST_ITEMS, MOST_ITEMS)
+    lists_of_nothing = keyed(list_of("c", empty_struct("i")), [60, ends[-1]], [b"", offsets(*ends), b""], 60)
+    yield "60 lists that claim 2^20 items", lists_of_nothing, CONFIG.format('["list", ["struct"]]')
+    text = b"a" * (MEGABYTE - 8)
+    brought = [dictionary_batch(0, 1, [b"", offsets(0, len(text)), text])]
+    rows = keyed(field("c", UTF8, dictionary=0), [1000], [b"", bytes(4000)], 1000, brought)
+    yield "a text of 1 MB in 1,000 rows", rows, CONFIG.format('"utf8"') + OF_TEXTS
+
+
 def claims():
     """The name, the stream, and the wanted last lines of inspect and of recast, which isn't run where its output is long."""
     bare, empty = empty_struct("i"), empty_bytes("i")
@@ -134,7 +185,7 @@ def claims():
     yield from dictionary_claims()
 
 
-def limited(words, seconds, megabytes):
+def limited(words, seconds, megabytes, folder=None):
     """The last line that a program prints within its time and memory, with what it took."""
 
     def limit():
@@ -142,11 +193,26 @@ def limited(words, seconds, megabytes):
 
     began = time.monotonic()
     try:
-        ran = subprocess.run(words, stdout=subprocess.PIPE, text=True, preexec_fn=limit, timeout=seconds)
+        ran = subprocess.run(words, cwd=folder, stdout=subprocess.PIPE, text=True, preexec_fn=limit, timeout=seconds)
         said = (ran.stdout.splitlines() or [f"status {ran.returncode}"])[-1]
     except subprocess.TimeoutExpired:
         said = f"took more than {seconds} s"
     return said, time.monotonic() - began
+
+
+def is_viewed(lv, folder, name, parts, config):
+    """Runs a script that feeds a stream and writes all views of a configuration."""
+    with open(f"{folder}/in", "wb") as file:
+        file.writelines(parts)
+    views = re.findall(r"^\[view\.(\w+)\]", config, re.M)
+    for path, text in (("config", config), ("script", "".join(["feed rows in\n", *(f"write {it} out\n" for it in views)]))):
+        with open(f"{folder}/{path}", "w", encoding="utf-8") as file:
+            file.write(text)
+    said, seconds = limited([lv, "run", f"{folder}/config", f"{folder}/script"], 10, 64, folder)
+    is_well = said.startswith(f"{len(views) + 1}: wrote ")
+    if not is_well or "-v" in sys.argv:
+        print(f"claims: {name}, {len(views)} views: {'' if is_well else 'FAILED: '}{said} in {seconds:.2f} s")
+    return is_well
 
 
 def main():
@@ -157,6 +223,9 @@ def main():
     failed, tried = 0, 0
     with tempfile.TemporaryDirectory(prefix="lv-claims-") as folder:
         stream, output = f"{folder}/in", f"{folder}/out"
+        for name, parts, config in view_claims():
+            tried += 1
+            failed += not is_viewed(lv, folder, name, parts, config)
         for name, parts, inspected, recast in claims():
             with open(stream, "wb") as file:
                 file.writelines(parts)
