@@ -1,40 +1,5 @@
 -- The rows of all numbers, when chunks come, go, and are changed.
-use Rattle.std.proofs.Common.{
-  ◌≡◌,
-  ◌⊎◌,
-  inl,
-  inr,
-  ℕ,
-  zero,
-  suc,
-  ◌+◌,
-  ◌-◌,
-  ◌<◌,
-  ◌≤◌,
-  Bool,
-  true,
-  false,
-  All,
-  Some,
-  List,
-  [],
-  ◌∷◌,
-  ◌++◌,
-  filter,
-  get_or,
-  length,
-  length-append,
-  take,
-  refl,
-  ap,
-  sym,
-  subst,
-  ◌∙◌,
-  append-nil,
-  arith,
-  min,
-  true≢false,
-}
+use Rattle.std.proofs.Common.{◌≡◌, inl, inr, ℕ, zero, suc, ◌+◌, ◌-◌, ◌<◌, ◌≤◌, Bool, true, false, All, Some, List, [], ◌∷◌, ◌++◌, filter, get_or, length, length-append, take, refl, ap, sym, subst, ◌∙◌, append-nil, arith, min, true≢false}
 use Rattle.std.specs.Prelude.{if◌then◌else◌, nat_le, replicate, slice_get, slice_set}
 use Rattle.std.specs.List.Sorted.{IsPartitionPoint, IsPartitionedBy}
 use Rattle.std.proofs.lemmas.List.Sorted.{IsPartitionedBy-leb}
@@ -42,7 +7,7 @@ use Rattle.std.proofs.lemmas.Bool.{leb-true}
 use Rattle.std.proofs.lemmas.Bool.Decides.{leb_tells}
 use Rattle.std.proofs.lemmas.List.{length-set, length-take}
 use Rattle.std.proofs.lemmas.List.Elements.{All-nil}
-use Rattle.std.proofs.lemmas.Option.{none-some, slice_get_within, get_or_from_slice_get}
+use Rattle.std.proofs.lemmas.Option.{slice_get_within, get_or_from_slice_get}
 use Rattle.values.specs.Datum.{Datum}
 use Rattle.arrays.specs.Checked.{CheckedColumn}
 use Rattle.schema_meta.specs.Rows.{row_at, rows_from}
@@ -75,30 +40,7 @@ use Rattle.row_keys.proofs.ListedItems.{
   listed_take,
   listed_whole,
 }
-use Rattle.row_keys.proofs.Chunking.{
-  IsInPlace,
-  at_none,
-  at_point,
-  chunk_long,
-  chunks_less,
-  chunks_more,
-  chunks_set,
-  chunks_upto,
-  listed_cells,
-  lt_or_le,
-  no_columns,
-  none_before,
-  none_past,
-  row_after,
-  row_front,
-  row_here,
-  row_before,
-  row_last,
-  row_other,
-  row_rest,
-  row_within,
-  swept,
-}
+use Rattle.row_keys.proofs.Chunking.{IsInPlace, at_none, at_point, chunk_long, chunks_less, chunks_more, chunks_set, listed_cells, lt_or_le, no_columns, none_past, row_after, row_front, row_here, row_before, row_last, row_other, row_rest, row_within, swept}
 
 -- the row of a number
 pub stored_at : (cs : List Chunk) (len n : ℕ) → AreChunks 0 cs len → get_or (stored_rows cs len) n [] ≡ row_in cs n

@@ -1,32 +1,5 @@
 -- Rows in chunks: columns in which rows lie one after the other, the number of the first, and which of them are gone.
-use Rattle.std.specs.Prelude.{
-  ◌≡◌,
-  ◌⊎◌,
-  ℕ,
-  zero,
-  suc,
-  ◌+◌,
-  ◌-◌,
-  ◌<◌,
-  ◌≤◌,
-  Bool,
-  true,
-  false,
-  if◌then◌else◌,
-  nat_lt,
-  All,
-  List,
-  [],
-  ◌∷◌,
-  ◌++◌,
-  Some,
-  get_or,
-  length,
-  slice_get,
-  slice_set,
-  take,
-  refl,
-}
+use Rattle.std.specs.Prelude.{◌≡◌, ◌⊎◌, ℕ, ◌+◌, ◌-◌, ◌<◌, ◌≤◌, Bool, true, false, if◌then◌else◌, nat_lt, All, List, [], ◌∷◌, ◌++◌, Some, get_or, length, slice_get, slice_set, take, refl}
 use Rattle.std.specs.Coded.{Coded, code_by, coded×, coded_ℕ, coded_bool, coded_list}
 use Rattle.values.specs.Datum.{Datum}
 use Rattle.arrays.specs.Checked.{CheckedColumn, column_code}

@@ -1,6 +1,6 @@
-use Rattle.std.proofs.Common.{◌≡◌, ◌<◌, ◌≤◌, ◌-◌, Some, ap, arith, length, slice_get, suc, subst, sym}
+use Rattle.std.proofs.Common.{◌≡◌, ◌<◌, ap, arith, length, suc}
 use Rattle.row_keys.specs.Chunks.{Chunk}
-use Rattle.row_keys.proofs.ChunkedRows.{chunk_read, lies_at, lies_in, lies_nowhere, lies_past}
+use Rattle.row_keys.proofs.ChunkedRows.{chunk_read, lies_in, lies_nowhere, lies_past}
 use Rattle.row_keys.proofs.stored_rows.chunk_of.Goals as goal
 
 pub returns-in_err-place : goal.returns-in_err-place

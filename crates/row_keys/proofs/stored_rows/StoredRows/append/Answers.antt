@@ -1,7 +1,7 @@
-use Rattle.std.proofs.Common.{◌≡◌, ◌+◌, ◌<◌, ◌++◌, ◌∷◌, [], List, false, ap, arith, subst, sym, ◌∙◌}
+use Rattle.std.proofs.Common.{◌≡◌, ◌+◌, ◌<◌, ◌++◌, ◌∷◌, [], false, ap, arith, subst, sym, ◌∙◌}
 use Rattle.std.specs.Prelude.{replicate}
 use Rattle.row_keys.specs.Batches.{batch_rows}
-use Rattle.row_keys.specs.Chunks.{AreChunks, Chunk, chunk, stored_rows}
+use Rattle.row_keys.specs.Chunks.{AreChunks, chunk, stored_rows}
 use Rattle.row_keys.proofs.ChunkedRows.{chunks_come, none_come}
 use Rattle.row_keys.proofs.stored_rows.StoredRows.append.Goals as goal
 

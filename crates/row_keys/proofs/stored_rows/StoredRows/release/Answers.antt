@@ -1,7 +1,7 @@
 use Rattle.std.proofs.Common.{◌≡◌, ◌∙◌, List, [], ap, subst, sym}
 use Rattle.std.specs.Prelude.{slice_set}
 use Rattle.values.specs.Datum.{Datum}
-use Rattle.row_keys.specs.Chunks.{AreChunks, Chunk, LiesIn, row_in, stored_rows}
+use Rattle.row_keys.specs.Chunks.{Chunk, LiesIn, row_in}
 use Rattle.row_keys.proofs.ChunkedRows.{none_goes, row_goes}
 use Rattle.row_keys.proofs.stored_rows.StoredRows.release.Goals as goal
 
