@@ -1,7 +1,7 @@
 #!/usr/bin/env python3
 """Runs the built lv, or the program that is named, over streams that claim much and hold little.
 
-Each is a few hundred bytes to 200 KB long. The program must answer what docs/FORMAT.md says, in the memory and the time that stand here.
+Each is a few hundred bytes to 1 MB long. The program must answer what docs/FORMAT.md says, in the memory and the time that stand here.
 """
 import os
 import re
