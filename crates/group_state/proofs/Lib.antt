@@ -2,6 +2,7 @@ pub mod Weights
 pub mod Had
 pub mod Halfway
 pub mod Members
+pub mod Moves
 pub mod Same
 pub mod Seen
 pub mod SeenCells

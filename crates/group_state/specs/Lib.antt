@@ -15,3 +15,4 @@ pub mod Seen
 pub mod Touched
 pub mod FewValues
 pub mod Multisets
+pub mod Moves

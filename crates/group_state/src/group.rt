@@ -1,11 +1,13 @@
 //! A group: the number of its rows, and a tally for each column that outputs read.
 
-ghost use Rattle.std.specs.Prelude.{◌≡◌, ◌<◌, ◌^◌, ◌∷◌, List, OnOk, IfOk, length, []};
+ghost use Rattle.std.specs.Prelude.{◌≡◌, ◌<◌, ◌^◌, ◌∷◌, ◌++◌, ◌+◌, ◌-◌, List, OnOk, IfOk, length, []};
 ghost use Rattle.values.specs.Datum.{Datum};
 ghost use Rattle.std.proofs.Common.{option_map};
 ghost use Rattle.group_state.specs.GroupParts.{IsGroup, group_with};
+ghost use Rattle.group_state.specs.Moves.{AreTotals};
 ghost use Rattle.group_state.specs.Rows.{KeepsRows, KeepsEach};
 ghost use Rattle.group_state.specs.Seen.{index_from, tally_at};
+ghost use Rattle.group_state.specs.declared.kept_columns.KeptColumn.{KeptColumn};
 
 use crate::kept_columns::KeptColumn;
 use crate::parts::GroupParts;
@@ -129,6 +131,58 @@ impl Group {
         remove_each(self.tallies.as_mut_slice(), alloc, columns, row)?;
         self.rows -= 1;
         Ok(())
+    }
+
+    /// Adds the rows of another group of the same columns.
+    pub(crate) fn take_in(&mut self, other: &Group)
+        requires { (columns : List KeptColumn) × (rest : List (List Datum)) × (moved : List (List Datum))
+            × (AreTotals columns × (KeepsRows columns self.old rest × (KeepsRows columns other.now moved
+            × (length rest + length moved < 2 ^ 62)))) }
+        ensures kept { (columns : List KeptColumn) (rest moved : List (List Datum)) → AreTotals columns
+            → KeepsRows columns self.old rest → KeepsRows columns other.now moved
+            → KeepsRows columns self.new (moved ++ rest) }
+        ensures rows { self.new.rows ≡ self.old.rows + other.now.rows }
+    {
+        take_in_each(self.tallies.as_mut_slice(), other.tallies.as_slice());
+        self.rows += other.rows;
+    }
+
+    /// Removes the rows of another group of the same columns.
+    pub(crate) fn give_up(&mut self, other: &Group)
+        requires { (columns : List KeptColumn) × (rest : List (List Datum)) × (moved : List (List Datum))
+            × (KeepsRows columns self.old (moved ++ rest) × KeepsRows columns other.now moved) }
+        ensures kept { (columns : List KeptColumn) (rest moved : List (List Datum)) → AreTotals columns
+            → KeepsRows columns self.old (moved ++ rest) → KeepsRows columns other.now moved
+            → KeepsRows columns self.new rest }
+        ensures rows { self.new.rows ≡ self.old.rows - other.now.rows }
+    {
+        give_up_each(self.tallies.as_mut_slice(), other.tallies.as_slice());
+        self.rows -= other.rows;
+    }
+}
+
+fn take_in_each(tallies: &mut [Tally], others: &[Tally])
+    requires { (columns : List KeptColumn) × (rest : List (List Datum)) × (moved : List (List Datum))
+        × (AreTotals columns × (KeepsEach columns tallies.old rest × (KeepsEach columns others.now moved
+        × (length rest + length moved < 2 ^ 62)))) }
+    ensures { (columns : List KeptColumn) (rest moved : List (List Datum)) → AreTotals columns
+        → KeepsEach columns tallies.old rest → KeepsEach columns others.now moved
+        → KeepsEach columns tallies.new (moved ++ rest) }
+{
+    for i in 0..others.len() {
+        tallies[i].take_in(&others[i]);
+    }
+}
+
+fn give_up_each(tallies: &mut [Tally], others: &[Tally])
+    requires { (columns : List KeptColumn) × (rest : List (List Datum)) × (moved : List (List Datum))
+        × (KeepsEach columns tallies.old (moved ++ rest) × KeepsEach columns others.now moved) }
+    ensures { (columns : List KeptColumn) (rest moved : List (List Datum)) → AreTotals columns
+        → KeepsEach columns tallies.old (moved ++ rest) → KeepsEach columns others.now moved
+        → KeepsEach columns tallies.new rest }
+{
+    for i in 0..others.len() {
+        tallies[i].give_up(&others[i]);
     }
 }
 

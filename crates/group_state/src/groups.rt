@@ -1,10 +1,13 @@
 //! Groups of rows, kept current by changes of the rows.
 
+ghost use Rattle.group_state.specs.GroupCounts.{GroupCounts};
 ghost use Rattle.group_state.specs.GroupParts.{AreGroups, grouped_with};
 ghost use Rattle.group_state.specs.Groups.{Keeps, KeepsAt};
 ghost use Rattle.group_state.specs.Keys.{tuple_cmp};
 ghost use Rattle.group_state.specs.KeptColumns.{IsKept};
+ghost use Rattle.group_state.specs.Moves.{AreTotals, IsPartOf};
 ghost use Rattle.group_state.specs.Reading.{CanReadAll};
+ghost use Rattle.group_state.specs.Rows.{KeepsRows};
 ghost use Rattle.group_state.specs.Seen.{seen_at};
 ghost use Rattle.group_state.specs.Touched.{StayBut, comes, goes, is_of, touches};
 ghost use Rattle.group_state.specs.Tuples.{has_tuple, tuple_of as tuple_by};
@@ -20,6 +23,7 @@ ghost use Rattle.std.specs.Prelude.{
   ◌^◌,
   ◌∷◌,
   ◌+◌,
+  ◌++◌,
   ◌↔◌,
   ◌||◌,
   All,
@@ -38,6 +42,7 @@ ghost use Rattle.std.specs.Prelude.{
 ghost use Rattle.values.specs.Datum.{Datum};
 ghost use Rattle.values.specs.declared.key.Key.{Key};
 ghost use Rattle.view_lang.specs.Cells.{rows_of};
+ghost use Rattle.group_state.specs.declared.kept_columns.KeptColumn.{KeptColumn};
 ghost use Rattle.view_lang.specs.Groups.{group_rows};
 ghost use Rattle.view_lang.specs.Shifts.{
   Fits,
@@ -203,6 +208,13 @@ impl Groups {
             Some(group) => Some(GroupRow::new(outputs, columns, tuple, group)),
             None => None,
         }
+    }
+
+    /// The group of a tuple, if it has one.
+    pub fn group(&self, tuple: &Tuple) -> Option<&Group>
+        ensures { option_map (λ g. g.now) result ≡ lookup (is_at (tuple_cmp tuple.now)) self.now.groups }
+    {
+        self.groups.get(tuple)
     }
 
     /// The tuple of a row.
@@ -394,6 +406,46 @@ impl Groups {
     }
 }
 
+impl Groups {
+    /// The rows of a group come, all at once: they have this tuple. After an error what is kept has no meaning.
+    pub fn take_in(&mut self, tuple: &Tuple, group: &Group) -> Result<(), AllocError>
+        requires totals { AreTotals self.old.columns }
+        requires part { (all : List (List Datum)) × (moved : List (List Datum)) × (others : List (List Datum))
+            × (Keeps self.old others × (IsPartOf self.old.keys self.old.columns tuple.now group.now all moved others
+            × (length all < 2 ^ 62))) }
+        ensures kept { OnOk result ((all moved others : List (List Datum))
+            → IsPartOf self.old.keys self.old.columns tuple.now group.now all moved others → Keeps self.old others
+            → Keeps self.new all) }
+        ensures keys { self.new.keys ≡ self.old.keys }
+        ensures columns { self.new.columns ≡ self.old.columns }
+        ensures others { OnOk result (StayBut (λ t. is_at (tuple_cmp tuple.now) t) self.old self.new) }
+    {
+        put_group(
+            &mut self.groups,
+            self.alloc,
+            self.columns.as_slice(),
+            tuple,
+            group,
+        )?;
+        Ok(())
+    }
+
+    /// The rows of a group go, all at once: they have this tuple.
+    pub fn give_up(&mut self, tuple: &Tuple, group: &Group)
+        requires totals { AreTotals self.old.columns }
+        requires part { (all : List (List Datum)) × (moved : List (List Datum)) × (others : List (List Datum))
+            × (Keeps self.old all × IsPartOf self.old.keys self.old.columns tuple.now group.now all moved others) }
+        ensures kept { (all moved others : List (List Datum))
+            → IsPartOf self.old.keys self.old.columns tuple.now group.now all moved others → Keeps self.old all
+            → Keeps self.new others }
+        ensures keys { self.new.keys ≡ self.old.keys }
+        ensures columns { self.new.columns ≡ self.old.columns }
+        ensures others { StayBut (λ t. is_at (tuple_cmp tuple.now) t) self.old self.new }
+    {
+        take_group(&mut self.groups, tuple, group);
+    }
+}
+
 impl Upkeep for Groups {
     ghost use Rattle.group_state.specs.Groups.{Keeps};
     ghost use Rattle.std.specs.Map.{values_of};
@@ -481,4 +533,55 @@ fn take_row<R: RowView>(
     }
     drop(groups.remove(tuple));
     Ok(())
+}
+
+/// Adds the rows of a group to the group of their tuple.
+fn put_group(
+    groups: &mut BTreeMap<Tuple, Group>,
+    alloc: Global,
+    columns: &[KeptColumn],
+    tuple: &Tuple,
+    group: &Group,
+) -> Result<(), AllocError>
+    requires totals { AreTotals columns.now }
+    requires part { (rest : List (List Datum)) × (moved : List (List Datum))
+        × (KeepsAt columns.now rest (lookup (is_at (tuple_cmp tuple.now)) groups.old.entries)
+        × (KeepsRows columns.now group.now moved × (length rest + length moved < 2 ^ 62))) }
+    ensures here { OnOk result ((rest moved : List (List Datum)) → 0 < group.now.rows
+        → KeepsRows columns.now group.now moved
+        → KeepsAt columns.now rest (lookup (is_at (tuple_cmp tuple.now)) groups.old.entries)
+        → KeepsAt columns.now (moved ++ rest) (lookup (is_at (tuple_cmp tuple.now)) groups.new.entries)) }
+    ensures others { OnOk result ((t : List Key) → is_at (tuple_cmp tuple.now) t ≡ false
+        → lookup (is_at (tuple_cmp t)) groups.new.entries ≡ lookup (is_at (tuple_cmp t)) groups.old.entries) }
+{
+    if let Some(kept) = groups.get_mut(tuple) {
+        kept.take_in(group);
+        return Ok(());
+    }
+    let mut kept = Group::new(alloc, columns)?;
+    kept.take_in(group);
+    groups.insert(tuple.copy(alloc)?, kept)?;
+    Ok(())
+}
+
+/// Removes the rows of a group from the group of their tuple, and that group with its last row.
+#[tactic(auto, using(crate::proofs::Moves::none_left))]
+fn take_group(groups: &mut BTreeMap<Tuple, Group>, tuple: &Tuple, group: &Group)
+    requires { (columns : List KeptColumn) × (rest : List (List Datum)) × (moved : List (List Datum))
+        × (KeepsAt columns (moved ++ rest) (lookup (is_at (tuple_cmp tuple.now)) groups.old.entries)
+        × KeepsRows columns group.now moved) }
+    ensures here { (columns : List KeptColumn) (rest moved : List (List Datum)) → AreTotals columns
+        → KeepsRows columns group.now moved
+        → KeepsAt columns (moved ++ rest) (lookup (is_at (tuple_cmp tuple.now)) groups.old.entries)
+        → KeepsAt columns rest (lookup (is_at (tuple_cmp tuple.now)) groups.new.entries) }
+    ensures others { (t : List Key) → is_at (tuple_cmp tuple.now) t ≡ false
+        → lookup (is_at (tuple_cmp t)) groups.new.entries ≡ lookup (is_at (tuple_cmp t)) groups.old.entries }
+{
+    if let Some(kept) = groups.get_mut(tuple) {
+        if kept.rows() > group.rows() {
+            kept.give_up(group);
+            return;
+        }
+    }
+    drop(groups.remove(tuple));
 }

@@ -24,6 +24,7 @@ mod tests;
 mod total;
 mod tuple;
 
+pub use group::Group;
 pub use group_row::GroupRow;
 pub use groups::Groups;
 pub use kept_columns::{KeptColumn, KeptForm};

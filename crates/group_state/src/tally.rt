@@ -1,6 +1,6 @@
 //! Tallies of the cells of one column of a group.
 
-ghost use Rattle.std.specs.Prelude.{◌≡◌, ◌<◌, ◌^◌, ◌∷◌, List, OnOk, IfOk, length};
+ghost use Rattle.std.specs.Prelude.{◌≡◌, ◌<◌, ◌^◌, ◌∷◌, ◌++◌, ◌+◌, List, OnOk, IfOk, length};
 ghost use Rattle.std.proofs.Common.{option_map};
 ghost use Rattle.values.specs.CellViews.{shallow, viewed};
 ghost use Rattle.values.specs.Datum.{Datum};
@@ -10,6 +10,7 @@ ghost use Rattle.group_state.specs.GroupParts.{IsTally, tally_with};
 ghost use Rattle.group_state.specs.Seen.{seen_count, seen_distinct, seen_greatest, seen_least, seen_sum};
 ghost use Rattle.group_state.specs.Rows.{cell};
 ghost use Rattle.group_state.specs.declared.kept_columns.KeptForm.{KeptForm};
+ghost use Rattle.group_state.specs.declared.kept_columns.KeptForm.TheVariants as kept;
 
 use crate::cells::{count, no_value, whole};
 use crate::kept_columns::KeptForm;
@@ -208,6 +209,29 @@ impl Tally {
                 remove_value(values, alloc, row, column)?;
                 Ok(())
             }
+        }
+    }
+
+    /// Adds the cells of another tally of the same form.
+    pub(crate) fn take_in(&mut self, other: &Tally)
+        requires { (form : KeptForm) × (rest : List Datum) × (moved : List Datum) × (KeepsCells form self.old rest
+            × (KeepsCells form other.now moved × (length rest + length moved < 2 ^ 62))) }
+        ensures { (form : KeptForm) (rest moved : List Datum) → form ≡ kept.Total → KeepsCells form self.old rest
+            → KeepsCells form other.now moved → KeepsCells form self.new (moved ++ rest) }
+    {
+        if let (Tally::Total(total), Tally::Total(other)) = (self, other) {
+            total.take_in(other);
+        }
+    }
+
+    /// Removes the cells of another tally of the same form.
+    pub(crate) fn give_up(&mut self, other: &Tally)
+        ensures { (form : KeptForm) (rest moved : List Datum) → form ≡ kept.Total
+            → KeepsCells form self.old (moved ++ rest) → KeepsCells form other.now moved
+            → KeepsCells form self.new rest }
+    {
+        if let (Tally::Total(total), Tally::Total(other)) = (self, other) {
+            total.give_up(other);
         }
     }
 }

@@ -1,6 +1,6 @@
 //! How many cells of a column aren't null, and their sum.
 
-ghost use Rattle.std.specs.Prelude.{◌≡◌, ◌<◌, ◌^◌, ◌∷◌, ◌+ℤ◌, ◌-ℤ◌, List, length};
+ghost use Rattle.std.specs.Prelude.{◌≡◌, ◌<◌, ◌^◌, ◌∷◌, ◌++◌, ◌+◌, ◌+ℤ◌, ◌-ℤ◌, List, length};
 ghost use Rattle.std.specs.Int.{int_wrap};
 ghost use mir.Syntax.{w128};
 ghost use Rattle.values.specs.Datum.{Datum};
@@ -44,6 +44,26 @@ impl Total {
         let number = number_at(row, column);
         lower(&mut self.total, &number);
         self.filled = self.filled.saturating_sub(1);
+    }
+
+    /// Adds the cells of another total.
+    pub(crate) fn take_in(&mut self, other: &Total)
+        requires { (rest : List Datum) × (moved : List Datum) × (KeepsTotal self.old rest
+            × (KeepsTotal other.now moved × (length rest + length moved < 2 ^ 62))) }
+        ensures { (rest moved : List Datum) → KeepsTotal self.old rest → KeepsTotal other.now moved
+            → KeepsTotal self.new (moved ++ rest) }
+    {
+        raise(&mut self.total, &other.total);
+        self.filled += other.filled;
+    }
+
+    /// Removes the cells of another total.
+    pub(crate) fn give_up(&mut self, other: &Total)
+        ensures { (rest moved : List Datum) → KeepsTotal self.old (moved ++ rest) → KeepsTotal other.now moved
+            → KeepsTotal self.new rest }
+    {
+        lower(&mut self.total, &other.total);
+        self.filled = self.filled.saturating_sub(other.filled);
     }
 }
 

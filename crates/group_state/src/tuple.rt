@@ -1,6 +1,6 @@
 //! Grouping tuples.
 
-ghost use Rattle.std.specs.Prelude.{◌≡◌, All, IfOk, [], map};
+ghost use Rattle.std.specs.Prelude.{◌≡◌, All, IfOk, [], length, map};
 ghost use Rattle.view_lang.specs.ViewLaws.{IsKeyCell};
 ghost use Rattle.values.specs.CellViews.{shallow, viewed};
 ghost use Rattle.view_lang.specs.Cells.{cell_at};
@@ -136,6 +136,13 @@ impl Tuple {
         Ok(Tuple { keys })
     }
 
+    /// How many values it has.
+    pub fn len(&self) -> usize
+        ensures { result ≡ length self.now }
+    {
+        self.keys.len()
+    }
+
     /// The tuple of no columns.
     pub(crate) fn none(alloc: Global) -> Tuple
         ensures { result ≡ [] }
@@ -146,7 +153,7 @@ impl Tuple {
     }
 
     /// The value at place `k` where it lies; null where there is none.
-    pub(crate) fn view(&self, k: usize) -> CellView<'_>
+    pub fn view(&self, k: usize) -> CellView<'_>
         ensures { viewed result ≡ shallow (cell_at (data_of self.now) k) }
     {
         match self.keys.get(k) {
