@@ -21,3 +21,4 @@ pub mod SampleFits
 pub mod Taken
 pub mod Totals
 pub mod Touched
+pub mod Under

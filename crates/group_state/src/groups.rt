@@ -3,9 +3,9 @@
 ghost use Rattle.group_state.specs.GroupCounts.{GroupCounts};
 ghost use Rattle.group_state.specs.GroupParts.{AreGroups, grouped_with};
 ghost use Rattle.group_state.specs.Groups.{Keeps, KeepsAt};
-ghost use Rattle.group_state.specs.Keys.{tuple_cmp};
+ghost use Rattle.group_state.specs.Keys.{key_cmp, key_in, tuple_cmp};
 ghost use Rattle.group_state.specs.KeptColumns.{IsKept};
-ghost use Rattle.group_state.specs.Moves.{AreTotals, IsPartOf};
+ghost use Rattle.group_state.specs.Moves.{AreTotals, IsPartOf, begins_with, begins_with_one};
 ghost use Rattle.group_state.specs.Reading.{CanReadAll};
 ghost use Rattle.group_state.specs.Rows.{KeepsRows};
 ghost use Rattle.group_state.specs.Seen.{seen_at};
@@ -25,6 +25,7 @@ ghost use Rattle.std.specs.Prelude.{
   ◌+◌,
   ◌++◌,
   ◌↔◌,
+  ◌&&◌,
   ◌||◌,
   All,
   IfOk,
@@ -59,6 +60,7 @@ ghost use Rattle.view_lang.specs.Shifts.{
 use crate::group::Group;
 use crate::group_row::GroupRow;
 use crate::kept_columns::{KeptColumn, kept_columns};
+use crate::key_cell::KeyCell;
 use crate::parts::GroupsParts;
 use crate::reading::{read_first, read_row, read_rows};
 use crate::tuple::Tuple;
@@ -210,6 +212,13 @@ impl Groups {
         }
     }
 
+    /// The columns of which something is kept.
+    pub fn columns(&self) -> &[KeptColumn]
+        ensures { result.now ≡ self.now.columns }
+    {
+        &self.columns
+    }
+
     /// The group of a tuple, if it has one.
     pub fn group(&self, tuple: &Tuple) -> Option<&Group>
         ensures { option_map (λ g. g.now) result ≡ lookup (is_at (tuple_cmp tuple.now)) self.now.groups }
@@ -245,6 +254,38 @@ impl Groups {
             )?;
         }
         in_order(self.alloc, tuples)
+    }
+
+    /// The tuples of the groups that begin with one of these values, each once, in ascending order. A list or a struct
+    /// counts as a null. No other group is visited.
+    pub fn tuples_under(&self, values: &[Value]) -> Result<Vec<Tuple>, AllocError>
+        ensures tuples { IfOk result (λ tuples. (t : List Key) → list_any (is_at (tuple_cmp t)) tuples.items
+            ≡ (begins_with_one values.now t && list_any (is_at (tuple_cmp t)) (keys_of self.now.groups))) }
+        ensures ascending { IfOk result (λ tuples. IsStrictlySortedBy tuple_cmp tuples.items) }
+    {
+        let firsts = keys_among(self.alloc, values)?;
+        let mut tuples = BTreeSet::new(self.alloc);
+        for first in firsts {
+            self.insert_under(&mut tuples, &first)?;
+        }
+        let listed = in_order(self.alloc, tuples)?;
+        Ok(listed)
+    }
+
+    /// Adds the tuples of the groups that begin with a key.
+    fn insert_under(&self, tuples: &mut BTreeSet<Tuple>, first: &KeyCell) -> Result<(), AllocError>
+        ensures { OnOk result ((t : List Key) → list_any (is_at (tuple_cmp t)) tuples.new.keys
+            ≡ (list_any (is_at (tuple_cmp t)) tuples.old.keys
+            || (begins_with first.now t && list_any (is_at (tuple_cmp t)) (keys_of self.now.groups)))) }
+    {
+        let start = Tuple::one(self.alloc, first.copy(self.alloc)?)?;
+        for (tuple, _group) in self.groups.range(&start..) {
+            if !tuple.begins_with(first) {
+                break;
+            }
+            tuples.insert(tuple.copy(self.alloc)?)?;
+        }
+        Ok(())
     }
 
     /// That the groups ascend by their tuples. It does nothing else.
@@ -474,9 +515,22 @@ fn insert_tuple(
     Ok(())
 }
 
+/// The keys that values are, each once.
+fn keys_among(alloc: Global, values: &[Value]) -> Result<BTreeSet<KeyCell>, AllocError>
+    ensures { IfOk result (λ keys. (k : Key) → list_any (is_at (key_cmp k)) keys.keys
+        ≡ list_any (λ d. is_at (key_cmp k) (key_in d)) values.now) }
+{
+    let mut keys = BTreeSet::new(alloc);
+    for value in values {
+        keys.insert(KeyCell::of_value(alloc, value)?)?;
+    }
+    Ok(keys)
+}
+
 /// The tuples of a set, in ascending order.
 fn in_order(alloc: Global, tuples: BTreeSet<Tuple>) -> Result<Vec<Tuple>, AllocError>
-    ensures { IfOk result (λ listed. listed.items ≡ tuples.keys) }
+    ensures value { IfOk result (λ listed. listed.items ≡ tuples.keys) }
+    ensures ascending { IfOk result (λ listed. IsStrictlySortedBy tuple_cmp listed.items) }
 {
     let mut listed = Vec::with_capacity(alloc, tuples.len())?;
     for tuple in tuples {

@@ -102,6 +102,14 @@ impl KeyCell {
         }))
     }
 
+    /// The key that a value is; a null where that is a list or a struct.
+    #[tactic(auto, using(values::proofs::ShallowLemmas::shallow_laws))]
+    pub(crate) fn of_value(alloc: Global, value: &Value) -> Result<KeyCell, AllocError>
+        ensures { IfOk result (λ key. key ≡ key_in value.now) }
+    {
+        Ok(KeyCell::of(alloc, value.view())?.unwrap_or(KeyCell::null()))
+    }
+
     /// Wraps a value, which must be neither a list nor a struct.
     pub(crate) fn of_cell(cell: Value) -> KeyCell
         requires { IsKeyCell cell }

@@ -1,9 +1,10 @@
 //! Grouping tuples.
 
-ghost use Rattle.std.specs.Prelude.{◌≡◌, All, IfOk, [], length, map};
+ghost use Rattle.std.specs.Prelude.{◌≡◌, ◌∷◌, All, IfOk, [], length, map};
 ghost use Rattle.view_lang.specs.ViewLaws.{IsKeyCell};
 ghost use Rattle.values.specs.CellViews.{shallow, viewed};
 ghost use Rattle.view_lang.specs.Cells.{cell_at};
+ghost use Rattle.group_state.specs.Moves.{begins_with};
 ghost use Rattle.group_state.specs.Reading.{data_of};
 ghost use Rattle.group_state.specs.Rows.{cell};
 ghost use Rattle.group_state.specs.Tuples.{tuple_of};
@@ -143,6 +144,25 @@ impl Tuple {
         self.keys.len()
     }
 
+    /// The tuple of one column.
+    pub(crate) fn one(alloc: Global, key: KeyCell) -> Result<Tuple, AllocError>
+        ensures { IfOk result (λ t. t ≡ key ∷ []) }
+    {
+        let mut keys = Vec::with_capacity(alloc, 1)?;
+        keys.push(key)?;
+        Ok(Tuple { keys })
+    }
+
+    /// Whether its first value is this key.
+    pub(crate) fn begins_with(&self, key: &KeyCell) -> bool
+        ensures { result ≡ begins_with key.now self.now }
+    {
+        match self.keys.first() {
+            Some(first) => key == first,
+            None => false,
+        }
+    }
+
     /// The tuple of no columns.
     pub(crate) fn none(alloc: Global) -> Tuple
         ensures { result ≡ [] }
@@ -163,7 +183,7 @@ impl Tuple {
     }
 
     /// A copy of the value at place `k`; null where there is none.
-    pub(crate) fn cell(&self, alloc: Global, k: usize) -> Result<Value, AllocError>
+    pub fn cell(&self, alloc: Global, k: usize) -> Result<Value, AllocError>
         ensures { IfOk result (λ cell. cell ≡ cell_at (data_of self.now) k) }
     {
         match self.keys.get(k) {
