@@ -9,7 +9,6 @@ use Rattle.values.specs.Datum.{Datum}
 use Rattle.values.specs.declared.key.Key.{Key}
 use Rattle.view_lang.specs.Shifts.{Shift}
 use Rattle.view_lang.specs.declared.view.OrderBy.{OrderBy}
-use Rattle.group_state.specs.GroupCounts.{GroupCounts}
 use Rattle.group_state.specs.Grouped.{Grouped}
 use Rattle.group_state.specs.Keys.{tuple_cmp, tuple_total}
 use Rattle.group_state.specs.Seen.{seen_row}
@@ -207,21 +206,19 @@ pub is-placed : (order : List OrderBy) (t : List Key) (o : Option (List Datum)) 
     → is_at (group_place_cmp q) p ≡ is_place_by tuple_cmp order t o p
 is-placed order t o q p found is e = ap (λ x. is_there x p) (sym is ∙ e) ∙ there-place order t o p
 
--- Where one row comes or goes, the place of its group's row is put in for that before.
-pub ranked-one : (old new : Ranked) (keys : List ℕ) (row : List Datum) (t : List Key) (next : Grouped)
-    (before after : Option GroupPlace) → t ≡ tuple_of keys row
-    → StayBut (λ q. has_tuple keys q row) old.groups next → next.columns ≡ old.groups.columns
+-- Where the group of one tuple changes, the place of its row is put in for that before.
+pub ranked-at : (old new : Ranked) (t : List Key) (next : Grouped) (before after : Option GroupPlace)
+    → StayBut (λ q. is_at (tuple_cmp t) q) old.groups next → next.columns ≡ old.groups.columns
     → new.groups ≡ next → new.ranking ≡ old.ranking
     → before ≡ option_map (place_by tuple_cmp old.ranking.order t) (placed_at old.ranking old.groups t)
     → after ≡ option_map (place_by tuple_cmp old.ranking.order t) (placed_at old.ranking next t)
     → Replaces before after old.places new.places → IsRanked old → IsRanked new
-ranked-one old new keys row t next before after is stay c g r b a f k =
+ranked-at old new t next before after stay c g r b a f k =
     let order : List OrderBy = old.ranking.order in
     let at : List Key → Option (List Datum) = placed_at old.ranking old.groups in
     let later : List Key → Option (List Datum) = placed_at old.ranking next in
     let same : (q : List Key) → is_at (tuple_cmp t) q ≡ false → later q ≡ at q =
-    λ q h. stays-shown old.ranking q old.groups next c
-    (stay q (ap (is_at (tuple_cmp q)) (sym is) ∙ (eq_by_cmp_equiv tuple_total).symm q t ∙ h)) in
+    λ q h. stays-shown old.ranking q old.groups next c (stay q h) in
     let was : (p : GroupPlace) → is_there before p ≡ is_place_by tuple_cmp order t (at t) p =
     λ p. ap (λ o. is_there o p) b ∙ there-place order t (at t) p in
     let now : (p : GroupPlace) → is_there after p ≡ is_place_by tuple_cmp order t (later t) p =
@@ -233,3 +230,15 @@ ranked-one old new keys row t next before after is stay c g r b a f k =
     ∙ ap₂ (λ y x. cond y true (cond x false (stands_by tuple_cmp old.places p))) (now p) (was p)) in
     subst (λ x. KeepsBy tuple_cmp new.ranking.order new.places (placed_at new.ranking x)) (sym g)
     (subst (λ x. KeepsBy tuple_cmp x.order new.places (placed_at x next)) (sym r) kept)
+
+-- Where one row comes or goes, the group of its tuple changes.
+pub ranked-one : (old new : Ranked) (keys : List ℕ) (row : List Datum) (t : List Key) (next : Grouped)
+    (before after : Option GroupPlace) → t ≡ tuple_of keys row
+    → StayBut (λ q. has_tuple keys q row) old.groups next → next.columns ≡ old.groups.columns
+    → new.groups ≡ next → new.ranking ≡ old.ranking
+    → before ≡ option_map (place_by tuple_cmp old.ranking.order t) (placed_at old.ranking old.groups t)
+    → after ≡ option_map (place_by tuple_cmp old.ranking.order t) (placed_at old.ranking next t)
+    → Replaces before after old.places new.places → IsRanked old → IsRanked new
+ranked-one old new keys row t next before after is stay =
+    ranked-at old new t next before after
+    (λ q h. stay q (ap (is_at (tuple_cmp q)) (sym is) ∙ (eq_by_cmp_equiv tuple_total).symm q t ∙ h))

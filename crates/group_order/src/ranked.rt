@@ -34,6 +34,8 @@ ghost use Rattle.values.specs.declared.key.Key.{Key};
 ghost use Rattle.view_lang.specs.Shifts.{Fits, IsFew, NumberedRows, patched, row_at, with_at};
 ghost use Rattle.group_state.specs.Keys.{tuple_cmp};
 ghost use Rattle.group_state.specs.KeptColumns.{IsKept};
+ghost use Rattle.group_state.specs.Moves.{AreTotals, IsPartOf};
+ghost use Rattle.group_state.specs.Tuples.{tuple_of as tuple_by};
 ghost use Rattle.top_rows.specs.PlaceOrder.{tied_cmp};
 ghost use Rattle.top_rows.specs.Ties.{KeepsBy, is_place_by, pick, place_by, stands_by, without};
 ghost use Rattle.group_order.specs.GroupPlaces.{GroupPlace as PlaceSeen, group_place_cmp};
@@ -43,7 +45,7 @@ ghost use Rattle.group_order.specs.RankedParts.{AreRanked, ranked_with};
 use crate::parts::RankedParts;
 use crate::place::GroupPlace;
 use crate::ranking::Ranking;
-use group_state::{GroupRow, Groups, Tuple};
+use group_state::{Group, GroupRow, Groups, KeptColumn, Tuple};
 use std::alloc::{AllocError, Global};
 use std::collections::BTreeSet;
 use std::marker::Model;
@@ -373,6 +375,102 @@ impl RankedGroups {
         let after = self.place_of(&tuple)?;
         self.replace(before, after)?;
         Ok(())
+    }
+
+    /// The rows of a group come, all at once: they have this tuple. After an error what is kept has no meaning.
+    pub fn take_in(&mut self, tuple: &Tuple, group: &Group) -> Result<(), AllocError>
+        requires totals { AreTotals self.old.groups.columns }
+        requires part { (all : List (List Datum)) × (moved : List (List Datum)) × (others : List (List Datum))
+            × (Keeps self.old others × (IsPartOf self.old.groups.keys self.old.groups.columns tuple.now group.now all
+            moved others × (length all < 2 ^ 62))) }
+        ensures kept { OnOk result ((all moved others : List (List Datum))
+            → IsPartOf self.old.groups.keys self.old.groups.columns tuple.now group.now all moved others
+            → Keeps self.old others → Keeps self.new all) }
+        ensures keys { OnOk result (self.new.groups.keys ≡ self.old.groups.keys) }
+        ensures columns { OnOk result (self.new.groups.columns ≡ self.old.groups.columns) }
+        ensures ranking { self.new.ranking ≡ self.old.ranking }
+    {
+        if self.ranking.has_places() {
+            self.take_in_at_place(tuple, group)?;
+        } else {
+            self.groups.take_in(tuple, group)?;
+        }
+        Ok(())
+    }
+
+    /// The rows of a group come, and the place of their tuple's group is put in for that before.
+    fn take_in_at_place(&mut self, tuple: &Tuple, group: &Group) -> Result<(), AllocError>
+        requires totals { AreTotals self.old.groups.columns }
+        requires part { (all : List (List Datum)) × (moved : List (List Datum)) × (others : List (List Datum))
+            × (Keeps self.old others × (IsPartOf self.old.groups.keys self.old.groups.columns tuple.now group.now all
+            moved others × (length all < 2 ^ 62))) }
+        ensures kept { OnOk result ((all moved others : List (List Datum))
+            → IsPartOf self.old.groups.keys self.old.groups.columns tuple.now group.now all moved others
+            → Keeps self.old others → Keeps self.new all) }
+        ensures keys { OnOk result (self.new.groups.keys ≡ self.old.groups.keys) }
+        ensures columns { OnOk result (self.new.groups.columns ≡ self.old.groups.columns) }
+        ensures ranking { self.new.ranking ≡ self.old.ranking }
+    {
+        let before = self.place_of(tuple)?;
+        self.groups.take_in(tuple, group)?;
+        let after = self.place_of(tuple)?;
+        self.replace(before, after)?;
+        Ok(())
+    }
+
+    /// The rows of a group go, all at once: they have this tuple. After an error what is kept has no meaning.
+    pub fn give_up(&mut self, tuple: &Tuple, group: &Group) -> Result<(), AllocError>
+        requires totals { AreTotals self.old.groups.columns }
+        requires part { (all : List (List Datum)) × (moved : List (List Datum)) × (others : List (List Datum))
+            × (Keeps self.old all × IsPartOf self.old.groups.keys self.old.groups.columns tuple.now group.now all moved
+            others) }
+        ensures kept { OnOk result ((all moved others : List (List Datum))
+            → IsPartOf self.old.groups.keys self.old.groups.columns tuple.now group.now all moved others
+            → Keeps self.old all → Keeps self.new others) }
+        ensures keys { OnOk result (self.new.groups.keys ≡ self.old.groups.keys) }
+        ensures columns { OnOk result (self.new.groups.columns ≡ self.old.groups.columns) }
+        ensures ranking { self.new.ranking ≡ self.old.ranking }
+    {
+        if self.ranking.has_places() {
+            self.give_up_from_place(tuple, group)?;
+        } else {
+            self.groups.give_up(tuple, group);
+        }
+        Ok(())
+    }
+
+    /// The rows of a group go, and the place of their tuple's group is put in for that before.
+    fn give_up_from_place(&mut self, tuple: &Tuple, group: &Group) -> Result<(), AllocError>
+        requires totals { AreTotals self.old.groups.columns }
+        requires part { (all : List (List Datum)) × (moved : List (List Datum)) × (others : List (List Datum))
+            × (Keeps self.old all × IsPartOf self.old.groups.keys self.old.groups.columns tuple.now group.now all moved
+            others) }
+        ensures kept { OnOk result ((all moved others : List (List Datum))
+            → IsPartOf self.old.groups.keys self.old.groups.columns tuple.now group.now all moved others
+            → Keeps self.old all → Keeps self.new others) }
+        ensures keys { OnOk result (self.new.groups.keys ≡ self.old.groups.keys) }
+        ensures columns { OnOk result (self.new.groups.columns ≡ self.old.groups.columns) }
+        ensures ranking { self.new.ranking ≡ self.old.ranking }
+    {
+        let before = self.place_of(tuple)?;
+        self.groups.give_up(tuple, group);
+        let after = self.place_of(tuple)?;
+        self.replace(before, after)?;
+        Ok(())
+    }
+
+    /// The columns of which something is kept.
+    pub fn columns(&self) -> &[KeptColumn]
+        ensures { result.now ≡ self.now.groups.columns }
+    {
+        self.groups.columns()
+    }
+
+    /// The tuple of a row.
+    pub fn tuple_of<R: RowView>(&self, row: &R) -> Result<Tuple, AllocError>
+        ensures { IfOk result (λ t. t ≡ tuple_by self.now.groups.keys (R.cells row.now)) }
+    {
+        self.groups.tuple_of(row)
     }
 
     /// The tuples of the first places, at most `most` of them.
