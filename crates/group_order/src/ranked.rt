@@ -34,7 +34,7 @@ ghost use Rattle.values.specs.declared.key.Key.{Key};
 ghost use Rattle.view_lang.specs.Shifts.{Fits, IsFew, NumberedRows, patched, row_at, with_at};
 ghost use Rattle.group_state.specs.Keys.{tuple_cmp};
 ghost use Rattle.group_state.specs.KeptColumns.{IsKept};
-ghost use Rattle.group_state.specs.Moves.{AreTotals, IsPartOf};
+ghost use Rattle.group_state.specs.Moves.{IsPartOf};
 ghost use Rattle.group_state.specs.Tuples.{tuple_of as tuple_by};
 ghost use Rattle.top_rows.specs.PlaceOrder.{tied_cmp};
 ghost use Rattle.top_rows.specs.Ties.{KeepsBy, is_place_by, pick, place_by, stands_by, without};
@@ -379,7 +379,6 @@ impl RankedGroups {
 
     /// The rows of a group come, all at once: they have this tuple. After an error what is kept has no meaning.
     pub fn take_in(&mut self, tuple: &Tuple, group: &Group) -> Result<(), AllocError>
-        requires totals { AreTotals self.old.groups.columns }
         requires part { (all : List (List Datum)) × (moved : List (List Datum)) × (others : List (List Datum))
             × (Keeps self.old others × (IsPartOf self.old.groups.keys self.old.groups.columns tuple.now group.now all
             moved others × (length all < 2 ^ 62))) }
@@ -400,7 +399,6 @@ impl RankedGroups {
 
     /// The rows of a group come, and the place of their tuple's group is put in for that before.
     fn take_in_at_place(&mut self, tuple: &Tuple, group: &Group) -> Result<(), AllocError>
-        requires totals { AreTotals self.old.groups.columns }
         requires part { (all : List (List Datum)) × (moved : List (List Datum)) × (others : List (List Datum))
             × (Keeps self.old others × (IsPartOf self.old.groups.keys self.old.groups.columns tuple.now group.now all
             moved others × (length all < 2 ^ 62))) }
@@ -420,7 +418,6 @@ impl RankedGroups {
 
     /// The rows of a group go, all at once: they have this tuple. After an error what is kept has no meaning.
     pub fn give_up(&mut self, tuple: &Tuple, group: &Group) -> Result<(), AllocError>
-        requires totals { AreTotals self.old.groups.columns }
         requires part { (all : List (List Datum)) × (moved : List (List Datum)) × (others : List (List Datum))
             × (Keeps self.old all × IsPartOf self.old.groups.keys self.old.groups.columns tuple.now group.now all moved
             others) }
@@ -441,7 +438,6 @@ impl RankedGroups {
 
     /// The rows of a group go, and the place of their tuple's group is put in for that before.
     fn give_up_from_place(&mut self, tuple: &Tuple, group: &Group) -> Result<(), AllocError>
-        requires totals { AreTotals self.old.groups.columns }
         requires part { (all : List (List Datum)) × (moved : List (List Datum)) × (others : List (List Datum))
             × (Keeps self.old all × IsPartOf self.old.groups.keys self.old.groups.columns tuple.now group.now all moved
             others) }

@@ -15,7 +15,7 @@ use Rattle.std.proofs.lemmas.Map.{keys-set_value}
 use Rattle.view_lang.proofs.LastEntries.{entry-next}
 use Rattle.view_lang.specs.SortedEntries.{all_below, sorted-insert_entry, sorted-remove_entry}
 use Rattle.values.specs.declared.key.Key.{Key}
-use Rattle.group_state.specs.Counts.{had, put_one, take_one, taken}
+use Rattle.group_state.specs.Counts.{had, put_times, take_times, taken}
 use Rattle.group_state.specs.FewValues.{ArePast, IsBefore, IsThere}
 use Rattle.group_state.specs.Keys.{key_cmp, key_total}
 use Rattle.group_state.proofs.Present.{present-put, present-take}
@@ -95,37 +95,38 @@ module _ (k : Key) where
     pub had_there : had es k ≡ e.1
     had_there = ap (λ (o : Option ℕ). unwrap_or o 0) found
 
-    pub put_there : put_one k es ≡ set es n (e.0, e.1 + 1)
-    put_there =
-        past_insert (had es k + 1) n es there.past
-        ∙ ap (λ (xs : Entries). take n es ++ insert_entry key_cmp xs k (had es k + 1)) (rest_at n es e at)
-        ∙ ap (λ (r : Ordering). take n es ++ match_ordering r ((k, had es k + 1) ∷ e ∷ drop (suc n) es)
-        ((e.0, had es k + 1) ∷ drop (suc n) es) (e ∷ insert_entry key_cmp (drop (suc n) es) k (had es k + 1)))
-        (there.at e at)
-        ∙ ap (λ (m : ℕ). take n es ++ (e.0, m + 1) ∷ drop (suc n) es) had_there
-        ∙ sym (set_at n es e (e.0, e.1 + 1) at)
+    module _ (m : ℕ) where
+      pub put_there : put_times k m es ≡ set es n (e.0, e.1 + m)
+      put_there =
+          past_insert (had es k + m) n es there.past
+          ∙ ap (λ (xs : Entries). take n es ++ insert_entry key_cmp xs k (had es k + m)) (rest_at n es e at)
+          ∙ ap (λ (r : Ordering). take n es ++ match_ordering r ((k, had es k + m) ∷ e ∷ drop (suc n) es)
+          ((e.0, had es k + m) ∷ drop (suc n) es) (e ∷ insert_entry key_cmp (drop (suc n) es) k (had es k + m)))
+          (there.at e at)
+          ∙ ap (λ (h : ℕ). take n es ++ (e.0, h + m) ∷ drop (suc n) es) had_there
+          ∙ sym (set_at n es e (e.0, e.1 + m) at)
 
-    taken_some : take_one k es ≡ taken k es (Some e.1)
-    taken_some = ap (taken k es) found
+      taken_some : take_times k m es ≡ taken k m es (Some e.1)
+      taken_some = ap (taken k m es) found
 
-    pub take_there : nat_lt 1 e.1 ≡ true → take_one k es ≡ set es n (e.0, e.1 - 1)
-    take_there many =
-        taken_some
-        ∙ ap (λ (b : Bool). cond b (set_value (is_at (key_cmp k)) es (e.1 - 1)) (remove_entry (is_at (key_cmp k)) es)) many
-        ∙ past_set (e.1 - 1) n es there.past
-        ∙ ap (λ (xs : Entries). take n es ++ set_value (is_at (key_cmp k)) xs (e.1 - 1)) (rest_at n es e at)
-        ∙ ap (λ (r : Ordering). take n es ++ cond (is_eq r) ((e.0, e.1 - 1) ∷ drop (suc n) es)
-        (e ∷ set_value (is_at (key_cmp k)) (drop (suc n) es) (e.1 - 1))) (there.at e at)
-        ∙ sym (set_at n es e (e.0, e.1 - 1) at)
+      pub take_there : nat_lt m e.1 ≡ true → take_times k m es ≡ set es n (e.0, e.1 - m)
+      take_there many =
+          taken_some
+          ∙ ap (λ (b : Bool). cond b (set_value (is_at (key_cmp k)) es (e.1 - m)) (remove_entry (is_at (key_cmp k)) es)) many
+          ∙ past_set (e.1 - m) n es there.past
+          ∙ ap (λ (xs : Entries). take n es ++ set_value (is_at (key_cmp k)) xs (e.1 - m)) (rest_at n es e at)
+          ∙ ap (λ (r : Ordering). take n es ++ cond (is_eq r) ((e.0, e.1 - m) ∷ drop (suc n) es)
+          (e ∷ set_value (is_at (key_cmp k)) (drop (suc n) es) (e.1 - m))) (there.at e at)
+          ∙ sym (set_at n es e (e.0, e.1 - m) at)
 
-    pub take_last : nat_lt 1 e.1 ≡ false → take_one k es ≡ remove es n
-    take_last few =
-        taken_some
-        ∙ ap (λ (b : Bool). cond b (set_value (is_at (key_cmp k)) es (e.1 - 1)) (remove_entry (is_at (key_cmp k)) es)) few
-        ∙ past_remove n es there.past
-        ∙ ap (λ (xs : Entries). take n es ++ remove_entry (is_at (key_cmp k)) xs) (rest_at n es e at)
-        ∙ ap (λ (r : Ordering). take n es ++ cond (is_eq r) (drop (suc n) es)
-        (e ∷ remove_entry (is_at (key_cmp k)) (drop (suc n) es))) (there.at e at)
+      pub take_last : nat_lt m e.1 ≡ false → take_times k m es ≡ remove es n
+      take_last few =
+          taken_some
+          ∙ ap (λ (b : Bool). cond b (set_value (is_at (key_cmp k)) es (e.1 - m)) (remove_entry (is_at (key_cmp k)) es)) few
+          ∙ past_remove n es there.past
+          ∙ ap (λ (xs : Entries). take n es ++ remove_entry (is_at (key_cmp k)) xs) (rest_at n es e at)
+          ∙ ap (λ (r : Ordering). take n es ++ cond (is_eq r) (drop (suc n) es)
+          (e ∷ remove_entry (is_at (key_cmp k)) (drop (suc n) es))) (there.at e at)
 
   -- a value that isn't there
 
@@ -171,34 +172,36 @@ module _ (k : Key) where
         past_lookup n es before.past
         ∙ none_next (drop n es) (dropped_sorted n es s) (less_next n es before.next)
 
-    pub put_before : put_one k es ≡ insert es n (k, 1)
-    put_before =
-        ap (λ (o : Option ℕ). insert_entry key_cmp es k (unwrap_or o 0 + 1)) absent
-        ∙ past_insert 1 n es before.past
-        ∙ ap (λ (xs : Entries). take n es ++ xs) (put_next 1 (drop n es) (less_next n es before.next))
+    pub put_before : (m : ℕ) → put_times k m es ≡ insert es n (k, m)
+    put_before m =
+        let none_more : 0 + m ≡ m = omega arith in
+        ap (λ (o : Option ℕ). insert_entry key_cmp es k (unwrap_or o 0 + m)) absent
+        ∙ ap (insert_entry key_cmp es k) none_more
+        ∙ past_insert m n es before.past
+        ∙ ap (λ (xs : Entries). take n es ++ xs) (put_next m (drop n es) (less_next n es before.next))
 
-    pub take_absent : take_one k es ≡ es
-    take_absent = ap (taken k es) absent
+    pub take_absent : (m : ℕ) → take_times k m es ≡ es
+    take_absent m = ap (taken k m es) absent
 
   -- They ascend as before.
 
-  pub sorted_put : (es : Entries) → IsStrictlySortedBy key_cmp (keys_of es)
-      → IsStrictlySortedBy key_cmp (keys_of (put_one k es))
-  sorted_put es s = sorted-insert_entry key_total k (had es k + 1) es s
+  pub sorted_put : (m : ℕ) (es : Entries) → IsStrictlySortedBy key_cmp (keys_of es)
+      → IsStrictlySortedBy key_cmp (keys_of (put_times k m es))
+  sorted_put m es s = sorted-insert_entry key_total k (had es k + m) es s
 
-  sorted_taken : (es : Entries) (o : Option ℕ) → IsStrictlySortedBy key_cmp (keys_of es)
-      → IsStrictlySortedBy key_cmp (keys_of (taken k es o))
-  sorted_taken es None s = s
-  sorted_taken es (Some n) s =
-      elim (nat_lt 1 n) as (λ b. IsStrictlySortedBy key_cmp (keys_of (cond b (set_value (is_at (key_cmp k)) es (n - 1))
+  sorted_taken : (m : ℕ) (es : Entries) (o : Option ℕ) → IsStrictlySortedBy key_cmp (keys_of es)
+      → IsStrictlySortedBy key_cmp (keys_of (taken k m es o))
+  sorted_taken m es None s = s
+  sorted_taken m es (Some n) s =
+      elim (nat_lt m n) as (λ b. IsStrictlySortedBy key_cmp (keys_of (cond b (set_value (is_at (key_cmp k)) es (n - m))
       (remove_entry (is_at (key_cmp k)) es)))) [
-        | true ↦ subst (IsStrictlySortedBy key_cmp) (sym (keys-set_value (is_at (key_cmp k)) es (n - 1))) s
+        | true ↦ subst (IsStrictlySortedBy key_cmp) (sym (keys-set_value (is_at (key_cmp k)) es (n - m))) s
         | false ↦ sorted-remove_entry key_total (is_at (key_cmp k)) es s
       ]
 
-  pub sorted_take : (es : Entries) → IsStrictlySortedBy key_cmp (keys_of es)
-      → IsStrictlySortedBy key_cmp (keys_of (take_one k es))
-  sorted_take es s = sorted_taken es (lookup (is_at (key_cmp k)) es) s
+  pub sorted_take : (m : ℕ) (es : Entries) → IsStrictlySortedBy key_cmp (keys_of es)
+      → IsStrictlySortedBy key_cmp (keys_of (take_times k m es))
+  sorted_take m es s = sorted_taken m es (lookup (is_at (key_cmp k)) es) s
 
 -- as they are kept
 
@@ -209,13 +212,13 @@ pub no_values : AreFew []
 unfolding IsStrictlySortedBy
 no_values = (tt, λ k d h. absurd (omega arith))
 
-pub few_put : (k : Key) (es : Entries) → AreFew es → AreFew (put_one k es)
-few_put k es f = (sorted_put k es f.0, present-put k es f.1)
+pub few_put : (k : Key) (m : ℕ) (es : Entries) → 0 < m → AreFew es → AreFew (put_times k m es)
+few_put k m es some f = (sorted_put k m es f.0, present-put k m es f.1 some)
 
-pub few_take : (k : Key) (es : Entries) → AreFew es → AreFew (take_one k es)
-few_take k es f = (sorted_take k es f.0, present-take k es f.1)
+pub few_take : (k : Key) (m : ℕ) (es : Entries) → AreFew es → AreFew (take_times k m es)
+few_take k m es f = (sorted_take k m es f.0, present-take k m es f.1)
 
-module _ (k : Key) (n : ℕ) (es now : Entries) (e : Key × ℕ) (view : es ≡ now) (there : IsThere k n now)
+module _ (k : Key) (m n : ℕ) (es now : Entries) (e : Key × ℕ) (view : es ≡ now) (there : IsThere k n now)
     (is : e ≡ get_or es n e) where
   here : IsThere k n es
   here = subst (IsThere k n) (sym view) there
@@ -226,31 +229,31 @@ module _ (k : Key) (n : ℕ) (es now : Entries) (e : Key × ℕ) (view : es ≡ 
   pub had_here : had now k ≡ e.1
   had_here = ap (λ (xs : Entries). had xs k) (sym view) ∙ had_there k n es e here at
 
-  pub put_here : set es n (e.0, e.1 + 1) ≡ put_one k now
-  put_here = sym (put_there k n es e here at) ∙ ap (put_one k) view
+  pub put_here : set es n (e.0, e.1 + m) ≡ put_times k m now
+  put_here = sym (put_there k n es e here at m) ∙ ap (put_times k m) view
 
-  pub few_raised : AreFew es → AreFew (set es n (e.0, e.1 + 1))
-  few_raised f = subst AreFew (put_there k n es e here at) (few_put k es f)
+  pub few_raised : 0 < m → AreFew es → AreFew (set es n (e.0, e.1 + m))
+  few_raised some f = subst AreFew (put_there k n es e here at m) (few_put k m es some f)
 
   module _ (f : Key × ℕ) (same : f ≡ get_or es n f) where
     alike : f ≡ e
     alike = let one : Some f ≡ Some e = sym (slice_get_read es (length es) n f refl here.within same) ∙ at in cc
 
-    lowered : nat_lt 1 e.1 ≡ true → take_one k es ≡ set es n (f.0, e.1 - 1)
+    lowered : nat_lt m e.1 ≡ true → take_times k m es ≡ set es n (f.0, e.1 - m)
     lowered many =
-        take_there k n es e here at many ∙ ap (λ (x : Key × ℕ). set es n (x.0, e.1 - 1)) (sym alike)
+        take_there k n es e here at m many ∙ ap (λ (x : Key × ℕ). set es n (x.0, e.1 - m)) (sym alike)
 
-    pub take_here : nat_lt 1 e.1 ≡ true → set es n (f.0, e.1 - 1) ≡ take_one k now
-    take_here many = sym (lowered many) ∙ ap (take_one k) view
+    pub take_here : nat_lt m e.1 ≡ true → set es n (f.0, e.1 - m) ≡ take_times k m now
+    take_here many = sym (lowered many) ∙ ap (take_times k m) view
 
-    pub few_lowered : nat_lt 1 e.1 ≡ true → AreFew es → AreFew (set es n (f.0, e.1 - 1))
-    few_lowered many few = subst AreFew (lowered many) (few_take k es few)
+    pub few_lowered : nat_lt m e.1 ≡ true → AreFew es → AreFew (set es n (f.0, e.1 - m))
+    few_lowered many few = subst AreFew (lowered many) (few_take k m es few)
 
-  pub last_here : nat_lt 1 e.1 ≡ false → remove es n ≡ take_one k now
-  last_here few = sym (take_last k n es e here at few) ∙ ap (take_one k) view
+  pub last_here : nat_lt m e.1 ≡ false → remove es n ≡ take_times k m now
+  last_here few = sym (take_last k n es e here at m few) ∙ ap (take_times k m) view
 
-  pub few_removed : nat_lt 1 e.1 ≡ false → AreFew es → AreFew (remove es n)
-  few_removed last few = subst AreFew (take_last k n es e here at last) (few_take k es few)
+  pub few_removed : nat_lt m e.1 ≡ false → AreFew es → AreFew (remove es n)
+  few_removed last few = subst AreFew (take_last k n es e here at m last) (few_take k m es few)
 
 -- places
 
@@ -296,19 +299,19 @@ before_end k n es now view through past =
     }
 
 -- put at its place
-module _ (k : Key) (n : ℕ) (es mid now new : Entries) (view : es ≡ now) (kept : mid ≡ es) (before : IsBefore k n now)
-    (few : AreFew es) (put : new ≡ insert mid n (k, 1)) where
-  pub inserted : new ≡ put_one k now
+module _ (k : Key) (m n : ℕ) (es mid now new : Entries) (view : es ≡ now) (kept : mid ≡ es) (before : IsBefore k n now)
+    (few : AreFew es) (put : new ≡ insert mid n (k, m)) where
+  pub inserted : new ≡ put_times k m now
   inserted =
-      put ∙ ap (λ (xs : Entries). insert xs n (k, 1)) (kept ∙ view)
-      ∙ sym (put_before k n now before (subst (λ (xs : Entries). IsStrictlySortedBy key_cmp (keys_of xs)) view few.0))
+      put ∙ ap (λ (xs : Entries). insert xs n (k, m)) (kept ∙ view)
+      ∙ sym (put_before k n now before (subst (λ (xs : Entries). IsStrictlySortedBy key_cmp (keys_of xs)) view few.0) m)
 
-  pub few_inserted : AreFew new
-  few_inserted = subst AreFew (ap (put_one k) view ∙ sym inserted) (few_put k es few)
+  pub few_inserted : 0 < m → AreFew new
+  few_inserted some = subst AreFew (ap (put_times k m) view ∙ sym inserted) (few_put k m es some few)
 
-pub nothing_taken : (k : Key) (n : ℕ) (es : Entries) → IsBefore k n es → IsStrictlySortedBy key_cmp (keys_of es)
-    → es ≡ take_one k es
-nothing_taken k n es before s = sym (take_absent k n es before s)
+pub nothing_taken : (k : Key) (m n : ℕ) (es : Entries) → IsBefore k n es → IsStrictlySortedBy key_cmp (keys_of es)
+    → es ≡ take_times k m es
+nothing_taken k m n es before s = sym (take_absent k n es before s m)
 
 -- into a tree, one after the other
 

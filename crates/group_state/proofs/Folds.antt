@@ -43,7 +43,7 @@ multiset-present (k ∷ ks) = All-values-insert_entry key_cmp k (had (multiset_o
 pub multiset-had : (ks : List Key) (q : Key) → had (multiset_of ks) q ≡ times_in q ks
 multiset-had [] q = refl
 multiset-had (k ∷ ks) q =
-    let a = had-put k (multiset_of ks) q (lookup (is_at (key_cmp q)) (put_one k (multiset_of ks)))
+    let a = had-put k 1 (multiset_of ks) q (lookup (is_at (key_cmp q)) (put_one k (multiset_of ks)))
     (lookup-insert_entry key_total k q (had (multiset_of ks) k + 1) (multiset_of ks)) in
     let h = multiset-had ks q in
     let s = sum_by-cons (λ (x : Key). cond (is_at (key_cmp x) q) 1 0) k ks in
@@ -61,17 +61,34 @@ multiset-sum (k ∷ ks) =
     omega (arith, ints, h, i)
 
 -- entries that count alike are the same
-key_same_at : (a : Key) → is_at (key_cmp a) a ≡ true
-key_same_at a = ap is_eq (tied_itself key_total a)
+pub key_itself : (a : Key) → is_at (key_cmp a) a ≡ true
+key_itself a = ap is_eq (tied_itself key_total a)
 
 head-had : (e : Key × ℕ) (es : List (Key × ℕ)) → had (e ∷ es) e.0 ≡ e.1
-head-had e es = rw (key_same_at e.0) refl
+head-had e es = rw (key_itself e.0) refl
 
 tail-had : (e : Key × ℕ) (es : List (Key × ℕ)) (q : Key) → is_at (key_cmp q) e.0 ≡ false → had (e ∷ es) q ≡ had es q
 tail-had e es q h = rw h refl
 
 none-had : (q : Key) (es : List (Key × ℕ)) → NonePasses (is_at (key_cmp q)) es → had es q ≡ 0
 none-had q es h = ap (λ o. unwrap_or o 0) (lookup-none (is_at (key_cmp q)) es h)
+
+head_by : (e : Key × ℕ) (es : List (Key × ℕ)) → IsStrictlySortedBy key_cmp (keys_of (e ∷ es)) → (q : Key) (b : Bool)
+    → is_at (key_cmp q) e.0 ≡ b
+    → unwrap_or (cond b (Some e.1) (lookup (is_at (key_cmp q)) es)) 0 ≡ cond b e.1 0 + had es q
+head_by e es s q true x =
+    let none : had es q ≡ 0 =
+    none-had q es
+    (none_past_head (eq_by_cmp_equiv key_total) q e es (IsDistinct-from_sorted key_cmp (keys_of (e ∷ es)) s) x) in
+    omega (arith, none)
+head_by e es s q false x = omega arith
+
+-- what the first entry adds to the others
+pub had-first : (e : Key × ℕ) (es : List (Key × ℕ)) → IsStrictlySortedBy key_cmp (keys_of (e ∷ es)) → (q : Key)
+    → had (e ∷ es) q ≡ cond (is_at (key_cmp e.0) q) e.1 0 + had es q
+had-first e es s q =
+    head_by e es s q (is_at (key_cmp q) e.0) refl
+    ∙ ap (λ b. cond b e.1 0 + had es q) ((eq_by_cmp_equiv key_total).symm q e.0)
 
 tails : (e f : Key × ℕ) (es fs : List (Key × ℕ)) → IsStrictlySortedBy key_cmp (keys_of (e ∷ es))
     → IsStrictlySortedBy key_cmp (keys_of (f ∷ fs)) → e.0 ≡ f.0

@@ -16,6 +16,7 @@ pub mod Sums
 pub mod GroupLaw
 pub mod Keeping
 pub mod FewValues
+pub mod Poured
 pub mod Present
 pub mod SampleFits
 pub mod Taken

@@ -123,3 +123,22 @@ pub values-follow : (es fs : List (Key × ℕ)) (cs ds : List Datum) → (KeepsV
     → (form : KeptForm) → KeepsCells form (tally.Values es) cs → KeepsCells form (tally.Values fs) ds
 values-follow es fs cs ds f kept.Total k = absurd k
 values-follow es fs cs ds f kept.Values k = f k
+
+-- So it is with what holds of two of one form.
+
+pub totals-join : (form : KeptForm) (t u v : Total) (cs ds es : List Datum)
+    → (KeepsTotal t cs → KeepsTotal u ds → KeepsTotal v es) → KeepsCells form (tally.Total t) cs
+    → KeepsCells form (tally.Total u) ds → KeepsCells form (tally.Total v) es
+totals-join kept.Total t u v cs ds es f k l = f k l
+totals-join kept.Values t u v cs ds es f k l = absurd k
+
+pub values-join : (form : KeptForm) (xs ys zs : List (Key × ℕ)) (cs ds es : List Datum)
+    → (KeepsValues xs cs → KeepsValues ys ds → KeepsValues zs es) → KeepsCells form (tally.Values xs) cs
+    → KeepsCells form (tally.Values ys) ds → KeepsCells form (tally.Values zs) es
+values-join kept.Total xs ys zs cs ds es f k l = absurd k
+values-join kept.Values xs ys zs cs ds es f k l = f k l
+
+pub not-both : (form : KeptForm) (t : Total) (xs : List (Key × ℕ)) (cs ds : List Datum)
+    → KeepsCells form (tally.Total t) cs → KeepsCells form (tally.Values xs) ds → ⊥
+not-both kept.Total t xs cs ds k l = l
+not-both kept.Values t xs cs ds k l = k

@@ -18,16 +18,24 @@ had es k = unwrap_or (lookup (is_at (key_cmp k)) es) 0
 abbrev pub one : Key → Key → ℕ
 one k q = if is_at (key_cmp k) q then 1 else 0
 
-abbrev pub put_one : Key → List (Key × ℕ) → List (Key × ℕ)
-put_one k es = insert_entry key_cmp es k (had es k + 1)
+-- a value so many times more
+abbrev pub put_times : Key → ℕ → List (Key × ℕ) → List (Key × ℕ)
+put_times k m es = insert_entry key_cmp es k (had es k + m)
 
-abbrev pub taken : Key → List (Key × ℕ) → Option ℕ → List (Key × ℕ)
-taken k es None = es
-taken k es (Some n) = if nat_lt 1 n then set_value (is_at (key_cmp k)) es (n - 1) else remove_entry (is_at (key_cmp k))
-    es
+abbrev pub put_one : Key → List (Key × ℕ) → List (Key × ℕ)
+put_one k es = put_times k 1 es
+
+abbrev pub taken : Key → ℕ → List (Key × ℕ) → Option ℕ → List (Key × ℕ)
+taken k m es None = es
+taken k m es (Some n) = if nat_lt m n then set_value (is_at (key_cmp k)) es (n - m) else remove_entry
+    (is_at (key_cmp k)) es
+
+-- a value so many times less, and not at all where it isn't there more often
+abbrev pub take_times : Key → ℕ → List (Key × ℕ) → List (Key × ℕ)
+take_times k m es = taken k m es (lookup (is_at (key_cmp k)) es)
 
 abbrev pub take_one : Key → List (Key × ℕ) → List (Key × ℕ)
-take_one k es = taken k es (lookup (is_at (key_cmp k)) es)
+take_one k es = take_times k 1 es
 
 -- the number that a key is
 abbrev pub number_in : Key → ℤ

@@ -9,15 +9,10 @@ use Rattle.group_state.specs.Keys.{key_cmp, key_in}
 use Rattle.group_state.specs.Rows.{KeepsRows}
 use Rattle.group_state.specs.Tuples.{tuple_of}
 use Rattle.group_state.specs.declared.kept_columns.KeptColumn.{KeptColumn}
-use Rattle.group_state.specs.declared.kept_columns.KeptForm.TheVariants as kept
 
 -- Of all these rows each test counts as many as of those two lists together.
 abbrev pub AreTogether : List (List Datum) → List (List Datum) → List (List Datum) → Type 0
 AreTogether all some others = (p : List Datum → Bool) → count_by p all ≡ count_by p some + count_by p others
-
--- Of each of these columns totals are kept.
-abbrev pub AreTotals : List KeptColumn → Type 0
-AreTotals columns = All (λ c. c.form ≡ kept.Total) columns
 
 -- A group is that of some of all these rows, which have this tuple; the others are those.
 pub record IsPartOf (keys : List ℕ) (columns : List KeptColumn) (t : List Key) (g : GroupCounts)

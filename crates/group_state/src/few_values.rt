@@ -1,6 +1,6 @@
 //! A few values, with how often each is there, in one piece of memory.
 
-ghost use Rattle.group_state.specs.Counts.{had, keeps_none, put_one, take_one};
+ghost use Rattle.group_state.specs.Counts.{had, keeps_none, put_times, take_times};
 ghost use Rattle.group_state.specs.FewValues.{IsBefore, IsThere};
 ghost use Rattle.group_state.specs.Folds.{first_of, last_of};
 ghost use Rattle.group_state.specs.GroupParts.{IsMultiset, counts_with};
@@ -9,7 +9,7 @@ ghost use Rattle.std.proofs.Common.{option_map};
 ghost use Rattle.std.specs.List.Sorted.{IsStrictlySortedBy};
 ghost use Rattle.std.specs.List.{All};
 ghost use Rattle.std.specs.Map.{keys_of, values_of};
-ghost use Rattle.std.specs.Prelude.{◌≡◌, ◌<◌, ◌^◌, IfOk, MatchResult, OnErr, OnOk, length};
+ghost use Rattle.std.specs.Prelude.{◌≡◌, ◌<◌, ◌^◌, ◌+◌, IfOk, MatchResult, OnErr, OnOk, length, slice_index_or, ℕ};
 ghost use Rattle.values.specs.declared.key.Key.{Key};
 
 use crate::key_cell::KeyCell;
@@ -131,61 +131,80 @@ impl FewValues {
         Err(self.counts.len())
     }
 
-    /// Counts the value of this place once more.
-    fn raise(&mut self, place: usize)
-        requires { (key : Key) × (IsThere key place self.old × (had self.old key < 2 ^ 63)) }
-        ensures { (key : Key) → IsThere key place self.old → self.new ≡ put_one key self.old }
+    /// The value of a place.
+    pub(crate) fn key(&self, place: usize) -> &KeyCell
+        requires { place < length self.now }
+        ensures { (e : Key × ℕ) → result.now ≡ (slice_index_or self.now place e).0 }
     {
-        self.counts[place].1 += 1;
+        &self.counts[place].0
+    }
+
+    /// How often the value of a place is there.
+    pub(crate) fn count(&self, place: usize) -> u64
+        requires { place < length self.now }
+        ensures { (e : Key × ℕ) → result ≡ (slice_index_or self.now place e).1 }
+    {
+        self.counts[place].1
+    }
+
+    /// Counts the value of this place so many times more.
+    fn raise(&mut self, place: usize, times: u64)
+        requires some { 0 < times }
+        requires there { (key : Key) × (IsThere key place self.old × (had self.old key + times < 2 ^ 64)) }
+        ensures { (key : Key) → IsThere key place self.old → self.new ≡ put_times key times self.old }
+    {
+        self.counts[place].1 += times;
     }
 
     /// Puts a value at its place, where it isn't yet. If memory is refused, nothing has changed.
-    fn insert(&mut self, place: usize, key: KeyCell) -> Result<(), AllocError>
-        requires { IsBefore key place self.old }
-        ensures ok { OnOk result (self.new ≡ put_one key self.old) }
+    fn insert(&mut self, place: usize, key: KeyCell, times: u64) -> Result<(), AllocError>
+        requires some { 0 < times }
+        requires before { IsBefore key place self.old }
+        ensures ok { OnOk result (self.new ≡ put_times key times self.old) }
         ensures err { OnErr result (self.new ≡ self.old) }
     {
         self.counts.reserve_exact(1)?;
-        self.counts.insert(place, (key, 1))?;
+        self.counts.insert(place, (key, times))?;
         Ok(())
     }
 
-    /// Counts the value of this place once less, and removes it when none is left.
-    fn lower(&mut self, place: usize)
+    /// Counts the value of this place so many times less, and removes it when none is left.
+    fn lower(&mut self, place: usize, times: u64)
         requires { (key : Key) × IsThere key place self.old }
-        ensures { (key : Key) → IsThere key place self.old → self.new ≡ take_one key self.old }
+        ensures { (key : Key) → IsThere key place self.old → self.new ≡ take_times key times self.old }
     {
         let count = self.counts[place].1;
-        if count > 1 {
-            self.counts[place].1 = count - 1;
+        if count > times {
+            self.counts[place].1 = count - times;
         } else {
             drop(self.counts.remove(place));
         }
     }
 
-    /// Adds a value. If memory is refused, nothing has changed.
-    pub(crate) fn add(&mut self, key: KeyCell) -> Result<(), AllocError>
-        requires { had self.old key < 2 ^ 63 }
-        ensures ok { OnOk result (self.new ≡ put_one key self.old) }
+    /// Adds a value so many times. If memory is refused, nothing has changed.
+    pub(crate) fn add(&mut self, key: KeyCell, times: u64) -> Result<(), AllocError>
+        requires some { 0 < times }
+        requires few { had self.old key + times < 2 ^ 64 }
+        ensures ok { OnOk result (self.new ≡ put_times key times self.old) }
         ensures err { OnErr result (self.new ≡ self.old) }
     {
         match self.place(&key) {
             Ok(place) => {
                 drop(key);
-                self.raise(place);
+                self.raise(place, times);
                 Ok(())
             }
-            Err(place) => self.insert(place, key),
+            Err(place) => self.insert(place, key, times),
         }
     }
 
-    /// Removes one such value, if there is one.
-    pub(crate) fn remove(&mut self, key: &KeyCell)
-        ensures { self.new ≡ take_one key.now self.old }
+    /// Removes a value so many times, as far as it is there.
+    pub(crate) fn remove(&mut self, key: &KeyCell, times: u64)
+        ensures { self.new ≡ take_times key.now times self.old }
     {
         let _size = self.len();
         match self.place(key) {
-            Ok(place) => self.lower(place),
+            Ok(place) => self.lower(place, times),
             Err(_place) => {}
         }
     }

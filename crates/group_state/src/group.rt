@@ -4,7 +4,6 @@ ghost use Rattle.std.specs.Prelude.{◌≡◌, ◌<◌, ◌^◌, ◌∷◌, ◌+
 ghost use Rattle.values.specs.Datum.{Datum};
 ghost use Rattle.std.proofs.Common.{option_map};
 ghost use Rattle.group_state.specs.GroupParts.{IsGroup, group_with};
-ghost use Rattle.group_state.specs.Moves.{AreTotals};
 ghost use Rattle.group_state.specs.Rows.{KeepsRows, KeepsEach};
 ghost use Rattle.group_state.specs.Seen.{index_from, tally_at};
 ghost use Rattle.group_state.specs.declared.kept_columns.KeptColumn.{KeptColumn};
@@ -134,24 +133,25 @@ impl Group {
     }
 
     /// Adds the rows of another group of the same columns.
-    pub(crate) fn take_in(&mut self, other: &Group)
+    pub(crate) fn take_in(&mut self, alloc: Global, other: &Group) -> Result<(), AllocError>
         requires { (columns : List KeptColumn) × (rest : List (List Datum)) × (moved : List (List Datum))
-            × (AreTotals columns × (KeepsRows columns self.old rest × (KeepsRows columns other.now moved
-            × (length rest + length moved < 2 ^ 62)))) }
-        ensures kept { (columns : List KeptColumn) (rest moved : List (List Datum)) → AreTotals columns
+            × (KeepsRows columns self.old rest × (KeepsRows columns other.now moved
+            × (length rest + length moved < 2 ^ 62))) }
+        ensures kept { OnOk result ((columns : List KeptColumn) (rest moved : List (List Datum))
             → KeepsRows columns self.old rest → KeepsRows columns other.now moved
-            → KeepsRows columns self.new (moved ++ rest) }
-        ensures rows { self.new.rows ≡ self.old.rows + other.now.rows }
+            → KeepsRows columns self.new (moved ++ rest)) }
+        ensures rows { OnOk result (self.new.rows ≡ self.old.rows + other.now.rows) }
     {
-        take_in_each(self.tallies.as_mut_slice(), other.tallies.as_slice());
+        take_in_each(self.tallies.as_mut_slice(), alloc, other.tallies.as_slice())?;
         self.rows += other.rows;
+        Ok(())
     }
 
     /// Removes the rows of another group of the same columns.
     pub(crate) fn give_up(&mut self, other: &Group)
         requires { (columns : List KeptColumn) × (rest : List (List Datum)) × (moved : List (List Datum))
             × (KeepsRows columns self.old (moved ++ rest) × KeepsRows columns other.now moved) }
-        ensures kept { (columns : List KeptColumn) (rest moved : List (List Datum)) → AreTotals columns
+        ensures kept { (columns : List KeptColumn) (rest moved : List (List Datum))
             → KeepsRows columns self.old (moved ++ rest) → KeepsRows columns other.now moved
             → KeepsRows columns self.new rest }
         ensures rows { self.new.rows ≡ self.old.rows - other.now.rows }
@@ -161,23 +161,24 @@ impl Group {
     }
 }
 
-fn take_in_each(tallies: &mut [Tally], others: &[Tally])
+fn take_in_each(tallies: &mut [Tally], alloc: Global, others: &[Tally]) -> Result<(), AllocError>
     requires { (columns : List KeptColumn) × (rest : List (List Datum)) × (moved : List (List Datum))
-        × (AreTotals columns × (KeepsEach columns tallies.old rest × (KeepsEach columns others.now moved
-        × (length rest + length moved < 2 ^ 62)))) }
-    ensures { (columns : List KeptColumn) (rest moved : List (List Datum)) → AreTotals columns
+        × (KeepsEach columns tallies.old rest × (KeepsEach columns others.now moved
+        × (length rest + length moved < 2 ^ 62))) }
+    ensures { OnOk result ((columns : List KeptColumn) (rest moved : List (List Datum))
         → KeepsEach columns tallies.old rest → KeepsEach columns others.now moved
-        → KeepsEach columns tallies.new (moved ++ rest) }
+        → KeepsEach columns tallies.new (moved ++ rest)) }
 {
     for i in 0..others.len() {
-        tallies[i].take_in(&others[i]);
+        tallies[i].take_in(alloc, &others[i])?;
     }
+    Ok(())
 }
 
 fn give_up_each(tallies: &mut [Tally], others: &[Tally])
     requires { (columns : List KeptColumn) × (rest : List (List Datum)) × (moved : List (List Datum))
         × (KeepsEach columns tallies.old (moved ++ rest) × KeepsEach columns others.now moved) }
-    ensures { (columns : List KeptColumn) (rest moved : List (List Datum)) → AreTotals columns
+    ensures { (columns : List KeptColumn) (rest moved : List (List Datum))
         → KeepsEach columns tallies.old (moved ++ rest) → KeepsEach columns others.now moved
         → KeepsEach columns tallies.new rest }
 {

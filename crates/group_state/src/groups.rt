@@ -5,7 +5,7 @@ ghost use Rattle.group_state.specs.GroupParts.{AreGroups, grouped_with};
 ghost use Rattle.group_state.specs.Groups.{Keeps, KeepsAt};
 ghost use Rattle.group_state.specs.Keys.{key_cmp, key_in, tuple_cmp};
 ghost use Rattle.group_state.specs.KeptColumns.{IsKept};
-ghost use Rattle.group_state.specs.Moves.{AreTotals, IsPartOf, begins_with, begins_with_one};
+ghost use Rattle.group_state.specs.Moves.{IsPartOf, begins_with, begins_with_one};
 ghost use Rattle.group_state.specs.Reading.{CanReadAll};
 ghost use Rattle.group_state.specs.Rows.{KeepsRows};
 ghost use Rattle.group_state.specs.Seen.{seen_at};
@@ -450,7 +450,6 @@ impl Groups {
 impl Groups {
     /// The rows of a group come, all at once: they have this tuple. After an error what is kept has no meaning.
     pub fn take_in(&mut self, tuple: &Tuple, group: &Group) -> Result<(), AllocError>
-        requires totals { AreTotals self.old.columns }
         requires part { (all : List (List Datum)) × (moved : List (List Datum)) × (others : List (List Datum))
             × (Keeps self.old others × (IsPartOf self.old.keys self.old.columns tuple.now group.now all moved others
             × (length all < 2 ^ 62))) }
@@ -473,7 +472,6 @@ impl Groups {
 
     /// The rows of a group go, all at once: they have this tuple.
     pub fn give_up(&mut self, tuple: &Tuple, group: &Group)
-        requires totals { AreTotals self.old.columns }
         requires part { (all : List (List Datum)) × (moved : List (List Datum)) × (others : List (List Datum))
             × (Keeps self.old all × IsPartOf self.old.keys self.old.columns tuple.now group.now all moved others) }
         ensures kept { (all moved others : List (List Datum))
@@ -597,8 +595,7 @@ fn put_group(
     tuple: &Tuple,
     group: &Group,
 ) -> Result<(), AllocError>
-    requires totals { AreTotals columns.now }
-    requires part { (rest : List (List Datum)) × (moved : List (List Datum))
+    requires { (rest : List (List Datum)) × (moved : List (List Datum))
         × (KeepsAt columns.now rest (lookup (is_at (tuple_cmp tuple.now)) groups.old.entries)
         × (KeepsRows columns.now group.now moved × (length rest + length moved < 2 ^ 62))) }
     ensures here { OnOk result ((rest moved : List (List Datum)) → 0 < group.now.rows
@@ -609,11 +606,10 @@ fn put_group(
         → lookup (is_at (tuple_cmp t)) groups.new.entries ≡ lookup (is_at (tuple_cmp t)) groups.old.entries) }
 {
     if let Some(kept) = groups.get_mut(tuple) {
-        kept.take_in(group);
-        return Ok(());
+        return kept.take_in(alloc, group);
     }
     let mut kept = Group::new(alloc, columns)?;
-    kept.take_in(group);
+    kept.take_in(alloc, group)?;
     groups.insert(tuple.copy(alloc)?, kept)?;
     Ok(())
 }
@@ -624,7 +620,7 @@ fn take_group(groups: &mut BTreeMap<Tuple, Group>, tuple: &Tuple, group: &Group)
     requires { (columns : List KeptColumn) × (rest : List (List Datum)) × (moved : List (List Datum))
         × (KeepsAt columns (moved ++ rest) (lookup (is_at (tuple_cmp tuple.now)) groups.old.entries)
         × KeepsRows columns group.now moved) }
-    ensures here { (columns : List KeptColumn) (rest moved : List (List Datum)) → AreTotals columns
+    ensures here { (columns : List KeptColumn) (rest moved : List (List Datum))
         → KeepsRows columns group.now moved
         → KeepsAt columns (moved ++ rest) (lookup (is_at (tuple_cmp tuple.now)) groups.old.entries)
         → KeepsAt columns rest (lookup (is_at (tuple_cmp tuple.now)) groups.new.entries) }

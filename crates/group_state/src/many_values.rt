@@ -21,12 +21,13 @@ ghost use Rattle.values.specs.declared.key.Key.{Key};
 ghost use Rattle.group_state.specs.Keys.{key_cmp};
 ghost use Rattle.std.specs.Map.{keys_of, values_of};
 ghost use Rattle.std.specs.List.{All};
-ghost use Rattle.group_state.specs.Counts.{put_one, take_one, had, keeps_none};
+ghost use Rattle.group_state.specs.Counts.{put_times, take_times, had, keeps_none};
 
 use crate::key_cell::KeyCell;
 use crate::parts::{MultisetParts, ValueCount};
 use std::alloc::{AllocError, Global};
 use std::collections::BTreeMap;
+use std::collections::btree_map::Iter;
 use std::marker::Model;
 
 /// Values with how often each is there, in ascending order. Contracts see the entries; none has the count 0.
@@ -130,36 +131,44 @@ impl ManyValues {
         Ok(())
     }
 
-    /// Adds a value.
-    pub(crate) fn add(&mut self, key: KeyCell) -> Result<(), AllocError>
-        requires { had self.old key < 2 ^ 63 }
-        ensures ok { OnOk result (self.new ≡ put_one key self.old) }
+    /// The values with their counts, in order.
+    pub(crate) fn iter(&self) -> Iter<'_, KeyCell, u64>
+        ensures { result ≡ self.now }
+    {
+        self.counts.iter()
+    }
+
+    /// Adds a value so many times. If memory is refused, nothing has changed.
+    pub(crate) fn add(&mut self, key: KeyCell, times: u64) -> Result<(), AllocError>
+        requires some { 0 < times }
+        requires few { had self.old key + times < 2 ^ 64 }
+        ensures ok { OnOk result (self.new ≡ put_times key times self.old) }
         ensures err { OnErr result (self.new ≡ self.old) }
     {
-        *self.counts.entry(key)?.or_insert(0) += 1;
+        *self.counts.entry(key)?.or_insert(0) += times;
         Ok(())
     }
 
-    /// Removes one such value, if there is one.
-    pub(crate) fn remove(&mut self, key: &KeyCell)
-        ensures { self.new ≡ take_one key.now self.old }
+    /// Removes a value so many times, as far as it is there.
+    pub(crate) fn remove(&mut self, key: &KeyCell, times: u64)
+        ensures { self.new ≡ take_times key.now times self.old }
     {
-        take_from(&mut self.counts, key);
+        take_from(&mut self.counts, key, times);
     }
 }
 
-/// Lowers a value's count by one, and removes the value when none is left.
-fn take_from(counts: &mut BTreeMap<KeyCell, u64>, key: &KeyCell)
-    ensures entries { counts.new.entries ≡ take_one key.now counts.old.entries }
+/// Lowers a value's count, and removes the value when none is left.
+fn take_from(counts: &mut BTreeMap<KeyCell, u64>, key: &KeyCell, times: u64)
+    ensures entries { counts.new.entries ≡ take_times key.now times counts.old.entries }
     ensures ordered { IsStrictlySortedBy key_cmp (keys_of counts.old.entries) }
 {
     let _size = counts.len();
     let Some(count) = counts.get(key).copied() else {
         return;
     };
-    if count > 1 {
+    if count > times {
         if let Some(place) = counts.get_mut(key) {
-            *place = count - 1;
+            *place = count - times;
         }
     } else {
         drop(counts.remove(key));

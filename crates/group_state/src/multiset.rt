@@ -1,6 +1,6 @@
 //! Ordered multisets of values.
 
-ghost use Rattle.group_state.specs.Counts.{had, keeps_none, one, put_one, take_one};
+ghost use Rattle.group_state.specs.Counts.{had, keeps_none, one, put_one, put_times, take_one, take_times};
 ghost use Rattle.group_state.specs.Folds.{first_of, last_of};
 ghost use Rattle.group_state.specs.GroupParts.{IsMultiset, counts_with};
 ghost use Rattle.group_state.specs.Keys.{key_cmp};
@@ -8,7 +8,8 @@ ghost use Rattle.std.proofs.Common.{option_map};
 ghost use Rattle.std.specs.List.{All};
 ghost use Rattle.std.specs.List.Sorted.{IsStrictlySortedBy};
 ghost use Rattle.std.specs.Map.{keys_of, values_of};
-ghost use Rattle.std.specs.Prelude.{◌≡◌, ◌<◌, ◌^◌, ◌+◌, ◌-◌, IfOk, OnErr, OnOk, length};
+ghost use Rattle.std.specs.Prelude.{◌≡◌, ◌<◌, ◌^◌, ◌+◌, ◌-◌, IfOk, OnErr, OnOk, cond, length};
+ghost use Rattle.std.specs.BTreeMap.{is_at};
 ghost use Rattle.values.specs.declared.key.Key.{Key};
 
 use crate::few_values::FewValues;
@@ -126,23 +127,24 @@ impl Multiset {
         Ok(())
     }
 
-    fn put(&mut self, key: KeyCell) -> Result<(), AllocError>
-        requires { had self.old key < 2 ^ 63 }
-        ensures ok { OnOk result (self.new ≡ put_one key self.old) }
+    fn put(&mut self, key: KeyCell, times: u64) -> Result<(), AllocError>
+        requires some { 0 < times }
+        requires few { had self.old key + times < 2 ^ 64 }
+        ensures ok { OnOk result (self.new ≡ put_times key times self.old) }
         ensures err { OnErr result (self.new ≡ self.old) }
     {
         match &mut self.counts {
-            Counts::Few(values) => values.add(key),
-            Counts::Many(values) => values.add(key),
+            Counts::Few(values) => values.add(key, times),
+            Counts::Many(values) => values.add(key, times),
         }
     }
 
-    fn take(&mut self, key: &KeyCell)
-        ensures { self.new ≡ take_one key.now self.old }
+    fn take(&mut self, key: &KeyCell, times: u64)
+        ensures { self.new ≡ take_times key.now times self.old }
     {
         match &mut self.counts {
-            Counts::Few(values) => values.remove(key),
-            Counts::Many(values) => values.remove(key),
+            Counts::Few(values) => values.remove(key, times),
+            Counts::Many(values) => values.remove(key, times),
         }
     }
 
@@ -154,7 +156,7 @@ impl Multiset {
         ensures err { OnErr result (self.new ≡ self.old) }
     {
         self.make_room(alloc)?;
-        self.put(key)?;
+        self.put(key, 1)?;
         Ok(())
     }
 
@@ -164,6 +166,87 @@ impl Multiset {
         ensures counts { (q : Key) → had self.new q ≡ had self.old q - one key.now q }
     {
         let _size = self.count_distinct();
-        self.take(key);
+        self.take(key, 1);
+    }
+
+    /// Adds a value so many times.
+    fn add_times(&mut self, alloc: Global, key: &KeyCell, times: u64) -> Result<(), AllocError>
+        requires some { 0 < times }
+        requires few { had self.old key.now + times < 2 ^ 64 }
+        ensures { OnOk result ((q : Key) → had self.new q
+            ≡ had self.old q + cond (is_at (key_cmp key.now) q) times 0) }
+    {
+        self.make_room(alloc)?;
+        self.put(key.copy(alloc)?, times)?;
+        Ok(())
+    }
+
+    /// Removes a value so many times, as far as it is there.
+    fn remove_times(&mut self, key: &KeyCell, times: u64)
+        ensures { (q : Key) → had self.new q ≡ had self.old q - cond (is_at (key_cmp key.now) q) times 0 }
+    {
+        let _size = self.count_distinct();
+        self.take(key, times);
+    }
+
+    /// Adds the values of another multiset, each as often as it is there.
+    pub(crate) fn take_in(&mut self, alloc: Global, other: &Multiset) -> Result<(), AllocError>
+        requires { (q : Key) → had self.old q + had other.now q < 2 ^ 63 }
+        ensures { OnOk result ((q : Key) → had self.new q ≡ had self.old q + had other.now q) }
+    {
+        match &other.counts {
+            Counts::Few(values) => self.take_in_few(alloc, values),
+            Counts::Many(values) => self.take_in_many(alloc, values),
+        }
+    }
+
+    /// Removes the values of another multiset, each as often as it is there.
+    pub(crate) fn give_up(&mut self, other: &Multiset)
+        ensures { (q : Key) → had self.new q ≡ had self.old q - had other.now q }
+    {
+        match &other.counts {
+            Counts::Few(values) => self.give_up_few(values),
+            Counts::Many(values) => self.give_up_many(values),
+        }
+    }
+
+    fn take_in_few(&mut self, alloc: Global, other: &FewValues) -> Result<(), AllocError>
+        requires { (q : Key) → had self.old q + had other.now q < 2 ^ 63 }
+        ensures { OnOk result ((q : Key) → had self.new q ≡ had self.old q + had other.now q) }
+    {
+        let size = other.len();
+        for place in 0..size {
+            self.add_times(alloc, other.key(place), other.count(place))?;
+        }
+        Ok(())
+    }
+
+    fn take_in_many(&mut self, alloc: Global, other: &ManyValues) -> Result<(), AllocError>
+        requires { (q : Key) → had self.old q + had other.now q < 2 ^ 63 }
+        ensures { OnOk result ((q : Key) → had self.new q ≡ had self.old q + had other.now q) }
+    {
+        let _size = other.len();
+        for (key, count) in other.iter() {
+            self.add_times(alloc, key, *count)?;
+        }
+        Ok(())
+    }
+
+    fn give_up_few(&mut self, other: &FewValues)
+        ensures { (q : Key) → had self.new q ≡ had self.old q - had other.now q }
+    {
+        let size = other.len();
+        for place in 0..size {
+            self.remove_times(other.key(place), other.count(place));
+        }
+    }
+
+    fn give_up_many(&mut self, other: &ManyValues)
+        ensures { (q : Key) → had self.new q ≡ had self.old q - had other.now q }
+    {
+        let _size = other.len();
+        for (key, count) in other.iter() {
+            self.remove_times(key, *count);
+        }
     }
 }

@@ -10,7 +10,6 @@ ghost use Rattle.group_state.specs.GroupParts.{IsTally, tally_with};
 ghost use Rattle.group_state.specs.Seen.{seen_count, seen_distinct, seen_greatest, seen_least, seen_sum};
 ghost use Rattle.group_state.specs.Rows.{cell};
 ghost use Rattle.group_state.specs.declared.kept_columns.KeptForm.{KeptForm};
-ghost use Rattle.group_state.specs.declared.kept_columns.KeptForm.TheVariants as kept;
 
 use crate::cells::{count, no_value, whole};
 use crate::kept_columns::KeptForm;
@@ -213,27 +212,54 @@ impl Tally {
     }
 
     /// Adds the cells of another tally of the same form.
-    pub(crate) fn take_in(&mut self, other: &Tally)
+    pub(crate) fn take_in(&mut self, alloc: Global, other: &Tally) -> Result<(), AllocError>
         requires { (form : KeptForm) × (rest : List Datum) × (moved : List Datum) × (KeepsCells form self.old rest
             × (KeepsCells form other.now moved × (length rest + length moved < 2 ^ 62))) }
-        ensures { (form : KeptForm) (rest moved : List Datum) → form ≡ kept.Total → KeepsCells form self.old rest
-            → KeepsCells form other.now moved → KeepsCells form self.new (moved ++ rest) }
+        ensures { OnOk result ((form : KeptForm) (rest moved : List Datum) → KeepsCells form self.old rest
+            → KeepsCells form other.now moved → KeepsCells form self.new (moved ++ rest)) }
     {
-        if let (Tally::Total(total), Tally::Total(other)) = (self, other) {
-            total.take_in(other);
+        match (self, other) {
+            (Tally::Total(total), Tally::Total(other)) => total.take_in(other),
+            (Tally::Values(values), Tally::Values(other)) => take_in_values(values, alloc, other)?,
+            (Tally::Total(_), Tally::Values(_)) => {}
+            (Tally::Values(_), Tally::Total(_)) => {}
         }
+        Ok(())
     }
 
     /// Removes the cells of another tally of the same form.
     pub(crate) fn give_up(&mut self, other: &Tally)
-        ensures { (form : KeptForm) (rest moved : List Datum) → form ≡ kept.Total
-            → KeepsCells form self.old (moved ++ rest) → KeepsCells form other.now moved
-            → KeepsCells form self.new rest }
+        ensures { (form : KeptForm) (rest moved : List Datum) → KeepsCells form self.old (moved ++ rest)
+            → KeepsCells form other.now moved → KeepsCells form self.new rest }
     {
-        if let (Tally::Total(total), Tally::Total(other)) = (self, other) {
-            total.give_up(other);
+        match (self, other) {
+            (Tally::Total(total), Tally::Total(other)) => total.give_up(other),
+            (Tally::Values(values), Tally::Values(other)) => give_up_values(values, other),
+            (Tally::Total(_), Tally::Values(_)) => {}
+            (Tally::Values(_), Tally::Total(_)) => {}
         }
     }
+}
+
+/// Adds the values of other cells.
+fn take_in_values(values: &mut Multiset, alloc: Global, other: &Multiset) -> Result<(), AllocError>
+    requires { (rest : List Datum) × (moved : List Datum) × (KeepsValues values.old rest
+        × (KeepsValues other.now moved × (length rest + length moved < 2 ^ 62))) }
+    ensures { OnOk result ((rest moved : List Datum) → KeepsValues values.old rest → KeepsValues other.now moved
+        → KeepsValues values.new (moved ++ rest)) }
+{
+    values.take_in(alloc, other)?;
+    let _size = values.count_distinct();
+    Ok(())
+}
+
+/// Removes the values of other cells.
+fn give_up_values(values: &mut Multiset, other: &Multiset)
+    ensures { (rest moved : List Datum) → KeepsValues values.old (moved ++ rest) → KeepsValues other.now moved
+        → KeepsValues values.new rest }
+{
+    values.give_up(other);
+    let _size = values.count_distinct();
 }
 
 /// Adds the value of a row's cell, if it has one with an order.

@@ -6,7 +6,7 @@ use Rattle.group_state.specs.Rows.{KeepsEach, KeepsRows}
 use Rattle.group_state.proofs.group.Group.take_in.Goals as goal
 
 pub returns-clause-kept : goal.returns-clause-kept
-returns-clause-kept c = λ columns rest moved t k l.
+returns-clause-kept c = λ columns rest moved k l.
     let v = subst (λ (x : GroupCounts). KeepsRows columns x rest) (sym c.self.view_is) k in
     let w = subst (λ (x : GroupCounts). KeepsRows columns x moved) (sym c.other.view_is) l in
     let n = c.take_in_each.auto.tallies ∙ c.as_mut_slice.ensures.len in
@@ -18,5 +18,5 @@ returns-clause-kept c = λ columns rest moved t k l.
       tallies_are =
           subst (λ (ts : List Tally). KeepsEach columns ts (moved ++ rest))
           (sym (with_items_is c.self.inside.tallies c.take_in_each.new.tallies n))
-          (c.take_in_each.ensures columns rest moved t held came);
+          (c.in_ok-take_in_each.ensures columns rest moved held came);
     }

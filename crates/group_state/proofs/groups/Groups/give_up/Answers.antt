@@ -1,7 +1,7 @@
 use Rattle.std.proofs.Common.{sym, subst}
 use Rattle.group_state.specs.Grouped.{Grouped}
 use Rattle.group_state.specs.Groups.{Keeps}
-use Rattle.group_state.specs.Moves.{AreTotals, IsPartOf}
+use Rattle.group_state.specs.Moves.{IsPartOf}
 use Rattle.group_state.proofs.Moves.{keeps-out, take-needs}
 use Rattle.group_state.proofs.groups.Groups.give_up.Goals as goal
 
@@ -21,8 +21,7 @@ returns-clause-kept c = λ all moved others part k.
     let own = subst (λ (s : Grouped). IsPartOf s.keys s.columns c.args.tuple.now c.args.group.now all moved others)
     (sym c.self.view_is) part in
     let held = subst (λ (s : Grouped). Keeps s all) (sym c.self.view_is) k in
-    let totals = subst (λ (s : Grouped). AreTotals s.columns) (sym c.self.view_is) c.requires.totals in
     keeps-out c.self.inside.keys.items c.self.inside.columns.items c.self.inside.groups.entries
     c.take_group.new.groups.entries c.args.tuple.now c.args.group.now all moved others own
     c.take_group.ensures.others
-    (λ m. c.take_group.ensures.here c.self.inside.columns.items m moved totals own.kept) held
+    (λ m. c.take_group.ensures.here c.self.inside.columns.items m moved own.kept) held

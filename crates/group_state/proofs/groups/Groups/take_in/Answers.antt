@@ -1,16 +1,12 @@
 use Rattle.std.proofs.Common.{ap, sym, subst, ◌∙◌}
 use Rattle.group_state.specs.Grouped.{Grouped}
 use Rattle.group_state.specs.Groups.{Keeps}
-use Rattle.group_state.specs.Moves.{AreTotals, IsPartOf}
+use Rattle.group_state.specs.Moves.{IsPartOf}
 use Rattle.group_state.proofs.Moves.{keeps-in, put-needs}
 use Rattle.group_state.proofs.groups.Groups.take_in.Goals as goal
 
-pub put_group-requires-clause-totals : goal.put_group-requires-clause-totals
-put_group-requires-clause-totals c =
-    subst AreTotals (sym (c.as_slice.ensures.value ∙ ap (λ (s : Grouped). s.columns) c.self.view_is)) c.requires.totals
-
-pub put_group-requires-clause-part : goal.put_group-requires-clause-part
-put_group-requires-clause-part c =
+pub put_group-requires : goal.put_group-requires
+put_group-requires c =
     let need = c.requires.part in
     let part = subst (λ (s : Grouped). IsPartOf s.keys s.columns c.args.tuple.now c.args.group.now need.0 need.1 need.2)
     (sym c.self.view_is) need.3.1.0 in

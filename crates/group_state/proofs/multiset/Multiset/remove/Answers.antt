@@ -8,5 +8,4 @@ use Rattle.group_state.proofs.multiset.Multiset.remove.Goals as goal
 pub returns-clause-counts : goal.returns-clause-counts
 returns-clause-counts c = λ q.
     ap (λ (es : List (Key × ℕ)). had es q) c.take.ensures
-    ∙ had-take c.args.key.now c.args.self.now q c.count_distinct-size.ensures.ordered
-    c.count_distinct-size.ensures.present
+    ∙ had-take c.args.key.now 1 c.args.self.now q c.count_distinct-size.ensures.ordered

@@ -1,0 +1,31 @@
+use Rattle.std.proofs.Common.{◌++◌, subst, sym}
+use Rattle.group_state.specs.Cells.{KeepsCells}
+use Rattle.group_state.specs.declared.tally.Tally.{Tally}
+use Rattle.group_state.proofs.Totals.{not-both, totals-join, values-join}
+use Rattle.group_state.proofs.tally.Tally.take_in.Goals as goal
+use Rattle.group_state.proofs.tally.Tally.take_in.Goals.{in-Total-Total, in-Total-Values, in-Values-Values+in_ok-take_in_values-in-Values-Values, in-Values-Total}
+
+pub returns : goal.returns
+returns c = λ form rest moved k l.
+    elim c.match-self.branch [
+      | in-Total-Total w ↦
+          subst (λ (x : Tally). KeepsCells form x (moved ++ rest)) (sym w.self-is)
+          (totals-join form w.in-Total-Total.total w.in-Total-Total.other w.take_in.new.self (rest) moved (moved ++ rest)
+          (w.take_in.ensures rest moved)
+          (subst (λ (x : Tally). KeepsCells form x (rest)) w.in-Total-Total.is-0 k)
+          (subst (λ (x : Tally). KeepsCells form x moved) w.in-Total-Total.is-1 l))
+      | in-Total-Values w ↦
+          absurd (not-both form w.in-Total-Values.field-0-0 w.in-Total-Values.field-0-1 (rest) moved
+          (subst (λ (x : Tally). KeepsCells form x (rest)) w.in-Total-Values.is-0 k)
+          (subst (λ (x : Tally). KeepsCells form x moved) w.in-Total-Values.is-1 l))
+      | in-Values-Values+in_ok-take_in_values-in-Values-Values w ↦
+          subst (λ (x : Tally). KeepsCells form x (moved ++ rest)) (sym w.self-is)
+          (values-join form w.in-Values-Values.values w.in-Values-Values.other w.take_in_values.new.values (rest) moved
+          (moved ++ rest) (w.in_ok-take_in_values-in-Values-Values.ensures rest moved)
+          (subst (λ (x : Tally). KeepsCells form x (rest)) w.in-Values-Values.is-0 k)
+          (subst (λ (x : Tally). KeepsCells form x moved) w.in-Values-Values.is-1 l))
+      | in-Values-Total w ↦
+          absurd (not-both form w.in-Values-Total.field-0-1 w.in-Values-Total.field-0-0 moved (rest)
+          (subst (λ (x : Tally). KeepsCells form x moved) w.in-Values-Total.is-1 l)
+          (subst (λ (x : Tally). KeepsCells form x (rest)) w.in-Values-Total.is-0 k))
+    ]
