@@ -219,6 +219,13 @@ impl Groups {
         &self.columns
     }
 
+    /// The grouping columns.
+    pub fn keys(&self) -> &[usize]
+        ensures { result.now ≡ self.now.keys }
+    {
+        &self.keys
+    }
+
     /// The group of a tuple, if it has one.
     pub fn group(&self, tuple: &Tuple) -> Option<&Group>
         ensures { option_map (λ g. g.now) result ≡ lookup (is_at (tuple_cmp tuple.now)) self.now.groups }

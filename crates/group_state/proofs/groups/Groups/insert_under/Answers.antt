@@ -10,7 +10,7 @@ use Rattle.values.specs.declared.key.Key.{Key}
 use Rattle.group_state.specs.Grouped.{Grouped}
 use Rattle.group_state.specs.Keys.{tuple_cmp}
 use Rattle.group_state.specs.Moves.{begins_with}
-use Rattle.group_state.proofs.Under.{Walks, between, walked-out, walked-past, walks-first, walks-next}
+use Rattle.group_state.proofs.Under.{between, walked-out, walked-past, walks-first, walks-next}
 use Rattle.group_state.proofs.groups.Groups.insert_under.Goals as goal
 use Rattle.group_state.proofs.groups.Groups.insert_under.Goals.{in-None, in-Some+then-not-begins_with}
 

@@ -1,5 +1,5 @@
-use Rattle.std.proofs.Common.{◌≡◌, ap, sym, ◌∙◌, rules, List, []}
-use Rattle.std.specs.Prelude.{◌&&◌, ◌||◌, false}
+use Rattle.std.proofs.Common.{◌≡◌, ap, ◌∙◌, rules, List, []}
+use Rattle.std.specs.Prelude.{◌&&◌}
 use Rattle.std.specs.BTreeMap.{is_at}
 use Rattle.std.specs.List.{list_any}
 use Rattle.std.specs.Map.{keys_of}
