@@ -1,6 +1,5 @@
 //! Groups of rows, kept current by changes of the rows.
 
-ghost use Rattle.group_state.specs.GroupCounts.{GroupCounts};
 ghost use Rattle.group_state.specs.GroupParts.{AreGroups, grouped_with};
 ghost use Rattle.group_state.specs.Groups.{Keeps, KeepsAt};
 ghost use Rattle.group_state.specs.Keys.{key_cmp, key_in, tuple_cmp};
@@ -264,7 +263,7 @@ impl Groups {
     }
 
     /// The tuples of the groups that begin with one of these values, each once, in ascending order. A list or a struct
-    /// counts as a null. No other group is visited.
+    /// counts as a null. For each value at most one other group is looked at.
     pub fn tuples_under(&self, values: &[Value]) -> Result<Vec<Tuple>, AllocError>
         ensures tuples { IfOk result (λ tuples. (t : List Key) → list_any (is_at (tuple_cmp t)) tuples.items
             ≡ (begins_with_one values.now t && list_any (is_at (tuple_cmp t)) (keys_of self.now.groups))) }

@@ -2,9 +2,11 @@
 
 ghost use Rattle.std.specs.Prelude.{◌≡◌, ◌++◌, ◌∷◌, [], IfOk, None, OnOk, Some};
 ghost use Rattle.view_lang.specs.Shifts.{shift};
+ghost use Rattle.group_state.specs.Groups.{Keeps};
+ghost use Rattle.group_state.specs.KeptColumns.{counted, valued};
 ghost use Rattle.group_state.specs.Sample.{cell_of, row_of, sample_change};
 
-use crate::Groups;
+use crate::{Groups, KeptColumn};
 use std::alloc::{AllocError, Global};
 use std::cmp::Ordering;
 use std::test::Fail;
@@ -158,5 +160,80 @@ fn makes_groups_of_their_parts(rt: HostRuntime) -> Result<(), Fail> {
         return Err(Fail::from("not one group"));
     };
     assert!(rt; is_row(sevens, &[7, 2, 1, 1, 3, 3, 3]));
+    Ok(())
+}
+
+/// The groups by the first column of one row.
+fn one_group(alloc: Global, row: &[Value]) -> Result<Groups, AllocError>
+    ensures keys { IfOk result (λ groups. groups.keys ≡ 0 ∷ []) }
+    ensures columns { IfOk result (λ groups. groups.columns ≡ counted 1 ∷ valued 1 ∷ []) }
+    ensures kept { IfOk result (λ groups. Keeps groups (row.now ∷ [])) }
+{
+    let columns = [KeptColumn::counted(1), KeptColumn::valued(1)];
+    let mut groups = Groups::new(alloc, &[0], &columns)?;
+    groups.come(&row)?;
+    Ok(groups)
+}
+
+/// The group of one row comes into that of another.
+fn groups_with_more(alloc: Global, row: &[Value], other: &[Value]) -> Result<Groups, AllocError> {
+    let ones = one_group(alloc, other)?;
+    let mut groups = one_group(alloc, row)?;
+    let tuple = ones.tuple_of(&other)?;
+    if let Some(group) = ones.group(&tuple) {
+        groups.take_in(&tuple, group)?;
+    }
+    Ok(groups)
+}
+
+#[test]
+fn takes_a_group_in(rt: HostRuntime) -> Result<(), Fail> {
+    let three = row(rt.alloc(), 7, Some(3))?;
+    let five = row(rt.alloc(), 7, Some(5))?;
+    let groups = groups_with_more(rt.alloc(), five.as_slice(), three.as_slice())?;
+    let outputs = outputs(rt.alloc())?;
+    let shown = groups.rows(rt.alloc(), &outputs)?;
+    let [sevens] = shown.as_slice() else {
+        return Err(Fail::from("not one group"));
+    };
+    assert!(rt; is_row(sevens, &[7, 2, 2, 2, 8, 3, 5]));
+    Ok(())
+}
+
+/// One of two rows goes as a group.
+fn groups_with_less(alloc: Global, row: &[Value], other: &[Value]) -> Result<Groups, AllocError> {
+    let ones = one_group(alloc, other)?;
+    let mut groups = one_group(alloc, row)?;
+    groups.come(&other)?;
+    let tuple = ones.tuple_of(&other)?;
+    if let Some(group) = ones.group(&tuple) {
+        groups.give_up(&tuple, group);
+    }
+    Ok(groups)
+}
+
+#[test]
+fn gives_a_group_up(rt: HostRuntime) -> Result<(), Fail> {
+    let three = row(rt.alloc(), 7, Some(3))?;
+    let five = row(rt.alloc(), 7, Some(5))?;
+    let groups = groups_with_less(rt.alloc(), five.as_slice(), three.as_slice())?;
+    let outputs = outputs(rt.alloc())?;
+    let shown = groups.rows(rt.alloc(), &outputs)?;
+    let [sevens] = shown.as_slice() else {
+        return Err(Fail::from("not one group"));
+    };
+    assert!(rt; is_row(sevens, &[7, 1, 1, 1, 5, 5, 5]));
+    Ok(())
+}
+
+#[test]
+fn finds_tuples_under_values(rt: HostRuntime) -> Result<(), Fail> {
+    let outputs = outputs(rt.alloc())?;
+    let groups = sample_groups(rt.alloc(), &outputs)?;
+    let tuples = groups.tuples_under(&[cell(Some(5)), cell(Some(7)), cell(Some(7))])?;
+    let [sevens] = tuples.as_slice() else {
+        return Err(Fail::from("not one tuple"));
+    };
+    assert_eq!(rt; sevens.len(), 1);
     Ok(())
 }
