@@ -1,6 +1,7 @@
 -- A batch that is appended, and why one isn't.
 use Rattle.std.proofs.Common.{
   ◌≡◌,
+  inr,
   ℕ,
   zero,
   suc,
@@ -259,7 +260,7 @@ stored_appended t stored xs new columns n appended is batch p few light holds =
     record {
       table = is.table;
       right = All-append (IsRight t) stored (batch_rows n columns) is.right
-          (λ k d below key. record { held = held k d below; light = lights k d below });
+          (λ k d below. inr (record { held = held k d below; light = lights k d below }));
       given = subst G (sym p.pushed) (given_added xs p.keys is.given (subst N (sym p.are) p.given));
       keyed = subst R (sym p.pushed)
           (keyed_added t stored (batch_rows n columns) xs (map fresh p.keys) is.keyed

@@ -3,7 +3,7 @@ use Rattle.std.proofs.Common.{◌≡◌, inl, inr, ℕ, zero, suc, ◌+◌, ◌-
 use Rattle.std.specs.Prelude.{if◌then◌else◌, nat_le, replicate, slice_get, slice_set}
 use Rattle.std.specs.List.Sorted.{IsPartitionPoint, IsPartitionedBy}
 use Rattle.std.proofs.lemmas.List.Sorted.{IsPartitionedBy-leb}
-use Rattle.std.proofs.lemmas.Bool.{leb-true}
+use Rattle.std.proofs.lemmas.Bool.{leb-true, ltb-false, ltb-true}
 use Rattle.std.proofs.lemmas.Bool.Decides.{leb_tells}
 use Rattle.std.proofs.lemmas.List.{length-set, length-take}
 use Rattle.std.proofs.lemmas.List.Elements.{All-nil}
@@ -14,21 +14,29 @@ use Rattle.schema_meta.specs.Rows.{row_at, rows_from}
 use Rattle.row_keys.specs.Batches.{batch_rows, cells_in}
 use Rattle.row_keys.specs.Chunks.{
   AreChunks,
+  AreRising,
   Chunk,
   EndsAbove,
   IsCut,
   IsLong,
+  IsNoneOf,
+  IsPlaceOf,
+  IsShortened,
+  LiesAt,
   LiesIn,
   Releases,
   ReleasesAt,
   chunk,
   chunk_row,
   has_columns,
+  in_turn,
+  number_row,
+  place_in,
   row_in,
-  shortened,
   stored_rows,
 }
 use Rattle.row_keys.proofs.Places.{some_same, take_init}
+use Rattle.row_keys.proofs.RowPlaces.{first_or_not, here_first, in_turn_place, in_turn_rising, not_first, place_is, place_within, places_differ, rising_within, turn_long}
 use Rattle.row_keys.specs.Listed.{listed}
 use Rattle.row_keys.proofs.ListedItems.{
   listed_add,
@@ -55,7 +63,7 @@ stored_long cs len = listed_long (row_in cs) 0 len
 -- Rows come.
 
 -- flags of rows of which none is gone
-flag_at : (n i : ℕ) → i < n → get_or (replicate n false) i true ≡ false
+pub flag_at : (n i : ℕ) → i < n → get_or (replicate n false) i true ≡ false
 flag_at zero i below = absurd (omega (arith, below))
 flag_at (suc n) zero below = refl
 flag_at (suc n) (suc i) below = flag_at n i (omega (arith, below))
@@ -65,7 +73,7 @@ flags_long zero = refl
 flags_long (suc n) = ap suc (flags_long n)
 
 abbrev fresh : ℕ → ℕ → List CheckedColumn → Chunk
-fresh first n columns = chunk first columns (replicate n false)
+fresh first n columns = chunk first n (in_turn first n) n columns (replicate n false)
 
 fresh_row : (first n : ℕ) (columns : List CheckedColumn) (i : ℕ) → i < n
     → chunk_row (fresh first n columns) i ≡ row_at (cells_in columns) i
@@ -73,13 +81,14 @@ fresh_row first n columns i below =
     ap (λ b. if b then [] else row_at (cells_in columns) i) (flag_at n i below)
 
 fresh_chunks :
-    (cs : List Chunk) (len n : ℕ) (columns : List CheckedColumn) → AreChunks 0 cs len → 0 < n
+    (cs : List Chunk) (len n : ℕ) (columns : List CheckedColumn) → AreChunks 0 cs len
     → All (λ c. length c.cells ≡ n) columns → AreChunks 0 (cs ++ fresh len n columns ∷ []) (len + n)
-fresh_chunks cs len n columns are some long =
+fresh_chunks cs len n columns are long =
     let many = flags_long n in
-    chunks_more 0 len (len + n) cs (fresh len n columns) are (omega arith) (omega (arith, some, many))
-    (λ k d below. let e = long k d below in omega (arith, e, many))
-    (omega (arith, many))
+    let each = turn_long len n in
+    chunks_more 0 len (len + n) cs (fresh len n columns) are (omega arith)
+    (record { long = long; few = omega (arith, many); each = omega (arith, many, each); rise = in_turn_rising len n })
+    (omega arith)
 
 module _ (cs : List Chunk) (len n : ℕ) (columns : List CheckedColumn) (are : AreChunks 0 cs len) where
   old_rows : listed (row_in (cs ++ fresh len n columns ∷ [])) 0 len ≡ listed (row_in cs) 0 len
@@ -89,12 +98,15 @@ module _ (cs : List Chunk) (len n : ℕ) (columns : List CheckedColumn) (are : A
 
   new_row : (j : ℕ) → j < n → row_in (cs ++ fresh len n columns ∷ []) (len + j) ≡ row_at (cells_in columns) j
   new_row j below =
-      let many = flags_long n in
-      let place : (len + j) - len ≡ j = omega arith in
+      let place : place_in (in_turn len n) (len + j) ≡ j =
+      in_turn_place len n (len + j) (omega arith) (omega (arith, below)) ∙ take_off len j in
       row_last 0 len cs (fresh len n columns) (len + j) are (omega arith)
-      ∙ row_within (fresh len n columns) [] (len + j) (omega arith) (omega (arith, below, many))
+      ∙ row_within (fresh len n columns) [] (len + j) (omega arith) (omega (arith, below))
       ∙ ap (chunk_row (fresh len n columns)) place
       ∙ fresh_row len n columns j below
+    where
+      take_off : (a b : ℕ) → (a + b) - a ≡ b
+      take_off a b = omega arith
 
   new_rows : listed (row_in (cs ++ fresh len n columns ∷ [])) (0 + len) n ≡ batch_rows n columns
   new_rows =
@@ -110,13 +122,19 @@ module _ (cs : List Chunk) (len n : ℕ) (columns : List CheckedColumn) (are : A
       ∙ ap (λ rs. listed (row_in cs) 0 len ++ rs) new_rows
 
 pub chunks_come :
-    (cs all : List Chunk) (len n : ℕ) (columns : List CheckedColumn) → AreChunks 0 cs len → 0 < n
-    → All (λ c. length c.cells ≡ n) columns → all ≡ cs ++ chunk len columns (replicate n false) ∷ []
-    → AreChunks 0 all (len + n) × (stored_rows all (len + n) ≡ stored_rows cs len ++ batch_rows n columns)
-chunks_come cs all len n columns are some long is =
-    let P : List Chunk → Type 0 = λ xs. AreChunks 0 xs (len + n)
-    × (stored_rows xs (len + n) ≡ stored_rows cs len ++ batch_rows n columns) in
-    subst P (sym is) (fresh_chunks cs len n columns are some long, rows_come cs len n columns are)
+    (cs all : List Chunk) (len n m : ℕ) (columns : List CheckedColumn) (gone : List Bool) → AreChunks 0 cs len
+    → All (λ c. length c.cells ≡ n) columns → gone ≡ replicate n false
+    → all ≡ cs ++ chunk len n (in_turn len (length gone)) n columns gone ∷ [] → m ≡ len + n
+    → AreChunks 0 all m × (stored_rows all m ≡ stored_rows cs len ++ batch_rows n columns)
+chunks_come cs all len n m columns gone are long flags is more =
+    let whole : all ≡ cs ++ fresh len n columns ∷ [] =
+    is ∙ ap (λ gs. cs ++ chunk len n (in_turn len (length gs)) n columns gs ∷ []) flags
+    ∙ ap (λ k. cs ++ chunk len n (in_turn len k) n columns (replicate n false) ∷ []) (flags_long n) in
+    let P : List Chunk → Type 0 = λ xs. AreChunks 0 xs m
+    × (stored_rows xs m ≡ stored_rows cs len ++ batch_rows n columns) in
+    let Q : ℕ → Type 0 = λ k. AreChunks 0 (cs ++ fresh len n columns ∷ []) k
+    × (stored_rows (cs ++ fresh len n columns ∷ []) k ≡ stored_rows cs len ++ batch_rows n columns) in
+    subst P (sym whole) (subst Q (sym more) (fresh_chunks cs len n columns are long, rows_come cs len n columns are))
 
 -- A row goes.
 
@@ -132,19 +150,24 @@ flag_other (g ∷ gs) zero (suc j) other = refl
 flag_other (g ∷ gs) (suc i) zero other = refl
 flag_other (g ∷ gs) (suc i) (suc j) other = flag_other gs i j (λ e. other (ap suc e))
 
+pub flag_past : (gs : List Bool) (i : ℕ) → length gs ≤ i → get_or gs i true ≡ true
+flag_past [] i past = refl
+flag_past (g ∷ gs) zero past = absurd (omega (arith, past))
+flag_past (g ∷ gs) (suc i) past = flag_past gs i (omega (arith, past))
+
 all_set : (gs : List Bool) (i : ℕ) → All (λ g. g ≡ true) gs → get_or gs i true ≡ true
 all_set gs i all = elim (lt_or_le i (length gs)) [
   | inl below ↦ all i true below
-  | inr past ↦ at_past gs i past
+  | inr past ↦ flag_past gs i past
 ]
-  where
-    at_past : (xs : List Bool) (k : ℕ) → length xs ≤ k → get_or xs k true ≡ true
-    at_past [] k past = refl
-    at_past (x ∷ xs) zero past = absurd (omega (arith, past))
-    at_past (x ∷ xs) (suc k) past = at_past xs k (omega (arith, past))
 
-flag_gone : (c : Chunk) (i : ℕ) → get_or c.gone i true ≡ true → chunk_row c i ≡ []
+pub flag_gone : (c : Chunk) (i : ℕ) → get_or c.gone i true ≡ true → chunk_row c i ≡ []
 flag_gone c i is = ap (λ b. if b then [] else row_at (cells_in c.columns) i) is
+
+-- a number that no row has
+pub no_number : (c : Chunk) (n : ℕ) → IsLong c → IsNoneOf c.numbers n → number_row c n ≡ []
+no_number c n long none =
+    let each = long.each in flag_gone c (place_in c.numbers n) (flag_past c.gone (place_in c.numbers n) (omega (arith, each, none)))
 
 module _ (old new : Chunk) (j : ℕ) (is : Releases old j new) where
   many_left : length new.gone ≡ length old.gone
@@ -153,19 +176,30 @@ module _ (old new : Chunk) (j : ℕ) (is : Releases old j new) where
   pub in_place : IsLong old → IsInPlace old new
   in_place long = record {
     first = is.first;
-    many = many_left;
-    long = elim is.columns [
-      | inl same ↦
-          let many = many_left in
-          let P : List CheckedColumn → Type 0 = λ ks. All (λ k. length new.gone ≤ length k.cells) ks in
-          subst P (sym same) (λ k d below. let e = long k d below in omega (arith, e, many))
-      | inr none ↦
-          let P : List CheckedColumn → Type 0 = λ ks. All (λ k. length new.gone ≤ length k.cells) ks in
-          subst P (sym none.0) (All-nil (λ k. length new.gone ≤ length k.cells))
-    ];
+    span = is.span;
+    long =
+        let many = many_left in
+        let few = long.few in
+        let each = long.each in
+        let rows = is.rows in
+        record {
+          long =
+              let P : List CheckedColumn → Type 0 = λ ks. All (λ k. length k.cells ≡ new.rows) ks in
+              elim is.columns [
+                | inl same ↦
+                    subst P (sym same) (subst (λ r. All (λ k. length k.cells ≡ r) old.columns) (sym rows) long.long)
+                | inr none ↦ subst P (sym none.0) (All-nil (λ k. length k.cells ≡ new.rows))
+              ];
+          few = omega (arith, few, many, rows);
+          each = ap length is.numbers ∙ long.each ∙ sym many;
+          rise =
+              let Q : ℕ → ℕ → List ℕ → Type 0 = λ f s ns. AreRising f ns (f + s) in
+              subst (λ f. Q f new.span new.numbers) (sym is.first)
+              (subst (λ s. Q old.first s new.numbers) (sym is.span) (subst (Q old.first old.span) (sym is.numbers) long.rise));
+        };
   }
 
-  pub others_left : (i : ℕ) → (i ≡ j → ⊥) → chunk_row new i ≡ chunk_row old i
+  others_left : (i : ℕ) → (i ≡ j → ⊥) → chunk_row new i ≡ chunk_row old i
   others_left i other =
       let flag : get_or new.gone i true ≡ get_or old.gone i true =
       ap (λ gs. get_or gs i true) is.gone ∙ flag_other old.gone i j other in
@@ -177,32 +211,46 @@ module _ (old new : Chunk) (j : ℕ) (is : Releases old j new) where
             no_columns new i none.0 ∙ sym (flag_gone old i (sym flag ∙ all_set new.gone i none.1))
       ]
 
-  pub row_left : j < length old.gone → chunk_row new j ≡ []
-  row_left below = flag_gone new j (ap (λ gs. get_or gs j true) is.gone ∙ flag_set old.gone j below)
+  place_same : (n : ℕ) → number_row new n ≡ chunk_row new (place_in old.numbers n)
+  place_same n = ap (λ ns. chunk_row new (place_in ns n)) is.numbers
+
+  pub number_left : (n : ℕ) → (place_in old.numbers n ≡ j → ⊥) → number_row new n ≡ number_row old n
+  number_left n other = place_same n ∙ others_left (place_in old.numbers n) other
+
+  pub row_left : (n : ℕ) → place_in old.numbers n ≡ j → j < length old.gone → number_row new n ≡ []
+  row_left n here below =
+      place_same n ∙ ap (chunk_row new) here
+      ∙ flag_gone new j (ap (λ gs. get_or gs j true) is.gone ∙ flag_set old.gone j below)
 
 pub row_goes :
-    (cs all : List Chunk) (len n p : ℕ) → AreChunks 0 cs len → LiesIn cs n p → ReleasesAt cs p n all
+    (cs all : List Chunk) (len n p i : ℕ) → AreChunks 0 cs len → LiesAt cs n p i → ReleasesAt cs p i all
     → AreChunks 0 all len × (stored_rows all len ≡ slice_set (stored_rows cs len) n [])
-row_goes cs all len n p are lies is =
+row_goes cs all len n p i are at is =
     let c : Chunk = is.chunk in
+    let lies = at.lies in
     let same : lies.chunk ≡ c = some_same lies.chunk c (sym lies.there ∙ is.there) in
     let low : c.first ≤ n = subst (λ (x : Chunk). x.first ≤ n) same lies.from in
-    let high : n < c.first + length c.gone = subst (λ (x : Chunk). n < x.first + length x.gone) same lies.below in
-    let place : IsInPlace c is.left = in_place c is.left (n - c.first) is.releases (subst IsLong same lies.long) in
+    let high : n < c.first + c.span = subst (λ (x : Chunk). n < x.first + x.span) same lies.below in
+    let long : IsLong c = subst IsLong same lies.long in
+    let here : place_in c.numbers n ≡ i = subst (λ (x : Chunk). place_in x.numbers n ≡ i) same at.place in
+    let within : i < length c.gone = subst (λ (x : Chunk). i < length x.gone) same at.within in
+    let each = long.each in
+    let place : IsInPlace c is.left = in_place c is.left i is.releases long in
     let number : 0 + n ≡ n = omega arith in
-    let here : row_in (slice_set cs p is.left) (0 + n) ≡ [] =
+    let gone : row_in (slice_set cs p is.left) (0 + n) ≡ [] =
     ap (row_in (slice_set cs p is.left)) number
     ∙ row_here 0 len p cs c is.left n are is.there place low high
-    ∙ row_left c is.left (n - c.first) is.releases (omega (arith, low, high)) in
+    ∙ row_left c is.left i is.releases n here within in
     let P : List Chunk → Type 0 = λ xs. AreChunks 0 xs len
     × (stored_rows xs len ≡ slice_set (stored_rows cs len) n []) in
     subst P (sym is.new_is) (
       chunks_set 0 len p cs c is.left are is.there place,
       listed_set (row_in cs) (row_in (slice_set cs p is.left)) 0 len n []
-          (λ i other. row_other p cs c is.left (n - c.first) i is.there place
-          (others_left c is.left (n - c.first) is.releases)
-          (λ e. other (omega (arith, e, low))))
-          here,
+          (λ m other. row_other p cs c is.left m is.there place
+          (number_left c is.left i is.releases m
+          (λ e. places_differ c.numbers n m (omega (arith, here, within, each)) (λ same_number. other (same_number ∙ sym number))
+          (e ∙ sym here))))
+          gone,
     )
 
 -- a row that isn't there
@@ -264,61 +312,131 @@ flag_taken (g ∷ gs) zero i below = absurd (omega (arith, below))
 flag_taken (g ∷ gs) (suc k) zero below = refl
 flag_taken (g ∷ gs) (suc k) (suc i) below = flag_taken gs k i (omega (arith, below))
 
-module _ (len : ℕ) (c : Chunk) (below : c.first < len) where
-  many_taken : length (shortened len c).gone ≡ min (len - c.first) (length c.gone)
-  many_taken = length-take (len - c.first) c.gone
+place_taken : (ns : List ℕ) (k n : ℕ) → place_in ns n < k → place_in (take k ns) n ≡ place_in ns n
+place_taken [] zero n below = refl
+place_taken [] (suc k) n below = refl
+place_taken (m ∷ ms) zero n below = absurd (omega (arith, below))
+place_taken (m ∷ ms) (suc k) n below = elim (first_or_not m n) [
+  | inl is ↦ here_first m n (take k ms) is ∙ sym (here_first m n ms is)
+  | inr other ↦
+      let e = not_first m n ms other in
+      not_first m n (take k ms) other ∙ ap suc (place_taken ms k n (omega (arith, e, below))) ∙ sym e
+]
 
-  taken_row : (i : ℕ) → c.first ≤ i → i < len → chunk_row (shortened len c) (i - c.first) ≡ chunk_row c (i - c.first)
-  taken_row i low inside =
-      ap (λ b. if b then [] else row_at (cells_in c.columns) (i - c.first))
-      (flag_taken c.gone (len - c.first) (i - c.first) (omega (arith, low, inside)))
+none_taken : (ns : List ℕ) (k n : ℕ) → IsNoneOf ns n → IsNoneOf (take k ns) n
+none_taken [] zero n none = refl
+none_taken [] (suc k) n none = refl
+none_taken (m ∷ ms) zero n none = refl
+none_taken (m ∷ ms) (suc k) n none = elim (first_or_not m n) [
+  | inl is ↦ let e = here_first m n ms is in absurd (omega (arith, e, none))
+  | inr other ↦
+      let e = not_first m n ms other in
+      not_first m n (take k ms) other ∙ ap suc (none_taken ms k n (omega (arith, e, none)))
+]
 
-  shortened_row : (i : ℕ) → i < len → row_in (shortened len c ∷ []) i ≡ row_in (c ∷ []) i
-  shortened_row i inside =
-      let many = many_taken in
-      elim (lt_or_le i c.first) [
-        | inl before ↦ row_before (shortened len c) [] i before ∙ sym (row_before c [] i before)
-        | inr low ↦ elim (lt_or_le i (c.first + length c.gone)) [
-          | inl high ↦
-              row_within (shortened len c) [] i low (omega (arith, low, high, inside, many))
-              ∙ taken_row i low inside ∙ sym (row_within c [] i low high)
-          | inr after ↦
-              row_after (shortened len c) [] i (omega (arith, after, many)) ∙ sym (row_after c [] i after)
-        ]
+rising_taken : (from end n : ℕ) (ns : List ℕ) (k : ℕ) → AreRising from ns end
+    → ((i d : ℕ) → i < length ns → i < k → get_or ns i d < n) → from ≤ n → AreRising from (take k ns) (min end n)
+rising_taken from end n [] zero are below low = omega (arith, are, low)
+rising_taken from end n [] (suc k) are below low = omega (arith, are, low)
+rising_taken from end n (m ∷ ms) zero are below low =
+    let rest = rising_within (suc m) end ms are.1 in
+    let first = are.0 in
+    omega (arith, first, rest, low)
+rising_taken from end n (m ∷ ms) (suc k) are below low =
+    let first = below 0 0 (omega arith) (omega arith) in (
+      are.0,
+      rising_taken (suc m) end n ms k are.1 (λ i d inside few. below (suc i) d (omega (arith, inside)) (omega (arith, few)))
+          (omega (arith, first)),
+    )
+
+module _ (len : ℕ) (c d : Chunk) (below : c.first < len) (long : IsLong c) (is : IsShortened len c d) where
+  abbrev left : Chunk
+  left =
+      chunk c.first (min c.span (len - c.first)) (take is.many c.numbers) c.rows c.columns (take is.many c.gone)
+
+  under : (i e : ℕ) → i < length c.numbers → i < is.many → get_or c.numbers i e < len
+  under i e inside few = ltb-true (get_or c.numbers i e) len (is.below.0 i e (omega arith) few)
+
+  kept_row : (i : ℕ) → i < len → number_row left i ≡ number_row c i
+  kept_row i inside =
+      let each = long.each in
+      let cut : length (take is.many c.gone) ≡ min is.many (length c.gone) = length-take is.many c.gone in
+      elim (lt_or_le (place_in c.numbers i) is.many) [
+        | inl early ↦
+            let same : place_in (take is.many c.numbers) i ≡ place_in c.numbers i = place_taken c.numbers is.many i early in
+            ap (chunk_row left) same
+            ∙ ap (λ b. if b then [] else row_at (cells_in c.columns) (place_in c.numbers i))
+            (flag_taken c.gone is.many (place_in c.numbers i) early)
+        | inr late ↦
+            let none : IsNoneOf c.numbers i = elim (lt_or_le (place_in c.numbers i) (length c.numbers)) [
+              | inl there ↦
+                  let here = place_is c.numbers i i there in
+                  let above = ltb-false (get_or c.numbers (place_in c.numbers i) i) len
+                  (is.below.1 (place_in c.numbers i) i late there) in
+                  absurd (omega (arith, here, above, inside))
+              | inr past ↦ let within = place_within c.numbers i in omega (arith, within, past)
+            ] in
+            let gone = none_taken c.numbers is.many i none in
+            let short : length (take is.many c.numbers) ≡ min is.many (length c.numbers) =
+            length-take is.many c.numbers in
+            flag_gone left (place_in (take is.many c.numbers) i)
+            (flag_past (take is.many c.gone) (place_in (take is.many c.numbers) i)
+            (omega (arith, gone, short, cut, each)))
+            ∙ sym (no_number c i long none)
       ]
 
-  shortened_long : IsLong c → IsLong (shortened len c)
-  shortened_long long = λ k d within.
-      let many = many_taken in
-      let few = long k d within in
-      omega (arith, many, few)
+  shortened_row : (i : ℕ) → i < len → row_in (left ∷ []) i ≡ row_in (c ∷ []) i
+  shortened_row i inside = elim (lt_or_le i c.first) [
+    | inl before ↦ row_before left [] i before ∙ sym (row_before c [] i before)
+    | inr low ↦ elim (lt_or_le i (c.first + c.span)) [
+      | inl high ↦
+          row_within left [] i low (omega (arith, low, high, inside))
+          ∙ kept_row i inside ∙ sym (row_within c [] i low high)
+      | inr after ↦ row_after left [] i (omega (arith, after)) ∙ sym (row_after c [] i after)
+    ]
+  ]
+
+  shortened_long : IsLong left
+  shortened_long =
+      let each = long.each in
+      let few = long.few in
+      let flags = length-take is.many c.gone in
+      let numbers = length-take is.many c.numbers in
+      let end : min (c.first + c.span) len ≡ c.first + min c.span (len - c.first) = omega (arith, below) in
+      record {
+        long = long.long;
+        few = omega (arith, flags, few);
+        each = omega (arith, flags, numbers, each);
+        rise =
+            subst (λ e. AreRising c.first (take is.many c.numbers) e) end
+            (rising_taken c.first (c.first + c.span) len c.numbers is.many long.rise under (omega (arith, below)));
+      }
 
   pub shortened_chunks : (front : List Chunk) (end : ℕ) → AreChunks 0 (front ++ c ∷ []) end
-      → AreChunks 0 (front ++ shortened len c ∷ []) len
+      → AreChunks 0 (front ++ d ∷ []) len
   shortened_chunks front end are =
-      let many = many_taken in
       let less = chunks_less 0 end front c are in
-      let some = less.1.0 in
-      chunks_more 0 c.first len front (shortened len c) less.0 (omega arith) (omega (arith, many, some, below))
-      (shortened_long less.1.1.0) (omega (arith, many, below))
+      let P : Chunk → Type 0 = λ x. AreChunks 0 (front ++ x ∷ []) len in
+      subst P (sym is.new_is)
+      (chunks_more 0 c.first len front left less.0 (omega arith) shortened_long (omega (arith, below)))
 
   pub shortened_rows : (front : List Chunk) (i : ℕ) → i < len
-      → row_in (front ++ shortened len c ∷ []) i ≡ row_in (front ++ c ∷ []) i
-  shortened_rows [] i inside = shortened_row i inside
-  shortened_rows (d ∷ ds) i inside =
-      row_rest d (ds ++ shortened len c ∷ []) (ds ++ c ∷ []) i (shortened_rows ds i inside)
+      → row_in (front ++ d ∷ []) i ≡ row_in (front ++ c ∷ []) i
+  shortened_rows [] i inside = ap (λ (x : Chunk). row_in (x ∷ []) i) is.new_is ∙ shortened_row i inside
+  shortened_rows (e ∷ es) i inside = row_rest e (es ++ d ∷ []) (es ++ c ∷ []) i (shortened_rows es i inside)
 
 pub cut_last :
-    (old : List Chunk) (len : ℕ) (now new front : List Chunk) (c : Chunk) → IsCutSoFar old len now
-    → now ≡ front ++ c ∷ [] → c.first < len → new ≡ front ++ shortened len c ∷ [] → IsCut old len new
-cut_last old len now new front c so_far split below is =
+    (old : List Chunk) (len : ℕ) (now new front : List Chunk) (c d : Chunk) → IsCutSoFar old len now
+    → now ≡ front ++ c ∷ [] → c.first < len → IsShortened len c d → new ≡ front ++ d ∷ [] → IsCut old len new
+cut_last old len now new front c d so_far split below short is =
     let P : List Chunk → Type 0 = λ xs. AreChunks 0 xs so_far.end in
     let Q : List Chunk → Type 0 = λ xs. AreChunks 0 xs len in
+    let long : IsLong c = (chunks_less 0 so_far.end front c (subst P split so_far.chunks)).1.0 in
     record {
-      chunks = subst Q (sym is) (shortened_chunks len c below front so_far.end (subst P split so_far.chunks));
+      chunks = subst Q (sym is) (shortened_chunks len c d below long short front so_far.end (subst P split so_far.chunks));
       rows = λ i inside.
-          ap (λ xs. row_in xs i) is ∙ shortened_rows len c below front i inside ∙ sym (ap (λ xs. row_in xs i) split)
-          ∙ so_far.rows i inside;
+          ap (λ xs. row_in xs i) is ∙ shortened_rows len c d below long short front i inside
+          ∙ sym (ap (λ xs. row_in xs i) split) ∙ so_far.rows i inside;
     }
 
 -- the last of a list is changed
@@ -374,7 +492,7 @@ lies_nowhere cs n place point is =
 pub lies_in :
     (cs : List Chunk) (len n place p : ℕ) (c : Chunk) → AreChunks 0 cs len
     → IsPartitionPoint (λ x. nat_le x.first n ≡ true) (λ x. nat_le x.first n ≡ false) cs place → place ≡ suc p
-    → slice_get cs p ≡ Some c → n - c.first < length c.gone → LiesIn cs n p
+    → slice_get cs p ≡ Some c → n - c.first < c.span → LiesIn cs n p
 lies_in cs len n place p c are point is there below =
     let at = lies_at cs len n place p c are point is there in
     let low = at.0 in
@@ -390,7 +508,7 @@ lies_in cs len n place p c are point is there below =
 pub lies_past :
     (cs : List Chunk) (len n place p : ℕ) (c : Chunk) → AreChunks 0 cs len
     → IsPartitionPoint (λ x. nat_le x.first n ≡ true) (λ x. nat_le x.first n ≡ false) cs place → place ≡ suc p
-    → slice_get cs p ≡ Some c → length c.gone ≤ n - c.first → row_in cs n ≡ []
+    → slice_get cs p ≡ Some c → c.span ≤ n - c.first → row_in cs n ≡ []
 lies_past cs len n place p c are point is there past =
     let at = lies_at cs len n place p c are point is there in
     let low = at.0 in
@@ -402,18 +520,18 @@ firsts_rise : (from len : ℕ) (cs : List Chunk) → AreChunks from cs len
 firsts_rise from len [] are i j d le below = absurd (omega (arith, below))
 firsts_rise from len (c ∷ cs) are zero zero d le below = omega arith
 firsts_rise from len (c ∷ cs) are zero (suc j) d le below =
-    let all = starts_from (c.first + length c.gone) cs are.3 j d (omega (arith, below)) in omega (arith, all)
+    let all = starts_from (c.first + c.span) cs are.2 j d (omega (arith, below)) in omega (arith, all)
   where
     starts_from : (low : ℕ) (xs : List Chunk) → AreChunks low xs len → (k : ℕ) (e : Chunk) → k < length xs
         → low ≤ (get_or xs k e).first
     starts_from low [] all k e within = absurd (omega (arith, within))
     starts_from low (x ∷ xs) all zero e within = all.0
     starts_from low (x ∷ xs) all (suc k) e within =
-        let rest = starts_from (x.first + length x.gone) xs all.3 k e (omega (arith, within)) in
+        let rest = starts_from (x.first + x.span) xs all.2 k e (omega (arith, within)) in
         omega (arith, rest, all.0)
 firsts_rise from len (c ∷ cs) are (suc i) zero d le below = absurd (omega (arith, le))
 firsts_rise from len (c ∷ cs) are (suc i) (suc j) d le below =
-    firsts_rise (c.first + length c.gone) len cs are.3 i j d (omega (arith, le)) (omega (arith, below))
+    firsts_rise (c.first + c.span) len cs are.2 i j d (omega (arith, le)) (omega (arith, below))
 
 pub chunks_parted : (cs : List Chunk) (len n : ℕ) → AreChunks 0 cs len → IsPartitionedBy (λ x. nat_le x.first n) cs
 chunks_parted cs len n are = IsPartitionedBy-leb (λ (x : Chunk). x.first) cs n (firsts_rise 0 len cs are)
@@ -426,21 +544,43 @@ chunk_read (x ∷ xs) (suc p) c is below = chunk_read xs p c is (omega (arith, b
 
 -- what holds of the chunk in which a number lies
 pub record Lies (cs : List Chunk) (n : ℕ) (c : Chunk) : Type 0 where
-  pub from : c.first ≤ n
-  pub within : n - c.first < length c.gone
   pub long : IsLong c
-  pub row : row_in cs n ≡ chunk_row c (n - c.first)
+  pub row : row_in cs n ≡ number_row c n
 
 pub lies_there : (cs : List Chunk) (n p : ℕ) (c : Chunk) → LiesIn cs n p → c ≡ get_or cs p c → Lies cs n c
 lies_there cs n p c lies is =
     let same : lies.chunk ≡ c = sym (is ∙ get_or_from_slice_get cs p lies.chunk c lies.there) in
-    let low = lies.from in
-    let high = lies.below in
-    subst (Lies cs n) same (record {
-      from = lies.from;
-      within = omega (arith, low, high);
+    subst (Lies cs n) same (record { long = lies.long; row = lies.row })
+
+pub lies_nowhere_in : (cs : List Chunk) (n p : ℕ) (c : Chunk) → LiesIn cs n p → c ≡ get_or cs p c → IsNoneOf c.numbers n
+    → row_in cs n ≡ []
+lies_nowhere_in cs n p c lies is none =
+    let there = lies_there cs n p c lies is in there.row ∙ no_number c n there.long none
+
+pub located : (cs : List Chunk) (n p i : ℕ) (c : Chunk) → LiesIn cs n p → c ≡ get_or cs p c → IsPlaceOf c.numbers n i
+    → LiesAt cs n p i
+located cs n p i c lies is place =
+    let same : c ≡ lies.chunk = is ∙ get_or_from_slice_get cs p lies.chunk c lies.there in
+    let P : Chunk → Type 0 = λ x. IsPlaceOf x.numbers n i in
+    let at : IsPlaceOf lies.chunk.numbers n i = subst P same place in
+    let inside = at.0 in
+    let each = lies.long.each in
+    record { lies = lies; place = at.1; within = omega (arith, inside, each) }
+
+-- the row that lies there
+pub record IsRead (cs : List Chunk) (n i : ℕ) (c : Chunk) : Type 0 where
+  pub within : i < length c.gone
+  pub long : IsLong c
+  pub row : row_in cs n ≡ chunk_row c i
+
+pub row_read : (cs : List Chunk) (n p i : ℕ) (c : Chunk) → LiesAt cs n p i → c ≡ get_or cs p c → IsRead cs n i c
+row_read cs n p i c at is =
+    let lies = at.lies in
+    let same : lies.chunk ≡ c = sym (is ∙ get_or_from_slice_get cs p lies.chunk c lies.there) in
+    subst (IsRead cs n i) same (record {
+      within = at.within;
       long = lies.long;
-      row = lies.row;
+      row = lies.row ∙ ap (chunk_row lies.chunk) at.place;
     })
 
 pub lies_within : (cs : List Chunk) (n p : ℕ) → LiesIn cs n p → p < length cs
@@ -466,7 +606,7 @@ last_at (y ∷ ys) c x = last_at ys c x
 
 pub cut_end :
     (old now : List Chunk) (len k : ℕ) (x new : Chunk) → IsCutSoFar old len now → EndsAbove now len false
-    → k ≡ length now → 0 < k → x ≡ get_or now (k - 1) x → new ≡ shortened len x
+    → k ≡ length now → 0 < k → x ≡ get_or now (k - 1) x → IsShortened len x new
     → IsCut old len (slice_set now (k - 1) new)
 cut_end old now len k x new so_far ends long some is short = elim ends [
   | inl none ↦ let few = ap length none in absurd (omega (arith, long, some, few))
@@ -476,8 +616,30 @@ cut_end old now len k x new so_far ends long some is short = elim ends [
       let place : k - 1 ≡ length last.0 = omega (arith, long, many, all) in
       let same : x ≡ last.1 =
       is ∙ ap (λ j. get_or now j x) place ∙ ap (λ xs. get_or xs (length last.0) x) last.2 ∙ last_at last.0 last.1 x in
-      let set : slice_set now (k - 1) new ≡ last.0 ++ shortened len last.1 ∷ [] =
+      let set : slice_set now (k - 1) new ≡ last.0 ++ new ∷ [] =
       ap (λ j. slice_set now j new) place ∙ ap (λ xs. slice_set xs (length last.0) new) last.2
-      ∙ set_last last.0 last.1 new ∙ ap (λ d. last.0 ++ d ∷ []) (short ∙ ap (shortened len) same) in
-      cut_last old len now (slice_set now (k - 1) new) last.0 last.1 so_far last.2 last.3 set
+      ∙ set_last last.0 last.1 new in
+      let P : Chunk → Type 0 = λ y. IsShortened len y new in
+      cut_last old len now (slice_set now (k - 1) new) last.0 last.1 new so_far last.2 last.3 (subst P same short) set
+]
+
+-- what is known of the chunk that is shortened
+pub record IsLast (now : List Chunk) (len : ℕ) (x : Chunk) : Type 0 where
+  pub below : x.first < len
+  pub long : IsLong x
+
+pub last_is :
+    (old now : List Chunk) (len k : ℕ) (x : Chunk) → IsCutSoFar old len now → EndsAbove now len false
+    → k ≡ length now → 0 < k → x ≡ get_or now (k - 1) x → IsLast now len x
+last_is old now len k x so_far ends long some is = elim ends [
+  | inl none ↦ let few = ap length none in absurd (omega (arith, long, some, few))
+  | inr last ↦
+      let many = length-append last.0 (last.1 ∷ []) in
+      let all = ap length last.2 in
+      let place : k - 1 ≡ length last.0 = omega (arith, long, many, all) in
+      let same : x ≡ last.1 =
+      is ∙ ap (λ j. get_or now j x) place ∙ ap (λ xs. get_or xs (length last.0) x) last.2 ∙ last_at last.0 last.1 x in
+      let P : List Chunk → Type 0 = λ xs. AreChunks 0 xs so_far.end in
+      subst (IsLast now len) (sym same)
+      (record { below = last.3; long = (chunks_less 0 so_far.end last.0 last.1 (subst P last.2 so_far.chunks)).1.0 })
 ]

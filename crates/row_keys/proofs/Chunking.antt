@@ -1,5 +1,5 @@
 -- The rows of chunks, by number.
-use Rattle.std.proofs.Common.{◌≡◌, ◌⊎◌, inl, inr, ℕ, zero, suc, ◌+◌, ◌-◌, ◌<◌, ◌≤◌, Bool, true, false, Some, List, [], ◌∷◌, ◌++◌, cond, filter, get_or, length, refl, ap, sym, subst, ◌∙◌, arith}
+use Rattle.std.proofs.Common.{◌≡◌, ◌⊎◌, inl, inr, ℕ, zero, suc, ◌+◌, ◌<◌, ◌≤◌, Bool, true, false, Some, List, [], ◌∷◌, ◌++◌, cond, filter, get_or, length, refl, ap, sym, subst, ◌∙◌, arith}
 use Rattle.std.specs.Prelude.{if◌then◌else◌, nat_lt, slice_get, slice_set}
 use Rattle.std.proofs.lemmas.Bool.{ltb-false, lt-ltb}
 use Rattle.std.proofs.lemmas.Bool.Decides.{leb_tells}
@@ -14,6 +14,8 @@ use Rattle.row_keys.specs.Chunks.{
   IsLong,
   chunk_row,
   has_columns,
+  number_row,
+  place_in,
   row_in,
 }
 use Rattle.row_keys.specs.Listed.{listed}
@@ -45,31 +47,30 @@ not_lt a b le = elim (leb_tells (suc a) b) [ inl t ↦ absurd (omega (arith, t.1
 
 pub row_before : (c : Chunk) (cs : List Chunk) (n : ℕ) → n < c.first → row_in (c ∷ cs) n ≡ []
 row_before c cs n before =
-    ap (λ b. if b then [] else (if nat_lt n (c.first + length c.gone) then chunk_row c (n - c.first) else row_in cs n))
+    ap (λ b. if b then [] else (if nat_lt n (c.first + c.span) then number_row c n else row_in cs n))
     (lt-ltb n c.first before)
 
-pub row_within : (c : Chunk) (cs : List Chunk) (n : ℕ) → c.first ≤ n → n < c.first + length c.gone
-    → row_in (c ∷ cs) n ≡ chunk_row c (n - c.first)
+pub row_within : (c : Chunk) (cs : List Chunk) (n : ℕ) → c.first ≤ n → n < c.first + c.span
+    → row_in (c ∷ cs) n ≡ number_row c n
 row_within c cs n from below =
-    ap (λ b. if b then [] else (if nat_lt n (c.first + length c.gone) then chunk_row c (n - c.first) else row_in cs n))
+    ap (λ b. if b then [] else (if nat_lt n (c.first + c.span) then number_row c n else row_in cs n))
     (not_lt n c.first from)
-    ∙ ap (λ b. if b then chunk_row c (n - c.first) else row_in cs n) (lt-ltb n (c.first + length c.gone) below)
+    ∙ ap (λ b. if b then number_row c n else row_in cs n) (lt-ltb n (c.first + c.span) below)
 
-pub row_after : (c : Chunk) (cs : List Chunk) (n : ℕ) → c.first + length c.gone ≤ n → row_in (c ∷ cs) n ≡ row_in cs n
+pub row_after : (c : Chunk) (cs : List Chunk) (n : ℕ) → c.first + c.span ≤ n → row_in (c ∷ cs) n ≡ row_in cs n
 row_after c cs n after =
-    ap (λ b. if b then [] else (if nat_lt n (c.first + length c.gone) then chunk_row c (n - c.first) else row_in cs n))
+    ap (λ b. if b then [] else (if nat_lt n (c.first + c.span) then number_row c n else row_in cs n))
     (not_lt n c.first (omega (arith, after)))
-    ∙ ap (λ b. if b then chunk_row c (n - c.first) else row_in cs n) (not_lt n (c.first + length c.gone) after)
+    ∙ ap (λ b. if b then number_row c n else row_in cs n) (not_lt n (c.first + c.span) after)
 
 pub row_rest : (c : Chunk) (cs ds : List Chunk) (n : ℕ) → row_in cs n ≡ row_in ds n → row_in (c ∷ cs) n ≡ row_in (c ∷ ds) n
 row_rest c cs ds n same =
-    ap (λ r. if nat_lt n c.first then [] else (if nat_lt n (c.first + length c.gone) then chunk_row c (n - c.first)
-    else r)) same
+    ap (λ r. if nat_lt n c.first then [] else (if nat_lt n (c.first + c.span) then number_row c n else r)) same
 
 pub ends_within : (from len : ℕ) (cs : List Chunk) → AreChunks from cs len → from ≤ len
 ends_within from len [] are = are
 ends_within from len (c ∷ cs) are =
-    let rest = ends_within (c.first + length c.gone) len cs are.3 in omega (arith, rest, are.0)
+    let rest = ends_within (c.first + c.span) len cs are.2 in omega (arith, rest, are.0)
 
 pub none_before : (from len n : ℕ) (cs : List Chunk) → AreChunks from cs len → n < from → row_in cs n ≡ []
 none_before from len n [] are before = refl
@@ -78,17 +79,16 @@ none_before from len n (c ∷ cs) are before = row_before c cs n (omega (arith, 
 pub none_past : (from len n : ℕ) (cs : List Chunk) → AreChunks from cs len → len ≤ n → row_in cs n ≡ []
 none_past from len n [] are past = refl
 none_past from len n (c ∷ cs) are past =
-    let rest = ends_within (c.first + length c.gone) len cs are.3 in
-    row_after c cs n (omega (arith, rest, past)) ∙ none_past (c.first + length c.gone) len n cs are.3 past
+    let rest = ends_within (c.first + c.span) len cs are.2 in
+    row_after c cs n (omega (arith, rest, past)) ∙ none_past (c.first + c.span) len n cs are.2 past
 
 pub chunks_from : (from low len : ℕ) (cs : List Chunk) → AreChunks from cs len → low ≤ from → AreChunks low cs len
 chunks_from from low len [] are le = omega (arith, are, le)
-chunks_from from low len (c ∷ cs) are le = (omega (arith, are.0, le), are.1, are.2, are.3)
+chunks_from from low len (c ∷ cs) are le = (omega (arith, are.0, le), are.1, are.2)
 
 pub chunks_upto : (from len more : ℕ) (cs : List Chunk) → AreChunks from cs len → len ≤ more → AreChunks from cs more
 chunks_upto from len more [] are le = omega (arith, are, le)
-chunks_upto from len more (c ∷ cs) are le =
-    (are.0, are.1, are.2, chunks_upto (c.first + length c.gone) len more cs are.3 le)
+chunks_upto from len more (c ∷ cs) are le = (are.0, are.1, chunks_upto (c.first + c.span) len more cs are.2 le)
 
 -- a chunk more
 
@@ -100,48 +100,42 @@ pub row_last : (from len : ℕ) (cs : List Chunk) (c : Chunk) (n : ℕ) → AreC
     → row_in (cs ++ c ∷ []) n ≡ row_in (c ∷ []) n
 row_last from len [] c n are past = refl
 row_last from len (d ∷ ds) c n are past =
-    let rest = ends_within (d.first + length d.gone) len ds are.3 in
-    row_after d (ds ++ c ∷ []) n (omega (arith, rest, past))
-    ∙ row_last (d.first + length d.gone) len ds c n are.3 past
+    let rest = ends_within (d.first + d.span) len ds are.2 in
+    row_after d (ds ++ c ∷ []) n (omega (arith, rest, past)) ∙ row_last (d.first + d.span) len ds c n are.2 past
 
 pub chunks_more :
-    (from len end : ℕ) (cs : List Chunk) (c : Chunk) → AreChunks from cs len → len ≤ c.first → 0 < length c.gone
-    → IsLong c → c.first + length c.gone ≤ end → AreChunks from (cs ++ c ∷ []) end
-chunks_more from len end [] c are le some long within = (omega (arith, are, le), some, long, within)
-chunks_more from len end (d ∷ ds) c are le some long within = (
-  are.0,
-  are.1,
-  are.2,
-  chunks_more (d.first + length d.gone) len end ds c are.3 le some long within,
-)
+    (from len end : ℕ) (cs : List Chunk) (c : Chunk) → AreChunks from cs len → len ≤ c.first → IsLong c
+    → c.first + c.span ≤ end → AreChunks from (cs ++ c ∷ []) end
+chunks_more from len end [] c are le long within = (omega (arith, are, le), long, within)
+chunks_more from len end (d ∷ ds) c are le long within =
+    (are.0, are.1, chunks_more (d.first + d.span) len end ds c are.2 le long within)
 
 -- a chunk less
 pub chunks_less : (from len : ℕ) (cs : List Chunk) (c : Chunk) → AreChunks from (cs ++ c ∷ []) len
-    → AreChunks from cs c.first × ((0 < length c.gone) × (IsLong c × (c.first + length c.gone ≤ len)))
-chunks_less from len [] c are = (are.0, (are.1, (are.2, are.3)))
+    → AreChunks from cs c.first × (IsLong c × (c.first + c.span ≤ len))
+chunks_less from len [] c are = (are.0, (are.1, are.2))
 chunks_less from len (d ∷ ds) c are =
-    let rest = chunks_less (d.first + length d.gone) len ds c are.3 in
-    ((are.0, are.1, are.2, rest.0), rest.1)
+    let rest = chunks_less (d.first + d.span) len ds c are.2 in ((are.0, are.1, rest.0), rest.1)
 
 -- one chunk that is another
 
 pub chunk_long : (from len p : ℕ) (cs : List Chunk) (c : Chunk) → AreChunks from cs len → slice_get cs p ≡ Some c
     → IsLong c
 chunk_long from len p [] c are there = absurd (none-some c there)
-chunk_long from len zero (d ∷ ds) c are there = subst IsLong (some_same d c there) are.2
-chunk_long from len (suc p) (d ∷ ds) c are there = chunk_long (d.first + length d.gone) len p ds c are.3 there
+chunk_long from len zero (d ∷ ds) c are there = subst IsLong (some_same d c there) are.1
+chunk_long from len (suc p) (d ∷ ds) c are there = chunk_long (d.first + d.span) len p ds c are.2 there
 
-first_from : (from len p : ℕ) (cs : List Chunk) (c : Chunk) → AreChunks from cs len → slice_get cs p ≡ Some c
+pub first_from : (from len p : ℕ) (cs : List Chunk) (c : Chunk) → AreChunks from cs len → slice_get cs p ≡ Some c
     → from ≤ c.first
 first_from from len p [] c are there = absurd (none-some c there)
 first_from from len zero (d ∷ ds) c are there = subst (λ x. from ≤ x.first) (some_same d c there) are.0
 first_from from len (suc p) (d ∷ ds) c are there =
-    let rest = first_from (d.first + length d.gone) len p ds c are.3 there in omega (arith, rest, are.0)
+    let rest = first_from (d.first + d.span) len p ds c are.2 there in omega (arith, rest, are.0)
 
--- of as many rows, from the same number on
+-- of the same numbers
 pub record IsInPlace (old new : Chunk) : Type 0 where
   pub first : new.first ≡ old.first
-  pub many : length new.gone ≡ length old.gone
+  pub span : new.span ≡ old.span
   pub long : IsLong new
 
 pub chunks_set :
@@ -151,57 +145,48 @@ chunks_set from len p [] old new are there is = are
 chunks_set from len zero (d ∷ ds) old new are there is =
     let same : d ≡ old = some_same d old there in
     let first : new.first ≡ d.first = is.first ∙ ap (λ x. x.first) (sym same) in
-    let many : length new.gone ≡ length d.gone = is.many ∙ ap (λ x. length x.gone) (sym same) in
-    let end : d.first + length d.gone ≡ new.first + length new.gone = omega (arith, first, many) in
-    (omega (arith, are.0, first), omega (arith, are.1, many), is.long, subst (λ e. AreChunks e ds len) end are.3)
-chunks_set from len (suc p) (d ∷ ds) old new are there is = (
-  are.0,
-  are.1,
-  are.2,
-  chunks_set (d.first + length d.gone) len p ds old new are.3 there is,
-)
+    let span : new.span ≡ d.span = is.span ∙ ap (λ x. x.span) (sym same) in
+    let end : d.first + d.span ≡ new.first + new.span = omega (arith, first, span) in
+    (omega (arith, are.0, first), is.long, subst (λ e. AreChunks e ds len) end are.2)
+chunks_set from len (suc p) (d ∷ ds) old new are there is =
+    (are.0, are.1, chunks_set (d.first + d.span) len p ds old new are.2 there is)
 
 -- The row of another number is what it was,
 pub row_other :
-    (p : ℕ) (cs : List Chunk) (old new : Chunk) (j n : ℕ) → slice_get cs p ≡ Some old → IsInPlace old new
-    → ((i : ℕ) → (i ≡ j → ⊥) → chunk_row new i ≡ chunk_row old i) → (n ≡ old.first + j → ⊥)
-    → row_in (slice_set cs p new) n ≡ row_in cs n
-row_other p [] old new j n there is same other = refl
-row_other zero (d ∷ ds) old new j n there is same other =
+    (p : ℕ) (cs : List Chunk) (old new : Chunk) (n : ℕ) → slice_get cs p ≡ Some old → IsInPlace old new
+    → number_row new n ≡ number_row old n → row_in (slice_set cs p new) n ≡ row_in cs n
+row_other p [] old new n there is same = refl
+row_other zero (d ∷ ds) old new n there is same =
     let P : Chunk → Type 0 = λ x. row_in (new ∷ ds) n ≡ row_in (x ∷ ds) n in
     let first = is.first in
-    let many = is.many in
+    let span = is.span in
     subst P (sym (some_same d old there))
     (elim (lt_or_le n old.first) [
       | inl before ↦ row_before new ds n (omega (arith, before, first)) ∙ sym (row_before old ds n before)
-      | inr from ↦ elim (lt_or_le n (old.first + length old.gone)) [
+      | inr from ↦ elim (lt_or_le n (old.first + old.span)) [
         | inl below ↦
-            let place : n - new.first ≡ n - old.first = ap (λ k. n - k) first in
-            row_within new ds n (omega (arith, from, first)) (omega (arith, below, first, many))
-            ∙ ap (chunk_row new) place
-            ∙ same (n - old.first) (λ e. other (omega (arith, e, from)))
-            ∙ sym (row_within old ds n from below)
-        | inr after ↦ row_after new ds n (omega (arith, after, first, many)) ∙ sym (row_after old ds n after)
+            row_within new ds n (omega (arith, from, first)) (omega (arith, below, first, span))
+            ∙ same ∙ sym (row_within old ds n from below)
+        | inr after ↦ row_after new ds n (omega (arith, after, first, span)) ∙ sym (row_after old ds n after)
       ]
     ])
-row_other (suc p) (d ∷ ds) old new j n there is same other =
-    row_rest d (slice_set ds p new) ds n (row_other p ds old new j n there is same other)
+row_other (suc p) (d ∷ ds) old new n there is same =
+    row_rest d (slice_set ds p new) ds n (row_other p ds old new n there is same)
 
 -- and that of this one is the new one.
 pub row_here :
     (from len p : ℕ) (cs : List Chunk) (old new : Chunk) (n : ℕ) → AreChunks from cs len → slice_get cs p ≡ Some old
-    → IsInPlace old new → old.first ≤ n → n < old.first + length old.gone
-    → row_in (slice_set cs p new) n ≡ chunk_row new (n - old.first)
+    → IsInPlace old new → old.first ≤ n → n < old.first + old.span
+    → row_in (slice_set cs p new) n ≡ number_row new n
 row_here from len p [] old new n are there is low high = absurd (none-some old there)
 row_here from len zero (d ∷ ds) old new n are there is low high =
     let first = is.first in
-    let many = is.many in
-    row_within new ds n (omega (arith, low, first)) (omega (arith, high, first, many))
-    ∙ ap (λ k. chunk_row new (n - k)) first
+    let span = is.span in
+    row_within new ds n (omega (arith, low, first)) (omega (arith, high, first, span))
 row_here from len (suc p) (d ∷ ds) old new n are there is low high =
-    let after = first_from (d.first + length d.gone) len p ds old are.3 there in
+    let after = first_from (d.first + d.span) len p ds old are.2 there in
     row_after d (slice_set ds p new) n (omega (arith, after, low))
-    ∙ row_here (d.first + length d.gone) len p ds old new n are.3 there is low high
+    ∙ row_here (d.first + d.span) len p ds old new n are.2 there is low high
 
 -- The chunk of a number is the last that begins at it or below.
 
@@ -217,8 +202,8 @@ at_point from len zero (d ∷ ds) c n are there low above =
     let P : Chunk → Type 0 = λ x. row_in (x ∷ ds) n ≡ row_in (c ∷ []) n in
     subst P (sym (some_same d c there)) (row_rest c ds [] n (at_none ds n above))
 at_point from len (suc p) (d ∷ ds) c n are there low above =
-    let after = first_from (d.first + length d.gone) len p ds c are.3 there in
-    row_after d ds n (omega (arith, after, low)) ∙ at_point (d.first + length d.gone) len p ds c n are.3 there low above
+    let after = first_from (d.first + d.span) len p ds c are.2 there in
+    row_after d ds n (omega (arith, after, low)) ∙ at_point (d.first + d.span) len p ds c n are.2 there low above
 
 -- Chunks without columns have no rows.
 
@@ -238,30 +223,30 @@ pub swept : (from len n : ℕ) (cs : List Chunk) → AreChunks from cs len
     → AreChunks from (filter has_columns cs) len × (row_in (filter has_columns cs) n ≡ row_in cs n)
 swept from len n [] are = (are, refl)
 swept from len n (c ∷ cs) are =
-    by (has_columns c) refl (swept (c.first + length c.gone) len n cs are.3)
+    by (has_columns c) refl (swept (c.first + c.span) len n cs are.2)
   where
-    dropped : has_columns c ≡ false → AreChunks (c.first + length c.gone) (filter has_columns cs) len
+    dropped : has_columns c ≡ false → AreChunks (c.first + c.span) (filter has_columns cs) len
         → row_in (filter has_columns cs) n ≡ row_in cs n → row_in (filter has_columns cs) n ≡ row_in (c ∷ cs) n
-    dropped is rest same = elim (lt_or_le n (c.first + length c.gone)) [
+    dropped is rest same = elim (lt_or_le n (c.first + c.span)) [
       | inr after ↦ same ∙ sym (row_after c cs n after)
       | inl below ↦
-          none_before (c.first + length c.gone) len n (filter has_columns cs) rest below
+          none_before (c.first + c.span) len n (filter has_columns cs) rest below
           ∙ sym (elim (lt_or_le n c.first) [
             | inl before ↦ row_before c cs n before
-            | inr low ↦ row_within c cs n low below ∙ no_columns c (n - c.first) (none_there c.columns is)
+            | inr low ↦ row_within c cs n low below ∙ no_columns c (place_in c.numbers n) (none_there c.columns is)
           ])
     ]
 
     by : (b : Bool) → has_columns c ≡ b
-        → AreChunks (c.first + length c.gone) (filter has_columns cs) len
+        → AreChunks (c.first + c.span) (filter has_columns cs) len
         × (row_in (filter has_columns cs) n ≡ row_in cs n)
         → AreChunks from (cond b (c ∷ filter has_columns cs) (filter has_columns cs)) len
         × (row_in (cond b (c ∷ filter has_columns cs) (filter has_columns cs)) n ≡ row_in (c ∷ cs) n)
     by true is rest = (
-      (are.0, are.1, are.2, rest.0),
+      (are.0, are.1, rest.0),
       row_rest c (filter has_columns cs) cs n rest.1,
     )
     by false is rest = (
-      chunks_from (c.first + length c.gone) from len (filter has_columns cs) rest.0 (omega (arith, are.0)),
+      chunks_from (c.first + c.span) from len (filter has_columns cs) rest.0 (omega (arith, are.0)),
       dropped is rest.0 rest.1,
     )

@@ -39,7 +39,7 @@ use Rattle.row_keys.specs.Batches.{AreAlike, HoldsCells, cells_in, layouts_in}
 use Rattle.row_keys.specs.Numbers.{Numbered, numbered}
 use Rattle.row_keys.specs.Slots.{live}
 use Rattle.row_keys.specs.Stored.{AreGiven, AreKeyed, HoldsRow, IsRight, joined}
-use Rattle.row_keys.proofs.Storing.{held_alike}
+use Rattle.row_keys.proofs.Storing.{held_alike, keyed_row}
 
 -- those of the columns from one on: what is left to say
 abbrev pub Rest : List CheckedColumn → ℕ → Type 0
@@ -99,5 +99,5 @@ rows_right t (r ∷ rs) (x ∷ xs) keyed given right =
         → All (IsRow t.columns) (if b then r ∷ live (joined rs xs) else live (joined rs xs))
     by true lives rest =
         let key = ap is_null keyed.0 ∙ given 0 x.key (ap (λ b. Some (numbered x.key b)) lives) in
-        All-cons (IsRow t.columns) r (live (joined rs xs)) (All-head (IsRight t) r rs right key) rest
+        All-cons (IsRow t.columns) r (live (joined rs xs)) (keyed_row t r (All-head (IsRight t) r rs right) key) rest
     by false lives rest = rest

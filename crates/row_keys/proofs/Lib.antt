@@ -36,8 +36,13 @@ mod CellsInPlace
 mod ListedItems
 mod KeptEntries
 mod KeptIndex
+mod RowPlaces
 mod Chunking
 mod ChunkedRows
+mod Merging
+mod Gathering
+mod Weighed
+mod Trees
 mod GoneRows
 mod TakenApart
 pub mod Emptied

@@ -1,34 +1,5 @@
 -- What a store keeps, call by call.
-use Rattle.std.proofs.Common.{
-  ◌≡◌,
-  ℕ,
-  zero,
-  suc,
-  ◌+◌,
-  ◌-◌,
-  ◌<◌,
-  ◌≤◌,
-  Bool,
-  true,
-  false,
-  List,
-  [],
-  ◌∷◌,
-  None,
-  Some,
-  All,
-  drop,
-  length,
-  take,
-  get_or,
-  refl,
-  ap,
-  sym,
-  subst,
-  ◌∙◌,
-  arith,
-  true≢false,
-}
+use Rattle.std.proofs.Common.{◌≡◌, inl, inr, ℕ, zero, suc, ◌+◌, ◌-◌, ◌<◌, ◌≤◌, Bool, true, false, List, [], ◌∷◌, None, Some, All, drop, length, take, get_or, refl, ap, sym, subst, ◌∙◌, arith, true≢false}
 use Rattle.std.specs.Prelude.{Option, MatchOption, if◌then◌else◌, slice_set}
 use Rattle.std.proofs.lemmas.List.{drop_all, drop_more}
 use Rattle.std.proofs.lemmas.List.Elements.{All-cons, All-get_or, All-head, All-tail, All-take}
@@ -258,6 +229,14 @@ row_joined (r ∷ rs) [] n d same below = absurd (omega (arith, same))
 row_joined (r ∷ rs) (x ∷ xs) zero d same below = refl
 row_joined (r ∷ rs) (x ∷ xs) (suc n) d same below = row_joined rs xs n d (omega (arith, same)) (omega (arith, below))
 
+no_key : (t : Table) → HasKey t [] → ⊥
+no_key t key = true≢false key
+
+-- a row with a key isn't gone
+pub keyed_row : (t : Table) (row : List Datum) → IsRight t row → HasKey t row → IsRow t.columns row
+keyed_row t row (inl gone) key = absurd (no_key t (subst (HasKey t) gone key))
+keyed_row t row (inr is) key = is
+
 -- a row where it lies
 pub row_lies :
     (t : Table) (stored : List (List Datum)) (xs : List Numbered) (n : ℕ) (row : List Datum) → IsStored t stored xs
@@ -268,7 +247,7 @@ row_lies t stored xs n row is below read =
     let all = keyed_length t stored xs is.keyed in
     let P : List Datum → Type 0 = λ r. IsRight t r in (
       read ∙ sym (row_joined stored xs n [] all.0 within),
-      subst P (sym read) (All-get_or (IsRight t) stored n [] within is.right),
+      keyed_row t row (subst P (sym read) (All-get_or (IsRight t) stored n [] within is.right)),
     )
 
 pub held_alike : (ts us : Roses Layout) (ds : List Datum) → AreAlike ts us → HoldsEach us (items_of ds)
@@ -289,14 +268,11 @@ live_joined (r ∷ rs) (x ∷ xs) (suc n) below = live_joined rs xs n (omega (ar
 
 -- A row that isn't live is gone.
 
-no_key : (t : Table) → HasKey t [] → ⊥
-no_key t key = true≢false key
-
 right_gone : (t : Table) (rows : List (List Datum)) (n : ℕ) → All (IsRight t) rows
     → All (IsRight t) (slice_set rows n [])
 right_gone t [] n right = right
 right_gone t (r ∷ rs) zero right =
-    All-cons (IsRight t) [] rs (λ key. absurd (no_key t key)) (All-tail (IsRight t) r rs right)
+    All-cons (IsRight t) [] rs (inl refl) (All-tail (IsRight t) r rs right)
 right_gone t (r ∷ rs) (suc n) right =
     All-cons (IsRight t) r (slice_set rs n []) (All-head (IsRight t) r rs right)
     (right_gone t rs n (All-tail (IsRight t) r rs right))

@@ -2,6 +2,7 @@ pub mod FaultCauses
 pub mod Slots
 pub mod Listed
 pub mod Chunks
+pub mod RowsLeft
 pub mod Numbered
 pub mod NumberLaws
 pub mod Store

@@ -1,5 +1,5 @@
 -- How rows are stored: their cells, and the keys under which they are numbered.
-use Rattle.std.specs.Prelude.{◌≡◌, ℕ, ◌≤◌, true, false, All, List, [], ◌∷◌, if◌then◌else◌}
+use Rattle.std.specs.Prelude.{◌≡◌, ◌⊎◌, ℕ, ◌≤◌, true, false, All, List, [], ◌∷◌, if◌then◌else◌}
 use Rattle.values.specs.Datum.{Datum, items_of, is_null}
 use Rattle.values.specs.Keys.{datum_of_key}
 use Rattle.values.specs.Layouts.{HoldsEach}
@@ -10,7 +10,7 @@ use Rattle.view_lang.specs.Contents.{key_in}
 use Rattle.view_lang.specs.Rows.{IsRow}
 use Rattle.view_lang.specs.TableRules.{IsTable}
 use Rattle.row_keys.specs.Numbers.{IsAt, Numbered, live_count}
-use Rattle.row_keys.specs.Slots.{HasKey, Slot, slot}
+use Rattle.row_keys.specs.Slots.{Slot, slot}
 
 -- the rows, each live or retracted
 abbrev pub joined : List (List Datum) → List Numbered → List Slot
@@ -33,7 +33,7 @@ HoldsRow t row = HoldsEach (layouts_of t) (items_of row)
 
 -- a row of the table, unless it is gone
 abbrev pub IsRight : Table → List Datum → Type 0
-IsRight t row = HasKey t row → IsRow t.columns row
+IsRight t row = (row ≡ []) ⊎ IsRow t.columns row
 
 -- The keys of live rows aren't null.
 abbrev pub AreGiven : List Numbered → Type 0

@@ -6,7 +6,7 @@ ghost use Rattle.row_keys.specs.Parts.{AreNumbered, numbers_in, retracted_in};
 ghost use Rattle.row_keys.specs.Stored.{AreGiven};
 
 use crate::numbers::Numbers;
-use crate::stored_rows::StoredChunk;
+use crate::stored_chunk::StoredChunk;
 use std::alloc::{AllocError, Global};
 use values::Key;
 use view_lang::Table;

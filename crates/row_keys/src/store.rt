@@ -75,6 +75,7 @@ ghost use Rattle.row_keys.specs.Store.{
 use crate::batches::keep_rows;
 use crate::faults::EditFault;
 use crate::key_columns::{find_batch, find_keys, push_batch, push_keys};
+use crate::layouts::table_layouts;
 use crate::numbers::Numbers;
 use crate::parts::{StoreParts, make_numbers, renumbered};
 use crate::stored_row::{StoredRow, Visit};
@@ -219,10 +220,8 @@ impl RowStore {
         self.numbers.find(key)
     }
 
-    /// Adds the `rows` rows of a batch after all rows. The error is the first cause for which they don't fit: a null
-    /// key, a key that stands twice or is live, too many rows, a cell or a row that is too heavy; or it is `Memory`. On
-    /// an error nothing has changed.
-    pub fn append(&mut self, columns: Vec<Column>, rows: usize) -> Result<(), EditFault>
+    /// Adds the rows of a batch as `append` does, in a chunk of their own.
+    fn add_batch(&mut self, columns: Vec<Column>, rows: usize) -> Result<(), EditFault>
         requires { IsBatch self.old.table rows columns.items }
         ensures contents { OnOk result
             (contents_of self.new.slots ≡ applied self.old.table (append (batch_rows rows columns.items))
@@ -253,6 +252,30 @@ impl RowStore {
         }
     }
 
+    /// Adds the `rows` rows of a batch after all rows. The error is the first cause for which they don't fit: a null
+    /// key, a key that stands twice or is live, too many rows, a cell or a row that is too heavy; or it is `Memory`. On
+    /// an error nothing has changed.
+    pub fn append(&mut self, columns: Vec<Column>, rows: usize) -> Result<(), EditFault>
+        requires { IsBatch self.old.table rows columns.items }
+        ensures contents { OnOk result
+            (contents_of self.new.slots ≡ applied self.old.table (append (batch_rows rows columns.items))
+            (contents_of self.old.slots)) }
+        ensures fits { OnOk result
+            (cause_of self.old.table (contents_of self.old.slots) (append (batch_rows rows columns.items)) ≡ None) }
+        ensures refused { IfErr result
+            (Refuses (cause_of self.old.table (contents_of self.old.slots) (append (batch_rows rows columns.items)))) }
+        ensures can_go_back { OnOk result (CanTakeBack rows self.new.slots) }
+        ensures back { OnOk result (taken_back rows self.new.slots ≡ self.old.slots) }
+        ensures slots { OnOk result
+            (self.new.slots ≡ self.old.slots ++ map new_slot (batch_rows rows columns.items)) }
+        ensures rest { self.new ≡ with_slots self.old self.new.slots }
+        ensures unchanged { OnErr result (self.new.slots ≡ self.old.slots) }
+    {
+        self.add_batch(columns, rows)?;
+        self.merge_last();
+        Ok(())
+    }
+
     /// Removes the last `count` rows, as an append is undone, and frees their numbers. It takes no memory.
     pub fn take_back(&mut self, count: usize)
         requires { CanTakeBack count self.old.slots }
@@ -281,6 +304,7 @@ impl RowStore {
         for number in numbers {
             self.release_row(*number);
         }
+        self.renew_all(numbers);
         self.tidy();
     }
 
@@ -294,6 +318,39 @@ impl RowStore {
         }
         if let Ok(numbers) = renumbered(self.alloc, &self.numbers) {
             self.numbers = numbers;
+        }
+    }
+
+    /// Merges the last chunks of rows where they are small. Where memory for it is refused, they stay.
+    fn merge_last(&mut self)
+        ensures { self.new ≡ self.old }
+    {
+        if !self.rows.is_scattered() {
+            return;
+        }
+        if let Ok(layouts) = table_layouts(self.alloc, &self.table) {
+            self.rows.merge_last(&layouts);
+        }
+    }
+
+    /// Writes the chunk of this number anew where few of its rows are left. Where memory for it is refused, it stays.
+    fn renew(&mut self, number: usize)
+        ensures { self.new ≡ self.old }
+    {
+        if !self.rows.is_thin_at(number) {
+            return;
+        }
+        if let Ok(layouts) = table_layouts(self.alloc, &self.table) {
+            self.rows.renew(&layouts, number);
+        }
+    }
+
+    /// Writes the chunks of these numbers anew of which few rows are left.
+    fn renew_all(&mut self, numbers: &[usize])
+        ensures { self.new ≡ self.old }
+    {
+        for number in numbers {
+            self.renew(*number);
         }
     }
 

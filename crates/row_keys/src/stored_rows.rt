@@ -6,9 +6,10 @@ ghost use Rattle.std.specs.Prelude.{
   ◌<◌,
   ◌≤◌,
   ◌++◌,
+  ◌∷◌,
   [],
   All,
-  IfOk,
+  drop,
   MatchOption,
   OnErr,
   OnOk,
@@ -17,55 +18,47 @@ ghost use Rattle.std.specs.Prelude.{
   get_or,
   length,
   nat_le,
-  replicate,
   slice_set,
   take,
   true,
 };
 ghost use Rattle.std.specs.List.Sorted.{IsPartitionPoint};
+ghost use Rattle.values.specs.Layouts.{AreLayouts};
+ghost use Rattle.values.specs.Limits.{max_fields};
+ghost use Rattle.values.specs.Rose.{kids_of, roses_size};
 ghost use Rattle.row_keys.specs.Batches.{batch_rows};
 ghost use Rattle.row_keys.specs.Chunks.{
   AreChunks,
   EndsAbove,
   IsCut,
-  IsLong,
+  LiesAt,
   LiesIn,
-  Releases,
   ReleasesAt,
-  chunk_row,
   has_columns,
   row_in,
-  shortened,
   stored_rows,
 };
+ghost use Rattle.row_keys.specs.RowsLeft.{IsHeld};
 
+use crate::rewriting::merge;
+use crate::stored_chunk::{StoredChunk, flags, index_of, release_in, row_of, shorten};
 use crate::stored_row::StoredRow;
 use arrays::Column;
+use column_writer::Batch;
 use std::alloc::{AllocError, Global};
 use std::marker::Model;
+use values::LayoutTree;
 
-/// Rows one after the other: the checked columns in which they lie, the number of the first, and which of them are
-/// gone. Where all are gone there are no columns.
-///
-/// Contracts see a `Chunk`.
-#[derive(Drop)]
-pub struct StoredChunk {
-    pub first: usize,
-    pub columns: Vec<Column>,
-    pub gone: Vec<bool>,
-    /// How many rows aren't gone, at most.
-    pub left: usize,
-}
+/// How many chunks are merged at once.
+const MERGED_CHUNKS: usize = 16;
 
-impl Model for StoredChunk {
-    ghost use Rattle.row_keys.specs.Chunks.{Chunk, chunk, chunk_code};
+/// Chunks with fewer rows are merged with others of as few, and those that come of it once more.
+const SMALL_CHUNK: usize = 16;
 
-    ghost Value = { Chunk };
+const MEDIUM_CHUNK: usize = 64;
 
-    ghost coded = { chunk_code };
-
-    ghost view = { λ c. chunk c.first c.columns.items c.gone.items };
-}
+/// A chunk of which few rows are left is written anew with the one beside it, where both have no more than this many.
+const JOINED_ROWS: usize = 256;
 
 /// The rows of all numbers: those that are gone have no cells.
 ///
@@ -95,15 +88,6 @@ impl Model for StoredRows {
     ghost invariant = { λ s. AreChunks 0 s.chunks.items s.len };
 }
 
-/// Flags of `rows` rows of which none is gone.
-fn flags(alloc: Global, rows: usize) -> Result<Vec<bool>, AllocError>
-    ensures { IfOk result (λ flags. flags.items ≡ replicate rows false) }
-{
-    let mut flags = Vec::new(alloc);
-    flags.resize(rows, false)?;
-    Ok(flags)
-}
-
 /// How many chunks begin at this number or below it.
 fn count_from(chunks: &[StoredChunk], number: usize) -> usize
     requires { (len : ℕ) × AreChunks 0 chunks.now len }
@@ -125,60 +109,116 @@ fn chunk_of(chunks: &[StoredChunk], number: usize) -> Option<usize>
 {
     let place = count_from(chunks, number).checked_sub(1)?;
     let chunk = &chunks[place];
-    if number - chunk.first < chunk.gone.len() {
+    if number - chunk.first < chunk.span {
         Some(place)
     } else {
         None
     }
 }
 
-/// Row `index` of a chunk: without cells where it is gone.
-fn row_of(chunk: &StoredChunk, index: usize) -> StoredRow<'_>
-    requires within { index < length chunk.now.gone }
-    requires long { IsLong chunk.now }
-    ensures { result ≡ chunk_row chunk.now index }
-{
-    if chunk.gone[index] {
-        return StoredRow::new(&[], 0);
-    }
-    StoredRow::new(&chunk.columns, index)
+/// Where the row of a number lies: the place of its chunk, and its index there.
+#[derive(Clone, Copy, Debug)]
+struct Location {
+    chunk: usize,
+    index: usize,
 }
 
-/// Whether all rows are gone.
-fn are_gone(gone: &[bool]) -> bool
-    ensures { result ≡ true → All (λ g. g ≡ true) gone.now }
+/// Where the row of this number lies, if it is kept.
+fn locate(chunks: &[StoredChunk], number: usize) -> Option<Location>
+    requires { (len : ℕ) × AreChunks 0 chunks.now len }
+    ensures { MatchOption result (row_in chunks.now number ≡ []) (λ at. LiesAt chunks.now number at.chunk at.index) }
 {
-    for one in gone {
-        if !*one {
+    let place = chunk_of(chunks, number)?;
+    let index = index_of(&chunks[place], number)?;
+    Some(Location {
+        chunk: place,
+        index,
+    })
+}
+
+/// Releases row `index` of the chunk at this place. It returns whether the chunk's columns went.
+fn release_at(alloc: Global, chunks: &mut Vec<StoredChunk>, place: usize, index: usize) -> bool
+    requires { (number : ℕ) × LiesAt chunks.old.items number place index }
+    ensures { ReleasesAt chunks.old.items place index chunks.new.items }
+{
+    release_in(alloc, &mut chunks[place], index)
+}
+
+/// Puts one chunk in the place of another.
+fn put_chunk(place: &mut StoredChunk, chunk: StoredChunk)
+    ensures { place.new ≡ chunk }
+{
+    *place = chunk;
+}
+
+/// Puts one chunk in the place of those from place `from` up to, and without, place `to`.
+fn replace(chunks: &mut Vec<StoredChunk>, from: usize, to: usize, chunk: StoredChunk)
+    requires order { from < to }
+    requires within { to ≤ length chunks.old.items }
+    ensures { chunks.new.items ≡ take from chunks.old.items ++ chunk ∷ drop to chunks.old.items }
+{
+    let mut last = to - 1;
+    while last > from {
+        chunks.remove(last);
+        last -= 1;
+    }
+    put_chunk(&mut chunks[from], chunk);
+}
+
+/// Whether the last chunks, as many as are merged at once, have few rows each.
+fn end_small(chunks: &[StoredChunk], rows: usize) -> bool
+    ensures { result ≡ true → 16 ≤ length chunks.now }
+{
+    if chunks.len() < MERGED_CHUNKS {
+        return false;
+    }
+    for chunk in &chunks[chunks.len() - MERGED_CHUNKS..] {
+        if chunk.gone.len() >= rows {
             return false;
         }
     }
     true
 }
 
-/// Releases row `index` of a chunk, and with the last one its columns. It returns whether these went.
-fn release_in(alloc: Global, chunk: &mut StoredChunk, index: usize) -> bool
-    requires { index < length chunk.old.gone }
-    ensures { Releases chunk.old index chunk.new }
-{
-    if !chunk.gone[index] {
-        chunk.left = chunk.left.saturating_sub(1);
-    }
-    chunk.gone[index] = true;
-    if chunk.left > 0 || !are_gone(&chunk.gone) {
-        return false;
-    }
-    chunk.columns = Vec::new(alloc);
-    true
+/// Whether fewer rows of this chunk are left than are worth its memory.
+fn is_thin(chunk: &StoredChunk) -> bool {
+    chunk.left < chunk.enough
 }
 
-/// Releases the row of a number that lies in the chunk at this place. It returns whether the chunk's columns went.
-fn release_at(alloc: Global, chunks: &mut Vec<StoredChunk>, place: usize, number: usize) -> bool
-    requires { LiesIn chunks.old.items number place }
-    ensures { ReleasesAt chunks.old.items place number chunks.new.items }
+/// Waits with writing a chunk anew until half of its rows are left, where it couldn't be done.
+fn ease(chunk: &mut StoredChunk)
+    ensures { chunk.new ≡ chunk.old }
 {
-    let index = number - chunks[place].first;
-    release_in(alloc, &mut chunks[place], index)
+    if chunk.left < chunk.enough {
+        chunk.enough = chunk.left / 2;
+    }
+}
+
+/// Whether a chunk is written anew together with the one beside it, which has no more than twice as many rows.
+fn joins(beside: &StoredChunk, chunk: &StoredChunk) -> bool {
+    beside.left > 0
+        && beside.left / 2 <= chunk.left
+        && beside.left.saturating_add(chunk.left) <= JOINED_ROWS
+}
+
+/// The chunks that are written anew with the one at this place: from which one on, and up to which one.
+fn joined(chunks: &[StoredChunk], place: usize) -> (usize, usize)
+    requires { place < length chunks.now }
+{
+    let chunk = &chunks[place];
+    if place > 0 {
+        let before = &chunks[place - 1];
+        if joins(before, chunk) {
+            return (place - 1, place + 1);
+        }
+    }
+    if place + 1 < chunks.len() {
+        let after = &chunks[place + 1];
+        if joins(after, chunk) {
+            return (place, place + 2);
+        }
+    }
+    (place, place + 1)
 }
 
 /// Removes the chunks without columns.
@@ -188,7 +228,7 @@ fn sweep(chunks: &mut Vec<StoredChunk>)
     chunks.retain(
         |chunk: &StoredChunk| -> bool
             ensures { result ≡ has_columns chunk.now }
-        { !chunk.columns.is_empty() },
+        { !chunk.batch.columns.is_empty() },
     );
 }
 
@@ -200,15 +240,6 @@ fn ends_above(chunks: &[StoredChunk], len: usize) -> bool
         Some(chunk) => chunk.first >= len,
         None => false,
     }
-}
-
-/// Forgets the rows of a chunk from this number on.
-fn shorten(chunk: &mut StoredChunk, len: usize)
-    requires { chunk.old.first < len }
-    ensures { chunk.new ≡ shortened len chunk.old }
-{
-    let rows = len - chunk.first;
-    chunk.gone.truncate(rows);
 }
 
 /// Forgets the rows from this number on.
@@ -277,9 +308,12 @@ impl StoredRows {
         let gone = flags(self.alloc, rows)?;
         self.chunks.push(StoredChunk {
             first: self.len,
-            columns,
+            span: rows,
+            numbers: Vec::new(self.alloc),
+            batch: Batch { columns, rows },
             gone,
             left: rows,
+            enough: rows / 2,
         })?;
         self.len = len;
         Ok(())
@@ -299,10 +333,10 @@ impl StoredRows {
     pub(crate) fn release(&mut self, number: usize)
         ensures { self.new ≡ slice_set self.old number [] }
     {
-        let Some(place) = chunk_of(&self.chunks, number) else {
+        let Some(at) = locate(&self.chunks, number) else {
             return;
         };
-        if release_at(self.alloc, &mut self.chunks, place, number) {
+        if release_at(self.alloc, &mut self.chunks, at.chunk, at.index) {
             self.spent = self.spent.saturating_add(1);
         }
     }
@@ -317,14 +351,93 @@ impl StoredRows {
         }
     }
 
+    /// Writes the chunks from place `from` up to, and without, place `to` anew as one, if it takes no more memory than
+    /// they do. Where memory for it is refused, they stay.
+    fn rewrite(&mut self, layouts: &[LayoutTree], from: usize, to: usize)
+        requires held { All (IsHeld (kids_of layouts.now)) self.old }
+        requires narrow { roses_size (kids_of layouts.now) ≤ max_fields }
+        requires layouts { AreLayouts (kids_of layouts.now) }
+        ensures { self.new ≡ self.old }
+    {
+        if from >= to || to > self.chunks.len() {
+            return;
+        }
+        if let Ok(Some(chunk)) = merge(self.alloc, layouts, &self.chunks[from..to]) {
+            replace(&mut self.chunks, from, to, chunk);
+        }
+    }
+
+    /// Whether the last chunks are so small that they are merged.
+    pub(crate) fn is_scattered(&self) -> bool {
+        end_small(&self.chunks, MEDIUM_CHUNK)
+    }
+
+    /// Merges the last chunks where each has fewer than so many rows.
+    fn merge_small(&mut self, layouts: &[LayoutTree], rows: usize)
+        requires held { All (IsHeld (kids_of layouts.now)) self.old }
+        requires narrow { roses_size (kids_of layouts.now) ≤ max_fields }
+        requires layouts { AreLayouts (kids_of layouts.now) }
+        ensures { self.new ≡ self.old }
+    {
+        if end_small(&self.chunks, rows) {
+            let len = self.chunks.len();
+            self.rewrite(layouts, len - MERGED_CHUNKS, len);
+        }
+    }
+
+    /// Merges the last chunks where they are small.
+    pub(crate) fn merge_last(&mut self, layouts: &[LayoutTree])
+        requires held { All (IsHeld (kids_of layouts.now)) self.old }
+        requires narrow { roses_size (kids_of layouts.now) ≤ max_fields }
+        requires layouts { AreLayouts (kids_of layouts.now) }
+        ensures { self.new ≡ self.old }
+    {
+        self.merge_small(layouts, SMALL_CHUNK);
+        self.merge_small(layouts, MEDIUM_CHUNK);
+    }
+
+    /// Whether few rows are left of the chunk in which this number lies.
+    pub(crate) fn is_thin_at(&self, number: usize) -> bool {
+        match chunk_of(&self.chunks, number) {
+            Some(place) => is_thin(&self.chunks[place]),
+            None => false,
+        }
+    }
+
+    /// Waits with writing the chunk of this number anew, where it is thin still.
+    fn ease_at(&mut self, number: usize)
+        ensures { self.new ≡ self.old }
+    {
+        if let Some(place) = chunk_of(&self.chunks, number) {
+            ease(&mut self.chunks[place]);
+        }
+    }
+
+    /// Writes the chunk of this number anew where few of its rows are left, with the one beside it if that is small too.
+    pub(crate) fn renew(&mut self, layouts: &[LayoutTree], number: usize)
+        requires held { All (IsHeld (kids_of layouts.now)) self.old }
+        requires narrow { roses_size (kids_of layouts.now) ≤ max_fields }
+        requires layouts { AreLayouts (kids_of layouts.now) }
+        ensures { self.new ≡ self.old }
+    {
+        let Some(place) = chunk_of(&self.chunks, number) else {
+            return;
+        };
+        if !is_thin(&self.chunks[place]) {
+            return;
+        }
+        let (from, to) = joined(&self.chunks, place);
+        self.rewrite(layouts, from, to);
+        self.ease_at(number);
+    }
+
     /// The row of this number: without cells where it is gone, or never came.
     pub(crate) fn row(&self, number: usize) -> StoredRow<'_>
         ensures { result ≡ get_or self.now number [] }
     {
-        let Some(place) = chunk_of(&self.chunks, number) else {
+        let Some(at) = locate(&self.chunks, number) else {
             return StoredRow::new(&[], 0);
         };
-        let chunk = &self.chunks[place];
-        row_of(chunk, number - chunk.first)
+        row_of(&self.chunks[at.chunk], at.index)
     }
 }

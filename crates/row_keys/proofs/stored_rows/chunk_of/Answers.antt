@@ -24,12 +24,11 @@ returns-then-number-chunk c =
     let there = chunk_read c.args.chunks.now c.in_ok-place.place c.index-chunks-place.result c.index-chunks-place.is
     below in
     let first = ap (λ (x : Chunk). x.first) c.chunk.view_is in
-    let many = ap (λ (x : Chunk). length x.gone) c.chunk.view_is in
+    let many = ap (λ (x : Chunk). x.span) c.chunk.view_is in
     let inside = c.if-number-chunk.true in
-    let long = c.len.ensures in
     lies_in c.args.chunks.now c.requires.0 c.args.number c.count_from.result c.in_ok-place.place
     c.index-chunks-place.result c.requires.1 c.count_from.ensures.parted next there
-    (omega (arith, first, many, inside, long))
+    (omega (arith, first, many, inside))
 
 pub returns-else-number-chunk : goal.returns-else-number-chunk
 returns-else-number-chunk c =
@@ -40,9 +39,8 @@ returns-else-number-chunk c =
     let there = chunk_read c.args.chunks.now c.in_ok-place.place c.index-chunks-place.result c.index-chunks-place.is
     below in
     let first = ap (λ (x : Chunk). x.first) c.chunk.view_is in
-    let many = ap (λ (x : Chunk). length x.gone) c.chunk.view_is in
+    let many = ap (λ (x : Chunk). x.span) c.chunk.view_is in
     let past = c.if-number-chunk.false in
-    let long = c.len.ensures in
     lies_past c.args.chunks.now c.requires.0 c.args.number c.count_from.result c.in_ok-place.place
     c.index-chunks-place.result c.requires.1 c.count_from.ensures.parted next there
-    (omega (arith, first, many, past, long))
+    (omega (arith, first, many, past))

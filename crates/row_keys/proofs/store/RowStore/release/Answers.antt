@@ -17,6 +17,6 @@ loop-number-preserved c =
 
 pub returns : goal.returns
 returns c =
-    c.tidy.ensures
+    c.tidy.ensures ∙ c.renew_all.ensures
     ∙ left_none c.args.self.now c.loop-number.self c.args.numbers.now c.loop-number.number-index
     c.loop-number.invariant c.loop-number-test.false

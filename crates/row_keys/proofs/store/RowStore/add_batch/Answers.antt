@@ -19,7 +19,7 @@ use Rattle.row_keys.proofs.Appending.{
   stored_appended,
 }
 use Rattle.row_keys.proofs.Joining.{world_added}
-use Rattle.row_keys.proofs.store.RowStore.append.Goals as goal
+use Rattle.row_keys.proofs.store.RowStore.add_batch.Goals as goal
 
 pub returns-in-Err-clause-refused : goal.returns-in-Err-clause-refused
 returns-in-Err-clause-refused c =

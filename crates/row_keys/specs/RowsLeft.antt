@@ -1,0 +1,64 @@
+-- The rows of chunks that are left, with their numbers, and a chunk that is made of them.
+use Rattle.std.specs.Prelude.{◌≡◌, ◌⊎◌, ℕ, ◌+◌, ◌-◌, ◌^◌, ◌<◌, ◌≤◌, Bool, false, if◌then◌else◌, All, List, [], ◌∷◌, length, replicate}
+use Rattle.std.specs.List.{flat_map}
+use Rattle.values.specs.Datum.{Datum, items_of}
+use Rattle.values.specs.Layouts.{HoldsEach}
+use Rattle.values.specs.Rose.{Roses}
+use Rattle.values.specs.declared.layout.Layout.{Layout}
+use Rattle.row_keys.specs.Batches.{batch_rows}
+use Rattle.row_keys.specs.Chunks.{AreChunks, Chunk, IsLong, row_in}
+
+-- the items whose flags aren't set
+abbrev pub unflagged : {X : Type 0} → List Bool → List X → List X
+unflagged [] xs = []
+unflagged (g ∷ gs) [] = []
+unflagged (g ∷ gs) (x ∷ xs) = if g then unflagged gs xs else x ∷ unflagged gs xs
+
+abbrev pub numbers_left : Chunk → List ℕ
+numbers_left c = unflagged c.gone c.numbers
+
+abbrev pub rows_left : Chunk → List (List Datum)
+rows_left c = unflagged c.gone (batch_rows c.rows c.columns)
+
+-- those of several chunks
+
+abbrev pub all_numbers : List Chunk → List ℕ
+all_numbers cs = flat_map numbers_left cs
+
+abbrev pub all_rows : List Chunk → List (List Datum)
+all_rows cs = flat_map rows_left cs
+
+-- a row that is gone, or one that columns of these layouts hold
+abbrev pub IsHeld : Roses Layout → List Datum → Type 0
+IsHeld ls row = (row ≡ []) ⊎ HoldsEach ls (items_of row)
+
+-- what is above the last number of some chunks, where `from` is above those before them
+abbrev pub end_of : ℕ → List Chunk → ℕ
+end_of from [] = from
+end_of from (c ∷ cs) = end_of (c.first + c.span) cs
+
+-- a chunk of these rows under these numbers, of which none is gone
+pub record IsMade (numbers : List ℕ) (rows : List (List Datum)) (c : Chunk) : Type 0 where
+  pub numbers_are : c.numbers ≡ numbers
+  pub gone : c.gone ≡ replicate (length numbers) false
+  pub many : c.rows ≡ length numbers
+  pub long : All (λ k. length k.cells ≡ length numbers) c.columns
+  pub rows_are : batch_rows (length numbers) c.columns ≡ rows
+
+-- a chunk with the rows of these, which come after number `from` or with it
+pub record IsMerged (from : ℕ) (old : List Chunk) (new : Chunk) : Type 0 where
+  pub first : from ≤ new.first
+  pub long : IsLong new
+  pub end : new.first + new.span ≡ end_of from old
+  pub rows : (n : ℕ) → row_in (new ∷ []) n ≡ row_in old n
+
+-- chunks one after the other, whose numbers are those of a machine
+abbrev pub IsPart : List Chunk → Type 0
+IsPart cs = (from : ℕ) × (len : ℕ) × AreChunks from cs len × (len < 2 ^ 64)
+
+abbrev pub IsWide : ℕ → Chunk → Type 0
+IsWide w c = length c.columns ≡ w
+
+-- w is at least so much, unless it is the greatest number
+abbrev pub Bounds : ℕ → ℕ → Type 0
+Bounds w n = w < 2 ^ 64 - 1 → n ≤ w

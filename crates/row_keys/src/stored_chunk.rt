@@ -1,0 +1,191 @@
+//! Chunks of stored rows.
+
+ghost use Rattle.std.specs.Prelude.{
+  ◌≡◌,
+  ◌<◌,
+  ◌≤◌,
+  All,
+  IfOk,
+  MatchOption,
+  false,
+  length,
+  min,
+  nat_lt,
+  replicate,
+  true,
+  ℕ,
+};
+ghost use Rattle.row_keys.specs.Chunks.{
+  AreBelow,
+  AreRising,
+  IsLong,
+  IsNoneOf,
+  IsPlaceOf,
+  IsShortened,
+  Releases,
+  chunk_row,
+  in_turn,
+  numbers_by,
+};
+
+use crate::stored_row::StoredRow;
+use column_writer::Batch;
+use std::alloc::{AllocError, Global};
+use std::marker::Model;
+
+/// Some rows in the order of their numbers: the checked columns in which they lie, and which of them are gone. Where all
+/// are gone there are no columns.
+///
+/// Contracts see a `Chunk`.
+#[derive(Drop)]
+pub struct StoredChunk {
+    /// The least number that a row of the chunk may have.
+    pub first: usize,
+    /// How many numbers from that on are the chunk's. A row has none where one of them isn't kept.
+    pub span: usize,
+    /// The numbers of the rows; none where they follow one another from the first on.
+    pub numbers: Vec<usize>,
+    /// A row more may lie in the columns than there are flags: those that were taken back.
+    pub batch: Batch,
+    pub gone: Vec<bool>,
+    /// How many rows aren't gone, at most.
+    pub left: usize,
+    /// With fewer rows left, the chunk is written anew.
+    pub enough: usize,
+}
+
+impl Model for StoredChunk {
+    ghost use Rattle.std.specs.Prelude.{length};
+    ghost use Rattle.row_keys.specs.Chunks.{Chunk, chunk, chunk_code, numbers_by};
+
+    ghost Value = { Chunk };
+
+    ghost coded = { chunk_code };
+
+    ghost view = { λ c. chunk c.first c.span (numbers_by c.numbers.items c.first (length c.gone.items)) c.batch.rows
+        c.batch.columns.items c.gone.items };
+}
+
+/// Flags of `rows` rows of which none is gone.
+pub(crate) fn flags(alloc: Global, rows: usize) -> Result<Vec<bool>, AllocError>
+    ensures { IfOk result (λ flags. flags.items ≡ replicate rows false) }
+{
+    let mut flags = Vec::new(alloc);
+    flags.resize(rows, false)?;
+    Ok(flags)
+}
+
+/// How many of these numbers are below this one.
+fn count_below(numbers: &[usize], number: usize) -> usize
+    requires { (from : ℕ) × (end : ℕ) × AreRising from numbers.now end }
+    ensures { AreBelow number numbers.now result }
+{
+    numbers.partition_point(
+        |one: &usize| -> bool
+            ensures { result ≡ nat_lt one.now number }
+        { *one < number },
+    )
+}
+
+/// The place of a number among these.
+fn place_among(numbers: &[usize], number: usize) -> Option<usize>
+    requires { (from : ℕ) × (end : ℕ) × AreRising from numbers.now end }
+    ensures { MatchOption result (IsNoneOf numbers.now number) (IsPlaceOf numbers.now number) }
+{
+    let place = count_below(numbers, number);
+    match numbers.get(place) {
+        Some(one) => { if *one == number { Some(place) } else { None } }
+        None => None,
+    }
+}
+
+/// The place of a number among `count` that follow one another.
+fn place_in_turn(first: usize, count: usize, number: usize) -> Option<usize>
+    ensures { MatchOption result (IsNoneOf (in_turn first count) number) (IsPlaceOf (in_turn first count) number) }
+{
+    if number < first || number - first >= count {
+        return None;
+    }
+    Some(number - first)
+}
+
+/// The index of the row of this number in a chunk, if it has one.
+pub(crate) fn index_of(chunk: &StoredChunk, number: usize) -> Option<usize>
+    requires { IsLong chunk.now }
+    ensures { MatchOption result (IsNoneOf chunk.now.numbers number) (IsPlaceOf chunk.now.numbers number) }
+{
+    if chunk.numbers.is_empty() {
+        return place_in_turn(chunk.first, chunk.gone.len(), number);
+    }
+    place_among(&chunk.numbers, number)
+}
+
+/// Row `index` of a chunk: without cells where it is gone.
+pub(crate) fn row_of(chunk: &StoredChunk, index: usize) -> StoredRow<'_>
+    requires within { index < length chunk.now.gone }
+    requires long { IsLong chunk.now }
+    ensures { result ≡ chunk_row chunk.now index }
+{
+    if chunk.gone[index] {
+        return StoredRow::new(&[], 0);
+    }
+    StoredRow::new(&chunk.batch.columns, index)
+}
+
+/// Whether all rows are gone.
+fn are_gone(gone: &[bool]) -> bool
+    ensures { result ≡ true → All (λ g. g ≡ true) gone.now }
+{
+    for one in gone {
+        if !*one {
+            return false;
+        }
+    }
+    true
+}
+
+/// Releases row `index` of a chunk, and with the last one its columns. It returns whether these went.
+pub(crate) fn release_in(alloc: Global, chunk: &mut StoredChunk, index: usize) -> bool
+    requires { index < length chunk.old.gone }
+    ensures { Releases chunk.old index chunk.new }
+{
+    if !chunk.gone[index] {
+        chunk.left = chunk.left.saturating_sub(1);
+    }
+    chunk.gone[index] = true;
+    if chunk.left > 0 || !are_gone(&chunk.gone) {
+        return false;
+    }
+    chunk.batch.columns = Vec::new(alloc);
+    true
+}
+
+/// How many of `count` numbers that follow one another are below this one.
+fn count_in_turn(first: usize, count: usize, number: usize) -> usize
+    ensures { AreBelow number (in_turn first count) result }
+{
+    number.saturating_sub(first).min(count)
+}
+
+/// How many rows of a chunk have numbers below this one.
+fn rows_below(chunk: &StoredChunk, number: usize) -> usize
+    requires { IsLong chunk.now }
+    ensures { AreBelow number chunk.now.numbers result }
+{
+    if chunk.numbers.is_empty() {
+        return count_in_turn(chunk.first, chunk.gone.len(), number);
+    }
+    count_below(&chunk.numbers, number)
+}
+
+/// Forgets the rows of a chunk from this number on.
+pub(crate) fn shorten(chunk: &mut StoredChunk, len: usize)
+    requires below { chunk.old.first < len }
+    requires long { IsLong chunk.old }
+    ensures { IsShortened len chunk.old chunk.new }
+{
+    let rows = rows_below(chunk, len);
+    chunk.numbers.truncate(rows);
+    chunk.gone.truncate(rows);
+    chunk.span = chunk.span.min(len - chunk.first);
+}
