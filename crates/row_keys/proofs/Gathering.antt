@@ -78,40 +78,41 @@ unfolding rows_from
 rows_counted cells i zero = refl
 rows_counted cells i (suc n) = ap suc (rows_counted cells (i + 1) n)
 
--- what is pushed so far
-pub record IsPushed (b : Batch) (gs : List Bool) (old : List RowRange) (i : ℕ) (now : List RowRange) : Type 0 where
+-- what is pushed so far, of the rows from one on
+pub record IsPushed (b : Batch) (gs : List Bool) (from : ℕ) (old : List RowRange) (i : ℕ) (now : List RowRange) : Type 0 where
   pub rows :
-      ranges_rows now ++ unflagged (drop i gs) (drop i (batch_rows b)) ≡ ranges_rows old ++ unflagged gs (batch_rows b)
+      ranges_rows now ++ unflagged (drop i gs) (drop i (batch_rows b))
+      ≡ ranges_rows old ++ unflagged (drop from gs) (drop from (batch_rows b))
   pub within : i ≤ length gs
   pub left : i < length gs → get_or gs i true ≡ false
   pub sized : (n : ℕ) → IsSized n b → All (IsRange n) old → All (IsRange n) now
 
 pub pushed_first :
-    (b : Batch) (gs : List Bool) (old : List RowRange) (i : ℕ) → length gs ≤ b.rows → i ≤ length gs
-    → ((k : ℕ) → 0 ≤ k → k < i → get_or gs k false ≡ true) → (i < length gs → get_or gs i true ≡ false)
-    → IsPushed b gs old i old
-pushed_first b gs old i few within flags left =
+    (b : Batch) (gs : List Bool) (from : ℕ) (old : List RowRange) (i : ℕ) → length gs ≤ b.rows → from ≤ i → i ≤ length gs
+    → ((k : ℕ) → from ≤ k → k < i → get_or gs k false ≡ true) → (i < length gs → get_or gs i true ≡ false)
+    → IsPushed b gs from old i old
+pushed_first b gs from old i few low within flags left =
     let many = rows_counted (cells_in b.columns.items) 0 b.rows in
     let X : List Row = batch_rows b in
-    let all : unflagged (drop 0 gs) (drop 0 X) ≡ unflagged (drop (0 + i) gs) (drop (0 + i) X) =
-    skipped gs X 0 i [] (λ j low high. flags j low (omega (arith, high))) (omega (arith, within)) (omega (arith, many, few)) in
-    let e : 0 + i ≡ i = omega arith in
+    let k : ℕ = i - from in
+    let e : from + k ≡ i = omega (arith, low) in
+    let all : unflagged (drop from gs) (drop from X) ≡ unflagged (drop (from + k) gs) (drop (from + k) X) =
+    skipped gs X from k [] (λ j above below. flags j above (omega (arith, below, e))) (omega (arith, within, e))
+    (omega (arith, many, few)) in
     record {
-      rows = ap (λ rs. ranges_rows old ++ rs)
-          (sym (ap (λ j. unflagged (drop j gs) (drop j X)) e) ∙ sym all
-          ∙ ap (λ hs. unflagged hs (drop 0 X)) (drop_none gs) ∙ ap (unflagged gs) (drop_none X));
+      rows = ap (λ rs. ranges_rows old ++ rs) (sym (ap (λ j. unflagged (drop j gs) (drop j X)) e) ∙ sym all);
       within = within;
       left = left;
       sized = λ n sized all_old. all_old;
     }
 
 pub pushed_more :
-    (b : Batch) (gs : List Bool) (old now new : List RowRange) (r : RowRange) (i to next : ℕ) → length gs ≤ b.rows
-    → IsPushed b gs old i now → i < length gs → new ≡ now ++ r ∷ [] → r.batch.now ≡ b → r.from ≡ i → r.to ≡ to
+    (b : Batch) (gs : List Bool) (from_row : ℕ) (old now new : List RowRange) (r : RowRange) (i to next : ℕ)
+    → length gs ≤ b.rows → IsPushed b gs from_row old i now → i < length gs → new ≡ now ++ r ∷ [] → r.batch.now ≡ b → r.from ≡ i → r.to ≡ to
     → i ≤ to → to ≤ length gs → ((k : ℕ) → i ≤ k → k < to → get_or gs k true ≡ false) → to ≤ next → next ≤ length gs
     → ((k : ℕ) → to ≤ k → k < next → get_or gs k false ≡ true) → (next < length gs → get_or gs next true ≡ false)
-    → IsPushed b gs old next new
-pushed_more b gs old now new r i to next few is below push batch from end low high flags after inside gone left =
+    → IsPushed b gs from_row old next new
+pushed_more b gs from_row old now new r i to next few is below push batch from end low high flags after inside gone left =
     let many = rows_counted (cells_in b.columns.items) 0 b.rows in
     let X : List Row = batch_rows b in
     let U : ℕ → List Row = λ j. unflagged (drop j gs) (drop j X) in
@@ -151,17 +152,15 @@ pushed_more b gs old now new r i to next few is below push batch from end low hi
           }) (All-nil (IsRange n))));
     }
 
-pub pushed_end : (b : Batch) (gs : List Bool) (old : List RowRange) (i : ℕ) (now : List RowRange) → IsPushed b gs old i now
-    → length gs ≤ i → ranges_rows now ≡ ranges_rows old ++ unflagged gs (batch_rows b)
-pushed_end b gs old i now is end =
+pub pushed_end :
+    (b : Batch) (gs : List Bool) (from : ℕ) (old : List RowRange) (i : ℕ) (now : List RowRange)
+    → IsPushed b gs from old i now → length gs ≤ i
+    → ranges_rows now ≡ ranges_rows old ++ unflagged (drop from gs) (drop from (batch_rows b))
+pushed_end b gs from old i now is end =
     sym (append-nil (ranges_rows now))
     ∙ ap (λ hs. ranges_rows now ++ unflagged hs (drop i (batch_rows b))) (sym (drop_all i gs end)) ∙ is.rows
 
 -- the numbers of a chunk
-
-pub numbered_first : (gs : List Bool) (ns old : List ℕ) → old ++ unflagged (drop 0 gs) (drop 0 ns) ≡ old ++ unflagged gs ns
-numbered_first gs ns old =
-    ap (λ hs. old ++ unflagged hs (drop 0 ns)) (drop_none gs) ∙ ap (λ ms. old ++ unflagged gs ms) (drop_none ns)
 
 pub numbered_more :
     (gs : List Bool) (ns now new : List ℕ) (i : ℕ) (whole : List ℕ) → i < length gs → length ns ≡ length gs
@@ -204,7 +203,8 @@ gathered_first part ranges numbers none nothing = record {
 -- what is known of the next chunk
 pub record IsNext (part : List Chunk) (i : ℕ) (b : Batch) (gs : List Bool) (c : Chunk) : Type 0 where
   pub here : drop i part ≡ c ∷ drop (i + 1) part
-  pub rows : unflagged gs (batch_rows b) ≡ rows_left c
+  pub rows : unflagged (drop 0 gs) (drop 0 (batch_rows b)) ≡ rows_left c
+  pub numbers : unflagged (drop 0 c.gone) (drop 0 c.numbers) ≡ numbers_left c
   pub few : length gs ≤ b.rows
   pub long : IsLong c
   pub bound : c.first + c.span < 2 ^ 64
@@ -229,9 +229,11 @@ next_in part i c b gs is at below rows columns gone =
     record {
       here = drop_more part i c below ∙ ap (λ x. x ∷ drop (i + 1) part) (sym at);
       rows =
-          ap (λ hs. unflagged hs (batch_rows b)) (sym gone)
+          ap (λ hs. unflagged hs (drop 0 (batch_rows b))) (drop_none gs) ∙ ap (unflagged gs) (drop_none (batch_rows b))
+          ∙ ap (λ hs. unflagged hs (batch_rows b)) (sym gone)
           ∙ ap (λ n. unflagged c.gone (rows_in n (cells_in b.columns.items))) (sym rows)
           ∙ ap (λ ks. unflagged c.gone (rows_in c.rows (cells_in ks))) (sym columns);
+      numbers = ap (λ hs. unflagged hs (drop 0 c.numbers)) (drop_none c.gone) ∙ ap (unflagged c.gone) (drop_none c.numbers);
       few = omega (arith, few, flags, rows);
       long = long;
       bound = omega (arith, end, most);
@@ -246,9 +248,9 @@ next_in part i c b gs is at below rows columns gone =
 pub gathered_more :
     (part : List Chunk) (i : ℕ) (c : Chunk) (b : Batch) (gs : List Bool) (ranges more_ranges : List RowRange)
     (numbers more_numbers : List ℕ) → IsNext part i b gs c
-    → ranges_rows more_ranges ≡ ranges_rows ranges ++ unflagged gs (batch_rows b)
+    → ranges_rows more_ranges ≡ ranges_rows ranges ++ unflagged (drop 0 gs) (drop 0 (batch_rows b))
     → ((n : ℕ) → IsSized n b → All (IsRange n) ranges → All (IsRange n) more_ranges)
-    → more_numbers ≡ numbers ++ numbers_left c → IsGathered part i ranges numbers
+    → more_numbers ≡ numbers ++ unflagged (drop 0 c.gone) (drop 0 c.numbers) → IsGathered part i ranges numbers
     → IsGathered part (i + 1) more_ranges more_numbers
 gathered_more part i c b gs ranges more_ranges numbers more_numbers next rows sized listed is = record {
   rows =
@@ -256,7 +258,7 @@ gathered_more part i c b gs ranges more_ranges numbers more_numbers next rows si
       ∙ append_assoc (ranges_rows ranges) (rows_left c) (all_rows (drop (i + 1) part))
       ∙ ap (λ cs. ranges_rows ranges ++ all_rows cs) (sym next.here) ∙ is.rows;
   numbers_are =
-      ap (λ ns. ns ++ all_numbers (drop (i + 1) part)) listed
+      ap (λ ns. ns ++ all_numbers (drop (i + 1) part)) (listed ∙ ap (λ ns. numbers ++ ns) next.numbers)
       ∙ append_assoc numbers (numbers_left c) (all_numbers (drop (i + 1) part))
       ∙ ap (λ cs. numbers ++ all_numbers cs) (sym next.here) ∙ is.numbers_are;
   sized = λ n wide. sized n (next.wide n wide) (is.sized n wide);

@@ -40,6 +40,7 @@ mod RowPlaces
 mod Chunking
 mod ChunkedRows
 mod Merging
+mod Tails
 mod Gathering
 mod Weighed
 mod Trees

@@ -1,6 +1,6 @@
 -- Chunks that are written anew, and the rows that are found in them.
 use Rattle.std.proofs.Common.{◌≡◌, ◌⊎◌, inl, inr, ℕ, zero, suc, ◌+◌, ◌-◌, ◌^◌, ◌<◌, ◌≤◌, Bool, true, false, All, List, [], ◌∷◌, ◌++◌, drop, get_or, length, length-append, take, refl, ap, sym, subst, ◌∙◌, arith}
-use Rattle.std.specs.Prelude.{if◌then◌else◌, nat_eq, nat_lt, replicate, slice_set}
+use Rattle.std.specs.Prelude.{IfOk, IfSome, Option, None, Some, Result, Ok, Err, if◌then◌else◌, nat_eq, nat_lt, replicate, slice_set}
 use Rattle.std.proofs.lemmas.List.Elements.{All-append, All-cons, All-head, All-nil, All-tail}
 use Rattle.std.proofs.lemmas.Bool.{ne_eqb}
 use Rattle.std.proofs.lemmas.Bool.Decides.{eqb_tells}
@@ -15,18 +15,18 @@ use Rattle.body_writer.specs.Batch.{IsBatch, rows_weight}
 use Rattle.schema_meta.specs.Rows.{row_at, rows_from}
 use Rattle.row_keys.specs.Batches.{batch_rows, cells_in}
 use Rattle.row_keys.specs.Chunks.{AreChunks, AreRising, Chunk, IsLong, number_row, place_in, row_in, stored_rows}
-use Rattle.row_keys.specs.RowsLeft.{IsHeld, IsMade, IsMerged, IsPart, IsWide, all_numbers, all_rows, end_of, numbers_left, rows_left, unflagged}
+use Rattle.row_keys.specs.RowsLeft.{IsHeld, IsMade, IsMadeIn, IsMerged, IsPart, IsWide, all_numbers, all_rows, end_of, numbers_left, rows_left, unflagged}
 use Rattle.row_keys.proofs.Appending.{batch_counted}
 use Rattle.row_keys.proofs.ChunkedRows.{flags_long, stored_at, stored_long}
 use Rattle.row_keys.proofs.ListedItems.{listed_same}
 use Rattle.row_keys.proofs.Chunking.{ends_within, lt_or_le, none_before, none_past, row_after, row_before, row_within}
 use Rattle.row_keys.proofs.RowPlaces.{first_or_not, here_first, not_first, rising_at, rising_from, rising_within}
 
-abbrev Row : Type 0
+abbrev pub Row : Type 0
 Row = List Datum
 
 -- the row of a number
-abbrev look : List ℕ → List Row → ℕ → Row
+abbrev pub look : List ℕ → List Row → ℕ → Row
 look [] rs n = []
 look (k ∷ ks) [] n = []
 look (k ∷ ks) (r ∷ rs) n = if nat_eq k n then r else look ks rs n
@@ -37,7 +37,7 @@ look_here k n ks r rs is = ap (λ b. if b then r else look ks rs n) (elim (eqb_t
   | inr t ↦ absurd (t.1 is)
 ])
 
-look_there : (k n : ℕ) (ks : List ℕ) (r : Row) (rs : List Row) → (k ≡ n → ⊥) → look (k ∷ ks) (r ∷ rs) n ≡ look ks rs n
+pub look_there : (k n : ℕ) (ks : List ℕ) (r : Row) (rs : List Row) → (k ≡ n → ⊥) → look (k ∷ ks) (r ∷ rs) n ≡ look ks rs n
 look_there k n ks r rs other = ap (λ b. if b then r else look ks rs n) (ne_eqb k n other)
 
 look_under : (from end : ℕ) (ks : List ℕ) (rs : List Row) (n : ℕ) → AreRising from ks end → n < from → look ks rs n ≡ []
@@ -74,7 +74,7 @@ look_later from end (k ∷ ks) ls (r ∷ rs) qs n same are past =
     look_there k n (ks ++ ls) r (rs ++ qs) (λ e. omega (arith, e, rest, past))
     ∙ look_later (suc k) end ks ls rs qs n (omega (arith, same)) are.1 past
 
-look_at : (from end : ℕ) (ks : List ℕ) (rs : List Row) (j d : ℕ) (e : Row) → AreRising from ks end → length ks ≡ length rs
+pub look_at : (from end : ℕ) (ks : List ℕ) (rs : List Row) (j d : ℕ) (e : Row) → AreRising from ks end → length ks ≡ length rs
     → j < length rs → look ks rs (get_or ks j d) ≡ get_or rs j e
 look_at from end [] [] j d e are same below = absurd (omega (arith, below))
 look_at from end [] (r ∷ rs) j d e are same below = absurd (omega (arith, same))
@@ -87,7 +87,7 @@ look_at from end (k ∷ ks) (r ∷ rs) (suc j) d e are same below =
 
 -- what isn't flagged
 
-rising_left : (from end : ℕ) (gs : List Bool) (ns : List ℕ) → AreRising from ns end → AreRising from (unflagged gs ns) end
+pub rising_left : (from end : ℕ) (gs : List Bool) (ns : List ℕ) → AreRising from ns end → AreRising from (unflagged gs ns) end
 rising_left from end [] ns are = rising_within from end ns are
 rising_left from end (g ∷ gs) [] are = are
 rising_left from end (g ∷ gs) (n ∷ ns) are = by g (rising_left (suc n) end gs ns are.1)
@@ -97,7 +97,7 @@ rising_left from end (g ∷ gs) (n ∷ ns) are = by g (rising_left (suc n) end g
     by true rest = let low = are.0 in rising_from (suc n) from end (unflagged gs ns) rest (omega (arith, low))
     by false rest = (are.0, rest)
 
-as_many_left : {X Y : Type 0} (gs : List Bool) (xs : List X) (ys : List Y) → length gs ≤ length xs → length gs ≤ length ys
+pub as_many_left : {X Y : Type 0} (gs : List Bool) (xs : List X) (ys : List Y) → length gs ≤ length xs → length gs ≤ length ys
     → length (unflagged gs xs) ≡ length (unflagged gs ys)
 as_many_left [] xs ys few less = refl
 as_many_left (g ∷ gs) [] ys few less = absurd (omega (arith, few))
@@ -170,7 +170,7 @@ left_long c long =
 left_rising : (c : Chunk) → IsLong c → AreRising c.first (numbers_left c) (c.first + c.span)
 left_rising c long = rising_left c.first (c.first + c.span) c.gone c.numbers long.rise
 
-row_left : (c : Chunk) (n : ℕ) → IsLong c → number_row c n ≡ look (numbers_left c) (rows_left c) n
+pub row_left : (c : Chunk) (n : ℕ) → IsLong c → number_row c n ≡ look (numbers_left c) (rows_left c) n
 row_left c n long =
     let e : place_in c.numbers n ≡ 0 + place_in c.numbers n = omega arith in
     ap (λ j. if get_or c.gone (place_in c.numbers n) true then [] else row_at (cells_in c.columns) j) e
@@ -223,7 +223,7 @@ rows_looked from len (c ∷ cs) n are =
 
 -- A chunk made of them has the same rows.
 
-made_long : (first span : ℕ) (ks : List ℕ) (rs : List Row) (c : Chunk) → c.first ≡ first → c.span ≡ span
+pub made_long : (first span : ℕ) (ks : List ℕ) (rs : List Row) (c : Chunk) → c.first ≡ first → c.span ≡ span
     → IsMade ks rs c → AreRising first ks (first + span) → IsLong c
 made_long first span ks rs c first_is span_is made are =
     let flags : length c.gone ≡ length ks = ap length made.gone ∙ flags_long (length ks) in
@@ -239,7 +239,7 @@ made_long first span ks rs c first_is span_is made are =
           (subst (λ s. P first s c.numbers) (sym span_is) (subst (P first span) (sym made.numbers_are) are));
     }
 
-made_left : (ks : List ℕ) (rs : List Row) (c : Chunk) → IsMade ks rs c → length ks ≡ length rs
+pub made_left : (ks : List ℕ) (rs : List Row) (c : Chunk) → IsMade ks rs c → length ks ≡ length rs
     → (numbers_left c ≡ ks) × (rows_left c ≡ rs)
 made_left ks rs c made same =
     let few : replicate (length ks) false ≡ replicate (length rs) false = ap (λ n. replicate n false) same in (
@@ -326,15 +326,15 @@ first_below from len (suc k) (x ∷ xs) c d are below first is =
 
 -- Some chunks give way to one.
 
-split_chunks : (from len : ℕ) (cs ds : List Chunk) → AreChunks from (cs ++ ds) len → AreChunks (end_of from cs) ds len
+pub split_chunks : (from len : ℕ) (cs ds : List Chunk) → AreChunks from (cs ++ ds) len → AreChunks (end_of from cs) ds len
 split_chunks from len [] ds are = are
 split_chunks from len (c ∷ cs) ds are = split_chunks (c.first + c.span) len cs ds are.2
 
-front_chunks : (from len : ℕ) (cs ds : List Chunk) → AreChunks from (cs ++ ds) len → AreChunks from cs (end_of from cs)
+pub front_chunks : (from len : ℕ) (cs ds : List Chunk) → AreChunks from (cs ++ ds) len → AreChunks from cs (end_of from cs)
 front_chunks from len [] ds are = omega arith
 front_chunks from len (c ∷ cs) ds are = (are.0, are.1, front_chunks (c.first + c.span) len cs ds are.2)
 
-rows_early : (from len : ℕ) (cs ds : List Chunk) (n : ℕ) → AreChunks from (cs ++ ds) len → n < end_of from cs
+pub rows_early : (from len : ℕ) (cs ds : List Chunk) (n : ℕ) → AreChunks from (cs ++ ds) len → n < end_of from cs
     → row_in (cs ++ ds) n ≡ row_in cs n
 rows_early from len [] ds n are early = none_before from len n ds are early
 rows_early from len (c ∷ cs) ds n are early = elim (lt_or_le n c.first) [
@@ -347,7 +347,7 @@ rows_early from len (c ∷ cs) ds n are early = elim (lt_or_le n c.first) [
   ]
 ]
 
-rows_late : (from len : ℕ) (cs ds : List Chunk) (n : ℕ) → AreChunks from (cs ++ ds) len → end_of from cs ≤ n
+pub rows_late : (from len : ℕ) (cs ds : List Chunk) (n : ℕ) → AreChunks from (cs ++ ds) len → end_of from cs ≤ n
     → row_in (cs ++ ds) n ≡ row_in ds n
 rows_late from len [] ds n are late = refl
 rows_late from len (c ∷ cs) ds n are late =
@@ -396,21 +396,21 @@ cut_out cs p q le =
 
 -- Rows that are left are those of the table.
 
-abbrev HasWidth : ℕ → Row → Type 0
+abbrev pub HasWidth : ℕ → Row → Type 0
 HasWidth w row = length row ≡ w
 
-map_long : (columns : List CheckedColumn) (i : ℕ) → length (row_at (cells_in columns) i) ≡ length columns
+pub map_long : (columns : List CheckedColumn) (i : ℕ) → length (row_at (cells_in columns) i) ≡ length columns
 map_long [] i = refl
 map_long (c ∷ cs) i = ap suc (map_long cs i)
 
-wide_rows : (columns : List CheckedColumn) (w : ℕ) → length columns ≡ w → (i n : ℕ) → All (HasWidth w) (rows_from (cells_in columns) i n)
+pub wide_rows : (columns : List CheckedColumn) (w : ℕ) → length columns ≡ w → (i n : ℕ) → All (HasWidth w) (rows_from (cells_in columns) i n)
 unfolding rows_from
 wide_rows columns w wide i zero = All-nil (HasWidth w)
 wide_rows columns w wide i (suc n) =
     All-cons (HasWidth w) (row_at (cells_in columns) i) (rows_from (cells_in columns) (i + 1) n)
     (map_long columns i ∙ wide) (wide_rows columns w wide (i + 1) n)
 
-wide_left : (gs : List Bool) (w : ℕ) (rows : List Row) → All (HasWidth w) rows → All (HasWidth w) (unflagged gs rows)
+pub wide_left : (gs : List Bool) (w : ℕ) (rows : List Row) → All (HasWidth w) rows → All (HasWidth w) (unflagged gs rows)
 wide_left [] w rows wide = All-nil (HasWidth w)
 wide_left (g ∷ gs) w [] wide = All-nil (HasWidth w)
 wide_left (g ∷ gs) w (r ∷ rs) wide = by g (wide_left gs w rs (All-tail (HasWidth w) r rs wide))
@@ -428,7 +428,7 @@ all_wide w (c ∷ cs) wide =
     (wide_rows c.columns w (All-head (IsWide w) c cs wide) 0 c.rows))
     (all_wide w cs (All-tail (IsWide w) c cs wide))
 
-no_layouts : (trees : List (Rose Layout)) (row : Row) → row ≡ [] → length row ≡ length trees
+pub no_layouts : (trees : List (Rose Layout)) (row : Row) → row ≡ [] → length row ≡ length trees
     → HoldsEach (kids_of trees) (items_of row)
 no_layouts [] [] empty same = tt
 no_layouts [] (d ∷ ds) empty same = absurd (omega (arith, same))
@@ -452,23 +452,31 @@ all_held from len cs trees are wide held j e below =
       | inr holds ↦ subst (λ row. HoldsEach (kids_of trees) (items_of row)) here holds
     ]
 
-pub is_batch :
-    (part : List Chunk) (trees : List (Rose Layout)) (rows : List Row) (many : ℕ) → IsPart part
-    → All (IsWide (length trees)) part → ((n : ℕ) → IsHeld (kids_of trees) (row_in part n)) → rows ≡ all_rows part
-    → many ≡ length (all_numbers part) → many ≤ max_batch_rows → roses_size (kids_of trees) ≤ max_fields
-    → AreLayouts (kids_of trees) → rows_weight (kids_of trees) rows ≤ max_batch_weight → IsBatch (kids_of trees) rows
-is_batch part trees rows many is wide held rows_are counted few narrow layouts light =
-    let same = all_long is.0 is.1 part is.2 in
-    let here = ap length rows_are in
-    record {
-      few = omega (arith, same, here, counted, few);
-      held =
-          let P : List Row → Type 0 = λ xs. All (λ row. HoldsEach (kids_of trees) (items_of row)) xs in
-          subst P (sym rows_are) (all_held is.0 is.1 part trees is.2 wide held);
-      narrow = narrow;
-      layouts = layouts;
-      light = light;
-    }
+pub few_rows :
+    (ls : Roses Layout) (rows : List Row) (many : ℕ) → many ≡ length rows → many ≤ max_batch_rows
+    → All (λ row. HoldsEach ls (items_of row)) rows → roses_size ls ≤ max_fields → AreLayouts ls
+    → rows_weight ls rows ≤ max_batch_weight → IsBatch ls rows
+few_rows ls rows many counted few held narrow layouts light = record {
+  few = omega (arith, counted, few);
+  held = held;
+  narrow = narrow;
+  layouts = layouts;
+  light = light;
+}
+
+pub held_of :
+    (part : List Chunk) (trees : List (Rose Layout)) (rows : List Row) → IsPart part → All (IsWide (length trees)) part
+    → ((n : ℕ) → IsHeld (kids_of trees) (row_in part n)) → rows ≡ all_rows part
+    → All (λ row. HoldsEach (kids_of trees) (items_of row)) rows
+held_of part trees rows is wide held rows_are =
+    let P : List Row → Type 0 = λ xs. All (λ row. HoldsEach (kids_of trees) (items_of row)) xs in
+    subst P (sym rows_are) (all_held is.0 is.1 part trees is.2 wide held)
+
+pub made_of :
+    (first span : ℕ) (ks : List ℕ) (made rows : List Row) (c : Chunk) → made ≡ rows → c.first ≡ first → c.span ≡ span
+    → IsMade ks made c → IsMadeIn first span ks rows c
+made_of first span ks made rows c same first_is span_is is =
+    record { first_is = first_is; span_is = span_is; made = subst (λ xs. IsMade ks xs c) same is }
 
 pub as_many : (part : List Chunk) (numbers : List ℕ) (rows : List Row) → IsPart part → numbers ≡ all_numbers part
     → rows ≡ all_rows part → length numbers ≡ length rows
@@ -515,15 +523,15 @@ merged_part from len (d ∷ ds) head first span ks rs c are some at start =
 
 -- The chunks from place p up to place q give way to one.
 
-drop_none : {X : Type 0} (xs : List X) → drop 0 xs ≡ xs
+pub drop_none : {X : Type 0} (xs : List X) → drop 0 xs ≡ xs
 drop_none [] = refl
 drop_none (x ∷ xs) = refl
 
-take_none : {X : Type 0} (xs : List X) → take 0 xs ≡ []
+pub take_none : {X : Type 0} (xs : List X) → take 0 xs ≡ []
 take_none [] = refl
 take_none (x ∷ xs) = refl
 
-before_end : (xs ys : List Chunk) (n : ℕ) → n < length xs → take n (take (suc n) xs ++ ys) ≡ take n xs
+pub before_end : (xs ys : List Chunk) (n : ℕ) → n < length xs → take n (take (suc n) xs ++ ys) ≡ take n xs
 before_end [] ys n below = absurd (omega (arith, below))
 before_end (x ∷ xs) ys zero below = refl
 before_end (x ∷ xs) ys (suc n) below = ap (λ zs. x ∷ zs) (before_end xs ys n (omega (arith, below)))
@@ -533,7 +541,7 @@ behind_end [] ys n below = absurd (omega (arith, below))
 behind_end (x ∷ xs) ys zero below = ap (λ zs. drop 0 (zs ++ ys)) (take_none xs) ∙ drop_none ys
 behind_end (x ∷ xs) ys (suc n) below = behind_end xs ys n (omega (arith, below))
 
-set_end : (xs ys : List Chunk) (n : ℕ) (m : Chunk) → n < length xs → slice_set (take (suc n) xs ++ ys) n m ≡ take n xs ++ m ∷ ys
+pub set_end : (xs ys : List Chunk) (n : ℕ) (m : Chunk) → n < length xs → slice_set (take (suc n) xs ++ ys) n m ≡ take n xs ++ m ∷ ys
 set_end [] ys n m below = absurd (omega (arith, below))
 set_end (x ∷ xs) ys zero m below = ap (λ zs. m ∷ (zs ++ ys)) (take_none xs)
 set_end (x ∷ xs) ys (suc n) m below = ap (λ zs. x ∷ zs) (set_end xs ys n m (omega (arith, below)))
@@ -595,7 +603,7 @@ length_taken zero (x ∷ xs) le = refl
 length_taken (suc k) [] le = absurd (omega (arith, le))
 length_taken (suc k) (x ∷ xs) le = ap suc (length_taken k xs (omega (arith, le)))
 
-length_dropped : (k : ℕ) (xs : List Chunk) → length (drop k xs) ≡ length xs - k
+pub length_dropped : {X : Type 0} (k : ℕ) (xs : List X) → length (drop k xs) ≡ length xs - k
 length_dropped zero [] = let e : zero ≡ zero - 0 = omega arith in e
 length_dropped zero (x ∷ xs) = let e : length (x ∷ xs) ≡ length (x ∷ xs) - 0 = omega arith in e
 length_dropped (suc k) [] = let e : zero ≡ zero - suc k = omega arith in e
@@ -642,3 +650,16 @@ middle ls cs len p q rows are high below within view held =
                 (λ i low inside. made.1 i ∙ ap (λ xs. row_in xs i) (sym split)),
           );
     }
+
+pub merged_of :
+    {E : Type 0} (part : List Chunk) (head : Chunk) (first span : ℕ) (ks : List ℕ) (rs : List Row)
+    (made : Result (Option Chunk) E) → IsPart part → 0 < length part → head ≡ get_or part 0 head
+    → first ≡ head.first
+    → ((d : Chunk) → d ≡ get_or part 0 d → (from : ℕ) → d.first + span ≡ end_of from part) → ks ≡ all_numbers part
+    → rs ≡ all_rows part → IfOk made (λ c. IfSome c (IsMadeIn first span ks rs))
+    → IfOk made (λ c. IfSome c (λ m. (from len : ℕ) → AreChunks from part len → IsMerged from part m))
+merged_of part head first span ks rs (Err e) is some at start end numbers rows made = made
+merged_of part head first span ks rs (Ok None) is some at start end numbers rows made = made
+merged_of part head first span ks rs (Ok (Some c)) is some at start end numbers rows made = λ from len are.
+    merged_part from len part head first span ks rs c are some at start
+    (ap (λ f. f + span) start ∙ end head at from) made.first_is made.span_is numbers rows made.made

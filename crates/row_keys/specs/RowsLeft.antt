@@ -1,12 +1,12 @@
 -- The rows of chunks that are left, with their numbers, and a chunk that is made of them.
-use Rattle.std.specs.Prelude.{◌≡◌, ◌⊎◌, ℕ, ◌+◌, ◌-◌, ◌^◌, ◌<◌, ◌≤◌, Bool, false, if◌then◌else◌, All, List, [], ◌∷◌, length, replicate}
+use Rattle.std.specs.Prelude.{◌≡◌, ◌⊎◌, ℕ, ◌+◌, ◌-◌, ◌^◌, ◌<◌, ◌≤◌, Bool, false, if◌then◌else◌, All, List, [], ◌∷◌, ◌++◌, Some, drop, get_or, length, replicate, slice_get, take}
 use Rattle.std.specs.List.{flat_map}
 use Rattle.values.specs.Datum.{Datum, items_of}
 use Rattle.values.specs.Layouts.{HoldsEach}
 use Rattle.values.specs.Rose.{Roses}
 use Rattle.values.specs.declared.layout.Layout.{Layout}
 use Rattle.row_keys.specs.Batches.{batch_rows}
-use Rattle.row_keys.specs.Chunks.{AreChunks, Chunk, IsLong, row_in}
+use Rattle.row_keys.specs.Chunks.{AreChunks, Chunk, IsLong, IsShortened, number_row, row_in}
 
 -- the items whose flags aren't set
 abbrev pub unflagged : {X : Type 0} → List Bool → List X → List X
@@ -62,3 +62,33 @@ IsWide w c = length c.columns ≡ w
 -- w is at least so much, unless it is the greatest number
 abbrev pub Bounds : ℕ → ℕ → Type 0
 Bounds w n = w < 2 ^ 64 - 1 → n ≤ w
+
+-- a chunk of these rows, whose numbers are among `span` from `first` on
+pub record IsMadeIn (first span : ℕ) (numbers : List ℕ) (rows : List (List Datum)) (c : Chunk) : Type 0 where
+  pub first_is : c.first ≡ first
+  pub span_is : c.span ≡ span
+  pub made : IsMade numbers rows c
+
+-- the rows of a chunk from row i on that are left, and their numbers
+
+abbrev pub tail_numbers : Chunk → ℕ → List ℕ
+tail_numbers c i = unflagged (drop i c.gone) (drop i c.numbers)
+
+abbrev pub tail_rows : Chunk → ℕ → List (List Datum)
+tail_rows c i = unflagged (drop i c.gone) (drop i (batch_rows c.rows c.columns))
+
+-- a chunk of the last rows of another one, from row i on
+pub record IsTail (old : Chunk) (i : ℕ) (new : Chunk) : Type 0 where
+  pub within : i < length old.gone
+  pub first : new.first ≡ get_or old.numbers i 0
+  pub long : IsLong new
+  pub end : new.first + new.span ≡ old.first + old.span
+  pub rows : (n : ℕ) → new.first ≤ n → number_row new n ≡ number_row old n
+
+-- The last rows of chunk p lie in a chunk of their own behind it.
+pub record IsSplit (old : List Chunk) (p : ℕ) (tail : Chunk) (new : List Chunk) : Type 0 where
+  pub chunk : Chunk
+  pub left : Chunk
+  pub there : slice_get old p ≡ Some chunk
+  pub shortened : IsShortened tail.first chunk left
+  pub new_is : new ≡ take p old ++ left ∷ tail ∷ drop (p + 1) old

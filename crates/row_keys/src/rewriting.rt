@@ -23,7 +23,8 @@ ghost use Rattle.std.specs.Prelude.{
   true,
 };
 ghost use Rattle.std.specs.List.{range_with_len};
-ghost use Rattle.values.specs.Layouts.{AreLayouts};
+ghost use Rattle.values.specs.Datum.{items_of};
+ghost use Rattle.values.specs.Layouts.{AreLayouts, HoldsEach};
 ghost use Rattle.values.specs.Limits.{max_batch_rows, max_batch_weight, max_fields};
 ghost use Rattle.values.specs.Rose.{kids_of, roses_size};
 ghost use Rattle.body_writer.specs.Batch.{rows_weight};
@@ -35,12 +36,15 @@ ghost use Rattle.row_keys.specs.RowsLeft.{
   IsHeld,
   IsMade,
   IsMerged,
+  IsMadeIn,
   IsPart,
+  IsTail,
   IsWide,
   all_numbers,
   all_rows,
   end_of,
-  numbers_left,
+  tail_numbers,
+  tail_rows,
   unflagged,
 };
 
@@ -88,19 +92,21 @@ fn next_gone(gone: &[bool], at: usize) -> usize
     gone.len()
 }
 
-/// Adds the rows of a batch that aren't gone, as many as follow one another at once.
+/// Adds the rows of a batch from row `from` on that aren't gone, as many as follow one another at once.
 fn push_ranges<'a>(
     batch: &'a Batch,
     gone: &[bool],
+    from: usize,
     ranges: &mut Vec<RowRange<'a>>,
 ) -> Result<(), AllocError>
-    requires { length gone.now ≤ batch.now.rows }
+    requires rows { length gone.now ≤ batch.now.rows }
+    requires within { from ≤ length gone.now }
     ensures rows { OnOk result (ranges_rows ranges.new.items
-        ≡ ranges_rows ranges.old.items ++ unflagged gone.now (rows_in_batch batch.now)) }
+        ≡ ranges_rows ranges.old.items ++ unflagged (drop from gone.now) (drop from (rows_in_batch batch.now))) }
     ensures ranges { OnOk result ((n : ℕ) → IsSized n batch.now → All (IsRange n) ranges.old.items
         → All (IsRange n) ranges.new.items) }
 {
-    let mut at = next_left(gone, 0);
+    let mut at = next_left(gone, from);
     while at < gone.len() {
         let to = next_gone(gone, at);
         ranges.push(RowRange {
@@ -145,13 +151,19 @@ fn push_number(
     Ok(())
 }
 
-/// Adds the numbers of the rows of a chunk that aren't gone.
-fn push_numbers(chunk: &StoredChunk, numbers: &mut Vec<usize>) -> Result<(), AllocError>
+/// Adds the numbers of the rows of a chunk from row `from` on that aren't gone.
+fn push_numbers(
+    chunk: &StoredChunk,
+    from: usize,
+    numbers: &mut Vec<usize>,
+) -> Result<(), AllocError>
+    requires within { from ≤ length chunk.now.gone }
     requires long { IsLong chunk.now }
     requires bound { chunk.now.first + chunk.now.span < 2 ^ 64 }
-    ensures { OnOk result (numbers.new.items ≡ numbers.old.items ++ numbers_left chunk.now) }
+    ensures { OnOk result (numbers.new.items
+        ≡ numbers.old.items ++ unflagged (drop from chunk.now.gone) (drop from chunk.now.numbers)) }
 {
-    for index in 0..chunk.gone.len() {
+    for index in from..chunk.gone.len() {
         push_number(chunk, index, numbers)?;
     }
     Ok(())
@@ -174,10 +186,17 @@ fn gather(alloc: Global, part: &[StoredChunk]) -> Result<RowsLeft<'_>, AllocErro
     let mut ranges = Vec::new(alloc);
     let mut numbers = Vec::new(alloc);
     for chunk in part {
-        push_ranges(&chunk.batch, &chunk.gone, &mut ranges)?;
-        push_numbers(chunk, &mut numbers)?;
+        push_ranges(&chunk.batch, &chunk.gone, 0, &mut ranges)?;
+        push_numbers(chunk, 0, &mut numbers)?;
     }
     Ok(RowsLeft { ranges, numbers })
+}
+
+/// Whether a chunk has so many columns.
+fn is_wide(chunk: &StoredChunk, columns: usize) -> bool
+    ensures { result ≡ true → IsWide columns chunk.now }
+{
+    chunk.batch.columns.len() == columns
 }
 
 /// Whether each of these chunks has so many columns.
@@ -185,7 +204,7 @@ fn are_wide(part: &[StoredChunk], columns: usize) -> bool
     ensures { result ≡ true → All (IsWide columns) part.now }
 {
     for chunk in part {
-        if chunk.batch.columns.len() != columns {
+        if !is_wide(chunk, columns) {
             return false;
         }
     }
@@ -297,14 +316,27 @@ fn make_chunk(
     })
 }
 
-/// Whether the rows are few and light enough to be written as one batch, and take no more memory than these chunks do.
+/// How much may be written for the last `rows` rows of a chunk, so that all of it takes no more memory than the chunk.
+fn most_for(batch: &Batch, rows: usize) -> u64
+    ensures { result ≤ max_batch_weight }
+{
+    let each = bytes_of(batch) / (batch.rows as u64).max(1);
+    let sum = each
+        .saturating_mul(2)
+        .saturating_mul(rows as u64)
+        .saturating_add(CHUNK_WEIGHT);
+    sum.min(MAX_BATCH_WEIGHT)
+}
+
+/// Whether the rows are few enough to be written as one batch, and weigh no more than `most`.
 fn are_few(
     alloc: Global,
     layouts: &[LayoutTree],
-    part: &[StoredChunk],
+    most: u64,
     left: &RowsLeft,
 ) -> Result<bool, AllocError>
-    requires { (n : ℕ) × All (IsRange n) left.now.ranges.items }
+    requires ranges { (n : ℕ) × All (IsRange n) left.now.ranges.items }
+    requires most { most ≤ max_batch_weight }
     ensures few { IfOk result (λ fits. fits ≡ true → length left.now.numbers.items ≤ max_batch_rows) }
     ensures light { IfOk result (λ fits. fits ≡ true
         → rows_weight (kids_of layouts.now) (ranges_rows left.now.ranges.items) ≤ max_batch_weight) }
@@ -313,7 +345,34 @@ fn are_few(
         return Ok(false);
     }
     let weight = weigh(alloc, layouts, &left.ranges)?;
-    Ok(weight <= most_weight(part))
+    Ok(weight <= most)
+}
+
+/// A chunk of these rows, whose numbers are among `span` from `first` on; `None` where they are too many or weigh more
+/// than `most`.
+fn write_left(
+    alloc: Global,
+    layouts: &[LayoutTree],
+    first: usize,
+    span: usize,
+    most: u64,
+    left: RowsLeft<'_>,
+) -> Result<Option<StoredChunk>, AllocError>
+    requires ranges { All (IsRange (length layouts.now)) left.ranges.items }
+    requires many { length left.numbers.items ≡ length (ranges_rows left.ranges.items) }
+    requires held { All (λ row. HoldsEach (kids_of layouts.now) (items_of row)) (ranges_rows left.ranges.items) }
+    requires narrow { roses_size (kids_of layouts.now) ≤ max_fields }
+    requires layouts { AreLayouts (kids_of layouts.now) }
+    requires most { most ≤ max_batch_weight }
+    ensures { IfOk result (λ made. IfSome made (IsMadeIn first span left.entry.numbers.items
+        (ranges_rows left.entry.ranges.items))) }
+{
+    if !are_few(alloc, layouts, most, &left)? {
+        return Ok(None);
+    }
+    let columns = merge_rows(alloc, layouts, &left.ranges)?;
+    let chunk = make_chunk(alloc, first, span, columns, left.numbers)?;
+    Ok(Some(chunk))
 }
 
 /// One chunk with the rows of these that aren't gone; `None` where they are too many, or would take more memory than
@@ -335,11 +394,61 @@ pub(crate) fn merge(
         return Ok(None);
     }
     let left = gather(alloc, part)?;
-    if !are_few(alloc, layouts, part, &left)? {
+    let head = &part[0];
+    write_left(
+        alloc,
+        layouts,
+        head.first,
+        span_of(part),
+        most_weight(part),
+        left,
+    )
+}
+
+/// The last rows of a chunk, from row `from` on, that aren't gone.
+fn gather_tail(alloc: Global, chunk: &StoredChunk, from: usize) -> Result<RowsLeft<'_>, AllocError>
+    requires within { from ≤ length chunk.now.gone }
+    requires long { IsLong chunk.now }
+    requires bound { chunk.now.first + chunk.now.span < 2 ^ 64 }
+    ensures rows { IfOk result (λ left. ranges_rows left.ranges.items ≡ tail_rows chunk.now from) }
+    ensures numbers { IfOk result (λ left. left.numbers.items ≡ tail_numbers chunk.now from) }
+    ensures ranges { IfOk result (λ left. (n : ℕ) → IsWide n chunk.now → All (IsRange n) left.ranges.items) }
+{
+    let mut ranges = Vec::new(alloc);
+    let mut numbers = Vec::new(alloc);
+    push_ranges(&chunk.batch, &chunk.gone, from, &mut ranges)?;
+    push_numbers(chunk, from, &mut numbers)?;
+    Ok(RowsLeft { ranges, numbers })
+}
+
+/// A chunk with the last rows of this one, from row `from` on, that aren't gone; `None` where they are too many, or would
+/// take more memory than their share of this one.
+pub(crate) fn write_tail(
+    alloc: Global,
+    layouts: &[LayoutTree],
+    chunk: &StoredChunk,
+    from: usize,
+) -> Result<Option<StoredChunk>, AllocError>
+    requires within { from < length chunk.now.gone }
+    requires long { IsLong chunk.now }
+    requires bound { chunk.now.first + chunk.now.span < 2 ^ 64 }
+    requires held { (n : ℕ) → IsHeld (kids_of layouts.now) (row_in (chunk.now ∷ []) n) }
+    requires narrow { roses_size (kids_of layouts.now) ≤ max_fields }
+    requires layouts { AreLayouts (kids_of layouts.now) }
+    ensures { IfOk result (λ made. IfSome made (IsTail chunk.now from)) }
+{
+    if !is_wide(chunk, layouts.len()) {
         return Ok(None);
     }
-    let columns = merge_rows(alloc, layouts, &left.ranges)?;
-    let head = &part[0];
-    let chunk = make_chunk(alloc, head.first, span_of(part), columns, left.numbers)?;
-    Ok(Some(chunk))
+    let left = gather_tail(alloc, chunk, from)?;
+    let first = number_at(chunk, from);
+    let most = most_for(&chunk.batch, left.numbers.len());
+    write_left(
+        alloc,
+        layouts,
+        first,
+        chunk.first + chunk.span - first,
+        most,
+        left,
+    )
 }

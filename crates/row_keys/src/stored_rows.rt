@@ -31,6 +31,8 @@ ghost use Rattle.row_keys.specs.Chunks.{
   AreChunks,
   EndsAbove,
   IsCut,
+  IsLong,
+  IsShortened,
   LiesAt,
   LiesIn,
   ReleasesAt,
@@ -38,9 +40,9 @@ ghost use Rattle.row_keys.specs.Chunks.{
   row_in,
   stored_rows,
 };
-ghost use Rattle.row_keys.specs.RowsLeft.{IsHeld};
+ghost use Rattle.row_keys.specs.RowsLeft.{IsHeld, IsSplit};
 
-use crate::rewriting::merge;
+use crate::rewriting::{merge, write_tail};
 use crate::stored_chunk::{StoredChunk, flags, index_of, release_in, row_of, shorten};
 use crate::stored_row::StoredRow;
 use arrays::Column;
@@ -48,6 +50,7 @@ use column_writer::Batch;
 use std::alloc::{AllocError, Global};
 use std::marker::Model;
 use values::LayoutTree;
+use values::limits::MAX_BATCH_ROWS;
 
 /// How many chunks are merged at once.
 const MERGED_CHUNKS: usize = 16;
@@ -221,6 +224,46 @@ fn joined(chunks: &[StoredChunk], place: usize) -> (usize, usize)
     (place, place + 1)
 }
 
+/// The row of a chunk from which on no more are left than are written at once; 0 where that is the first.
+fn tail_start(gone: &[bool]) -> usize {
+    let mut at = gone.len();
+    let mut count = 0;
+    while at > 0 && count < MAX_BATCH_ROWS {
+        at -= 1;
+        if !gone[at] {
+            count += 1;
+        }
+    }
+    at
+}
+
+/// Forgets the rows of a chunk from this number on, so many of which aren't gone.
+fn drop_tail(chunk: &mut StoredChunk, number: usize, rows: usize)
+    requires below { chunk.old.first < number }
+    requires long { IsLong chunk.old }
+    ensures { IsShortened number chunk.old chunk.new }
+{
+    shorten(chunk, number);
+    chunk.left = chunk.left.saturating_sub(rows);
+}
+
+/// Puts the last rows of the chunk at this place, which were written anew, behind it. It returns whether memory was given.
+fn split(chunks: &mut Vec<StoredChunk>, place: usize, tail: StoredChunk) -> bool
+    requires place { place < length chunks.old.items }
+    requires below { (get_or chunks.old.items place tail).first < tail.first }
+    requires long { IsLong (get_or chunks.old.items place tail) }
+    ensures done { result ≡ true → IsSplit chunks.old.items place tail chunks.new.items }
+    ensures refused { result ≡ false → chunks.new.items ≡ chunks.old.items }
+{
+    let number = tail.first;
+    let rows = tail.left;
+    let Ok(()) = chunks.insert(place + 1, tail) else {
+        return false;
+    };
+    drop_tail(&mut chunks[place], number, rows);
+    true
+}
+
 /// Removes the chunks without columns.
 fn sweep(chunks: &mut Vec<StoredChunk>)
     ensures { chunks.new.items ≡ filter has_columns chunks.old.items }
@@ -367,6 +410,43 @@ impl StoredRows {
         }
     }
 
+    /// Writes the last rows of a chunk anew as one of their own, if more are left than are written at once. It returns
+    /// whether that was done.
+    fn shed(&mut self, layouts: &[LayoutTree], place: usize) -> bool
+        requires held { All (IsHeld (kids_of layouts.now)) self.old }
+        requires narrow { roses_size (kids_of layouts.now) ≤ max_fields }
+        requires layouts { AreLayouts (kids_of layouts.now) }
+        ensures { self.new ≡ self.old }
+    {
+        if place >= self.chunks.len() {
+            return false;
+        }
+        let chunk = &self.chunks[place];
+        let from = tail_start(&chunk.gone);
+        if from == 0 || from >= chunk.gone.len() {
+            return false;
+        }
+        match write_tail(self.alloc, layouts, chunk, from) {
+            Ok(Some(tail)) => split(&mut self.chunks, place, tail),
+            _ => false,
+        }
+    }
+
+    /// Writes the last rows of a chunk anew, as many as are written at once, until no more are left of it.
+    fn shed_all(&mut self, layouts: &[LayoutTree], place: usize)
+        requires held { All (IsHeld (kids_of layouts.now)) self.old }
+        requires narrow { roses_size (kids_of layouts.now) ≤ max_fields }
+        requires layouts { AreLayouts (kids_of layouts.now) }
+        ensures { self.new ≡ self.old }
+    {
+        // No chunk has more rows than are stored.
+        for _ in 0..self.len / MAX_BATCH_ROWS {
+            if !self.shed(layouts, place) {
+                return;
+            }
+        }
+    }
+
     /// Whether the last chunks are so small that they are merged.
     pub(crate) fn is_scattered(&self) -> bool {
         end_small(&self.chunks, MEDIUM_CHUNK)
@@ -426,8 +506,11 @@ impl StoredRows {
         if !is_thin(&self.chunks[place]) {
             return;
         }
-        let (from, to) = joined(&self.chunks, place);
-        self.rewrite(layouts, from, to);
+        self.shed_all(layouts, place);
+        if place < self.chunks.len() {
+            let (from, to) = joined(&self.chunks, place);
+            self.rewrite(layouts, from, to);
+        }
         self.ease_at(number);
     }
 

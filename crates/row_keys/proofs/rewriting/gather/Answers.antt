@@ -3,8 +3,8 @@ use Rattle.row_keys.specs.Chunks.{Chunk}
 use Rattle.row_keys.proofs.Gathering.{gathered_more, next_in}
 use Rattle.row_keys.proofs.rewriting.gather.Goals as goal
 
-pub push_ranges-requires : goal.push_ranges-requires
-push_ranges-requires c =
+pub push_ranges-requires-clause-rows : goal.push_ranges-requires-clause-rows
+push_ranges-requires-clause-rows c =
     (next_in c.args.part.now c.loop-chunk.chunk-index c.chunk-item.result c.chunk.inside.batch c.deref.result.now
     c.requires c.chunk-item.is c.loop-chunk-test.true (sym (ap (λ (x : Chunk). x.rows) c.chunk.view_is))
     (sym (ap (λ (x : Chunk). x.columns) c.chunk.view_is))
