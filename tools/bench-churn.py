@@ -1,7 +1,8 @@
 #!/usr/bin/env python3
 """Resident memory and time of a session that lives long: `lv live` over 10,000 live rows of the main table and 10,000 of a side table, with five
 views, after some thousands of rounds and after many more, of which each leaves the tables as they were: a row appended and retracted, each time
-under another key or under the same, a row appended and undone, a row of the side table put again, and one put and undone.
+under another key or under the same, a row appended and undone, a row of the side table put again, and one put and undone. Then what as many rows
+take that are appended one by one, and 1,024 at once.
 
 With a number, that many rounds of each, in place of a million. With a number and the name of a program, that program.
 """
@@ -136,12 +137,31 @@ def churn(program, name, round_of, many):
         print(f"{1e6 * taken / many:.1f} microseconds a round")
 
 
+def append(program, at_once, many):
+    """Appends so many rows, in batches of so many each."""
+    with tempfile.TemporaryDirectory() as folder:
+        live = Live(program, folder)
+        before, taken = live.resident(), 0
+        for first in range(LIVE, LIVE + many, TOGETHER * at_once):
+            last = min(first + TOGETHER * at_once, LIVE + many)
+            lines = [push("rows", rows(range(it, min(it + at_once, last)))) for it in range(first, last, at_once)]
+            start = time.monotonic()
+            live.send(lines)
+            taken += time.monotonic() - start
+        each = (live.resident() - before) / many
+        live.process.kill()
+        live.process.wait()
+        print(f"{many:,} rows appended {at_once:,} at once: {each:.0f} bytes and {1e6 * taken / many:.1f} microseconds a row")
+
+
 def main():
     os.chdir(ROOT)
     many = int(sys.argv[1]) if len(sys.argv) > 1 else ROUNDS
     program = sys.argv[2] if len(sys.argv) > 2 else "crates/lv/out/lv"
     for name, round_of in KINDS.items():
         churn(program, name, round_of, many)
+    for at_once in (1, 1024):
+        append(program, at_once, many)
 
 
 main()

@@ -33,6 +33,8 @@ key = "k"
 columns = [["k", "int64"]]
 [feed.add]
 role = "append"
+[feed.gone]
+role = "retract"
 [view.all]
 columns = [["k", "col", "k"]]
 order = [["k", "desc"]]
@@ -154,6 +156,20 @@ def number_lines(path):
     return lines + ["undo", "write all out/all-undone", "undo", "write each out/each-undone"]
 
 
+def single_lines(work):
+    """Batches of one row, a message a line, so many that they are merged. Most of the first go, and so many edits come after it that what is
+    left of them is written anew."""
+    lines = []
+    for feed, name, first, count in (("add", "first", 0, 40), ("gone", "gone", 0, 30), ("add", "rest", 40, 72)):
+        path = os.path.join(work, name)
+        schema = b"" if name == "rest" else INT64_SCHEMA
+        with open(path, "wb") as file:
+            file.write(schema + b"".join(int64_batch(1, it) for it in range(first, first + count)) + END_MARK)
+        lines += [f"piece {feed} {path} {first} {last - first}" for first, last in messages(path)]
+        lines += [f"write each out/each-{name}"]
+    return lines + ["write all out/all"] + ["undo"] * 20 + ["write all out/all-undone"]
+
+
 def messages(path):
     """Where each message of a stream begins and ends, without the end mark."""
     held, at = open(path, "rb").read(), 0
@@ -238,11 +254,12 @@ def main():
         config = os.path.join(work, "config")
         with open(config, "w") as file:
             file.write(NUMBERS)
-        report, numbers = report_lines(), number_lines(os.path.join(work, "numbers"))
+        report, numbers, singles = report_lines(), number_lines(os.path.join(work, "numbers")), single_lines(work)
         for name, of, stride in (("run", Runs, 1), ("live", LiveRuns, 5)):
             refusals = each_request(of(lv, work, os.path.join(REPORT, "report.toml")), report, stride)
+            merges = each_request(of(lv, work, config), singles, 11 * stride)
             spaces, some = each_space(of(lv, work, config), numbers)
-            print(f"refused memory: {name} over {len(report)} lines, {refusals} refusals")
+            print(f"refused memory: {name} over {len(report)} lines, {refusals} refusals; over {len(singles)} of single rows, {merges}")
             print(f"refused memory: {name} in {spaces} sizes of address space, {some} of which were too small for some lines")
         print(f"refused memory: recast in {recast_in_each_space(lv, work)} sizes of address space; all answers were right")
     return 0
