@@ -1,6 +1,7 @@
 pub mod RunLemmas
 pub mod NumberLemmas
 pub mod SlotLemmas
+pub mod CopiedSlots
 pub mod ByteLemmas
 pub mod BitLemmas
 pub mod RangeBits

@@ -1,6 +1,6 @@
 //! Copies slots of a fixed width in bytes.
 
-ghost use Rattle.std.specs.Prelude.{◌≡◌, ◌*◌, ◌≤◌, ◌++◌, OnOk, None, replicate, length, slice_range};
+ghost use Rattle.std.specs.Prelude.{◌≡◌, ◌+◌, ◌*◌, ◌≤◌, ◌++◌, OnOk, None, drop, replicate, length, slice_range, take};
 ghost use Rattle.std.specs.List.{flat_map};
 ghost use Rattle.column_writer.specs.Runs.{slot_width, slot_bytes};
 ghost use Rattle.column_writer.specs.Pieces.{IsChecked, range_cells};
@@ -29,10 +29,8 @@ pub(crate) fn slot_width(layout: Layout) -> usize
 pub(crate) fn push_zeros(out: &mut Vec<u8>, count: usize) -> Result<(), AllocError>
     ensures { OnOk result (out.new.items ≡ out.old.items ++ replicate count 0) }
 {
-    for _ in 0..count {
-        out.push(0)?;
-    }
-    Ok(())
+    let len = out.len().checked_add(count).ok_or(AllocError)?;
+    out.resize(len, 0)
 }
 
 /// The bytes of the slots from `from` to `to`, `width` bytes each.
@@ -44,7 +42,15 @@ fn slot_range(bytes: &[u8], width: usize, from: usize, to: usize) -> &[u8]
     &bytes[width * from..width * to]
 }
 
-/// Appends the bytes of the range's slots: zeros for a null, a run of valid slots copied at once.
+/// Puts zeros in the place of the `len` bytes from `from` on.
+fn clear(bytes: &mut Vec<u8>, from: usize, len: usize)
+    requires { from + len ≤ length bytes.old.items }
+    ensures { bytes.new.items ≡ take from bytes.old.items ++ (replicate len 0 ++ drop (from + len) bytes.old.items) }
+{
+    bytes[from..from + len].fill(0);
+}
+
+/// Appends the bytes of the range's slots: all are copied at once, and then zeros put in the place of each run of nulls.
 pub(crate) fn push_slots(out: &mut Vec<u8>, range: &SlotRange) -> Result<(), AllocError>
     requires checked { IsChecked range.now }
     requires plain { range.now.parts.own.now.dictionary ≡ None }
@@ -54,14 +60,16 @@ pub(crate) fn push_slots(out: &mut Vec<u8>, range: &SlotRange) -> Result<(), All
     let bits = buffer(range.parts.body, &range.parts.own.validity);
     let values = buffer(range.parts.body, &range.parts.own.values);
     let width = slot_width(range.parts.own.layout);
+    let mut place = out.len();
+    out.extend_from_slice(slot_range(values, width, range.from, range.to))?;
     let mut at = range.from;
     while at < range.to {
         let end = run_end(bits, at, range.to);
+        let len = width * (end - at);
         if is_null_at(bits, at) {
-            push_zeros(out, width * (end - at))?;
-        } else {
-            out.extend_from_slice(slot_range(values, width, at, end))?;
+            clear(out, place, len);
         }
+        place += len;
         at = end;
     }
     Ok(())

@@ -1,15 +1,18 @@
-use Rattle.std.proofs.Common.{◌≡◌, ◌++◌, ◌-◌, ◌≤◌}
+use Rattle.std.proofs.Common.{◌≡◌, ◌++◌, ◌*◌, ◌-◌, ◌≤◌, take}
 use Rattle.std.specs.List.{flat_map}
 use Rattle.values.specs.Rose.{node, kids_of}
 use Rattle.array_layout.specs.Cells.{cell}
+use Rattle.array_layout.specs.Placing.{bytes_of}
 use Rattle.column_writer.specs.Runs.{slots, slot_bytes}
+use Rattle.column_writer.proofs.CopiedSlots.{IsCopied}
 use Rattle.column_writer.proofs.slot_runs.push_slots.Given as goal
 
 abbrev pub invariant-loop-at : goal.invariant-loop-at
 invariant-loop-at l = record {
   past : l.range.from ≤ l.at;
   order : l.at ≤ l.range.to;
-  bytes : l.out.items ++ flat_map (slot_bytes l.range.parts.own.now.layout)
+  copied : IsCopied (bytes_of l.range.parts.body.now l.range.parts.own.now.values) l.out.items l.place (l.width * l.at) (l.width * l.range.to);
+  bytes : take l.place l.out.items ++ flat_map (slot_bytes l.range.parts.own.now.layout)
       (slots (cell l.range.parts.body.now (node l.range.parts.own.now (kids_of l.range.parts.children.now))) l.at
       (l.range.to - l.at))
       ≡ l.fn.out.items ++ flat_map (slot_bytes l.range.parts.own.now.layout)
