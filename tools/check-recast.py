@@ -89,6 +89,10 @@ def streams():
     for rows, size in ((0, 1), (1, 1), (1023, 1), (1024, 1024), (1025, 7), (2048, 1025), (3000, 1000), (5000, 5000)):
         yield f"{rows} rows by {size}", parted(rows, size)
     yield "no batch", schema([field(2, 64, 1)]) + END_MARK
+    # Batches that are longer than what is read at once, and one that is longer than the room.
+    for rows, size in ((40_000, 20_000), (200_000, 16_384), (500_000, 150_000), (300_000, 300_000)):
+        yield f"{rows} rows by {size}", parted(rows, size)
+    yield "long and short batches", parted(300_000, 150_000)[:-8] + parted(2000, 3)[len(schema([field(2, 64, 1)])):]
     yield "long texts", long_texts(40, 200_000)
     yield "light and long texts", long_texts(4, 10)[:-8] + long_texts(4, 300_000)[len(schema([field(5)])):]
 
@@ -113,6 +117,8 @@ def refused(room):
     wrong = {"empty": b"", "no end mark and a part": data[:-50], "bytes behind": data + b"\0" * 8, "no schema": data[200:]}
     wrong |= {f"cut at {part} of 16": data[: len(data) * part // 16] for part in range(1, 16)}
     wrong |= {f"zeros at {part} of 16": data[: (at := len(data) * part // 16 & ~7)] + bytes(64) + data[at + 64 :] for part in range(16)}
+    long = parted(300_000, 300_000)
+    wrong |= {f"a long message cut at {part} of 4": long[: len(long) * part // 4] for part in range(1, 4)}
     for name, part in wrong.items():
         room.put("in", part)
         piped = subprocess.run([room.program, "recast", "in", "-"], cwd=room.folder, capture_output=True, timeout=60)
