@@ -26,7 +26,7 @@ ghost use Rattle.values.specs.Datum.{Datum};
 ghost use Rattle.values.specs.Keys.{datum_of_key};
 ghost use Rattle.values.specs.Limits.{max_main_rows};
 ghost use Rattle.view_lang.specs.Causes.{cause_of};
-ghost use Rattle.view_lang.specs.Contents.{applied, keys_in, without};
+ghost use Rattle.view_lang.specs.Contents.{applied, key_in, keys_in, without};
 ghost use Rattle.view_lang.specs.Edits.{append, put, retract};
 ghost use Rattle.view_lang.specs.Joined.{side_of};
 ghost use Rattle.view_lang.specs.Laws.{AreKeyed};
@@ -84,8 +84,8 @@ use crate::turning::{retract_all, retract_from, revive_all, revive_from};
 use arrays::Column;
 use std::alloc::{AllocError, Global};
 use std::marker::Model;
-use values::{CellView, Key, KeyBuffer, Row};
-use view_lang::Table;
+use values::{CellView, Key, KeyBuffer, Row, Value};
+use view_lang::{RowView, Table};
 
 /// The rows of a table, by number. A row's number is its place in the order in which rows came. Rows are live or
 /// retracted; retracted rows keep their numbers, and can be put back.
@@ -606,6 +606,29 @@ impl RowStore {
             keys.push(self.numbers.key(*number).copy(self.alloc)?)?;
         }
         Ok(keys)
+    }
+
+    /// Copies of the key cells of a side table's rows of these numbers, live or retracted; null for those that are gone.
+    /// No row is opened.
+    pub fn key_cells(&self, numbers: &[usize]) -> Result<Row, AllocError>
+        requires { All (λ n. n < length self.now.slots) numbers.now }
+        ensures { IfOk result (λ cells. cells.items ≡ keys_at self.now.table numbers.now self.now.slots) }
+    {
+        let mut cells = Vec::with_capacity(self.alloc, numbers.len())?;
+        for number in numbers {
+            cells.push(self.key_cell(*number)?)?;
+        }
+        Ok(cells)
+    }
+
+    /// A copy of the key cell of the row of this number, live or retracted; null where it is gone.
+    fn key_cell(&self, number: usize) -> Result<Value, AllocError>
+        requires { number < length self.now.slots }
+        ensures { IfOk result (λ cell. cell ≡ key_in self.now.table (row_of self.now.slots number)) }
+    {
+        let row = self.row_at(number);
+        let cell = row.copy_cell(self.alloc, self.table.key)?;
+        Ok(cell)
     }
 
     /// The numbers of all live rows, in order.

@@ -1,0 +1,6 @@
+pub mod Absent
+pub mod Conjuncts
+pub mod FilterSplit
+pub mod Placing
+pub mod Parting
+pub mod Standing

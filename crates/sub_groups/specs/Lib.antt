@@ -1,0 +1,3 @@
+pub mod FilterParts
+pub mod Places
+pub mod SubGroups
