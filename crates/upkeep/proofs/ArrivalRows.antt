@@ -28,11 +28,17 @@ use Rattle.std.proofs.Common.{
   map,
   refl,
   ap,
+  ap₂,
+  not,
+  ◌&&◌,
+  ◌||◌,
+  true≢false,
   sym,
   subst,
   take,
   ◌∙◌,
 }
+use Rattle.std.specs.List.{AllByRecursion, list_any}
 use Rattle.std.specs.Option.{option_and_then, option_map}
 use Rattle.std.proofs.lemmas.List.{
   get_or-append-add,
@@ -45,6 +51,7 @@ use Rattle.std.proofs.lemmas.List.FromFn.{get_or-map-range_with_len, length-map-
 use Rattle.std.proofs.lemmas.List.Sums.{count_by-le-length, count_by_more_no, count_by_more_yes, sum_by-take-le}
 use Rattle.std.proofs.lemmas.Simd.{map-map}
 use Rattle.std.proofs.lemmas.List.Elements.{All-get_or}
+use Rattle.std.proofs.lemmas.Bool.{lt-ltb}
 use Rattle.std.proofs.lemmas.Option.{slice_get-get_or}
 use Rattle.std.specs.Prelude.{slice_set}
 use Rattle.values.specs.Datum.{Datum, null}
@@ -53,13 +60,27 @@ use Rattle.bitmaps.specs.Truths.{Truth}
 use Rattle.schema_meta.specs.Rows.{rows_from}
 use Rattle.view_lang.specs.Cells.{cell_at}
 use Rattle.view_lang.specs.Config.{View}
-use Rattle.view_lang.specs.Filter.{Filter}
+use Rattle.view_lang.specs.Filter.{Filter, Filters, all_of, compare, negation, no_part, null_in, one_of, part}
+use Rattle.view_lang.specs.declared.filter.Operand.{Operand}
+use Rattle.view_lang.specs.declared.filter.Operand.TheVariants as operand
 use Rattle.view_lang.specs.Joined.{Side, joined_by, joined_row, looked_up, or_missing}
 use Rattle.view_lang.specs.Outputs.{Outputs, columns, groups}
 use Rattle.view_lang.specs.Truth.{is_true, passes, truth}
 use Rattle.view_lang.specs.Views.{kept_row, shown_row}
 use Rattle.view_lang.specs.declared.view.Lookup.{Lookup}
-use Rattle.column_truths.specs.RowTruths.{IsWithin, TruthIsOfFirstCells, row_at as cells_of_row, truths_in}
+use Rattle.column_truths.specs.RowTruths.{AreWithin, IsWithin, OperandIsWithin, TruthIsOfFirstCells, row_at as cells_of_row, truths_in}
+use Rattle.sub_groups.specs.FilterParts.{
+  fails_other,
+  is_main,
+  is_main_part,
+  name_only,
+  operand_names,
+  parts_in,
+  parts_of_filter,
+  passes_main,
+  passes_others,
+}
+use Rattle.sub_groups.proofs.FilterSplit.{passes_both}
 use Rattle.row_keys.specs.Batches.{batch_rows, cells_in}
 use Rattle.row_keys.specs.NumberLaws.{with_new}
 use Rattle.row_keys.specs.Slots.{Slot, new_slot, no_slot, row_of}
@@ -76,7 +97,9 @@ use Rattle.upkeep.specs.Arrivals.{
   rows_of_numbers,
 }
 use Rattle.upkeep.specs.Stores.{rows_at, rows_in}
-use Rattle.upkeep.specs.ViewStates.{made_by, made_row}
+use Rattle.upkeep.specs.ViewStates.{IsDroppedLink, link_row, made_by, made_row, referring_row}
+use Rattle.upkeep.specs.declared.view_state.Links.{Links}
+use Rattle.upkeep.specs.declared.view_state.Links.TheVariants as links
 use Rattle.upkeep.specs.declared.arrivals.Arrival.{Arrival}
 use Rattle.upkeep.proofs.Editing.{rows_now}
 use Rattle.upkeep.proofs.MainTable.{batch_length}
@@ -124,6 +147,59 @@ unfolding joined_row keep
 dropped law v f row is within isnt side =
     not-found law f v.filter row is within isnt v.lookup (looked_up v.lookup side row)
 
+-- It fails what the main table decides alone: no part names another column.
+
+within_operand : (n : ℕ) (o : Operand) → OperandIsWithin n o → operand_names (is_main n) o ≡ true
+within_operand n (operand.Constant d) within = refl
+within_operand n (operand.Column k) within = lt-ltb k n within
+
+both_are : (a b : Bool) → a ≡ true → b ≡ true → (a && b) ≡ true
+both_are a b x y = ap₂ (λ c d. c && d) x y
+
+mutual
+  within_names : (n : ℕ) (f : Filter) → IsWithin n f → is_main_part n f ≡ true
+  within_names n (compare c k o) within =
+      both_are (is_main n k) (operand_names (is_main n) o) (lt-ltb k n within.0) (within_operand n o within.1)
+  within_names n (null_in k) within = lt-ltb k n within
+  within_names n (negation f) within = within_names n f within
+  within_names n (all_of fs) within = within_each n fs within
+  within_names n (one_of fs) within = within_each n fs within
+
+  within_each : (n : ℕ) (fs : Filters) → AreWithin n fs → name_only (is_main n) fs ≡ true
+  within_each n no_part within = refl
+  within_each n (part f fs) within =
+      both_are (is_main_part n f) (name_only (is_main n) fs) (within_names n f within.0) (within_each n fs within.1)
+
+each_main : (n : ℕ) (fs : Filters) → AreWithin n fs → AllByRecursion (λ g. is_main_part n g ≡ true) (parts_in fs)
+each_main n no_part within = tt
+each_main n (part f fs) within = (within_names n f within.0, each_main n fs within.1)
+
+parts_main : (n : ℕ) (f : Filter) → IsWithin n f
+    → AllByRecursion (λ g. is_main_part n g ≡ true) (parts_of_filter f)
+parts_main n (compare c k o) within = (within_names n (compare c k o) within, tt)
+parts_main n (null_in k) within = (within_names n (null_in k) within, tt)
+parts_main n (negation f) within = (within_names n (negation f) within, tt)
+parts_main n (all_of fs) within = each_main n fs within
+parts_main n (one_of fs) within = (within_names n (one_of fs) within, tt)
+
+no_other : (n : ℕ) (row : List Datum) (gs : List Filter) → AllByRecursion (λ g. is_main_part n g ≡ true) gs
+    → list_any (fails_other n row) gs ≡ false
+no_other n row [] main = refl
+no_other n row (g ∷ gs) main =
+    ap₂ (λ a b. (not a && not (is_true (truth row g))) || b) main.0 (no_other n row gs main.1)
+
+left_false : (a b : Bool) → b ≡ true → (a && b) ≡ false → a ≡ false
+left_false true b is both = absurd (true≢false (sym is ∙ both))
+left_false false b is both = refl
+
+fails_alone : (n : ℕ) (o : Option Filter) (f : Filter) (row : List Datum) → o ≡ Some f → IsWithin n f
+    → is_true (truth row f) ≡ false → passes_main n o row ≡ false
+unfolding passes
+fails_alone n o f row is within isnt =
+    left_false (passes_main n o row) (passes_others n o row)
+    (ap (λ x. passes_others n x row) is ∙ ap not (no_other n row (parts_of_filter f) (parts_main n f within)))
+    (sym (passes_both n o row) ∙ ap (λ x. passes x row) is ∙ isnt)
+
 pub batch_tells :
     (law : TruthIsOfFirstCells) (v : View) (f : Filter) (batch : List CheckedColumn) (n : ℕ) (a : Arrival)
     → v.filter ≡ Some f → IsWithin (length batch) f → a.truths ≡ truths_in n batch f
@@ -142,6 +218,10 @@ batch_tells law v f batch n a is within truths refers k below =
           subst (IsDropped v) (sym (batch-row batch n k inside))
           (dropped law v f (cells_of_row batch k) is (subst (λ m. IsWithin m f) (sym long) within)
           (ap is_true (sym here) ∙ isnt));
+      apart = λ isnt.
+          subst (λ (row : List Datum). passes_main (length row) v.filter row ≡ false) (sym (batch-row batch n k inside))
+          (fails_alone (length (cells_of_row batch k)) v.filter f (cells_of_row batch k) is
+          (subst (λ m. IsWithin m f) (sym long) within) (ap is_true (sym here) ∙ isnt));
       refers = refers k below;
     }
 
@@ -252,6 +332,13 @@ made-none (groups by outputs having) o is = is
 
 pub made_none : (v : View) (side : Side) (row : List Datum) → IsDropped v row → made_row v side row ≡ None
 made_none v side row dropped = made-none v.outputs (kept_row v side row) (dropped side)
+
+-- What links keep of it
+pub dropped_link :
+    (l : Links) (v : View) (row : List Datum) (cell : Option Datum) → referring_row v row ≡ option_map (λ d. d ∷ []) cell
+    → passes_main (length row) v.filter row ≡ false → IsDroppedLink l cell (link_row l v row)
+dropped_link (links.Rows r) v row cell refers apart = refers
+dropped_link (links.SubGroups s) v row cell refers apart = ap (λ b. cond b (Some row) None) apart
 
 -- How many rows are opened
 

@@ -22,6 +22,7 @@ use Rattle.std.proofs.Common.{
   ap₂,
   sym,
   subst,
+  true≢false,
   ◌∙◌,
 }
 use Rattle.std.specs.Cmp.{nat_cmp_total}
@@ -30,7 +31,7 @@ use Rattle.std.specs.List.Sorted.{IsStrictlySortedBy}
 use Rattle.std.specs.Map.{keys_of, values_of}
 use Rattle.std.specs.Option.{option_and_then, option_map, unwrap_or}
 use Rattle.std.specs.Ordering.{nat_cmp}
-use Rattle.std.specs.Prelude.{cond}
+use Rattle.std.specs.Prelude.{cond, is_some}
 use Rattle.values.specs.Datum.{Datum, null}
 use Rattle.values.specs.Limits.{max_main_rows}
 use Rattle.view_lang.specs.Cells.{cell_at}
@@ -56,20 +57,24 @@ use Rattle.row_keys.specs.Numbered.{numbered}
 use Rattle.row_keys.specs.Slots.{Slot, live}
 use Rattle.upkeep.specs.Reading.{AreShown, IsReadable, LiveAreShown}
 use Rattle.upkeep.specs.ViewStates.{
+  AreLinks,
   IsCurrent,
   IsKept,
   IsKeptBy,
+  KeepsLinks,
   ShowsEach,
   is_plain,
   leaves_none,
+  link_row,
   made_by,
   made_row,
   referring_by,
-  referring_row,
   stays,
 }
 use Rattle.upkeep.specs.declared.view_state.Kept.{Kept}
 use Rattle.upkeep.specs.declared.view_state.Kept.TheVariants as kept
+use Rattle.upkeep.specs.declared.view_state.Links.{Links}
+use Rattle.upkeep.specs.declared.view_state.Links.TheVariants as links
 use Rattle.upkeep.specs.declared.view_state.ViewState.{ViewState}
 use Rattle.upkeep.proofs.MadeRows.{Laws, are_made, first_taken, made_rows, made_values}
 
@@ -204,12 +209,20 @@ none_refer None [] is = refl
 none_refer None (e ∷ es) is = none_refer None es is
 none_refer (Some l) rows is = absurd (cc)
 
+-- and so are links, where no table is looked up
+still_linked :
+    (tables : List Table) (v : View) (k : Kept) (l : Links) (old new : NumberedRows) → v.lookup ≡ None
+    → AreLinks tables v k l → KeepsLinks l (image (link_row l v) old) → KeepsLinks l (image (link_row l v) new)
+still_linked tables v k (links.Rows r) old new none are keeps =
+    subst (KeepsReferrers r) (none_refer v.lookup old none ∙ sym (none_refer v.lookup new none)) keeps
+still_linked tables v k (links.SubGroups s) old new none are keeps =
+    absurd (true≢false (ap is_some (sym are.0.can.lookup ∙ none)))
+
 pub still_current :
-    (v : View) (side : Side) (s : ViewState) (old new : NumberedRows) → (s.kept ≡ kept.Live) × (v.lookup ≡ None)
-    → IsCurrent v side s old → IsCurrent v side s new
-still_current v side s old new nothing current = λ fresh.
+    (tables : List Table) (v : View) (side : Side) (s : ViewState) (old new : NumberedRows)
+    → (s.kept ≡ kept.Live) × (v.lookup ≡ None) → IsCurrent tables v side s old → IsCurrent tables v side s new
+still_current tables v side s old new nothing current = λ fresh.
     let was = current fresh in (
       still_live v s.kept (image (made_row v side) old) (image (made_row v side) new) nothing.0 was.0,
-      subst (KeepsReferrers s.referrers)
-          (none_refer v.lookup old nothing.1 ∙ sym (none_refer v.lookup new nothing.1)) was.1,
+      (was.1.0, still_linked tables v s.kept s.links old new nothing.1 was.1.0 was.1.1),
     )

@@ -73,10 +73,13 @@ use Rattle.upkeep.specs.Stores.{Rows, rows_at, world_of}
 use Rattle.upkeep.specs.Swaps.{named_keys, swapped}
 use Rattle.upkeep.specs.Touched.{refers_by}
 use Rattle.upkeep.specs.ViewStates.{
+  AreLinks,
   IsBefore,
   IsCurrent,
   IsCurrentWith,
   IsKept,
+  KeepsLinks,
+  link_row,
   looks_up,
   made_change,
   made_row,
@@ -85,6 +88,8 @@ use Rattle.upkeep.specs.ViewStates.{
   swapped_at,
 }
 use Rattle.upkeep.specs.declared.table_change.TableChange.{TableChange}
+use Rattle.upkeep.specs.declared.view_state.Links.{Links}
+use Rattle.upkeep.specs.declared.view_state.Links.TheVariants as links
 use Rattle.upkeep.specs.declared.view_state.Turn.{Turn}
 use Rattle.upkeep.specs.declared.view_state.Turn.TheVariants as turn
 use Rattle.upkeep.specs.declared.view_state.ViewState.{ViewState}
@@ -112,15 +117,15 @@ set_twice (z ∷ zs) (suc n) x y = ap (λ ws. z ∷ ws) (set_twice zs n x y)
 pub current_without :
     (tables : List Table) (n : ℕ) (u : Turn) (c : TableChange) (old new : Rows) (v : View) (s : ViewState) → 0 < n
     → IsBefore n u c old new → IsCurrentWith tables old v s
-    → IsCurrent v (side_by tables (swapped_at n u c new) v) s (numbered (rows_at new 0))
+    → IsCurrent tables v (side_by tables (swapped_at n u c new) v) s (numbered (rows_at new 0))
 current_without tables n u c old new v s side before current =
     let slots : List Slot = swapped u c (rows_at new n) in
     let set : slice_set old n slots ≡ slice_set new n slots =
     ap (λ (rs : Rows). slice_set rs n slots) before.differs ∙ set_twice new n (rows_at old n) slots in
-    subst (λ (rows : NumberedRows). IsCurrent v (side_by tables (swapped_at n u c new) v) s rows)
+    subst (λ (rows : NumberedRows). IsCurrent tables v (side_by tables (swapped_at n u c new) v) s rows)
     (main_same n old new side before.differs)
-    (subst (λ (rs : Rows). IsCurrent v (side_by tables rs v) s (numbered (rows_at old 0))) set
-    (current_same v (side_by tables old v) (side_by tables (slice_set old n slots) v) s (numbered (rows_at old 0))
+    (subst (λ (rs : Rows). IsCurrent tables v (side_by tables rs v) s (numbered (rows_at old 0))) set
+    (current_same tables v (side_by tables old v) (side_by tables (slice_set old n slots) v) s (numbered (rows_at old 0))
     (sides_same tables v.lookup old n slots (sym before.live_same)) current))
 
 world_placed : (rows : Rows) (n : ℕ) (slots : List Slot) → n < length rows
@@ -192,8 +197,8 @@ module _ (laws : Laws) (tables : List Table) (n : ℕ) (u : Turn) (c : TableChan
     (s : ViewState) (keys : List Key) (ns : List ℕ) (side : 0 < n) (below : n < length rows)
     (looks : looks_up v.lookup n ≡ true) (fresh : s.stale ≡ false)
     (named : map datum_of_key keys ≡ named_keys (table_at tables n) c (rows_at rows n))
-    (are : (m : ℕ) → is_numbered ns m ≡ list_any (λ k. refers_to s.referrers k m) keys)
-    (ascending : IsStrictlySortedBy nat_cmp ns) where
+    (ascending : IsStrictlySortedBy nat_cmp ns) (r : RowsByKey) (is : s.links ≡ links.Rows r)
+    (are : (m : ℕ) → is_numbered ns m ≡ list_any (λ k. refers_to r k m) keys) where
   abbrev pub main : List Slot
   main = rows_at rows 0
 
@@ -207,14 +212,17 @@ module _ (laws : Laws) (tables : List Table) (n : ℕ) (u : Turn) (c : TableChan
   look = look_some v.lookup n looks
 
   module _ (old : Rows) (before : IsBefore n u c old rows) (current : IsCurrentWith tables old v s) where
-    was : IsCurrent v (side_by tables (swapped_at n u c rows) v) s (numbered main)
+    was : IsCurrent tables v (side_by tables (swapped_at n u c rows) v) s (numbered main)
     was = current_without tables n u c old rows v s side before current
+
+    keeps : KeepsReferrers r (image (referring_row v) (numbered main))
+    keeps =
+        subst (λ (l : Links). KeepsLinks l (image (link_row l v) (numbered main))) is (was fresh).1.1
 
     pub refer : AreReferring look.0 (named_keys (table_at tables n) c (rows_at rows n)) main ns
     refer =
         subst (λ (ks : List Datum). AreReferring look.0 ks main ns) named
-        (are_referring laws.keys laws.at laws.ascend laws.numbers v look.0 s.referrers main keys ns look.1 (was fresh).1
-        are)
+        (are_referring laws.keys laws.at laws.ascend laws.numbers v look.0 r main keys ns look.1 keeps are)
 
     pub there : All (λ m. m < length main) ns
     there = referring_below look.0 (named_keys (table_at tables n) c (rows_at rows n)) main ns refer
@@ -266,7 +274,7 @@ module _ (laws : Laws) (tables : List Table) (n : ℕ) (u : Turn) (c : TableChan
     )
 
     -- and what is kept then
-    pub remade_kept : (new : ViewState) → new.referrers ≡ s.referrers
+    pub remade_kept : (new : ViewState) → new.links ≡ s.links
         → ((kept : NumberedRows) → Fits kept (remade_change tables rows v n u c ns)
         → IsKept v s.kept kept
         → IsKept v new.kept (patched kept (remade_change tables rows v n u c ns)))
@@ -274,9 +282,19 @@ module _ (laws : Laws) (tables : List Table) (n : ℕ) (u : Turn) (c : TableChan
     remade_kept new same kept = λ still. (
       subst (λ (made : NumberedRows). IsKept v new.kept made) change_leads.patched_is
           (kept (image made_without (numbered main)) change_leads.fits (was fresh).0),
-      subst (λ (r : RowsByKey). KeepsReferrers r (image (referring_row v) (numbered main))) (sym same) (was fresh).1,
+      subst (λ (l : Links). AreLinks tables v new.kept l × KeepsLinks l (image (link_row l v) (numbered main)))
+          (sym (same ∙ is)) (tt, keeps),
     )
 
 pub on_ok : {X E : Type 0} (P Q : Type 0) (r : Result X E) → (P → Q) → OnOk r P → OnOk r Q
 on_ok P Q (Ok x) f h = f h
 on_ok P Q (Err e) f h = tt
+
+pub on_ok_two : {X E : Type 0} (A B P : Type 0) (r : Result X E) → (A → B → P) → OnOk r A → OnOk r B → OnOk r P
+on_ok_two A B P (Ok x) f a b = f a b
+on_ok_two A B P (Err e) f a b = tt
+
+pub on_ok_four : {X E : Type 0} (A B C D P : Type 0) (r : Result X E) → (A → B → C → D → P) → OnOk r A → OnOk r B
+    → OnOk r C → OnOk r D → OnOk r P
+on_ok_four A B C D P (Ok x) f a b c d = f a b c d
+on_ok_four A B C D P (Err e) f a b c d = tt

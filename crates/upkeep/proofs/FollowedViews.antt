@@ -36,7 +36,7 @@ use Rattle.upkeep.proofs.Mixtures.{Mixed, each_length, mixed_all, mixed_more, mi
 
 -- what is kept of a view is made of these rows
 abbrev With : List Table → Rows → NumberedRows → View → ViewState → Type 0
-With tables rows live v s = IsCurrent v (side_by tables rows v) s live
+With tables rows live v s = IsCurrent tables v (side_by tables rows v) s live
 
 -- the first n states are those of the rows after a change
 abbrev pub AreFollowed : List Table → Rows → NumberedRows → NumberedRows → ℕ → List View → List ViewState → Type 0

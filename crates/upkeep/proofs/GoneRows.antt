@@ -54,7 +54,7 @@ current_seen tables old new live [] [] same each = tt
 current_seen tables old new live [] (s ∷ ss) same each = absurd each
 current_seen tables old new live (v ∷ vs) [] same each = absurd each
 current_seen tables old new live (v ∷ vs) (s ∷ ss) same each = (
-  subst (λ (w : World). IsCurrent v (side_in tables w v.lookup) s live) (sym same) each.0,
+  subst (λ (w : World). IsCurrent tables v (side_in tables w v.lookup) s live) (sym same) each.0,
   current_seen tables old new live vs ss same each.1,
 )
 

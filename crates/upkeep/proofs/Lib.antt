@@ -25,3 +25,5 @@ pub mod Refreshing
 pub mod Taken
 pub mod TakenApart
 pub mod GoneRows
+pub mod MovedSubGroups
+pub mod MovedRows

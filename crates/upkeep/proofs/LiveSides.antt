@@ -75,9 +75,9 @@ image_same f g same (e ∷ es) =
     ∙ ap (image_by e.0 (g e.1)) (image_same f g same es)
 
 pub current_same :
-    (v : View) (a b : Side) (s : ViewState) (rows : NumberedRows) → ((d : Datum) → a d ≡ b d) → IsCurrent v a s rows
-    → IsCurrent v b s rows
-current_same v a b s rows same current = λ fresh. (
+    (tables : List Table) (v : View) (a b : Side) (s : ViewState) (rows : NumberedRows)
+    → ((d : Datum) → a d ≡ b d) → IsCurrent tables v a s rows → IsCurrent tables v b s rows
+current_same tables v a b s rows same current = λ fresh. (
   subst (λ (made : NumberedRows). IsKept v s.kept made)
       (image_same (made_row v a) (made_row v b) (made_same v a b same) rows) (current fresh).0,
   (current fresh).1,
@@ -124,7 +124,7 @@ each_side_same tables rows n slots main [] [] same current = current
 each_side_same tables rows n slots main [] (s ∷ ss) same current = absurd current
 each_side_same tables rows n slots main (v ∷ vs) [] same current = absurd current
 each_side_same tables rows n slots main (v ∷ vs) (s ∷ ss) same current = (
-  current_same v (side_by tables rows v) (side_by tables (slice_set rows n slots) v) s main
+  current_same tables v (side_by tables rows v) (side_by tables (slice_set rows n slots) v) s main
       (sides_same tables v.lookup rows n slots same) current.0,
   each_side_same tables rows n slots main vs ss same current.1,
 )

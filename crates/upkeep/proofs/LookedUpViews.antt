@@ -100,16 +100,16 @@ pub current_after :
     (tables : List Table) (n : ℕ) (old new : Rows) (v : View) (s : ViewState) → 0 < n → DiffersAt n old new
     → looks_up v.lookup n ≡ false → IsCurrentWith tables old v s → IsCurrentWith tables new v s
 current_after tables n old new v s side differs apart current =
-    subst (λ (rows : NumberedRows). IsCurrent v (side_by tables new v) s rows) (main_same n old new side differs)
-    (subst (λ (a : Side). IsCurrent v a s (numbered (rows_at old 0)))
+    subst (λ (rows : NumberedRows). IsCurrent tables v (side_by tables new v) s rows) (main_same n old new side differs)
+    (subst (λ (a : Side). IsCurrent tables v a s (numbered (rows_at old 0)))
     (sides_same tables v.lookup n old new differs apart) current)
 
 current_before :
     (tables : List Table) (n : ℕ) (old new : Rows) (v : View) (s : ViewState) → 0 < n → DiffersAt n old new
     → looks_up v.lookup n ≡ false → IsCurrentWith tables new v s → IsCurrentWith tables old v s
 current_before tables n old new v s side differs apart current =
-    subst (λ (rows : NumberedRows). IsCurrent v (side_by tables old v) s rows) (sym (main_same n old new side differs))
-    (subst (λ (a : Side). IsCurrent v a s (numbered (rows_at new 0)))
+    subst (λ (rows : NumberedRows). IsCurrent tables v (side_by tables old v) s rows) (sym (main_same n old new side differs))
+    (subst (λ (a : Side). IsCurrent tables v a s (numbered (rows_at new 0)))
     (sym (sides_same tables v.lookup n old new differs apart)) current)
 
 -- each view
@@ -117,7 +117,7 @@ current_before tables n old new v s side differs apart current =
 pub each_current :
     (tables : List Table) (rows : Rows) (live : NumberedRows) (views : List View) (states : List ViewState)
     → EachIsCurrent tables rows live views states
-    → Each (λ (v : View) (s : ViewState). IsCurrent v (side_by tables rows v) s live) views states
+    → Each (λ (v : View) (s : ViewState). IsCurrent tables v (side_by tables rows v) s live) views states
 each_current tables rows live [] [] each = each
 each_current tables rows live [] (s ∷ ss) each = absurd each
 each_current tables rows live (v ∷ vs) [] each = absurd each
@@ -125,7 +125,7 @@ each_current tables rows live (v ∷ vs) (s ∷ ss) each = (each.0, each_current
 
 pub current_each :
     (tables : List Table) (rows : Rows) (live : NumberedRows) (views : List View) (states : List ViewState)
-    → Each (λ (v : View) (s : ViewState). IsCurrent v (side_by tables rows v) s live) views states
+    → Each (λ (v : View) (s : ViewState). IsCurrent tables v (side_by tables rows v) s live) views states
     → EachIsCurrent tables rows live views states
 current_each tables rows live [] [] each = each
 current_each tables rows live [] (s ∷ ss) each = absurd each
@@ -212,15 +212,15 @@ both_false false b none = (refl, none)
 
 marked_current :
     (tables : List Table) (rows : Rows) (live : NumberedRows) (v : View) (s : ViewState) (looks : Bool)
-    → (looks ≡ false → IsCurrent v (side_by tables rows v) s live)
-    → IsCurrent v (side_by tables rows v) (stale_if looks s) live
+    → (looks ≡ false → IsCurrent tables v (side_by tables rows v) s live)
+    → IsCurrent tables v (side_by tables rows v) (stale_if looks s) live
 marked_current tables rows live v s looks current = λ fresh.
     let both = both_false s.stale looks fresh in
     current both.1 both.0
 
 marked_each :
     (tables : List Table) (n : ℕ) (rows : Rows) (live : NumberedRows) (views : List View) (states : List ViewState)
-    → Each (λ (v : View) (s : ViewState). looks_up v.lookup n ≡ false → IsCurrent v (side_by tables rows v) s live)
+    → Each (λ (v : View) (s : ViewState). looks_up v.lookup n ≡ false → IsCurrent tables v (side_by tables rows v) s live)
     views states
     → EachIsCurrent tables rows live views (lookups_stale n views states)
 marked_each tables n rows live [] [] each = each

@@ -90,7 +90,7 @@ each_kept tables rows slots now [] [] h = h
 each_kept tables rows slots now [] (s ∷ ss) h = absurd h
 each_kept tables rows slots now (v ∷ vs) [] h = absurd h
 each_kept tables rows slots now (v ∷ vs) (s ∷ ss) h = (
-  subst (λ (side : Side). IsCurrent v side s now) (sym (side_kept tables rows slots v)) h.0,
+  subst (λ (side : Side). IsCurrent tables v side s now) (sym (side_kept tables rows slots v)) h.0,
   each_kept tables rows slots now vs ss h.1,
 )
 

@@ -45,19 +45,19 @@ opened_stays ss ss' views states opened was = record {
 
 each_set :
     (tables : List Table) (rows : Rows) (main : NumberedRows) (views : List View) (states : List ViewState) (k : ℕ)
-    (v : View) (s : ViewState) → v ≡ get_or views k v → k < length views → IsCurrent v (side_by tables rows v) s main
+    (v : View) (s : ViewState) → v ≡ get_or views k v → k < length views → IsCurrent tables v (side_by tables rows v) s main
     → EachIsCurrent tables rows main views states → EachIsCurrent tables rows main views (slice_set states k s)
 each_set tables rows main [] states k v s is below here current = absurd (omega (arith, below))
 each_set tables rows main (w ∷ ws) [] k v s is below here current = absurd current
 each_set tables rows main (w ∷ ws) (x ∷ xs) zero v s is below here current =
-    (subst (λ (a : View). IsCurrent a (side_by tables rows a) s main) is here, current.1)
+    (subst (λ (a : View). IsCurrent tables a (side_by tables rows a) s main) is here, current.1)
 each_set tables rows main (w ∷ ws) (x ∷ xs) (suc k) v s is below here current =
     (current.0, each_set tables rows main ws xs k v s is (omega (arith, below)) here current.1)
 
 pub refreshed :
     (ss ss' : List Store) (views : List View) (states : List ViewState) (k : ℕ) (v : View) (s : ViewState)
     → Opened ss ss' → v ≡ get_or views k v → k < length views
-    → IsCurrent v (side_by (tables_in ss) (rows_in ss) v) s (numbered (rows_at (rows_in ss) 0))
+    → IsCurrent (tables_in ss) v (side_by (tables_in ss) (rows_in ss) v) s (numbered (rows_at (rows_in ss) 0))
     → AreLive ss views states → AreLive ss' views (slice_set states k s)
 refreshed ss ss' views states k v s opened is below here was =
     opened_stays ss ss' views (slice_set states k s) opened
@@ -84,12 +84,12 @@ fresh_was (x ∷ xs) (suc k) s is fresh = ap (λ (bs : List Bool). x.stale ∷ b
 pub state_current :
     (tables : List Table) (rows : Rows) (main : NumberedRows) (views : List View) (states : List ViewState) (k : ℕ)
     (v : View) (s : ViewState) → v ≡ get_or views k v → s ≡ get_or states k s → k < length views
-    → EachIsCurrent tables rows main views states → IsCurrent v (side_by tables rows v) s main
+    → EachIsCurrent tables rows main views states → IsCurrent tables v (side_by tables rows v) s main
 state_current tables rows main [] states k v s is at below current = absurd (omega (arith, below))
 state_current tables rows main (w ∷ ws) [] k v s is at below current = absurd current
 state_current tables rows main (w ∷ ws) (x ∷ xs) zero v s is at below current =
-    subst (λ (y : ViewState). IsCurrent v (side_by tables rows v) y main) (sym at)
-    (subst (λ (a : View). IsCurrent a (side_by tables rows a) x main) (sym is) current.0)
+    subst (λ (y : ViewState). IsCurrent tables v (side_by tables rows v) y main) (sym at)
+    (subst (λ (a : View). IsCurrent tables a (side_by tables rows a) x main) (sym is) current.0)
 state_current tables rows main (w ∷ ws) (x ∷ xs) (suc k) v s is at below current =
     state_current tables rows main ws xs k v s is at (omega (arith, below)) current.1
 

@@ -70,34 +70,35 @@ use Rattle.upkeep.specs.ViewStates.{
   made_by,
   made_change,
   made_row,
-  referring_change,
-  referring_row,
+  link_change,
+  link_row,
   turned,
   turned_by,
 }
 use Rattle.upkeep.specs.declared.view_state.Kept.{Kept}
 use Rattle.upkeep.specs.declared.view_state.Kept.TheVariants as kept
+use Rattle.upkeep.specs.declared.view_state.Links.{Links}
 use Rattle.upkeep.specs.declared.view_state.Turn.{Turn}
 use Rattle.upkeep.specs.declared.view_state.Turn.TheVariants as turn
 
 -- A change in which one row comes or goes
 
-module _ (t : Turn) (n : ℕ) (row : List Datum) (rows : NumberedRows) where
-  pub come_fits : t ≡ turn.Come → Fits rows (turned_by t n (Some row) ∷ [])
+module _ (t : Turn) (n : ℕ) (row : Option (List Datum)) (rows : NumberedRows) where
+  pub come_fits : t ≡ turn.Come → Fits rows (turned_by t n row ∷ [])
       → IsStrictlySortedBy nat_cmp (keys_of rows) × (row_at n rows ≡ None)
   come_fits is fits =
-      let f = subst (λ (u : Turn). Fits rows (turned_by u n (Some row) ∷ [])) is fits in (f.ascending, f.in_turn.0)
+      let f = subst (λ (u : Turn). Fits rows (turned_by u n row ∷ [])) is fits in (f.ascending, f.in_turn.0)
 
-  pub go_fits : t ≡ turn.Go → Fits rows (turned_by t n (Some row) ∷ [])
-      → IsStrictlySortedBy nat_cmp (keys_of rows) × (row_at n rows ≡ Some row)
+  pub go_fits : t ≡ turn.Go → Fits rows (turned_by t n row ∷ [])
+      → IsStrictlySortedBy nat_cmp (keys_of rows) × (row_at n rows ≡ row)
   go_fits is fits =
-      let f = subst (λ (u : Turn). Fits rows (turned_by u n (Some row) ∷ [])) is fits in (f.ascending, f.in_turn.0)
+      let f = subst (λ (u : Turn). Fits rows (turned_by u n row ∷ [])) is fits in (f.ascending, f.in_turn.0)
 
-  pub come_patched : t ≡ turn.Come → patched rows (turned_by t n (Some row) ∷ []) ≡ with_at n (Some row) rows
-  come_patched is = ap (λ (u : Turn). patched rows (turned_by u n (Some row) ∷ [])) is
+  pub come_patched : t ≡ turn.Come → patched rows (turned_by t n row ∷ []) ≡ with_at n row rows
+  come_patched is = ap (λ (u : Turn). patched rows (turned_by u n row ∷ [])) is
 
-  pub go_patched : t ≡ turn.Go → patched rows (turned_by t n (Some row) ∷ []) ≡ with_at n None rows
-  go_patched is = ap (λ (u : Turn). patched rows (turned_by u n (Some row) ∷ [])) is
+  pub go_patched : t ≡ turn.Go → patched rows (turned_by t n row ∷ []) ≡ with_at n None rows
+  go_patched is = ap (λ (u : Turn). patched rows (turned_by u n row ∷ [])) is
 
 -- where there is no row nothing changes
 
@@ -273,11 +274,12 @@ module _ (stores now : List Store) (s s' read : Store) (v : View) (n visit : ℕ
       ∙ sym (live_change (made_row v (side_by (tables_in stores) (rows_in stores) v)) (rows_at (rows_in stores) 0) n t
       live)
 
-  pub referring_of_visited : (t : Turn) → (t ≡ turn.Go → (get_or (rows_at (rows_in stores) 0) n no_slot).live ≡ true)
-      → turned_by t n (referring_row v row) ∷ [] ≡ referring_change (rows_at (rows_in stores) 0) v t (n ∷ [])
-  referring_of_visited t live =
-      ap (λ r. turned_by t n (referring_row v r) ∷ []) row_is
-      ∙ sym (live_change (referring_row v) (rows_at (rows_in stores) 0) n t live)
+  pub link_of_visited : (l : Links) (t : Turn)
+      → (t ≡ turn.Go → (get_or (rows_at (rows_in stores) 0) n no_slot).live ≡ true)
+      → turned_by t n (link_row l v row) ∷ [] ≡ link_change (rows_at (rows_in stores) 0) l v t (n ∷ [])
+  link_of_visited l t live =
+      ap (λ r. turned_by t n (link_row l v r) ∷ []) row_is
+      ∙ sym (live_change (link_row l v) (rows_at (rows_in stores) 0) n t live)
 
 -- what is kept through a change, however the change is named
 pub same_change : (P : NumberedRows → Type 0) (Q : NumberedRows → Type 0) (one change : List Shift) → one ≡ change

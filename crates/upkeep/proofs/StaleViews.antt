@@ -35,9 +35,8 @@ use Rattle.std.proofs.lemmas.List.{map-append, take_all}
 use Rattle.std.proofs.lemmas.List.Elements.{All-cons, All-head, All-nil, All-tail}
 use Rattle.std.proofs.lemmas.List.Sums.{sum_by-cons}
 use Rattle.view_lang.specs.Config.{Table, View}
-use Rattle.lookups.specs.Keeping.{Keeps as KeepsReferrers}
 use Rattle.upkeep.specs.Stores.{Rows}
-use Rattle.upkeep.specs.ViewStates.{EachIsCurrent, IsKept, stale_in}
+use Rattle.upkeep.specs.ViewStates.{AreLinks, EachIsCurrent, IsKept, KeepsLinks, stale_in}
 use Rattle.upkeep.specs.declared.view_state.ViewState.{ViewState}
 
 -- marked one after the other
@@ -72,26 +71,27 @@ counted (s ∷ ss) =
 
 current_more :
     (tables : List Table) (rows : Rows) (views : List View) (states : List ViewState) (v : View) (s : ViewState)
-    → EachIsCurrent tables rows [] views states → IsKept v s.kept [] → KeepsReferrers s.referrers []
+    → EachIsCurrent tables rows [] views states → IsKept v s.kept []
+    → AreLinks tables v s.kept s.links × KeepsLinks s.links []
     → EachIsCurrent tables rows [] (views ++ v ∷ []) (states ++ s ∷ [])
-current_more tables rows [] [] v s each kept refers = (λ fresh. (kept, refers), tt)
-current_more tables rows [] (t ∷ ts) v s each kept refers = absurd each
-current_more tables rows (w ∷ ws) [] v s each kept refers = absurd each
-current_more tables rows (w ∷ ws) (t ∷ ts) v s each kept refers =
-    (each.0, current_more tables rows ws ts v s each.1 kept refers)
+current_more tables rows [] [] v s each kept links = (λ fresh. (kept, links), tt)
+current_more tables rows [] (t ∷ ts) v s each kept links = absurd each
+current_more tables rows (w ∷ ws) [] v s each kept links = absurd each
+current_more tables rows (w ∷ ws) (t ∷ ts) v s each kept links =
+    (each.0, current_more tables rows ws ts v s each.1 kept links)
 
 pub fresh_more :
     (tables : List Table) (rows : Rows) (views : List View) (i : ℕ) (old new : List ViewState) (v : View) (s :
     ViewState)
     → EachIsCurrent tables rows [] (take i views) old → i < length views → v ≡ get_or views i v
-    → IsKept v s.kept [] → KeepsReferrers s.referrers [] → new ≡ old ++ s ∷ []
+    → IsKept v s.kept [] → AreLinks tables v s.kept s.links × KeepsLinks s.links [] → new ≡ old ++ s ∷ []
     → EachIsCurrent tables rows [] (take (i + 1) views) new
-fresh_more tables rows views i old new v s each below at kept refers more =
+fresh_more tables rows views i old new v s each below at kept links more =
     let next : take (i + 1) views ≡ take i views ++ v ∷ [] =
     ap (λ n. take n views) (add-one i) ∙ take-suc views i v below ∙ ap (λ x. take i views ++ x ∷ []) (sym at) in
     subst (λ (ss : List ViewState). EachIsCurrent tables rows [] (take (i + 1) views) ss) (sym more)
     (subst (λ (vs : List View). EachIsCurrent tables rows [] vs (old ++ s ∷ [])) (sym next)
-    (current_more tables rows (take i views) old v s each kept refers))
+    (current_more tables rows (take i views) old v s each kept links))
 
 pub fresh_stale :
     (views : List View) (i : ℕ) (old new : List ViewState) (s : ViewState)

@@ -26,6 +26,7 @@ use Rattle.view_lang.specs.Truth.{is_true}
 use Rattle.view_lang.specs.Views.{kept_row}
 use Rattle.view_lang.specs.declared.view.Lookup.{Lookup}
 use Rattle.row_keys.specs.Slots.{Slot, last_numbers, row_of}
+use Rattle.sub_groups.specs.FilterParts.{passes_main}
 use Rattle.upkeep.specs.ViewStates.{referring_by}
 use Rattle.upkeep.specs.declared.arrivals.Arrival.{Arrival}
 
@@ -37,10 +38,12 @@ IsDropped v row = (side : Side) → kept_row v side row ≡ None
 abbrev pub cell_row : List Datum → ℕ → Option (List Datum)
 cell_row cells k = option_map (λ cell. cell ∷ []) (slice_get cells k)
 
--- Row k of a batch is this one: where the filter isn't true of it the view drops it, and it refers by cell k.
+-- Row k of a batch is this one: where the filter isn't true of it the view drops it, by what the main table decides
+-- alone, and it refers by cell k.
 pub record TellsRow (v : View) (a : Arrival) (k : ℕ) (row : List Datum) : Type 0 where
   pub there : k < length a.truths
   pub dropped : is_true (get_or a.truths k None) ≡ false → IsDropped v row
+  pub apart : is_true (get_or a.truths k None) ≡ false → passes_main (length row) v.filter row ≡ false
   pub refers : referring_by v.lookup row ≡ cell_row a.looked_up.items k
 
 -- the same, where anything is known

@@ -12,3 +12,4 @@ pub mod TablesParts
 pub mod Touched
 pub mod LiveEdits
 pub mod Reading
+pub mod Moves

@@ -1,13 +1,19 @@
 -- What is kept of views, taken apart.
 use Rattle.group_order.specs.RankedParts.{AreRanked, ranked_with}
+use Rattle.group_state.specs.GroupParts.{AreGroups}
 use Rattle.lookups.specs.ReferrersParts.{rows_with}
 use Rattle.lookups.specs.Refers.{IsOrdered}
+use Rattle.sub_groups.specs.SubGroups.{sub_groups_with}
 use Rattle.top_rows.specs.OrderParts.{AreAscending, ordered_with}
 use Rattle.upkeep.specs.declared.parts.KeptParts.{KeptParts}
 use Rattle.upkeep.specs.declared.parts.KeptParts.TheVariants as parts
+use Rattle.upkeep.specs.declared.parts.LinksParts.{LinksParts}
+use Rattle.upkeep.specs.declared.parts.LinksParts.TheVariants as link_parts
 use Rattle.upkeep.specs.declared.parts.ViewParts.{ViewParts}
 use Rattle.upkeep.specs.declared.view_state.Kept.{Kept}
 use Rattle.upkeep.specs.declared.view_state.Kept.TheVariants as kept
+use Rattle.upkeep.specs.declared.view_state.Links.{Links}
+use Rattle.upkeep.specs.declared.view_state.Links.TheVariants as links
 use Rattle.upkeep.specs.declared.view_state.ViewState.{ViewState}
 
 abbrev pub kept_with : KeptParts → Kept
@@ -15,9 +21,13 @@ kept_with parts.Live = kept.Live
 kept_with (parts.Order o) = kept.Order (ordered_with o)
 kept_with (parts.Groups g) = kept.Groups (ranked_with g)
 
+abbrev pub links_with : LinksParts → Links
+links_with (link_parts.Rows r) = links.Rows (rows_with r)
+links_with (link_parts.SubGroups g) = links.SubGroups (sub_groups_with g)
+
 -- what is kept of a view that has these parts
 abbrev pub state_with : ViewParts → ViewState
-state_with p = record { stale = p.stale; kept = kept_with p.kept; referrers = rows_with p.referrers }
+state_with p = record { stale = p.stale; kept = kept_with p.kept; links = links_with p.links }
 
 -- Places ascend, and groups are such as are kept of rows.
 abbrev pub IsKeptParts : KeptParts → Type 0
@@ -25,7 +35,12 @@ IsKeptParts parts.Live = Unit {0}
 IsKeptParts (parts.Order o) = AreAscending o
 IsKeptParts (parts.Groups g) = AreRanked g
 
+-- Numbers ascend, and groups are such as are kept of rows.
+abbrev pub AreLinksParts : LinksParts → Type 0
+AreLinksParts (link_parts.Rows r) = IsOrdered (rows_with r)
+AreLinksParts (link_parts.SubGroups g) = AreGroups g
+
 -- Something can be kept that has these parts.
 pub record IsState (p : ViewParts) : Type 0 where
   pub kept : IsKeptParts p.kept
-  pub referrers : IsOrdered (rows_with p.referrers)
+  pub links : AreLinksParts p.links

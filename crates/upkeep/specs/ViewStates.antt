@@ -15,6 +15,7 @@ use Rattle.std.specs.Prelude.{
   Option,
   None,
   Some,
+  length,
   map,
   nat_eq,
   slice_set,
@@ -29,13 +30,17 @@ use Rattle.view_lang.specs.Joined.{Side}
 use Rattle.view_lang.specs.Outputs.{Outputs, columns, groups}
 use Rattle.view_lang.specs.Shifts.{NumberedRows, Shift, shift}
 use Rattle.view_lang.specs.Views.{kept_row, shown_row}
+use Rattle.view_lang.specs.World.{table_at}
 use Rattle.view_lang.specs.declared.view.Lookup.{Lookup}
 use Rattle.view_lang.specs.declared.view.Missing.{Missing}
 use Rattle.view_lang.specs.declared.view.Missing.TheVariants as missing
 use Rattle.view_lang.specs.declared.view.OrderBy.{OrderBy}
 use Rattle.group_order.specs.Ranked.{Keeps as KeepsRanked, ranking_by}
+use Rattle.group_state.specs.Groups.{Keeps as KeepsGroups}
 use Rattle.group_state.specs.KeptColumns.{IsKept as IsKeptColumn}
+use Rattle.group_state.specs.declared.kept_columns.KeptColumn.{KeptColumn}
 use Rattle.lookups.specs.Keeping.{Keeps as KeepsReferrers}
+use Rattle.sub_groups.specs.SubGroups.{AreSubGroups, sub_row}
 use Rattle.top_rows.specs.Keeping.{Keeps as KeepsOrder}
 use Rattle.row_keys.specs.Numbered.{come, gone, numbered}
 use Rattle.row_keys.specs.Slots.{Slot, last_numbers, live}
@@ -45,6 +50,8 @@ use Rattle.upkeep.specs.Swaps.{swapped}
 use Rattle.upkeep.specs.declared.table_change.TableChange.{TableChange}
 use Rattle.upkeep.specs.declared.view_state.Kept.{Kept}
 use Rattle.upkeep.specs.declared.view_state.Kept.TheVariants as kept
+use Rattle.upkeep.specs.declared.view_state.Links.{Links}
+use Rattle.upkeep.specs.declared.view_state.Links.TheVariants as links
 use Rattle.upkeep.specs.declared.view_state.Turn.{Turn}
 use Rattle.upkeep.specs.declared.view_state.Turn.TheVariants as turn
 use Rattle.upkeep.specs.declared.view_state.ViewState.{ViewState}
@@ -105,19 +112,60 @@ referring_by (Some l) row = Some (cell_at row l.on ∷ [])
 abbrev pub referring_row : View → List Datum → Option (List Datum)
 referring_row v row = referring_by v.lookup row
 
--- A view is stale, or what is kept of it is made of these rows of the main table, and so are its referrers.
-abbrev pub IsCurrent : View → Side → ViewState → NumberedRows → Type 0
-IsCurrent v side s rows =
+-- the row of the main table, if it is in a sub-group
+abbrev pub sub_row_of : View → List Datum → Option (List Datum)
+sub_row_of v row = sub_row (length row) v row
+
+-- what links keep of a row of the main table: the cell by which it refers, or the row, if it is in a sub-group
+abbrev pub link_row : Links → View → List Datum → Option (List Datum)
+link_row (links.Rows r) v row = referring_row v row
+link_row (links.SubGroups s) v row = sub_row_of v row
+
+-- Links keep these.
+abbrev pub KeepsLinks : Links → NumberedRows → Type 0
+KeepsLinks (links.Rows r) rows = KeepsReferrers r rows
+KeepsLinks (links.SubGroups s) rows = KeepsGroups s.groups (values_of rows)
+
+-- What links keep of a row that is dropped, of which this is the cell that it looks up: a row in no sub-group.
+abbrev pub IsDroppedLink : Links → Option Datum → Option (List Datum) → Type 0
+IsDroppedLink (links.Rows r) cell row = row ≡ option_map (λ d. d ∷ []) cell
+IsDroppedLink (links.SubGroups s) cell row = row ≡ None
+
+-- the columns of which groups keep something
+abbrev pub columns_in : Kept → Option (List KeptColumn)
+columns_in kept.Live = None
+columns_in (kept.Order o) = None
+columns_in (kept.Groups g) = Some g.groups.columns
+
+-- by what sub-groups are made, and of which columns they keep something
+abbrev pub form_of : Links → Option (List ℕ × List KeptColumn)
+form_of (links.Rows r) = None
+form_of (links.SubGroups s) = Some (s.groups.keys, s.groups.columns)
+
+-- how many columns the main table has
+abbrev pub width_in : List Table → ℕ
+width_in tables = length (table_at tables 0).columns
+
+-- Sub-groups are kept of such views alone as can be kept by them, and of the columns of which the view's groups keep
+-- something.
+abbrev pub AreLinks : List Table → View → Kept → Links → Type 0
+AreLinks tables v k (links.Rows r) = Unit {0}
+AreLinks tables v k (links.SubGroups s) =
+    AreSubGroups (width_in tables) v s × (columns_in k ≡ Some s.groups.columns)
+
+-- A view is stale, or what is kept of it is made of these rows of the main table, and so are its links.
+abbrev pub IsCurrent : List Table → View → Side → ViewState → NumberedRows → Type 0
+IsCurrent tables v side s rows =
     s.stale ≡ false
     → IsKept v s.kept (image (made_row v side) rows)
-    × KeepsReferrers s.referrers (image (referring_row v) rows)
+    × (AreLinks tables v s.kept s.links × KeepsLinks s.links (image (link_row s.links v) rows))
 
 abbrev pub EachIsCurrent : List Table → Rows → NumberedRows → List View → List ViewState → Type 0
 EachIsCurrent tables rows live [] [] = Unit {0}
 EachIsCurrent tables rows live [] (s ∷ ss) = ⊥
 EachIsCurrent tables rows live (v ∷ vs) [] = ⊥
 EachIsCurrent tables rows live (v ∷ vs) (s ∷ ss) =
-    IsCurrent v (side_by tables rows v) s live × EachIsCurrent tables rows live vs ss
+    IsCurrent tables v (side_by tables rows v) s live × EachIsCurrent tables rows live vs ss
 
 -- Each view is stale, or kept current with the live rows of the tables.
 abbrev pub AreCurrent : List Table → Rows → List View → List ViewState → Type 0
@@ -141,15 +189,15 @@ turned_last t slots n = turned t slots (last_numbers n slots)
 abbrev pub made_change : List Table → Rows → View → Turn → List ℕ → List Shift
 made_change tables rows v t ns = map (shift_image (made_row v (side_by tables rows v))) (turned t (rows_at rows 0) ns)
 
--- the change of the cells that are looked up
-abbrev pub referring_change : List Slot → View → Turn → List ℕ → List Shift
-referring_change slots v t ns = map (shift_image (referring_row v)) (turned t slots ns)
+-- the change of what links keep
+abbrev pub link_change : List Slot → Links → View → Turn → List ℕ → List Shift
+link_change slots l v t ns = map (shift_image (link_row l v)) (turned t slots ns)
 
 -- Tables that are looked up
 
 -- A view is stale, or kept current with the live rows of the tables.
 abbrev pub IsCurrentWith : List Table → Rows → View → ViewState → Type 0
-IsCurrentWith tables rows v s = IsCurrent v (side_by tables rows v) s (numbered (rows_at rows 0))
+IsCurrentWith tables rows v s = IsCurrent tables v (side_by tables rows v) s (numbered (rows_at rows 0))
 
 -- Only the rows of one table may differ.
 abbrev pub DiffersAt : ℕ → Rows → Rows → Type 0
@@ -178,7 +226,7 @@ looks_up (Some l) n = nat_eq (suc l.side) n
 
 -- what is kept is stale if a test holds, or if it was
 abbrev pub stale_if : Bool → ViewState → ViewState
-stale_if b s = record { stale = s.stale || b; kept = s.kept; referrers = s.referrers }
+stale_if b s = record { stale = s.stale || b; kept = s.kept; links = s.links }
 
 -- the states of which those of views that look up a table are stale
 abbrev pub lookups_stale : ℕ → List View → List ViewState → List ViewState

@@ -27,7 +27,7 @@ ghost use Rattle.view_lang.specs.Shifts.{Fits, IsFew, NumberedRows, patched};
 ghost use Rattle.upkeep.specs.Arrivals.{EachTells, last_rows, rows_of_numbers};
 ghost use Rattle.upkeep.specs.LiveParts.{AreOf};
 ghost use Rattle.upkeep.specs.Stores.{Rows, rows_at, rows_in, tables_in, visits_in};
-ghost use Rattle.upkeep.specs.ViewStates.{EachIsCurrent, stale_in, turned, turned_last};
+ghost use Rattle.upkeep.specs.ViewStates.{EachIsCurrent, stale_in, turned, turned_last, width_in};
 
 use crate::arrivals::{Arrival, arrival_at};
 use crate::follow::follow;
@@ -36,15 +36,20 @@ use row_keys::RowStore;
 use std::alloc::{AllocError, Global};
 use view_lang::View;
 
-/// What is kept of these views of tables without rows.
-pub(crate) fn fresh_states(alloc: Global, views: &[View]) -> Result<Vec<ViewState>, AllocError>
+/// What is kept of these views of tables without rows. The main table has `width` columns.
+pub(crate) fn fresh_states(
+    alloc: Global,
+    views: &[View],
+    width: usize,
+) -> Result<Vec<ViewState>, AllocError>
     ensures current { IfOk result (λ states.
-        (tables : List Table) → (rows : Rows) → EachIsCurrent tables rows [] views.now states.items) }
+        (tables : List Table) → (rows : Rows) → width ≡ width_in tables
+        → EachIsCurrent tables rows [] views.now states.items) }
     ensures stale { IfOk result (λ states. stale_in states.items ≡ map (λ _. false) views.now) }
 {
     let mut states = Vec::with_capacity(alloc, views.len())?;
     for view in views {
-        let state = ViewState::new(alloc, view)?;
+        let state = ViewState::new(alloc, view, width)?;
         states.push(state)?;
     }
     Ok(states)

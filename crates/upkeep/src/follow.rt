@@ -12,14 +12,17 @@ ghost use Rattle.std.specs.Prelude.{
   false,
   get_or,
   IfOk,
+  List,
   OnErr,
   OnOk,
+  Option,
   length,
   true,
 };
+ghost use Rattle.std.specs.Option.{option_copied};
+ghost use Rattle.values.specs.Datum.{Datum};
 ghost use Rattle.view_lang.specs.ConfigRules.{IsView};
 ghost use Rattle.view_lang.specs.Shifts.{Fits, IsFew, NumberedRows, patched};
-ghost use Rattle.lookups.specs.Keeping.{Keeps as KeepsReferrers};
 ghost use Rattle.row_keys.specs.Numbered.{numbered};
 ghost use Rattle.row_keys.specs.Slots.{live, no_slot, row_of};
 ghost use Rattle.upkeep.specs.Arrivals.{Tells, TellsOf, opened_at, opened_first, rows_of_numbers};
@@ -27,10 +30,14 @@ ghost use Rattle.upkeep.specs.Inputs.{side_by};
 ghost use Rattle.upkeep.specs.Stores.{rows_at, rows_in, tables_in, visits_in};
 ghost use Rattle.upkeep.specs.ViewStates.{
   IsCurrent,
+  IsDroppedLink,
   IsKept,
+  KeepsLinks,
+  columns_in,
+  form_of,
+  link_change,
   made_change,
   made_row,
-  referring_change,
   turned,
   turned_by,
 };
@@ -38,11 +45,11 @@ ghost use Rattle.upkeep.specs.declared.view_state.Turn.TheVariants as turn_is;
 
 use crate::arrivals::Arrival;
 use crate::inputs::join_row;
-use crate::turning::{turn_joined, turn_referrer, turn_referring};
-use crate::view_state::{Kept, Turn, ViewState, keeps_nothing};
+use crate::turning::{turn_joined, turn_link, turn_referrer};
+use crate::view_state::{Kept, Links, Turn, ViewState, keeps_nothing};
 use row_keys::{RowStore, StoredRow, numbers_law};
 use std::alloc::{AllocError, Global};
-use values::KeyBuffer;
+use values::{KeyBuffer, Value};
 use view_lang::{View, image_law};
 
 /// Brings what is kept of a view up to a row of the main table that comes or goes: the row is joined, filtered and
@@ -61,7 +68,8 @@ fn turn_main_row(
         × (Fits rows (turned_by turn number
         (made_row view.now (side_by (tables_in stores.now) (rows_in stores.now) view.now) row) ∷ [])
         × (length rows < 2 ^ 62))) }
-    ensures { OnOk result ((rows : NumberedRows)
+    ensures columns { OnOk result (columns_in kept.new ≡ columns_in kept.old) }
+    ensures kept { OnOk result ((rows : NumberedRows)
         → Fits rows (turned_by turn number
         (made_row view.now (side_by (tables_in stores.now) (rows_in stores.now) view.now) row.entry) ∷ [])
         → IsKept view.now kept.old rows
@@ -156,6 +164,31 @@ pub(crate) fn turn_numbers(
     Ok(())
 }
 
+/// Brings links up to a row that the filter drops, of which this is the cell that it looks up. Such a row is in no
+/// sub-group.
+fn turn_dropped(
+    links: &mut Links,
+    turn: Turn,
+    number: usize,
+    looked_up: Option<&Value>,
+) -> Result<(), AllocError>
+    ensures kept { OnOk result ((rows : NumberedRows) (row : Option (List Datum))
+        → IsDroppedLink links.old (option_copied looked_up.entry) row → Fits rows (turned_by turn number row ∷ [])
+        → KeepsLinks links.old rows → KeepsLinks links.new (patched rows (turned_by turn number row ∷ []))) }
+    ensures form { OnOk result (form_of links.new ≡ form_of links.old) }
+{
+    match links {
+        Links::Rows(referrers) => {
+            let Some(cell) = looked_up else {
+                return Ok(());
+            };
+            turn_referrer(referrers, turn, number, cell.view())?;
+            return Ok(());
+        }
+        Links::SubGroups(_) => return Ok(()),
+    }
+}
+
 /// Brings the state of a view up to the row of this number, which comes or goes as row `index` of those that do. It
 /// isn't visited where it is known that the view drops it. A row that isn't live doesn't go.
 fn follow_number(
@@ -175,16 +208,21 @@ fn follow_number(
     requires fits { (rows : NumberedRows) × (IsKept view.now state.old.kept rows
         × (Fits rows (made_change (tables_in stores.old.items) (rows_in stores.old.items) view.now turn (number ∷ []))
         × (length rows < 2 ^ 62))) }
+    requires links { (rows : NumberedRows) × (KeepsLinks state.old.links rows
+        × (Fits rows (link_change (rows_at (rows_in stores.old.items) 0) state.old.links view.now turn (number ∷ []))
+        × (length rows < 2 ^ 62))) }
     ensures kept { OnOk result ((rows : NumberedRows)
         → Fits rows (made_change (tables_in stores.old.items) (rows_in stores.old.items) view.now turn (number ∷ []))
         → IsKept view.now state.old.kept rows
         → IsKept view.now state.new.kept (patched rows
         (made_change (tables_in stores.old.items) (rows_in stores.old.items) view.now turn (number ∷ [])))) }
-    ensures referrers { OnOk result ((rows : NumberedRows)
-        → Fits rows (referring_change (rows_at (rows_in stores.old.items) 0) view.now turn (number ∷ []))
-        → KeepsReferrers state.old.referrers rows
-        → KeepsReferrers state.new.referrers (patched rows
-        (referring_change (rows_at (rows_in stores.old.items) 0) view.now turn (number ∷ [])))) }
+    ensures columns { OnOk result (columns_in state.new.kept ≡ columns_in state.old.kept) }
+    ensures links { OnOk result ((rows : NumberedRows)
+        → Fits rows (link_change (rows_at (rows_in stores.old.items) 0) state.old.links view.now turn (number ∷ []))
+        → KeepsLinks state.old.links rows
+        → KeepsLinks state.new.links (patched rows
+        (link_change (rows_at (rows_in stores.old.items) 0) state.old.links view.now turn (number ∷ [])))) }
+    ensures form { OnOk result (form_of state.new.links ≡ form_of state.old.links) }
     ensures stale { state.new.stale ≡ state.old.stale }
     ensures tables { tables_in stores.new.items ≡ tables_in stores.old.items }
     ensures rows { rows_in stores.new.items ≡ rows_in stores.old.items }
@@ -195,15 +233,12 @@ fn follow_number(
     }
     if let Some(arrival) = arrival {
         if arrival.drops(index) {
-            return match arrival.looked_up(index) {
-                Some(cell) => turn_referrer(&mut state.referrers, turn, number, cell.view()),
-                None => Ok(()),
-            };
+            return turn_dropped(&mut state.links, turn, number, arrival.looked_up(index));
         }
     }
     let visit = stores[0].visit(number);
     let row = stores[0].row(visit);
-    turn_referring(&mut state.referrers, view.lookup, turn, number, &row)?;
+    turn_link(&mut state.links, view, turn, number, &row)?;
     turn_main_row(stores, view, &mut state.kept, turn, number, row, keys)
 }
 
@@ -225,16 +260,21 @@ fn follow_numbers(
     requires fits { (rows : NumberedRows) × (IsKept view.now state.old.kept rows
         × (Fits rows (made_change (tables_in stores.old.items) (rows_in stores.old.items) view.now turn numbers.now)
         × IsFew rows (made_change (tables_in stores.old.items) (rows_in stores.old.items) view.now turn numbers.now))) }
+    requires links { (rows : NumberedRows) × (KeepsLinks state.old.links rows
+        × (Fits rows (link_change (rows_at (rows_in stores.old.items) 0) state.old.links view.now turn numbers.now)
+        × IsFew rows (link_change (rows_at (rows_in stores.old.items) 0) state.old.links view.now turn numbers.now))) }
     ensures kept { OnOk result ((rows : NumberedRows)
         → Fits rows (made_change (tables_in stores.old.items) (rows_in stores.old.items) view.now turn numbers.now)
         → IsKept view.now state.old.kept rows
         → IsKept view.now state.new.kept (patched rows
         (made_change (tables_in stores.old.items) (rows_in stores.old.items) view.now turn numbers.now))) }
-    ensures referrers { OnOk result ((rows : NumberedRows)
-        → Fits rows (referring_change (rows_at (rows_in stores.old.items) 0) view.now turn numbers.now)
-        → KeepsReferrers state.old.referrers rows
-        → KeepsReferrers state.new.referrers (patched rows
-        (referring_change (rows_at (rows_in stores.old.items) 0) view.now turn numbers.now))) }
+    ensures columns { OnOk result (columns_in state.new.kept ≡ columns_in state.old.kept) }
+    ensures links { OnOk result ((rows : NumberedRows)
+        → Fits rows (link_change (rows_at (rows_in stores.old.items) 0) state.old.links view.now turn numbers.now)
+        → KeepsLinks state.old.links rows
+        → KeepsLinks state.new.links (patched rows
+        (link_change (rows_at (rows_in stores.old.items) 0) state.old.links view.now turn numbers.now))) }
+    ensures form { OnOk result (form_of state.new.links ≡ form_of state.old.links) }
     ensures stale { state.new.stale ≡ state.old.stale }
     ensures tables { tables_in stores.new.items ≡ tables_in stores.old.items }
     ensures rows { rows_in stores.new.items ≡ rows_in stores.old.items }
@@ -274,13 +314,16 @@ pub(crate) fn follow(
     requires there { All (λ n. n < length (rows_at (rows_in stores.old.items) 0)) numbers.now }
     requires known { Tells view.now (rows_of_numbers (rows_at (rows_in stores.old.items) 0) numbers.now) arrival.now }
     requires fits { (rows : NumberedRows)
-        × (IsCurrent view.now (side_by (tables_in stores.old.items) (rows_in stores.old.items) view.now) state.old rows
+        × (IsCurrent (tables_in stores.old.items) view.now
+        (side_by (tables_in stores.old.items) (rows_in stores.old.items) view.now) state.old rows
         × (Fits rows (turned turn (rows_at (rows_in stores.old.items) 0) numbers.now)
         × IsFew rows (turned turn (rows_at (rows_in stores.old.items) 0) numbers.now))) }
     ensures kept { OnOk result ((rows : NumberedRows)
         → Fits rows (turned turn (rows_at (rows_in stores.old.items) 0) numbers.now)
-        → IsCurrent view.now (side_by (tables_in stores.old.items) (rows_in stores.old.items) view.now) state.old rows
-        → IsCurrent view.now (side_by (tables_in stores.old.items) (rows_in stores.old.items) view.now) state.new
+        → IsCurrent (tables_in stores.old.items) view.now
+        (side_by (tables_in stores.old.items) (rows_in stores.old.items) view.now) state.old rows
+        → IsCurrent (tables_in stores.old.items) view.now
+        (side_by (tables_in stores.old.items) (rows_in stores.old.items) view.now) state.new
         (patched rows (turned turn (rows_at (rows_in stores.old.items) 0) numbers.now))) }
     ensures stale { OnOk result (state.new.stale ≡ state.old.stale) }
     ensures left { state.old.stale ≡ true → state.new ≡ state.old }
@@ -316,7 +359,8 @@ pub(crate) fn rebuild(
     requires main { 0 < length stores.old.items }
     ensures fresh { IfOk result (λ state. state.stale ≡ false) }
     ensures current { IfOk result (λ state.
-        IsCurrent view.now (side_by (tables_in stores.old.items) (rows_in stores.old.items) view.now) state
+        IsCurrent (tables_in stores.old.items) view.now
+        (side_by (tables_in stores.old.items) (rows_in stores.old.items) view.now) state
         (numbered (rows_at (rows_in stores.old.items) 0))) }
     ensures tables { tables_in stores.new.items ≡ tables_in stores.old.items }
     ensures rows { rows_in stores.new.items ≡ rows_in stores.old.items }
@@ -325,7 +369,8 @@ pub(crate) fn rebuild(
 {
     numbers_law();
     let numbers = stores[0].live_numbers()?;
-    let mut state = ViewState::new(alloc, view)?;
+    let width = stores[0].table().columns.len();
+    let mut state = ViewState::new(alloc, view, width)?;
     follow(alloc, stores, view, &mut state, Turn::Come, &numbers, &None)?;
     Ok(state)
 }

@@ -16,15 +16,15 @@ use values::KeyBuffer;
 use view_lang::{Lookup, RowView, View};
 
 /// The row of a side table that is looked up for a row of the main table, if there is one.
-fn look_up<'a>(
+pub(crate) fn look_up<'a, R: RowView>(
     stores: &'a [RowStore],
     lookup: Option<Lookup>,
-    row: &StoredRow<'_>,
+    row: &R,
     keys: &mut KeyBuffer,
 ) -> Result<Option<StoredRow<'a>>, AllocError>
     requires { IsLookup (tables_in stores.now) lookup }
     ensures { IfOk result (λ found. found
-        ≡ looked_up lookup (side_in (tables_in stores.now) (world_of (rows_in stores.now)) lookup) row.now) }
+        ≡ looked_up lookup (side_in (tables_in stores.now) (world_of (rows_in stores.now)) lookup) (R.cells row.now)) }
 {
     let Some(lookup) = lookup else {
         return Ok(None);

@@ -18,6 +18,7 @@ mod lookup_views;
 mod parts;
 mod reading;
 mod release;
+mod sub_group_moves;
 mod swaps;
 mod table_change;
 mod turning;
@@ -26,5 +27,5 @@ mod view_state;
 mod viewed;
 
 pub use live_tables::LiveTables;
-pub use parts::{KeptParts, LiveTablesParts, ViewParts};
+pub use parts::{KeptParts, LinksParts, LiveTablesParts, ViewParts};
 pub use table_change::TableChange;

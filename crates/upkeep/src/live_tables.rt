@@ -125,7 +125,8 @@ impl LiveTables {
         ensures views { IfOk result (λ tables. tables.views ≡ views.items) }
         ensures stale { IfOk result (λ tables. tables.stale ≡ map (λ _. false) views.items) }
     {
-        let states = fresh_states(alloc, &views)?;
+        let width = stores[0].table().columns.len();
+        let states = fresh_states(alloc, &views, width)?;
         Ok(LiveTables {
             alloc,
             stores,

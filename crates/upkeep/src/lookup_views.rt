@@ -22,9 +22,10 @@ ghost use Rattle.upkeep.specs.ViewStates.{
 };
 
 use crate::follow::turn_numbers;
+use crate::sub_group_moves::move_sub_groups;
 use crate::swaps::{named_keys, swap};
 use crate::table_change::TableChange;
-use crate::view_state::{Kept, Turn, ViewState};
+use crate::view_state::{Kept, Links, Turn, ViewState};
 use row_keys::{RowStore, numbers_law};
 use std::alloc::{AllocError, Global};
 use values::{Key, key_law};
@@ -137,17 +138,31 @@ fn follow_lookup(
     if state.stale | !looks_up(view, table) {
         return Ok(());
     }
-    let numbers = state.referrers.of_keys(alloc, keys)?;
-    remake_rows(
-        alloc,
-        stores,
-        view,
-        &mut state.kept,
-        table,
-        change,
-        turn,
-        &numbers,
-    )
+    match &state.links {
+        Links::Rows(referrers) => {
+            let numbers = referrers.of_keys(alloc, keys)?;
+            remake_rows(
+                alloc,
+                stores,
+                view,
+                &mut state.kept,
+                table,
+                change,
+                turn,
+                &numbers,
+            )
+        }
+        Links::SubGroups(sub_groups) => move_sub_groups(
+            alloc,
+            stores,
+            view,
+            &mut state.kept,
+            sub_groups,
+            table,
+            change,
+            turn,
+        ),
+    }
 }
 
 /// Brings what is kept of the views up to a change of a side table that names `keys`. After an error all views that

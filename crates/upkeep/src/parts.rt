@@ -1,6 +1,7 @@
 //! The parts of `LiveTables`.
 
 use group_order::RankedParts;
+use group_state::GroupsParts;
 use lookups::ReferrersParts;
 use row_keys::RowStore;
 use top_rows::OrderedParts;
@@ -11,8 +12,16 @@ use view_lang::View;
 pub struct ViewParts {
     pub stale: bool,
     pub kept: KeptParts,
-    /// The numbers of the rows of the main table by the key that they look up; none where the view looks up no table.
-    pub referrers: ReferrersParts,
+    pub links: LinksParts,
+}
+
+/// What is kept of the rows of the main table by the key that they look up.
+#[derive(Debug, Drop)]
+pub enum LinksParts {
+    /// Their numbers; none where the view looks up no table.
+    Rows(ReferrersParts),
+    /// Groups of them that move together where rows of the side table change. It holds tuples and counts.
+    SubGroups(GroupsParts),
 }
 
 /// What is kept of the rows that a view is made of: their order, or their groups.

@@ -249,7 +249,7 @@ pub(crate) fn kept_rows(
         (side_by (tables_in stores.old.items) (rows_in stores.old.items) view.now)
         (live (rows_at (rows_in stores.old.items) 0)) }
     requires fresh { state.now.stale ≡ false }
-    requires current { IsCurrent view.now
+    requires current { IsCurrent (tables_in stores.old.items) view.now
         (side_by (tables_in stores.old.items) (rows_in stores.old.items) view.now) state.now
         (numbered (rows_at (rows_in stores.old.items) 0)) }
     ensures rows { IfOk result (λ rows. rows_of rows.items

@@ -24,7 +24,7 @@ use crate::table_change::TableChange;
 use crate::view_state::Turn;
 use row_keys::RowStore;
 use std::alloc::{AllocError, Global};
-use values::Key;
+use values::{Key, Row};
 
 impl Turn {
     pub(crate) fn opposite(self) -> Turn
@@ -128,4 +128,18 @@ pub(crate) fn named_keys(
 {
     let numbers = named_numbers(alloc, store, change, turn)?;
     store.keys_of(&numbers)
+}
+
+/// The key cells of the rows that a change names.
+pub(crate) fn named_cells(
+    alloc: Global,
+    store: &RowStore,
+    change: &TableChange,
+    turn: Turn,
+) -> Result<Row, AllocError>
+    requires { CanSwap turn store.now.table change.now store.now.slots }
+    ensures { IfOk result (λ cells. cells.items ≡ named_keys store.now.table change.now store.now.slots) }
+{
+    let numbers = named_numbers(alloc, store, change, turn)?;
+    store.key_cells(&numbers)
 }

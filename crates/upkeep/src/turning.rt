@@ -11,14 +11,27 @@ ghost use Rattle.group_order.specs.Ranked.{Keeps as KeepsRanked};
 ghost use Rattle.lookups.specs.Keeping.{Keeps as KeepsReferrers};
 ghost use Rattle.top_rows.specs.Keeping.{Keeps as KeepsOrder};
 ghost use Rattle.upkeep.specs.JoinedRows.{joined_cells};
-ghost use Rattle.upkeep.specs.ViewStates.{IsKept, made_by, referring_by, turned_by};
+ghost use Rattle.group_state.specs.Groups.{Keeps as KeepsGroups};
+ghost use Rattle.sub_groups.specs.SubGroups.{IsSame};
+ghost use Rattle.upkeep.specs.ViewStates.{
+  IsKept,
+  KeepsLinks,
+  columns_in,
+  form_of,
+  link_row,
+  made_by,
+  referring_by,
+  sub_row_of,
+  turned_by,
+};
 
 use crate::joined_row::JoinedRow;
-use crate::view_state::{Kept, Turn};
+use crate::view_state::{Kept, Links, Turn};
 use group_order::RankedGroups;
 use lookups::Referrers;
 use row_keys::StoredRow;
 use std::alloc::AllocError;
+use sub_groups::SubGroups;
 use top_rows::Ordered;
 use values::CellView;
 use view_lang::{Lookup, Output, Outputs, RowView, ShownRow, View};
@@ -91,7 +104,8 @@ fn turn_row<R: RowView>(
     requires { (rows : NumberedRows) × (IsKept view.now kept.old rows
         × (Fits rows (turned_by turn number (made_by view.now.outputs (Some (R.cells row.now))) ∷ [])
         × (length rows < 2 ^ 62))) }
-    ensures { OnOk result ((rows : NumberedRows)
+    ensures columns { OnOk result (columns_in kept.new ≡ columns_in kept.old) }
+    ensures kept { OnOk result ((rows : NumberedRows)
         → Fits rows (turned_by turn number (made_by view.now.outputs (Some (R.cells row.now))) ∷ [])
         → IsKept view.now kept.old rows
         → IsKept view.now kept.new
@@ -123,7 +137,8 @@ pub(crate) fn turn_joined(
     requires { (rows : NumberedRows) × (IsKept view.now kept.old rows
         × (Fits rows (turned_by turn number (made_by view.now.outputs (option_map joined_cells joined)) ∷ [])
         × (length rows < 2 ^ 62))) }
-    ensures { OnOk result ((rows : NumberedRows)
+    ensures columns { OnOk result (columns_in kept.new ≡ columns_in kept.old) }
+    ensures kept { OnOk result ((rows : NumberedRows)
         → Fits rows (turned_by turn number (made_by view.now.outputs (option_map joined_cells joined.entry)) ∷ [])
         → IsKept view.now kept.old rows
         → IsKept view.now kept.new
@@ -159,7 +174,7 @@ pub(crate) fn turn_referrer(
 }
 
 /// Brings referrers up to a row of the main table that comes or goes. Nothing refers where no table is looked up.
-pub(crate) fn turn_referring(
+fn turn_referring(
     referrers: &mut Referrers,
     lookup: Option<Lookup>,
     turn: Turn,
@@ -174,4 +189,61 @@ pub(crate) fn turn_referring(
         return Ok(());
     };
     turn_referrer(referrers, turn, number, row.cell(lookup.on))
+}
+
+/// Brings sub-groups up to a row of the main table that comes or goes.
+fn turn_sub_row(
+    sub_groups: &mut SubGroups,
+    view: &View,
+    turn: Turn,
+    number: usize,
+    row: &StoredRow<'_>,
+) -> Result<(), AllocError>
+    requires { (rows : NumberedRows) × (KeepsGroups sub_groups.old.groups (values_of rows)
+        × (Fits rows (turned_by turn number (sub_row_of view.now row.now) ∷ []) × (length rows < 2 ^ 62))) }
+    ensures kept { OnOk result ((rows : NumberedRows)
+        → Fits rows (turned_by turn number (sub_row_of view.now row.now) ∷ [])
+        → KeepsGroups sub_groups.old.groups (values_of rows)
+        → KeepsGroups sub_groups.new.groups
+        (values_of (patched rows (turned_by turn number (sub_row_of view.now row.now) ∷ [])))) }
+    ensures same { OnOk result (IsSame sub_groups.old sub_groups.new) }
+{
+    match turn {
+        Turn::Come => {
+            sub_groups.come(view, row.len(), row)?;
+            return Ok(());
+        }
+        Turn::Go => {
+            sub_groups.go(view, row.len(), row)?;
+            return Ok(());
+        }
+    }
+}
+
+/// Brings links up to a row of the main table that comes or goes. After an error they have no meaning.
+pub(crate) fn turn_link(
+    links: &mut Links,
+    view: &View,
+    turn: Turn,
+    number: usize,
+    row: &StoredRow<'_>,
+) -> Result<(), AllocError>
+    requires { (rows : NumberedRows) × (KeepsLinks links.old rows
+        × (Fits rows (turned_by turn number (link_row links.old view.now row.now) ∷ []) × (length rows < 2 ^ 62))) }
+    ensures kept { OnOk result ((rows : NumberedRows)
+        → Fits rows (turned_by turn number (link_row links.old view.now row.now) ∷ []) → KeepsLinks links.old rows
+        → KeepsLinks links.new
+        (patched rows (turned_by turn number (link_row links.old view.now row.now) ∷ []))) }
+    ensures form { OnOk result (form_of links.new ≡ form_of links.old) }
+{
+    match links {
+        Links::Rows(referrers) => {
+            turn_referring(referrers, view.lookup, turn, number, row)?;
+            return Ok(());
+        }
+        Links::SubGroups(sub_groups) => {
+            turn_sub_row(sub_groups, view, turn, number, row)?;
+            return Ok(());
+        }
+    }
 }

@@ -1,13 +1,14 @@
 //! Takes what is kept of views apart, and makes it again of its parts.
 
 ghost use Rattle.std.specs.Prelude.{◌≡◌, All, IfOk, map};
-ghost use Rattle.upkeep.specs.ViewParts.{IsKeptParts, IsState, kept_with, state_with};
+ghost use Rattle.upkeep.specs.ViewParts.{AreLinksParts, IsKeptParts, IsState, kept_with, links_with, state_with};
 
-use crate::parts::{KeptParts, ViewParts};
-use crate::view_state::{Kept, ViewState};
+use crate::parts::{KeptParts, LinksParts, ViewParts};
+use crate::view_state::{Kept, Links, ViewState};
 use group_order::RankedGroups;
 use lookups::Referrers;
 use std::alloc::{AllocError, Global};
+use sub_groups::SubGroups;
 use top_rows::Ordered;
 
 impl Kept {
@@ -36,24 +37,44 @@ impl Kept {
     }
 }
 
+impl Links {
+    /// Takes them apart. If memory is refused, they are lost.
+    fn into_parts(self) -> Result<LinksParts, AllocError>
+        ensures value { IfOk result (λ parts. links_with parts ≡ self) }
+        ensures kept { IfOk result (λ parts. AreLinksParts parts) }
+    {
+        match self {
+            Links::Rows(referrers) => Ok(LinksParts::Rows(referrers.into_parts()?)),
+            Links::SubGroups(groups) => Ok(LinksParts::SubGroups(groups.into_parts()?)),
+        }
+    }
+
+    /// Makes what has these parts.
+    fn from_parts(alloc: Global, parts: LinksParts) -> Result<Links, AllocError>
+        requires { AreLinksParts parts }
+        ensures { IfOk result (λ links. links ≡ links_with parts) }
+    {
+        match parts {
+            LinksParts::Rows(referrers) => Ok(Links::Rows(Referrers::from_parts(
+                alloc, referrers,
+            )?)),
+            LinksParts::SubGroups(groups) => {
+                Ok(Links::SubGroups(SubGroups::from_parts(alloc, groups)?))
+            }
+        }
+    }
+}
+
 impl ViewState {
     /// Takes the state apart. If memory is refused, it is lost.
     pub(crate) fn into_parts(self) -> Result<ViewParts, AllocError>
         ensures value { IfOk result (λ parts. state_with parts ≡ self) }
         ensures kept { IfOk result (λ parts. IsState parts) }
     {
-        let ViewState {
-            stale,
-            kept,
-            referrers,
-        } = self;
+        let ViewState { stale, kept, links } = self;
         let kept = kept.into_parts()?;
-        let referrers = referrers.into_parts()?;
-        Ok(ViewParts {
-            stale,
-            kept,
-            referrers,
-        })
+        let links = links.into_parts()?;
+        Ok(ViewParts { stale, kept, links })
     }
 
     /// Makes the state that has these parts.
@@ -61,18 +82,10 @@ impl ViewState {
         requires { IsState parts }
         ensures { IfOk result (λ state. state ≡ state_with parts) }
     {
-        let ViewParts {
-            stale,
-            kept,
-            referrers,
-        } = parts;
+        let ViewParts { stale, kept, links } = parts;
         let kept = Kept::from_parts(alloc, kept)?;
-        let referrers = Referrers::from_parts(alloc, referrers)?;
-        Ok(ViewState {
-            stale,
-            kept,
-            referrers,
-        })
+        let links = Links::from_parts(alloc, links)?;
+        Ok(ViewState { stale, kept, links })
     }
 }
 

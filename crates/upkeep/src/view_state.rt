@@ -1,14 +1,15 @@
 //! States of views: what is kept of each.
 
-ghost use Rattle.std.specs.Prelude.{◌≡◌, [], false, IfOk, None, true};
+ghost use Rattle.std.specs.Prelude.{◌≡◌, [], false, IfOk, List, None, true};
 ghost use Rattle.view_lang.specs.OutputsSeen.{outputs_of};
-ghost use Rattle.lookups.specs.Keeping.{Keeps as KeepsReferrers};
-ghost use Rattle.upkeep.specs.ViewStates.{IsKept, ShowsEach, is_plain, leaves_none};
+ghost use Rattle.view_lang.specs.Config.{Table};
+ghost use Rattle.upkeep.specs.ViewStates.{AreLinks, IsKept, KeepsLinks, ShowsEach, is_plain, leaves_none, width_in};
 ghost use Rattle.upkeep.specs.declared.view_state.Kept.TheVariants as kept_is;
 
 use group_order::{RankedGroups, Ranking};
 use lookups::Referrers;
 use std::alloc::{AllocError, Global};
+use sub_groups::SubGroups;
 use top_rows::Ordered;
 use view_lang::{Lookup, Missing, Outputs, View};
 
@@ -36,8 +37,16 @@ pub(crate) enum Turn {
 pub(crate) struct ViewState {
     pub stale: bool,
     pub kept: Kept,
-    /// The numbers of the rows of the main table by the key that they look up; none where the view looks up no table.
-    pub referrers: Referrers,
+    pub links: Links,
+}
+
+/// What is kept of the rows of the main table by the key that they look up.
+#[derive(Debug, Drop)]
+pub(crate) enum Links {
+    /// Their numbers; none where the view looks up no table.
+    Rows(Referrers),
+    /// Groups of them that move together where rows of the side table change.
+    SubGroups(SubGroups),
 }
 
 fn is_plain(outputs: &Outputs) -> bool
@@ -103,17 +112,36 @@ pub(crate) fn keeps_nothing(view: &View, state: &ViewState) -> bool
     }
 }
 
+/// What is kept of no rows by the key that they look up, for a view of which this is kept. The main table has `width`
+/// columns.
+fn links_of_none(alloc: Global, view: &View, width: usize, kept: &Kept) -> Result<Links, AllocError>
+    ensures right { IfOk result (λ links. (tables : List Table) → width ≡ width_in tables
+        → AreLinks tables view.now kept.now links) }
+    ensures kept { IfOk result (λ links. KeepsLinks links []) }
+{
+    if let Kept::Groups(groups) = kept {
+        if let Some(sub_groups) = SubGroups::of(alloc, view, width, groups.columns())? {
+            return Ok(Links::SubGroups(sub_groups));
+        }
+    }
+    Ok(Links::Rows(Referrers::new(alloc)))
+}
+
 impl ViewState {
-    /// The state of a view of no rows.
-    pub(crate) fn new(alloc: Global, view: &View) -> Result<ViewState, AllocError>
+    /// The state of a view of no rows. The main table has `width` columns.
+    pub(crate) fn new(alloc: Global, view: &View, width: usize) -> Result<ViewState, AllocError>
         ensures fresh { IfOk result (λ s. s.stale ≡ false) }
         ensures kept { IfOk result (λ s. IsKept view.now s.kept []) }
-        ensures referrers { IfOk result (λ s. KeepsReferrers s.referrers []) }
+        ensures right { IfOk result (λ s. (tables : List Table) → width ≡ width_in tables
+            → AreLinks tables view.now s.kept s.links) }
+        ensures links { IfOk result (λ s. KeepsLinks s.links []) }
     {
+        let kept = kept_of_none(alloc, view)?;
+        let links = links_of_none(alloc, view, width, &kept)?;
         Ok(ViewState {
             stale: false,
-            kept: kept_of_none(alloc, view)?,
-            referrers: Referrers::new(alloc),
+            kept,
+            links,
         })
     }
 }

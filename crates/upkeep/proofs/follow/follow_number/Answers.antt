@@ -18,25 +18,24 @@ use Rattle.std.proofs.Common.{
   true≢false,
   ◌∙◌,
 }
+use Rattle.std.specs.Prelude.{slice_set}
 use Rattle.std.specs.Option.{option_copied, option_map}
-use Rattle.view_lang.specs.Config.{View}
 use Rattle.view_lang.specs.Images.{shift_image}
 use Rattle.view_lang.specs.Shifts.{Fits}
-use Rattle.lookups.specs.Keeping.{Keeps as KeepsReferrers}
 use Rattle.row_keys.specs.Slots.{no_slot, row_of}
 use Rattle.row_keys.specs.Store.{Store}
 use Rattle.upkeep.specs.Arrivals.{TellsOf, TellsRow}
 use Rattle.upkeep.specs.Inputs.{side_by}
 use Rattle.upkeep.specs.Stores.{rows_at, rows_in, tables_in}
-use Rattle.upkeep.specs.ViewStates.{IsKept, made_row, referring_by, referring_row, turned, turned_by}
+use Rattle.upkeep.specs.ViewStates.{IsKept, KeepsLinks, link_row, made_row, turned}
 use Rattle.upkeep.specs.declared.view_state.Turn.TheVariants as turn
-use Rattle.upkeep.proofs.ArrivalRows.{made_none}
+use Rattle.upkeep.proofs.ArrivalRows.{dropped_link, made_none}
 use Rattle.upkeep.proofs.FollowedLookups.{on_ok}
 use Rattle.upkeep.proofs.RowByRow.{
   dead_change,
+  link_of_visited,
   live_change,
   made_of_visited,
-  referring_of_visited,
   same_change,
   still_kept,
 }
@@ -59,21 +58,23 @@ returns-then-is_gone-clause-kept c = λ rows fits k.
     (c.args.number ∷ []))) c.args.turn c.args.number None rows
     (dead_change make slots c.args.number c.args.turn gone.0 dead) refl fits k
 
-pub returns-then-is_gone-clause-referrers : goal.returns-then-is_gone-clause-referrers
-returns-then-is_gone-clause-referrers c = λ rows fits k.
+pub returns-then-is_gone-clause-links : goal.returns-then-is_gone-clause-links
+returns-then-is_gone-clause-links c = λ rows fits k.
     let v = c.args.view.now in
     let stores = c.args.stores.now.items in
     let slots = rows_at (rows_in stores) 0 in
-    let make = made_row v (side_by (tables_in stores) (rows_in stores) v) in
+    let make = link_row c.args.state.now.links v in
     let gone = c.is_gone.ensures.gone c.if-is_gone.true in
     let dead = subst (λ (ss : List Store). (get_or (rows_at (rows_in ss) 0) c.args.number no_slot).live ≡ false)
     c.deref.ensures.value gone.1 in
-    still_kept (KeepsReferrers c.args.state.now.referrers) (map (shift_image (referring_row v)) (turned c.args.turn slots
+    still_kept (KeepsLinks c.args.state.now.links) (map (shift_image make) (turned c.args.turn slots
     (c.args.number ∷ []))) c.args.turn c.args.number None rows
-    (dead_change (referring_row v) slots c.args.number c.args.turn gone.0 dead) refl fits k
+    (dead_change make slots c.args.number c.args.turn gone.0 dead) refl fits k
 
-pub returns-in-Some-looked_up-clause-kept : goal.returns-in-Some-looked_up-clause-kept
-returns-in-Some-looked_up-clause-kept c =
+-- A row that is known to be dropped
+
+pub returns-then-drops-clause-kept : goal.returns-then-drops-clause-kept
+returns-then-drops-clause-kept c =
     let v = c.args.view.now in
     let stores = c.args.stores.now.items in
     let slots = rows_at (rows_in stores) 0 in
@@ -86,70 +87,32 @@ returns-in-Some-looked_up-clause-kept c =
     subst (λ o. TellsOf v o c.args.index row) c.in-Some.is c.requires.known in
     let none = made_none v (side_by (tables_in stores) (rows_in stores) v) row
     (told.dropped (not_true _ (sym c.drops.ensures ∙ c.if-drops.true))) in
-    on_ok _ _ c.turn_referrer.result
+    on_ok _ _ c.turn_dropped.result
     (λ done rows fits k. still_kept (IsKept v c.args.state.now.kept) (map (shift_image make)
     (turned c.args.turn slots (c.args.number ∷ []))) c.args.turn c.args.number (make row) rows
     (live_change make slots c.args.number c.args.turn live) none fits k)
-    c.turn_referrer.ensures
+    c.turn_dropped.ensures.kept
 
-pub returns-in-Some-looked_up-clause-referrers : goal.returns-in-Some-looked_up-clause-referrers
-returns-in-Some-looked_up-clause-referrers c =
+pub returns-then-drops-clause-links : goal.returns-then-drops-clause-links
+returns-then-drops-clause-links c =
     let v = c.args.view.now in
     let stores = c.args.stores.now.items in
     let slots = rows_at (rows_in stores) 0 in
-    let make = made_row v (side_by (tables_in stores) (rows_in stores) v) in
+    let make = link_row c.args.state.now.links v in
     let live = subst (λ (ss : List Store). c.args.turn ≡ turn.Go
     → (get_or (rows_at (rows_in ss) 0) c.args.number no_slot).live ≡ true)
     c.deref.ensures.value (c.is_gone.ensures.there c.if-is_gone.false) in
     let row = row_of slots c.args.number in
     let told : TellsRow v c.in-Some.arrival c.args.index row =
     subst (λ o. TellsOf v o c.args.index row) c.in-Some.is c.requires.known in
-    let cell = c.in-Some-looked_up.cell.now in
-    let refers : referring_row v row ≡ Some (cell ∷ []) =
-    told.refers
-    ∙ ap (option_map (λ d. d ∷ [])) (sym c.looked_up.ensures ∙ ap option_copied c.in-Some-looked_up.is) in
-    on_ok _ _ c.turn_referrer.result
-    (λ turned_one. same_change (KeepsReferrers c.args.state.now.referrers) (KeepsReferrers c.turn_referrer.new.referrers) _ _
-    (sym (live_change (referring_row v) slots c.args.number c.args.turn live
-    ∙ ap (λ o. turned_by c.args.turn c.args.number o ∷ []) refers))
-    (λ rows. turned_one rows cell c.view.ensures))
-    c.turn_referrer.ensures
-
-pub returns-in-None-clause-kept : goal.returns-in-None-clause-kept
-returns-in-None-clause-kept c = λ rows fits k.
-    let v = c.args.view.now in
-    let stores = c.args.stores.now.items in
-    let slots = rows_at (rows_in stores) 0 in
-    let make = made_row v (side_by (tables_in stores) (rows_in stores) v) in
-    let live = subst (λ (ss : List Store). c.args.turn ≡ turn.Go
-    → (get_or (rows_at (rows_in ss) 0) c.args.number no_slot).live ≡ true)
-    c.deref.ensures.value (c.is_gone.ensures.there c.if-is_gone.false) in
-    let row = row_of slots c.args.number in
-    let told : TellsRow v c.in-Some.arrival c.args.index row =
-    subst (λ o. TellsOf v o c.args.index row) c.in-Some.is c.requires.known in
-    let none = made_none v (side_by (tables_in stores) (rows_in stores) v) row
-    (told.dropped (not_true _ (sym c.drops.ensures ∙ c.if-drops.true))) in
-    still_kept (IsKept v c.args.state.now.kept) (map (shift_image make) (turned c.args.turn slots
-    (c.args.number ∷ []))) c.args.turn c.args.number (make row) rows
-    (live_change make slots c.args.number c.args.turn live) none fits k
-
-pub returns-in-None-clause-referrers : goal.returns-in-None-clause-referrers
-returns-in-None-clause-referrers c = λ rows fits k.
-    let v = c.args.view.now in
-    let stores = c.args.stores.now.items in
-    let slots = rows_at (rows_in stores) 0 in
-    let make = made_row v (side_by (tables_in stores) (rows_in stores) v) in
-    let live = subst (λ (ss : List Store). c.args.turn ≡ turn.Go
-    → (get_or (rows_at (rows_in ss) 0) c.args.number no_slot).live ≡ true)
-    c.deref.ensures.value (c.is_gone.ensures.there c.if-is_gone.false) in
-    let row = row_of slots c.args.number in
-    let told : TellsRow v c.in-Some.arrival c.args.index row =
-    subst (λ o. TellsOf v o c.args.index row) c.in-Some.is c.requires.known in
-    let refers : referring_row v row ≡ None =
-    told.refers ∙ ap (option_map (λ d. d ∷ [])) (sym c.looked_up.ensures ∙ ap option_copied c.in-None.is) in
-    still_kept (KeepsReferrers c.args.state.now.referrers) (map (shift_image (referring_row v)) (turned c.args.turn slots
-    (c.args.number ∷ []))) c.args.turn c.args.number (referring_row v row) rows
-    (live_change (referring_row v) slots c.args.number c.args.turn live) refers fits k
+    let dropped = dropped_link c.args.state.now.links v row (option_copied c.looked_up.result)
+    (told.refers ∙ ap (option_map (λ d. d ∷ [])) (sym c.looked_up.ensures))
+    (told.apart (not_true _ (sym c.drops.ensures ∙ c.if-drops.true))) in
+    on_ok _ _ c.turn_dropped.result
+    (λ turned_one. same_change (KeepsLinks c.args.state.now.links) (KeepsLinks c.turn_dropped.new.links) _ _
+    (sym (live_change make slots c.args.number c.args.turn live))
+    (λ rows. turned_one rows (make row) dropped))
+    c.turn_dropped.ensures.kept
 
 pub turn_main_row-requires-clause-fits : goal.turn_main_row-requires-clause-fits
 turn_main_row-requires-clause-fits c =
@@ -185,22 +148,39 @@ returns-clause-kept c =
     on_ok _ _ c.turn_main_row.result
     (λ turned_one. same_change (IsKept v c.args.state.now.kept) (IsKept v c.turn_main_row.new.kept) _
     _ same turned_one)
-    c.turn_main_row.ensures
+    c.turn_main_row.ensures.kept
 
-pub returns-clause-referrers : goal.returns-clause-referrers
-returns-clause-referrers c =
+pub returns-clause-links : goal.returns-clause-links
+returns-clause-links c =
     let v = c.args.view.now in
     let live = subst (λ (ss : List Store). c.args.turn ≡ turn.Go
     → (get_or (rows_at (rows_in ss) 0) c.args.number no_slot).live ≡ true)
     c.deref.ensures.value (c.is_gone.ensures.there c.if-is_gone.false) in
-    let same = referring_of_visited c.args.stores.now.items c.deref-2.result.now c.index_mut.result.now
+    let same = link_of_visited c.args.stores.now.items c.deref-2.result.now c.index_mut.result.now
     c.visit-visit.new.self c.index.result.now v c.args.number c.visit-visit.result c.row-row.result
     c.index_mut.ensures.value c.requires.main c.visit-visit.ensures.counted c.deref-2.ensures.value
     (subst (λ (ss : List Store). c.index.result.now ≡ get_or ss 0 c.index.result.now) (sym c.deref-2.ensures.value)
     c.index.ensures)
-    c.visit-visit.ensures.number c.row-row.ensures.row c.args.turn live in
+    c.visit-visit.ensures.number c.row-row.ensures.row c.args.state.now.links c.args.turn live in
     on_ok _ _ c.turn_main_row.result
-    (λ done. same_change (KeepsReferrers c.args.state.now.referrers) (KeepsReferrers c.turn_referring.new.referrers) _ _
-    (ap (λ l. turned_by c.args.turn c.args.number (referring_by l c.row-row.result) ∷ [])
-    (ap (λ (x : View). x.lookup) c.view-2.view_is) ∙ same) c.in_ok-turn_referring.ensures)
-    c.turn_main_row.ensures
+    (λ done. same_change (KeepsLinks c.args.state.now.links) (KeepsLinks c.turn_link.new.links) _ _ same
+    c.in_ok-turn_link.ensures.kept)
+    c.turn_main_row.ensures.kept
+
+pub turn_link-requires : goal.turn_link-requires
+turn_link-requires c =
+    let v = c.args.view.now in
+    let live = subst (λ (ss : List Store). c.args.turn ≡ turn.Go
+    → (get_or (rows_at (rows_in ss) 0) c.args.number no_slot).live ≡ true)
+    c.deref.ensures.value (c.is_gone.ensures.there c.if-is_gone.false) in
+    let same = link_of_visited c.args.stores.now.items
+    (slice_set c.args.stores.now.items 0 c.visit-visit.new.self) c.index_mut.result.now
+    c.visit-visit.new.self c.index.result.now v c.args.number c.visit-visit.result c.row-row.result
+    c.index_mut.ensures.value c.requires.main c.visit-visit.ensures.counted refl c.index.ensures
+    c.visit-visit.ensures.number c.row-row.ensures.row c.args.state.now.links c.args.turn live in (
+      c.requires.links.0,
+      (
+        c.requires.links.1.0,
+        (subst (Fits c.requires.links.0) (sym same) c.requires.links.1.1.0, c.requires.links.1.1.1),
+      ),
+    )

@@ -1,13 +1,16 @@
-use Rattle.std.proofs.Common.{◌+◌, ◌<◌, ◌^◌, ◌∙◌, ℕ, List, [], ◌∷◌, arith, get_or, length, subst, sym}
+use Rattle.std.proofs.Common.{◌+◌, ◌<◌, ◌^◌, ◌∙◌, ℕ, List, [], ◌∷◌, Option, arith, get_or, length, map, subst, sym}
+use Rattle.values.specs.Datum.{Datum}
+use Rattle.view_lang.specs.Images.{shift_image}
 use Rattle.view_lang.specs.Config.{Table}
 use Rattle.view_lang.specs.Shifts.{Fits, NumberedRows, patched}
-use Rattle.lookups.specs.Keeping.{Keeps as KeepsReferrers}
 use Rattle.row_keys.specs.Slots.{row_of}
 use Rattle.upkeep.specs.Arrivals.{TellsOf}
 use Rattle.upkeep.specs.Inputs.{side_by}
 use Rattle.upkeep.specs.Stores.{Rows, rows_at, rows_in, tables_in}
-use Rattle.upkeep.specs.ViewStates.{IsKept, made_change, made_row, referring_change, referring_row}
+use Rattle.upkeep.specs.ViewStates.{IsKept, KeepsLinks, link_change, link_row, made_change, made_row, turned}
+use Rattle.upkeep.specs.declared.view_state.Links.{Links}
 use Rattle.upkeep.proofs.ArrivalRows.{opened_grows, opened_next, tells_one}
+use Rattle.upkeep.proofs.Following.{links_same}
 use Rattle.upkeep.proofs.RowByRow.{at_stores, kept_all, kept_more, next_needs}
 use Rattle.upkeep.proofs.follow.follow_numbers.Goals as goal
 
@@ -35,6 +38,27 @@ follow_number-requires-clause-fits c =
     c.args.turn slots c.args.numbers.now c.loop-index.index c.requires.fits.0 (omega (arith, c.loop-index-test.true))
     c.loop-index.invariant.kept c.requires.fits.1.0 c.requires.fits.1.1.0 c.requires.fits.1.1.1)
 
+pub follow_number-requires-clause-links : goal.follow_number-requires-clause-links
+follow_number-requires-clause-links c =
+    let v = c.args.view.now in
+    let stores = c.args.stores.now.items in
+    let now = c.loop-index.stores.items in
+    let slots = rows_at (rows_in stores) 0 in
+    let l : Links = c.args.state.now.links in
+    let n : ℕ = get_or c.args.numbers.now c.loop-index.index 0 in
+    at_stores (λ (ts : List Table) (rs : Rows). (rows : NumberedRows)
+    × (KeepsLinks c.loop-index.state.links rows
+    × (Fits rows (link_change (rows_at rs 0) c.loop-index.state.links v c.args.turn (n ∷ [])) × (length rows < 2 ^ 62))))
+    (tables_in stores) (tables_in now) (rows_in stores) (rows_in now) (sym c.loop-index.invariant.tables)
+    (sym c.loop-index.invariant.rows)
+    (subst (λ (h : List Datum → Option (List Datum)). (rows : NumberedRows)
+    × (KeepsLinks c.loop-index.state.links rows
+    × (Fits rows (map (shift_image h) (turned c.args.turn slots (n ∷ []))) × (length rows < 2 ^ 62))))
+    (sym (links_same l c.loop-index.state.links v c.loop-index.invariant.form))
+    (next_needs (KeepsLinks l) (KeepsLinks c.loop-index.state.links) (link_row l v)
+    c.args.turn slots c.args.numbers.now c.loop-index.index c.requires.links.0 (omega (arith, c.loop-index-test.true))
+    c.loop-index.invariant.links c.requires.links.1.0 c.requires.links.1.1.0 c.requires.links.1.1.1))
+
 pub loop-index-preserved : goal.loop-index-preserved
 loop-index-preserved c =
     let v = c.args.view.now in
@@ -42,6 +66,7 @@ loop-index-preserved c =
     let now = c.loop-index.stores.items in
     let slots = rows_at (rows_in stores) 0 in
     let make = made_row v (side_by (tables_in stores) (rows_in stores) v) in
+    let l : Links = c.args.state.now.links in
     let n : ℕ = get_or c.args.numbers.now c.loop-index.index 0 in
     record {
       kept = kept_more (IsKept v c.args.state.now.kept)
@@ -54,16 +79,24 @@ loop-index-preserved c =
           (patched rows (made_change ts rs v c.args.turn (n ∷ []))))
           (tables_in now) (tables_in stores) (rows_in now) (rows_in stores) c.loop-index.invariant.tables
           c.loop-index.invariant.rows c.in_ok-follow_number.ensures.kept);
-      referrers = kept_more (KeepsReferrers c.args.state.now.referrers) (KeepsReferrers c.loop-index.state.referrers)
-          (KeepsReferrers c.follow_number.new.state.referrers) (referring_row v) c.args.turn slots c.args.numbers.now
-          c.loop-index.index (omega (arith, c.loop-index-test.true)) c.loop-index.invariant.referrers
+      columns = c.in_ok-follow_number.ensures.columns ∙ c.loop-index.invariant.columns;
+      links = kept_more (KeepsLinks l) (KeepsLinks c.loop-index.state.links)
+          (KeepsLinks c.follow_number.new.state.links) (link_row l v) c.args.turn slots c.args.numbers.now
+          c.loop-index.index (omega (arith, c.loop-index-test.true)) c.loop-index.invariant.links
+          (subst (λ (h : List Datum → Option (List Datum)). (rows : NumberedRows)
+          → Fits rows (map (shift_image h) (turned c.args.turn slots (n ∷ [])))
+          → KeepsLinks c.loop-index.state.links rows
+          → KeepsLinks c.follow_number.new.state.links
+          (patched rows (map (shift_image h) (turned c.args.turn slots (n ∷ [])))))
+          (links_same l c.loop-index.state.links v c.loop-index.invariant.form)
           (at_stores (λ (ts : List Table) (rs : Rows). (rows : NumberedRows)
-          → Fits rows (referring_change (rows_at rs 0) v c.args.turn (n ∷ []))
-          → KeepsReferrers c.loop-index.state.referrers rows
-          → KeepsReferrers c.follow_number.new.state.referrers
-          (patched rows (referring_change (rows_at rs 0) v c.args.turn (n ∷ []))))
+          → Fits rows (link_change (rows_at rs 0) c.loop-index.state.links v c.args.turn (n ∷ []))
+          → KeepsLinks c.loop-index.state.links rows
+          → KeepsLinks c.follow_number.new.state.links
+          (patched rows (link_change (rows_at rs 0) c.loop-index.state.links v c.args.turn (n ∷ []))))
           (tables_in now) (tables_in stores) (rows_in now) (rows_in stores) c.loop-index.invariant.tables
-          c.loop-index.invariant.rows c.in_ok-follow_number.ensures.referrers);
+          c.loop-index.invariant.rows c.in_ok-follow_number.ensures.links));
+      form = c.in_ok-follow_number.ensures.form ∙ c.loop-index.invariant.form;
       stale = c.follow_number.ensures.stale ∙ c.loop-index.invariant.stale;
       tables = c.follow_number.ensures.tables ∙ c.loop-index.invariant.tables;
       rows = c.follow_number.ensures.rows ∙ c.loop-index.invariant.rows;
@@ -100,9 +133,9 @@ returns-clause-kept c =
     (made_row v (side_by (tables_in stores) (rows_in stores) v)) c.args.turn (rows_at (rows_in stores) 0)
     c.args.numbers.now c.loop-index.index (omega (arith, c.loop-index-test.false)) c.loop-index.invariant.kept
 
-pub returns-clause-referrers : goal.returns-clause-referrers
-returns-clause-referrers c =
+pub returns-clause-links : goal.returns-clause-links
+returns-clause-links c =
     let v = c.args.view.now in
-    kept_all (KeepsReferrers c.args.state.now.referrers) (KeepsReferrers c.loop-index.state.referrers)
-    (referring_row v) c.args.turn (rows_at (rows_in c.args.stores.now.items) 0) c.args.numbers.now c.loop-index.index
-    (omega (arith, c.loop-index-test.false)) c.loop-index.invariant.referrers
+    kept_all (KeepsLinks c.args.state.now.links) (KeepsLinks c.loop-index.state.links)
+    (link_row c.args.state.now.links v) c.args.turn (rows_at (rows_in c.args.stores.now.items) 0) c.args.numbers.now
+    c.loop-index.index (omega (arith, c.loop-index-test.false)) c.loop-index.invariant.links

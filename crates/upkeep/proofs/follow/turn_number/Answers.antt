@@ -57,4 +57,4 @@ returns-clause-kept c =
     on_ok _ _ c.turn_main_row.result
     (λ turned. same_change (IsKept v c.args.kept.now)
     (IsKept v c.turn_main_row.new.kept) _ _ same turned)
-    c.turn_main_row.ensures
+    c.turn_main_row.ensures.kept

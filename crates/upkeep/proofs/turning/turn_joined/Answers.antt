@@ -6,8 +6,8 @@ use Rattle.upkeep.proofs.ArrivalRows.{made-none}
 use Rattle.upkeep.proofs.RowByRow.{still_kept}
 use Rattle.upkeep.proofs.turning.turn_joined.Goals as goal
 
-pub returns-in_default : goal.returns-in_default
-returns-in_default c = λ rows fits k.
+pub returns-in_default-clause-kept : goal.returns-in_default-clause-kept
+returns-in_default-clause-kept c = λ rows fits k.
     let outputs = c.args.view.now.outputs in
     still_kept (IsKept c.args.view.now c.args.kept.now) _ c.args.turn c.args.number
     (made_by outputs (option_map joined_cells c.args.joined)) rows refl

@@ -1,4 +1,4 @@
-use Rattle.std.proofs.Common.{subst, sym}
+use Rattle.std.proofs.Common.{Some, subst, sym}
 use Rattle.view_lang.specs.Shifts.{NumberedRows}
 use Rattle.view_lang.specs.Views.{shown_row}
 use Rattle.top_rows.specs.Keeping.{Keeps}
@@ -7,7 +7,7 @@ use Rattle.upkeep.proofs.turning.turn_order.Goals as goal
 
 pub returns-in-Come-clause-kept : goal.returns-in-Come-clause-kept
 returns-in-Come-clause-kept g c = λ rows fits k.
-    let row = shown_row c.args.outputs.now (g.R.RowView.cells c.args.row.now) in
+    let row = Some (shown_row c.args.outputs.now (g.R.RowView.cells c.args.row.now)) in
     let f = come_fits c.args.turn c.args.number row rows c.in-Come.is fits in
     let P : NumberedRows → Type 0 = λ rs. Keeps c.come.new.self rs in
     subst P (sym (come_patched c.args.turn c.args.number row rows c.in-Come.is))
@@ -15,7 +15,7 @@ returns-in-Come-clause-kept g c = λ rows fits k.
 
 pub returns-in-Go-clause-kept : goal.returns-in-Go-clause-kept
 returns-in-Go-clause-kept g c = λ rows fits k.
-    let row = shown_row c.args.outputs.now (g.R.RowView.cells c.args.row.now) in
+    let row = Some (shown_row c.args.outputs.now (g.R.RowView.cells c.args.row.now)) in
     let f = go_fits c.args.turn c.args.number row rows c.in-Go.is fits in
     let P : NumberedRows → Type 0 = λ rs. Keeps c.go.new.self rs in
     subst P (sym (go_patched c.args.turn c.args.number row rows c.in-Go.is))

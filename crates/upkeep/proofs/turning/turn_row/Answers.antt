@@ -6,8 +6,8 @@ use Rattle.upkeep.specs.ViewStates.{ShowsEach}
 use Rattle.upkeep.proofs.RowByRow.{order_turned}
 use Rattle.upkeep.proofs.turning.turn_row.Goals as goal
 
-pub returns-in-Columns-Order : goal.returns-in-Columns-Order
-returns-in-Columns-Order g c = λ rows fits k.
+pub returns-in-Columns-Order-clause-kept : goal.returns-in-Columns-Order-clause-kept
+returns-in-Columns-Order-clause-kept g c = λ rows fits k.
     order_turned (ShowsEach c.args.view.now) c.args.view.now.outputs c.deref.result.now c.args.view.now.order c.args.kept.now
     c.in-Columns-Order.order c.turn_order.new.order c.args.turn c.args.number (g.R.RowView.cells c.args.row.now)
     (sym (ap (λ (v : View). v.outputs) c.view.view_is) ∙ ap outputs_of c.in-Columns-Order.is-0
