@@ -60,6 +60,7 @@ bench: lv need-python
 	@tools/bench-filters.py
 	@tools/bench-live.py
 	@tools/bench-churn.py
+	@tools/bench-sides.py
 	@cd crates/kernel_bench && rt run > /dev/null
 	@tools/bench-kernels.py
 
