@@ -41,12 +41,10 @@ class Configuration:
             made["lookup"] = {"side": side, "on": on, "missing": self.random.choice(("null", "drop"))}
         types = Tables(config).types(made)
         references = [name if table == "main" and self.random.random() < 0.5 else [table, name] for table, name in types]
-        if self.random.random() < 0.5:
-            made["filter"] = self.filter(references, types, 3, "main")
-        if self.random.random() < 0.5:
-            ordered = [it for it in references if types[column_of(it)] not in self.nested]
-            made["group"] = self.random.sample(ordered, self.random.randint(0, min(2, len(ordered))))
-        columns = self.grouped(made["group"], references, types) if "group" in made else self.plain(references)
+        if "lookup" in made and self.random.random() < 0.4:
+            columns = self.moved(made, types)
+        else:
+            columns = self.chosen(made, references, types)
         made["columns"] = [[f"o{at}", *it] for at, it in enumerate(columns)]
         shown = outputs(made, types)
         if "group" in made and self.random.random() < 0.5:
@@ -62,6 +60,32 @@ class Configuration:
         if self.random.random() < (0.6 if texts else 0.1):
             made["dict"] = self.random.sample(texts, self.random.choice((0, *[min(1, len(texts))] * 2, *[len(texts)] * 3)))
         return made
+
+    def chosen(self, made, references, types):
+        """The columns of a view; it may get a filter, and may be grouped."""
+        if self.random.random() < 0.5:
+            made["filter"] = self.filter(references, types, 3, "main")
+        if self.random.random() < 0.5:
+            ordered = [it for it in references if types[column_of(it)] not in self.nested]
+            made["group"] = self.random.sample(ordered, self.random.randint(0, min(2, len(ordered))))
+        return self.grouped(made["group"], references, types) if "group" in made else self.plain(references)
+
+    def moved(self, made, types):
+        """The columns of a view by a side table, whose rows move from group to group together: its aggregates are of main columns, and
+        each part of its filter is of main columns alone, or of columns in which such rows are alike."""
+        main, side = ([it for it in types if it[0] == table] for table in ("main", "side"))
+        ordered = [it for it in types if types[it] not in self.nested]
+        by = self.random.sample(ordered, self.random.randint(0, min(3, len(ordered))))
+        alike = {*side, *by, ("main", made["lookup"]["on"])}
+        alike = [it for it in types if it in alike]
+        parts = []
+        for _ in range(self.random.randint(0, 3)):
+            known = self.random.choice((main, alike))
+            parts.append(self.filter([[*it] for it in known], {it: types[it] for it in known}, 2, "main"))
+        if parts:
+            made["filter"] = parts[0] if len(parts) == 1 else ["and", *parts]
+        made["group"] = [[*it] for it in by]
+        return self.grouped(made["group"], [[*it] for it in main], types)
 
     def plain(self, references):
         return [["col", self.random.choice(references)] for _ in range(self.random.randint(1, 4))]
