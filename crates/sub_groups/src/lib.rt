@@ -11,6 +11,8 @@ mod filter_parts;
 mod laws;
 mod stand_in;
 mod sub_groups;
+#[cfg(test)]
+mod tests;
 
 pub use filter_parts::passes_others;
 pub use laws::sub_group_law;
