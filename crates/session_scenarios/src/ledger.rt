@@ -42,11 +42,20 @@ columns = [["n", "count"], ["s", "sum", "amt"]]
 group = ["grp"]
 columns = [["grp", "col", "grp"], ["n", "count"], ["d", "distinct", "amt"]]
 having = ["ge", "d", 2]
+[view.named]
+lookup = { side = "zones", on = "grp", missing = "drop" }
+group = ["grp"]
+columns = [["grp", "col", "grp"], ["d", "distinct", ["side", "zone"]]]
 "#;
 
 /// Opens a session, and pushes the schemas of its four feeds.
 pub fn open(rt: &impl Abort, alloc: Global) -> Result<Session, Fail> {
-    let config = read_config(alloc, CONFIG);
+    open_of(rt, alloc, CONFIG)
+}
+
+/// Opens a session over these tables and feeds with the views of a configuration.
+pub fn open_of(rt: &impl Abort, alloc: Global, text: &str) -> Result<Session, Fail> {
+    let config = read_config(alloc, text);
     assert!(rt; config.is_ok());
     let mut session = Session::open(alloc, config.unwrap())?;
     push(rt, session.push("add", &MAIN[..304]));

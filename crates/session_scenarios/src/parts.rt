@@ -13,7 +13,7 @@ use upkeep::LiveTablesParts;
 use values::{Key, Value};
 use view_config::read_config;
 
-const VIEWS: [&str; 5] = ["top", "sums", "zone", "all", "big"];
+const VIEWS: [&str; 6] = ["top", "sums", "zone", "all", "big", "named"];
 
 /// What the views show, one stream after the other, and how many rows each write opened.
 #[derive(Drop)]
