@@ -11,10 +11,15 @@ use view_lang::{Comparison, Filter, Lookup, Missing, Operand, Outputs, Test, Vie
 /// The main table has a key, what is looked up, what is grouped by, and an amount. The side table has a key, a zone and a
 /// limit behind them.
 const WIDTH: usize = 4;
+
 const LOOKED_UP: usize = 1;
+
 const CATEGORY: usize = 2;
+
 const AMOUNT: usize = 3;
+
 const ZONE: usize = 5;
+
 const LIMIT: usize = 6;
 
 fn int(number: i128) -> Value {

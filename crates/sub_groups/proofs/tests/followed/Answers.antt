@@ -118,6 +118,15 @@ go-requires c =
     let after : Keeps c.come-2.new.self.groups (values_of (two a b)) =
     c.in_ok-come-2.ensures.kept (one a) 1 (one-up a) (one-free a) kept in
     let last : Keeps c.come-3.new.self.groups (values_of (three a b d)) =
-    c.in_ok-come-3.ensures.kept (two a b) 2 (two-up a b) (two-free a b) after in
-    (three a b d, 0, (last, (three-up a b d, first-there a b d
-    ∙ ap (λ cells. sub_row 4 v cells) (c.as_slice.ensures.value ∙ sym c.as_slice-4.ensures.value))))
+    c.in_ok-come-3.ensures.kept (two a b) 2 (two-up a b) (two-free a b) after in (
+      three a b d,
+      0,
+      (
+        last,
+        (
+          three-up a b d,
+          first-there a b d
+              ∙ ap (λ cells. sub_row 4 v cells) (c.as_slice.ensures.value ∙ sym c.as_slice-4.ensures.value),
+        ),
+      ),
+    )
