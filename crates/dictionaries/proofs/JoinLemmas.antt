@@ -87,3 +87,9 @@ behind-all cs i k j same h = same ∙ ap (λ xs. slice_get (joined xs) j) (drop_
 pub ruleset merging = (joined-take-more, joined-take-all, joined-extended)
 
 pub ruleset reading = (behind-chunk, behind-all)
+
+-- the values of one chunk
+pub joined-one : (c ds : List Datum) → ds ≡ c → ds ≡ joined (c ∷ [])
+joined-one c ds is = is ∙ sym (append-nil c)
+
+pub ruleset one_chunk = (joined-one)

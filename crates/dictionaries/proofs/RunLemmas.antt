@@ -226,6 +226,13 @@ single-values ds n is = ap (λ k. spread 0 ds (counted 0 k)) is ∙ spread-count
 pub single-runs : (ds : List Datum) (n : ℕ) → n ≡ length ds → AreRuns ds (counted 0 n)
 single-runs ds n is = (counted-length 0 n ∙ is, counted-rising 0 n)
 
+-- held values that stand once each are the whole list
+pub held-values : (hs ds xs : List Datum) (es : List ℕ) (n : ℕ) → AreRuns ds es → es ≡ counted 0 n
+    → spread 0 ds es ≡ xs → hs ≡ ds → hs ≡ xs
+held-values hs ds xs es n runs single view are =
+    let size : n ≡ length ds = sym (counted-length 0 n) ∙ ap length (sym single) ∙ runs.0 in
+    are ∙ sym (single-values ds n size) ∙ ap (spread 0 ds) (sym single) ∙ view
+
 pub spread-once : (d : Datum) (n : ℕ) → spread 0 (d ∷ []) (n ∷ []) ≡ replicate n d
 spread-once d n =
     let same : n - 0 ≡ n = omega arith in

@@ -1,6 +1,6 @@
 //! Chunks of values, shared between versions of a dictionary.
 
-ghost use Rattle.std.specs.Prelude.{◌≡◌, ◌≤◌, ◌++◌, length, slice_get, IfOk};
+ghost use Rattle.std.specs.Prelude.{◌≡◌, ◌≤◌, ◌++◌, length, slice_get, IfOk, IfSome};
 ghost use Rattle.std.specs.Option.{option_copied};
 ghost use Rattle.dictionaries.specs.Joined.{joined};
 
@@ -64,6 +64,17 @@ pub fn value_at(chunks: &[Chunk], i: usize) -> Option<&Value>
         left -= values.len();
     }
     None
+}
+
+/// The values of the chunks as one slice, where they lie in one chunk that holds each of them; `None` otherwise.
+#[tactic(auto, using(crate::proofs::JoinLemmas::one_chunk))]
+pub fn slice_of(chunks: &[Chunk]) -> Option<&[Value]>
+    ensures { IfSome result (λ values. values.now ≡ joined chunks.now) }
+{
+    match chunks {
+        [chunk] => chunk.values().as_slice(),
+        _ => None,
+    }
 }
 
 /// How many of the chunks stay as they are when a chunk that holds `added` values is appended. The ones after these

@@ -1,9 +1,9 @@
 //! One version of a dictionary: a list of values.
 
-ghost use Rattle.std.specs.Prelude.{◌≡◌, ◌++◌, length, nat_eq, slice_get, IfOk};
+ghost use Rattle.std.specs.Prelude.{◌≡◌, ◌++◌, length, nat_eq, slice_get, IfOk, IfSome};
 ghost use Rattle.std.specs.Option.{option_copied};
 
-use crate::chunks::{Chunk, extend, value_at};
+use crate::chunks::{Chunk, extend, slice_of, value_at};
 use crate::value_runs::ValueRuns;
 use std::alloc::{AllocError, Global};
 use std::marker::Model;
@@ -87,5 +87,13 @@ impl Dictionary {
         ensures { option_copied result ≡ slice_get self.now i }
     {
         value_at(self.chunks.as_ref().as_slice(), i)
+    }
+
+    /// All values as one slice, which takes one look for any number of them; `None` for a dictionary that lies in
+    /// several parts, or that holds a repeated value once, whose values `get` finds. It takes no memory.
+    pub fn as_slice(&self) -> Option<&[Value]>
+        ensures { IfSome result (λ values. values.now ≡ self.now) }
+    {
+        slice_of(self.chunks.as_ref().as_slice())
     }
 }

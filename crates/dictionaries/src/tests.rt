@@ -192,3 +192,29 @@ fn runs_of_no_and_of_one_value(rt: HostRuntime) -> Result<(), Fail> {
     assert!(rt; dictionary.get(200).is_none());
     Ok(())
 }
+
+#[test]
+fn values_of_one_part_are_a_slice(rt: HostRuntime) -> Result<(), Fail> {
+    let alloc = rt.alloc();
+    let mut dictionaries = Dicts::new(alloc);
+    bring(&mut dictionaries, alloc, 7, false, &[1, 2, 3])?;
+    let whole = dictionaries.lookup(7).ok_or("none")?.share()?;
+    let values = whole.as_slice().ok_or("several parts")?;
+    assert_eq!(rt; values.len(), 3);
+    let second = values.get(1).ok_or("one value")?;
+    assert!(rt; matches!(&second.kind, Kind::Int(found) if *found == 2));
+    bring(&mut dictionaries, alloc, 7, true, &[4])?;
+    let longer = dictionaries.lookup(7).ok_or("none")?;
+    assert!(rt; longer.as_slice().is_none());
+    assert!(rt; holds(longer, &[1, 2, 3, 4]));
+    Ok(())
+}
+
+#[test]
+fn repeated_values_are_no_slice(rt: HostRuntime) -> Result<(), Fail> {
+    let alloc = rt.alloc();
+    let mut dictionaries = Dicts::new(alloc);
+    dictionaries.apply(8, false, nulls(alloc, 3)?)?;
+    assert!(rt; dictionaries.lookup(8).ok_or("none")?.as_slice().is_none());
+    Ok(())
+}

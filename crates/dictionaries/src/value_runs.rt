@@ -1,6 +1,6 @@
 //! Lists of values that hold a repeated value once.
 
-ghost use Rattle.std.specs.Prelude.{◌≡◌, ◌++◌, IfOk, length, replicate, slice_get};
+ghost use Rattle.std.specs.Prelude.{◌≡◌, ◌++◌, IfOk, IfSome, length, replicate, slice_get};
 ghost use Rattle.std.specs.Option.{option_copied};
 
 use crate::run_ends::RunEnds;
@@ -77,6 +77,16 @@ impl ValueRuns {
         ensures { option_copied result ≡ slice_get self.now i }
     {
         value_in(&self.held, self.ends.run_of(i))
+    }
+
+    /// The values as one slice, where each of them is held; `None` where they are held by runs.
+    pub(crate) fn as_slice(&self) -> Option<&[Value]>
+        ensures { IfSome result (λ values. values.now ≡ self.now) }
+    {
+        match &self.ends {
+            RunEnds::Single(_) => Some(self.held.as_slice()),
+            RunEnds::At(_) => None,
+        }
     }
 
     /// A copy, in memory of its own.
