@@ -21,16 +21,15 @@ use Rattle.std.proofs.Common.{
   ◌∙◌,
   arith,
 }
-use Rattle.std.specs.Prelude.{Result, Option, None, Some, Ok, Err, Bool, slice_get, get_or}
-use Rattle.std.proofs.lemmas.Option.{slice_get_past, slice_get_within, slice_get-get_or, get_or_from_slice_get}
+use Rattle.std.specs.Prelude.{Option, None, Some, Ok, Err, Bool, slice_get}
+use Rattle.std.proofs.lemmas.Option.{slice_get_past, slice_get_within, get_or_from_slice_get}
 use Rattle.std.proofs.lemmas.List.Elements.{All-get_or}
 use Rattle.std.proofs.Math.Nat.{mul-le-mul_left}
-use Rattle.values.specs.declared.faults.StreamFault.{StreamFault}
 use Rattle.values.specs.declared.faults.StreamFault.TheVariants as fault
-use Rattle.values.specs.Reading.{Reading, one, must, Stands, IsValid, Passes}
+use Rattle.values.specs.Reading.{Reading, one, must, IsValid}
 use Rattle.values.proofs.Readings.{must_Ok}
 use Rattle.values.specs.Rose.{node, Roses, none, more}
-use Rattle.values.specs.Datum.{Datum, null}
+use Rattle.values.specs.Datum.{Datum}
 use Rattle.values.specs.declared.layout.IntWidth.{IntWidth}
 use Rattle.values.specs.declared.layout.Layout.{Layout}
 use Rattle.values.specs.declared.layout.Layout.TheVariants.{
@@ -46,7 +45,7 @@ use Rattle.values.specs.declared.layout.Layout.TheVariants.{
 use Rattle.values.specs.Layouts.{bytes_in, IsNode, Holds, slot, weight}
 use Rattle.array_layout.specs.declared.array.DictionaryValues.{DictionaryValues}
 use Rattle.array_layout.specs.declared.array.ArrayData.{ArrayData}
-use Rattle.array_layout.specs.Buffers.{number_at}
+use Rattle.array_layout.specs.Buffers.{number_at, number_by, unsigned_at}
 use Rattle.array_layout.specs.Placing.{bytes_of}
 use Rattle.array_layout.specs.Sound.{first_len, HasRoom, IsSound}
 use Rattle.array_layout.specs.Cells.{coded_by, indexed}
@@ -63,67 +62,22 @@ pub index_past : (ds : List Datum) (z : ℤ) → pos (length ds) ≤ℤ z → Er
 index_past ds (pos n) h = ap (must fault.DictionaryIndex) (sym (slice_get_past ds n (grind arith)))
 index_past ds (negsuc n) h = absurd (grind arith)
 
-pub index_here :
-    (ds : List Datum) (z : ℤ) (n : ℕ) (o : Option Datum) → pos n ≡ z → o ≡ slice_get ds n
-    → must fault.DictionaryIndex o ≡ indexed ds z
-index_here ds z n o is found =
-    let P : ℤ → Type 0 = λ x. must fault.DictionaryIndex o ≡ indexed ds x in
-    subst P is (ap (must fault.DictionaryIndex) found)
-
-pub ruleset index_laws = (index_negative, index_past, index_here)
-
 -- the index of a slot
 pub number_here : (p : ArrayData) (w : IntWidth) (s : Bool) (i : ℕ) → HasIndex p.layout p i → p.layout ≡ Int w s
     → bytes_in w * (i + 1) ≤ p.values.len
 number_here p w s i room is = let P : Layout → Type 0 = λ l. HasIndex l p i in subst P is room
 
 pub coded_number :
-    (l : Layout) (ds : List Datum) (indices : List ℕ) (i : ℕ) (w : IntWidth) (s : Bool) (z : ℤ) (m : Reading Datum)
-    → l ≡ Int w s
-    → z ≡ number_at s (bytes_in w) indices i → m ≡ indexed ds z → m ≡ coded_by l ds indices i
-coded_number l ds indices i w s z m is same read =
+    (l : Layout) (ds : List Datum) (indices : List ℕ) (i : ℕ) (w : IntWidth) (s : Bool) (x : ℕ) (m : Reading Datum)
+    → l ≡ Int w s → x ≡ unsigned_at (bytes_in w) indices i → m ≡ indexed ds (number_by s (bytes_in w) x)
+    → m ≡ coded_by l ds indices i
+unfolding number_at
+coded_number l ds indices i w s x m is at read =
     let P : Layout → Type 0 = λ k. m ≡ coded_by k ds indices i in
-    let Q : ℤ → Type 0 = λ x. m ≡ indexed ds x in
-    subst P (sym is) (subst Q same read)
+    let Q : ℕ → Type 0 = λ y. m ≡ indexed ds (number_by s (bytes_in w) y) in
+    subst P (sym is) (subst Q at read)
 
 pub ruleset encoded_laws = (number_here, coded_number)
-
--- an index is judged by the number of values
-pub bounded_valid : (ds : List Datum) (z : ℤ) → pos 0 ≤ℤ z → z <ℤ pos (length ds) → IsValid (indexed ds z)
-bounded_valid ds (pos n) low high =
-    let below : n < length ds = grind arith in
-    let read : must fault.DictionaryIndex (slice_get ds n) ≡ must fault.DictionaryIndex (Some (get_or ds n null)) =
-    ap (must fault.DictionaryIndex) (slice_get-get_or ds n null below) in
-    subst IsValid (sym read) tt
-bounded_valid ds (negsuc n) low high = absurd (grind arith)
-
-pub negative_stands : (ds : List Datum) (z : ℤ) → z <ℤ pos 0 → Stands (indexed ds z) fault.DictionaryIndex
-negative_stands ds z h =
-    let P : Reading Datum → Type 0 = λ m. Stands m fault.DictionaryIndex in subst P (index_negative ds z h) refl
-
-pub past_stands : (ds : List Datum) (z : ℤ) → pos (length ds) ≤ℤ z → Stands (indexed ds z) fault.DictionaryIndex
-past_stands ds z h =
-    let P : Reading Datum → Type 0 = λ m. Stands m fault.DictionaryIndex in subst P (index_past ds z h) refl
-
-pub ruleset bound_laws = (bounded_valid, negative_stands, past_stands)
-
--- the index of a slot, by its buffer
-pub number_there :
-    (l : Layout) (indices : List ℕ) (w : IntWidth) (s : Bool) (i : ℕ) → HasIndices l indices (i + 1) → l ≡ Int w s
-    → bytes_in w * (i + 1) ≤ length indices
-number_there l indices w s i room is = let P : Layout → Type 0 = λ k. HasIndices k indices (i + 1) in subst P is room
-
-pub coded_passes :
-    (r : Result (Unit {0}) StreamFault) (l : Layout) (ds : List Datum) (indices : List ℕ) (i : ℕ) (w : IntWidth)
-    (s : Bool) (z : ℤ)
-    → l ≡ Int w s → z ≡ number_at s (bytes_in w) indices i → Passes r (indexed ds z)
-    → Passes r (coded_by l ds indices i)
-coded_passes r l ds indices i w s z is same passes =
-    let P : Layout → Type 0 = λ k. Passes r (coded_by k ds indices i) in
-    let Q : ℤ → Type 0 = λ x. Passes r (indexed ds x) in
-    subst P (sym is) (subst Q same passes)
-
-pub ruleset validate_laws = (number_there, coded_passes)
 
 indices_less : (l : Layout) (indices : List ℕ) (n m : ℕ) → HasIndices l indices n → m ≤ n → HasIndices l indices m
 indices_less Booleans indices n m room less = tt
@@ -135,12 +89,6 @@ indices_less (Utf8 o) indices n m room less = tt
 indices_less (Binary o) indices n m room less = tt
 indices_less (Listed o) indices n m room less = tt
 indices_less Struct indices n m room less = tt
-
-pub indices_there : (l : Layout) (indices : List ℕ) (n i : ℕ) → HasIndices l indices n → i < n
-    → HasIndices l indices (i + 1)
-indices_there l indices n i room below = indices_less l indices n (i + 1) room (omega (arith, below))
-
-pub ruleset indices_until = (indices_there)
 
 rooms_by_layout :
     (l : Layout) (b : List ℕ) (p : ArrayData) (indices : List ℕ) (n : ℕ) → HasRoom l b p n

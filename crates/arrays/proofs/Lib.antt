@@ -1,6 +1,7 @@
 pub mod Utf8Tests
 pub mod Powers
 pub mod DictionaryLemmas
+pub mod IndexLemmas
 pub mod AlwaysValidLemmas
 pub mod RangeLemmas
 pub mod TextLemmas

@@ -1,32 +1,20 @@
 -- What a valid slot reads as, viewed where it lies.
 use Rattle.std.proofs.Common.{◌≡◌, ℕ, ℤ, List, ◌+◌, ◌<◌, length, refl, ap, sym, subst, ◌∙◌, arith}
-use Rattle.std.specs.Prelude.{Ok, Err, Some, Bool, true, false, get_or, slice_get}
+use Rattle.std.specs.Prelude.{Ok, Err, true, get_or}
 use Rattle.std.specs.Str.{is_utf8}
 use Rattle.std.proofs.lemmas.Option.{get_or_from_slice_get}
-use Rattle.values.specs.Reading.{Reading, IsValid, mapped, must, each}
-use Rattle.values.proofs.Readings.{each_length, each_get, valid_Ok}
-use Rattle.values.specs.Rose.{Rose, node, Roses}
-use Rattle.values.specs.Datum.{Datum, null, truth, whole, text, bytes, list, structure, no_items}
-use Rattle.values.specs.declared.layout.IntWidth.{IntWidth}
+use Rattle.values.specs.Reading.{Reading, IsValid, mapped}
+use Rattle.values.proofs.Readings.{each_length, each_get}
+use Rattle.values.specs.Rose.{Rose, Roses}
+use Rattle.values.specs.Datum.{Datum, null, whole, text, list, structure, no_items}
 use Rattle.values.specs.declared.layout.OffsetWidth.{OffsetWidth}
 use Rattle.values.specs.declared.layout.Layout.{Layout}
-use Rattle.values.specs.declared.layout.Layout.TheVariants.{
-  Bool as Booleans,
-  Int,
-  Decimal,
-  FixedSizeBinary,
-  Utf8,
-  Binary,
-  List as Listed,
-  Struct,
-}
-use Rattle.values.specs.Layouts.{bytes_in}
-use Rattle.bitmaps.specs.Bits.{bit_at}
+use Rattle.values.specs.declared.layout.Layout.TheVariants.{Decimal, Utf8, List as Listed, Struct}
 use Rattle.array_layout.specs.declared.array.ArrayData.{ArrayData}
 use Rattle.array_layout.specs.Placing.{bytes_of}
-use Rattle.array_layout.specs.Buffers.{number_at, fixed_at, slice_at}
+use Rattle.array_layout.specs.Buffers.{number_at, slice_at}
 use Rattle.array_layout.specs.Cells.{cell, cells, first_cell, row, value_by, len_of, list_of, structure_of}
-use Rattle.arrays.proofs.CopyLemmas.{value_decimal, value_text, valid_list, valid_struct}
+use Rattle.arrays.proofs.CopyLemmas.{value_decimal, value_text}
 use Rattle.values.specs.CellViews.{shallow}
 
 abbrev value : Layout → List ℕ → ArrayData → Roses ArrayData → ℕ → Reading Datum

@@ -1,29 +1,78 @@
 //! Dictionary-encoded slots: the dictionary value at the index that a slot holds. 26 DictionaryIndex.
 
-ghost use Rattle.std.specs.Prelude.{◌≡◌, ◌+◌, ◌-◌, ◌<◌, ◌≤◌, IfOk, Ok, length};
+ghost use Rattle.std.specs.Prelude.{◌≡◌, ◌+◌, ◌*◌, ◌-◌, ◌^◌, ◌<◌, ◌≤◌, Err, IfOk, Ok, length};
 ghost use Rattle.std.specs.Option.{option_copied};
 ghost use Rattle.values.specs.declared.faults.StreamFault.TheVariants as fault;
+ghost use Rattle.values.specs.declared.layout.Layout.TheVariants.{Int};
+ghost use Rattle.values.specs.Layouts.{bytes_in};
 ghost use Rattle.bitmaps.specs.Bits.{HasBits};
-ghost use Rattle.values.specs.Reading.{Passes, IsValid, must, each};
+ghost use Rattle.values.specs.Reading.{Passes, IsValid, must, each, one};
 ghost use Rattle.array_layout.specs.Placing.{bytes_of};
 ghost use Rattle.array_layout.specs.Sound.{LiesIn};
+ghost use Rattle.array_layout.specs.Buffers.{number_by, unsigned_at};
 ghost use Rattle.array_layout.specs.Cells.{coded_by, indexed};
-ghost use Rattle.arrays.specs.Encoded.{HasIndex, HasIndices};
+ghost use Rattle.arrays.specs.Encoded.{HasIndex, HasIndices, index_bound};
 ghost use Rattle.arrays.specs.Ranges.{where_valid};
 
-use array_layout::{ArrayData, DictionaryValues, buffer, is_null_at, number};
+use array_layout::{ArrayData, DictionaryValues, buffer, is_null_at};
+use byteorder::{ByteOrder, LittleEndian};
 use std::alloc::{AllocError, Global};
-use values::{Layout, StreamFault, Value};
+use values::{IntWidth, Layout, StreamFault, Value};
 
-/// The dictionary value at this index.
-#[tactic(auto, using(crate::proofs::DictionaryLemmas::index_laws))]
-fn value_at(dictionary: &DictionaryValues, index: i128) -> Option<&Value>
-    ensures { must fault.DictionaryIndex (option_copied result) ≡ indexed dictionary.now.values index }
+/// Index `i`, read as a number without a sign.
+#[tactic(auto, unfolding(array_layout::specs::Buffers::unsigned_at))]
+pub fn index_at(indices: &[u8], width: IntWidth, i: usize) -> usize
+    requires { bytes_in width * (i + 1) ≤ length indices.now }
+    ensures value { result ≡ unsigned_at (bytes_in width) indices.now i }
+    ensures bound { result < 2 ^ (8 * bytes_in width) }
 {
-    if index < 0 || index >= dictionary.values.len() as i128 {
+    match width {
+        IntWidth::Bits8 => usize::from(indices[i]),
+        IntWidth::Bits16 => usize::from(LittleEndian::read_u16(&indices[2 * i..])),
+        IntWidth::Bits32 => LittleEndian::read_u32(&indices[4 * i..]) as usize,
+        IntWidth::Bits64 => LittleEndian::read_u64(&indices[8 * i..]) as usize,
+    }
+}
+
+/// The least number that is negative where it is read with its sign.
+fn sign_bit(width: IntWidth) -> usize
+    ensures { result ≡ 2 ^ (8 * bytes_in width - 1) }
+{
+    match width {
+        IntWidth::Bits8 => 1 << 7,
+        IntWidth::Bits16 => 1 << 15,
+        IntWidth::Bits32 => 1 << 31,
+        IntWidth::Bits64 => 1 << 63,
+    }
+}
+
+/// The bound below which numbers, read without their signs, are indices of `count` values.
+fn index_bound(width: IntWidth, signed: bool, count: usize) -> usize
+    ensures { result ≡ index_bound signed (bytes_in width) count }
+{
+    if signed {
+        count.min(sign_bit(width))
+    } else {
+        count
+    }
+}
+
+/// The dictionary value at an index that was read without its sign.
+#[tactic(auto, using(crate::proofs::IndexLemmas::reading))]
+fn value_at(
+    dictionary: &DictionaryValues,
+    width: IntWidth,
+    signed: bool,
+    index: usize,
+) -> Option<&Value>
+    requires { index < 2 ^ (8 * bytes_in width) }
+    ensures { must fault.DictionaryIndex (option_copied result)
+        ≡ indexed dictionary.now.values (number_by signed (bytes_in width) index) }
+{
+    if index >= index_bound(width, signed, dictionary.values.len()) {
         return None;
     }
-    dictionary.values.get(index as usize)
+    dictionary.values.get(index)
 }
 
 /// The dictionary value that slot `i` refers to; `None` if its index is out of range.
@@ -42,7 +91,9 @@ pub fn find_value<'a>(
     match own.layout {
         Layout::Int { width, signed } => value_at(
             dictionary,
-            number(buffer(body, &own.values), width, signed, i),
+            width,
+            signed,
+            index_at(buffer(body, &own.values), width, i),
         ),
         Layout::Bool
         | Layout::Decimal { .. }
@@ -54,47 +105,50 @@ pub fn find_value<'a>(
     }
 }
 
-/// Validates an index: `DictionaryIndex` where it is negative, or not below the number of values.
-#[tactic(auto, using(crate::proofs::DictionaryLemmas::bound_laws))]
-fn validate_index(dictionary: &DictionaryValues, index: i128) -> Result<(), StreamFault>
-    ensures { Passes result (indexed dictionary.now.values index) }
+/// Validates the indices of the slots from `from` to `to`, numbers of this width.
+#[tactic(auto, using(values::proofs::Readings::deciding, crate::proofs::RangeLemmas::slot_laws, crate::proofs::IndexLemmas::judging))]
+fn validate_numbers(
+    bits: &[u8],
+    indices: &[u8],
+    width: IntWidth,
+    signed: bool,
+    dictionary: &DictionaryValues,
+    from: usize,
+    to: usize,
+) -> Result<(), StreamFault>
+    requires order { from ≤ to }
+    requires bits { 0 < length bits.now → HasBits bits.now to }
+    requires room { bytes_in width * to ≤ length indices.now }
+    ensures { Passes result
+        (each (where_valid bits.now (coded_by (Int width signed) dictionary.now.values indices.now)) from (to - from)) }
 {
-    let count = dictionary.values.len() as i128;
-    if 0 <= index && index < count {
-        Ok(())
-    } else {
-        Err(StreamFault::DictionaryIndex)
+    let bound = index_bound(width, signed, dictionary.values.len());
+    for i in from..to {
+        if !is_null_at(bits, i) && index_at(indices, width, i) >= bound {
+            return Err(StreamFault::DictionaryIndex);
+        }
     }
+    Ok(())
 }
 
-/// Validates the index of slot `i`.
-#[tactic(auto, using(crate::proofs::DictionaryLemmas::validate_laws))]
-fn validate_slot(
-    indices: &[u8],
-    layout: Layout,
-    dictionary: &DictionaryValues,
-    i: usize,
-) -> Result<(), StreamFault>
-    requires { HasIndices layout indices.now (i + 1) }
-    ensures { Passes result (coded_by layout dictionary.now.values indices.now i) }
+/// Validates slots without numbers, none of which has an index.
+#[tactic(auto, using(values::proofs::Readings::deciding, crate::proofs::RangeLemmas::slot_laws))]
+fn validate_nulls(bits: &[u8], from: usize, to: usize) -> Result<(), StreamFault>
+    requires order { from ≤ to }
+    requires bits { 0 < length bits.now → HasBits bits.now to }
+    ensures { Passes result
+        (each (where_valid bits.now (λ i. Err (one fault.DictionaryIndex))) from (to - from)) }
 {
-    match layout {
-        Layout::Int { width, signed } => validate_index(
-            dictionary,
-            number(indices, width, signed, i),
-        ),
-        Layout::Bool
-        | Layout::Decimal { .. }
-        | Layout::FixedSizeBinary { .. }
-        | Layout::Utf8 { .. }
-        | Layout::Binary { .. }
-        | Layout::List { .. }
-        | Layout::Struct => Err(StreamFault::DictionaryIndex),
+    for i in from..to {
+        if !is_null_at(bits, i) {
+            return Err(StreamFault::DictionaryIndex);
+        }
     }
+    Ok(())
 }
 
 /// Validates the indices of the slots from `from` to `to`. No value is looked at.
-#[tactic(auto, using(values::proofs::Readings::deciding, crate::proofs::RangeLemmas::slot_laws, crate::proofs::DictionaryLemmas::indices_until))]
+#[tactic(auto, using(crate::proofs::IndexLemmas::by_layout))]
 pub(crate) fn validate_indices(
     bits: &[u8],
     indices: &[u8],
@@ -109,12 +163,12 @@ pub(crate) fn validate_indices(
     ensures { Passes result
         (each (where_valid bits.now (coded_by layout dictionary.now.values indices.now)) from (to - from)) }
 {
-    for i in from..to {
-        if !is_null_at(bits, i) {
-            validate_slot(indices, layout, dictionary, i)?;
+    match layout {
+        Layout::Int { width, signed } => {
+            validate_numbers(bits, indices, width, signed, dictionary, from, to)
         }
+        _ => validate_nulls(bits, from, to),
     }
-    Ok(())
 }
 
 /// Copies the dictionary value that slot `i` refers to.

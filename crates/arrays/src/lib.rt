@@ -21,5 +21,5 @@ mod validate;
 mod weigh;
 
 pub use column::{Column, ColumnParts};
-pub use dictionary::find_value;
+pub use dictionary::{find_value, index_at};
 pub use laws::{reached_law, weight_law};

@@ -7,7 +7,7 @@ ghost use Rattle.values.specs.declared.layout.OffsetWidth.TheVariants as offset;
 ghost use Rattle.values.specs.declared.layout.Layout.TheVariants.{Binary};
 ghost use Rattle.values.specs.Layouts.{IsNode, Holds};
 
-use crate::Column;
+use crate::{Column, index_at};
 use array_layout::{Array, ArrayData, BufferRange, DictionaryValues};
 use dictionaries::{Dictionary, Dicts, ValueRuns};
 use std::alloc::{AllocError, Global};
@@ -205,5 +205,17 @@ fn no_cell_is_above_the_bound(rt: HostRuntime) -> Result<(), Fail> {
     assert_eq!(rt; coded(alloc)?.weight_bound(), 7);
     let lists = list_of(alloc, Layout::FixedSizeBinary { width: 0 })?;
     assert!(rt; lists.weight_bound() > MAX_CELL_WEIGHT);
+    Ok(())
+}
+
+#[test]
+fn indices_are_read_without_their_signs(rt: HostRuntime) -> Result<(), Fail> {
+    assert_eq!(rt; index_at(&[7, 200], IntWidth::Bits8, 1), 200);
+    assert_eq!(rt; index_at(&[1, 0, 254, 255], IntWidth::Bits16, 1), 65534);
+    assert_eq!(rt; index_at(&[1, 0, 0, 128], IntWidth::Bits32, 0), 0x8000_0001);
+    assert_eq!(rt;
+        index_at(&[2, 1, 0, 0, 0, 0, 0, 0], IntWidth::Bits64, 0),
+        258
+    );
     Ok(())
 }
