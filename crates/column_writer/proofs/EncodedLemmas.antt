@@ -11,6 +11,7 @@ use Rattle.std.proofs.Common.{
   ◌^◌,
   ◌<◌,
   ◌≤◌,
+  length,
   List,
   [],
   ◌∷◌,
@@ -39,9 +40,9 @@ use Rattle.std.proofs.lemmas.Bool.{cases_lt}
 use Rattle.std.proofs.lemmas.List.{map-append}
 use Rattle.byteorder.specs.Endian.{twos_complement}
 use denote.Ref.{Bor}
-use Rattle.values.specs.Datum.{Datum}
+use Rattle.values.specs.Datum.{Datum, null}
 use Rattle.values.specs.Reading.{Reading, IsValid, must}
-use Rattle.values.specs.Rose.{Roses, node}
+use Rattle.values.specs.Rose.{Roses, node, kids_of}
 use Rattle.values.specs.declared.faults.StreamFault.TheVariants as fault
 use Rattle.values.specs.declared.layout.IntWidth.{IntWidth}
 use Rattle.values.specs.declared.layout.Layout.{Layout}
@@ -54,8 +55,12 @@ use Rattle.array_layout.specs.Buffers.{is_null, number_by, number_at, unsigned_a
 use Rattle.array_layout.specs.Cells.{cell, cell_by, slot_by, coded_by, indexed, first_cell, row}
 use Rattle.body_writer.specs.Slots.{cell_of, cells_of}
 use Rattle.column_writer.specs.Runs.{cell_in, slots}
+use Rattle.arrays.proofs.DictionaryLemmas.{index_rooms}
+use Rattle.column_writer.specs.declared.piece.SlotRange.{SlotRange}
+use Rattle.column_writer.specs.Pieces.{IsIndexed}
+use Rattle.column_writer.proofs.RunLemmas.{null-cell}
 use Rattle.column_writer.proofs.BitLemmas.{slots-next, slots-none}
-use Rattle.column_writer.proofs.NumberLemmas.{low-half, high-half}
+use Rattle.arrays.proofs.IndexLemmas.{low-half, high-half, numbers-room}
 
 encoded-slot :
     (body : List ℕ) (p : ArrayData) (kids : Roses ArrayData) (w : DictionaryValues) (k : ℕ) → p.dictionary ≡ Some w
@@ -102,6 +107,12 @@ value-found l ds indices i w s x r is at small got good =
     subst P (sym is) (λ valid. found-at r ds x (number_by s (bytes_in w) u)
     (λ n k. at ∙ as-number s (bytes_in w) u little n k) got valid) good
 
+pub value-there :
+    (w : IntWidth) (ds : List Datum) (indices : List ℕ) (i x : ℕ) (r : Option (Bor Datum))
+    → x ≡ unsigned_at (bytes_in w) indices i → x < 2 ^ (8 * bytes_in w) → option_copied r ≡ slice_get ds x
+    → (s : Bool) → IsValid (coded_by (Int w s) ds indices i) → cell_of r ≡ cell_in (coded_by (Int w s) ds indices i)
+value-there w ds indices i x r at small got s good = value-found (Int w s) ds indices i w s x r refl at small got good
+
 pub ruleset index_laws = (value-found)
 
 -- the value that is found is the slot's cell
@@ -118,6 +129,69 @@ pub encoded-valid :
     → is_null (bytes_of body p.validity) k ≡ false → IsValid (cell body (node p kids) k)
     → IsValid (coded_by p.layout w.values (bytes_of body p.values) k)
 encoded-valid body p kids w k e there good = subst IsValid (encoded-slot body p kids w k e there) good
+
+-- the value at an index is the slot's cell, whether it is null or valid
+
+indexed-slot :
+    (body : List ℕ) (p : ArrayData) (kids : Roses ArrayData) (d : DictionaryValues) (w : IntWidth) (s : Bool)
+    (values : List Datum) (k : ℕ) → p.layout ≡ Int w s → p.dictionary ≡ Some d → d.values ≡ values
+    → is_null (bytes_of body p.validity) k ≡ false
+    → cell body (node p kids) k ≡ coded_by (Int w s) values (bytes_of body p.values) k
+indexed-slot body p kids d w s values k is e same there =
+    encoded-slot body p kids d k e there
+    ∙ ap (λ ds. coded_by p.layout ds (bytes_of body p.values) k) same
+    ∙ ap (λ l. coded_by l values (bytes_of body p.values) k) is
+
+valid-cell : (r : Option (Bor Datum)) (m n : Reading Datum) → n ≡ m → (IsValid m → cell_of r ≡ cell_in m) → IsValid n
+    → cell_of r ≡ cell_in n
+valid-cell r m n is found good = found (subst IsValid is good) ∙ sym (ap cell_in is)
+
+-- what reads the value in slot k, as a function of its index
+abbrev Finds : IntWidth → List Datum → List ℕ → List ℕ → ℕ → Option (Bor Datum) → Type 0
+Finds w values bits indices k r =
+    (is_null bits k ≡ true → cell_of r ≡ null)
+    × (is_null bits k ≡ false → (s : Bool) → IsValid (coded_by (Int w s) values indices k)
+    → cell_of r ≡ cell_in (coded_by (Int w s) values indices k))
+
+cell-by :
+    (b : Bool) (body : List ℕ) (p : ArrayData) (kids : Roses ArrayData) (d : DictionaryValues) (w : IntWidth)
+    (s : Bool) (values : List Datum) (k : ℕ) (r : Option (Bor Datum)) → p.layout ≡ Int w s → p.dictionary ≡ Some d
+    → d.values ≡ values → is_null (bytes_of body p.validity) k ≡ b → IsValid (cell body (node p kids) k)
+    → Finds w values (bytes_of body p.validity) (bytes_of body p.values) k r
+    → cell_of r ≡ cell_in (cell body (node p kids) k)
+cell-by true body p kids d w s values k r is e same here good finds =
+    finds.0 here ∙ sym (ap cell_in (null-cell body p kids k here))
+cell-by false body p kids d w s values k r is e same here good finds =
+    valid-cell r (coded_by (Int w s) values (bytes_of body p.values) k) (cell body (node p kids) k)
+    (indexed-slot body p kids d w s values k is e same here) (finds.1 here s) good
+
+pub indexed-cell :
+    (w : IntWidth) (values : List Datum) (range : SlotRange) (bits indices : List ℕ) (k : ℕ) (r : Option (Bor Datum))
+    → IsIndexed w values range → bits ≡ bytes_of range.parts.body.now range.parts.own.now.validity
+    → indices ≡ bytes_of range.parts.body.now range.parts.own.now.values → range.from ≤ k → k < range.to
+    → (is_null bits k ≡ true → cell_of r ≡ null)
+    → (is_null bits k ≡ false → (s : Bool) → IsValid (coded_by (Int w s) values indices k)
+    → cell_of r ≡ cell_in (coded_by (Int w s) values indices k))
+    → cell_of r ≡ cell_in (cell range.parts.body.now (node range.parts.own.now (kids_of range.parts.children.now)) k)
+indexed-cell w values range bits indices k r indexed at lie from below missing found =
+    let body = range.parts.body.now in
+    let p = range.parts.own.now in
+    let Q : List ℕ → Type 0 = λ ys. Finds w values ys indices k r in
+    let R : List ℕ → Type 0 = λ ys. Finds w values (bytes_of body p.validity) ys k r in
+    cell-by (is_null (bytes_of body p.validity) k) body p (kids_of range.parts.children.now) indexed.encoded.0 w
+    indexed.layout.0 values k r indexed.layout.1 indexed.encoded.1.0 indexed.encoded.1.1 refl
+    (indexed.checked.valid k from below) (subst R lie (subst Q at (missing, found)))
+
+-- there is an index in each of the slots
+pub indexed-room :
+    (w : IntWidth) (values : List Datum) (range : SlotRange) (indices : List ℕ) (k : ℕ) → IsIndexed w values range
+    → indices ≡ bytes_of range.parts.body.now range.parts.own.now.values → k < range.to
+    → bytes_in w * (k + 1) ≤ length indices
+indexed-room w values range indices k indexed lie below =
+    let in_array = indexed.checked.within in
+    numbers-room range.parts.own.now.layout indices w indexed.layout.0 (k + 1)
+    (index_rooms range.parts.body.now range.parts.own.now (kids_of range.parts.children.now) indices (k + 1)
+    indexed.checked.sound lie (omega (arith, below, in_array))) indexed.layout.1
 
 -- slot after slot
 

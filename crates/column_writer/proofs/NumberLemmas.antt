@@ -30,7 +30,7 @@ use Rattle.std.proofs.Common.{
   inl,
   inr,
 }
-use Rattle.std.specs.Prelude.{slice_range, slice_index, pos, ◌-ℤ◌}
+use Rattle.std.specs.Prelude.{slice_range, slice_index}
 use Rattle.std.specs.Int.{w128, byte_at, bytes_low_first}
 use Rattle.std.proofs.lemmas.List.{get_or-drop}
 use Rattle.std.proofs.Math.Nat.{
@@ -50,14 +50,15 @@ use Rattle.std.proofs.Math.Nat.{
   mul-le-mul_right,
 }
 use Rattle.std.proofs.lemmas.Int.{ints}
-use Rattle.std.proofs.lemmas.Bool.{le-ltb, lt-ltb, cases_lt}
-use Rattle.byteorder.specs.Endian.{little_bytes, little_number, little_from, low_bytes, twos_complement}
+use Rattle.std.proofs.lemmas.Bool.{cases_lt}
+use Rattle.byteorder.specs.Endian.{little_bytes, little_number, little_from, low_bytes}
 use Rattle.byteorder.specs.Numbers.{little_from-lt}
 use Rattle.values.specs.Datum.{whole}
 use Rattle.values.specs.declared.layout.IntWidth.{IntWidth}
 use Rattle.values.specs.declared.layout.IntWidth.TheVariants as int
 use Rattle.values.specs.Layouts.{bytes_in as width_of}
 use Rattle.array_layout.specs.Buffers.{unsigned_at, number_by, number_at}
+use Rattle.arrays.proofs.IndexLemmas.{low-half, high-half}
 use Rattle.body_writer.specs.Slots.{number_in}
 
 -- bytes that make a number are its bytes
@@ -123,12 +124,6 @@ number-bytes w xs small room =
 
 abbrev IsKept : ℕ → Type 0
 IsKept w = (s : Bool) (x : ℕ) → x < 256 ^ w → low_bytes w128 w (number_by s w x) ≡ x
-
-pub low-half : (w x : ℕ) → x < 2 ^ (8 * w - 1) → twos_complement w x ≡ pos x
-low-half w x h = rw (lt-ltb x (2 ^ (8 * w - 1)) h) refl
-
-pub high-half : (w x : ℕ) → 2 ^ (8 * w - 1) ≤ x → twos_complement w x ≡ pos x -ℤ pos (2 ^ (8 * w))
-high-half w x h = rw (le-ltb x (2 ^ (8 * w - 1)) h) refl
 
 kept-8 : IsKept 8
 kept-8 false x h = omega (arith, ints, h)

@@ -1,14 +1,16 @@
 -- Cells that lie in several arrays, or are nulls that lie in none.
-use Rattle.std.specs.Prelude.{◌≡◌, ◌⊎◌, ℕ, ◌-◌, ◌<◌, ◌≤◌, true, List, None, get_or, is_some, length, replicate}
+use Rattle.std.specs.Prelude.{◌≡◌, ◌⊎◌, ℕ, ◌-◌, ◌<◌, ◌≤◌, Bool, true, List, None, Some, get_or, is_some, length, replicate}
 use Rattle.std.specs.List.{flat_map}
 use Rattle.values.specs.Rose.{Rose, node, Roses, none, more, kids_of}
 use Rattle.values.specs.Datum.{Datum, null}
 use Rattle.values.specs.Reading.{IsValid}
+use Rattle.values.specs.declared.layout.IntWidth.{IntWidth}
 use Rattle.values.specs.declared.layout.OffsetWidth.{OffsetWidth}
 use Rattle.values.specs.declared.layout.OffsetWidth.TheVariants as offset
 use Rattle.values.specs.declared.layout.Layout.{Layout}
-use Rattle.values.specs.declared.layout.Layout.TheVariants.{Utf8, Binary, List as Listed}
+use Rattle.values.specs.declared.layout.Layout.TheVariants.{Int, Utf8, Binary, List as Listed}
 use Rattle.array_layout.specs.declared.array.ArrayData.{ArrayData}
+use Rattle.array_layout.specs.declared.array.DictionaryValues.{DictionaryValues}
 use Rattle.array_layout.specs.Sound.{IsSound}
 use Rattle.array_layout.specs.Cells.{cell}
 use Rattle.arrays.specs.declared.column.ColumnParts.{ColumnParts}
@@ -101,6 +103,12 @@ pub record IsPlain (r : SlotRange) : Type 0 where
 pub record IsEncoded (r : SlotRange) : Type 0 where
   pub checked : IsChecked r
   pub encoded : HasDictionary r.parts.own.now
+
+-- slots that stand for these values, by indices of this width
+pub record IsIndexed (w : IntWidth) (values : List Datum) (r : SlotRange) : Type 0 where
+  pub checked : IsChecked r
+  pub layout : (s : Bool) × (r.parts.own.now.layout ≡ Int w s)
+  pub encoded : (d : DictionaryValues) × ((r.parts.own.now.dictionary ≡ Some d) × (d.values ≡ values))
 
 -- slots of this layout, but for the width of offsets
 pub record HasLayout (l : Layout) (r : SlotRange) : Type 0 where

@@ -7,49 +7,49 @@ ghost use Rattle.std.specs.Prelude.{
   ◌<◌,
   ◌≤◌,
   ◌++◌,
-  ◌^◌,
   All,
+  Bool,
   IfOk,
+  IfSome,
   OnOk,
   Some,
+  false,
   length,
   replicate,
+  slice_get,
+  true,
 };
+ghost use Rattle.std.specs.Option.{option_copied};
+ghost use Rattle.bitmaps.specs.Bits.{HasBits};
 ghost use Rattle.values.specs.Datum.{null};
 ghost use Rattle.values.specs.Reading.{IsValid};
 ghost use Rattle.values.specs.Rose.{node, kids_of};
 ghost use Rattle.values.specs.Layouts.{bytes_in};
+ghost use Rattle.values.specs.declared.layout.Layout.TheVariants.{Int};
 ghost use Rattle.array_layout.specs.Placing.{bytes_of};
-ghost use Rattle.array_layout.specs.Buffers.{unsigned_at};
+ghost use Rattle.array_layout.specs.Buffers.{is_null};
 ghost use Rattle.array_layout.specs.Cells.{cell, coded_by};
 ghost use Rattle.arrays.specs.Encoded.{HasIndices};
 ghost use Rattle.body_writer.specs.Slots.{cell_of, cells_of};
 ghost use Rattle.column_writer.specs.Runs.{cell_in};
-ghost use Rattle.column_writer.specs.Pieces.{IsChecked, IsEncoded, OfSlots, piece_cells, pieces_cells, range_cells};
+ghost use Rattle.column_writer.specs.Pieces.{
+  IsChecked,
+  IsEncoded,
+  IsIndexed,
+  OfSlots,
+  piece_cells,
+  pieces_cells,
+  range_cells,
+};
 
 use crate::piece::{Piece, SlotRange};
 use array_layout::{DictionaryValues, buffer, is_null_at};
-use byteorder::{ByteOrder, LittleEndian};
+use arrays::index_at;
 use std::alloc::{AllocError, Global};
 use values::{IntWidth, Layout, Value};
 
-/// Index `i`, as a number without a sign.
-#[tactic(auto, unfolding(array_layout::specs::Buffers::unsigned_at))]
-fn index_at(indices: &[u8], width: IntWidth, i: usize) -> usize
-    requires { bytes_in width * (i + 1) ≤ length indices.now }
-    ensures value { result ≡ unsigned_at (bytes_in width) indices.now i }
-    ensures bound { result < 2 ^ (8 * bytes_in width) }
-{
-    match width {
-        IntWidth::Bits8 => usize::from(indices[i]),
-        IntWidth::Bits16 => usize::from(LittleEndian::read_u16(&indices[2 * i..])),
-        IntWidth::Bits32 => LittleEndian::read_u32(&indices[4 * i..]) as usize,
-        IntWidth::Bits64 => LittleEndian::read_u64(&indices[8 * i..]) as usize,
-    }
-}
-
 /// The dictionary's value at the index in slot `i`, which is valid.
-#[tactic(auto, using(arrays::proofs::DictionaryLemmas::validate_laws, crate::proofs::EncodedLemmas::index_laws))]
+#[tactic(auto, using(arrays::proofs::IndexLemmas::by_layout, crate::proofs::EncodedLemmas::index_laws))]
 fn indexed_value<'a>(
     dictionary: &'a DictionaryValues,
     layout: Layout,
@@ -96,8 +96,72 @@ pub(crate) fn value_of<'a>(
     indexed_value(dictionary, range.parts.own.layout, indices, i)
 }
 
-/// Appends a reference for each of these slots.
-fn push_encoded<'a>(
+fn value_at(values: &[Value], index: usize) -> Option<&Value>
+    ensures { option_copied result ≡ slice_get values.now index }
+{
+    values.get(index)
+}
+
+/// The value at the index in slot `i`, where the bits say that the slot is valid; `None` where it is null.
+pub(crate) fn value_in<'a>(
+    values: &'a [Value],
+    width: IntWidth,
+    bits: &[u8],
+    indices: &[u8],
+    i: usize,
+) -> Option<&'a Value>
+    requires bits { 0 < length bits.now → HasBits bits.now (i + 1) }
+    requires room { bytes_in width * (i + 1) ≤ length indices.now }
+    ensures missing { is_null bits.now i ≡ true → cell_of result ≡ null }
+    ensures found { is_null bits.now i ≡ false → (signed : Bool)
+        → IsValid (coded_by (Int width signed) values.now indices.now i)
+        → cell_of result ≡ cell_in (coded_by (Int width signed) values.now indices.now i) }
+{
+    let is_null = is_null_at(bits, i);
+    if is_null {
+        None
+    } else {
+        value_at(values, index_at(indices, width, i))
+    }
+}
+
+/// All values that the slots of an array stand for, as one slice, and the width of the indices; `None` where the values
+/// don't lie in one part.
+pub(crate) fn indexed_by<'a>(
+    range: &SlotRange,
+    dictionary: &'a DictionaryValues,
+) -> Option<(&'a [Value], IntWidth)>
+    requires checked { IsChecked range.now }
+    requires encoded { range.now.parts.own.now.dictionary ≡ Some dictionary.now }
+    ensures { IfSome result (λ found. IsIndexed found.1 found.0.now range.now) }
+{
+    let Layout::Int { width, .. } = range.parts.own.layout else {
+        return None;
+    };
+    let values = dictionary.values.as_slice()?;
+    Some((values, width))
+}
+
+/// Appends a reference for each of these slots, by indices into the values.
+fn push_indexed<'a>(
+    cells: &mut Vec<Option<&'a Value>>,
+    range: &SlotRange<'a>,
+    values: &'a [Value],
+    width: IntWidth,
+) -> Result<(), AllocError>
+    requires { IsIndexed width values.now range.now }
+    ensures { OnOk result (cells_of cells.new.items ≡ cells_of cells.old.items ++ range_cells range.now) }
+{
+    let bits = buffer(range.parts.body, &range.parts.own.validity);
+    let indices = buffer(range.parts.body, &range.parts.own.values);
+    for i in range.from..range.to {
+        cells.push(value_in(values, width, bits, indices, i))?;
+    }
+    Ok(())
+}
+
+/// Appends a reference for each of these slots, whose values are found one by one.
+fn push_found<'a>(
     cells: &mut Vec<Option<&'a Value>>,
     range: &SlotRange<'a>,
     dictionary: &'a DictionaryValues,
@@ -112,6 +176,22 @@ fn push_encoded<'a>(
         cells.push(value_of(range, dictionary, bits, indices, i))?;
     }
     Ok(())
+}
+
+/// Appends a reference for each of these slots.
+fn push_encoded<'a>(
+    cells: &mut Vec<Option<&'a Value>>,
+    range: &SlotRange<'a>,
+    dictionary: &'a DictionaryValues,
+) -> Result<(), AllocError>
+    requires checked { IsChecked range.now }
+    requires encoded { range.now.parts.own.now.dictionary ≡ Some dictionary.now }
+    ensures { OnOk result (cells_of cells.new.items ≡ cells_of cells.old.items ++ range_cells range.now) }
+{
+    match indexed_by(range, dictionary) {
+        Some((values, width)) => push_indexed(cells, range, values, width),
+        None => push_found(cells, range, dictionary),
+    }
 }
 
 /// Appends a reference for each slot of an array with a dictionary.

@@ -3,14 +3,22 @@
 ghost use Rattle.std.specs.Prelude.{◌≡◌, ◌<◌, ◌≤◌, ◌++◌, All, IfOk, OnOk, Some, map, replicate};
 ghost use Rattle.values.specs.Datum.{null};
 ghost use Rattle.body_writer.specs.Slots.{cell_of};
-ghost use Rattle.column_writer.specs.Pieces.{IsChecked, IsEncoded, OfSlots, piece_cells, pieces_cells, range_cells};
+ghost use Rattle.column_writer.specs.Pieces.{
+  IsChecked,
+  IsEncoded,
+  IsIndexed,
+  OfSlots,
+  piece_cells,
+  pieces_cells,
+  range_cells,
+};
 ghost use Rattle.column_writer.specs.Texts.{as_bytes, bytes_cell, bytes_cells};
 
-use crate::encoded::value_of;
+use crate::encoded::{indexed_by, value_in, value_of};
 use crate::piece::{Piece, SlotRange};
 use array_layout::{DictionaryValues, buffer};
 use std::alloc::{AllocError, Global};
-use values::{Kind, Value};
+use values::{IntWidth, Kind, Value};
 
 /// The bytes of a text or of bytes; `None` for a null.
 fn text_of<'a>(value: Option<&'a Value>) -> Option<&'a [u8]>
@@ -26,8 +34,27 @@ fn text_of<'a>(value: Option<&'a Value>) -> Option<&'a [u8]>
     }
 }
 
-/// Appends the bytes of each of these slots.
-fn push_encoded<'a>(
+/// Appends the bytes of each of these slots, by indices into the values.
+fn push_indexed<'a>(
+    texts: &mut Vec<Option<&'a [u8]>>,
+    range: &SlotRange<'a>,
+    values: &'a [Value],
+    width: IntWidth,
+) -> Result<(), AllocError>
+    requires { IsIndexed width values.now range.now }
+    ensures { OnOk result
+        (bytes_cells texts.new.items ≡ bytes_cells texts.old.items ++ map as_bytes (range_cells range.now)) }
+{
+    let bits = buffer(range.parts.body, &range.parts.own.validity);
+    let indices = buffer(range.parts.body, &range.parts.own.values);
+    for i in range.from..range.to {
+        texts.push(text_of(value_in(values, width, bits, indices, i)))?;
+    }
+    Ok(())
+}
+
+/// Appends the bytes of each of these slots, whose values are found one by one.
+fn push_found<'a>(
     texts: &mut Vec<Option<&'a [u8]>>,
     range: &SlotRange<'a>,
     dictionary: &'a DictionaryValues,
@@ -43,6 +70,23 @@ fn push_encoded<'a>(
         texts.push(text_of(value_of(range, dictionary, bits, indices, i)))?;
     }
     Ok(())
+}
+
+/// Appends the bytes of each of these slots.
+fn push_encoded<'a>(
+    texts: &mut Vec<Option<&'a [u8]>>,
+    range: &SlotRange<'a>,
+    dictionary: &'a DictionaryValues,
+) -> Result<(), AllocError>
+    requires checked { IsChecked range.now }
+    requires encoded { range.now.parts.own.now.dictionary ≡ Some dictionary.now }
+    ensures { OnOk result
+        (bytes_cells texts.new.items ≡ bytes_cells texts.old.items ++ map as_bytes (range_cells range.now)) }
+{
+    match indexed_by(range, dictionary) {
+        Some((values, width)) => push_indexed(texts, range, values, width),
+        None => push_found(texts, range, dictionary),
+    }
 }
 
 /// Appends the bytes of each slot of an array with a dictionary.

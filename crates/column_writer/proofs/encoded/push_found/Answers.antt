@@ -3,7 +3,7 @@ use Rattle.values.specs.Rose.{node, kids_of}
 use Rattle.array_layout.specs.Cells.{cell}
 use Rattle.body_writer.specs.Slots.{cells_of}
 use Rattle.column_writer.proofs.EncodedLemmas.{encoded-step, encoded-over}
-use Rattle.column_writer.proofs.encoded.push_encoded.Goals as goal
+use Rattle.column_writer.proofs.encoded.push_found.Goals as goal
 
 pub loop-i-preserved : goal.loop-i-preserved
 loop-i-preserved c =
