@@ -1,5 +1,13 @@
 -- How rows are found by their keys. Each row names the place of its key in a table of keys, and each key has a holder:
 -- the row that came last with it. So the live row with a key is its holder, unless that was retracted.
+--
+--     number    0    1    2     3
+--     entry     0    1    0     1     the place of the row's key
+--     live      no   no   yes   no    row 2 came for row 0, and row 3 for row 1, which was retracted in its turn
+--
+--     place     0    1
+--     key       p    q
+--     holder    2    3
 use Rattle.std.specs.Prelude.{
   ◌≡◌,
   ◌⊎◌,

@@ -2,33 +2,12 @@
 
 ghost use Rattle.std.specs.Prelude.{◌≡◌, IfOk};
 ghost use Rattle.values.specs.Rose.{kids_of};
-ghost use Rattle.values.specs.Logical.{tree_of, trees_of};
 ghost use Rattle.view_lang.specs.Causes.{layouts_of};
 
+use schema_meta::layout_trees;
 use std::alloc::{AllocError, Global};
-use values::{LayoutTree, LogicalField};
+use values::LayoutTree;
 use view_lang::Table;
-
-#[cycle(layouts)]
-fn layout_tree(alloc: Global, field: &LogicalField) -> Result<LayoutTree, AllocError>
-    ensures { IfOk result (λ tree. tree ≡ tree_of field.now) }
-{
-    let layout = field.col_type.layout();
-    let children = layout_trees(alloc, &field.children)?;
-    Ok(LayoutTree { layout, children })
-}
-
-#[cycle(layouts)]
-#[tactic(auto, using(crate::proofs::Trees::tree_steps))]
-fn layout_trees(alloc: Global, fields: &[LogicalField]) -> Result<Vec<LayoutTree>, AllocError>
-    ensures { IfOk result (λ trees. kids_of trees.items ≡ trees_of (kids_of fields.now)) }
-{
-    let mut trees = Vec::with_capacity(alloc, fields.len())?;
-    for field in fields {
-        trees.push(layout_tree(alloc, field)?)?;
-    }
-    Ok(trees)
-}
 
 /// The layouts of the columns of a table, in order.
 pub(crate) fn table_layouts(alloc: Global, table: &Table) -> Result<Vec<LayoutTree>, AllocError>

@@ -369,8 +369,8 @@ impl Numbers {
         self.len
     }
 
-    /// The least number from this one on of which something is kept; the number of rows where there is none. Those before
-    /// it aren't live.
+    /// The least number from this one on of which something is kept; the number of rows where there is none. Those
+    /// before it aren't live.
     pub(crate) fn next_kept(&self, number: usize) -> usize
         requires { number ≤ length self.now }
         ensures from { number ≤ result }

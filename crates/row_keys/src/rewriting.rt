@@ -261,7 +261,8 @@ fn most_weight(part: &[StoredChunk]) -> u64
 fn span_of(part: &[StoredChunk]) -> usize
     requires part { IsPart part.now }
     requires some { 0 < length part.now }
-    ensures { (first : Chunk) → first ≡ get_or part.now 0 first → (from : ℕ) → first.first + result ≡ end_of from part.now }
+    ensures { (first : Chunk) → first ≡ get_or part.now 0 first
+        → (from : ℕ) → first.first + result ≡ end_of from part.now }
 {
     let head = &part[0];
     let last = &part[part.len() - 1];
@@ -421,8 +422,8 @@ fn gather_tail(alloc: Global, chunk: &StoredChunk, from: usize) -> Result<RowsLe
     Ok(RowsLeft { ranges, numbers })
 }
 
-/// A chunk with the last rows of this one, from row `from` on, that aren't gone; `None` where they are too many, or would
-/// take more memory than their share of this one.
+/// A chunk with the last rows of this one, from row `from` on, that aren't gone; `None` where they are too many, or
+/// would take more memory than their share of this one.
 pub(crate) fn write_tail(
     alloc: Global,
     layouts: &[LayoutTree],

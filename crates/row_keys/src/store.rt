@@ -205,7 +205,7 @@ impl RowStore {
         self.numbers.live()
     }
 
-    /// How often a stored row was opened, that is copied by `open_row`. The count stops at its greatest number.
+    /// How often a stored row was opened, as `visit` counts it. The count stops at its greatest number.
     pub fn visits(&self) -> u128
         ensures { result ≡ self.now.visits }
     {
@@ -296,7 +296,8 @@ impl RowStore {
     }
 
     /// Forgets the rows of these numbers, which aren't live: they are gone, and can't be put back. A batch goes with
-    /// the last of its rows, and keys that no row has are dropped. Where memory for that is refused, they stay.
+    /// the last of its rows, what is left of one is written anew where few of its rows are, and keys that no row has
+    /// are dropped once they are many. Where memory for that is refused, they stay.
     pub fn release(&mut self, numbers: &[usize])
         requires { AllOut numbers.now self.old.slots }
         ensures { self.new ≡ with_slots self.old (released numbers.now self.old.slots) }
@@ -608,10 +609,11 @@ impl RowStore {
         Ok(keys)
     }
 
-    /// Copies of the key cells of a side table's rows of these numbers, live or retracted; null for those that are gone.
-    /// No row is opened.
+    /// Copies of the key cells of a side table's rows of these numbers, live or retracted; null for those that are
+    /// gone.
     pub fn key_cells(&self, numbers: &[usize]) -> Result<Row, AllocError>
-        requires { All (λ n. n < length self.now.slots) numbers.now }
+        requires side { IsSideTable self.now.table }
+        requires there { All (λ n. n < length self.now.slots) numbers.now }
         ensures { IfOk result (λ cells. cells.items ≡ keys_at self.now.table numbers.now self.now.slots) }
     {
         let mut cells = Vec::with_capacity(self.alloc, numbers.len())?;

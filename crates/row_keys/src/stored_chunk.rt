@@ -33,8 +33,8 @@ use column_writer::Batch;
 use std::alloc::{AllocError, Global};
 use std::marker::Model;
 
-/// Some rows in the order of their numbers: the checked columns in which they lie, and which of them are gone. Where all
-/// are gone there are no columns.
+/// Some rows in the order of their numbers: the checked columns in which they lie, and which of them are gone. Where
+/// all are gone there are no columns.
 ///
 /// Contracts see a `Chunk`.
 #[derive(Drop)]

@@ -1,4 +1,4 @@
-//! The rows of a store by number, in the columns in which they came.
+//! The rows of a store by number, in the columns in which they came or into which they were merged.
 
 ghost use Rattle.std.specs.Prelude.{
   ◌≡◌,
@@ -247,7 +247,8 @@ fn drop_tail(chunk: &mut StoredChunk, number: usize, rows: usize)
     chunk.left = chunk.left.saturating_sub(rows);
 }
 
-/// Puts the last rows of the chunk at this place, which were written anew, behind it. It returns whether memory was given.
+/// Puts the last rows of the chunk at this place, which were written anew, behind it. It returns whether memory was
+/// given.
 fn split(chunks: &mut Vec<StoredChunk>, place: usize, tail: StoredChunk) -> bool
     requires place { place < length chunks.old.items }
     requires below { (get_or chunks.old.items place tail).first < tail.first }
@@ -493,7 +494,8 @@ impl StoredRows {
         }
     }
 
-    /// Writes the chunk of this number anew where few of its rows are left, with the one beside it if that is small too.
+    /// Writes the chunk of this number anew where few of its rows are left, with the one beside it if that is small
+    /// too.
     pub(crate) fn renew(&mut self, layouts: &[LayoutTree], number: usize)
         requires held { All (IsHeld (kids_of layouts.now)) self.old }
         requires narrow { roses_size (kids_of layouts.now) ≤ max_fields }

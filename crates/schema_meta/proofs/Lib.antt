@@ -24,3 +24,4 @@ pub mod CodedFields
 pub mod FieldRead
 pub mod SchemaRead
 pub mod Sample
+pub mod Trees

@@ -16,6 +16,7 @@ mod field;
 mod fields;
 mod header;
 mod laws;
+mod layouts;
 pub mod message_fbs;
 mod parts;
 mod schema;
@@ -30,6 +31,7 @@ pub use header::{BatchHeader, DictionaryHeader, Header, MessageKind};
 pub use laws::{
     clash_law, fields_law, logical_law, path_law, place_law, plain_law, schema_law, sign_law,
 };
+pub use layouts::layout_trees;
 pub use parts::{place_arrays, place_values};
 pub use schema::{StreamSchema, read_schema};
 pub use write::{write_message, write_schema};

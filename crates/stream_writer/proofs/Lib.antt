@@ -9,7 +9,6 @@ pub mod CutBack
 pub mod ClosedBatchLemmas
 pub mod ProgressLemmas
 pub mod TableWriterLemmas
-pub mod Trees
 pub mod AboveZero
 pub mod FramingRead
 pub mod Lengths

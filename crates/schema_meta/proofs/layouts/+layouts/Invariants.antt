@@ -1,7 +1,7 @@
 use Rattle.std.proofs.Common.{◌≡◌, ◌+◌, ◌*◌, drop}
 use Rattle.values.specs.Rose.{kids_of, join, rose_size, roses_size}
 use Rattle.values.specs.Logical.{trees_of}
-use Rattle.stream_writer.proofs.layouts.+layouts.Given as goal
+use Rattle.schema_meta.proofs.layouts.+layouts.Given as goal
 
 abbrev pub decreases-layout_tree : goal.decreases-layout_tree
 decreases-layout_tree l = 2 * rose_size l.field.now
