@@ -10,14 +10,14 @@ use group_state::Tuple;
 use std::alloc::{AllocError, Global};
 use std::cmp::Ordering;
 use std::marker::Model;
-use top_rows::SortKey;
+use top_rows::SortKeyList;
 use view_lang::{OrderBy, RowView};
 
 /// The place of a group row in an order: its sort keys, one for each of the order's columns, and its group's tuple, by
 /// which ties are broken. Contracts see the pair of both.
 #[derive(Debug, Drop)]
 pub(crate) struct GroupPlace {
-    sort_keys: Vec<SortKey>,
+    sort_keys: SortKeyList,
     tuple: Tuple,
 }
 
@@ -26,7 +26,7 @@ impl Model for GroupPlace {
 
     ghost Value = { seen.GroupPlace };
 
-    ghost view = { λ p. (p.sort_keys.items, p.tuple) };
+    ghost view = { λ p. (p.sort_keys, p.tuple) };
 }
 
 impl PartialEq for GroupPlace {
@@ -93,10 +93,7 @@ impl GroupPlace {
     ) -> Result<GroupPlace, AllocError>
         ensures { IfOk result (λ place. place ≡ place_by tuple_cmp order.now tuple.now (R.cells row.now)) }
     {
-        let mut sort_keys = Vec::with_capacity(alloc, order.len())?;
-        for by in order {
-            sort_keys.push(SortKey::of(alloc, row, by)?)?;
-        }
+        let sort_keys = SortKeyList::of(alloc, order, row)?;
         let tuple = tuple.copy(alloc)?;
         Ok(GroupPlace { sort_keys, tuple })
     }
@@ -109,6 +106,7 @@ impl GroupPlace {
         ensures { IfOk result (λ place. place ≡ place_with parts) }
     {
         let GroupPlaceParts { sort_keys, tuple } = parts;
+        let sort_keys = SortKeyList::from_list(alloc, sort_keys);
         let tuple = Tuple::of_row(alloc, tuple)?;
         Ok(GroupPlace { sort_keys, tuple })
     }
@@ -118,6 +116,7 @@ impl GroupPlace {
         ensures kept { IfOk result (λ parts. IsPlace parts) }
     {
         let GroupPlace { sort_keys, tuple } = self;
+        let sort_keys = sort_keys.into_list()?;
         let tuple = tuple.into_row(alloc)?;
         Ok(GroupPlaceParts { sort_keys, tuple })
     }

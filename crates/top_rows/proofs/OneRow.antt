@@ -14,8 +14,8 @@ use Rattle.view_lang.specs.Shifts.{NumberedRows, row_at, with_at}
 use Rattle.view_lang.specs.declared.view.OrderBy.{OrderBy}
 use Rattle.top_rows.specs.Keeping.{Keeps}
 use Rattle.top_rows.specs.OrderedPlaces.{OrderedPlaces}
-use Rattle.top_rows.specs.PlaceOrder.{RowPlace}
-use Rattle.top_rows.specs.Places.{is_place_of, stands}
+use Rattle.top_rows.specs.PlaceOrder.{RowPlace, place_cmp}
+use Rattle.top_rows.specs.Places.{is_place, is_place_of, place_of, stands}
 use Rattle.top_rows.specs.Ties.{KeepsBy, named}
 use Rattle.top_rows.proofs.Ties.{keeps-same, keeps-with, keeps-without, set_at}
 
@@ -36,6 +36,16 @@ set-twice n m a rows s = either (is_at (nat_cmp n) m) ∙ sym (lookup-with_at n 
     either : (b : Bool) → cond b a (cond b None (at rows m)) ≡ cond b a (at rows m)
     either true = refl
     either false = refl
+
+-- The place of a row is put in, or taken away.
+pub stands-place : (b : Bool) (new : List RowPlace) (place p : RowPlace) (inside seen : OrderedPlaces)
+    (order : List OrderBy) (n : ℕ) (row : List Datum)
+    → stands new p ≡ cond (is_at (place_cmp place) p) b (stands inside.places p) → place ≡ place_of order n row
+    → order ≡ inside.order → inside ≡ seen → stands new p ≡ cond (is_place seen.order n row p) b (stands seen.places p)
+stands-place b new place p inside seen order n row h is by view =
+    h ∙ ap (λ (k : RowPlace). cond (is_at (place_cmp k) p) b (stands inside.places p)) is
+    ∙ ap (λ (o : List OrderBy). cond (is_place o n row p) b (stands inside.places p)) by
+    ∙ ap (λ (o : OrderedPlaces). cond (is_place o.order n row p) b (stands o.places p)) view
 
 -- The row before is taken away, and that after it put in.
 pub keeps-one : (old mid new : OrderedPlaces) (n : ℕ) (before after : Option (List Datum)) (rows : NumberedRows)

@@ -1,5 +1,6 @@
 pub mod OrderedPlaces
 pub mod SortKeys
+pub mod FirstKinds
 pub mod PlaceOrder
 pub mod Ties
 pub mod Places

@@ -15,6 +15,12 @@ sort_key_cmp = order.ghosts.cmp
 pub sort_key_total : IsTotalOrder sort_key_cmp
 sort_key_total = total-law
 
+abbrev pub sort_keys_cmp : List SortKey → List SortKey → Ordering
+sort_keys_cmp = slice_cmp sort_key_cmp
+
+pub sort_keys_total : IsTotalOrder sort_keys_cmp
+sort_keys_total = lists_total sort_key_total
+
 abbrev pub tied_cmp : {N : Type 0} → (N → N → Ordering) → List SortKey × N → List SortKey × N → Ordering
 tied_cmp cmp = then_cmp (on (λ p. p.0) (slice_cmp sort_key_cmp)) (on (λ p. p.1) cmp)
 

@@ -4,11 +4,13 @@
 //! (what a row is ordered by), and `specs/ViewOrder.antt` that its first places are the first rows of a view.
 #![tactic(auto)]
 
+mod first_kind;
 mod laws;
 mod ordered;
 mod parts;
 mod place;
 mod sort_key;
+mod sort_key_list;
 #[cfg(test)]
 mod tests;
 
@@ -16,3 +18,4 @@ pub use laws::order_law;
 pub use ordered::Ordered;
 pub use parts::{OrderedParts, PlaceParts};
 pub use sort_key::SortKey;
+pub use sort_key_list::SortKeyList;

@@ -62,7 +62,7 @@ impl Ordered {
         } = self;
         let mut taken = Vec::with_capacity(alloc, places.len())?;
         for place in places {
-            taken.push(place.into_parts())?;
+            taken.push(place.into_parts()?)?;
         }
         Ok(OrderedParts {
             order,
@@ -78,7 +78,7 @@ impl Ordered {
         let OrderedParts { order, places } = parts;
         let mut placed = BTreeSet::new(alloc);
         for place in places {
-            placed.insert(Place::from_parts(place))?;
+            placed.insert(Place::from_parts(alloc, place))?;
         }
         Ok(Ordered {
             alloc,

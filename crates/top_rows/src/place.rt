@@ -5,7 +5,7 @@ ghost use Rattle.top_rows.specs.OrderParts.{place_with};
 ghost use Rattle.top_rows.specs.Places.{place_of};
 
 use crate::parts::PlaceParts;
-use crate::sort_key::SortKey;
+use crate::sort_key_list::SortKeyList;
 use std::alloc::{AllocError, Global};
 use std::cmp::Ordering;
 use std::marker::Model;
@@ -15,7 +15,7 @@ use view_lang::{OrderBy, RowView};
 /// are broken. Contracts see the pair of both.
 #[derive(Debug, Drop)]
 pub(crate) struct Place {
-    sort_keys: Vec<SortKey>,
+    sort_keys: SortKeyList,
     number: usize,
 }
 
@@ -24,7 +24,7 @@ impl Model for Place {
 
     ghost Value = { RowPlace };
 
-    ghost view = { λ p. (p.sort_keys.items, p.number) };
+    ghost view = { λ p. (p.sort_keys, p.number) };
 }
 
 impl PartialEq for Place {
@@ -91,29 +91,24 @@ impl Place {
     ) -> Result<Place, AllocError>
         ensures { IfOk result (λ place. place ≡ place_of order.now number (R.cells row.now)) }
     {
-        let mut sort_keys = Vec::with_capacity(alloc, order.len())?;
-        for by in order {
-            sort_keys.push(SortKey::of(alloc, row, by)?)?;
-        }
+        let sort_keys = SortKeyList::of(alloc, order, row)?;
         Ok(Place { sort_keys, number })
     }
 
-    pub(crate) fn from_parts(parts: PlaceParts) -> Place
+    pub(crate) fn from_parts(alloc: Global, parts: PlaceParts) -> Place
         ensures { result ≡ place_with parts }
     {
-        Place {
-            sort_keys: parts.sort_keys,
-            number: parts.number,
-        }
+        let PlaceParts { sort_keys, number } = parts;
+        let sort_keys = SortKeyList::from_list(alloc, sort_keys);
+        Place { sort_keys, number }
     }
 
-    pub(crate) fn into_parts(self) -> PlaceParts
-        ensures { place_with result ≡ self }
+    pub(crate) fn into_parts(self) -> Result<PlaceParts, AllocError>
+        ensures { IfOk result (λ parts. place_with parts ≡ self) }
     {
-        PlaceParts {
-            sort_keys: self.sort_keys,
-            number: self.number,
-        }
+        let Place { sort_keys, number } = self;
+        let sort_keys = sort_keys.into_list()?;
+        Ok(PlaceParts { sort_keys, number })
     }
 
     /// The row's number.

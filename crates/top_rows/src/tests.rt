@@ -75,3 +75,29 @@ fn follows_rows_that_come_and_go(rt: HostRuntime) -> Result<(), Fail> {
     assert_eq!(rt; ordered.first(rt.alloc(), 3)?.as_slice(), [8, 6].as_slice());
     Ok(())
 }
+
+#[test]
+fn follows_an_order_of_two_columns(rt: HostRuntime) -> Result<(), Fail> {
+    let rising = OrderBy {
+        column: 0,
+        direction: Direction::Ascending,
+    };
+    let falling = OrderBy {
+        column: 1,
+        direction: Direction::Descending,
+    };
+    let mut ordered = Ordered::new(rt.alloc(), &[rising, falling])?;
+    let mut low = row(rt.alloc(), Kind::Int(7))?;
+    low.push(Value { kind: Kind::Int(1) })?;
+    let mut high = row(rt.alloc(), Kind::Int(7))?;
+    high.push(Value { kind: Kind::Int(2) })?;
+    ordered.come(1, &low.as_slice())?;
+    ordered.come(2, &high.as_slice())?;
+    ordered.come(3, &high.as_slice())?;
+    let parts = ordered.into_parts()?;
+    let mut made = Ordered::from_parts(rt.alloc(), parts)?;
+    assert_eq!(rt; made.first(rt.alloc(), 3)?.as_slice(), [2, 3, 1].as_slice());
+    made.go(2, &high.as_slice())?;
+    assert_eq!(rt; made.first(rt.alloc(), 3)?.as_slice(), [3, 1].as_slice());
+    Ok(())
+}
