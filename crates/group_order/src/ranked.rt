@@ -33,7 +33,7 @@ ghost use Rattle.values.specs.Datum.{Datum};
 ghost use Rattle.values.specs.declared.key.Key.{Key};
 ghost use Rattle.view_lang.specs.Shifts.{Fits, IsFew, NumberedRows, patched, row_at, with_at};
 ghost use Rattle.group_state.specs.Keys.{tuple_cmp};
-ghost use Rattle.group_state.specs.KeptColumns.{IsKept};
+ghost use Rattle.group_state.specs.KeptColumns.{AreReadBy, IsKept};
 ghost use Rattle.group_state.specs.Moves.{IsPartOf};
 ghost use Rattle.group_state.specs.Tuples.{tuple_of as tuple_by};
 ghost use Rattle.top_rows.specs.PlaceOrder.{tied_cmp};
@@ -84,6 +84,7 @@ impl RankedGroups {
         ensures keys { IfOk result (λ ranked. ranked.groups.keys ≡ by.now) }
         ensures columns { IfOk result
             (λ ranked. All (λ o. IsKept ranked.groups.columns o.aggregate) ranking.outputs) }
+        ensures read { IfOk result (λ ranked. AreReadBy ranking.outputs ranked.groups.columns) }
         ensures ranking { IfOk result (λ ranked. ranked.ranking ≡ ranking) }
         ensures kept { IfOk result (λ ranked. Keeps ranked []) }
     {
@@ -216,8 +217,9 @@ impl RankedGroups {
         ensures groups { self.new.groups ≡ self.old.groups }
         ensures ranking { self.new.ranking ≡ self.old.ranking }
         ensures places { OnOk result ((p : PlaceSeen) → stands_by tuple_cmp self.new.places p
-            ≡ cond (is_place_by tuple_cmp self.old.ranking.order tuple.now (placed_at self.old.ranking self.old.groups tuple.now) p)
-            false (stands_by tuple_cmp self.old.places p)) }
+            ≡ cond (is_place_by tuple_cmp self.old.ranking.order tuple.now
+            (placed_at self.old.ranking self.old.groups tuple.now) p) false
+            (stands_by tuple_cmp self.old.places p)) }
     {
         if let Some(place) = self.place_of(tuple)? {
             let _there = self.places.remove(&place);
@@ -230,8 +232,9 @@ impl RankedGroups {
         ensures groups { self.new.groups ≡ self.old.groups }
         ensures ranking { self.new.ranking ≡ self.old.ranking }
         ensures places { OnOk result ((p : PlaceSeen) → stands_by tuple_cmp self.new.places p
-            ≡ cond (is_place_by tuple_cmp self.old.ranking.order tuple.now (placed_at self.old.ranking self.old.groups tuple.now) p)
-            true (stands_by tuple_cmp self.old.places p)) }
+            ≡ cond (is_place_by tuple_cmp self.old.ranking.order tuple.now
+            (placed_at self.old.ranking self.old.groups tuple.now) p) true
+            (stands_by tuple_cmp self.old.places p)) }
     {
         if let Some(place) = self.place_of(tuple)? {
             self.places.insert(place)?;
@@ -259,7 +262,8 @@ impl RankedGroups {
         ensures places { OnOk result ((before : List Key → Option (List Datum))
             → KeepsBy tuple_cmp self.old.ranking.order self.old.places (without tuple_cmp tuples.now before)
             → KeepsBy tuple_cmp self.old.ranking.order self.new.places
-            (pick tuple_cmp tuples.now (placed_at self.old.ranking self.old.groups) (without tuple_cmp tuples.now before))) }
+            (pick tuple_cmp tuples.now (placed_at self.old.ranking self.old.groups)
+            (without tuple_cmp tuples.now before))) }
     {
         for tuple in tuples {
             self.put_in(tuple)?;

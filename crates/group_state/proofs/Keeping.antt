@@ -1,12 +1,13 @@
 -- Columns that are kept stay kept.
-use Rattle.std.proofs.Common.{◌≡◌, refl, ap₂, sym, subst, get_or, take}
+use Rattle.std.proofs.Common.{◌≡◌, zero, suc, arith, refl, ap₂, sym, subst, get_or, take}
 use Rattle.std.proofs.lemmas.Bool.{eq-eqb, eqb-true}
-use Rattle.std.specs.Prelude.{All, Bool, true, false, ◌&&◌, ◌==◌, List, length, ℕ, ◌+◌, ◌<◌}
+use Rattle.std.specs.Prelude.{All, Result, Ok, Err, OnOk, Bool, true, false, ◌&&◌, ◌==◌, List, [], ◌∷◌, ◌++◌, length, ℕ, ◌+◌, ◌<◌}
+use Rattle.std.proofs.lemmas.List.Folds.{list_any_at}
 use Rattle.std.proofs.Common.{true≢false}
-use Rattle.std.proofs.lemmas.List.Elements.{All-more, All-weaker}
+use Rattle.std.proofs.lemmas.List.Elements.{All-append, All-more, All-weaker}
 use Rattle.view_lang.specs.Outputs.{GroupOutput}
 use Rattle.view_lang.specs.declared.view.Aggregate.{Aggregate}
-use Rattle.group_state.specs.KeptColumns.{IsKept, same_column, same_form}
+use Rattle.group_state.specs.KeptColumns.{IsKept, is_read, reads, same_column, same_form}
 use Rattle.group_state.specs.declared.kept_columns.KeptColumn.{KeptColumn}
 use Rattle.group_state.specs.declared.kept_columns.KeptForm.{KeptForm}
 use Rattle.group_state.specs.declared.kept_columns.KeptForm.TheVariants as kept
@@ -18,6 +19,43 @@ kept-more old new outs i o below is still here all =
     let P : GroupOutput → Type 0 = λ x. IsKept new x.aggregate in
     let so_far = All-weaker (λ x. IsKept old x.aggregate) P (λ x k. still x.aggregate k) (take i outs) all in
     All-more P outs i o below so_far (subst P is here)
+
+-- A column that an output at this place reads is read by one of the outputs.
+pub read-there : (outs : List GroupOutput) (i : ℕ) (o : GroupOutput) → i < length outs → o ≡ get_or outs i o
+    → (k : ℕ) → reads o.aggregate k ≡ true → is_read outs k ≡ true
+read-there outs i o below is k h =
+    list_any_at (λ (x : GroupOutput). reads x.aggregate k) outs i o below
+    (subst (λ (x : GroupOutput). reads x.aggregate k ≡ true) is h)
+
+pub own-column : (k : ℕ) → (k == k) ≡ true
+own-column k = eq-eqb k k refl
+
+All-one : {X : Type 0} (P : X → Type 0) (x : X) → P x → All P (x ∷ [])
+All-one P x here zero d below = here
+All-one P x here (suc i) d below = absurd (omega (arith, below))
+
+pub more-read : (p : ℕ → Bool) (columns : List KeptColumn) (c : KeptColumn) → p c.column ≡ true
+    → All (λ k. p k.column ≡ true) columns → All (λ k. p k.column ≡ true) (columns ++ c ∷ [])
+more-read p columns c here all =
+    let P : KeptColumn → Type 0 = λ k. p k.column ≡ true in
+    All-append P columns (c ∷ []) all (All-one P c here)
+
+pub own-read : (a b : Aggregate) (j : ℕ) → a ≡ b → reads b j ≡ true → reads a j ≡ true
+own-read a b j is own = subst (λ (x : Aggregate). reads x j ≡ true) (sym is) own
+
+-- What was so of all columns stays so with one that an output reads, where it is so of all that the output reads.
+pub only-read :
+    {X E : Type 0} (a : Aggregate) (j : ℕ) (column : KeptColumn) (old new : List KeptColumn) (r : Result X E)
+    → reads a j ≡ true → column.column ≡ j
+    → OnOk r ((p : ℕ → Bool) → p column.column ≡ true → All (λ k. p k.column ≡ true) old
+    → All (λ k. p k.column ≡ true) new)
+    → OnOk r ((p : ℕ → Bool) → ((k : ℕ) → reads a k ≡ true → p k ≡ true) → All (λ k. p k.column ≡ true) old
+    → All (λ k. p k.column ≡ true) new)
+only-read a j column old new (Ok x) own is only = λ p of_read all.
+    only p (subst (λ k. p k ≡ true) (sym is) (of_read j own)) all
+only-read a j column old new (Err e) own is only = tt
+
+pub ruleset read_columns = (more-read)
 
 form-itself : (f : KeptForm) → same_form f f ≡ true
 form-itself kept.Total = refl

@@ -47,8 +47,9 @@ IsThat form None cells = ⊥
 IsThat form (Some t) cells = KeepsCells form t cells
 
 -- cells are the group row of each rows that the group is kept for
-pub record IsRead (columns : List KeptColumn) (outs : List GroupOutput) (e : List Key × GroupCounts) (cells : List Datum) : Type
-    0 where
+pub record IsRead
+    (columns : List KeptColumn) (outs : List GroupOutput) (e : List Key × GroupCounts) (cells : List Datum) :
+    Type 0 where
   pub row_is : (rows : List (List Datum)) → KeepsRows columns e.1 rows
       → All (λ o. CanRead columns rows o.aggregate) outs → cells ≡ group_row outs (data_of e.0) rows
 
@@ -59,8 +60,8 @@ AreRead columns outs (e ∷ es) [] = ⊥
 AreRead columns outs (e ∷ es) (r ∷ rs) = IsRead columns outs e r × AreRead columns outs es rs
 
 -- these columns of the output can be made for the groups of these rows
-pub record CanReadAll (by : List ℕ) (columns : List KeptColumn) (outs : List GroupOutput) (rows : List (List Datum)) : Type 0
-  where
-    pub kept : All (λ o. IsKept columns o.aggregate) outs
-    pub sums : AreSummable outs rows
-    pub keys : AllByRecursion (UsesKeys by outs) rows
+pub record CanReadAll
+    (by : List ℕ) (columns : List KeptColumn) (outs : List GroupOutput) (rows : List (List Datum)) : Type 0 where
+  pub kept : All (λ o. IsKept columns o.aggregate) outs
+  pub sums : AreSummable outs rows
+  pub keys : AllByRecursion (UsesKeys by outs) rows

@@ -3,7 +3,7 @@
 ghost use Rattle.group_state.specs.GroupParts.{AreGroups, grouped_with};
 ghost use Rattle.group_state.specs.Groups.{Keeps, KeepsAt};
 ghost use Rattle.group_state.specs.Keys.{key_cmp, key_in, tuple_cmp};
-ghost use Rattle.group_state.specs.KeptColumns.{IsKept};
+ghost use Rattle.group_state.specs.KeptColumns.{AreReadBy, IsKept};
 ghost use Rattle.group_state.specs.Moves.{IsPartOf, begins_with, begins_with_one};
 ghost use Rattle.group_state.specs.Reading.{CanReadAll};
 ghost use Rattle.group_state.specs.Rows.{KeepsRows};
@@ -151,6 +151,7 @@ impl Groups {
     pub fn of(alloc: Global, by: &[usize], outputs: &[GroupOutput]) -> Result<Groups, AllocError>
         ensures keys { IfOk result (λ groups. groups.keys ≡ by.now) }
         ensures columns { IfOk result (λ groups. All (λ o. IsKept groups.columns o.aggregate) outputs.now) }
+        ensures read { IfOk result (λ groups. AreReadBy outputs.now groups.columns) }
         ensures kept { IfOk result (λ groups. Keeps groups []) }
     {
         let columns = kept_columns(alloc, outputs)?;

@@ -1,14 +1,16 @@
 //! The columns that outputs of groups read, and what groups keep of each.
 
 ghost use Rattle.group_state.specs.KeptColumns.{
+  AreReadBy,
   IsKept,
   counted,
   is_kept,
+  reads,
   same_column,
   same_form as same_form_by,
   valued,
 };
-ghost use Rattle.std.specs.Prelude.{All, IfOk, OnOk, true, ◌≡◌};
+ghost use Rattle.std.specs.Prelude.{All, Bool, IfOk, OnOk, true, ◌≡◌, ℕ};
 ghost use Rattle.view_lang.specs.declared.view.Aggregate.{Aggregate};
 ghost use Rattle.group_state.specs.declared.kept_columns.KeptColumn.{KeptColumn};
 
@@ -76,7 +78,8 @@ pub(crate) fn kept_columns(
     alloc: Global,
     outputs: &[GroupOutput],
 ) -> Result<Vec<KeptColumn>, AllocError>
-    ensures { IfOk result (λ columns. All (λ o. IsKept columns.items o.aggregate) outputs.now) }
+    ensures kept { IfOk result (λ columns. All (λ o. IsKept columns.items o.aggregate) outputs.now) }
+    ensures read { IfOk result (λ columns. AreReadBy outputs.now columns.items) }
 {
     let mut columns = Vec::new(alloc);
     for output in outputs {
@@ -89,6 +92,8 @@ pub(crate) fn kept_columns(
 fn keep_read(columns: &mut Vec<KeptColumn>, aggregate: Aggregate) -> Result<(), AllocError>
     ensures here { OnOk result (IsKept columns.new.items aggregate) }
     ensures still { OnOk result ((a : Aggregate) → IsKept columns.old.items a → IsKept columns.new.items a) }
+    ensures only { OnOk result ((p : ℕ → Bool) → ((k : ℕ) → reads aggregate k ≡ true → p k ≡ true)
+        → All (λ k. p k.column ≡ true) columns.old.items → All (λ k. p k.column ≡ true) columns.new.items) }
 {
     match aggregate {
         Aggregate::Key(_) => Ok(()),
@@ -102,11 +107,13 @@ fn keep_read(columns: &mut Vec<KeptColumn>, aggregate: Aggregate) -> Result<(), 
 }
 
 /// Adds a column, unless it is there in this form.
-#[tactic(auto, using(crate::proofs::Keeping::same_columns))]
+#[tactic(auto, using(crate::proofs::Keeping::same_columns, crate::proofs::Keeping::read_columns))]
 fn keep(columns: &mut Vec<KeptColumn>, column: KeptColumn) -> Result<(), AllocError>
     ensures here { OnOk result (is_kept columns.new.items column ≡ true) }
     ensures still { OnOk result ((k : KeptColumn) → is_kept columns.old.items k ≡ true
         → is_kept columns.new.items k ≡ true) }
+    ensures only { OnOk result ((p : ℕ → Bool) → p column.column ≡ true
+        → All (λ k. p k.column ≡ true) columns.old.items → All (λ k. p k.column ≡ true) columns.new.items) }
 {
     if !is_among(columns.as_slice(), column) {
         columns.push(column)?;

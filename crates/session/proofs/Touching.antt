@@ -47,6 +47,7 @@ use Rattle.upkeep.specs.Stores.{Rows, rows_at, rows_in, tables_in, visits_in}
 use Rattle.upkeep.specs.Swaps.{named_keys}
 use Rattle.upkeep.specs.TableChanges.{CanGoBack, released_at, restores}
 use Rattle.upkeep.specs.Touched.{OpensTwice, refers, touched}
+use Rattle.upkeep.specs.ViewStates.{width_in}
 use Rattle.upkeep.specs.declared.table_change.TableChange.{TableChange}
 use Rattle.upkeep.specs.declared.table_change.TableChange.TheVariants.{Appended, Put, Retracted}
 use Rattle.session.specs.Released.{NewestTouches}
@@ -144,8 +145,8 @@ side_touched tables views old new zero (Appended k) main named = refl
 side_touched tables views old new zero (Retracted ns) main named = refl
 side_touched tables views old new zero (Put k replaced) main named = refl
 side_touched tables views old new (suc side) c main named =
-    ap (λ keys. count_by (refers views (suc side) keys) (live (rows_at new 0))) named
-    ∙ ap (λ rows. count_by (refers views (suc side)
+    ap (λ keys. count_by (refers (width_in tables) views (suc side) keys) (live (rows_at new 0))) named
+    ∙ ap (λ rows. count_by (refers (width_in tables) views (suc side)
     (named_keys (table_at tables (suc side)) c (rows_at old (suc side)))) rows) main
 
 pub newest_touches : NewestTouches

@@ -4,3 +4,4 @@ pub mod FilterSplit
 pub mod Placing
 pub mod Parting
 pub mod Standing
+pub mod Moving

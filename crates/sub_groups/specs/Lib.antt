@@ -1,3 +1,4 @@
 pub mod FilterParts
 pub mod Places
 pub mod SubGroups
+pub mod Moved

@@ -54,9 +54,11 @@ sub_keys n l by = l.on ∷ filter (λ k. is_main n k && not (k == l.on)) by
 abbrev pub are_main : ℕ → List KeptColumn → Bool
 are_main n columns = not (list_any (λ c. not (is_main n c.column)) columns)
 
--- A view of groups by these columns, which keep something of these, can be kept by sub-groups, where the main table has n
--- columns.
-pub record CanSubGroup (n : ℕ) (v : View) (l : Lookup) (by : List ℕ) (columns : List KeptColumn) : Type 0 where
+-- A view of groups by these columns, which keep something of these, can be kept by sub-groups, where the main table has
+-- n columns.
+pub record CanSubGroup
+    (n : ℕ) (v : View) (l : Lookup) (by : List ℕ) (columns : List KeptColumn) :
+    Type 0 where
   pub lookup : v.lookup ≡ Some l
   pub on : l.on < n
   pub decided : are_decided n (sub_keys n l by) (conjuncts v.filter) ≡ true
@@ -96,7 +98,9 @@ pub record IsSubRow (n : ℕ) (v : View) (keys : List ℕ) (row : List Datum) : 
   pub passes : passes_main n v.filter row ≡ true
 
 -- What the view makes of these rows has this grouping tuple, or they are left out.
-pub record ArePlaced (by : List ℕ) (columns : List KeptColumn) (place : Option (List Datum)) (rows made : List (List Datum)) : Type 0 where
+pub record ArePlaced
+    (by : List ℕ) (columns : List KeptColumn) (place : Option (List Datum)) (rows made : List (List Datum)) :
+    Type 0 where
   pub none : place ≡ None → made ≡ []
   pub some : (r : List Datum) → place ≡ Some r → All (λ row. tuple_of by row ≡ tuple_of by r) made
   pub kept : IsSome place → (g : GroupCounts) → KeepsRows columns g rows → KeepsRows columns g made
@@ -120,7 +124,8 @@ OthersAreLeftOut =
 abbrev pub rows_but : List ℕ → List (List Key) → List (List Datum) → List (List Datum)
 rows_but keys out rows = filter (λ row. not (list_any (is_at (tuple_cmp (tuple_of keys row))) out)) rows
 
--- A sub-group more is out: the rows that are in none of those out before are its own, and those in none that are out now.
+-- A sub-group more is out: the rows that are in none of those out before are its own, and those in none that are out
+-- now.
 abbrev pub SubGroupsPart : Type 0
 SubGroupsPart =
     (keys : List ℕ) (make : List Datum → Option (List Datum)) (rows : List (List Datum)) (t : List Key)

@@ -39,8 +39,8 @@ fn stand_cell(
     }
 }
 
-/// A row of the main table, which has `width` columns, that stands for all rows of a sub-group: it has their cells in the
-/// columns `keys`, by which sub-groups are made, and null in the others.
+/// A row of the main table, which has `width` columns, that stands for all rows of a sub-group: it has their cells in
+/// the columns `keys`, by which sub-groups are made, and null in the others.
 #[tactic(auto, using(crate::proofs::Standing::standing_laws))]
 pub(crate) fn stand_in(
     alloc: Global,

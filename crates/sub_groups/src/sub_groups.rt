@@ -1,6 +1,22 @@
 //! Groups of the rows of a main table by what a view looks up.
 
-ghost use Rattle.std.specs.Prelude.{◌≡◌, ◌&&◌, ◌<◌, ◌^◌, [], IfOk, IfSome, None, OnOk, length, true, List, ℕ};
+ghost use Rattle.std.specs.Prelude.{
+  ◌≡◌,
+  ◌&&◌,
+  ◌<◌,
+  ◌^◌,
+  [],
+  IfOk,
+  IfSome,
+  None,
+  OnOk,
+  false,
+  length,
+  nat_lt,
+  true,
+  List,
+  ℕ,
+};
 ghost use Rattle.std.specs.BTreeMap.{is_at};
 ghost use Rattle.std.specs.List.{list_any};
 ghost use Rattle.std.specs.List.Sorted.{IsStrictlySortedBy};
@@ -15,6 +31,7 @@ ghost use Rattle.group_state.specs.Keys.{tuple_cmp};
 ghost use Rattle.group_state.specs.Moves.{begins_with_one};
 ghost use Rattle.sub_groups.specs.FilterParts.{are_decided, conjuncts};
 ghost use Rattle.sub_groups.specs.Places.{stand_in};
+ghost use Rattle.sub_groups.specs.Moved.{KeepRead, is_moved};
 ghost use Rattle.sub_groups.specs.SubGroups.{
   AreSubGroups,
   IsSame,
@@ -33,7 +50,8 @@ use values::{Row, Value};
 use view_lang::{Lookup, Outputs, RowView, View};
 
 /// The rows of a main table that pass what it decides alone of a view's filter, in groups: by the cell that the view
-/// looks up, and by the view's grouping columns of the main table. Of each group is kept what the view keeps of its own.
+/// looks up, and by the view's grouping columns of the main table. Of each group is kept what the view keeps of its
+/// own.
 #[derive(Debug, Drop)]
 pub struct SubGroups {
     groups: Groups,
@@ -81,13 +99,15 @@ fn can_sub_group(
     ensures on { result ≡ true → lookup.on < width }
     ensures of_main { result ≡ true → are_main width columns.now ≡ true }
     ensures decided { result ≡ true → are_decided width keys.now (conjuncts view.now.filter) ≡ true }
+    ensures value { result ≡ (nat_lt lookup.on width
+        && (are_main width columns.now && are_decided width keys.now (conjuncts view.now.filter))) }
 {
     lookup.on < width && are_main(columns, width) && is_filter_decided(&view.filter, width, keys)
 }
 
 impl SubGroups {
-    /// The sub-groups of no rows of a main table with `width` columns, for a view whose groups keep these columns; `None`
-    /// where the view can't be kept by sub-groups.
+    /// The sub-groups of no rows of a main table with `width` columns, for a view whose groups keep these columns;
+    /// `None` where the view can't be kept by sub-groups.
     pub fn of(
         alloc: Global,
         view: &View,
@@ -95,6 +115,8 @@ impl SubGroups {
         columns: &[KeptColumn],
     ) -> Result<Option<SubGroups>, AllocError>
         ensures right { IfOk result (λ made. IfSome made (AreSubGroups width view.now)) }
+        ensures none { IfOk result (λ made.
+            made ≡ None → KeepRead view.now.outputs columns.now → is_moved width view.now ≡ false) }
         ensures columns { IfOk result (λ made. IfSome made (λ s. s.groups.columns ≡ columns.now)) }
         ensures kept { IfOk result (λ made. IfSome made (λ s. Keeps s.groups [])) }
     {
@@ -127,7 +149,8 @@ impl SubGroups {
         Ok(SubGroups { groups })
     }
 
-    /// A row of the main table, which has `width` columns, comes under a number that no row has. After an error what is kept has no meaning.
+    /// A row of the main table, which has `width` columns, comes under a number that no row has. After an error what is
+    /// kept has no meaning.
     #[tactic(auto, using(crate::proofs::Absent::absent_laws))]
     pub fn come<R: RowView>(&mut self, view: &View, width: usize, row: &R) -> Result<(), AllocError>
         requires { (rows : NumberedRows) × (Keeps self.old.groups (values_of rows) × (length rows < 2 ^ 62)) }
@@ -142,7 +165,8 @@ impl SubGroups {
         Ok(())
     }
 
-    /// The row of the main table, which has `width` columns, under a number goes. After an error what is kept has no meaning.
+    /// The row of the main table, which has `width` columns, under a number goes. After an error what is kept has no
+    /// meaning.
     #[tactic(auto, using(crate::proofs::Absent::absent_laws))]
     pub fn go<R: RowView>(&mut self, view: &View, width: usize, row: &R) -> Result<(), AllocError>
         requires { (rows : NumberedRows) × (n : ℕ) × (Keeps self.old.groups (values_of rows)
@@ -166,8 +190,8 @@ impl SubGroups {
         self.groups.group(tuple)
     }
 
-    /// The tuples of the sub-groups of the rows that look up one of these values, each once, in ascending order. No other
-    /// sub-group is visited.
+    /// The tuples of the sub-groups of the rows that look up one of these values, each once, in ascending order. No
+    /// other sub-group is visited.
     pub fn tuples_under(&self, values: &[Value]) -> Result<Vec<Tuple>, AllocError>
         ensures tuples { IfOk result (λ tuples. (t : List Key) → list_any (is_at (tuple_cmp t)) tuples.items
             ≡ (begins_with_one values.now t && list_any (is_at (tuple_cmp t)) (keys_of self.now.groups.groups))) }

@@ -8,8 +8,8 @@ use std::test::Fail;
 use values::{Kind, Row, Value, cmp_values};
 use view_lang::{Comparison, Filter, Lookup, Missing, Operand, Outputs, Test, View};
 
-/// The main table has a key, what is looked up, what is grouped by, and an amount. The side table has a key, a zone and a
-/// limit behind them.
+/// The main table has a key, what is looked up, what is grouped by, and an amount. The side table has a key, a zone and
+/// a limit behind them.
 const WIDTH: usize = 4;
 
 const LOOKED_UP: usize = 1;
@@ -126,8 +126,8 @@ fn asks_the_other_parts(rt: HostRuntime) -> Result<(), Fail> {
     Ok(())
 }
 
-/// The sub-groups of a row that looks up 7, after one that looks up 8 came and went and another of 7 failed the main table's
-/// part of the filter.
+/// The sub-groups of a row that looks up 7, after one that looks up 8 came and went and another of 7 failed the main
+/// table's part of the filter.
 fn followed(alloc: Global, view: &View) -> Result<Option<SubGroups>, AllocError> {
     let gone = row(alloc, &[1, 8, 3, 9])?;
     let seven = row(alloc, &[2, 7, 3, 6])?;

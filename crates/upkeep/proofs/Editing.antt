@@ -1,41 +1,19 @@
 -- A store that was changed, among the others.
-use Rattle.std.proofs.Common.{
-  ◌≡◌,
-  [],
-  ◌∷◌,
-  ℕ,
-  zero,
-  suc,
-  ◌<◌,
-  All,
-  List,
-  Result,
-  ap,
-  arith,
-  drop,
-  get_or,
-  length,
-  subst,
-  sym,
-  ◌∙◌,
-}
+use Rattle.std.proofs.Common.{◌≡◌, ℕ, ◌<◌, All, List, Result, ap, arith, drop, get_or, length, subst, sym, ◌∙◌}
 use Rattle.std.specs.Prelude.{slice_set}
 use Rattle.std.proofs.lemmas.List.Elements.{All-get_or}
 use Rattle.view_lang.specs.Config.{Table, View}
 use Rattle.view_lang.specs.ConfigRules.{IsView}
 use Rattle.view_lang.specs.Edits.{TableEdit}
 use Rattle.view_lang.specs.TableRules.{IsSideTable, IsTable}
-use Rattle.view_lang.specs.ViewColumns.{columns_by}
 use Rattle.view_lang.specs.World.{table_at}
-use Rattle.view_lang.specs.declared.config.Role.{Role}
-use Rattle.arrays.specs.Checked.{CheckedColumn}
 use Rattle.row_keys.specs.Slots.{Slot}
-use Rattle.row_keys.specs.Store.{Store, with_slots}
+use Rattle.row_keys.specs.Store.{Store}
 use Rattle.row_keys.specs.declared.faults.EditFault.{EditFault}
-use Rattle.upkeep.specs.LiveParts.{AreOf, view_at}
+use Rattle.upkeep.specs.LiveParts.{AreOf}
 use Rattle.upkeep.specs.Stores.{rows_at, rows_in, tables_in}
 use Rattle.upkeep.specs.StoreLaws.{rows_length, rows_placed, rows_set, rows_there, table_there, tables_length}
-use Rattle.upkeep.specs.TableChanges.{CanGoBack, IsBatch, Makes, back}
+use Rattle.upkeep.specs.TableChanges.{CanGoBack, Makes}
 use Rattle.upkeep.specs.declared.table_change.TableChange.{TableChange}
 
 -- its rows afterwards

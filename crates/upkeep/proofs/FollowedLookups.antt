@@ -3,6 +3,7 @@ use Rattle.std.proofs.Common.{
   ◌≡◌,
   ◌≤◌,
   ◌||◌,
+  ◌&&◌,
   All,
   Err,
   Ok,
@@ -45,11 +46,9 @@ use Rattle.values.specs.Datum.{Datum}
 use Rattle.view_lang.specs.Config.{Table, View}
 use Rattle.view_lang.specs.Contents.{is_among}
 use Rattle.view_lang.specs.Images.{ImageAt, ImageFits, ImagePatched, image, shift_image}
-use Rattle.view_lang.specs.Joined.{Side, side_of}
-use Rattle.view_lang.specs.Outputs.{Outputs}
-use Rattle.view_lang.specs.Shifts.{Fits, IsFew, NumberedRows, Shift, patched}
+use Rattle.view_lang.specs.Joined.{side_of}
+use Rattle.view_lang.specs.Shifts.{Fits, IsFew, NumberedRows, patched}
 use Rattle.view_lang.specs.TableRules.{IsTable}
-use Rattle.view_lang.specs.declared.view.OrderBy.{OrderBy}
 use Rattle.lookups.specs.Keeping.{Keeps as KeepsReferrers}
 use Rattle.lookups.specs.Refers.{RowsByKey, is_among as is_numbered, refers as refers_to}
 use Rattle.view_lang.specs.Views.{side_in}
@@ -68,10 +67,11 @@ use Rattle.row_keys.specs.NumberLaws.{
 }
 use Rattle.row_keys.specs.Numbered.{come, gone, numbered}
 use Rattle.row_keys.specs.Slots.{CanRetract, Slot, contents_of, live}
+use Rattle.sub_groups.specs.Moved.{is_moved}
 use Rattle.upkeep.specs.Inputs.{side_by}
 use Rattle.upkeep.specs.Stores.{Rows, rows_at, world_of}
 use Rattle.upkeep.specs.Swaps.{named_keys, swapped}
-use Rattle.upkeep.specs.Touched.{refers_by}
+use Rattle.upkeep.specs.Touched.{opened_for, refers_by}
 use Rattle.upkeep.specs.ViewStates.{
   AreLinks,
   IsBefore,
@@ -86,6 +86,7 @@ use Rattle.upkeep.specs.ViewStates.{
   referring_row,
   remade_change,
   swapped_at,
+  width_in,
 }
 use Rattle.upkeep.specs.declared.table_change.TableChange.{TableChange}
 use Rattle.upkeep.specs.declared.view_state.Links.{Links}
@@ -230,12 +231,16 @@ module _ (laws : Laws) (tables : List Table) (n : ℕ) (u : Turn) (c : TableChan
     can : CanRetract ns main
     can = can_retract laws.can_go look.0 (named_keys (table_at tables n) c (rows_at rows n)) main ns refer ascending
 
+    unmoved : is_moved (width_in tables) v ≡ false
+    unmoved = subst (AreLinks tables v s.kept) is (was fresh).1.0
+
     pub counted : length ns
-        ≤ count_by (refers_by v.lookup n (named_keys (table_at tables n) c (rows_at rows n))) (live main)
+        ≤ count_by (opened_for (width_in tables) v n (named_keys (table_at tables n) c (rows_at rows n))) (live main)
     counted =
-        referring_counted laws.can_go v.lookup look.0 n (named_keys (table_at tables n) c (rows_at rows n)) main ns
-        look.1
-        looks refer ascending
+        let named : List Datum = named_keys (table_at tables n) c (rows_at rows n) in
+        subst (λ (b : Bool). length ns ≤ count_by (λ row. not b && refers_by v.lookup n named row) (live main))
+        (sym unmoved)
+        (referring_counted laws.can_go v.lookup look.0 n named main ns look.1 looks refer ascending)
 
     change_leads : Leads (image made_without (numbered main))
         (made_change tables (swapped_at n u c rows) v turn.Go ns ++ made_change tables rows v turn.Come ns)
@@ -283,7 +288,7 @@ module _ (laws : Laws) (tables : List Table) (n : ℕ) (u : Turn) (c : TableChan
       subst (λ (made : NumberedRows). IsKept v new.kept made) change_leads.patched_is
           (kept (image made_without (numbered main)) change_leads.fits (was fresh).0),
       subst (λ (l : Links). AreLinks tables v new.kept l × KeepsLinks l (image (link_row l v) (numbered main)))
-          (sym (same ∙ is)) (tt, keeps),
+          (sym (same ∙ is)) (unmoved, keeps),
     )
 
 pub on_ok : {X E : Type 0} (P Q : Type 0) (r : Result X E) → (P → Q) → OnOk r P → OnOk r Q

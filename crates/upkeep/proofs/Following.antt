@@ -1,49 +1,20 @@
 -- What is kept of a view through changes of the main table's rows.
-use Rattle.std.proofs.Common.{
-  append_assoc,
-  ◌≡◌,
-  ℕ,
-  suc,
-  ◌+◌,
-  ◌<◌,
-  ◌≤◌,
-  false,
-  List,
-  [],
-  ◌∷◌,
-  ◌++◌,
-  Option,
-  None,
-  Some,
-  get_or,
-  length,
-  map,
-  take,
-  refl,
-  ap,
-  sym,
-  subst,
-  ◌∙◌,
-  arith,
-}
-use Rattle.std.proofs.lemmas.List.{length-map, map-append, map_push, take_more}
+use Rattle.std.proofs.Common.{◌≡◌, ℕ, suc, ◌<◌, ◌≤◌, false, List, [], ◌∷◌, Option, None, Some, get_or, length, map, refl, ap, sym, subst, ◌∙◌, arith}
+use Rattle.std.proofs.lemmas.List.{length-map}
 use Rattle.values.specs.Datum.{Datum}
 use Rattle.view_lang.specs.Config.{Table, View}
 use Rattle.view_lang.specs.Images.{ImageFits, ImagePatched, image, image_by, shift_image}
 use Rattle.view_lang.specs.Joined.{Side}
-use Rattle.view_lang.specs.Outputs.{Outputs}
-use Rattle.view_lang.specs.Shifts.{Fits, IsFew, NumberedRows, Shift, patched, shift}
-use Rattle.view_lang.specs.declared.view.OrderBy.{OrderBy}
+use Rattle.view_lang.specs.Shifts.{Fits, IsFew, NumberedRows, Shift, patched}
 use Rattle.std.specs.Map.{keys_of}
 use Rattle.std.specs.Option.{unwrap_or}
 use Rattle.values.specs.Limits.{max_main_rows}
 use Rattle.sub_groups.specs.SubGroups.{AreSubGroups, CanSubGroup}
 use Rattle.sub_groups.specs.declared.sub_groups.SubGroups.{SubGroups}
 use Rattle.row_keys.specs.NumberLaws.{AllCome}
-use Rattle.row_keys.specs.Numbered.{live_at, numbered}
+use Rattle.row_keys.specs.Numbered.{numbered}
 use Rattle.row_keys.specs.Slots.{Slot, row_of}
 use Rattle.row_keys.specs.Store.{Store, live_in}
-use Rattle.upkeep.specs.Inputs.{side_by}
 use Rattle.upkeep.specs.Stores.{rows_at, rows_in, tables_in}
 use Rattle.upkeep.specs.StoreLaws.{rows_there, table_there}
 use Rattle.upkeep.specs.ViewStates.{
@@ -61,7 +32,6 @@ use Rattle.upkeep.specs.ViewStates.{
 use Rattle.upkeep.specs.declared.view_state.Kept.{Kept}
 use Rattle.upkeep.specs.declared.view_state.Links.{Links}
 use Rattle.upkeep.specs.declared.view_state.Links.TheVariants as links
-use Rattle.upkeep.specs.declared.view_state.Turn.{Turn}
 use Rattle.upkeep.specs.declared.view_state.Turn.TheVariants as turn
 use Rattle.upkeep.specs.declared.view_state.ViewState.{ViewState}
 
@@ -133,7 +103,7 @@ same_groups n v s t keys columns are = record {
 pub links_stay :
     (tables : List Table) (v : View) (k next : Kept) (l now : Links) → columns_in next ≡ columns_in k
     → form_of now ≡ form_of l → AreLinks tables v k l → AreLinks tables v next now
-links_stay tables v k next (links.Rows r) (links.Rows q) kept form are = tt
+links_stay tables v k next (links.Rows r) (links.Rows q) kept form are = are
 links_stay tables v k next (links.Rows r) (links.SubGroups s) kept form are = absurd (cc)
 links_stay tables v k next (links.SubGroups s) (links.Rows r) kept form are = absurd (cc)
 links_stay tables v k next (links.SubGroups s) (links.SubGroups t) kept form are =

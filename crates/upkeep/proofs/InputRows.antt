@@ -1,65 +1,25 @@
 -- The rows that a view is made of, row by row.
-use Rattle.std.proofs.Common.{
-  ◌≡◌,
-  ℕ,
-  zero,
-  suc,
-  ◌+◌,
-  ◌<◌,
-  ◌≤◌,
-  Bool,
-  true,
-  false,
-  cond,
-  List,
-  [],
-  ◌∷◌,
-  ◌++◌,
-  Option,
-  None,
-  Some,
-  IfSome,
-  All,
-  filter,
-  filter_map,
-  length,
-  get_or,
-  map,
-  take,
-  refl,
-  ap,
-  sym,
-  subst,
-  ◌∙◌,
-  add-one,
-  append-nil,
-  arith,
-}
-use Rattle.std.specs.Prelude.{IfOk, Result, Ok, Err, Vec, slice_set}
+use Rattle.std.proofs.Common.{◌≡◌, ℕ, zero, suc, ◌<◌, Bool, cond, List, [], ◌∷◌, ◌++◌, Option, None, Some, length, get_or, refl, ap, sym, subst, ◌∙◌, append-nil, arith}
+use Rattle.std.specs.Prelude.{IfOk, Result, Ok, Err, Vec}
 use Rattle.std.specs.declared.alloc.Global.{Global}
-use Rattle.std.specs.List.{cons_option}
-use Rattle.std.specs.Option.{option_and_then, option_map}
-use Rattle.std.proofs.Math.Seq.{take-suc}
-use Rattle.std.proofs.lemmas.List.{length-map, map-append}
-use Rattle.std.proofs.lemmas.List.Elements.{All-get_or, All-nil, All-push, filter-append, filter_map-append}
+use Rattle.std.specs.Option.{option_and_then}
+use Rattle.std.proofs.lemmas.List.{map-append}
 use Rattle.values.specs.CellViews.{shallow}
 use Rattle.values.specs.Datum.{Datum}
 use Rattle.view_lang.specs.Cells.{cell_at, rows_of}
-use Rattle.view_lang.specs.Config.{Table, View}
+use Rattle.view_lang.specs.Config.{View}
 use Rattle.view_lang.specs.ConfigRules.{IsLookup}
 use Rattle.view_lang.specs.TableRules.{IsSideTable}
 use Rattle.view_lang.specs.Joined.{Side, joined, joined_by, joined_row, looked_up, side_of}
-use Rattle.view_lang.specs.Laws.{IsLookedUp, side_columns}
-use Rattle.view_lang.specs.Rows.{IsRow}
 use Rattle.view_lang.specs.Truth.{passes}
-use Rattle.view_lang.specs.Views.{kept_row, side_in, view_input}
+use Rattle.view_lang.specs.Views.{kept_row, side_in}
 use Rattle.view_lang.specs.World.{contents_at, table_at}
 use Rattle.view_lang.specs.declared.view.Lookup.{Lookup}
-use Rattle.row_keys.specs.Slots.{Slot, contents_of, live, row_of}
-use Rattle.row_keys.specs.Store.{Store, visited}
-use Rattle.upkeep.specs.Inputs.{listed, side_by}
-use Rattle.upkeep.specs.Stores.{Rows, rows_at, rows_in, tables_in, world_of}
-use Rattle.upkeep.specs.StoreLaws.{rows_there, set_same, table_there, tables_length, tables_set}
+use Rattle.row_keys.specs.Slots.{contents_of}
+use Rattle.row_keys.specs.Store.{Store}
+use Rattle.upkeep.specs.Inputs.{side_by}
+use Rattle.upkeep.specs.Stores.{rows_in, tables_in, world_of}
+use Rattle.upkeep.specs.StoreLaws.{table_there, tables_length}
 
 -- a side table
 

@@ -1,37 +1,5 @@
 -- Views that look up a table whose rows change, and those that don't.
-use Rattle.std.proofs.Common.{
-  ◌≡◌,
-  ℕ,
-  zero,
-  suc,
-  ◌+◌,
-  ◌*◌,
-  ◌<◌,
-  ◌≤◌,
-  ◌≢◌,
-  ◌&&◌,
-  ◌||◌,
-  Bool,
-  true,
-  false,
-  not,
-  List,
-  [],
-  ◌∷◌,
-  Option,
-  None,
-  Some,
-  add-one,
-  ap,
-  arith,
-  get_or,
-  length,
-  refl,
-  subst,
-  sym,
-  take,
-  ◌∙◌,
-}
+use Rattle.std.proofs.Common.{◌≡◌, ℕ, zero, suc, ◌+◌, ◌*◌, ◌<◌, ◌≤◌, ◌≢◌, ◌||◌, Bool, true, false, List, [], ◌∷◌, Option, None, Some, add-one, ap, arith, get_or, length, refl, subst, sym, take, ◌∙◌}
 use Rattle.std.specs.List.{list_any}
 use Rattle.std.specs.Prelude.{cond, count_by, slice_set}
 use Rattle.std.proofs.lemmas.List.Sums.{sum_by-cons}
@@ -52,7 +20,7 @@ use Rattle.upkeep.specs.Inputs.{side_by}
 use Rattle.upkeep.specs.Stores.{Rows, rows_at, rows_in, tables_in, world_of}
 use Rattle.upkeep.specs.StoreLaws.{set_mapped, tables_length}
 use Rattle.upkeep.specs.Swaps.{named_keys}
-use Rattle.upkeep.specs.Touched.{refers, refers_by}
+use Rattle.upkeep.specs.Touched.{opened_for, refers}
 use Rattle.upkeep.specs.declared.table_change.TableChange.{TableChange}
 use Rattle.upkeep.specs.ViewStates.{
   AreCurrent,
@@ -317,12 +285,12 @@ counted_below p q (r ∷ rs) h =
     let here = counted_one (p r) (q r) (h r) in
     omega (arith, one, two, rest, here)
 
-pub view_counted : (views : List View) (i : ℕ) (v : View) (n : ℕ) (keys : List Datum) (rows : List (List Datum))
+pub view_counted : (width : ℕ) (views : List View) (i : ℕ) (v : View) (n : ℕ) (keys : List Datum) (rows : List (List Datum))
     → v ≡ get_or views i v → i < length views
-    → count_by (refers_by v.lookup n keys) rows ≤ count_by (refers views n keys) rows
-view_counted views i v n keys rows at below =
-    counted_below (refers_by v.lookup n keys) (refers views n keys) rows
-    (λ row h. any_here views i v (λ w. refers_by w.lookup n keys row) at below h)
+    → count_by (opened_for width v n keys) rows ≤ count_by (refers width views n keys) rows
+view_counted width views i v n keys rows at below =
+    counted_below (opened_for width v n keys) (refers width views n keys) rows
+    (λ row h. any_here views i v (λ w. opened_for width w n keys row) at below h)
 
 pub opened_more : (old mid new place one all : ℕ) → mid ≤ old + 2 * (place * all) → new ≤ mid + 2 * one → one ≤ all
     → new ≤ old + 2 * ((place + 1) * all)

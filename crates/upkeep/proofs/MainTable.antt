@@ -34,7 +34,6 @@ use Rattle.std.specs.List.{range_with_len}
 use Rattle.std.proofs.lemmas.List.{length-append, length-map}
 use Rattle.std.proofs.lemmas.List.Elements.{All-cons}
 use Rattle.std.proofs.lemmas.Option.{none-some}
-use Rattle.std.proofs.lemmas.List.FromFn.{length-range_with_len}
 use Rattle.values.specs.Datum.{Datum}
 use Rattle.values.specs.Limits.{max_main_rows}
 use Rattle.schema_meta.specs.Rows.{rows_from}
@@ -46,20 +45,7 @@ use Rattle.view_lang.specs.Views.{side_in}
 use Rattle.view_lang.specs.declared.view.Lookup.{Lookup}
 use Rattle.row_keys.specs.Numbered.{come, numbered}
 use Rattle.row_keys.specs.NumberLaws.{FewPutBack, FewRetracted, Leads, NewCome, RowsAreLive, with_new}
-use Rattle.row_keys.specs.Slots.{
-  AreRetracted,
-  CanPutBack,
-  CanRetract,
-  CanTakeBack,
-  IsThere,
-  Slot,
-  last_numbers,
-  live,
-  marked,
-  new_slot,
-  put_back,
-  slot,
-}
+use Rattle.row_keys.specs.Slots.{AreRetracted, CanPutBack, CanRetract, CanTakeBack, IsThere, Slot, live, marked, new_slot, put_back, slot}
 use Rattle.row_keys.specs.Store.{Store}
 use Rattle.upkeep.specs.Inputs.{side_by}
 use Rattle.upkeep.specs.LiveParts.{AreLive, AreOf}

@@ -1,49 +1,9 @@
 -- The rows of the main table by sub-groups, and what a view makes of them before and after a change of a side table.
-use Rattle.std.proofs.Common.{
-  ◌≡◌,
-  ℕ,
-  zero,
-  suc,
-  ◌+◌,
-  ◌<◌,
-  ◌≤◌,
-  ◌&&◌,
-  ◌||◌,
-  All,
-  Bool,
-  true,
-  false,
-  cond,
-  not,
-  List,
-  [],
-  ◌∷◌,
-  ◌++◌,
-  Err,
-  Ok,
-  Option,
-  None,
-  Result,
-  Some,
-  drop,
-  get_or,
-  length,
-  map,
-  take,
-  refl,
-  ap,
-  ap₂,
-  sym,
-  subst,
-  ◌∙◌,
-  arith,
-  true≢false,
-}
-use Rattle.std.proofs.lemmas.List.{drop_all, get_or_append_left, take_all}
+use Rattle.std.proofs.Common.{◌≡◌, ℕ, zero, suc, ◌<◌, ◌≤◌, ◌&&◌, ◌||◌, All, Bool, true, false, cond, not, List, [], ◌∷◌, ◌++◌, Err, Ok, Option, None, Result, Some, drop, get_or, length, take, refl, ap, ap₂, sym, subst, ◌∙◌, arith, true≢false}
+use Rattle.std.proofs.lemmas.List.{get_or_append_left}
 use Rattle.std.proofs.lemmas.List.Elements.{All-from_recursion, recursion_from_All}
 use Rattle.std.proofs.lemmas.Option.{none-some}
 use Rattle.std.specs.BTreeMap.{is_at}
-use Rattle.std.specs.Cmp.{Equal-is, tied_itself}
 use Rattle.std.specs.List.{AllByRecursion, cons_option, filter, filter_map, list_any}
 use Rattle.std.specs.Map.{keys_of, lookup, values_of}
 use Rattle.std.specs.Ordering.{is_eq}
@@ -51,8 +11,8 @@ use Rattle.std.specs.Option.{option_and_then}
 use Rattle.std.specs.Prelude.{◌==◌, OnOk, is_some, nat_lt}
 use Rattle.std.proofs.lemmas.Bool.{ltb-true}
 use Rattle.values.specs.ColTypes.{IsSingle, layout_of}
-use Rattle.values.specs.Datum.{Datum, Items, bytes, items_of, list, null, structure, text, truth, whole}
-use Rattle.values.specs.Keys.{datum_of_key, key_of}
+use Rattle.values.specs.Datum.{Datum, Items, items_of, list, structure}
+use Rattle.values.specs.Keys.{key_of}
 use Rattle.values.specs.Layouts.{Holds, HoldsEach}
 use Rattle.values.specs.Limits.{max_main_rows}
 use Rattle.values.specs.Logical.{NamedType, tree_of, trees_of}
@@ -62,7 +22,6 @@ use Rattle.values.specs.declared.col_type.ColType.{ColType}
 use Rattle.values.specs.declared.col_type.ColType.TheVariants as col
 use Rattle.values.specs.declared.layout.Layout.{Layout}
 use Rattle.values.specs.declared.key.Key.{Key}
-use Rattle.values.specs.declared.key.Key.TheVariants as key
 use Rattle.view_lang.specs.Cells.{cell_at}
 use Rattle.view_lang.specs.Config.{Table, View}
 use Rattle.view_lang.specs.ConfigRules.{AreOutputs, IsLookup, IsOrdered, IsView}
@@ -86,7 +45,7 @@ use Rattle.group_state.specs.GroupCounts.{GroupCounts}
 use Rattle.group_state.specs.Groups.{Keeps as KeepsGroups, KeepsAt}
 use Rattle.group_state.specs.KeptColumns.{IsKept as IsKeptColumn}
 use Rattle.group_state.specs.Keys.{key_cmp, key_in, tuple_cmp}
-use Rattle.group_state.specs.Moves.{begins_with, begins_with_one}
+use Rattle.group_state.specs.Moves.{begins_with_one}
 use Rattle.group_state.specs.Tuples.{has_tuple, members, tuple_of}
 use Rattle.group_state.specs.declared.kept_columns.KeptColumn.{KeptColumn}
 use Rattle.group_state.proofs.KeyData.{cell-data, key-data}
@@ -95,7 +54,7 @@ use Rattle.row_keys.specs.NumberLaws.{RowsAreLive}
 use Rattle.row_keys.specs.Numbered.{numbered}
 use Rattle.row_keys.specs.Slots.{Slot, live}
 use Rattle.sub_groups.specs.FilterParts.{is_main, passes_main}
-use Rattle.sub_groups.specs.SubGroups.{AreSubGroups, IsMainRow, IsSubRow, OthersAreLeftOut, rows_but, sub_keys, sub_row}
+use Rattle.sub_groups.specs.SubGroups.{AreSubGroups, IsSubRow, OthersAreLeftOut, rows_but, sub_keys}
 use Rattle.sub_groups.specs.declared.sub_groups.SubGroups.{SubGroups}
 use Rattle.upkeep.specs.Moves.{AreGrouped, CanMove, made_but}
 use Rattle.upkeep.specs.ViewStates.{
@@ -113,25 +72,9 @@ use Rattle.upkeep.specs.ViewStates.{
 use Rattle.upkeep.specs.declared.view_state.Kept.{Kept}
 use Rattle.upkeep.specs.declared.view_state.Kept.TheVariants as kept
 use Rattle.upkeep.specs.declared.view_state.Links.TheVariants as links
+use Rattle.upkeep.proofs.Referring.{keyless}
 
 -- A looked-up cell that is none of some values
-
-keyless : (d : Datum) (k : Key) → key_of d ≡ None → same_key d (datum_of_key k) ≡ false
-keyless null k h = absurd (none-some key.Null (sym h))
-keyless (truth b) k h = absurd (none-some (key.Bool b) (sym h))
-keyless (whole n) k h = absurd (none-some (key.Int n) (sym h))
-keyless (text s) k h = absurd (none-some (key.Utf8 s) (sym h))
-keyless (bytes b) k h = absurd (none-some (key.Binary b) (sym h))
-keyless (list es) (key.Bool b) h = refl
-keyless (list es) (key.Int n) h = refl
-keyless (list es) (key.Utf8 s) h = refl
-keyless (list es) (key.Binary b) h = refl
-keyless (list es) key.Null h = refl
-keyless (structure es) (key.Bool b) h = refl
-keyless (structure es) (key.Int n) h = refl
-keyless (structure es) (key.Utf8 s) h = refl
-keyless (structure es) (key.Binary b) h = refl
-keyless (structure es) key.Null h = refl
 
 keyed_same : (c d : Datum) → IsKeyCell c → IsKeyCell d → is_at (key_cmp (key_in d)) (key_in c) ≡ same_key c d
 keyed_same c d is_c is_d =

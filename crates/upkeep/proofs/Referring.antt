@@ -1,39 +1,5 @@
 -- The rows that refer to keys, and a view of them where those keys' rows change.
-use Rattle.std.proofs.Common.{
-  ◌≡◌,
-  ℕ,
-  zero,
-  suc,
-  ◌+◌,
-  ◌*◌,
-  ◌<◌,
-  ◌≤◌,
-  ◌||◌,
-  ◌&&◌,
-  All,
-  Bool,
-  true,
-  false,
-  cond,
-  List,
-  [],
-  ◌∷◌,
-  ◌++◌,
-  Option,
-  None,
-  Some,
-  count_by,
-  get_or,
-  length,
-  map,
-  refl,
-  ap,
-  sym,
-  subst,
-  ◌∙◌,
-  arith,
-  true≢false,
-}
+use Rattle.std.proofs.Common.{◌≡◌, ℕ, zero, suc, ◌+◌, ◌<◌, ◌≤◌, ◌||◌, ◌&&◌, All, Bool, true, false, cond, List, [], ◌∷◌, ◌++◌, Option, None, Some, count_by, get_or, length, map, refl, ap, sym, subst, ◌∙◌, arith, true≢false}
 use Rattle.std.specs.BTreeMap.{is_at}
 use Rattle.std.specs.List.{list_any}
 use Rattle.std.specs.List.Sorted.{IsStrictlySortedBy}
@@ -48,7 +14,6 @@ use Rattle.std.proofs.lemmas.List.Sums.{sum_by-cons}
 use Rattle.values.specs.Datum.{Datum, null, truth, whole, text, bytes, list, structure}
 use Rattle.values.specs.KeyOrder.{KeysStandInOrder}
 use Rattle.values.specs.Keys.{datum_of_key, key_of}
-use Rattle.values.specs.Order.{datum_cmp}
 use Rattle.values.specs.declared.key.Key.{Key}
 use Rattle.values.specs.declared.key.Key.TheVariants as key
 use Rattle.view_lang.specs.Cells.{cell_at}
@@ -60,7 +25,7 @@ use Rattle.view_lang.specs.Shifts.{NumberedRows, Shift, row_at}
 use Rattle.view_lang.specs.Truth.{passes}
 use Rattle.view_lang.specs.declared.view.Lookup.{Lookup}
 use Rattle.lookups.specs.Keeping.{Keeps as KeepsReferrers, holds, is_key}
-use Rattle.lookups.specs.Refers.{RowsByKey, is_among as is_numbered, key_cmp, refers as refers_to}
+use Rattle.lookups.specs.Refers.{RowsByKey, is_among as is_numbered, refers as refers_to}
 use Rattle.row_keys.specs.NumberLaws.{
   ChangesAdd,
   Leads,
@@ -90,7 +55,7 @@ key_datum (bytes b) k h = subst (λ x. datum_of_key x ≡ bytes b) (some_is (key
 key_datum (list es) k h = absurd (none-some k h)
 key_datum (structure es) k h = absurd (none-some k h)
 
-keyless : (d : Datum) (k : Key) → key_of d ≡ None → same_key d (datum_of_key k) ≡ false
+pub keyless : (d : Datum) (k : Key) → key_of d ≡ None → same_key d (datum_of_key k) ≡ false
 keyless null k h = absurd (none-some key.Null (sym h))
 keyless (truth b) k h = absurd (none-some (key.Bool b) (sym h))
 keyless (whole n) k h = absurd (none-some (key.Int n) (sym h))

@@ -51,7 +51,7 @@ use Rattle.upkeep.specs.StoreLaws.{
 use Rattle.upkeep.specs.Swaps.{CanSwap, IsHidden, forgotten, hidden, named_keys, shown, swapped}
 use Rattle.upkeep.specs.TableChanges.{CanGoBack, IsChangeOf, Makes, back}
 use Rattle.upkeep.specs.Touched.{OpensTwice, refers, touched}
-use Rattle.upkeep.specs.ViewStates.{AreCurrent, DiffersAt, EachIsCurrent, IsBefore, stale_in}
+use Rattle.upkeep.specs.ViewStates.{AreCurrent, DiffersAt, EachIsCurrent, IsBefore, stale_in, width_in}
 use Rattle.upkeep.specs.declared.table_change.TableChange.{TableChange}
 use Rattle.upkeep.specs.declared.view_state.Turn.{Turn}
 use Rattle.upkeep.specs.declared.view_state.Turn.TheVariants as turn
@@ -304,7 +304,8 @@ side_visits (s ∷ ss) (suc n) t side = refl
 
 touched_side : (tables : List Table) (views : List View) (rows : Rows) (n : ℕ) (c : TableChange) → 0 < n
     → touched tables views rows n c
-    ≡ count_by (refers views n (named_keys (table_at tables n) c (rows_at rows n))) (live (rows_at rows 0))
+    ≡ count_by (refers (width_in tables) views n (named_keys (table_at tables n) c (rows_at rows n)))
+    (live (rows_at rows 0))
 touched_side tables views rows zero c side = absurd (omega (arith, side))
 touched_side tables views rows (suc n) c side = refl
 
@@ -313,13 +314,14 @@ pub opened_after :
     (ss ss' : List Store) (views : List View) (states states' : List ViewState) (n : ℕ) (s t : Store) (c : TableChange)
     → 0 < n → Changed ss n s t → Opened (slice_set ss n t) ss'
     → visits_in ss' ≤ visits_in (slice_set ss n t) + 2 * (length views
-    * count_by (refers views n (named_keys (table_at (tables_in (slice_set ss n t)) n) c
+    * count_by (refers (width_in (tables_in (slice_set ss n t))) views n
+    (named_keys (table_at (tables_in (slice_set ss n t)) n) c
     (rows_at (rows_in (slice_set ss n t)) n))) (live (rows_at (rows_in (slice_set ss n t)) 0)))
     → OpensTwice (parts ss views states) (touched (tables_in ss) views (rows_in ss') n c) (parts ss' views states')
 opened_after ss ss' views states states' n s t c side changed opened few =
     let P : ℕ → ℕ → Type 0 = λ old k. visits_in ss' ≤ old + 2 * (length views * k) in
     let count : List Table → Rows → ℕ = λ ts rs.
-    count_by (refers views n (named_keys (table_at ts n) c (rows_at rs n))) (live (rows_at rs 0)) in
+    count_by (refers (width_in ts) views n (named_keys (table_at ts n) c (rows_at rs n))) (live (rows_at rs 0)) in
     subst (P (visits_in ss)) (sym (touched_side (tables_in ss) views (rows_in ss') n c side))
     (subst (λ (rs : Rows). P (visits_in ss) (count (tables_in ss) rs)) (sym opened.rows)
     (subst (λ (ts : List Table). P (visits_in ss) (count ts (rows_in (slice_set ss n t))))
@@ -332,14 +334,15 @@ pub opened_before :
     (ss ss' : List Store) (views : List View) (states states' : List ViewState) (n : ℕ) (s t v u : Store)
     (c : TableChange) → 0 < n → Changed ss n s t → t.slots ≡ hidden c s.slots
     → visits_in ss' ≤ visits_in (slice_set ss n t) + 2 * (length views
-    * count_by (refers views n (named_keys (table_at (tables_in (slice_set ss n t)) n) c
+    * count_by (refers (width_in (tables_in (slice_set ss n t))) views n
+    (named_keys (table_at (tables_in (slice_set ss n t)) n) c
     (rows_at (rows_in (slice_set ss n t)) n))) (live (rows_at (rows_in (slice_set ss n t)) 0)))
     → OpensTwice (parts ss views states) (touched (tables_in ss) views (rows_in ss) n c)
     (parts (slice_set ss' n u) views states')
 opened_before ss ss' views states states' n s t v u c side changed is few =
     let P : ℕ → ℕ → ℕ → Type 0 = λ new old k. new ≤ old + 2 * (length views * k) in
     let count : List Table → List Slot → List Slot → ℕ = λ ts rows main.
-    count_by (refers views n (named_keys (table_at ts n) c rows)) (live main) in
+    count_by (refers (width_in ts) views n (named_keys (table_at ts n) c rows)) (live main) in
     let rows : List Slot = rows_at (rows_in ss) n in
     let keys : (ts : List Table) → named_keys (table_at ts n) c (rows_at (rows_in (slice_set ss n t)) n)
     ≡ named_keys (table_at ts n) c rows = λ ts.
@@ -354,7 +357,7 @@ opened_before ss ss' views states states' n s t v u c side changed is few =
     (sym (side_visits ss' n u side))
     (subst (λ (ms : List Slot). P (visits_in ss') (visits_in ss) (count (tables_in ss) rows ms)) main
     (subst (λ (ks : List Datum). P (visits_in ss') (visits_in ss)
-    (count_by (refers views n ks) (live (rows_at (rows_in (slice_set ss n t)) 0)))) (keys (tables_in ss))
+    (count_by (refers (width_in (tables_in ss)) views n ks) (live (rows_at (rows_in (slice_set ss n t)) 0)))) (keys (tables_in ss))
     (subst (λ (ts : List Table). P (visits_in ss') (visits_in ss)
     (count ts (rows_at (rows_in (slice_set ss n t)) n) (rows_at (rows_in (slice_set ss n t)) 0)))
     (changed_tables ss n s t changed)

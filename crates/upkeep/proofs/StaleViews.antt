@@ -1,37 +1,9 @@
 -- Loops over the states of views, and over numbers.
-use Rattle.std.proofs.Common.{
-  ◌≡◌,
-  ℕ,
-  zero,
-  suc,
-  ◌+◌,
-  ◌<◌,
-  ◌≤◌,
-  ◌++◌,
-  All,
-  Bool,
-  true,
-  false,
-  List,
-  [],
-  ◌∷◌,
-  add-one,
-  arith,
-  count_by,
-  get_or,
-  length,
-  map,
-  refl,
-  ap,
-  subst,
-  sym,
-  take,
-  ◌∙◌,
-}
+use Rattle.std.proofs.Common.{◌≡◌, ℕ, zero, suc, ◌+◌, ◌<◌, ◌++◌, All, Bool, true, false, List, [], ◌∷◌, add-one, arith, count_by, get_or, length, map, refl, ap, subst, sym, take, ◌∙◌}
 use Rattle.std.specs.List.{range_with_len}
 use Rattle.std.specs.Prelude.{cond, slice_set}
 use Rattle.std.proofs.Math.Seq.{take-suc}
-use Rattle.std.proofs.lemmas.List.{map-append, take_all}
+use Rattle.std.proofs.lemmas.List.{map-append}
 use Rattle.std.proofs.lemmas.List.Elements.{All-cons, All-head, All-nil, All-tail}
 use Rattle.std.proofs.lemmas.List.Sums.{sum_by-cons}
 use Rattle.view_lang.specs.Config.{Table, View}

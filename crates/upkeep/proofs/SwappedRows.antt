@@ -1,35 +1,5 @@
 -- Rows of a side table whose keys a change doesn't name.
-use Rattle.std.proofs.Common.{
-  ◌≡◌,
-  ℕ,
-  zero,
-  suc,
-  ◌<◌,
-  ◌≤◌,
-  ◌||◌,
-  All,
-  Bool,
-  true,
-  false,
-  cond,
-  List,
-  [],
-  ◌∷◌,
-  ◌++◌,
-  Option,
-  None,
-  Some,
-  Vec,
-  find,
-  length,
-  refl,
-  ap,
-  sym,
-  subst,
-  ◌∙◌,
-  arith,
-  true≢false,
-}
+use Rattle.std.proofs.Common.{◌≡◌, ℕ, zero, suc, ◌<◌, ◌≤◌, ◌||◌, All, Bool, true, false, cond, List, [], ◌∷◌, ◌++◌, Option, Some, Vec, find, length, refl, ap, sym, subst, ◌∙◌, arith, true≢false}
 use Rattle.std.specs.List.{range_with_len}
 use Rattle.std.specs.Prelude.{if◌then◌else◌, ◌-◌}
 use Rattle.std.proofs.lemmas.List.{length-take, map-append}
@@ -39,21 +9,7 @@ use Rattle.values.specs.Datum.{Datum, null, truth, whole, text, bytes, list, str
 use Rattle.view_lang.specs.Config.{Table}
 use Rattle.view_lang.specs.Contents.{is_among, key_in, same_key}
 use Rattle.view_lang.specs.Joined.{side_of}
-use Rattle.row_keys.specs.Slots.{
-  CanTakeBack,
-  Slot,
-  contents_of,
-  keys_at,
-  last_numbers,
-  live,
-  marked,
-  put_back,
-  put_hidden,
-  retracted,
-  row_of,
-  slot,
-  taken_back,
-}
+use Rattle.row_keys.specs.Slots.{CanTakeBack, Slot, contents_of, keys_at, last_numbers, live, marked, put_back, put_hidden, retracted, row_of, taken_back}
 use Rattle.row_keys.specs.NumberLaws.{HiddenIsUndone}
 use Rattle.upkeep.specs.Swaps.{CanSwap, hidden, named_keys, named_numbers, swapped}
 use Rattle.upkeep.specs.TableChanges.{CanGoBack, IsChangeOf, back}

@@ -1,24 +1,8 @@
 -- Stores of which one is turned to its rows with a change, or without it.
-use Rattle.std.proofs.Common.{
-  ◌≡◌,
-  ℕ,
-  ◌<◌,
-  List,
-  [],
-  ◌∷◌,
-  ◌++◌,
-  ap,
-  arith,
-  get_or,
-  length,
-  subst,
-  sym,
-  ◌∙◌,
-}
+use Rattle.std.proofs.Common.{◌≡◌, ℕ, ◌<◌, List, ap, arith, get_or, length, subst, sym, ◌∙◌}
 use Rattle.std.specs.Prelude.{slice_set}
 use Rattle.view_lang.specs.Config.{Table, View}
 use Rattle.view_lang.specs.ConfigRules.{IsView}
-use Rattle.view_lang.specs.Shifts.{Shift}
 use Rattle.view_lang.specs.World.{table_at}
 use Rattle.row_keys.specs.Slots.{Slot}
 use Rattle.row_keys.specs.Store.{Store, with_slots}
@@ -34,10 +18,9 @@ use Rattle.upkeep.specs.StoreLaws.{
   tables_set,
 }
 use Rattle.upkeep.specs.Swaps.{CanSwap, opposite, swapped}
-use Rattle.upkeep.specs.ViewStates.{made_change, swapped_at}
+use Rattle.upkeep.specs.ViewStates.{swapped_at}
 use Rattle.upkeep.specs.declared.table_change.TableChange.{TableChange}
 use Rattle.upkeep.specs.declared.view_state.Turn.{Turn}
-use Rattle.upkeep.specs.declared.view_state.Turn.TheVariants as turn
 
 -- store n of these, s, is turned to t
 pub record Turned (ss : List Store) (n : ℕ) (u : Turn) (c : TableChange) (s t : Store) : Type 0 where

@@ -1,5 +1,5 @@
 -- Sub-groups that a change of a side table moves from group to group.
-use Rattle.std.specs.Prelude.{◌≡◌, ◌<◌, ◌^◌, ℕ, All, List, [], drop, length, take}
+use Rattle.std.specs.Prelude.{◌≡◌, ◌<◌, ◌^◌, ℕ, All, List, drop, length, take}
 use Rattle.std.specs.List.{filter_map}
 use Rattle.values.specs.Datum.{Datum}
 use Rattle.values.specs.declared.key.Key.{Key}
@@ -29,8 +29,9 @@ pub record AreGrouped (tables : List Table) (v : View) (s : SubGroups) (rows : L
   pub few : length rows < 2 ^ 62
 
 -- What the view makes of these rows, and what it makes of them but those of a sub-group.
-pub record AreParted (v : View) (side : Side) (keys : List ℕ) (t : List Key) (rows all others : List (List Datum)) : Type
-    0 where
+pub record AreParted
+    (v : View) (side : Side) (keys : List ℕ) (t : List Key) (rows all others : List (List Datum)) :
+    Type 0 where
   pub together : AreTogether all (filter_map (kept_row v side) (members keys t rows)) others
   pub few : length all < 2 ^ 62
 

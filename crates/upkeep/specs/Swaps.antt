@@ -1,4 +1,11 @@
--- Changes of side tables that are taken back for a while, and come again.
+-- Changes of side tables that are taken back for a while, and come again. Of a put of b', which replaces b, with what
+-- is retracted in parentheses:
+--
+--     before       a    b
+--     put          a   (b)   b'     the change is there
+--     hidden       a    b   (b')    it is taken back, and the numbers stay
+--     shown        a   (b)   b'     it comes again
+--     forgotten    a    b           of the hidden ones: the rows that it brought are removed
 use Rattle.std.specs.Prelude.{◌≡◌, ℕ, ◌++◌, List, []}
 use Rattle.values.specs.Datum.{Datum}
 use Rattle.view_lang.specs.Config.{Table}

@@ -1,27 +1,5 @@
 -- The rows of the main table that a change touches, and how often rows may be opened.
-use Rattle.std.specs.Prelude.{
-  ◌≡◌,
-  ℕ,
-  zero,
-  suc,
-  ◌≤◌,
-  ◌+◌,
-  ◌*◌,
-  Bool,
-  false,
-  ◌&&◌,
-  List,
-  [],
-  Option,
-  None,
-  Some,
-  true,
-  count_by,
-  get_or,
-  if◌then◌else◌,
-  length,
-  nat_eq,
-}
+use Rattle.std.specs.Prelude.{ℕ, zero, suc, ◌≤◌, ◌+◌, ◌*◌, Bool, false, ◌&&◌, List, Option, None, Some, true, count_by, get_or, if◌then◌else◌, length, nat_eq, not}
 use Rattle.std.specs.List.{list_any}
 use Rattle.values.specs.Datum.{Datum}
 use Rattle.view_lang.specs.Cells.{cell_at}
@@ -33,10 +11,12 @@ use Rattle.view_lang.specs.Views.{view_rows}
 use Rattle.view_lang.specs.World.{table_at}
 use Rattle.view_lang.specs.declared.view.Lookup.{Lookup}
 use Rattle.row_keys.specs.Slots.{Slot, live}
+use Rattle.sub_groups.specs.Moved.{is_moved}
 use Rattle.upkeep.specs.Inputs.{side_by}
 use Rattle.upkeep.specs.LiveParts.{LiveParts, view_at}
 use Rattle.upkeep.specs.Stores.{Rows, rows_at, rows_in, tables_in, visits_in}
 use Rattle.upkeep.specs.Swaps.{named_keys}
+use Rattle.upkeep.specs.ViewStates.{width_in}
 use Rattle.upkeep.specs.declared.table_change.TableChange.{TableChange}
 use Rattle.upkeep.specs.declared.table_change.TableChange.TheVariants.{Appended, Put, Retracted}
 
@@ -45,18 +25,24 @@ abbrev pub refers_by : Option Lookup → ℕ → List Datum → List Datum → B
 refers_by None table keys row = false
 refers_by (Some l) table keys row = nat_eq (suc l.side) table && is_among (cell_at row l.on) keys
 
--- whether it does so for one of the views
-abbrev pub refers : List View → ℕ → List Datum → List Datum → Bool
-refers views table keys row = list_any (λ v. refers_by v.lookup table keys row) views
+-- whether it is opened for a view where rows of these keys change: it refers to one, and the view isn't one that moves
+-- rows together. The main table has n columns.
+abbrev pub opened_for : ℕ → View → ℕ → List Datum → List Datum → Bool
+opened_for n v table keys row = not (is_moved n v) && refers_by v.lookup table keys row
 
--- How many rows of the main table a change touches: those that it names, or those that refer to a row that it names.
+-- whether it is for one of the views
+abbrev pub refers : ℕ → List View → ℕ → List Datum → List Datum → Bool
+refers n views table keys row = list_any (λ v. opened_for n v table keys row) views
+
+-- How many rows of the main table a change touches: those that it names, or those that refer to a row that it names,
+-- for a view that doesn't move rows together.
 abbrev pub touched : List Table → List View → Rows → ℕ → TableChange → ℕ
 touched tables views rows zero (Appended n) = n
 touched tables views rows zero (Retracted ns) = length ns.items
 touched tables views rows zero (Put n replaced) = 0
 touched tables views rows (suc side) change =
-    count_by (refers views (suc side) (named_keys (table_at tables (suc side)) change (rows_at rows (suc side))))
-    (live (rows_at rows 0))
+    count_by (refers (width_in tables) views (suc side)
+    (named_keys (table_at tables (suc side)) change (rows_at rows (suc side)))) (live (rows_at rows 0))
 
 -- Each view may open each row twice.
 abbrev pub OpensTwice : LiveParts → ℕ → LiveParts → Type 0

@@ -40,6 +40,7 @@ use Rattle.group_state.specs.Groups.{Keeps as KeepsGroups}
 use Rattle.group_state.specs.KeptColumns.{IsKept as IsKeptColumn}
 use Rattle.group_state.specs.declared.kept_columns.KeptColumn.{KeptColumn}
 use Rattle.lookups.specs.Keeping.{Keeps as KeepsReferrers}
+use Rattle.sub_groups.specs.Moved.{is_moved}
 use Rattle.sub_groups.specs.SubGroups.{AreSubGroups, sub_row}
 use Rattle.top_rows.specs.Keeping.{Keeps as KeepsOrder}
 use Rattle.row_keys.specs.Numbered.{come, gone, numbered}
@@ -146,10 +147,10 @@ form_of (links.SubGroups s) = Some (s.groups.keys, s.groups.columns)
 abbrev pub width_in : List Table → ℕ
 width_in tables = length (table_at tables 0).columns
 
--- Sub-groups are kept of such views alone as can be kept by them, and of the columns of which the view's groups keep
--- something.
+-- Sub-groups are kept of the views that can be kept by them, and of the columns of which the view's groups keep
+-- something; referrers are kept of the others.
 abbrev pub AreLinks : List Table → View → Kept → Links → Type 0
-AreLinks tables v k (links.Rows r) = Unit {0}
+AreLinks tables v k (links.Rows r) = is_moved (width_in tables) v ≡ false
 AreLinks tables v k (links.SubGroups s) =
     AreSubGroups (width_in tables) v s × (columns_in k ≡ Some s.groups.columns)
 

@@ -9,7 +9,7 @@ ghost use Rattle.row_keys.specs.Slots.{live};
 ghost use Rattle.upkeep.specs.LiveParts.{AreOf};
 ghost use Rattle.upkeep.specs.Stores.{Rows, rows_at, rows_in, tables_in, visits_in};
 ghost use Rattle.upkeep.specs.Swaps.{CanSwap, named_keys, swapped};
-ghost use Rattle.upkeep.specs.Touched.{refers, refers_by};
+ghost use Rattle.upkeep.specs.Touched.{opened_for, refers};
 ghost use Rattle.upkeep.specs.ViewStates.{
   AreCurrent,
   IsBefore,
@@ -19,6 +19,7 @@ ghost use Rattle.upkeep.specs.ViewStates.{
   lookups_stale,
   remade_change,
   stale_in,
+  width_in,
 };
 
 use crate::follow::turn_numbers;
@@ -125,7 +126,7 @@ fn follow_lookup(
     ensures tables { tables_in stores.new.items ≡ tables_in stores.old.items }
     ensures rows { rows_in stores.new.items ≡ rows_in stores.old.items }
     ensures visits { visits_in stores.new.items ≤ visits_in stores.old.items
-        + 2 * count_by (refers_by view.now.lookup table
+        + 2 * count_by (opened_for (width_in (tables_in stores.old.items)) view.now table
         (named_keys (table_at (tables_in stores.old.items) table) change.now
         (rows_at (rows_in stores.old.items) table)))
         (live (rows_at (rows_in stores.old.items) 0)) }
@@ -199,7 +200,7 @@ fn follow_lookups_of(
     ensures tables { tables_in stores.new.items ≡ tables_in stores.old.items }
     ensures rows { rows_in stores.new.items ≡ rows_in stores.old.items }
     ensures visits { visits_in stores.new.items ≤ visits_in stores.old.items + 2 * (length views.now
-        * count_by (refers views.now table
+        * count_by (refers (width_in (tables_in stores.old.items)) views.now table
         (named_keys (table_at (tables_in stores.old.items) table) change.now
         (rows_at (rows_in stores.old.items) table)))
         (live (rows_at (rows_in stores.old.items) 0))) }
@@ -254,7 +255,7 @@ pub(crate) fn follow_lookups(
     ensures tables { tables_in stores.new.items ≡ tables_in stores.old.items }
     ensures rows { rows_in stores.new.items ≡ rows_in stores.old.items }
     ensures visits { visits_in stores.new.items ≤ visits_in stores.old.items + 2 * (length views.now
-        * count_by (refers views.now table
+        * count_by (refers (width_in (tables_in stores.old.items)) views.now table
         (named_keys (table_at (tables_in stores.old.items) table) change.now
         (rows_at (rows_in stores.old.items) table)))
         (live (rows_at (rows_in stores.old.items) 0))) }

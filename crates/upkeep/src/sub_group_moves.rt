@@ -70,7 +70,8 @@ fn side_cells(
     lookup: Lookup,
     side: Option<StoredRow<'_>>,
 ) -> Result<Option<Row>, AllocError>
-    ensures { IfOk result (λ cells. option_map (λ c. c.items) cells ≡ or_missing lookup.missing lookup.columns side.entry) }
+    ensures { IfOk result
+        (λ cells. option_map (λ c. c.items) cells ≡ or_missing lookup.missing lookup.columns side.entry) }
 {
     match (side, lookup.missing) {
         (Some(side), _) => Ok(Some(side.copy(alloc)?)),
@@ -223,9 +224,9 @@ fn turn_sub_groups(
     Ok(())
 }
 
-/// Brings what is kept of a view up to a change of a side table that it looks up: each sub-group of rows that refer to a
-/// key that the change names goes from the group to which it belonged, and comes to the one to which it belongs now. No row
-/// is opened. After an error what is kept has no meaning.
+/// Brings what is kept of a view up to a change of a side table that it looks up: each sub-group of rows that refer to
+/// a key that the change names goes from the group to which it belonged, and comes to the one to which it belongs now.
+/// No row is opened. After an error what is kept has no meaning.
 pub(crate) fn move_sub_groups(
     alloc: Global,
     stores: &mut Vec<RowStore>,

@@ -137,7 +137,8 @@ pub(crate) fn named_cells(
     change: &TableChange,
     turn: Turn,
 ) -> Result<Row, AllocError>
-    requires { CanSwap turn store.now.table change.now store.now.slots }
+    requires side { IsSideTable store.now.table }
+    requires swaps { CanSwap turn store.now.table change.now store.now.slots }
     ensures { IfOk result (λ cells. cells.items ≡ named_keys store.now.table change.now store.now.slots) }
 {
     let numbers = named_numbers(alloc, store, change, turn)?;

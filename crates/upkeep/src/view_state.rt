@@ -1,9 +1,19 @@
 //! States of views: what is kept of each.
 
-ghost use Rattle.std.specs.Prelude.{◌≡◌, [], false, IfOk, List, None, true};
+ghost use Rattle.std.specs.Prelude.{◌≡◌, [], false, IfOk, IfSome, List, None, true};
 ghost use Rattle.view_lang.specs.OutputsSeen.{outputs_of};
 ghost use Rattle.view_lang.specs.Config.{Table};
-ghost use Rattle.upkeep.specs.ViewStates.{AreLinks, IsKept, KeepsLinks, ShowsEach, is_plain, leaves_none, width_in};
+ghost use Rattle.sub_groups.specs.Moved.{KeepRead};
+ghost use Rattle.upkeep.specs.ViewStates.{
+  AreLinks,
+  IsKept,
+  KeepsLinks,
+  ShowsEach,
+  columns_in,
+  is_plain,
+  leaves_none,
+  width_in,
+};
 ghost use Rattle.upkeep.specs.declared.view_state.Kept.TheVariants as kept_is;
 
 use group_order::{RankedGroups, Ranking};
@@ -71,8 +81,8 @@ fn leaves_none(lookup: Option<Lookup>) -> bool
     }
 }
 
-/// Whether a view shows each row of the main table in its place: a plain one that has no order and no filter, and leaves
-/// no row out.
+/// Whether a view shows each row of the main table in its place: a plain one that has no order and no filter, and
+/// leaves no row out.
 fn shows_each(view: &View) -> bool
     ensures { result ≡ true → ShowsEach view.now }
 {
@@ -84,7 +94,8 @@ fn shows_each(view: &View) -> bool
 
 /// What is kept of a view of no rows.
 fn kept_of_none(alloc: Global, view: &View) -> Result<Kept, AllocError>
-    ensures { IfOk result (λ kept. IsKept view.now kept []) }
+    ensures kept { IfOk result (λ kept. IsKept view.now kept []) }
+    ensures read { IfOk result (λ kept. IfSome (columns_in kept) (KeepRead view.now.outputs)) }
 {
     if shows_each(view) {
         return Ok(Kept::Live);
@@ -115,16 +126,19 @@ pub(crate) fn keeps_nothing(view: &View, state: &ViewState) -> bool
 /// What is kept of no rows by the key that they look up, for a view of which this is kept. The main table has `width`
 /// columns.
 fn links_of_none(alloc: Global, view: &View, width: usize, kept: &Kept) -> Result<Links, AllocError>
+    requires kept { IsKept view.now kept.now [] }
+    requires read { IfSome (columns_in kept.now) (KeepRead view.now.outputs) }
     ensures right { IfOk result (λ links. (tables : List Table) → width ≡ width_in tables
         → AreLinks tables view.now kept.now links) }
     ensures kept { IfOk result (λ links. KeepsLinks links []) }
 {
-    if let Kept::Groups(groups) = kept {
-        if let Some(sub_groups) = SubGroups::of(alloc, view, width, groups.columns())? {
-            return Ok(Links::SubGroups(sub_groups));
-        }
+    let Kept::Groups(groups) = kept else {
+        return Ok(Links::Rows(Referrers::new(alloc)));
+    };
+    match SubGroups::of(alloc, view, width, groups.columns())? {
+        Some(sub_groups) => Ok(Links::SubGroups(sub_groups)),
+        None => Ok(Links::Rows(Referrers::new(alloc))),
     }
-    Ok(Links::Rows(Referrers::new(alloc)))
 }
 
 impl ViewState {

@@ -1,6 +1,9 @@
 use Rattle.std.proofs.Common.{All, take}
-use Rattle.group_state.specs.KeptColumns.{IsKept}
+use Rattle.group_state.specs.KeptColumns.{AreReadBy, IsKept}
 use Rattle.group_state.proofs.kept_columns.kept_columns.Given as goal
 
 abbrev pub invariant-loop-output : goal.invariant-loop-output
-invariant-loop-output l = All (λ o. IsKept l.columns.items o.aggregate) (take l.output-index l.outputs)
+invariant-loop-output l = record {
+  kept : All (λ o. IsKept l.columns.items o.aggregate) (take l.output-index l.outputs);
+  read : AreReadBy l.outputs l.columns.items;
+}

@@ -1,4 +1,4 @@
-use Rattle.std.proofs.Common.{◌+◌, ◌<◌, ◌^◌, ◌∙◌, ℕ, List, [], ◌∷◌, arith, get_or, length, sym}
+use Rattle.std.proofs.Common.{◌<◌, ◌^◌, ◌∙◌, ℕ, List, [], ◌∷◌, arith, get_or, length, sym}
 use Rattle.view_lang.specs.Config.{Table}
 use Rattle.view_lang.specs.Shifts.{Fits, NumberedRows, patched}
 use Rattle.upkeep.specs.Inputs.{side_by}

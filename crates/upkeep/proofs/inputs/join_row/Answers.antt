@@ -1,4 +1,4 @@
-use Rattle.std.proofs.Common.{None, Some, ap, false, refl, sym, true, ◌∙◌}
+use Rattle.std.proofs.Common.{ap, false, refl, sym, true, ◌∙◌}
 use Rattle.std.specs.Option.{option_map}
 use Rattle.view_lang.specs.Config.{View}
 use Rattle.view_lang.specs.Joined.{joined_by}

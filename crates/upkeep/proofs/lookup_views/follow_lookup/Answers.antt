@@ -1,35 +1,13 @@
-use Rattle.std.proofs.Common.{
-  ◌≡◌,
-  ℕ,
-  ◌<◌,
-  ◌≤◌,
-  ◌||◌,
-  List,
-  ap,
-  arith,
-  count_by,
-  false,
-  length,
-  not,
-  refl,
-  subst,
-  sym,
-  true,
-  ◌∙◌,
-}
+use Rattle.std.proofs.Common.{◌≡◌, ℕ, ◌<◌, ◌≤◌, ◌||◌, List, ap, arith, false, length, not, refl, subst, sym, true, ◌∙◌}
 use Rattle.std.specs.List.{list_any}
 use Rattle.std.specs.List.Sorted.{IsStrictlySortedBy}
 use Rattle.std.specs.Ordering.{nat_cmp}
 use Rattle.view_lang.specs.Images.{image}
-use Rattle.view_lang.specs.TableRules.{IsTable}
-use Rattle.view_lang.specs.World.{table_at}
 use Rattle.row_keys.specs.Numbered.{numbered}
 use Rattle.row_keys.specs.Slots.{Slot, live}
 use Rattle.lookups.specs.Refers.{is_among, refers}
 use Rattle.row_keys.specs.Store.{Store}
-use Rattle.upkeep.specs.Swaps.{named_keys}
-use Rattle.upkeep.specs.Touched.{refers_by}
-use Rattle.upkeep.specs.Stores.{rows_at, rows_in, tables_in, visits_in}
+use Rattle.upkeep.specs.Stores.{rows_at, rows_in, tables_in}
 use Rattle.upkeep.specs.StoreLaws.{rows_length, rows_there}
 use Rattle.upkeep.specs.ViewStates.{AreLinks, KeepsLinks, link_row, looks_up}
 use Rattle.upkeep.specs.declared.view_state.Links.{Links}

@@ -10,8 +10,8 @@ use Rattle.row_keys.specs.Slots.{live}
 use Rattle.upkeep.specs.Stores.{Rows, rows_at, rows_in, tables_in, visits_in}
 use Rattle.upkeep.specs.StoreLaws.{set_same}
 use Rattle.upkeep.specs.Swaps.{CanSwap}
-use Rattle.upkeep.specs.Touched.{refers, refers_by}
-use Rattle.upkeep.specs.ViewStates.{AreCurrent, IsBefore, IsCurrentWith, lookups_stale, stale_in}
+use Rattle.upkeep.specs.Touched.{opened_for, refers}
+use Rattle.upkeep.specs.ViewStates.{AreCurrent, IsBefore, IsCurrentWith, stale_in, width_in}
 use Rattle.upkeep.specs.declared.view_state.ViewState.{ViewState}
 use Rattle.upkeep.proofs.Editing.{view_there}
 use Rattle.upkeep.proofs.FollowedViews.{current_alike}
@@ -129,18 +129,18 @@ loop-place-preserved c = record {
   visits =
       opened_more (visits_in c.args.stores.now.items) (visits_in c.loop-place.stores.items)
       (visits_in c.follow_lookup.new.stores.items) c.loop-place.place
-      (referring_at (refers_by c.index-views-place.result.lookup c.args.table) c.args.table c.args.change.now
+      (referring_at (opened_for (width_in (tables_in c.args.stores.now.items)) c.index-views-place.result c.args.table) c.args.table c.args.change.now
       (tables_in c.args.stores.now.items) (rows_in c.args.stores.now.items))
-      (referring_at (refers c.args.views.now c.args.table) c.args.table c.args.change.now
+      (referring_at (refers (width_in (tables_in c.args.stores.now.items)) c.args.views.now c.args.table) c.args.table c.args.change.now
       (tables_in c.args.stores.now.items) (rows_in c.args.stores.now.items))
       c.loop-place.invariant.visits
       (moved (λ (ts : List Table) (rs : Rows). visits_in c.follow_lookup.new.stores.items
       ≤ visits_in c.loop-place.stores.items
-      + 2 * referring_at (refers_by c.index-views-place.result.lookup c.args.table) c.args.table c.args.change.now ts
+      + 2 * referring_at (opened_for (width_in ts) c.index-views-place.result c.args.table) c.args.table c.args.change.now ts
       rs)
       c.loop-place.stores.items c.args.stores.now.items (sym c.loop-place.invariant.tables)
       (sym c.loop-place.invariant.rows) c.follow_lookup.ensures.visits)
-      (view_counted c.args.views.now c.loop-place.place c.index-views-place.result c.args.table
+      (view_counted (width_in (tables_in c.args.stores.now.items)) c.args.views.now c.loop-place.place c.index-views-place.result c.args.table
       (named_at c.args.table c.args.change.now (tables_in c.args.stores.now.items) (rows_in c.args.stores.now.items))
       (live (rows_at (rows_in c.args.stores.now.items) 0)) c.index-views-place.is c.loop-place-test.true);
 }
@@ -179,19 +179,19 @@ returns-in-Err-clause-many c =
 
 pub returns-in-Err-clause-visits : goal.returns-in-Err-clause-visits
 returns-in-Err-clause-visits c =
-    let all = referring_at (refers c.args.views.now c.args.table) c.args.table c.args.change.now
+    let all = referring_at (refers (width_in (tables_in c.args.stores.now.items)) c.args.views.now c.args.table) c.args.table c.args.change.now
     (tables_in c.args.stores.now.items) (rows_in c.args.stores.now.items) in
     let more = opened_more (visits_in c.args.stores.now.items) (visits_in c.loop-place.stores.items)
     (visits_in c.follow_lookup.new.stores.items) c.loop-place.place
-    (referring_at (refers_by c.index-views-place.result.lookup c.args.table) c.args.table c.args.change.now
+    (referring_at (opened_for (width_in (tables_in c.args.stores.now.items)) c.index-views-place.result c.args.table) c.args.table c.args.change.now
     (tables_in c.args.stores.now.items) (rows_in c.args.stores.now.items))
     all c.loop-place.invariant.visits
     (moved (λ (ts : List Table) (rs : Rows). visits_in c.follow_lookup.new.stores.items
     ≤ visits_in c.loop-place.stores.items
-    + 2 * referring_at (refers_by c.index-views-place.result.lookup c.args.table) c.args.table c.args.change.now ts rs)
+    + 2 * referring_at (opened_for (width_in ts) c.index-views-place.result c.args.table) c.args.table c.args.change.now ts rs)
     c.loop-place.stores.items c.args.stores.now.items (sym c.loop-place.invariant.tables)
     (sym c.loop-place.invariant.rows) c.follow_lookup.ensures.visits)
-    (view_counted c.args.views.now c.loop-place.place c.index-views-place.result c.args.table
+    (view_counted (width_in (tables_in c.args.stores.now.items)) c.args.views.now c.loop-place.place c.index-views-place.result c.args.table
     (named_at c.args.table c.args.change.now (tables_in c.args.stores.now.items) (rows_in c.args.stores.now.items))
     (live (rows_at (rows_in c.args.stores.now.items) 0)) c.index-views-place.is c.loop-place-test.true) in
     let below = c.loop-place-test.true in

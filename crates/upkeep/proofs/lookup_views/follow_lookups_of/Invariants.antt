@@ -1,7 +1,7 @@
 use Rattle.std.proofs.Common.{◌≡◌, ◌≤◌, ◌+◌, ◌*◌, length}
 use Rattle.upkeep.specs.Stores.{Rows, rows_in, tables_in, visits_in}
 use Rattle.upkeep.specs.Touched.{refers}
-use Rattle.upkeep.specs.ViewStates.{AreCurrent, IsBefore, stale_in}
+use Rattle.upkeep.specs.ViewStates.{AreCurrent, IsBefore, stale_in, width_in}
 use Rattle.upkeep.proofs.LookedUpViews.{AreFollowing, referring_at}
 use Rattle.upkeep.proofs.lookup_views.follow_lookups_of.Given as goal
 
@@ -18,6 +18,6 @@ invariant-loop-place l = record {
   visits :
       visits_in l.stores.items
       ≤ visits_in l.fn.stores.items
-      + 2 * (l.place * referring_at (refers l.views l.table) l.table l.change (tables_in l.fn.stores.items)
+      + 2 * (l.place * referring_at (refers (width_in (tables_in l.fn.stores.items)) l.views l.table) l.table l.change (tables_in l.fn.stores.items)
       (rows_in l.fn.stores.items));
 }

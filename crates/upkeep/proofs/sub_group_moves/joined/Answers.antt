@@ -1,6 +1,5 @@
-use Rattle.std.proofs.Common.{◌≡◌, ◌∙◌, Option, Some, ap, map}
+use Rattle.std.proofs.Common.{◌∙◌, Some, ap}
 use Rattle.std.specs.Option.{option_map}
-use Rattle.values.specs.Datum.{Datum}
 use Rattle.view_lang.specs.Joined.{Side}
 use Rattle.view_lang.specs.Views.{side_in}
 use Rattle.upkeep.specs.Stores.{rows_in, tables_in, world_of}

@@ -1,10 +1,8 @@
-use Rattle.std.proofs.Common.{◌≡◌, ◌∙◌, List, None, Some, ap, sym}
+use Rattle.std.proofs.Common.{◌≡◌, ◌∙◌, None, Some, ap, sym}
 use Rattle.std.specs.BTreeMap.{is_at}
 use Rattle.std.specs.Map.{lookup}
 use Rattle.std.specs.Option.{option_map}
-use Rattle.values.specs.declared.key.Key.{Key}
 use Rattle.view_lang.specs.Joined.{Side}
-use Rattle.group_state.specs.GroupCounts.{GroupCounts}
 use Rattle.group_state.specs.Keys.{tuple_cmp}
 use Rattle.group_state.specs.Tuples.{tuple_of}
 use Rattle.sub_groups.specs.Places.{stand_row}
