@@ -61,8 +61,8 @@ StreamsSource held old new (Err source.Unreadable) =
     (written : ℕ) × OfSource held (λ input. PutsBeginning old new written (story_of input))
 StreamsSource held old new (Err (source.Refused f)) = OfSource held (λ input. Streams old new (Err f) (story_of input))
 
--- A new file took what was written while a source was read that holds `held`, up to a fault of this cause. It was thrown
--- away.
+-- A new file took what was written while a source was read that holds `held`, up to a fault of this cause. It was
+-- thrown away.
 pub record Discards (held : Option (List ℕ)) (old : Sunk) (c : Cause) : Type 0 where
   pub thrown : Sunk
   pub written : ℕ

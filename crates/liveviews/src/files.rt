@@ -92,15 +92,15 @@ pub trait Files: Sink {
     fn close(&mut self)
         ensures { Self.sunk self.new ≡ Self.sunk self.old };
 
-    /// Begins a new file, which is to take the place of the one at `path` when it is whole. The one at `path` stays as it
-    /// is until then. `None`, with nothing done, where no new file can take its place, as that of a pipe.
+    /// Begins a new file, which is to take the place of the one at `path` when it is whole. The one at `path` stays as
+    /// it is until then. `None`, with nothing done, where no new file can take its place, as that of a pipe.
     fn begin_new(&mut self, path: &str) -> Result<Option<Self::New>, FileFault>
         ensures sunk { Self.sunk self.new ≡ Self.sunk self.old }
         ensures content { content self.new ≡ content self.old }
         ensures begins { IfOk result (λ found. IfSome found (λ file. Self.New.sunk file ≡ Self.sunk self.old)) };
 
-    /// Gives a new file the place of the one at `path`, so that all that it took is put at once. Where that fails the new
-    /// file is thrown away, and one failure is counted.
+    /// Gives a new file the place of the one at `path`, so that all that it took is put at once. Where that fails the
+    /// new file is thrown away, and one failure is counted.
     fn place(&mut self, file: Self::New, path: &str) -> Result<(), DeviceFault>
         ensures placed { OnOk result (Self.sunk self.new ≡ Self.New.sunk file) }
         ensures failed { IfErr result (λ fault. Puts (Self.sunk self.old) (Self.sunk self.new) (Err fault) []) }

@@ -1,5 +1,6 @@
-//! The commands of the program `lv`, over arguments, files and an output that its caller gives: `recast` and `inspect`
-//! of a stream, `check` of a configuration, and over a session `run` of a script and `live` of lines as they come.
+//! The commands of the program `lv`, over arguments, files and an output that its caller gives: `recast`, `inspect` and
+//! `show` of a stream, `check` of a configuration, and over a session `run` of a script and `live` of lines as they come.
+//! A stream can be recast whole, from a source that is read piece by piece, or in one pass, also to a new file.
 #![tactic(auto)]
 
 mod batch;
@@ -25,6 +26,7 @@ mod types;
 pub use files::{FileFault, Files};
 pub use inspecting::{Inspected, inspect, inspect_from};
 pub use laws::{account_law, recast_law};
-pub use program::lv;
+pub use program::{Refusal, lv};
 pub use recasting::{RecastFault, SourceFault, recast, recast_from};
+pub use replacing::recast_to_new;
 pub use streaming::recast_through;

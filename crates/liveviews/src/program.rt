@@ -114,13 +114,17 @@ impl fmt::Display for Outcome {
 
 /// Why a command failed. Its text is the line that `lv` prints.
 #[derive(Debug, Drop, Error)]
-pub(crate) enum Refusal<'a> {
+pub enum Refusal<'a> {
+    /// The arguments are no command.
     #[error("wrong use")]
     WrongUse,
+    /// The file at this path can't be opened or read.
     #[error("cannot read {0}")]
     CannotRead(&'a str),
+    /// The file at this path can't be made.
     #[error("cannot write {0}")]
     CannotWrite(&'a str),
+    /// It was refused for this cause.
     #[error("refused {number} {name}", number = .0.number(), name = .0.name())]
     Refused(Cause),
 }
@@ -137,7 +141,7 @@ impl<'a> Refusal<'a> {
     }
 
     /// The refusal where the file at `path` could not be made.
-    pub fn unmade(fault: FileFault, path: &'a str) -> Refusal<'a>
+    pub(crate) fn unmade(fault: FileFault, path: &'a str) -> Refusal<'a>
         ensures { result ≡ refusal_for (CannotWrite path.entry) fault }
     {
         match fault {
@@ -147,7 +151,7 @@ impl<'a> Refusal<'a> {
     }
 
     /// The refusal of a stream that was not recast while the file at `path` was read.
-    pub fn unstreamed(fault: SourceFault, path: &'a str) -> Refusal<'a>
+    pub(crate) fn unstreamed(fault: SourceFault, path: &'a str) -> Refusal<'a>
         ensures { result ≡ refusal_after (CannotRead path.entry) fault }
     {
         match fault {
@@ -514,8 +518,8 @@ fn show_file<'a, F: Files, W: Write>(
     }
 }
 
-/// Shows a stream, and returns the program's exit status. Beside CSV what isn't a row is printed aside, so that it isn't
-/// taken for one.
+/// Shows a stream, and returns the program's exit status. Beside CSV what isn't a row is printed aside, so that it
+/// isn't taken for one.
 fn run_show<F: Files, W: Write>(alloc: Global, show: &Show, files: &mut F, out: &mut W) -> u8
     ensures sunk { F.sunk files.new ≡ F.sunk files.old }
     ensures valid { result ≡ 0 → ShowsFile (F.content files.old) }

@@ -15,8 +15,8 @@ use std::alloc::Global;
 use stream_writer::DeviceFault;
 use values::Cause;
 
-/// Recasts the file at `from` to the file at `to`: to a new file that takes its place, where one can, and else to the file
-/// itself.
+/// Recasts the file at `from` to the file at `to`: to a new file that takes its place, where one can, and else to the
+/// file itself.
 pub(crate) fn recast_file<'a, F: Files>(
     alloc: Global,
     from: &'a str,
@@ -34,9 +34,11 @@ pub(crate) fn recast_file<'a, F: Files>(
     }
 }
 
-/// Recasts an input, which is the file at `from`, to a new file while it is read. The new file takes the place of the one
-/// at `to` when all was accepted and put, and is thrown away otherwise.
-fn recast_to_new<'a, F: Files>(
+/// Recasts an input, which is the file at `from`, to a new file while it is read, as
+/// [`recast_through`](crate::recast_through) does. The new file, which [`Files::begin_new`] began for `to`, takes the
+/// place of the one there when all was accepted and put, and is thrown away otherwise: then each file holds what it
+/// held.
+pub fn recast_to_new<'a, F: Files>(
     alloc: Global,
     input: &mut F::Input,
     from: &'a str,

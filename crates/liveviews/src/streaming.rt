@@ -289,11 +289,12 @@ fn finish<S: Sink>(
     Ok(written)
 }
 
-/// Recasts the whole stream that a source holds, as [`recast_from`](crate::recast_from) does, but puts it while it reads
-/// it: however long the stream is, it holds fewer than 1,024 rows, in the batches in which they came, and the dictionaries.
+/// Recasts the whole stream that a source holds, as [`recast_from`](crate::recast_from) does, but puts it while it
+/// reads it: however long the stream is, it holds fewer than 1,024 rows, in the batches in which they came, and the
+/// dictionaries.
 ///
-/// Where the stream is refused, the sink took a beginning of a canonical stream, which is to be thrown away, and the rest
-/// of the source may be left unread.
+/// Where the stream is refused, the sink took a beginning of a canonical stream, which is to be thrown away, and the
+/// rest of the source may be left unread.
 pub fn recast_through<R: Read, S: Sink>(
     alloc: Global,
     source: &mut R,
