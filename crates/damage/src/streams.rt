@@ -1,4 +1,4 @@
-//! The streams. Written by `tools/damage_streams.py`, which makes them.
+//! The streams. Written by `tools/models/damage_streams.py`, which makes them.
 
 use crate::stream::HexStream;
 

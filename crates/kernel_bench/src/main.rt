@@ -1,5 +1,5 @@
 //! Joins two bitmaps of 65,536 bits over and over: by the kernel, or with the word `plain` bit by bit.
-//! `tools/bench-kernels.py` times it.
+//! `tools/bench/bench-kernels.py` times it.
 #![tactic(auto)]
 
 ghost use Rattle.std.specs.Prelude.{◌≡◌, length};

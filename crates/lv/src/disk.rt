@@ -15,8 +15,8 @@ use std::rt::Clock;
 use std::{fs, io};
 use stream_writer::{DeviceFault, Sink};
 
-/// The files of the machine. `put` writes the file that was named last; the first put makes or empties it. A new file lies
-/// beside the one whose place it may take.
+/// The files of the machine. `put` writes the file that was named last; the first put makes or empties it. A new file
+/// lies beside the one whose place it may take.
 #[derive(Drop)]
 pub struct Disk<'a, R: std::rt::Files> {
     runtime: &'a R,

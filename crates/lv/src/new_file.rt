@@ -134,8 +134,8 @@ fn keep_owner<R: std::rt::Files>(
     file.set_permissions(old.permissions())
 }
 
-/// Begins a new file, which is to take the place of the one at `path`. `None`, or an error, where that can't be: nothing
-/// is left of it then.
+/// Begins a new file, which is to take the place of the one at `path`. `None`, or an error, where that can't be:
+/// nothing is left of it then.
 pub fn begin<R: std::rt::Files + AllocGlobal>(
     runtime: &R,
     path: &str,

@@ -96,8 +96,9 @@ pub record RecastCall (input old : List ℕ) (result : LvWritten) (new : List �
   pub told : result ≡ recast_told answer
   pub buffer : CopiesIf answer kept old new
 
--- Of a configuration that is accepted no place is told, and the buffer is as it was. Otherwise the buffer has the text of
--- some place, as much of it as fits, and the answer is the length of that text, or nothing is told for want of memory.
+-- Of a configuration that is accepted no place is told, and the buffer is as it was. Otherwise the buffer has the text
+-- of some place, as much of it as fits, and the answer is the length of that text, or nothing is told for want of
+-- memory.
 pub record TellsPlace (old : List ℕ) (result : ℕ) (new : List ℕ) : Type 0 where
   pub text : List ℕ
   pub len : result ≡ length text

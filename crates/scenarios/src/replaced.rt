@@ -15,7 +15,8 @@ fn shelf<'a>(alloc: Global, input: &'a [u8]) -> Result<Shelf<'a>, Fail> {
     Ok(shelf)
 }
 
-/// Recasts the input of a shelf, or a file of it whose reads fail, to `out`: its line, its status, and `out` afterwards.
+/// Recasts the input of a shelf, or a file of it whose reads fail, to `out`: its line, its status, and `out`
+/// afterwards.
 fn recast(
     rt: &(impl Abort + AllocGlobal),
     shelf: &mut Shelf,
