@@ -89,8 +89,8 @@ fn kept(alloc: Global, entries: &[Entry], is_below: bool) -> Result<Vec<Entry>, 
     Ok(kept)
 }
 
-/// A filter and its negation keep 31 of 70 rows each, and no row without an amount; no other rows are opened for them, and
-/// none for the view of all rows.
+/// A filter and its negation keep 31 of 70 rows each, and no row without an amount; no other rows are opened for them,
+/// and none for the view of all rows.
 fn amounts(rt: &impl Abort, alloc: Global) -> Result<(), Fail> {
     let entries = seventy(alloc)?;
     let mut session = open_with(rt, alloc, &entries)?;

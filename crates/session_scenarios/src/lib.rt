@@ -1,9 +1,9 @@
 //! Tests of sessions over a configuration that is read from its text.
 //!
 //! `ledger` opens a session, and changes it row by row with the streams of `streams`; `batches` writes batches of many
-//! rows. The tests are `parts` (sessions that are taken apart and made again), `visits` (how often edits and writes open
-//! rows), `filters` (which rows of a batch views keep) and `sinks` (writes to sinks that fail). Nothing here is for other
-//! crates.
+//! rows. The tests are `parts` (sessions that are taken apart and made again), `visits` (how often edits and writes
+//! open rows), `moves` (groups that move together where rows of a side table change), `filters` (which rows of a batch
+//! views keep) and `sinks` (writes to sinks that fail). Nothing here is for other crates.
 #![tactic(auto)]
 
 #[cfg(test)]
@@ -12,6 +12,8 @@ mod batches;
 mod filters;
 #[cfg(test)]
 mod ledger;
+#[cfg(test)]
+mod moves;
 #[cfg(test)]
 mod parts;
 #[cfg(test)]

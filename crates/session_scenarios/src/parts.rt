@@ -132,8 +132,8 @@ fn read_cells(alloc: Global, store: &mut RowStore) -> Result<Vec<Key>, AllocErro
     Ok(keys)
 }
 
-/// A view of all rows, of which nothing is kept, opens each once. A store made again of its parts has the same rows, also
-/// those whose dictionary another took the place of.
+/// A view of all rows, of which nothing is kept, opens each once. A store made again of its parts has the same rows,
+/// also those whose dictionary another took the place of.
 #[test]
 fn store_of_columns(rt: HostRuntime) -> Result<(), Fail> {
     let config = read_config(rt.alloc(), TEXTS);
@@ -204,6 +204,61 @@ fn rows_that_went(rt: HostRuntime) -> Result<(), Fail> {
         retract(&rt, &mut again, 9);
     }
     assert!(rt; count_batches(again)? <= 3 + 32);
+    Ok(())
+}
+
+/// Rows that came one by one lie in few batches.
+#[test]
+fn rows_that_came_one_by_one(rt: HostRuntime) -> Result<(), Fail> {
+    let mut session = open(&rt, rt.alloc())?;
+    for id in 1..1001u16 {
+        add(&rt, &mut session, id, b'p', 5);
+    }
+    let mut again = make_again(&rt, rt.alloc(), session)?;
+    assert_eq!(rt; again.live_rows(), 1000);
+    let before = show(&rt, rt.alloc(), &mut again)?;
+    for _ in 0..64 {
+        undo(&rt, &mut again);
+    }
+    for id in 937..1001u16 {
+        add(&rt, &mut again, id, b'p', 5);
+    }
+    let after = show(&rt, rt.alloc(), &mut again)?;
+    assert_eq!(rt; after.sink.bytes(), before.sink.bytes());
+    assert!(rt; count_batches(again)? <= 3 + 15 + 15);
+    Ok(())
+}
+
+/// Most rows of the batches go, and what is left is written anew. The views show the same, and the rows that an undo
+/// brings back are there.
+#[test]
+fn few_rows_that_stayed(rt: HostRuntime) -> Result<(), Fail> {
+    let mut session = open(&rt, rt.alloc())?;
+    for id in 1..250u16 {
+        add(&rt, &mut session, id, b'p', 5);
+    }
+    let mut few = open(&rt, rt.alloc())?;
+    for id in 1..250u8 {
+        if id % 8 == 0 {
+            add(&rt, &mut few, id.into(), b'p', 5);
+        } else {
+            retract(&rt, &mut session, id);
+        }
+    }
+    let before = show(&rt, rt.alloc(), &mut session)?;
+    let wanted = show(&rt, rt.alloc(), &mut few)?;
+    assert_eq!(rt; before.sink.bytes(), wanted.sink.bytes());
+    for _ in 0..64 {
+        undo(&rt, &mut session);
+    }
+    assert!(rt; session.undo().is_err());
+    assert_eq!(rt; session.live_rows(), 31 + 64);
+    for _ in 0..64 {
+        add(&rt, &mut session, 255, b'p', 1);
+        retract(&rt, &mut session, 255);
+    }
+    assert_eq!(rt; session.live_rows(), 31 + 64);
+    assert!(rt; count_batches(session)? <= 64);
     Ok(())
 }
 

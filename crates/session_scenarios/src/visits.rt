@@ -61,8 +61,8 @@ fn add_thousand(rt: &impl Abort, session: &mut Session) {
     }
 }
 
-/// A change of a side table and its undo open the rows that refer to its key, and no others. The view `named` shows a side
-/// column, so its rows are opened; those of `zone` move as groups.
+/// A change of a side table and its undo open the rows that refer to its key, and no others. The view `named` shows a
+/// side column, so its rows are opened; those of `zone` move as groups.
 #[test]
 fn r9_rows(rt: HostRuntime) -> Result<(), Fail> {
     let mut session = open(&rt, rt.alloc())?;
