@@ -28,69 +28,72 @@ try: need-rt
 # Proves and builds the library for C, include/lv.h, as out/lib/liblv.a and out/lib/liblv.so.
 lib: need-rt
 	@cd crates/lv_c && rt lib
-	@tools/make-library.sh crates/lv_c/out/liblv_c.a $(LIBRARY)
+	@tools/makers/make-library.sh crates/lv_c/out/liblv_c.a $(LIBRARY)
 
 # The merge gate: every proof from nothing, contracts, layout, tests, the program over its runs, and then must-fail edits:
-# of crates whose edits were all refused as they stand (tools/edits-tried.txt) a fifth, and none begun 130 minutes after
-# its beginning or later. `tools/gate.py --all` tries all edits, however long it takes.
+# of crates whose edits were all refused as they stand (tools/gate/edits-tried.txt) a fifth, and none begun 130 minutes
+# after its beginning or later. `tools/gate/gate.py --all` tries all edits, however long it takes.
 test: need-rt need-python
-	@tools/gate.py
+	@tools/gate/gate.py
 
 # Tries, over kept proofs, the must-fail edits of the crates that changed since all of theirs were refused, and records in
-# tools/edits-tried.txt the crates of which all were, each as soon as it is done.
+# tools/gate/edits-tried.txt the crates of which all were, each as soon as it is done.
 edits: need-rt need-python
 	@rt all check
-	@tools/edits.py --rest --record
+	@tools/gate/edits.py --rest --record
 
 # The toolchain's own gate, which proves each crate three times and tries each edit by itself; before a release. Where it
-# passes, tools/edits-tried.txt has all crates.
+# passes, tools/gate/edits-tried.txt has all crates.
 ci: need-rt need-python
-	@tools/ci.py
+	@tools/gate/ci.py
 
 # Streams at the limits of the format's profile, and just past them, and 64 undos of large batches.
 limits: lv need-python
-	@tools/limits.py
+	@tools/runs/check-profile.py
 
 # Time and memory of recasting 25 to 400 MB, beside `cat` of the same file; of edits; of a view with a coded column; of
 # views with filters; of round trips with `lv live`; and of joining bitmaps, by lanes and bit by bit.
 bench: lv need-python
-	@tools/bench.py
-	@tools/bench-edits.py
-	@tools/bench-coded.py
-	@tools/bench-filters.py
-	@tools/bench-live.py
-	@tools/bench-churn.py
-	@tools/bench-sides.py
+	@tools/bench/bench.py
+	@tools/bench/bench-edits.py
+	@tools/bench/bench-coded.py
+	@tools/bench/bench-filters.py
+	@tools/bench/bench-live.py
+	@tools/bench/bench-churn.py
+	@tools/bench/bench-sides.py
 	@cd crates/kernel_bench && rt run > /dev/null
-	@tools/bench-kernels.py
+	@tools/bench/bench-kernels.py
 
 # The program, its manual page and its completions, below PREFIX of DESTDIR, and of the library for C what was made.
 ROOT = $(DESTDIR)$(PREFIX)
 SHARE = $(ROOT)/share
+VERSION := $(shell cat VERSION)
+SHARED := liblv.so.$(firstword $(subst ., ,$(VERSION)))
 PARTS = $(ROOT)/bin/lv $(SHARE)/man/man1/lv.1 $(SHARE)/bash-completion/completions/lv \
     $(SHARE)/zsh/site-functions/_lv $(SHARE)/fish/vendor_completions.d/lv.fish \
-    $(ROOT)/lib/liblv.a $(ROOT)/lib/liblv.so $(ROOT)/lib/pkgconfig/lv.pc $(ROOT)/include/lv.h
+    $(addprefix $(ROOT)/lib/,liblv.a liblv.so $(SHARED) pkgconfig/lv.pc) $(ROOT)/include/lv.h
 
 install: lv install-files
 
 install-files:
 	install -D -m 755 $(LV) $(ROOT)/bin/lv
 	install -D -m 644 docs/lv.1 $(SHARE)/man/man1/lv.1
-	install -D -m 644 tools/completion/lv.bash $(SHARE)/bash-completion/completions/lv
-	install -D -m 644 tools/completion/lv.zsh $(SHARE)/zsh/site-functions/_lv
-	install -D -m 644 tools/completion/lv.fish $(SHARE)/fish/vendor_completions.d/lv.fish
-ifneq ($(wildcard $(LIBRARY)/liblv.so),)
+	install -D -m 644 tools/makers/completion/lv.bash $(SHARE)/bash-completion/completions/lv
+	install -D -m 644 tools/makers/completion/lv.zsh $(SHARE)/zsh/site-functions/_lv
+	install -D -m 644 tools/makers/completion/lv.fish $(SHARE)/fish/vendor_completions.d/lv.fish
+ifneq ($(wildcard $(LIBRARY)/$(SHARED)),)
 	install -D -m 644 $(LIBRARY)/liblv.a $(ROOT)/lib/liblv.a
-	install -D -m 755 $(LIBRARY)/liblv.so $(ROOT)/lib/liblv.so
+	install -D -m 755 $(LIBRARY)/$(SHARED) $(ROOT)/lib/$(SHARED)
+	ln -sf $(SHARED) $(ROOT)/lib/liblv.so
 	install -D -m 644 include/lv.h $(ROOT)/include/lv.h
 	mkdir -p $(ROOT)/lib/pkgconfig
-	sed 's|@PREFIX@|$(PREFIX)|; s|@VERSION@|$(shell cat VERSION)|' lv.pc.in > $(ROOT)/lib/pkgconfig/lv.pc
+	sed 's|@PREFIX@|$(PREFIX)|; s|@VERSION@|$(VERSION)|' lv.pc.in > $(ROOT)/lib/pkgconfig/lv.pc
 endif
 
 # A tarball that is installed without the toolchain, a Debian package, and their checksums, of the program and the library
 # as they were proved and built.
 dist: lv lib need-python
-	@tools/dist.py
+	@tools/makers/dist.py
 
 # Takes away what `make install` puts there, with the same PREFIX and DESTDIR.
 uninstall:
