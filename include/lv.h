@@ -43,7 +43,7 @@ extern "C" {
  * doesn't fit its table, 51 to 56 a call that can't be done, 61 to 70 a fault of a configuration. docs/FORMAT.md and
  * docs/VIEWS.md have the rules. */
 enum lv_cause {
-/* causes: written by tools/cause_tables.py */
+/* causes: written by tools/makers/cause_tables.py */
     /* the first four bytes of a message aren't FF FF FF FF */
     LV_CAUSE_NO_CONTINUATION = 1,
     /* the metadata size is negative or above 2^24 */

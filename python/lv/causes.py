@@ -1,4 +1,4 @@
-"""The causes of a refusal by number: their names, and what they say. Written by tools/cause_tables.py."""
+"""The causes of a refusal by number: their names, and what they say. Written by tools/makers/cause_tables.py."""
 
 CAUSES: dict[int, tuple[str, str]] = {
     1: (
