@@ -161,22 +161,32 @@ fn store_of_columns(rt: HostRuntime) -> Result<(), Fail> {
     Ok(())
 }
 
-/// How many batches the store of the main table keeps.
-fn count_batches(session: Session) -> Result<usize, AllocError> {
+/// What the store of the main table keeps: batches, and the rows in them, gone ones too.
+#[derive(Drop)]
+struct Kept {
+    batches: usize,
+    rows: usize,
+}
+
+fn count_kept(session: Session) -> Result<Kept, AllocError> {
     let SessionParts { tables, .. } = session.into_parts()?;
     let LiveTablesParts { stores, .. } = tables;
-    let mut batches = 0usize;
+    let mut kept = Kept {
+        batches: 0,
+        rows: 0,
+    };
     for (place, store) in stores.into_iter().enumerate() {
         let parts = store.into_parts()?;
         if place == 0 {
-            batches = parts
-                .chunks
-                .iter()
-                .filter(|chunk| !chunk.batch.columns.is_empty())
-                .count();
+            for chunk in &parts.chunks {
+                if !chunk.batch.columns.is_empty() {
+                    kept.batches = kept.batches.saturating_add(1);
+                    kept.rows = kept.rows.saturating_add(chunk.batch.rows);
+                }
+            }
         }
     }
-    Ok(batches)
+    Ok(kept)
 }
 
 /// Rows go that no undo brings back, and their batches with them: of a hundred that came and were retracted those are
@@ -203,7 +213,8 @@ fn rows_that_went(rt: HostRuntime) -> Result<(), Fail> {
         add(&rt, &mut again, 9, b'p', 1);
         retract(&rt, &mut again, 9);
     }
-    assert!(rt; count_batches(again)? <= 3 + 32);
+    let kept = count_kept(again)?;
+    assert!(rt; kept.batches <= 3 + 32 && kept.rows <= 2 * (3 + 32));
     Ok(())
 }
 
@@ -225,7 +236,7 @@ fn rows_that_came_one_by_one(rt: HostRuntime) -> Result<(), Fail> {
     }
     let after = show(&rt, rt.alloc(), &mut again)?;
     assert_eq!(rt; after.sink.bytes(), before.sink.bytes());
-    assert!(rt; count_batches(again)? <= 3 + 15 + 15);
+    assert!(rt; count_kept(again)?.batches <= 3 + 15 + 15);
     Ok(())
 }
 
@@ -258,7 +269,7 @@ fn few_rows_that_stayed(rt: HostRuntime) -> Result<(), Fail> {
         retract(&rt, &mut session, 255);
     }
     assert_eq!(rt; session.live_rows(), 31 + 64);
-    assert!(rt; count_batches(session)? <= 64);
+    assert!(rt; count_kept(session)?.batches <= 64);
     Ok(())
 }
 
