@@ -52,7 +52,8 @@ limits: lv need-python
 	@tools/runs/check-profile.py
 
 # Time and memory of recasting 25 to 400 MB, beside `cat` of the same file; of edits; of a view with a coded column; of
-# views with filters; of round trips with `lv live`; and of joining bitmaps, by lanes and bit by bit.
+# views with filters; of round trips with `lv live`; of a session of a million edits; of edits of a side table; and of
+# joining bitmaps, by lanes and bit by bit.
 bench: lv need-python
 	@tools/bench/bench.py
 	@tools/bench/bench-edits.py

@@ -8,6 +8,7 @@ With the name of a program, that is run in place of the built lv.
 import os
 import re
 import resource
+import struct
 import subprocess
 import sys
 import tempfile
@@ -16,7 +17,7 @@ ROOT = os.path.abspath(f"{__file__}/../../..")
 sys.path[1:1] = [f"{ROOT}/examples", f"{ROOT}/tools/models"]
 sys.dont_write_bytecode = True
 from live import Live
-from streams import END_MARK, INT64_SCHEMA, int64_batch
+from streams import END_MARK, INT64_SCHEMA, batch, field, int64_batch, schema
 
 REPORT = os.path.join(ROOT, "examples", "report")
 CONFIG = os.path.join(REPORT, "report.toml")
@@ -33,7 +34,22 @@ role = "append"
 columns = [["id", "col", "id"], ["customer", "col", "customer"], ["quantity", "col", "quantity"], ["note", "col", "note"]]
 """
 
+# A table of texts, of which rows come and go.
+NOTES = b"""
+[main]
+key = "i"
+columns = [["i", "int64"], ["n", "utf8"]]
+[feed.new]
+role = "append"
+[feed.gone]
+role = "retract"
+[view.rows]
+group = []
+columns = [["n", "count"]]
+"""
 LINES, MOST_MEMORY = 1_000_000, 64 << 20
+# Batches of so many rows with notes of so many bytes come, in all three times as many bytes as there is memory for.
+BATCHES, ROWS, NOTE = 1000, 200, 1000
 
 
 def read(path):
@@ -207,6 +223,28 @@ def many_lines(lv):
     assert ran([lv, "live", CONFIG], b"undo" * (MOST_MEMORY // 4) + b"\nundo\n", **how) == (1, b"1: refused 55 Memory\n1.\n", b"")
 
 
+def pushed(feed, data):
+    return b"bytes %s %d\n" % (feed, len(data)) + data
+
+
+def batches_that_go(lv, staying):
+    """Batches of which all rows but so many go, one batch after the other, within 64 MB of memory: a batch goes with the last row that is live or
+    that an undo brings back, and what is left of one is written anew."""
+    how = {"preexec_fn": lambda: resource.setrlimit(resource.RLIMIT_AS, (MOST_MEMORY, MOST_MEMORY))}
+    number = field(2, 64, 1, name=b"i")
+    offsets, notes = struct.pack(f"<{ROWS + 1}i", *range(0, NOTE * (ROWS + 1), NOTE)), bytes(b"n") * NOTE * ROWS
+    lines = [pushed(b"new", schema([number, field(5, name=b"n")])), pushed(b"gone", schema([number]))]
+    for first in range(0, BATCHES * ROWS, ROWS):
+        keys = [struct.pack(f"<{many}q", *range(first, first + many)) for many in (ROWS, ROWS - staying)]
+        lines += [pushed(b"new", batch(ROWS, [[keys[0]], [offsets, notes]])), pushed(b"gone", batch(ROWS - staying, [[keys[1]]]))]
+    with tempfile.TemporaryDirectory(prefix="lv-live-") as room:
+        config = os.path.join(room, "config")
+        with open(config, "wb") as file:
+            file.write(NOTES)
+        status, printed, error = ran([lv, "live", config], b"".join(lines), **how)
+    assert (status, printed.count(b": batch\n"), error) == (0, 2 * BATCHES, b""), re.search(rb"\d+: refused.*", printed)
+
+
 def examples(lv, views):
     """The programs of examples/ that drive it."""
     status, printed, _ = ran([sys.executable, os.path.join(ROOT, "examples", "live.py"), lv])
@@ -286,11 +324,13 @@ def main():
     gone_within_bytes(lv)
     gone_within_views(lv)
     many_lines(lv)
+    batches_that_go(lv, 0)
+    batches_that_go(lv, 1)
     examples(lv, views)
     standard_streams(lv, views)
     explained(lv)
     helped(lv)
-    print("live: the script as run answers it, bytes, views, refusals, ends, clients that go away, a million lines; standard streams; what is told of refused configurations; help")
+    print("live: the script as run answers it, bytes, views, refusals, ends, clients that go away, a million lines, batches that go; standard streams; what is told of refused configurations; help")
     return 0
 
 
