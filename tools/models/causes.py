@@ -5,6 +5,7 @@ Nothing here is taken from lv: it is what lv is compared with. TOML is what Pyth
 import re
 import tomllib
 
+from aggregates import AGGREGATES
 from limits import (
     MOST_BYTES, MOST_COLUMNS, MOST_DIGITS, MOST_ENTRIES, MOST_FIELDS, MOST_FIXED, MOST_LETTERS, MOST_LEVELS, MOST_PARTS, MOST_ROWS,
     MOST_SLOT, MOST_SUMMED,
@@ -296,7 +297,7 @@ class View(Columns):
 
     def output(self, what, *of):
         """The type of an output, or None where it isn't known."""
-        is_of_one = len(of) == 1 and what in ("col", "count", "distinct", "sum", "least", "greatest")
+        is_of_one = len(of) == 1 and what in ("col", *AGGREGATES)
         if not self.need(is_of_one or (what == "count" and not of), 69):
             return None
         self.need(what == "col" or self.grouping is not None, 69)
@@ -304,11 +305,13 @@ class View(Columns):
         type_ = self.type_of(column)
         if what == "col" and self.grouping is not None and column:
             self.need(column in self.grouping, 62)
-        if what == "sum":
-            is_known = type_ is not None and self.need(is_summed(type_), 66)
-            return ["decimal", MOST_DIGITS, type_[2] if isinstance(type_, list) else 0] if is_known else None
-        self.need(what in ("col", "count") or not is_nested(type_), 67)
-        return "int64" if what in ("count", "distinct") else type_
+        if what == "col":
+            return type_
+        aggregate = AGGREGATES[what]
+        if aggregate.over == "summed" and (type_ is None or not self.need(is_summed(type_), 66)):
+            return None
+        self.need(aggregate.over != "ordered" or not is_nested(type_), 67)
+        return aggregate.type_of(type_)
 
     def order(self, held):
         """Reads the order, by outputs of the view."""

@@ -4,6 +4,7 @@ A configuration is what its TOML holds, read into dictionaries and lists. Nothin
 """
 import operator
 
+from aggregates import AGGREGATES
 from limits import UNDOS
 
 COMPARISONS = {"eq": operator.eq, "ne": operator.ne, "lt": operator.lt, "le": operator.le, "gt": operator.gt, "ge": operator.ge}
@@ -143,10 +144,8 @@ def grouped(by, rows):
 def type_made(how, types):
     """The type of an output."""
     what, *reference = how
-    if what in ("count", "distinct"):
-        return "int64"
-    type_ = types[column_of(reference[0])]
-    return ["decimal", 38, type_[2] if isinstance(type_, list) else 0] if what == "sum" else type_
+    type_ = types[column_of(reference[0])] if reference else None
+    return type_ if what == "col" else AGGREGATES[what].type_of(type_)
 
 
 def cell_made(how, group):
@@ -157,7 +156,4 @@ def cell_made(how, group):
     values = [cells[column_of(reference[0])] for cells in group]
     if what == "col":
         return values[0]
-    held = [it for it in values if it is not None]
-    if what in ("count", "distinct"):
-        return len({*held} if what == "distinct" else held)
-    return {"sum": sum, "least": min, "greatest": max}[what](held) if held else None
+    return AGGREGATES[what].cell([it for it in values if it is not None])

@@ -1,4 +1,5 @@
 """Makes random configurations of docs/VIEWS.md, which are accepted, and random values of their types."""
+from aggregates import AGGREGATES
 from model import COMPARISONS, Tables, column_of, outputs
 
 DECIMAL, BYTES = ["decimal", 9, 2], ["fixed", 2]
@@ -95,8 +96,8 @@ class Configuration:
         for _ in range(self.random.randint(0, 3)):
             reference = self.random.choice(references)
             type_ = types[column_of(reference)]
-            ordered = ("least", "greatest", *["distinct"] * 4) * (type_ not in self.nested)
-            made.append([self.random.choice(("count", *ordered, *["sum"] * 2 * self.is_summed(type_))), reference])
+            can = {"any": True, "ordered": type_ not in self.nested, "summed": self.is_summed(type_)}
+            made.append([self.random.choice([it for it, of in AGGREGATES.items() for _ in range(of.often * can[of.over])]), reference])
         self.random.shuffle(made)
         return made
 

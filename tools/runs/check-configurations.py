@@ -14,6 +14,7 @@ import sys
 sys.dont_write_bytecode = True
 sys.path.insert(1, f"{sys.path[0]}/../models")
 import causes
+from aggregates import AGGREGATES
 from configurations import text_of
 from limits import (
     MOST_BYTES, MOST_COLUMNS, MOST_DIGITS, MOST_ENTRIES, MOST_FIELDS, MOST_FIXED, MOST_LETTERS, MOST_LEVELS, MOST_PARTS, MOST_ROWS,
@@ -29,7 +30,7 @@ DATE, TIME, MOMENT = datetime.date(2020, 1, 1), datetime.time(1), datetime.datet
 JUNK = (5, -1, True, 1.5, float("inf"), DATE, "", NONE, "k", [], ["k"], [[]], {}, {"k": 1}, {"k": []}, MOST_ROWS + 1, -(2**63))
 GREAT = (2**63, -(2**63) - 1, 2**64, 10**30)
 SMALL = {"side": {"key": "k", "columns": [["k", "bool"]]}, "feed": {"role": "append"}, "view": {"columns": [["n", "count"]], "group": []}}
-OPERATIONS = ("col", "count", "sum", "least", "greatest", "distinct")
+OPERATIONS = ("col", *AGGREGATES)
 OTHER_WORDS = (*OPERATIONS, *causes.COMPARISONS, "is_null", "not", "and", "or", "asc", "desc", "out", "main", "ASC", "", NONE)
 OTHER_ENTRIES = ("side", "first", "group", "order", "having", "dict", "keys", "role", "dicts", "")
 # As many signs of two bytes each as a column's name and a zone may have.

@@ -11,7 +11,7 @@ use Rattle.view_lang.specs.Shifts.{Shift}
 use Rattle.view_lang.specs.declared.view.OrderBy.{OrderBy}
 use Rattle.group_state.specs.Grouped.{Grouped}
 use Rattle.group_state.specs.Keys.{tuple_cmp, tuple_total}
-use Rattle.group_state.specs.Seen.{seen_row}
+use Rattle.group_state.specs.Aggregates.{seen_row}
 use Rattle.group_state.specs.Touched.{StayBut, group_at, touches}
 use Rattle.group_state.specs.Tuples.{has_tuple, tuple_of}
 use Rattle.group_state.proofs.Members.{tuple_exact}

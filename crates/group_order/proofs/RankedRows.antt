@@ -25,29 +25,20 @@ use Rattle.view_lang.specs.Outputs.{GroupOutput}
 use Rattle.view_lang.specs.RowOrder.{row_cmp}
 use Rattle.view_lang.specs.Sorted.{placed, sorted}
 use Rattle.view_lang.specs.Truth.{passes}
-use Rattle.view_lang.specs.ViewLaws.{IsKeyCell, TuplesAsk, TuplesAscend, TuplesAreOfRows}
-use Rattle.view_lang.specs.declared.view.Aggregate.{Aggregate}
-use Rattle.view_lang.specs.declared.view.Aggregate.TheVariants as aggregate
+use Rattle.view_lang.specs.ViewLaws.{TuplesAsk, TuplesAscend, TuplesAreOfRows}
+use Rattle.view_lang.specs.Aggregates.{IsKeyCell}
+use Rattle.view_lang.specs.declared.aggregate.Aggregate.{Aggregate}
+use Rattle.view_lang.specs.declared.aggregate.Aggregate.TheVariants as aggregate
 use Rattle.view_lang.specs.declared.view.OrderBy.{OrderBy}
 use Rattle.group_state.specs.GroupCounts.{GroupCounts}
 use Rattle.group_state.specs.Grouped.{Grouped}
 use Rattle.group_state.specs.Groups.{Keeps as KeepsGroups, KeepsAt}
-use Rattle.group_state.specs.Keys.{tuple_cmp, tuple_total}
-use Rattle.group_state.specs.Reading.{AreRead, CanReadAll, data_of, datum_in}
+use Rattle.group_state.specs.Keys.{tuple_cmp, tuple_total, data_of, datum_in}
+use Rattle.group_state.specs.Reading.{AreRead, CanReadAll}
 use Rattle.group_state.specs.Folds.{first_of, last_of}
 use Rattle.group_state.specs.KeptColumns.{counted, valued}
-use Rattle.group_state.specs.Seen.{
-  seen_cell,
-  seen_count,
-  seen_distinct,
-  seen_greatest,
-  seen_in,
-  seen_least,
-  seen_row,
-  seen_sum,
-  sum_by,
-  tally_at,
-}
+use Rattle.group_state.specs.Seen.{seen_count, seen_distinct, seen_greatest, seen_in, seen_least, seen_sum, sum_by, tally_at}
+use Rattle.group_state.specs.Aggregates.{seen_cell, seen_row}
 use Rattle.group_state.specs.declared.kept_columns.KeptColumn.{KeptColumn}
 use Rattle.group_state.specs.declared.tally.Tally.{Tally}
 use Rattle.group_state.specs.declared.tally.Tally.TheVariants as tally

@@ -13,7 +13,7 @@ use Rattle.view_lang.specs.declared.view.OrderBy.{OrderBy}
 use Rattle.group_state.specs.Grouped.{Grouped}
 use Rattle.group_state.specs.Groups.{Keeps as KeepsGroups}
 use Rattle.group_state.specs.Keys.{tuple_cmp}
-use Rattle.group_state.specs.Seen.{seen_at}
+use Rattle.group_state.specs.Aggregates.{seen_at}
 use Rattle.top_rows.specs.Ties.{KeepsBy}
 use Rattle.group_order.specs.GroupPlaces.{GroupPlace, group_place_cmp}
 

@@ -2,7 +2,7 @@
 use Rattle.std.specs.List.{All}
 use Rattle.std.specs.List.Sorted.{IsStrictlySortedBy}
 use Rattle.std.specs.Prelude.{map}
-use Rattle.view_lang.specs.ViewLaws.{IsKeyCell}
+use Rattle.view_lang.specs.Aggregates.{IsKeyCell}
 use Rattle.group_state.specs.GroupParts.{AreGroups, grouped_with}
 use Rattle.group_state.specs.Keys.{key_in}
 use Rattle.group_order.specs.GroupPlaces.{GroupPlace, group_place_cmp}

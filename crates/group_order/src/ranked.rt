@@ -33,7 +33,7 @@ ghost use Rattle.values.specs.Datum.{Datum};
 ghost use Rattle.values.specs.declared.key.Key.{Key};
 ghost use Rattle.view_lang.specs.Shifts.{Fits, IsFew, NumberedRows, patched, row_at, with_at};
 ghost use Rattle.group_state.specs.Keys.{tuple_cmp};
-ghost use Rattle.group_state.specs.KeptColumns.{AreReadBy, IsKept};
+ghost use Rattle.group_state.specs.Aggregates.{AreReadBy, IsKept};
 ghost use Rattle.group_state.specs.Moves.{IsPartOf};
 ghost use Rattle.group_state.specs.Tuples.{tuple_of as tuple_by};
 ghost use Rattle.top_rows.specs.PlaceOrder.{tied_cmp};

@@ -15,9 +15,9 @@ use Rattle.values.specs.Keys.{datum_of_key}
 use Rattle.values.specs.declared.key.Key.{Key}
 use Rattle.values.specs.declared.key.Key.TheVariants as key
 use Rattle.view_lang.specs.Contents.{is_among, same_key}
-use Rattle.view_lang.specs.Groups.{count_of, distinct}
+use Rattle.view_lang.specs.Folds.{count_of, distinct}
 use Rattle.view_lang.specs.SortedEntries.{lookup-insert_entry}
-use Rattle.view_lang.specs.ViewLaws.{IsKeyCell}
+use Rattle.view_lang.specs.Aggregates.{IsKeyCell}
 use Rattle.view_lang.proofs.Distinct.{length-distinct, one_unless}
 use Rattle.group_state.specs.Cells.{KeepsValues}
 use Rattle.group_state.specs.Counts.{had}

@@ -1,7 +1,7 @@
 -- What is read of a multiset is the definition's fold over the cells.
 use Rattle.std.proofs.Common.{◌≡◌, refl, ap, sym, ◌∙◌, subst, true≢false, arith}
 use Rattle.std.proofs.lemmas.Option.{slice_get_within, get_or_from_slice_get}
-use Rattle.std.specs.Prelude.{ℕ, ◌+◌, ◌-◌, slice_get, pos, ◌+ℤ◌, zero, suc, Bool, true, false, cond, List, [], ◌∷◌, length, get_or, Option, None, Some, count_by}
+use Rattle.std.specs.Prelude.{ℕ, ◌+◌, ◌-◌, slice_get, pos, ◌+ℤ◌, zero, suc, Bool, true, false, cond, List, [], ◌∷◌, length, get_or, Option, None, Some, count_by, FitsSigned, ◌<◌}
 use Rattle.std.specs.List.{AllByRecursion}
 use Rattle.std.specs.List.Sorted.{IsStrictlySortedBy}
 use Rattle.std.specs.Map.{keys_of}
@@ -9,7 +9,7 @@ use Rattle.std.specs.BTreeMap.{insert_entry}
 use Rattle.std.specs.Ordering.{is_gt, match_ordering, ordering_reverse}
 use Rattle.std.specs.declared.cmp.Ordering.{Ordering}
 use Rattle.std.specs.declared.cmp.Ordering.TheVariants.{Less, Equal, Greater}
-use Rattle.std.proofs.lemmas.Int.{ints}
+use Rattle.std.proofs.lemmas.Int.{ints, int_wrap_fits}
 use Rattle.std.proofs.lemmas.List.Sums.{length-filter}
 use Rattle.view_lang.specs.SortedEntries.{all_below}
 use Rattle.values.specs.Datum.{Datum, null, truth, whole, text, bytes, list, structure, is_null}
@@ -18,10 +18,10 @@ use Rattle.values.specs.Keys.{datum_of_key}
 use Rattle.values.specs.declared.key.Key.{Key}
 use Rattle.values.specs.declared.key.Key.TheVariants as key
 use Rattle.view_lang.specs.RowOrder.{cell_cmp}
-use Rattle.view_lang.specs.Groups.{total, first_in, earlier, sum_of as sum_by, count_of}
-use Rattle.view_lang.specs.ViewLaws.{IsKeyCell}
+use Rattle.view_lang.specs.Folds.{total, first_in, earlier, sum_of as sum_by, count_of}
+use Rattle.view_lang.specs.Aggregates.{IsKeyCell}
 use Rattle.view_lang.specs.declared.view.Direction.TheVariants as direction
-use Rattle.group_state.specs.Keys.{key_cmp, key_total}
+use Rattle.group_state.specs.Keys.{key_cmp, key_total, datum_in}
 use Rattle.group_state.specs.Counts.{had}
 use Rattle.group_state.specs.Cells.{is_filled, KeepsTotal, KeepsValues}
 use Rattle.group_state.specs.Folds.{
@@ -35,13 +35,11 @@ use Rattle.group_state.specs.Folds.{
   first_of,
   multiset_of,
 }
-use Rattle.group_state.specs.Reading.{datum_in, filled}
+use Rattle.group_state.specs.Reading.{filled}
 use Rattle.view_lang.proofs.ExactKeys.{key_exact}
 use Rattle.group_state.proofs.KeyData.{key-data}
 use Rattle.group_state.proofs.Folds.{multiset-sorted, multiset-least, kept-values}
 use Rattle.group_state.specs.declared.total.Total.{Total}
-use Rattle.std.proofs.lemmas.Int.{int_wrap_fits}
-use Rattle.std.specs.Prelude.{FitsSigned, ◌<◌}
 use mir.Syntax.{w128}
 
 pub count-filled : (ds : List Datum) → count_by is_filled ds ≡ length (filled ds)

@@ -32,16 +32,17 @@ use Rattle.values.specs.declared.key.Key.{Key}
 use Rattle.view_lang.specs.Cells.{cells_at}
 use Rattle.view_lang.specs.RowOrder.{tuple_cmp as data_cmp}
 use Rattle.view_lang.specs.Groups.{same_tuple, tuples_of, rows_with, group_row, group_rows}
-use Rattle.view_lang.specs.ViewLaws.{IsKeyCell, TuplesAsk, TuplesAscend, TuplesAreOfRows, UsesKeys}
+use Rattle.view_lang.specs.ViewLaws.{TuplesAsk, TuplesAscend, TuplesAreOfRows, UsesKeys}
+use Rattle.view_lang.specs.Aggregates.{IsKeyCell}
 use Rattle.view_lang.specs.Outputs.{GroupOutput}
-use Rattle.group_state.specs.Keys.{key_in, tuple_cmp, tuple_total}
+use Rattle.group_state.specs.Keys.{key_in, tuple_cmp, tuple_total, data_of}
 use Rattle.group_state.specs.GroupCounts.{GroupCounts}
 use Rattle.group_state.specs.Grouped.{Grouped}
 use Rattle.group_state.specs.declared.kept_columns.KeptColumn.{KeptColumn}
 use Rattle.group_state.specs.Rows.{KeepsRows}
 use Rattle.group_state.specs.Tuples.{has_tuple, members}
 use Rattle.group_state.specs.Groups.{Keeps, KeepsAt}
-use Rattle.group_state.specs.Reading.{data_of, IsRead, AreRead, CanReadAll}
+use Rattle.group_state.specs.Reading.{IsRead, AreRead, CanReadAll}
 use Rattle.group_state.proofs.KeyData.{HasKeys, tuple-data, cell-data, test-data, members-data}
 use Rattle.group_state.proofs.Members.{tuple_exact, tuple_itself}
 use Rattle.view_lang.proofs.AscendingKeys.{same-keys}

@@ -1,20 +1,19 @@
 -- A row goes into the tallies of a group, or out of them, one column after the other.
 use Rattle.std.proofs.Common.{◌≡◌, refl, sym, ◌∙◌, arith, ℕ, ◌+◌, ◌<◌, ◌≤◌, List, [], ◌∷◌, subst, length, get_or-set_same, get_or-set_other, ◌≢◌, ⊎_elim}
-use Rattle.std.specs.Prelude.{slice_index_or, slice_set}
+use Rattle.std.specs.Prelude.{slice_index_or, slice_set, ◌^◌, map, pos, suc, zero}
 use Rattle.std.proofs.lemmas.Bool.{cases_eq}
 use Rattle.std.proofs.lemmas.List.{length-map}
 use Rattle.std.proofs.lemmas.Int.{int_wrap_fits, ints}
 use mir.Syntax.{w128}
 use Rattle.std.proofs.Math.ListN.{length-set}
 use Rattle.std.specs.List.Sorted.{IsStrictlySortedBy}
-use Rattle.view_lang.specs.Groups.{total}
+use Rattle.view_lang.specs.Folds.{total}
 use Rattle.values.specs.Datum.{Datum}
 use Rattle.group_state.specs.declared.kept_columns.KeptColumn.{KeptColumn}
 use Rattle.group_state.specs.declared.tally.Tally.{Tally}
 use Rattle.group_state.specs.Cells.{KeepsCells, fresh}
 use Rattle.group_state.specs.declared.kept_columns.KeptForm.{KeptForm}
 use Rattle.group_state.specs.declared.kept_columns.KeptForm.TheVariants as kept
-use Rattle.std.specs.Prelude.{◌^◌, map, pos, suc, zero}
 use Rattle.group_state.specs.Rows.{KeepsEach, cells}
 
 -- the first n tallies are those of some rows, the others still those of others

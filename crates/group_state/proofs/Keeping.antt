@@ -1,13 +1,15 @@
 -- Columns that are kept stay kept.
-use Rattle.std.proofs.Common.{◌≡◌, zero, suc, arith, refl, ap₂, sym, subst, get_or, take}
+use Rattle.std.proofs.Common.{◌≡◌, None, Option, Some, zero, suc, arith, refl, ap, ap₂, sym, subst, get_or, take, true≢false}
+use Rattle.std.proofs.lemmas.Option.{none-some}
 use Rattle.std.proofs.lemmas.Bool.{eq-eqb, eqb-true}
 use Rattle.std.specs.Prelude.{All, Result, Ok, Err, OnOk, Bool, true, false, ◌&&◌, ◌==◌, List, [], ◌∷◌, ◌++◌, length, ℕ, ◌+◌, ◌<◌}
 use Rattle.std.proofs.lemmas.List.Folds.{list_any_at}
-use Rattle.std.proofs.Common.{true≢false}
 use Rattle.std.proofs.lemmas.List.Elements.{All-append, All-more, All-weaker}
 use Rattle.view_lang.specs.Outputs.{GroupOutput}
-use Rattle.view_lang.specs.declared.view.Aggregate.{Aggregate}
-use Rattle.group_state.specs.KeptColumns.{IsKept, is_read, reads, same_column, same_form}
+use Rattle.view_lang.specs.declared.aggregate.Aggregate.{Aggregate}
+use Rattle.view_lang.specs.declared.aggregate.Aggregate.TheVariants as aggregate
+use Rattle.group_state.specs.KeptColumns.{same_column, same_form}
+use Rattle.group_state.specs.Aggregates.{IsKept, is_read, kept_for, reads}
 use Rattle.group_state.specs.declared.kept_columns.KeptColumn.{KeptColumn}
 use Rattle.group_state.specs.declared.kept_columns.KeptForm.{KeptForm}
 use Rattle.group_state.specs.declared.kept_columns.KeptForm.TheVariants as kept
@@ -27,9 +29,6 @@ read-there outs i o below is k h =
     list_any_at (λ (x : GroupOutput). reads x.aggregate k) outs i o below
     (subst (λ (x : GroupOutput). reads x.aggregate k ≡ true) is h)
 
-pub own-column : (k : ℕ) → (k == k) ≡ true
-own-column k = eq-eqb k k refl
-
 All-one : {X : Type 0} (P : X → Type 0) (x : X) → P x → All P (x ∷ [])
 All-one P x here zero d below = here
 All-one P x here (suc i) d below = absurd (omega (arith, below))
@@ -40,20 +39,30 @@ more-read p columns c here all =
     let P : KeptColumn → Type 0 = λ k. p k.column ≡ true in
     All-append P columns (c ∷ []) all (All-one P c here)
 
-pub own-read : (a b : Aggregate) (j : ℕ) → a ≡ b → reads b j ≡ true → reads a j ≡ true
-own-read a b j is own = subst (λ (x : Aggregate). reads x j ≡ true) (sym is) own
+abbrev number_in : Option KeptColumn → ℕ
+number_in None = zero
+number_in (Some k) = k.column
+
+-- What is kept for an output is of the column that it reads.
+pub kept-read : (a : Aggregate) (k : KeptColumn) → Some k ≡ kept_for a → reads a k.column ≡ true
+kept-read (aggregate.Key i) k is = absurd (none-some k (sym is))
+kept-read aggregate.Count k is = absurd (none-some k (sym is))
+kept-read (aggregate.CountOf i) k is = eq-eqb i k.column (sym (ap number_in is))
+kept-read (aggregate.Distinct i) k is = eq-eqb i k.column (sym (ap number_in is))
+kept-read (aggregate.Sum i) k is = eq-eqb i k.column (sym (ap number_in is))
+kept-read (aggregate.Least i) k is = eq-eqb i k.column (sym (ap number_in is))
+kept-read (aggregate.Greatest i) k is = eq-eqb i k.column (sym (ap number_in is))
 
 -- What was so of all columns stays so with one that an output reads, where it is so of all that the output reads.
 pub only-read :
-    {X E : Type 0} (a : Aggregate) (j : ℕ) (column : KeptColumn) (old new : List KeptColumn) (r : Result X E)
-    → reads a j ≡ true → column.column ≡ j
+    {X E : Type 0} (a : Aggregate) (column : KeptColumn) (old new : List KeptColumn) (r : Result X E)
+    → reads a column.column ≡ true
     → OnOk r ((p : ℕ → Bool) → p column.column ≡ true → All (λ k. p k.column ≡ true) old
     → All (λ k. p k.column ≡ true) new)
     → OnOk r ((p : ℕ → Bool) → ((k : ℕ) → reads a k ≡ true → p k ≡ true) → All (λ k. p k.column ≡ true) old
     → All (λ k. p k.column ≡ true) new)
-only-read a j column old new (Ok x) own is only = λ p of_read all.
-    only p (subst (λ k. p k ≡ true) (sym is) (of_read j own)) all
-only-read a j column old new (Err e) own is only = tt
+only-read a column old new (Ok x) own only = λ p of_read all. only p (of_read column.column own) all
+only-read a column old new (Err e) own only = tt
 
 pub ruleset read_columns = (more-read)
 

@@ -11,10 +11,9 @@ use Rattle.values.specs.declared.key.Key.TheVariants as key
 use Rattle.view_lang.specs.Cells.{cell_at, cells_at}
 use Rattle.view_lang.specs.RowOrder.{tuple_cmp as data_cmp}
 use Rattle.view_lang.specs.Groups.{same_tuple, rows_with}
-use Rattle.view_lang.specs.ViewLaws.{IsKeyCell}
-use Rattle.group_state.specs.Keys.{key_in, key_cmp, tuple_cmp}
+use Rattle.view_lang.specs.Aggregates.{IsKeyCell}
+use Rattle.group_state.specs.Keys.{key_in, key_cmp, tuple_cmp, data_of}
 use Rattle.group_state.specs.Tuples.{tuple_of, has_tuple, members}
-use Rattle.group_state.specs.Reading.{data_of}
 
 pub key-data : (a b : Key) → key_cmp a b ≡ datum_cmp (datum_of_key a) (datum_of_key b)
 key-data (key.Bool true) (key.Bool true) = refl

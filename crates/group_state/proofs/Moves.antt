@@ -13,7 +13,7 @@ use lib.IntN.{neg_ℤ}
 use mir.Syntax.{w128}
 use Rattle.values.specs.Datum.{Datum}
 use Rattle.values.specs.declared.key.Key.{Key}
-use Rattle.view_lang.specs.Groups.{total}
+use Rattle.view_lang.specs.Folds.{total}
 use Rattle.group_state.specs.Cells.{KeepsTotal, is_filled}
 use Rattle.group_state.specs.GroupCounts.{GroupCounts}
 use Rattle.group_state.specs.Groups.{Keeps, KeepsAt}

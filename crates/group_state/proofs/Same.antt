@@ -1,6 +1,6 @@
 -- What is kept depends on how many rows pass each test alone.
 use Rattle.std.proofs.Common.{◌≡◌, refl, ap, sym, ◌∙◌, arith, ℕ, ◌+◌, List, [], ◌∷◌, length}
-use Rattle.std.specs.Prelude.{Bool, true, false, cond, Some, None, Option, filter, count_by}
+use Rattle.std.specs.Prelude.{Bool, true, false, cond, Some, None, Option, filter, count_by, slice_index_or}
 use Rattle.std.proofs.lemmas.List.Sums.{length-filter, sum_by-cons}
 use Rattle.std.specs.Map.{lookup}
 use Rattle.std.specs.BTreeMap.{is_at}
@@ -12,10 +12,9 @@ use Rattle.group_state.specs.Grouped.{Grouped}
 use Rattle.group_state.specs.Cells.{KeepsCells, is_filled, is_value}
 use Rattle.group_state.specs.Rows.{cell, cells}
 use Rattle.group_state.specs.Tuples.{has_tuple}
-use Rattle.std.specs.Prelude.{slice_index_or}
 use Rattle.std.specs.Int.{int_wrap}
 use mir.Syntax.{w128}
-use Rattle.view_lang.specs.Groups.{total}
+use Rattle.view_lang.specs.Folds.{total}
 use Rattle.group_state.specs.Counts.{weighted}
 use Rattle.group_state.specs.Folds.{keys_in, multiset_of}
 use Rattle.group_state.specs.declared.kept_columns.KeptColumn.{KeptColumn}

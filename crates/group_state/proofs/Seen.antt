@@ -6,10 +6,12 @@ use Rattle.std.proofs.lemmas.Option.{slice_get-get_or}
 use mir.Syntax.{w128}
 use Rattle.values.specs.Datum.{Datum, whole}
 use Rattle.values.specs.declared.key.Key.{Key}
-use Rattle.view_lang.specs.Groups.{aggregate_of, group_row, sum_of as total_by, total}
+use Rattle.view_lang.specs.Groups.{group_row}
+use Rattle.view_lang.specs.Aggregates.{aggregate_of}
+use Rattle.view_lang.specs.Folds.{sum_of as total_by, total}
 use Rattle.view_lang.specs.Outputs.{GroupOutput}
-use Rattle.view_lang.specs.declared.view.Aggregate.{Aggregate}
-use Rattle.view_lang.specs.declared.view.Aggregate.TheVariants as aggregate
+use Rattle.view_lang.specs.declared.aggregate.Aggregate.{Aggregate}
+use Rattle.view_lang.specs.declared.aggregate.Aggregate.TheVariants as aggregate
 use Rattle.group_state.specs.Cells.{KeepsCells, KeepsTotal, KeepsValues}
 use Rattle.group_state.specs.GroupCounts.{GroupCounts}
 use Rattle.group_state.specs.KeptColumns.{counted, is_kept, same_column, valued}
@@ -17,21 +19,11 @@ use Rattle.group_state.specs.declared.kept_columns.KeptColumn.{KeptColumn}
 use Rattle.group_state.specs.declared.kept_columns.KeptForm.TheVariants as kept
 use Rattle.group_state.specs.declared.tally.Tally.TheVariants as tally
 use Rattle.group_state.specs.declared.total.Total.{Total}
-use Rattle.group_state.specs.Reading.{AreRead, CanRead, IsRead, IsThat, data_of, filled}
+use Rattle.group_state.specs.Reading.{AreRead, CanRead, IsRead, IsThat, filled}
+use Rattle.group_state.specs.Keys.{data_of}
 use Rattle.group_state.specs.Rows.{KeepsEach, KeepsRows, cells}
-use Rattle.group_state.specs.Seen.{
-  index_from,
-  seen_cell,
-  seen_count,
-  seen_distinct,
-  seen_greatest,
-  seen_in,
-  seen_least,
-  seen_row,
-  seen_sum,
-  sum_by,
-  tally_at,
-}
+use Rattle.group_state.specs.Seen.{index_from, seen_count, seen_distinct, seen_greatest, seen_in, seen_least, seen_sum, sum_by, tally_at}
+use Rattle.group_state.specs.Aggregates.{seen_cell, seen_row}
 use Rattle.group_state.specs.declared.tally.Tally.{Tally}
 use Rattle.group_state.proofs.Distinct.{kept-distinct}
 use Rattle.group_state.proofs.FoldReadings.{kept-count, kept-greatest, kept-least, kept-none, kept-some}

@@ -14,7 +14,7 @@ use Rattle.view_lang.specs.Cells.{cell_at}
 use Rattle.view_lang.specs.Outputs.{GroupOutput}
 use Rattle.group_state.specs.GroupCounts.{GroupCounts}
 use Rattle.group_state.specs.declared.kept_columns.KeptColumn.{KeptColumn}
-use Rattle.group_state.specs.Seen.{seen_cell, seen_row}
+use Rattle.group_state.specs.Aggregates.{seen_cell, seen_row}
 
 pub seen-there : (columns : List KeptColumn) (outs : List GroupOutput) (e : List Key × GroupCounts) (k : ℕ) (o : GroupOutput)
     → o ≡ get_or outs k o → k < length outs → cell_at (seen_row columns outs e) k ≡ seen_cell columns e o.aggregate

@@ -7,14 +7,15 @@ use Rattle.std.proofs.lemmas.Int.{ints}
 use Rattle.std.proofs.lemmas.List.Sums.{length-filter, count_by-le-length}
 use Rattle.values.specs.Datum.{Datum, null, truth, whole, text, bytes, list, structure}
 use Rattle.view_lang.specs.Cells.{cell_at}
-use Rattle.view_lang.specs.Groups.{number_in, total, values_at}
-use Rattle.view_lang.specs.Sums.{IsSmall, IsSummable}
-use Rattle.view_lang.specs.ViewLaws.{ComparesKeys, UsesKeys}
+use Rattle.view_lang.specs.Folds.{number_in, total, values_at}
+use Rattle.view_lang.specs.Aggregates.{IsSmall, IsSummable, ComparesKeys}
+use Rattle.view_lang.specs.ViewLaws.{UsesKeys}
 use Rattle.view_lang.specs.Outputs.{GroupOutput}
-use Rattle.view_lang.specs.declared.view.Aggregate.{Aggregate}
-use Rattle.view_lang.specs.declared.view.Aggregate.TheVariants as aggregate
+use Rattle.view_lang.specs.declared.aggregate.Aggregate.{Aggregate}
+use Rattle.view_lang.specs.declared.aggregate.Aggregate.TheVariants as aggregate
 use Rattle.group_state.specs.declared.kept_columns.KeptColumn.{KeptColumn}
-use Rattle.group_state.specs.Reading.{filled, SumFits, CanRead, CanReadAll}
+use Rattle.group_state.specs.Reading.{filled, CanRead, CanReadAll}
+use Rattle.group_state.specs.Aggregates.{SumFits}
 
 next_total : (d : Datum) (ds : List Datum) → total (filled (d ∷ ds)) ≡ number_in d +ℤ total (filled ds)
 unfolding total

@@ -1,6 +1,6 @@
 -- Totals of cells.
 use Rattle.std.proofs.Common.{◌≡◌, refl, ap, sym, ◌∙◌, arith, ◌+◌, ◌-◌, List, ◌∷◌}
-use Rattle.std.specs.Prelude.{ℤ, ◌+ℤ◌, ◌-ℤ◌, Bool, true, false, cond, filter, not, count_by}
+use Rattle.std.specs.Prelude.{ℤ, ◌+ℤ◌, ◌-ℤ◌, Bool, true, false, cond, filter, not, count_by, ℕ}
 use Rattle.std.specs.Int.{int_wrap}
 use mir.Syntax.{w128}
 use lib.IntN.{neg_ℤ}
@@ -8,13 +8,12 @@ use Rattle.std.proofs.lemmas.Int.{ints, int_wrap-add_left}
 use Rattle.std.proofs.lemmas.List.Sums.{sum_by-cons}
 use Rattle.values.specs.CellViews.{shallow}
 use Rattle.values.specs.Datum.{Datum, null, truth, whole, text, bytes, list, structure, is_null}
-use Rattle.view_lang.specs.Groups.{number_in, total}
+use Rattle.view_lang.specs.Folds.{number_in, total}
 use Rattle.group_state.specs.Cells.{KeepsCells, KeepsTotal, KeepsValues, is_filled}
 use Rattle.group_state.specs.declared.kept_columns.KeptForm.{KeptForm}
 use Rattle.group_state.specs.declared.kept_columns.KeptForm.TheVariants as kept
 use Rattle.group_state.specs.declared.tally.Tally.TheVariants as tally
 use Rattle.group_state.specs.declared.total.Total.{Total}
-use Rattle.std.specs.Prelude.{ℕ}
 use Rattle.values.specs.declared.key.Key.{Key}
 
 pub number_in-shallow : (d : Datum) → number_in (shallow d) ≡ number_in d

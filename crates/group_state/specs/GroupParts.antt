@@ -15,7 +15,7 @@ use Rattle.group_state.specs.declared.parts.ValueCount.{ValueCount}
 use Rattle.group_state.specs.declared.tally.Tally.{Tally}
 use Rattle.group_state.specs.declared.tally.Tally.TheVariants as tally
 use Rattle.values.specs.declared.key.Key.{Key}
-use Rattle.view_lang.specs.ViewLaws.{IsKeyCell}
+use Rattle.view_lang.specs.Aggregates.{IsKeyCell}
 
 abbrev pub count_with : ValueCount → Key × ℕ
 count_with c = (key_in c.value, c.count)

@@ -1,8 +1,8 @@
--- The order of keys and of grouping tuples.
-use Rattle.std.specs.Prelude.{List}
+-- Keys and grouping tuples: their order, and what they are keys of.
+use Rattle.std.specs.Prelude.{List, None, Option, Some, map}
 use Rattle.std.specs.Option.{unwrap_or}
-use Rattle.values.specs.Datum.{Datum}
-use Rattle.values.specs.Keys.{key_of}
+use Rattle.values.specs.Datum.{Datum, null}
+use Rattle.values.specs.Keys.{datum_of_key, key_of}
 use Rattle.values.specs.declared.key.Key.TheVariants as key
 use Rattle.std.specs.Cmp.{IsTotalOrder}
 use Rattle.std.specs.Cmp.Lexicographic.{slice_cmp, lists_total}
@@ -26,3 +26,11 @@ tuple_total = lists_total key_total
 -- the key that a cell is; a null where it is a list or a struct
 abbrev pub key_in : Datum → Key
 key_in d = unwrap_or (key_of d) key.Null
+
+-- the tuple that keys are
+abbrev pub data_of : List Key → List Datum
+data_of t = map datum_of_key t
+
+abbrev pub datum_in : Option Key → Datum
+datum_in None = null
+datum_in (Some k) = datum_of_key k

@@ -9,6 +9,7 @@ pub mod Grouped
 pub mod Groups
 pub mod Folds
 pub mod KeptColumns
+pub mod Aggregates
 pub mod Reading
 pub mod Sample
 pub mod Seen

@@ -5,35 +5,26 @@ use Rattle.std.specs.List.{AllByRecursion}
 use Rattle.values.specs.Datum.{Datum, null, is_null}
 use Rattle.values.specs.Keys.{datum_of_key}
 use Rattle.values.specs.declared.key.Key.{Key}
-use Rattle.view_lang.specs.Groups.{total, values_at, group_row}
-use Rattle.view_lang.specs.ViewLaws.{ComparesKeys, UsesKeys}
+use Rattle.view_lang.specs.Groups.{group_row}
+use Rattle.view_lang.specs.Folds.{total, values_at}
+use Rattle.view_lang.specs.ViewLaws.{UsesKeys}
+use Rattle.view_lang.specs.Aggregates.{ComparesKeys}
 use Rattle.view_lang.specs.Sums.{AreSummable}
 use Rattle.view_lang.specs.Outputs.{GroupOutput}
-use Rattle.view_lang.specs.declared.view.Aggregate.{Aggregate}
-use Rattle.view_lang.specs.declared.view.Aggregate.TheVariants as aggregate
+use Rattle.view_lang.specs.declared.aggregate.Aggregate.{Aggregate}
+use Rattle.view_lang.specs.declared.aggregate.Aggregate.TheVariants as aggregate
 use Rattle.group_state.specs.declared.tally.Tally.{Tally}
 use Rattle.group_state.specs.Cells.{KeepsCells}
-use Rattle.group_state.specs.KeptColumns.{IsKept}
+use Rattle.group_state.specs.Aggregates.{IsKept, SumFits}
+use Rattle.group_state.specs.Keys.{data_of}
 use Rattle.group_state.specs.declared.kept_columns.KeptColumn.{KeptColumn}
 use Rattle.group_state.specs.declared.kept_columns.KeptForm.{KeptForm}
 use Rattle.group_state.specs.GroupCounts.{GroupCounts}
 use Rattle.group_state.specs.Rows.{KeepsRows}
 
--- the tuple that keys are
-abbrev pub data_of : List Key → List Datum
-data_of t = map datum_of_key t
-
-abbrev pub datum_in : Option Key → Datum
-datum_in None = null
-datum_in (Some k) = datum_of_key k
-
 -- the cells that aren't null
 abbrev pub filled : List Datum → List Datum
 filled ds = filter (λ d. not (is_null d)) ds
-
-abbrev pub SumFits : Aggregate → List (List Datum) → Type 0
-SumFits (aggregate.Sum k) rows = FitsSigned w128 (total (values_at k rows))
-SumFits _ rows = Unit {0}
 
 -- a column of the output can be made of what is kept of these rows
 pub record CanRead (columns : List KeptColumn) (rows : List (List Datum)) (out : Aggregate) : Type 0 where

@@ -1,5 +1,5 @@
--- What outputs show of what is kept, whatever the rows are.
-use Rattle.std.specs.Prelude.{ℕ, zero, suc, ℤ, pos, cond, List, [], ◌∷◌, length, map, Option, None, Some, slice_get}
+-- What is seen of the tallies of a group, whatever the rows are.
+use Rattle.std.specs.Prelude.{ℕ, zero, suc, ℤ, pos, cond, List, [], ◌∷◌, length, Option, None, Some, slice_get}
 use Rattle.std.specs.BTreeMap.{is_at}
 use Rattle.std.specs.Map.{lookup}
 use Rattle.std.specs.Option.{option_and_then, option_map}
@@ -7,13 +7,12 @@ use Rattle.values.specs.Datum.{Datum, null, whole}
 use Rattle.values.specs.declared.key.Key.{Key}
 use Rattle.view_lang.specs.Cells.{cell_at}
 use Rattle.view_lang.specs.Outputs.{GroupOutput}
-use Rattle.view_lang.specs.declared.view.Aggregate.{Aggregate}
-use Rattle.view_lang.specs.declared.view.Aggregate.TheVariants as aggregate
+use Rattle.view_lang.specs.declared.aggregate.Aggregate.{Aggregate}
+use Rattle.view_lang.specs.declared.aggregate.Aggregate.TheVariants as aggregate
 use Rattle.group_state.specs.Folds.{first_of, last_of}
 use Rattle.group_state.specs.GroupCounts.{GroupCounts}
 use Rattle.group_state.specs.Grouped.{Grouped}
-use Rattle.group_state.specs.Keys.{tuple_cmp}
-use Rattle.group_state.specs.Reading.{data_of, datum_in}
+use Rattle.group_state.specs.Keys.{tuple_cmp, data_of, datum_in}
 use Rattle.group_state.specs.KeptColumns.{counted, same_column, valued}
 use Rattle.group_state.specs.declared.kept_columns.KeptColumn.{KeptColumn}
 use Rattle.group_state.specs.declared.tally.Tally.{Tally}
@@ -55,20 +54,3 @@ seen_greatest (tally.Values es) = datum_in (last_of es)
 abbrev pub seen_in : (Tally → Datum) → Option Tally → Datum
 seen_in f None = null
 seen_in f (Some t) = f t
-
--- what an output shows of a group
-abbrev pub seen_cell : List KeptColumn → List Key × GroupCounts → Aggregate → Datum
-seen_cell columns e (aggregate.Key k) = cell_at (data_of e.0) k
-seen_cell columns e aggregate.Count = whole (pos e.1.rows)
-seen_cell columns e (aggregate.CountOf k) = seen_in seen_count (tally_at columns e.1.tallies (counted k))
-seen_cell columns e (aggregate.Distinct k) = seen_in seen_distinct (tally_at columns e.1.tallies (valued k))
-seen_cell columns e (aggregate.Sum k) = seen_in seen_sum (tally_at columns e.1.tallies (counted k))
-seen_cell columns e (aggregate.Least k) = seen_in seen_least (tally_at columns e.1.tallies (valued k))
-seen_cell columns e (aggregate.Greatest k) = seen_in seen_greatest (tally_at columns e.1.tallies (valued k))
-
-abbrev pub seen_row : List KeptColumn → List GroupOutput → List Key × GroupCounts → List Datum
-seen_row columns outs e = map (λ o. seen_cell columns e o.aggregate) outs
-
--- the row of the group that a tuple has, if it has one
-abbrev pub seen_at : List GroupOutput → Grouped → List Key → Option (List Datum)
-seen_at outs g t = option_map (λ c. seen_row g.columns outs (t, c)) (lookup (is_at (tuple_cmp t)) g.groups)

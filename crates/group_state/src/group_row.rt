@@ -1,12 +1,13 @@
 //! Rows of groups where they lie: in the grouping tuple and in what is kept of the group.
 
 ghost use Rattle.std.specs.Prelude.{◌≡◌, IfOk};
-ghost use Rattle.group_state.specs.Seen.{seen_row};
+ghost use Rattle.group_state.specs.Aggregates.{seen_row};
 
+use crate::aggregates::{read_cell, view_cell};
 use crate::cells::no_value;
 use crate::group::Group;
 use crate::kept_columns::KeptColumn;
-use crate::reading::{read_cell, read_row, view_cell};
+use crate::reading::read_row;
 use crate::tuple::Tuple;
 use std::alloc::{AllocError, Global};
 use std::marker::Model;
@@ -26,7 +27,7 @@ impl<'a> Model for GroupRow<'a> {
     ghost use Rattle.std.specs.Prelude.{List};
     ghost use Rattle.std.specs.Coded.{coded_list};
     ghost use Rattle.values.specs.Datum.{Datum, datum_code};
-    ghost use Rattle.group_state.specs.Seen.{seen_row};
+    ghost use Rattle.group_state.specs.Aggregates.{seen_row};
 
     ghost Value = { List Datum };
 

@@ -3,11 +3,10 @@
 ghost use Rattle.group_state.specs.GroupParts.{AreGroups, grouped_with};
 ghost use Rattle.group_state.specs.Groups.{Keeps, KeepsAt};
 ghost use Rattle.group_state.specs.Keys.{key_cmp, key_in, tuple_cmp};
-ghost use Rattle.group_state.specs.KeptColumns.{AreReadBy, IsKept};
+ghost use Rattle.group_state.specs.Aggregates.{AreReadBy, IsKept, seen_at};
 ghost use Rattle.group_state.specs.Moves.{IsPartOf, begins_with, begins_with_one};
 ghost use Rattle.group_state.specs.Reading.{CanReadAll};
 ghost use Rattle.group_state.specs.Rows.{KeepsRows};
-ghost use Rattle.group_state.specs.Seen.{seen_at};
 ghost use Rattle.group_state.specs.Touched.{StayBut, comes, goes, is_of, touches};
 ghost use Rattle.group_state.specs.Tuples.{has_tuple, tuple_of as tuple_by};
 ghost use Rattle.std.proofs.Common.{option_map};
@@ -56,9 +55,10 @@ ghost use Rattle.view_lang.specs.Shifts.{
   with_befores,
 };
 
+use crate::aggregates::kept_columns;
 use crate::group::Group;
 use crate::group_row::GroupRow;
-use crate::kept_columns::{KeptColumn, kept_columns};
+use crate::kept_columns::KeptColumn;
 use crate::key_cell::KeyCell;
 use crate::parts::GroupsParts;
 use crate::reading::{read_first, read_row, read_rows};

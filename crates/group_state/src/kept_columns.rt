@@ -1,21 +1,10 @@
-//! The columns that outputs of groups read, and what groups keep of each.
+//! Columns that groups keep something of.
 
-ghost use Rattle.group_state.specs.KeptColumns.{
-  AreReadBy,
-  IsKept,
-  counted,
-  is_kept,
-  reads,
-  same_column,
-  same_form as same_form_by,
-  valued,
-};
-ghost use Rattle.std.specs.Prelude.{All, Bool, IfOk, OnOk, true, ◌≡◌, ℕ};
-ghost use Rattle.view_lang.specs.declared.view.Aggregate.{Aggregate};
+ghost use Rattle.group_state.specs.KeptColumns.{counted, is_kept, same_column, same_form as same_form_by, valued};
+ghost use Rattle.std.specs.Prelude.{All, Bool, OnOk, true, ◌≡◌, ℕ};
 ghost use Rattle.group_state.specs.declared.kept_columns.KeptColumn.{KeptColumn};
 
-use std::alloc::{AllocError, Global};
-use view_lang::{Aggregate, GroupOutput};
+use std::alloc::AllocError;
 
 /// A column that groups keep something of. One column may be kept in both forms.
 #[derive(Debug, Clone, Copy)]
@@ -73,42 +62,9 @@ fn same_form(form: KeptForm, other: KeptForm) -> bool
     }
 }
 
-/// The columns that outputs count, sum or compare, each once in each form that is read.
-pub(crate) fn kept_columns(
-    alloc: Global,
-    outputs: &[GroupOutput],
-) -> Result<Vec<KeptColumn>, AllocError>
-    ensures kept { IfOk result (λ columns. All (λ o. IsKept columns.items o.aggregate) outputs.now) }
-    ensures read { IfOk result (λ columns. AreReadBy outputs.now columns.items) }
-{
-    let mut columns = Vec::new(alloc);
-    for output in outputs {
-        keep_read(&mut columns, output.aggregate)?;
-    }
-    Ok(columns)
-}
-
-/// Adds the column that an output reads, if it reads one, in the form that it reads.
-fn keep_read(columns: &mut Vec<KeptColumn>, aggregate: Aggregate) -> Result<(), AllocError>
-    ensures here { OnOk result (IsKept columns.new.items aggregate) }
-    ensures still { OnOk result ((a : Aggregate) → IsKept columns.old.items a → IsKept columns.new.items a) }
-    ensures only { OnOk result ((p : ℕ → Bool) → ((k : ℕ) → reads aggregate k ≡ true → p k ≡ true)
-        → All (λ k. p k.column ≡ true) columns.old.items → All (λ k. p k.column ≡ true) columns.new.items) }
-{
-    match aggregate {
-        Aggregate::Key(_) => Ok(()),
-        Aggregate::Count => Ok(()),
-        Aggregate::CountOf(column) => keep(columns, KeptColumn::counted(column)),
-        Aggregate::Distinct(column) => keep(columns, KeptColumn::valued(column)),
-        Aggregate::Sum(column) => keep(columns, KeptColumn::counted(column)),
-        Aggregate::Least(column) => keep(columns, KeptColumn::valued(column)),
-        Aggregate::Greatest(column) => keep(columns, KeptColumn::valued(column)),
-    }
-}
-
 /// Adds a column, unless it is there in this form.
 #[tactic(auto, using(crate::proofs::Keeping::same_columns, crate::proofs::Keeping::read_columns))]
-fn keep(columns: &mut Vec<KeptColumn>, column: KeptColumn) -> Result<(), AllocError>
+pub(crate) fn keep(columns: &mut Vec<KeptColumn>, column: KeptColumn) -> Result<(), AllocError>
     ensures here { OnOk result (is_kept columns.new.items column ≡ true) }
     ensures still { OnOk result ((k : KeptColumn) → is_kept columns.old.items k ≡ true
         → is_kept columns.new.items k ≡ true) }

@@ -5,7 +5,7 @@ ghost use Rattle.values.specs.CellViews.{shallow, viewed};
 ghost use Rattle.values.specs.Keys.{datum_of_key, key_of};
 ghost use Rattle.values.specs.declared.key.Key.TheVariants.{Null};
 ghost use Rattle.group_state.specs.Keys.{key_in};
-ghost use Rattle.view_lang.specs.ViewLaws.{IsKeyCell};
+ghost use Rattle.view_lang.specs.Aggregates.{IsKeyCell};
 
 use crate::cells::no_value;
 use std::alloc::{AllocError, Global};
@@ -22,7 +22,7 @@ pub struct KeyCell {
 impl Model for KeyCell {
     ghost use Rattle.group_state.specs.Keys.{key_in};
     ghost use Rattle.values.specs.declared.key.Key.{Key};
-    ghost use Rattle.view_lang.specs.ViewLaws.{IsKeyCell};
+    ghost use Rattle.view_lang.specs.Aggregates.{IsKeyCell};
 
     ghost Value = { Key };
 

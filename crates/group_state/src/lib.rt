@@ -7,6 +7,7 @@
 //! `view_lang`.
 #![tactic(auto)]
 
+mod aggregates;
 mod cells;
 mod few_values;
 mod group;

@@ -4,7 +4,7 @@ ghost use Rattle.std.specs.Prelude.{◌≡◌, IfOk};
 ghost use Rattle.values.specs.Datum.{is_null as is_null_by};
 ghost use Rattle.values.specs.CellViews.{viewed};
 ghost use Rattle.values.specs.Keys.{key_of};
-ghost use Rattle.view_lang.specs.Groups.{number_in};
+ghost use Rattle.view_lang.specs.Folds.{number_in};
 ghost use Rattle.group_state.specs.Rows.{cell};
 
 use crate::key_cell::KeyCell;

@@ -4,7 +4,7 @@ ghost use Rattle.std.specs.Prelude.{◌≡◌, ◌<◌, ◌^◌, ◌∷◌, ◌+
 ghost use Rattle.std.proofs.Common.{option_map};
 ghost use Rattle.values.specs.CellViews.{shallow, viewed};
 ghost use Rattle.values.specs.Datum.{Datum};
-ghost use Rattle.group_state.specs.Reading.{datum_in};
+ghost use Rattle.group_state.specs.Keys.{datum_in};
 ghost use Rattle.group_state.specs.Cells.{KeepsCells, KeepsValues, fresh};
 ghost use Rattle.group_state.specs.GroupParts.{IsTally, tally_with};
 ghost use Rattle.group_state.specs.Seen.{seen_count, seen_distinct, seen_greatest, seen_least, seen_sum};

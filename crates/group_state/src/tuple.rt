@@ -1,14 +1,13 @@
 //! Grouping tuples.
 
 ghost use Rattle.std.specs.Prelude.{◌≡◌, ◌∷◌, All, IfOk, [], length, map};
-ghost use Rattle.view_lang.specs.ViewLaws.{IsKeyCell};
+ghost use Rattle.view_lang.specs.Aggregates.{IsKeyCell};
 ghost use Rattle.values.specs.CellViews.{shallow, viewed};
 ghost use Rattle.view_lang.specs.Cells.{cell_at};
 ghost use Rattle.group_state.specs.Moves.{begins_with};
-ghost use Rattle.group_state.specs.Reading.{data_of};
+ghost use Rattle.group_state.specs.Keys.{data_of, key_in};
 ghost use Rattle.group_state.specs.Rows.{cell};
 ghost use Rattle.group_state.specs.Tuples.{tuple_of};
-ghost use Rattle.group_state.specs.Keys.{key_in};
 
 use crate::cells::no_value;
 use crate::key_cell::KeyCell;

@@ -10,7 +10,7 @@ use Rattle.schema_meta.specs.Rows.{rows_in}
 use Rattle.view_lang.specs.Causes.{layouts_of}
 use Rattle.view_lang.specs.Config.{Table}
 use Rattle.view_lang.specs.Edits.{first_cell}
-use Rattle.view_lang.specs.ViewColumns.{no_field}
+use Rattle.view_lang.specs.Fields.{no_field}
 
 -- Layouts of the same values: what the second holds the first holds, and it weighs the same. Layouts that differ only
 -- in the width of offsets are so.

@@ -9,7 +9,8 @@ use Rattle.feed.specs.Events.{given}
 use Rattle.schema_meta.specs.Rows.{rows_from}
 use Rattle.view_lang.specs.Causes.{any_among, any_heavy, cause_of, has_heavy_cell, has_null, has_repeated, is_heavy}
 use Rattle.view_lang.specs.Config.{SideTable, View}
-use Rattle.view_lang.specs.ConfigRules.{IsConfig, IsFeed, IsOrdered, IsOutput, IsView}
+use Rattle.view_lang.specs.ConfigRules.{IsConfig, IsFeed, IsOutput, IsView}
+use Rattle.view_lang.specs.Fields.{IsOrdered}
 use Rattle.view_lang.specs.Contents.{is_among}
 use Rattle.view_lang.specs.Limits.{max_side_rows}
 use Rattle.view_lang.specs.TableRules.{AreColumns, IsTable}

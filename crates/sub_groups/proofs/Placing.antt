@@ -49,13 +49,12 @@ use Rattle.view_lang.specs.Config.{View}
 use Rattle.view_lang.specs.Filter.{Filter}
 use Rattle.view_lang.specs.Joined.{Side, joined_row, or_missing}
 use Rattle.view_lang.specs.Truth.{passes}
-use Rattle.view_lang.specs.ViewLaws.{IsKeyCell}
+use Rattle.view_lang.specs.Aggregates.{IsKeyCell}
 use Rattle.view_lang.specs.Views.{kept_row}
 use Rattle.view_lang.specs.declared.view.Lookup.{Lookup}
 use Rattle.group_state.specs.Cells.{KeepsCells}
 use Rattle.group_state.specs.GroupCounts.{GroupCounts}
-use Rattle.group_state.specs.Keys.{key_in, tuple_cmp}
-use Rattle.group_state.specs.Reading.{data_of}
+use Rattle.group_state.specs.Keys.{key_in, tuple_cmp, data_of}
 use Rattle.group_state.specs.Rows.{KeepsRows, cells}
 use Rattle.group_state.specs.Tuples.{has_tuple, members, tuple_of}
 use Rattle.group_state.specs.declared.kept_columns.KeptColumn.{KeptColumn}

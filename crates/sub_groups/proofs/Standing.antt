@@ -31,7 +31,7 @@ use Rattle.std.specs.Prelude.{◌==◌, if◌then◌else◌}
 use Rattle.values.specs.Datum.{Datum, null}
 use Rattle.values.specs.declared.key.Key.{Key}
 use Rattle.view_lang.specs.Cells.{cell_at}
-use Rattle.group_state.specs.Reading.{data_of}
+use Rattle.group_state.specs.Keys.{data_of}
 use Rattle.sub_groups.specs.Places.{place_in, stand_cell, stand_from, stand_in}
 
 some_is : (x y : ℕ) → Some x ≡ Some y → x ≡ y

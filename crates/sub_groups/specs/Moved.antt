@@ -1,26 +1,25 @@
 -- Which views can be kept by sub-groups.
 use Rattle.std.specs.Prelude.{◌&&◌, ℕ, Bool, false, not, List, Option, None, Some, nat_lt}
 use Rattle.std.specs.List.{list_any}
+use Rattle.view_lang.specs.Aggregates.{column_read}
 use Rattle.view_lang.specs.Config.{View}
 use Rattle.view_lang.specs.Filter.{Filter}
 use Rattle.view_lang.specs.Outputs.{GroupOutput, Outputs, columns, groups}
-use Rattle.view_lang.specs.declared.view.Aggregate.{Aggregate}
-use Rattle.view_lang.specs.declared.view.Aggregate.TheVariants as aggregate
+use Rattle.view_lang.specs.declared.aggregate.Aggregate.{Aggregate}
 use Rattle.view_lang.specs.declared.view.Lookup.{Lookup}
-use Rattle.group_state.specs.KeptColumns.{AreReadBy}
+use Rattle.group_state.specs.Aggregates.{AreReadBy}
 use Rattle.group_state.specs.declared.kept_columns.KeptColumn.{KeptColumn}
 use Rattle.sub_groups.specs.FilterParts.{are_decided, conjuncts, is_main}
 use Rattle.sub_groups.specs.SubGroups.{sub_keys}
 
+-- whether a column isn't one of the main table, if there is one
+abbrev pub is_side : ℕ → Option ℕ → Bool
+is_side n None = false
+is_side n (Some k) = not (is_main n k)
+
 -- whether an output counts, sums or compares the values of a column that isn't the main table's
 abbrev pub reads_side : ℕ → Aggregate → Bool
-reads_side n (aggregate.Key i) = false
-reads_side n aggregate.Count = false
-reads_side n (aggregate.CountOf k) = not (is_main n k)
-reads_side n (aggregate.Distinct k) = not (is_main n k)
-reads_side n (aggregate.Sum k) = not (is_main n k)
-reads_side n (aggregate.Least k) = not (is_main n k)
-reads_side n (aggregate.Greatest k) = not (is_main n k)
+reads_side n a = is_side n (column_read a)
 
 -- whether one of these outputs does so
 abbrev pub read_side : ℕ → List GroupOutput → Bool

@@ -5,7 +5,7 @@ use Rattle.values.specs.Datum.{Datum, null}
 use Rattle.values.specs.declared.key.Key.{Key}
 use Rattle.view_lang.specs.Config.{View}
 use Rattle.view_lang.specs.Joined.{Side, joined_row}
-use Rattle.group_state.specs.Reading.{data_of}
+use Rattle.group_state.specs.Keys.{data_of}
 use Rattle.sub_groups.specs.FilterParts.{passes_others}
 
 -- the cell of a column in a row that has these cells in these columns; null in the others

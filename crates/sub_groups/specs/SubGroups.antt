@@ -31,7 +31,7 @@ use Rattle.view_lang.specs.Config.{View}
 use Rattle.view_lang.specs.Filter.{Filter}
 use Rattle.view_lang.specs.Joined.{Side}
 use Rattle.view_lang.specs.Outputs.{GroupOutput, groups}
-use Rattle.view_lang.specs.ViewLaws.{IsKeyCell}
+use Rattle.view_lang.specs.Aggregates.{IsKeyCell}
 use Rattle.view_lang.specs.Views.{kept_row}
 use Rattle.view_lang.specs.declared.view.Lookup.{Lookup}
 use Rattle.group_state.specs.GroupCounts.{GroupCounts}

@@ -2,7 +2,7 @@
 
 ghost use Rattle.std.specs.Prelude.{◌≡◌, ◌<◌, IfOk};
 ghost use Rattle.sub_groups.specs.Places.{place_in, stand_cell, stand_in};
-ghost use Rattle.group_state.specs.Reading.{data_of};
+ghost use Rattle.group_state.specs.Keys.{data_of};
 
 use group_state::Tuple;
 use std::alloc::{AllocError, Global};

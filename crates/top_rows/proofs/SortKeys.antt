@@ -10,7 +10,7 @@ use Rattle.values.specs.declared.key.Key.{Key}
 use Rattle.view_lang.proofs.ExactKeys.{key_exact}
 use Rattle.view_lang.specs.Cells.{cell_at}
 use Rattle.view_lang.specs.RowOrder.{cell_cmp, row_cmp}
-use Rattle.view_lang.specs.ViewLaws.{IsKeyCell}
+use Rattle.view_lang.specs.Aggregates.{IsKeyCell}
 use Rattle.view_lang.specs.declared.view.Direction.{Direction}
 use Rattle.view_lang.specs.declared.view.Direction.TheVariants as direction
 use Rattle.view_lang.specs.declared.view.OrderBy.{OrderBy}

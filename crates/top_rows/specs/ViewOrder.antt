@@ -9,7 +9,7 @@ use Rattle.view_lang.specs.Cells.{cell_at}
 use Rattle.view_lang.specs.RowOrder.{row_cmp}
 use Rattle.view_lang.specs.Shifts.{NumberedRows, row_at}
 use Rattle.view_lang.specs.Sorted.{sorted}
-use Rattle.view_lang.specs.ViewLaws.{IsKeyCell}
+use Rattle.view_lang.specs.Aggregates.{IsKeyCell}
 use Rattle.view_lang.specs.declared.view.OrderBy.{OrderBy}
 use Rattle.top_rows.specs.Keeping.{Keeps}
 use Rattle.top_rows.specs.OrderedPlaces.{OrderedPlaces}

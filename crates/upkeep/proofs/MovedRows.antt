@@ -24,7 +24,8 @@ use Rattle.values.specs.declared.layout.Layout.{Layout}
 use Rattle.values.specs.declared.key.Key.{Key}
 use Rattle.view_lang.specs.Cells.{cell_at}
 use Rattle.view_lang.specs.Config.{Table, View}
-use Rattle.view_lang.specs.ConfigRules.{AreOutputs, IsLookup, IsOrdered, IsView}
+use Rattle.view_lang.specs.ConfigRules.{AreOutputs, IsLookup, IsView}
+use Rattle.view_lang.specs.Fields.{IsOrdered}
 use Rattle.view_lang.specs.Contents.{is_among, same_key}
 use Rattle.view_lang.specs.Filter.{Filter}
 use Rattle.view_lang.specs.Images.{ImageValues, image}
@@ -34,7 +35,7 @@ use Rattle.view_lang.specs.Rows.{IsRow}
 use Rattle.view_lang.specs.Shifts.{NumberedRows}
 use Rattle.view_lang.specs.TableRules.{type_of}
 use Rattle.view_lang.specs.ViewColumns.{joined_columns}
-use Rattle.view_lang.specs.ViewLaws.{IsKeyCell}
+use Rattle.view_lang.specs.Aggregates.{IsKeyCell}
 use Rattle.view_lang.specs.Truth.{passes}
 use Rattle.view_lang.specs.Views.{kept_row}
 use Rattle.view_lang.specs.World.{table_at}
@@ -43,7 +44,7 @@ use Rattle.view_lang.proofs.Distinct.{same_symm}
 use Rattle.group_order.specs.Ranked.{Keeps as KeepsRanked, Ranked}
 use Rattle.group_state.specs.GroupCounts.{GroupCounts}
 use Rattle.group_state.specs.Groups.{Keeps as KeepsGroups, KeepsAt}
-use Rattle.group_state.specs.KeptColumns.{IsKept as IsKeptColumn}
+use Rattle.group_state.specs.Aggregates.{IsKept as IsKeptColumn}
 use Rattle.group_state.specs.Keys.{key_cmp, key_in, tuple_cmp}
 use Rattle.group_state.specs.Moves.{begins_with_one}
 use Rattle.group_state.specs.Tuples.{has_tuple, members, tuple_of}

@@ -37,7 +37,7 @@ use Rattle.view_lang.specs.declared.view.Missing.TheVariants as missing
 use Rattle.view_lang.specs.declared.view.OrderBy.{OrderBy}
 use Rattle.group_order.specs.Ranked.{Keeps as KeepsRanked, ranking_by}
 use Rattle.group_state.specs.Groups.{Keeps as KeepsGroups}
-use Rattle.group_state.specs.KeptColumns.{IsKept as IsKeptColumn}
+use Rattle.group_state.specs.Aggregates.{IsKept as IsKeptColumn}
 use Rattle.group_state.specs.declared.kept_columns.KeptColumn.{KeptColumn}
 use Rattle.lookups.specs.Keeping.{Keeps as KeepsReferrers}
 use Rattle.sub_groups.specs.Moved.{is_moved}

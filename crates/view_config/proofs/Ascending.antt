@@ -1,15 +1,13 @@
 -- Numbers in ascending order: those below a bound that are among others.
-use Rattle.std.proofs.Common.{◌≡◌, ℕ, ◌+◌, ◌<◌, List, [], ◌∷◌, ◌++◌, true, false, cond, length, map, refl, ap, subst}
-use Rattle.std.proofs.Common.{◌∙◌, append-nil, arith, sym}
+use Rattle.std.proofs.Common.{◌≡◌, ℕ, ◌+◌, ◌<◌, List, [], ◌∷◌, ◌++◌, true, false, cond, length, map, refl, ap, subst, ◌∙◌, append-nil, arith, sym}
 use Rattle.std.specs.Prelude.{filter}
 use Rattle.std.specs.List.{range_with_len}
 use Rattle.std.proofs.lemmas.List.{map-id}
-use Rattle.std.proofs.lemmas.List.FromFn.{filter_of_map_range_with_len_more, get_or-range_with_len}
-use Rattle.std.proofs.lemmas.List.FromFn.{length-range_with_len}
+use Rattle.std.proofs.lemmas.List.FromFn.{filter_of_map_range_with_len_more, get_or-range_with_len, length-range_with_len}
 use Rattle.std.proofs.lemmas.List.Kept.{AllPairs-filter}
 use Rattle.values.specs.Coded.{AreAscending}
 use Rattle.view_config.specs.Dict.{ascending}
-use Rattle.view_config.specs.Outputs.{is_number_in}
+use Rattle.view_config.specs.Numbers.{is_number_in}
 
 filter_more : (ns : List ℕ) (n : ℕ)
     → ascending ns (n + 1) ≡ ascending ns n ++ cond (is_number_in ns n) (n ∷ []) []

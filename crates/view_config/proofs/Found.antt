@@ -1,6 +1,5 @@
 -- What is found by its name stands at its number.
-use Rattle.std.proofs.Common.{◌≡◌, inl, inr, ℕ, suc, ◌+◌, ◌-◌, List, [], ◌∷◌, ◌++◌, length, ap, sym, subst, ◌∙◌, arith}
-use Rattle.std.proofs.Common.{Ok, Err, Some, Bool, true, false, slice_get}
+use Rattle.std.proofs.Common.{◌≡◌, inl, inr, ℕ, suc, ◌+◌, ◌-◌, List, [], ◌∷◌, ◌++◌, length, ap, sym, subst, ◌∙◌, arith, Ok, Err, Some, Bool, true, false, slice_get}
 use Rattle.std.specs.Prelude.{codes, if◌then◌else◌}
 use Rattle.std.specs.Str.{bytes_eq}
 use Rattle.std.proofs.lemmas.Option.{get_or_from_slice_get, slice_get_within}
@@ -13,12 +12,10 @@ use Rattle.values.specs.Logical.{NamedType}
 use Rattle.values.specs.declared.col_type.ColType.{ColType}
 use Rattle.values.specs.declared.col_type.ColType.TheVariants as col
 use Rattle.view_lang.specs.Config.{SideTable}
-use Rattle.view_lang.specs.ConfigRules.{IsColumn, IsOrdered}
+use Rattle.view_lang.specs.Fields.{IsColumn, IsOrdered, no_field}
 use Rattle.view_lang.specs.TableRules.{type_of}
-use Rattle.view_lang.specs.ViewColumns.{no_field}
 use Rattle.view_config.specs.Columns.{find, has_order, name_of, ordered}
-use Rattle.view_config.specs.Scope.{Column, Scope, behind, fields_of, main_column, ordered_reference, reference}
-use Rattle.view_config.specs.Scope.{reference_by, reference_in, side_column}
+use Rattle.view_config.specs.Scope.{Column, Scope, behind, fields_of, main_column, ordered_reference, reference, reference_by, reference_in, side_column}
 use Rattle.view_config.specs.Sides.{find_side, side_called}
 use Rattle.view_config.specs.Tree.{pair}
 use Rattle.view_config.specs.declared.faults.ConfigFault.TheVariants as fault

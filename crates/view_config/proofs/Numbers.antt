@@ -2,7 +2,7 @@
 use Rattle.std.proofs.Common.{◌≡◌, ℕ, ◌+◌, ◌<◌, List, ◌∷◌, length, get_or, drop, refl}
 use Rattle.std.specs.Prelude.{◌||◌}
 use Rattle.std.proofs.lemmas.List.{drop_all, drop_more}
-use Rattle.view_config.specs.Outputs.{is_number_in, place_of, repeats_number}
+use Rattle.view_config.specs.Numbers.{is_number_in, place_of, repeats_number}
 
 pub number-step :
     (ns : List ℕ) (i d n : ℕ) → i < length ns

@@ -1,6 +1,5 @@
 -- The fields of outputs: their sizes and their types.
-use Rattle.std.proofs.Common.{◌≡◌, ℕ, zero, suc, ◌+◌, ◌<◌, ◌≤◌, List, [], ◌∷◌, length, get_or, drop, map, refl, ap, sym}
-use Rattle.std.proofs.Common.{◌∙◌, Option, Some, None, true, slice_get}
+use Rattle.std.proofs.Common.{◌≡◌, ℕ, zero, suc, ◌+◌, ◌<◌, ◌≤◌, List, [], ◌∷◌, length, get_or, drop, map, refl, ap, sym, ◌∙◌, Option, Some, None, true, slice_get}
 use Rattle.std.proofs.lemmas.List.{drop_all, drop_more}
 use Rattle.std.proofs.lemmas.Option.{get_or_from_slice_get}
 use Rattle.values.specs.Rose.{Rose, node, kids_of, rose_size, roses_size}
@@ -10,10 +9,11 @@ use Rattle.values.specs.declared.col_type.ColType.TheVariants as col
 use Rattle.view_lang.specs.Filter.{Filter}
 use Rattle.view_lang.specs.Outputs.{GroupOutput, Output, columns, groups}
 use Rattle.view_lang.specs.TableRules.{type_of}
-use Rattle.view_lang.specs.ViewColumns.{aggregate_field, field_at, no_field, output_field, output_fields, renamed}
-use Rattle.view_lang.specs.ViewColumns.{sum_type}
-use Rattle.view_lang.specs.declared.view.Aggregate.{Aggregate}
-use Rattle.view_lang.specs.declared.view.Aggregate.TheVariants as aggregate
+use Rattle.view_lang.specs.ViewColumns.{output_field, output_fields}
+use Rattle.view_lang.specs.Aggregates.{aggregate_field, sum_type}
+use Rattle.view_lang.specs.Fields.{field_at, no_field, renamed}
+use Rattle.view_lang.specs.declared.aggregate.Aggregate.{Aggregate}
+use Rattle.view_lang.specs.declared.aggregate.Aggregate.TheVariants as aggregate
 use Rattle.view_config.specs.Columns.{has_order, name_of}
 use Rattle.view_config.specs.Outputs.{all_groups}
 

@@ -1,6 +1,5 @@
 -- Outputs by their names.
-use Rattle.std.proofs.Common.{◌≡◌, ℕ, suc, ◌+◌, ◌-◌, ◌≤◌, List, [], ◌∷◌, get_or, map, refl, ap, sym, subst, ◌∙◌, arith}
-use Rattle.std.proofs.Common.{Option, Some, None, Ok, Err, Bool, true, false}
+use Rattle.std.proofs.Common.{◌≡◌, ℕ, suc, ◌+◌, ◌-◌, ◌≤◌, List, [], ◌∷◌, get_or, map, refl, ap, sym, subst, ◌∙◌, arith, Option, Some, None, Ok, Err, Bool, true, false}
 use Rattle.std.specs.Prelude.{if◌then◌else◌}
 use Rattle.std.specs.Str.{bytes_eq}
 use Rattle.values.specs.Logical.{NamedType}
@@ -9,9 +8,11 @@ use Rattle.values.specs.Rose.{Rose}
 use Rattle.view_lang.specs.Filter.{Filter}
 use Rattle.view_lang.specs.Outputs.{GroupOutput, Output, Outputs, columns, groups}
 use Rattle.view_lang.specs.TableRules.{type_of}
-use Rattle.view_lang.specs.ViewColumns.{aggregate_field, field_at, no_field, output_fields}
-use Rattle.view_lang.specs.declared.view.Aggregate.{Aggregate}
-use Rattle.view_lang.specs.declared.view.Aggregate.TheVariants as aggregate
+use Rattle.view_lang.specs.ViewColumns.{output_fields}
+use Rattle.view_lang.specs.Aggregates.{aggregate_field}
+use Rattle.view_lang.specs.Fields.{field_at, no_field}
+use Rattle.view_lang.specs.declared.aggregate.Aggregate.{Aggregate}
+use Rattle.view_lang.specs.declared.aggregate.Aggregate.TheVariants as aggregate
 use Rattle.view_config.specs.Columns.{find, find_name, has_order, name_of}
 use Rattle.view_config.specs.Outputs.{names_of}
 use Rattle.view_config.specs.Tables.{key_of, ordered_column}

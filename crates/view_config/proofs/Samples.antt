@@ -3,23 +3,20 @@ use Rattle.std.specs.Prelude.{◌≡◌, ⊤, Ok, refl}
 use Rattle.toml.proofs.OnLiterals.{toml_on_literals}
 use Rattle.view_config.specs.Tree.{each_item, each_member}
 use Rattle.view_config.specs.Limits.{column_limits}
-use Rattle.view_config.specs.ColumnTypes.{decimal_of, timestamp_of, simple_of, list_of, child_of, struct_of, array_of}
-use Rattle.view_config.specs.ColumnTypes.{type_by, field_of}
+use Rattle.view_config.specs.ColumnTypes.{decimal_of, timestamp_of, simple_of, list_of, child_of, struct_of, array_of, type_by, field_of}
 use Rattle.view_config.specs.Tables.{column_of, columns_of, main_of, ordered_column, table_of}
 use Rattle.view_config.specs.Sides.{side_of}
 use Rattle.view_config.specs.Feeds.{feed_of, role_by, role_of, side_number}
 use Rattle.view_config.specs.Scope.{ordered_reference, reference, reference_in}
 use Rattle.view_config.specs.Constants.{constant_in, decimal, pairs as hexadecimal, pointed, unscaled}
-use Rattle.view_config.specs.Filters.{comparison_of, filter_by, filter_of, filter_with, negation_of, null_of}
-use Rattle.view_config.specs.Filters.{operand_of, whole_filter}
-use Rattle.view_config.specs.Outputs.{aggregate_by, group_of, group_output_of, output_limits, output_of, outputs_in}
-use Rattle.view_config.specs.Outputs.{grouping_column, outputs_of}
+use Rattle.view_config.specs.Filters.{comparison_of, filter_by, filter_of, filter_with, negation_of, null_of, operand_of, whole_filter}
+use Rattle.view_config.specs.Outputs.{group_of, group_output_of, output_limits, output_of, outputs_in, grouping_column, outputs_of}
+use Rattle.view_config.specs.Aggregates.{aggregate_by}
 use Rattle.view_config.specs.Lookups.{lookup_of}
 use Rattle.view_config.specs.Dict.{coded_output, dict_of}
 use Rattle.view_config.specs.Views.{having_in, order_by_of, order_of, view_in, view_of}
 use Rattle.view_config.specs.Config.{config_of, text_means}
-use Rattle.view_config.specs.Worked.{ConstantsRead, FaultsStand, LimitsTaken, amounts, amounts_text, pairs, pairs_text}
-use Rattle.view_config.specs.Worked.{texts, texts_text, zones, zones_text}
+use Rattle.view_config.specs.Worked.{ConstantsRead, FaultsStand, LimitsTaken, amounts, amounts_text, pairs, pairs_text, texts, texts_text, zones, zones_text}
 
 -- what a sample unfolds: the words of types, of tables, of filters, and of all else
 unfoldable types_on_literals : ⊤

@@ -1,6 +1,5 @@
 -- The outputs that were read as coded are texts, by their places in ascending order.
-use Rattle.std.proofs.Common.{◌≡◌, ◌⊎◌, inl, inr, ℕ, zero, suc, ◌<◌, ◌==◌, ◌||◌, Bool, true, false, List, [], ◌∷◌}
-use Rattle.std.proofs.Common.{length, refl, ap, sym, subst, arith, Ok, Err, Some, Option, None, slice_get}
+use Rattle.std.proofs.Common.{◌≡◌, ◌⊎◌, inl, inr, ℕ, zero, suc, ◌<◌, ◌==◌, ◌||◌, Bool, true, false, List, [], ◌∷◌, length, refl, ap, sym, subst, arith, Ok, Err, Some, Option, None, slice_get}
 use Rattle.std.specs.Prelude.{All, filter}
 use Rattle.std.specs.List.{range_with_len}
 use Rattle.std.proofs.lemmas.Bool.{eqb-true}
@@ -18,7 +17,8 @@ use Rattle.values.proofs.Readings.{must_Ok}
 use Rattle.view_lang.specs.TableRules.{type_of}
 use Rattle.view_config.specs.Columns.{find, is_text}
 use Rattle.view_config.specs.Dict.{ascending, coded, coded_output, dict_in, dict_of}
-use Rattle.view_config.specs.Outputs.{distinct_numbers, is_number_in}
+use Rattle.view_config.specs.Outputs.{distinct_numbers}
+use Rattle.view_config.specs.Numbers.{is_number_in}
 use Rattle.view_config.specs.Scope.{Column}
 use Rattle.view_config.specs.Tree.{each_item, items_in}
 use Rattle.view_config.specs.declared.faults.ConfigFault.TheVariants as fault

@@ -1,6 +1,5 @@
 -- Outputs that were read keep their rules.
-use Rattle.std.proofs.Common.{◌≡◌, ℕ, suc, ◌+◌, ◌<◌, ◌≤◌, List, [], ◌∷◌, length, map, refl, ap, sym, subst, ◌∙◌, arith}
-use Rattle.std.proofs.Common.{Ok, Err, Option, Some, None, Bool, true, false, inl, inr}
+use Rattle.std.proofs.Common.{◌≡◌, ℕ, suc, ◌+◌, ◌<◌, ◌≤◌, List, [], ◌∷◌, length, map, refl, ap, sym, subst, ◌∙◌, arith, Ok, Err, Option, Some, None, Bool, true, false, inl, inr}
 use Rattle.std.specs.Prelude.{All, codes, if◌then◌else◌, ◌==◌}
 use Rattle.std.specs.Str.{bytes_eq, is_utf8}
 use Rattle.std.proofs.lemmas.Bool.{leb-true}
@@ -14,19 +13,19 @@ use Rattle.values.specs.Rose.{Rose, kids_of, roses_size}
 use Rattle.values.proofs.Readings.{both_Ok, mapped_Ok, must_Ok}
 use Rattle.values.specs.declared.col_type.ColType.{ColType}
 use Rattle.values.specs.declared.col_type.ColType.TheVariants as col
-use Rattle.view_lang.specs.ConfigRules.{AreOutputs, IsAddable, IsAggregate, IsColumn, IsGroupOutput, IsHaving}
-use Rattle.view_lang.specs.ConfigRules.{IsOrdered, IsOutput, IsText}
+use Rattle.view_lang.specs.ConfigRules.{AreOutputs, IsGroupOutput, IsHaving, IsOutput, IsText}
+use Rattle.view_lang.specs.Aggregates.{IsAddable, IsAggregate}
+use Rattle.view_lang.specs.Fields.{IsColumn, IsOrdered, no_field}
 use Rattle.view_lang.specs.Limits.{max_columns, max_sum_precision}
 use Rattle.view_lang.specs.Outputs.{GroupOutput, Output, Outputs, columns}
 use Rattle.view_lang.specs.TableRules.{type_of}
-use Rattle.view_lang.specs.ViewColumns.{no_field, output_fields}
-use Rattle.view_lang.specs.declared.view.Aggregate.{Aggregate}
-use Rattle.view_lang.specs.declared.view.Aggregate.TheVariants as aggregate
+use Rattle.view_lang.specs.ViewColumns.{output_fields}
+use Rattle.view_lang.specs.declared.aggregate.Aggregate.{Aggregate}
+use Rattle.view_lang.specs.declared.aggregate.Aggregate.TheVariants as aggregate
 use Rattle.view_config.specs.Limits.{column_name, few_fields}
-use Rattle.view_config.specs.Outputs.{aggregate_by, all_groups, can_be_summed, count_by, distinct_numbers, group_of}
-use Rattle.view_config.specs.Outputs.{group_output_named, group_output_of, grouping_column, key_of_group, output_limits}
-use Rattle.view_config.specs.Outputs.{output_named, output_of, outputs_in, outputs_of, place_of, shown_by, sole_ordered}
-use Rattle.view_config.specs.Outputs.{sole_reference, sum_of_column}
+use Rattle.view_config.specs.Outputs.{all_groups, distinct_numbers, group_of, group_output_named, group_output_of, grouping_column, output_limits, output_named, output_of, outputs_in, outputs_of, shown_by}
+use Rattle.view_config.specs.Aggregates.{aggregate_by, can_be_summed, count_by, key_of_group, sole_ordered, sole_reference, sum_of_column}
+use Rattle.view_config.specs.Numbers.{place_of}
 use Rattle.view_config.specs.Reading.{Reading}
 use Rattle.view_config.specs.Scope.{Column, Scope, fields_of, ordered_reference, reference}
 use Rattle.view_config.specs.Tables.{few_columns}

@@ -1,6 +1,5 @@
 -- A view that was read keeps its rules.
-use Rattle.std.proofs.Common.{◌≡◌, ℕ, suc, ◌≤◌, List, [], ◌∷◌, ◌++◌, length, map, refl, ap, sym, subst, ◌∙◌, arith, Ok}
-use Rattle.std.proofs.Common.{Option, Some, None, slice_get, append-nil}
+use Rattle.std.proofs.Common.{◌≡◌, ℕ, suc, ◌≤◌, List, [], ◌∷◌, ◌++◌, length, map, refl, ap, sym, subst, ◌∙◌, arith, Ok, Option, Some, None, slice_get, append-nil}
 use Rattle.std.specs.Prelude.{All, codes, not}
 use Rattle.std.specs.Option.{option_map}
 use Rattle.std.proofs.lemmas.Option.{get_or_from_slice_get, slice_get_within, slice_get-map}
@@ -14,7 +13,8 @@ use Rattle.values.specs.Reading.{◌>>=◌, must, refused_if}
 use Rattle.values.specs.Rose.{Rose, kids_of, roses_size}
 use Rattle.values.proofs.Readings.{mapped_Ok, must_Ok}
 use Rattle.view_lang.specs.Config.{SideTable, Table, View}
-use Rattle.view_lang.specs.ConfigRules.{AreOutputs, IsFilter, IsFilterOf, IsHaving, IsLookup, IsOrdered, IsView}
+use Rattle.view_lang.specs.ConfigRules.{AreOutputs, IsFilter, IsFilterOf, IsHaving, IsLookup, IsView}
+use Rattle.view_lang.specs.Fields.{IsOrdered}
 use Rattle.view_lang.specs.Limits.{max_columns}
 use Rattle.view_lang.specs.Filter.{Filter}
 use Rattle.view_lang.specs.Outputs.{Outputs, columns, groups}
@@ -33,9 +33,7 @@ use Rattle.view_config.specs.Scope.{Column, Scope, fields_of, group_scope}
 use Rattle.view_config.specs.Sides.{side_called}
 use Rattle.view_config.specs.Tables.{key_of, ordered_column}
 use Rattle.view_config.specs.Tree.{each_item, items_in, members_in, needed, only, pair_in, text_in}
-use Rattle.view_config.specs.Views.{direction_by, first_of, lookup_alone, numbers_of, order_by_of, order_in, order_of}
-use Rattle.view_config.specs.Views.{having_in, perhaps, scope_of, sorted_by, view_entries, view_in, view_named}
-use Rattle.view_config.specs.Views.{view_of}
+use Rattle.view_config.specs.Views.{direction_by, first_of, lookup_alone, numbers_of, order_by_of, order_in, order_of, having_in, perhaps, scope_of, sorted_by, view_entries, view_in, view_named, view_of}
 use Rattle.view_config.specs.declared.faults.ConfigFault.TheVariants as fault
 use Rattle.view_config.proofs.Found.{found-at, ordered-column, side-at}
 use Rattle.view_config.proofs.Readings.{bound, items_all}

@@ -7,7 +7,8 @@ use Rattle.values.specs.Reading.{◌>>=◌, must, one}
 use Rattle.values.specs.Rose.{Rose}
 use Rattle.view_lang.specs.TableRules.{type_of}
 use Rattle.view_config.specs.Columns.{find, is_text}
-use Rattle.view_config.specs.Outputs.{distinct_numbers, is_number_in}
+use Rattle.view_config.specs.Outputs.{distinct_numbers}
+use Rattle.view_config.specs.Numbers.{is_number_in}
 use Rattle.view_config.specs.Reading.{Reading}
 use Rattle.view_config.specs.Scope.{Column}
 use Rattle.view_config.specs.Tree.{each_item, items_in}

@@ -11,6 +11,8 @@ pub mod Feeds
 pub mod Scope
 pub mod Constants
 pub mod Filters
+pub mod Numbers
+pub mod Aggregates
 pub mod Outputs
 pub mod Places
 pub mod Lookups

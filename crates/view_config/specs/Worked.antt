@@ -13,7 +13,7 @@ use Rattle.view_lang.specs.Config.{Config, Table, View}
 use Rattle.view_lang.specs.Limits.{max_side_rows}
 use Rattle.view_lang.specs.Outputs.{Output, columns}
 use Rattle.view_lang.specs.declared.config.Role.TheVariants as role
-use Rattle.view_lang.specs.declared.view.Aggregate.TheVariants as aggregate
+use Rattle.view_lang.specs.declared.aggregate.Aggregate.TheVariants as aggregate
 use Rattle.view_lang.specs.declared.view.Direction.TheVariants as direction
 use Rattle.view_lang.specs.declared.view.Missing.TheVariants as missing
 use Rattle.view_config.specs.ColumnTypes.{leaf}

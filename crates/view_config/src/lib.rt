@@ -8,6 +8,7 @@
 //! faults may stand, and `Worked` has texts whose meaning is computed.
 #![tactic(auto)]
 
+mod aggregates;
 mod columns;
 mod config;
 mod constants;

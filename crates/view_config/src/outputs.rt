@@ -10,8 +10,8 @@ ghost use Rattle.view_config.specs.Reading.{Answers};
 ghost use Rattle.view_config.specs.Scope.{fields_of};
 ghost use Rattle.view_config.specs.Tree.{each_item};
 
+use crate::aggregates::{aggregate_by, sole_reference};
 use crate::faults::ConfigFault;
-use crate::groups::{aggregate_by, sole_reference};
 use crate::limits::check_name;
 use crate::naming::check_distinct_names;
 use crate::scope::Scope;

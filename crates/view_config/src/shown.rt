@@ -1,36 +1,28 @@
 //! The columns that outputs show: how many fields they have, and whether their values have an order.
 
-ghost use Rattle.std.specs.Prelude.{◌≡◌, [], get_or};
+ghost use Rattle.std.specs.Prelude.{◌≡◌};
 ghost use Rattle.values.specs.Reading.{Yields};
 ghost use Rattle.values.specs.Rose.{rose_size};
 ghost use Rattle.view_lang.specs.Outputs.{columns as columns_seen};
 ghost use Rattle.view_lang.specs.TableRules.{type_of};
-ghost use Rattle.view_lang.specs.ViewColumns.{aggregate_field, field_at, output_fields};
+ghost use Rattle.view_lang.specs.ViewColumns.{output_fields};
+ghost use Rattle.view_lang.specs.Fields.{field_at};
 ghost use Rattle.view_config.specs.Columns.{has_order};
 ghost use Rattle.view_config.specs.Limits.{IsRoomAfter, few_fields, size_of};
 ghost use Rattle.view_config.specs.Outputs.{all_groups, shown_in};
 ghost use Rattle.view_config.specs.Scope.{fields_of};
 
+use crate::aggregates::{is_aggregate_ordered, room_after_aggregate};
 use crate::columns::has_order;
 use crate::faults::ConfigFault;
 use crate::limits::room_after;
 use crate::scope::{Scope, column_at};
 use values::limits::MAX_FIELDS;
-use view_lang::{Aggregate, GroupOutput, Output, Outputs};
-
-/// The number of the grouping column at this place.
-fn grouped_at(by: &[usize], place: usize) -> usize
-    ensures { result ≡ get_or by.now place 0 }
-{
-    match by.get(place) {
-        Some(number) => *number,
-        None => 0,
-    }
-}
+use view_lang::{GroupOutput, Output, Outputs};
 
 /// `room` less the number of fields of a column, at all levels; `None` where they are more.
 #[tactic(auto, using(crate::proofs::OutputFields::column_sizes))]
-fn room_after_column(scope: &Scope, number: usize, room: u32) -> Option<u32>
+pub(crate) fn room_after_column(scope: &Scope, number: usize, room: u32) -> Option<u32>
     ensures { IsRoomAfter room (rose_size (field_at (fields_of scope.now) number)) result }
 {
     match column_at(scope, number) {
@@ -49,21 +41,6 @@ fn room_after_outputs(scope: &Scope, outputs: &[Output], room: u32) -> Option<u3
         left = room_after_column(scope, output.column, left)?;
     }
     Some(left)
-}
-
-/// The same for an output of groups by these columns.
-#[tactic(auto, using(crate::proofs::OutputFields::aggregate_sizes))]
-fn room_after_aggregate(scope: &Scope, by: &[usize], aggregate: Aggregate, room: u32) -> Option<u32>
-    ensures { IsRoomAfter room (rose_size (aggregate_field (fields_of scope.now) by.now [] aggregate)) result }
-{
-    match aggregate {
-        Aggregate::Key(place) => { room_after_column(scope, grouped_at(by, place), room) }
-        Aggregate::Count | Aggregate::CountOf(_) | Aggregate::Distinct(_) | Aggregate::Sum(_) =>
-            room.checked_sub(1),
-        Aggregate::Least(number) | Aggregate::Greatest(number) => {
-            room_after_column(scope, number, room)
-        }
-    }
 }
 
 #[tactic(auto, using(crate::proofs::OutputFields::output_sizes))]
@@ -100,25 +77,12 @@ pub(crate) fn check_fields(scope: &Scope, outputs: &Outputs) -> Result<(), Confi
 
 /// Whether the values of a column have an order.
 #[tactic(auto, using(crate::proofs::OutputFields::column_sizes))]
-fn is_ordered(scope: &Scope, number: usize) -> bool
+pub(crate) fn is_ordered(scope: &Scope, number: usize) -> bool
     ensures { result ≡ has_order (type_of (field_at (fields_of scope.now) number)) }
 {
     match column_at(scope, number) {
         Some(field) => has_order(&field.col_type),
         None => true,
-    }
-}
-
-/// Whether the values of an output of groups by these columns have an order.
-#[tactic(auto, using(crate::proofs::OutputFields::aggregate_types))]
-fn is_aggregate_ordered(scope: &Scope, by: &[usize], aggregate: Aggregate) -> bool
-    ensures { result ≡ has_order (type_of (aggregate_field (fields_of scope.now) by.now [] aggregate)) }
-{
-    match aggregate {
-        Aggregate::Key(place) => is_ordered(scope, grouped_at(by, place)),
-        Aggregate::Count | Aggregate::CountOf(_) | Aggregate::Distinct(_) | Aggregate::Sum(_) =>
-            true,
-        Aggregate::Least(number) | Aggregate::Greatest(number) => is_ordered(scope, number),
     }
 }
 

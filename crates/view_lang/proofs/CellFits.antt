@@ -34,7 +34,7 @@ use Rattle.view_lang.specs.Cells.{cell_at}
 use Rattle.view_lang.specs.Limits.{max_columns}
 use Rattle.view_lang.specs.Rows.{IsRow, RowsAreLight}
 use Rattle.view_lang.specs.TableRules.{AreSlim, IsSlim}
-use Rattle.view_lang.specs.ViewColumns.{field_at, renamed}
+use Rattle.view_lang.specs.Fields.{field_at, renamed}
 
 neither : (a b : Bool) → (a || b) ≡ false → (a ≡ false) × (b ≡ false)
 neither true b e = absurd (true≢false e)

@@ -28,34 +28,16 @@ use Rattle.values.specs.Limits.{max_depth}
 use Rattle.values.specs.Logical.{AreLogicalColumns, IsLogical, NamedType, tree_of, trees_of}
 use Rattle.values.specs.Rose.{Rose, node, kids_of, rose_depth, roses_depth}
 use Rattle.view_lang.specs.Config.{Table}
-use Rattle.view_lang.specs.ConfigRules.{
-  AreOutputs,
-  IsAddable,
-  IsAggregate,
-  IsGroupOutput,
-  IsLookup,
-  IsOrdered,
-  IsOutput,
-  IsText,
-}
+use Rattle.view_lang.specs.ConfigRules.{AreOutputs, IsGroupOutput, IsLookup, IsOutput, IsText}
+use Rattle.view_lang.specs.Aggregates.{IsAddable, IsAggregate, aggregate_field, count_type, sum_type}
+use Rattle.view_lang.specs.Fields.{IsOrdered, field_at, renamed, simple_field}
 use Rattle.view_lang.specs.Laws.{ViewsAreTables}
 use Rattle.view_lang.specs.Outputs.{GroupOutput, Output, Outputs, columns, groups}
 use Rattle.view_lang.specs.TableRules.{AreColumns, AreSlim, AreWithin, IsSlim, IsTable, IsWithin, type_of}
-use Rattle.view_lang.specs.ViewColumns.{
-  aggregate_field,
-  count_type,
-  field_at,
-  joined_columns,
-  output_field,
-  output_fields,
-  renamed,
-  simple_field,
-  sum_type,
-  view_columns,
-}
+use Rattle.view_lang.specs.ViewColumns.{joined_columns, output_field, output_fields, view_columns}
 use Rattle.view_lang.specs.World.{table_at}
-use Rattle.view_lang.specs.declared.view.Aggregate.{Aggregate}
-use Rattle.view_lang.specs.declared.view.Aggregate.TheVariants as aggregate
+use Rattle.view_lang.specs.declared.aggregate.Aggregate.{Aggregate}
+use Rattle.view_lang.specs.declared.aggregate.Aggregate.TheVariants as aggregate
 use Rattle.view_lang.specs.declared.view.Lookup.{Lookup}
 
 -- a column of its own

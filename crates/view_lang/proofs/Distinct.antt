@@ -1,12 +1,9 @@
 -- Distinct values, counted one row after the other, and in any order.
-use Rattle.std.proofs.Common.{◌≡◌, ℕ, ◌+◌, ◌<◌, ◌≤◌, Bool, true, false, cond, ◌||◌, List, [], ◌∷◌, length, drop, get_or, refl, ap, subst, ◌∙◌, arith}
-use Rattle.std.specs.Prelude.{Vec}
+use Rattle.std.proofs.Common.{◌≡◌, ℕ, ◌+◌, ◌≤◌, Bool, true, false, cond, ◌||◌, List, [], ◌∷◌, length, refl, ap, ◌∙◌, arith}
 use Rattle.std.specs.Cmp.{eq_by_cmp_equiv}
-use Rattle.std.specs.declared.alloc.Global.{Global}
-use Rattle.values.specs.Datum.{Datum, is_null}
-use Rattle.view_lang.specs.Cells.{cell_at, rows_of}
+use Rattle.values.specs.Datum.{Datum}
 use Rattle.view_lang.specs.Contents.{is_among, same_key}
-use Rattle.view_lang.specs.Groups.{distinct, values_at}
+use Rattle.view_lang.specs.Folds.{distinct}
 use Rattle.view_lang.proofs.Orders.{datum_cmp_total}
 
 -- Values, one after the other

@@ -20,7 +20,7 @@ use Rattle.std.proofs.Common.{
   ◌∙◌,
 }
 use Rattle.std.proofs.lemmas.List.Elements.{All-cons, All-get_or, All-map}
-use Rattle.std.proofs.lemmas.Option.{none-some, slice_get_within}
+use Rattle.std.proofs.lemmas.Option.{none-some}
 use Rattle.std.specs.Prelude.{slice_get}
 use Rattle.values.proofs.Logicals.{is-same}
 use Rattle.values.proofs.Roses.{kid_smaller}
@@ -31,7 +31,8 @@ use Rattle.view_lang.specs.Config.{Config, SideTable, Table, tables_of}
 use Rattle.view_lang.specs.ConfigRules.{IsConfig}
 use Rattle.view_lang.specs.Edits.{table_of}
 use Rattle.view_lang.specs.TableRules.{IsTable}
-use Rattle.view_lang.specs.ViewColumns.{columns_by, feed_columns, no_field}
+use Rattle.view_lang.specs.ViewColumns.{columns_by, feed_columns}
+use Rattle.view_lang.specs.Fields.{no_field}
 use Rattle.view_lang.specs.World.{table_at}
 use Rattle.view_lang.specs.declared.config.Role.{Role}
 use Rattle.view_lang.specs.declared.config.Role.TheVariants as role

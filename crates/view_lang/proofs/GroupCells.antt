@@ -41,14 +41,13 @@ use Rattle.values.specs.Limits.{max_main_rows}
 use Rattle.values.specs.Logical.{NamedType, tree_of, trees_of}
 use Rattle.values.specs.Rose.{Rose, node}
 use Rattle.view_lang.specs.Cells.{cell_at}
-use Rattle.view_lang.specs.ConfigRules.{IsAddable, IsAggregate}
-use Rattle.view_lang.specs.Groups.{aggregate_of, distinct, first_in, number_in, sum_of, total, values_at}
+use Rattle.view_lang.specs.Aggregates.{IsAddable, IsAggregate, aggregate_of, IsSmall, aggregate_field, count_type, sum_type}
+use Rattle.view_lang.specs.Folds.{distinct, first_in, number_in, sum_of, total, values_at}
 use Rattle.view_lang.specs.RowOrder.{cell_cmp}
-use Rattle.view_lang.specs.Sums.{IsSmall}
 use Rattle.view_lang.specs.TableRules.{type_of}
-use Rattle.view_lang.specs.ViewColumns.{aggregate_field, count_type, field_at, renamed, simple_field, sum_type}
-use Rattle.view_lang.specs.declared.view.Aggregate.{Aggregate}
-use Rattle.view_lang.specs.declared.view.Aggregate.TheVariants as aggregate
+use Rattle.view_lang.specs.Fields.{field_at, renamed, simple_field}
+use Rattle.view_lang.specs.declared.aggregate.Aggregate.{Aggregate}
+use Rattle.view_lang.specs.declared.aggregate.Aggregate.TheVariants as aggregate
 use Rattle.view_lang.specs.declared.view.Direction.{Direction}
 use Rattle.view_lang.proofs.CellFits.{AreFit, Fits, cell_fits, null_fits, renamed_fits}
 use Rattle.view_lang.proofs.Columns.{AreSuch, column_at}

@@ -1,42 +1,22 @@
 -- What a kept order and kept multisets rest on.
-use Rattle.std.proofs.Common.{
-  ◌≡◌,
-  Bool,
-  true,
-  false,
-  cond,
-  List,
-  [],
-  ◌∷◌,
-  ◌++◌,
-  map,
-  refl,
-  sym,
-  ap,
-  ◌∙◌,
-  arith,
-  true≢false,
-}
-use Rattle.std.specs.Prelude.{◌+ℤ◌}
+use Rattle.std.proofs.Common.{◌≡◌, Bool, true, false, cond, List, [], ◌∷◌, map, refl, sym, ap, ◌∙◌, true≢false}
 use Rattle.std.specs.declared.cmp.Ordering.{Ordering}
 use Rattle.std.specs.declared.cmp.Ordering.TheVariants.{Less, Equal, Greater}
-use Rattle.std.specs.Ordering.{is_gt, nat_cmp, on, ordering_reverse, ordering_then, then_cmp}
+use Rattle.std.specs.Ordering.{is_gt, on, ordering_reverse, ordering_then, then_cmp}
 use Rattle.std.specs.List.{AllByRecursion}
 use Rattle.std.specs.List.Sorted.{IsStrictlySortedBy}
 use Rattle.std.specs.Cmp.{IsTotalOrder}
-use Rattle.std.proofs.lemmas.Int.{ints}
-use Rattle.std.proofs.lemmas.Cmp.{upto, on_total, then_total, nat_cmp_total}
+use Rattle.std.proofs.lemmas.Cmp.{upto}
 use Rattle.values.specs.Datum.{Datum, null}
 use Rattle.view_lang.specs.Sorted.{placed, sorted}
-use Rattle.view_lang.specs.RowOrder.{cell_cmp, row_cmp, tuple_cmp}
-use Rattle.view_lang.specs.Groups.{number_in, total, earlier, first_in}
+use Rattle.view_lang.specs.RowOrder.{cell_cmp}
+use Rattle.view_lang.specs.Folds.{earlier, first_in}
 use Rattle.view_lang.specs.ViewLaws.{
   first_or_null,
   FirstOfSorted,
 }
 use Rattle.view_lang.specs.declared.view.Direction.{Direction}
 use Rattle.view_lang.specs.declared.view.Direction.TheVariants as direction
-use Rattle.view_lang.proofs.Orders.{row_cmp_total}
 use Rattle.view_lang.proofs.Sorting.{all-placed}
 
 first_null : (o : Direction) (d : Datum) → earlier o d null ≡ d

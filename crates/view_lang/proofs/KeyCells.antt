@@ -11,15 +11,17 @@ use Rattle.values.specs.declared.col_type.ColType.{ColType}
 use Rattle.values.specs.declared.col_type.ColType.TheVariants as col
 use Rattle.values.specs.declared.layout.Layout.{Layout}
 use Rattle.view_lang.specs.Cells.{cell_at}
-use Rattle.view_lang.specs.ConfigRules.{AreOutputs, IsAggregate, IsGroupOutput, IsOrdered}
+use Rattle.view_lang.specs.ConfigRules.{AreOutputs, IsGroupOutput}
+use Rattle.view_lang.specs.Aggregates.{IsAggregate, ComparesKeys, IsKeyCell}
+use Rattle.view_lang.specs.Fields.{IsOrdered, field_at}
 use Rattle.view_lang.specs.Laws.{ViewsOrderKeys, ViewsUseKeys}
 use Rattle.view_lang.specs.Outputs.{GroupOutput, groups}
 use Rattle.view_lang.specs.TableRules.{type_of}
-use Rattle.view_lang.specs.ViewColumns.{field_at, joined_columns, view_columns}
-use Rattle.view_lang.specs.ViewLaws.{ComparesKeys, IsKeyCell, UsesKeys}
+use Rattle.view_lang.specs.ViewColumns.{joined_columns, view_columns}
+use Rattle.view_lang.specs.ViewLaws.{UsesKeys}
 use Rattle.view_lang.specs.Views.{output_rows, view_input}
-use Rattle.view_lang.specs.declared.view.Aggregate.{Aggregate}
-use Rattle.view_lang.specs.declared.view.Aggregate.TheVariants as aggregate
+use Rattle.view_lang.specs.declared.aggregate.Aggregate.{Aggregate}
+use Rattle.view_lang.specs.declared.aggregate.Aggregate.TheVariants as aggregate
 use Rattle.view_lang.specs.declared.view.OrderBy.{OrderBy}
 use Rattle.view_lang.proofs.CellFits.{AreFit, cell_fits}
 use Rattle.view_lang.proofs.Columns.{joined_such}

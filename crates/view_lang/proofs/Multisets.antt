@@ -50,24 +50,13 @@ use Rattle.values.specs.Order.{datum_cmp}
 use Rattle.view_lang.specs.Cells.{cell_at, cells_at}
 use Rattle.view_lang.specs.Sorted.{placed, sorted}
 use Rattle.view_lang.specs.RowOrder.{cell_cmp, tuple_cmp}
-use Rattle.view_lang.specs.Groups.{
-  same_tuple,
-  tuples_of,
-  rows_with,
-  values_at,
-  distinct,
-  number_in,
-  total,
-  sum_of,
-  first_in,
-  aggregate_of,
-  group_row,
-  group_rows,
-}
-use Rattle.view_lang.specs.ViewLaws.{IsKeyCell, ComparesKeys, UsesKeys, GroupsOfMultiset, first_or_null}
+use Rattle.view_lang.specs.Groups.{same_tuple, tuples_of, rows_with, group_row, group_rows}
+use Rattle.view_lang.specs.Aggregates.{aggregate_of, IsKeyCell, ComparesKeys}
+use Rattle.view_lang.specs.Folds.{values_at, distinct, number_in, total, sum_of, first_in}
+use Rattle.view_lang.specs.ViewLaws.{UsesKeys, GroupsOfMultiset, first_or_null}
 use Rattle.view_lang.specs.Outputs.{GroupOutput}
-use Rattle.view_lang.specs.declared.view.Aggregate.{Aggregate}
-use Rattle.view_lang.specs.declared.view.Aggregate.TheVariants as aggregate
+use Rattle.view_lang.specs.declared.aggregate.Aggregate.{Aggregate}
+use Rattle.view_lang.specs.declared.aggregate.Aggregate.TheVariants as aggregate
 use Rattle.view_lang.specs.declared.view.Direction.{Direction}
 use Rattle.view_lang.specs.declared.view.Direction.TheVariants as direction
 use Rattle.view_lang.specs.Contents.{is_among, same_key}

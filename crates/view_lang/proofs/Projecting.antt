@@ -1,33 +1,8 @@
 -- Rows that a view shows, cell by cell and row by row.
-use Rattle.std.proofs.Common.{
-  ◌≡◌,
-  ℕ,
-  ◌+◌,
-  ◌<◌,
-  ◌≤◌,
-  List,
-  [],
-  ◌∷◌,
-  ◌++◌,
-  map,
-  length,
-  take,
-  drop,
-  get_or,
-  set,
-  sym,
-  ap,
-  ap₂,
-  ◌∙◌,
-  arith,
-  append_assoc,
-  append-nil,
-}
-use Rattle.std.specs.Prelude.{Vec}
-use Rattle.std.specs.declared.alloc.Global.{Global}
-use Rattle.std.proofs.lemmas.List.{drop_all, drop_more, drop-set-lt, take_all, take_more, take_more_set, map_push}
+use Rattle.std.proofs.Common.{◌≡◌, ℕ, ◌+◌, ◌<◌, List, [], ◌∷◌, ◌++◌, length, take, get_or, sym, ap, ◌∙◌}
+use Rattle.std.proofs.lemmas.List.{take_more, map_push}
 use Rattle.values.specs.Datum.{Datum}
-use Rattle.view_lang.specs.Cells.{cell_at, rows_of}
+use Rattle.view_lang.specs.Cells.{cell_at}
 use Rattle.view_lang.specs.Outputs.{Output}
 use Rattle.view_lang.specs.Views.{output_cell, shown_row}
 

@@ -1,47 +1,13 @@
 -- The stable rearrangement: it is one, and the only one.
-use Rattle.std.proofs.Common.{
-  ◌≡◌,
-  suc,
-  zero,
-  Bool,
-  true,
-  false,
-  not,
-  ◌&&◌,
-  cond,
-  List,
-  [],
-  ◌∷◌,
-  map,
-  filter,
-  refl,
-  sym,
-  ap,
-  ◌∙◌,
-  subst,
-  arith,
-  true≢false,
-  add-one,
-}
+use Rattle.std.proofs.Common.{◌≡◌, suc, zero, Bool, true, false, not, ◌&&◌, cond, List, [], ◌∷◌, filter, refl, sym, ap, ◌∙◌, subst, arith, true≢false, add-one}
 use Rattle.std.specs.declared.cmp.Ordering.{Ordering}
 use Rattle.std.specs.declared.cmp.Ordering.TheVariants.{Less, Equal, Greater}
-use Rattle.std.specs.Ordering.{is_lt, is_gt, is_eq, ordering_reverse, on}
+use Rattle.std.specs.Ordering.{is_lt, is_gt, is_eq, ordering_reverse}
 use Rattle.std.specs.List.{AllByRecursion}
-use Rattle.std.specs.List.Sorted.{IsPermutation, IsSorted, IsStable, IsSortedByClosure, IsStableByClosure, ties}
-use Rattle.std.specs.Cmp.{IsTotalOrder, IsStrictWeakOrder}
-use Rattle.std.specs.Fn.{Called, ComparesAs}
-use denote.Param.Members.{Mut}
-use denote.Ref.{Bor}
-use Rattle.std.proofs.lemmas.Fn.{always_returns_same}
-use Rattle.std.proofs.lemmas.Cmp.{alike_right, on_total, tied_itself, upto}
-use Rattle.std.proofs.lemmas.List.Sorted.{
-  IsPermutation-refl,
-  IsPermutation-cons,
-  IsPermutation-trans,
-  IsPermutation-sym,
-  IsPermutation-middle,
-  ranks_by,
-}
+use Rattle.std.specs.List.Sorted.{IsPermutation, IsSorted, IsStable, ties}
+use Rattle.std.specs.Cmp.{IsTotalOrder}
+use Rattle.std.proofs.lemmas.Cmp.{alike_right, tied_itself, upto}
+use Rattle.std.proofs.lemmas.List.Sorted.{IsPermutation-refl, IsPermutation-cons, IsPermutation-trans, IsPermutation-sym, IsPermutation-middle}
 use Rattle.view_lang.specs.Sorted.{placed, sorted, IsArranged, Rises}
 
 abbrev pub weaker : {X : Type 0} (P Q : X → Type 0) → ((x : X) → P x → Q x) → (xs : List X) → AllByRecursion P xs

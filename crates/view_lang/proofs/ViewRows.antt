@@ -48,26 +48,21 @@ use Rattle.values.specs.Limits.{max_main_rows}
 use Rattle.values.specs.Logical.{NamedType, tree_of}
 use Rattle.values.specs.Rose.{Rose}
 use Rattle.view_lang.specs.Cells.{cell_at, cells_at}
-use Rattle.view_lang.specs.ConfigRules.{AreOutputs, IsAggregate, IsGroupOutput, IsOrdered, IsOutput}
+use Rattle.view_lang.specs.ConfigRules.{AreOutputs, IsGroupOutput, IsOutput}
+use Rattle.view_lang.specs.Aggregates.{IsAggregate, IsSummable, aggregate_field}
+use Rattle.view_lang.specs.Fields.{IsOrdered, field_at}
 use Rattle.view_lang.specs.Groups.{group_row, group_rows, rows_with, same_tuple, tuples_of}
 use Rattle.view_lang.specs.Laws.{ViewsCanSum, ViewsHaveFewRows, ViewsHaveRows}
 use Rattle.view_lang.specs.Outputs.{GroupOutput, Output, Outputs, columns, groups}
 use Rattle.view_lang.specs.RowOrder.{row_cmp, tuple_cmp}
 use Rattle.view_lang.specs.Rows.{IsRow}
 use Rattle.view_lang.specs.Sorted.{placed, sorted}
-use Rattle.view_lang.specs.Sums.{CanSum, IsSummable}
+use Rattle.view_lang.specs.Sums.{CanSum}
 use Rattle.view_lang.specs.Truth.{passes}
-use Rattle.view_lang.specs.ViewColumns.{
-  aggregate_field,
-  field_at,
-  joined_columns,
-  output_field,
-  output_fields,
-  view_columns,
-}
+use Rattle.view_lang.specs.ViewColumns.{joined_columns, output_field, output_fields, view_columns}
 use Rattle.view_lang.specs.Views.{first_of, output_rows, shown_row, shown_rows, view_input, view_rows}
-use Rattle.view_lang.specs.declared.view.Aggregate.{Aggregate}
-use Rattle.view_lang.specs.declared.view.Aggregate.TheVariants as aggregate
+use Rattle.view_lang.specs.declared.aggregate.Aggregate.{Aggregate}
+use Rattle.view_lang.specs.declared.aggregate.Aggregate.TheVariants as aggregate
 use Rattle.view_lang.proofs.CellFits.{AreFit, Fits, cell_fits, fit_row, renamed_fits}
 use Rattle.view_lang.proofs.Columns.{AreSuch, joined_such}
 use Rattle.view_lang.proofs.GroupCells.{IsTuple, added_small, aggregate_fits}

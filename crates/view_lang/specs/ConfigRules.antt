@@ -1,40 +1,23 @@
 -- The rules that a configuration keeps that was read without a fault.
 use Rattle.std.specs.Prelude.{◌≡◌, ℕ, suc, ◌<◌, ◌≤◌, true, All, List, length, Option, None, Some}
 use Rattle.std.specs.Str.{is_utf8}
-use Rattle.values.specs.declared.col_type.ColType.{ColType}
-use Rattle.values.specs.declared.col_type.ColType.TheVariants as col
 use Rattle.values.specs.Coded.{AreCoded}
-use Rattle.values.specs.ColTypes.{IsSingle}
 use Rattle.values.specs.Limits.{max_fields, max_main_rows}
 use Rattle.values.specs.Logical.{NamedType}
 use Rattle.values.specs.Rose.{Rose, kids_of, roses_size}
 use Rattle.view_lang.specs.Config.{Config, FeedConfig, Table, View, tables_of}
 use Rattle.view_lang.specs.Edits.{table_of}
 use Rattle.view_lang.specs.Filter.{Filter, Filters, all_of, compare, negation, no_part, null_in, one_of, part}
-use Rattle.view_lang.specs.Limits.{max_columns, max_feeds, max_sides, max_sum_precision, max_views}
+use Rattle.view_lang.specs.Limits.{max_columns, max_feeds, max_sides, max_views}
 use Rattle.view_lang.specs.Outputs.{GroupOutput, Output, Outputs, columns, groups}
-use Rattle.view_lang.specs.TableRules.{IsName, IsSideTable, IsTable, type_of}
-use Rattle.view_lang.specs.ViewColumns.{field_at, joined_columns, view_columns}
+use Rattle.view_lang.specs.TableRules.{IsName, IsSideTable, IsTable}
+use Rattle.view_lang.specs.ViewColumns.{joined_columns, view_columns}
+use Rattle.view_lang.specs.Aggregates.{IsAggregate}
+use Rattle.view_lang.specs.Fields.{IsColumn, IsOrdered}
 use Rattle.view_lang.specs.World.{table_at}
 use Rattle.view_lang.specs.declared.filter.Operand.{Operand}
 use Rattle.view_lang.specs.declared.filter.Operand.TheVariants as operand
-use Rattle.view_lang.specs.declared.view.Aggregate.{Aggregate}
-use Rattle.view_lang.specs.declared.view.Aggregate.TheVariants as aggregate
 use Rattle.view_lang.specs.declared.view.Lookup.{Lookup}
-
--- a column that is there
-abbrev pub IsColumn : List (Rose NamedType) → ℕ → Type 0
-IsColumn fields k = k < length fields
-
--- a column that is there, whose values have an order
-abbrev pub IsOrdered : List (Rose NamedType) → ℕ → Type 0
-IsOrdered fields k = IsColumn fields k × IsSingle (type_of (field_at fields k))
-
--- A sum is over whole numbers, or over decimals of at most 28 digits: then 2^24 of them stay below 10^38.
-abbrev pub IsAddable : ColType → Type 0
-IsAddable (col.Int w s) = Unit {0}
-IsAddable (col.Decimal p s) = p ≤ max_sum_precision
-IsAddable _ = ⊥
 
 -- The columns of a side table come after those of the main table. No view looks up rows of the main table.
 abbrev pub IsLookup : List Table → Option Lookup → Type 0
@@ -63,15 +46,6 @@ abbrev mutual
 abbrev pub IsFilterOf : List (Rose NamedType) → Option Filter → Type 0
 IsFilterOf fields None = Unit {0}
 IsFilterOf fields (Some f) = IsFilter fields f
-
-abbrev pub IsAggregate : List (Rose NamedType) → List ℕ → Aggregate → Type 0
-IsAggregate fields by (aggregate.Key k) = k < length by
-IsAggregate fields by aggregate.Count = Unit {0}
-IsAggregate fields by (aggregate.CountOf k) = IsColumn fields k
-IsAggregate fields by (aggregate.Distinct k) = IsOrdered fields k
-IsAggregate fields by (aggregate.Sum k) = IsColumn fields k × IsAddable (type_of (field_at fields k))
-IsAggregate fields by (aggregate.Least k) = IsOrdered fields k
-IsAggregate fields by (aggregate.Greatest k) = IsOrdered fields k
 
 -- a name of an output
 abbrev pub IsText : List ℕ → Type 0

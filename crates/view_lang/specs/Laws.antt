@@ -18,7 +18,8 @@ use Rattle.view_lang.specs.Rows.{IsRow}
 use Rattle.view_lang.specs.Sums.{CanSum}
 use Rattle.view_lang.specs.TableRules.{AreColumns, IsTable}
 use Rattle.view_lang.specs.ViewColumns.{view_columns}
-use Rattle.view_lang.specs.ViewLaws.{IsKeyCell, UsesKeys}
+use Rattle.view_lang.specs.ViewLaws.{UsesKeys}
+use Rattle.view_lang.specs.Aggregates.{IsKeyCell}
 use Rattle.view_lang.specs.Views.{output_rows, view_input, view_rows}
 use Rattle.view_lang.specs.World.{table_at}
 use Rattle.view_lang.specs.declared.view.Lookup.{Lookup}

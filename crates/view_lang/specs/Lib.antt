@@ -19,6 +19,9 @@ pub mod Shifts
 pub mod Counted
 pub mod Images
 pub mod RowOrder
+pub mod Folds
+pub mod Fields
+pub mod Aggregates
 pub mod Groups
 pub mod Views
 pub mod TableRules

@@ -2,8 +2,8 @@
 use Rattle.std.specs.Prelude.{◌≡◌, ℕ, List, [], Option, None, Some, refl}
 use Rattle.std.specs.Coded.{Coded, code_by, coded×, coded_ℕ, coded_list, coded_option}
 use Rattle.view_lang.specs.Filter.{Filter, filter_code}
-use Rattle.view_lang.specs.contracts.view.Aggregate as aggregate_type
-use Rattle.view_lang.specs.declared.view.Aggregate.{Aggregate}
+use Rattle.view_lang.specs.contracts.aggregate.Aggregate as aggregate_type
+use Rattle.view_lang.specs.declared.aggregate.Aggregate.{Aggregate}
 
 -- a column of a view: its name, and the number of the column that it shows
 pub record Output : Type 0 where

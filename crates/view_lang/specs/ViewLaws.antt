@@ -1,53 +1,27 @@
 -- Laws of filters, of the order of rows, of groups, and of what can be kept of them.
-use Rattle.std.specs.Prelude.{
-  ◌≡◌,
-  ◌↔◌,
-  ◌<◌,
-  ℕ,
-  Bool,
-  true,
-  false,
-  not,
-  ◌&&◌,
-  ◌||◌,
-  if◌then◌else◌,
-  All,
-  List,
-  [],
-  ◌∷◌,
-  ◌++◌,
-  length,
-  map,
-  IsSome,
-  None,
-  Some,
-}
-use Rattle.std.specs.declared.cmp.Ordering.{Ordering}
-use Rattle.std.specs.declared.cmp.Ordering.TheVariants.{Equal}
-use Rattle.std.specs.Ordering.{nat_cmp, on, then_cmp}
+use Rattle.std.specs.Prelude.{◌≡◌, ◌↔◌, ◌<◌, ℕ, Bool, true, false, not, ◌&&◌, ◌||◌, if◌then◌else◌, All, List, [], ◌∷◌, length, map, None, Some}
 use Rattle.std.specs.List.{AllByRecursion, Contains, filter_map, list_any}
 use Rattle.std.specs.Option.{option_map}
 use Rattle.std.specs.List.Sorted.{IsPermutation, IsStrictlySortedBy}
 use Rattle.std.specs.Cmp.{IsTotalOrder}
 use Rattle.values.specs.Datum.{Datum, null, is_null}
-use Rattle.values.specs.Keys.{key_of}
 use Rattle.values.specs.Order.{datum_cmp}
+use Rattle.view_lang.specs.Aggregates.{ComparesKeys, IsKeyCell}
 use Rattle.view_lang.specs.Cells.{cell_at, cells_at}
 use Rattle.view_lang.specs.Filter.{Filter, Filters, all_of, compare, negation, no_part, null_in, one_of, part, parts_of}
-use Rattle.view_lang.specs.Groups.{first_in, group_rows, same_tuple, total, tuples_of}
+use Rattle.view_lang.specs.Groups.{group_rows, same_tuple, tuples_of}
+use Rattle.view_lang.specs.Folds.{first_in}
 use Rattle.view_lang.specs.Config.{View}
 use Rattle.view_lang.specs.Joined.{Side}
 use Rattle.view_lang.specs.Outputs.{GroupOutput, Output}
 use Rattle.view_lang.specs.RowOrder.{cell_cmp, row_cmp, tuple_cmp}
-use Rattle.view_lang.specs.Sorted.{IsArranged, placed, sorted}
+use Rattle.view_lang.specs.Sorted.{IsArranged, sorted}
 use Rattle.view_lang.specs.Truth.{Truth, holds, is_true, operand_of, truth}
 use Rattle.view_lang.specs.Views.{kept_row, shown_row, view_input}
 use Rattle.view_lang.specs.declared.filter.Comparison.{Comparison}
 use Rattle.view_lang.specs.declared.filter.Comparison.TheVariants as than
 use Rattle.view_lang.specs.declared.filter.Operand.{Operand}
 use Rattle.view_lang.specs.declared.filter.Operand.TheVariants as operand
-use Rattle.view_lang.specs.declared.view.Aggregate.{Aggregate}
-use Rattle.view_lang.specs.declared.view.Aggregate.TheVariants as aggregate
 use Rattle.view_lang.specs.declared.view.Direction.{Direction}
 use Rattle.view_lang.specs.declared.view.OrderBy.{OrderBy}
 
@@ -187,16 +161,6 @@ TuplesAsk =
     (k : ℕ) (ks : List ℕ) (rows : List (List Datum)) (t : List Datum)
     → list_any (same_tuple t) (tuples_of (k ∷ ks) rows)
     ≡ list_any (same_tuple t) (map (cells_at (k ∷ ks)) rows)
-
--- neither a list nor a struct
-abbrev pub IsKeyCell : Datum → Type 0
-IsKeyCell d = IsSome (key_of d)
-
-abbrev pub ComparesKeys : Aggregate → List Datum → Type 0
-ComparesKeys (aggregate.Distinct k) row = IsKeyCell (cell_at row k)
-ComparesKeys (aggregate.Least k) row = IsKeyCell (cell_at row k)
-ComparesKeys (aggregate.Greatest k) row = IsKeyCell (cell_at row k)
-ComparesKeys _ row = Unit {0}
 
 -- What is compared of a row is neither a list nor a struct.
 abbrev pub UsesKeys : List ℕ → List GroupOutput → List Datum → Type 0

@@ -7,8 +7,8 @@ use Rattle.view_lang.specs.Joined.{Side, side_of}
 use Rattle.view_lang.specs.Outputs.{GroupOutput, Output, Outputs, columns, groups}
 use Rattle.view_lang.specs.declared.filter.Comparison.TheVariants as than
 use Rattle.view_lang.specs.declared.filter.Operand.TheVariants as operand
-use Rattle.view_lang.specs.declared.view.Aggregate.{Aggregate}
-use Rattle.view_lang.specs.declared.view.Aggregate.TheVariants as aggregate
+use Rattle.view_lang.specs.declared.aggregate.Aggregate.{Aggregate}
+use Rattle.view_lang.specs.declared.aggregate.Aggregate.TheVariants as aggregate
 use Rattle.view_lang.specs.declared.view.Direction.{Direction}
 use Rattle.view_lang.specs.declared.view.Direction.TheVariants as direction
 use Rattle.view_lang.specs.declared.view.Lookup.{Lookup}

@@ -8,6 +8,7 @@
 //! `specs/Laws.antt` and `specs/ViewLaws.antt` say what follows.
 #![tactic(auto)]
 
+mod aggregate;
 mod cells;
 mod change;
 mod config;
@@ -24,6 +25,7 @@ mod upkeep;
 mod view;
 mod view_laws;
 
+pub use aggregate::Aggregate;
 pub use change::{Change, RowChange};
 pub use config::{Config, FeedConfig, Role, SideTable, Table};
 pub use filter::{Comparison, Filter, Operand, Test, passes};
@@ -34,7 +36,5 @@ pub use rows::{passing_rows, project};
 pub use schemas::output_fields;
 pub use unfit::Unfit;
 pub use upkeep::Upkeep;
-pub use view::{
-    Aggregate, Direction, GroupOutput, Lookup, Missing, OrderBy, Output, Outputs, View,
-};
+pub use view::{Direction, GroupOutput, Lookup, Missing, OrderBy, Output, Outputs, View};
 pub use view_laws::{group_law, image_law, one_by_one_law, order_law, truth_law, worked_law};

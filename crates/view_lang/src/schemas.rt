@@ -5,31 +5,25 @@ ghost use Rattle.view_lang.specs.Config.{tables_of};
 ghost use Rattle.view_lang.specs.ConfigRules.{AreOutputs, IsConfig, IsGroupOutput, IsOutput, IsView};
 ghost use Rattle.view_lang.specs.Edits.{table_of};
 ghost use Rattle.view_lang.specs.OutputsSeen.{outputs_of};
-ghost use Rattle.view_lang.specs.TableRules.{IsTable, type_of};
-ghost use Rattle.view_lang.specs.ViewColumns.{
-  aggregate_field,
-  count_type,
-  feed_columns,
-  field_at,
-  key_column,
-  output_field,
-  output_fields,
-  renamed,
-  simple_field,
-  sum_type,
-  view_columns,
-};
+ghost use Rattle.view_lang.specs.TableRules.{IsTable};
+ghost use Rattle.view_lang.specs.ViewColumns.{feed_columns, key_column, output_field, output_fields, view_columns};
+ghost use Rattle.view_lang.specs.Aggregates.{aggregate_field};
+ghost use Rattle.view_lang.specs.Fields.{field_at, renamed, simple_field};
 
+use crate::aggregate::aggregate_field;
 use crate::config::{Config, Role, Table};
 use crate::laws::config_law;
-use crate::view::{Aggregate, GroupOutput, Output, Outputs, View};
+use crate::view::{GroupOutput, Output, Outputs, View};
 use std::alloc::{AllocError, Global};
-use values::limits::MAX_PRECISION;
-use values::{ColType, IntWidth, LogicalField, Schema};
+use values::{ColType, LogicalField, Schema};
 
 /// A field of this name with the type of another.
 #[cycle(copy)]
-fn copy_as(alloc: Global, name: &str, field: &LogicalField) -> Result<LogicalField, AllocError>
+pub(crate) fn copy_as(
+    alloc: Global,
+    name: &str,
+    field: &LogicalField,
+) -> Result<LogicalField, AllocError>
     ensures { IfOk result (λ copied. copied ≡ renamed name.now field.now) }
 {
     Ok(LogicalField {
@@ -70,7 +64,7 @@ fn key_field(alloc: Global, table: &Table) -> Result<Vec<LogicalField>, AllocErr
 }
 
 /// A column of joined rows: of the main table, or after these of the side table.
-fn joined_field<'a>(
+pub(crate) fn joined_field<'a>(
     main: &'a [LogicalField],
     side: &'a [LogicalField],
     number: usize,
@@ -86,7 +80,11 @@ fn joined_field<'a>(
 }
 
 /// A column without children.
-fn simple_field(alloc: Global, name: &str, col_type: ColType) -> Result<LogicalField, AllocError>
+pub(crate) fn simple_field(
+    alloc: Global,
+    name: &str,
+    col_type: ColType,
+) -> Result<LogicalField, AllocError>
     ensures { IfOk result (λ field. field ≡ simple_field name.now col_type) }
 {
     Ok(LogicalField {
@@ -94,56 +92,6 @@ fn simple_field(alloc: Global, name: &str, col_type: ColType) -> Result<LogicalF
         col_type,
         children: Vec::new(alloc),
     })
-}
-
-fn count_type() -> ColType
-    ensures { result ≡ count_type }
-{
-    ColType::Int {
-        width: IntWidth::Bits64,
-        signed: true,
-    }
-}
-
-fn sum_type(added: &ColType) -> ColType
-    ensures { result ≡ sum_type added.now }
-{
-    let scale = match added {
-        ColType::Decimal { scale, .. } => *scale,
-        _ => 0,
-    };
-    ColType::Decimal {
-        precision: MAX_PRECISION,
-        scale,
-    }
-}
-
-fn group_field(
-    alloc: Global,
-    main: &[LogicalField],
-    side: &[LogicalField],
-    by: &[usize],
-    output: &GroupOutput,
-) -> Result<LogicalField, AllocError>
-    requires by { All (λ k. k < length (main.now ++ side.now)) by.now }
-    requires output { IsGroupOutput (main.now ++ side.now) by.now output.now }
-    ensures { IfOk result (λ field.
-        field ≡ aggregate_field (main.now ++ side.now) by.now output.now.name output.now.aggregate) }
-{
-    let name = output.name.as_str();
-    match output.aggregate {
-        Aggregate::Key(place) => copy_as(alloc, name, joined_field(main, side, by[place])),
-        Aggregate::Count | Aggregate::CountOf(_) | Aggregate::Distinct(_) => {
-            simple_field(alloc, name, count_type())
-        }
-        Aggregate::Sum(column) => {
-            let added = &joined_field(main, side, column).col_type;
-            simple_field(alloc, name, sum_type(added))
-        }
-        Aggregate::Least(column) | Aggregate::Greatest(column) => {
-            copy_as(alloc, name, joined_field(main, side, column))
-        }
-    }
 }
 
 fn group_fields(
@@ -160,7 +108,8 @@ fn group_fields(
 {
     let mut fields = Vec::with_capacity(alloc, outputs.len())?;
     for output in outputs {
-        fields.push(group_field(alloc, main, side, by, output)?)?;
+        let name = output.name.as_str();
+        fields.push(aggregate_field(alloc, main, side, by, name, output.aggregate)?)?;
     }
     Ok(fields)
 }

@@ -3,6 +3,7 @@
 //! Columns are named by their numbers in a joined row: first come those of the main table, then those of the side table
 //! that is looked up.
 
+use crate::aggregate::Aggregate;
 use crate::filter::Filter;
 use std::marker::Model;
 
@@ -114,25 +115,6 @@ impl Model for GroupOutput {
     ghost coded = { seen.group_output_code };
 
     ghost view = { λ o. record { name = string_bytes o.name; aggregate = o.aggregate } };
-}
-
-/// What is shown of a group.
-#[derive(Clone, Copy, Debug, PartialEq, Eq)]
-pub enum Aggregate {
-    /// The grouping column at this place in `by`.
-    Key(usize),
-    /// How many rows the group has.
-    Count,
-    /// In how many of the group's rows this column isn't null.
-    CountOf(usize),
-    /// How many distinct values this column has in the group's rows, nulls left out.
-    Distinct(usize),
-    /// The sum of this column's values that aren't null; null where there is none.
-    Sum(usize),
-    /// The least of this column's values that aren't null; null where there is none.
-    Least(usize),
-    /// The greatest of this column's values that aren't null; null where there is none.
-    Greatest(usize),
 }
 
 /// A column of the output by which rows are sorted.

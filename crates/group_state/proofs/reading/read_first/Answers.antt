@@ -4,7 +4,7 @@ use Rattle.std.proofs.lemmas.Map.Iter.{iter_end}
 use Rattle.std.specs.Map.Iter.{deref_pair}
 use Rattle.values.specs.declared.key.Key.{Key}
 use Rattle.group_state.specs.GroupCounts.{GroupCounts}
-use Rattle.group_state.specs.Seen.{seen_row}
+use Rattle.group_state.specs.Aggregates.{seen_row}
 use Rattle.group_state.proofs.reading.read_first.Goals as goal
 use Rattle.group_state.proofs.reading.read_first.Goals.{in-None, in-Some+then-len-most}
 

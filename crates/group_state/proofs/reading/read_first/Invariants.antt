@@ -1,6 +1,6 @@
 use Rattle.std.proofs.Common.{◌≡◌, ◌≤◌, length, map, take}
 use Rattle.view_lang.specs.Cells.{rows_of}
-use Rattle.group_state.specs.Seen.{seen_row}
+use Rattle.group_state.specs.Aggregates.{seen_row}
 use Rattle.group_state.proofs.reading.read_first.Given as goal
 
 abbrev pub invariant-loop-tuple : goal.invariant-loop-tuple

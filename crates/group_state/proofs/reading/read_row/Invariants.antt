@@ -1,5 +1,5 @@
 use Rattle.std.proofs.Common.{◌≡◌, take}
-use Rattle.group_state.specs.Seen.{seen_row}
+use Rattle.group_state.specs.Aggregates.{seen_row}
 use Rattle.group_state.proofs.reading.read_row.Given as goal
 
 abbrev pub invariant-loop-output : goal.invariant-loop-output

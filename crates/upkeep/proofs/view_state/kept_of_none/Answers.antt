@@ -3,7 +3,7 @@ use Rattle.view_lang.specs.Config.{View}
 use Rattle.view_lang.specs.Outputs.{GroupOutput, Outputs, groups}
 use Rattle.view_lang.specs.OutputsSeen.{outputs_of}
 use Rattle.group_order.specs.Ranked.{Ranking}
-use Rattle.group_state.specs.KeptColumns.{AreReadBy}
+use Rattle.group_state.specs.Aggregates.{AreReadBy}
 use Rattle.sub_groups.specs.Moved.{KeepRead}
 use Rattle.upkeep.proofs.view_state.kept_of_none.Goals as goal
 

@@ -1,5 +1,5 @@
 use Rattle.std.proofs.Common.{◌≡◌, drop}
-use Rattle.view_config.specs.Outputs.{is_number_in}
+use Rattle.view_config.specs.Numbers.{is_number_in}
 use Rattle.view_config.proofs.groups.is_number_in.Given as goal
 
 abbrev pub invariant-loop-other : goal.invariant-loop-other

@@ -1,5 +1,5 @@
 use Rattle.std.proofs.Common.{◌≡◌, drop}
-use Rattle.view_config.specs.Outputs.{repeats_number}
+use Rattle.view_config.specs.Numbers.{repeats_number}
 use Rattle.view_config.proofs.groups.repeats_number.Given as goal
 
 abbrev pub invariant-loop-index : goal.invariant-loop-index

@@ -1,5 +1,5 @@
 use Rattle.std.proofs.Common.{◌≡◌, ◌++◌, map, take}
-use Rattle.view_lang.specs.ViewColumns.{aggregate_field}
+use Rattle.view_lang.specs.Aggregates.{aggregate_field}
 use Rattle.view_lang.proofs.schemas.group_fields.Given as goal
 
 abbrev pub invariant-loop-output : goal.invariant-loop-output

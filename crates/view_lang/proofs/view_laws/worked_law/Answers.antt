@@ -1,6 +1,7 @@
 use Rattle.std.proofs.Common.{refl}
 use Rattle.view_lang.specs.Contents.{is_among}
-use Rattle.view_lang.specs.Groups.{distinct, first_in, group_row, group_rows, rows_with, total, tuples_of}
+use Rattle.view_lang.specs.Groups.{group_row, group_rows, rows_with, tuples_of}
+use Rattle.view_lang.specs.Folds.{distinct, first_in, total}
 use Rattle.view_lang.specs.Joined.{joined, joined_row, side_of}
 use Rattle.view_lang.specs.RowOrder.{row_cmp, tuple_cmp}
 use Rattle.view_lang.specs.Sorted.{sorted}

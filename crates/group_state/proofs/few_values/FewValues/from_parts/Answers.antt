@@ -1,5 +1,5 @@
 use Rattle.std.proofs.Common.{◌≡◌, ◌∷◌, rules, ap, sym}
-use Rattle.view_lang.specs.ViewLaws.{IsKeyCell}
+use Rattle.view_lang.specs.Aggregates.{IsKeyCell}
 use Rattle.group_state.specs.GroupParts.{count_with}
 use Rattle.group_state.proofs.Taken.{pushed-next, rest-left}
 use Rattle.group_state.proofs.few_values.FewValues.from_parts.Goals as goal

@@ -4,7 +4,7 @@ use Rattle.std.specs.declared.alloc.Global.{Global}
 use Rattle.values.specs.Datum.{Datum}
 use Rattle.view_lang.specs.Cells.{rows_of}
 use Rattle.group_state.specs.Grouped.{Grouped}
-use Rattle.group_state.specs.Seen.{seen_row}
+use Rattle.group_state.specs.Aggregates.{seen_row}
 use Rattle.group_state.proofs.GroupLaw.{all-read}
 use Rattle.group_state.proofs.GroupReadings.{take-map}
 use Rattle.group_state.proofs.Seen.{all-seen}

@@ -3,7 +3,7 @@ use Rattle.group_state.proofs.many_values.ManyValues.from_parts.Goals as goal
 use Rattle.group_state.specs.GroupParts.{count_with}
 use Rattle.group_state.specs.Keys.{key_cmp, key_total}
 use Rattle.std.proofs.Common.{◌≡◌, ◌∷◌, rules, ap, sym}
-use Rattle.view_lang.specs.ViewLaws.{IsKeyCell}
+use Rattle.view_lang.specs.Aggregates.{IsKeyCell}
 
 pub loop-value-preserved : goal.loop-value-preserved
 loop-value-preserved c =

@@ -2,7 +2,7 @@ use Rattle.group_state.proofs.Taken.{all-next, taken-next}
 use Rattle.group_state.proofs.many_values.ManyValues.into_parts.Goals as goal
 use Rattle.group_state.specs.GroupParts.{count_with}
 use Rattle.std.proofs.Common.{◌≡◌, ◌∷◌, rules, ap}
-use Rattle.view_lang.specs.ViewLaws.{IsKeyCell}
+use Rattle.view_lang.specs.Aggregates.{IsKeyCell}
 
 pub loop-key-preserved : goal.loop-key-preserved
 loop-key-preserved c =

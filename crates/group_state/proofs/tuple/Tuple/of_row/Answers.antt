@@ -2,7 +2,7 @@ use Rattle.group_state.proofs.Taken.{pushed-next, rest-left}
 use Rattle.group_state.proofs.tuple.Tuple.of_row.Goals as goal
 use Rattle.group_state.specs.Keys.{key_in}
 use Rattle.std.proofs.Common.{◌≡◌, ◌∷◌, rules, sym, map}
-use Rattle.view_lang.specs.ViewLaws.{IsKeyCell}
+use Rattle.view_lang.specs.Aggregates.{IsKeyCell}
 
 pub loop-cell-preserved : goal.loop-cell-preserved
 loop-cell-preserved c =

@@ -1,6 +1,6 @@
 use Rattle.std.proofs.Common.{All, take}
-use Rattle.group_state.specs.KeptColumns.{AreReadBy, IsKept}
-use Rattle.group_state.proofs.kept_columns.kept_columns.Given as goal
+use Rattle.group_state.specs.Aggregates.{AreReadBy, IsKept}
+use Rattle.group_state.proofs.aggregates.kept_columns.Given as goal
 
 abbrev pub invariant-loop-output : goal.invariant-loop-output
 invariant-loop-output l = record {
