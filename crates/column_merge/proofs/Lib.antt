@@ -1,4 +1,4 @@
 mod Places
-mod Reading
-mod Writing
+mod BodyColumns
+mod RowsReadBack
 mod ByteRows

@@ -35,7 +35,7 @@ fn check_column(bytes: &Rc<Vec<u8>>, array: Array) -> Result<Column, AllocError>
 }
 
 /// The columns of a body.
-#[tactic(auto, using(crate::proofs::Reading::reading))]
+#[tactic(auto, using(crate::proofs::BodyColumns::reading))]
 fn read_columns(
     alloc: Global,
     layouts: &[LayoutTree],

@@ -1,4 +1,4 @@
-pub mod Gathering
+pub mod JoinedTruths
 pub mod CodeLemmas
 pub mod RowLemmas
 pub mod LaneNumbers

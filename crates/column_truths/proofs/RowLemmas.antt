@@ -45,7 +45,7 @@ use Rattle.column_truths.specs.RowTruths.{
   truths_of_all,
   truths_of_any,
 }
-use Rattle.column_truths.proofs.Gathering.{each_compared}
+use Rattle.column_truths.proofs.JoinedTruths.{each_compared}
 
 same-map : (f g : ℕ → Truth) (a n : ℕ) → ((i : ℕ) → f i ≡ g i) → map f (range_with_len a n) ≡ map g (range_with_len a n)
 same-map f g a zero same = refl

@@ -14,7 +14,7 @@ pub mod Distinct
 pub mod GroupReadings
 pub mod Sums
 pub mod GroupLaw
-pub mod Keeping
+pub mod KeptColumns
 pub mod FewValues
 pub mod Poured
 pub mod Present

@@ -27,7 +27,7 @@ use Rattle.group_state.specs.Aggregates.{seen_cell, seen_row}
 use Rattle.group_state.specs.declared.tally.Tally.{Tally}
 use Rattle.group_state.proofs.Distinct.{kept-distinct}
 use Rattle.group_state.proofs.FoldReadings.{kept-count, kept-greatest, kept-least, kept-none, kept-some}
-use Rattle.group_state.proofs.Keeping.{column-is}
+use Rattle.group_state.proofs.KeptColumns.{column-is}
 use Rattle.group_state.proofs.GroupReadings.{cells-keys}
 
 record IsFound (n : ℕ) (columns : List KeptColumn) (k : KeptColumn) : Type 0 where

@@ -63,7 +63,7 @@ fn same_form(form: KeptForm, other: KeptForm) -> bool
 }
 
 /// Adds a column, unless it is there in this form.
-#[tactic(auto, using(crate::proofs::Keeping::same_columns, crate::proofs::Keeping::read_columns))]
+#[tactic(auto, using(crate::proofs::KeptColumns::same_columns, crate::proofs::KeptColumns::read_columns))]
 pub(crate) fn keep(columns: &mut Vec<KeptColumn>, column: KeptColumn) -> Result<(), AllocError>
     ensures here { OnOk result (is_kept columns.new.items column ≡ true) }
     ensures still { OnOk result ((k : KeptColumn) → is_kept columns.old.items k ≡ true

@@ -1,4 +1,4 @@
-pub mod Ascending
+pub mod NoNumbers
 pub mod Changed
 pub mod Exactness
 pub mod Gathered

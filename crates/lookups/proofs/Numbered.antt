@@ -1,5 +1,5 @@
 -- Each key has numbers.
-use Rattle.lookups.proofs.Ascending.{none-ascend}
+use Rattle.lookups.proofs.NoNumbers.{none-ascend}
 use Rattle.lookups.specs.Refers.{
   HasNumbers,
   RowsByKey,

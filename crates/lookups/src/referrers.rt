@@ -182,7 +182,7 @@ impl Referrers {
     }
 
     /// The numbers of the rows that hold the key, in ascending order.
-    #[tactic(auto, using(crate::proofs::Ascending::none_ascends))]
+    #[tactic(auto, using(crate::proofs::NoNumbers::none_ascends))]
     pub fn of_key(&self, alloc: Global, key: &Key) -> Result<Vec<usize>, AllocError>
         ensures numbers { IfOk result (λ numbers. numbers.items ≡ numbers_of self.now key.now) }
         ensures ascending { IfOk result (λ numbers. IsStrictlySortedBy nat_cmp numbers.items) }
@@ -302,7 +302,7 @@ fn put_number(
 }
 
 /// Removes a number from those under a key, and the key with its last number.
-#[tactic(auto, using(crate::proofs::Ascending::none_ascends))]
+#[tactic(auto, using(crate::proofs::NoNumbers::none_ascends))]
 fn take_number(rows: &mut BTreeMap<Key, NumberSet>, key: &Key, number: usize)
     ensures here { (n : ℕ) → refers rows.new.entries key.now n
         ≡ cond (n == number) false (refers rows.old.entries key.now n) }

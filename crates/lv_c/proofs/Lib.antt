@@ -1,3 +1,3 @@
 mod AsBox
 mod Filled
-mod Opening
+mod OpenedSessions

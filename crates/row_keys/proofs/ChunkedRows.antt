@@ -48,7 +48,7 @@ use Rattle.row_keys.proofs.ListedItems.{
   listed_take,
   listed_whole,
 }
-use Rattle.row_keys.proofs.Chunking.{IsInPlace, at_none, at_point, chunk_long, chunks_less, chunks_more, chunks_set, listed_cells, lt_or_le, no_columns, none_past, row_after, row_front, row_here, row_before, row_last, row_other, row_rest, row_within, swept}
+use Rattle.row_keys.proofs.RowsOfChunks.{IsInPlace, at_none, at_point, chunk_long, chunks_less, chunks_more, chunks_set, listed_cells, lt_or_le, no_columns, none_past, row_after, row_front, row_here, row_before, row_last, row_other, row_rest, row_within, swept}
 
 -- the row of a number
 pub stored_at : (cs : List Chunk) (len n : ℕ) → AreChunks 0 cs len → get_or (stored_rows cs len) n [] ≡ row_in cs n

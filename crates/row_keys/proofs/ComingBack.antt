@@ -10,8 +10,8 @@ use Rattle.view_lang.specs.Shifts.{row_at}
 use Rattle.row_keys.specs.NumberLaws.{LiveCanGo, RetractedComeBack}
 use Rattle.row_keys.specs.Numbered.{live_at, live_row, numbered}
 use Rattle.row_keys.specs.Slots.{CanRetract, IsThere, Slot, marked, retracted, row_of, slot}
-use Rattle.row_keys.proofs.Changing.{is_named, is_same, leads, same_is}
-use Rattle.row_keys.proofs.Numbering.{
+use Rattle.row_keys.proofs.NumberedChanges.{is_named, is_same, leads, same_is}
+use Rattle.row_keys.proofs.RowsByNumber.{
   Lives,
   at_numbered,
   at_retracted,
@@ -21,7 +21,7 @@ use Rattle.row_keys.proofs.Numbering.{
   retracted_lived,
   same_self,
 }
-use Rattle.row_keys.proofs.Retracting.{row_marked}
+use Rattle.row_keys.proofs.RetractedRows.{row_marked}
 
 is_there : (slots : List Slot) (n : ℕ) → Lives slots n → IsThere slots n true
 is_there [] n h = absurd (none-some [] h)

@@ -4,7 +4,7 @@ use Rattle.std.specs.Map.{keys_of}
 use Rattle.std.proofs.lemmas.List.{take_all, take-append-drop, take-append-le}
 use Rattle.row_keys.specs.Numbered.{numbered}
 use Rattle.row_keys.specs.Slots.{Slot, no_slot}
-use Rattle.row_keys.proofs.Listing.{Listed, listed_more, listed_none, listed_over, listed_same}
+use Rattle.row_keys.proofs.ListedNumbers.{Listed, listed_more, listed_none, listed_over, listed_same}
 use Rattle.row_keys.proofs.LiveNumbers.{from, from_joined}
 
 -- the numbers of the live rows below number n, of which there are at most so many

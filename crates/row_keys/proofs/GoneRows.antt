@@ -11,7 +11,7 @@ use Rattle.row_keys.specs.Index.{HoldsPlace, IsIndex, StartsWithNull, seen, seen
 use Rattle.row_keys.specs.Numbers.{Numbered, live_count, no_row, numbered}
 use Rattle.row_keys.proofs.Places.{some_same}
 use Rattle.row_keys.proofs.Indexes.{seen_more}
-use Rattle.row_keys.proofs.Storing.{count_gone}
+use Rattle.row_keys.proofs.StoreStates.{count_gone}
 
 -- Once the null key has its place, nothing else has changed.
 pub record Started (keys new : List Key) (hs hs_new : List ℕ) (es : List Entry) (live : ℕ) : Type 0 where

@@ -39,7 +39,7 @@ use Rattle.row_keys.specs.Batches.{AreAlike, HoldsCells, cells_in, layouts_in}
 use Rattle.row_keys.specs.Numbers.{Numbered, numbered}
 use Rattle.row_keys.specs.Slots.{live}
 use Rattle.row_keys.specs.Stored.{AreGiven, AreKeyed, HoldsRow, IsRight, joined}
-use Rattle.row_keys.proofs.Storing.{held_alike, keyed_row}
+use Rattle.row_keys.proofs.StoreStates.{held_alike, keyed_row}
 
 -- those of the columns from one on: what is left to say
 abbrev pub Rest : List CheckedColumn → ℕ → Type 0

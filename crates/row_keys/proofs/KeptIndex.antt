@@ -16,7 +16,7 @@ use Rattle.row_keys.specs.declared.numbers.Entry.{Entry}
 use Rattle.row_keys.specs.declared.numbers.KeptEntry.{KeptEntry}
 use Rattle.row_keys.proofs.GoneRows.{index_gone, null_there, seen_gone}
 use Rattle.row_keys.proofs.Indexes.{seen_at}
-use Rattle.row_keys.proofs.Indexing.{index_retracted, index_revived, live_some, live_within, rows_flagged}
+use Rattle.row_keys.proofs.IndexChanges.{index_retracted, index_revived, live_some, live_within, rows_flagged}
 use Rattle.row_keys.proofs.KeptEntries.{entries_at, entries_get, entries_long, entry_there}
 use Rattle.row_keys.proofs.Places.{some_same}
 

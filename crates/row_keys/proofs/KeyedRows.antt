@@ -9,7 +9,7 @@ use Rattle.view_lang.specs.Laws.{AreKeyed}
 use Rattle.row_keys.specs.Numbers.{AreDistinct, Numbered, numbered}
 use Rattle.row_keys.specs.Slots.{contents_of, live}
 use Rattle.row_keys.specs.Stored.{AreGiven, IsStored, joined, live_keys}
-use Rattle.row_keys.proofs.Joining.{keys_live, live_counted}
+use Rattle.row_keys.proofs.JoinedNumbers.{keys_live, live_counted}
 use Rattle.row_keys.proofs.KeyFacts.{or_none}
 use Rattle.row_keys.proofs.TurnedRows.{distinct_joined}
 

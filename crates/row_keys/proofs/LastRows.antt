@@ -35,8 +35,8 @@ use Rattle.view_lang.specs.Config.{Table}
 use Rattle.row_keys.specs.Numbers.{AreLive, CanRevive, CanTurnOn, IsAt, Numbered, revived, turned, turned_off}
 use Rattle.row_keys.specs.Slots.{CanPutBack, CanRetract, CanTakeBack, last_numbers}
 use Rattle.row_keys.specs.Stored.{IsStored, joined}
-use Rattle.row_keys.proofs.Joining.{keyed_length}
-use Rattle.row_keys.proofs.Storing.{revive_can}
+use Rattle.row_keys.proofs.JoinedNumbers.{keyed_length}
+use Rattle.row_keys.proofs.StoreStates.{revive_can}
 use Rattle.row_keys.proofs.TurnedRows.{are_live}
 
 -- the numbers from one on

@@ -21,8 +21,8 @@ use Rattle.row_keys.specs.NumberLaws.{
 }
 use Rattle.row_keys.specs.Numbered.{live_at, numbered}
 use Rattle.row_keys.specs.Slots.{CanPutBack, CanTakeBack, put_back, retracted, row_of, taken_back}
-use Rattle.row_keys.proofs.Changing.{Up, is_named, leads}
-use Rattle.row_keys.proofs.Numbering.{
+use Rattle.row_keys.proofs.NumberedChanges.{Up, is_named, leads}
+use Rattle.row_keys.proofs.RowsByNumber.{
   all_free,
   all_numbered,
   at_all,

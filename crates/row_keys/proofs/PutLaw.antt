@@ -38,12 +38,12 @@ use Rattle.row_keys.specs.Slots.{
   row_of,
   slot,
 }
-use Rattle.row_keys.proofs.Changing.{changes_add}
-use Rattle.row_keys.proofs.Hiding.{hide_can}
+use Rattle.row_keys.proofs.NumberedChanges.{changes_add}
+use Rattle.row_keys.proofs.HiddenRows.{hide_can}
 use Rattle.row_keys.proofs.NumberLaw.{put_back_come, retracted_go}
 use Rattle.row_keys.proofs.Places.{some_same}
-use Rattle.row_keys.proofs.PuttingBack.{can_retract_again}
-use Rattle.row_keys.proofs.Retracting.{row_retracted}
+use Rattle.row_keys.proofs.RowsPutBack.{can_retract_again}
+use Rattle.row_keys.proofs.RetractedRows.{row_retracted}
 
 -- how many
 

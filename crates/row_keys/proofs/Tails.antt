@@ -13,12 +13,12 @@ use Rattle.column_writer.specs.declared.batch.RowRange.{RowRange}
 use Rattle.row_keys.specs.Batches.{batch_rows}
 use Rattle.row_keys.specs.Chunks.{AreChunks, AreRising, Chunk, IsLong, IsShortened, number_row, row_in, stored_rows}
 use Rattle.row_keys.specs.RowsLeft.{IsHeld, IsMadeIn, IsPart, IsSplit, IsTail, IsWide, end_of, rows_left, tail_numbers, tail_rows, unflagged}
-use Rattle.row_keys.proofs.Appending.{batch_counted}
+use Rattle.row_keys.proofs.AppendedBatches.{batch_counted}
 use Rattle.row_keys.proofs.ChunkedRows.{chunk_read, shortened_chunks, shortened_rows}
-use Rattle.row_keys.proofs.Chunking.{lt_or_le, row_after, row_before, row_rest, row_within}
+use Rattle.row_keys.proofs.RowsOfChunks.{lt_or_le, row_after, row_before, row_rest, row_within}
 use Rattle.row_keys.proofs.Places.{some_same}
 use Rattle.row_keys.proofs.ListedItems.{listed_same}
-use Rattle.row_keys.proofs.Merging.{HasWidth, Row, as_many_left, drop_none, front_chunks, length_dropped, look, look_at, look_there, made_left, middle, made_long, no_layouts, rising_left, row_left, set_end, split_chunks, take_none, wide_left, wide_rows}
+use Rattle.row_keys.proofs.MergedChunks.{HasWidth, Row, as_many_left, drop_none, front_chunks, length_dropped, look, look_at, look_there, made_left, middle, made_long, no_layouts, rising_left, row_left, set_end, split_chunks, take_none, wide_left, wide_rows}
 use Rattle.row_keys.proofs.RowPlaces.{rising_at}
 
 rising_dropped : (from end : ℕ) (ns : List ℕ) (i : ℕ) → AreRising from ns end → i < length ns

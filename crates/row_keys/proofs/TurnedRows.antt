@@ -51,7 +51,7 @@ use Rattle.row_keys.specs.Numbers.{
 use Rattle.row_keys.specs.Slots.{AreRetracted, CanRetract, HasKey, IsThere, Slot, live, marked, put_back, retracted, row_of}
 use Rattle.row_keys.specs.Stored.{AreGiven, AreKeyed, joined, live_keys}
 use Rattle.row_keys.proofs.Indexes.{count_retracted}
-use Rattle.row_keys.proofs.Joining.{
+use Rattle.row_keys.proofs.JoinedNumbers.{
   among_unused,
   at_joined,
   distinct_repeated,
@@ -62,7 +62,7 @@ use Rattle.row_keys.proofs.Joining.{
 }
 use Rattle.row_keys.proofs.KeyFacts.{same_refl}
 use Rattle.row_keys.proofs.Places.{some_same}
-use Rattle.row_keys.proofs.Retracting.{IsProper, row_marked}
+use Rattle.row_keys.proofs.RetractedRows.{IsProper, row_marked}
 
 pub off_more :
     (ns : List ℕ) (i n : ℕ) (rows new all : List Numbered) → n ≡ get_or ns i n → i < length ns

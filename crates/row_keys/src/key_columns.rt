@@ -27,7 +27,7 @@ fn is_null_key(key: &Key) -> bool
 }
 
 /// A copy of the key of cell `index`.
-#[tactic(auto, using(crate::proofs::Keying::reading))]
+#[tactic(auto, using(crate::proofs::KeysOfBatch::reading))]
 pub(crate) fn read_key(alloc: Global, column: &Column, index: usize) -> Result<Key, AllocError>
     requires below { index < length column.now.cells }
     requires keys { HoldsKeys column.now.layouts }
@@ -38,7 +38,7 @@ pub(crate) fn read_key(alloc: Global, column: &Column, index: usize) -> Result<K
 }
 
 /// The key of cell `index`, in a buffer.
-#[tactic(auto, using(crate::proofs::Keying::reading))]
+#[tactic(auto, using(crate::proofs::KeysOfBatch::reading))]
 fn buffer_key<'a>(
     keys: &'a mut KeyBuffer,
     column: &Column,
@@ -53,7 +53,7 @@ fn buffer_key<'a>(
 }
 
 /// Whether one of the cells from `from` on is null.
-#[tactic(auto, using(crate::proofs::Keying::nulls))]
+#[tactic(auto, using(crate::proofs::KeysOfBatch::nulls))]
 fn has_null_from(column: &Column, from: usize) -> bool
     requires { from ≤ length column.now.cells }
     ensures { result ≡ has_null (drop from column.now.cells) }
@@ -68,7 +68,7 @@ fn has_null_from(column: &Column, from: usize) -> bool
 
 /// Adds a live row with the key of cell `index`: `NullKey` where it or a later one is null, else `DuplicateKey` where a
 /// live row has it.
-#[tactic(auto, using(crate::proofs::Keying::numbering))]
+#[tactic(auto, using(crate::proofs::KeysOfBatch::numbering))]
 fn push_key(
     alloc: Global,
     column: &Column,
@@ -97,7 +97,7 @@ fn push_key(
 
 /// Adds a live row for each key of a column, in order: `NullKey` where one is null, `DuplicateKey` where one stands
 /// twice or is a live row's. On an error the numbers are as they were.
-#[tactic(auto, using(crate::proofs::Keying::pushing))]
+#[tactic(auto, using(crate::proofs::KeysOfBatch::pushing))]
 pub(crate) fn push_keys(
     alloc: Global,
     column: &Column,
@@ -137,7 +137,7 @@ pub(crate) fn push_batch(
 }
 
 /// The numbers of the live rows with the keys of a column, in order: `UnknownKey` where a key is no live row's.
-#[tactic(auto, using(crate::proofs::Finding::finding))]
+#[tactic(auto, using(crate::proofs::FoundRows::finding))]
 pub(crate) fn find_keys(
     alloc: Global,
     column: &Column,
@@ -160,7 +160,7 @@ pub(crate) fn find_keys(
 }
 
 /// The numbers of the live rows whose keys are in a column, in its order. Keys that no live row has are skipped.
-#[tactic(auto, using(crate::proofs::Replacing::knowing))]
+#[tactic(auto, using(crate::proofs::ReplacedRows::knowing))]
 fn find_known(alloc: Global, column: &Column, numbers: &Numbers) -> Result<Vec<usize>, AllocError>
     requires { HoldsKeys column.now.layouts }
     ensures { IfOk result (λ found.

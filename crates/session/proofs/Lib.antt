@@ -6,15 +6,15 @@ pub mod Pasts
 pub mod Channels
 pub mod Pushes
 pub mod Sessions
-pub mod Opening
-pub mod Refusing
+pub mod OpenedSessions
+pub mod RefusedPushes
 pub mod Sample
 pub mod Written
 pub mod Readings
-mod Telling
+mod FedBytes
 mod Replaying
-mod Breaking
+mod BrokenFeeds
 mod Restored
-mod Releasing
-mod Evicting
-mod Touching
+mod ReleasedRecords
+mod LastItems
+mod TouchedRows

@@ -169,7 +169,7 @@ use Rattle.session.specs.Cuts.{
   used_of,
   written_by,
 }
-use Rattle.session.proofs.Telling.{FeedLaws, tells-broken, tells-fault, tells-none, tells-partial, tells-whole}
+use Rattle.session.proofs.FedBytes.{FeedLaws, tells-broken, tells-fault, tells-none, tells-partial, tells-whole}
 
 -- Causes of faults of streams
 

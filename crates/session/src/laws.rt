@@ -13,7 +13,7 @@ ghost use Rattle.session.specs.declared.calls.Event.TheVariants as event;
 
 /// A refused push leaves the accepted edits, and how many of them can be undone, as they were; after `Memory` all is as
 /// it was. No push changes another feed than its own.
-#[tactic(auto, using(crate::proofs::Refusing::refusing))]
+#[tactic(auto, using(crate::proofs::RefusedPushes::refusing))]
 pub fn refusal_law()
     ensures edits { RefusalsKeepEdits }
     ensures memory { MemoryChangesNothing }

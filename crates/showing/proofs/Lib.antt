@@ -1,6 +1,6 @@
 pub mod Slots
-pub mod Appending
-pub mod Leaving
+pub mod WrittenTexts
+pub mod WrittenParts
 pub mod Lists
 pub mod Unquoted
 pub mod Doubled

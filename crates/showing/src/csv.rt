@@ -29,7 +29,7 @@ fn write_bytes<W: Write>(out: &mut W, bytes: &[u8]) -> io::Result<()>
 }
 
 /// Writes a list or a struct as a field: JSON between quotes.
-#[tactic(auto, using(crate::proofs::Appending::appends))]
+#[tactic(auto, using(crate::proofs::WrittenTexts::appends))]
 fn write_nested<W: Write>(out: &mut W, field: &Field, cell: Cell) -> io::Result<()>
     requires { IsReadable cell }
     ensures { OnOk result (Appends (W.contents out.old) (W.contents out.new)

@@ -174,7 +174,7 @@ fn write_year_sign<W: Write>(out: &mut W, before: bool, year: u128) -> io::Resul
 }
 
 /// Writes a year of four digits, or with a sign and at least as many.
-#[tactic(auto, using(crate::proofs::Appending::appends))]
+#[tactic(auto, using(crate::proofs::WrittenTexts::appends))]
 fn write_year<W: Write>(out: &mut W, before: bool, year: u128) -> io::Result<()>
     ensures { OnOk result (Appends (W.contents out.old) (W.contents out.new) (year_text before year)) }
 {
@@ -182,7 +182,7 @@ fn write_year<W: Write>(out: &mut W, before: bool, year: u128) -> io::Result<()>
     write_at_least(out, year, 4)
 }
 
-#[tactic(auto, using(crate::proofs::Appending::appends))]
+#[tactic(auto, using(crate::proofs::WrittenTexts::appends))]
 fn write_civil<W: Write>(out: &mut W, date: Date) -> io::Result<()>
     ensures { OnOk result (Appends (W.contents out.old) (W.contents out.new) (civil_text date)) }
 {
@@ -214,7 +214,7 @@ fn scale(unit: TimeUnit) -> u8
 }
 
 /// Writes hours, minutes and seconds. The hours are not bounded by those of a day.
-#[tactic(auto, using(crate::proofs::Appending::appends))]
+#[tactic(auto, using(crate::proofs::WrittenTexts::appends))]
 fn write_seconds<W: Write>(out: &mut W, seconds: u128) -> io::Result<()>
     ensures { OnOk result (Appends (W.contents out.old) (W.contents out.new) (seconds_text seconds)) }
 {
@@ -226,7 +226,7 @@ fn write_seconds<W: Write>(out: &mut W, seconds: u128) -> io::Result<()>
 }
 
 /// Writes a time since midnight.
-#[tactic(auto, using(crate::proofs::Appending::appends))]
+#[tactic(auto, using(crate::proofs::WrittenTexts::appends))]
 fn write_clock<W: Write>(out: &mut W, time: u128, unit: TimeUnit) -> io::Result<()>
     ensures { OnOk result (Appends (W.contents out.old) (W.contents out.new) (clock_text (scale_of unit) time)) }
 {
@@ -236,7 +236,7 @@ fn write_clock<W: Write>(out: &mut W, time: u128, unit: TimeUnit) -> io::Result<
 }
 
 /// Writes a time of day. One before midnight has a sign, and one behind the day more than 23 hours.
-#[tactic(auto, using(crate::proofs::Appending::appends))]
+#[tactic(auto, using(crate::proofs::WrittenTexts::appends))]
 pub(crate) fn write_time<W: Write>(out: &mut W, time: i128, unit: TimeUnit) -> io::Result<()>
     ensures { OnOk result (Appends (W.contents out.old) (W.contents out.new) (time_text (scale_of unit) time)) }
 {
@@ -270,7 +270,7 @@ fn time_of_day(time: i128, unit: TimeUnit) -> u128
 }
 
 /// Writes a date with the time of day, by the time since the beginning of 1970.
-#[tactic(auto, using(crate::proofs::Appending::appends))]
+#[tactic(auto, using(crate::proofs::WrittenTexts::appends))]
 fn write_instant<W: Write>(out: &mut W, time: i128, unit: TimeUnit) -> io::Result<()>
     ensures { OnOk result (Appends (W.contents out.old) (W.contents out.new) (instant_text (scale_of unit) time)) }
 {
@@ -290,7 +290,7 @@ fn write_zone<W: Write>(out: &mut W, is_instant: bool) -> io::Result<()>
 }
 
 /// Writes a timestamp: an instant in UTC, or where the type has no zone a date and a time.
-#[tactic(auto, using(crate::proofs::Appending::appends))]
+#[tactic(auto, using(crate::proofs::WrittenTexts::appends))]
 pub(crate) fn write_timestamp<W: Write>(
     out: &mut W,
     time: i128,
@@ -316,7 +316,7 @@ pub(crate) fn write_long_date<W: Write>(out: &mut W, time: i128) -> io::Result<(
 }
 
 /// Writes a duration in seconds.
-#[tactic(auto, using(crate::proofs::Appending::appends))]
+#[tactic(auto, using(crate::proofs::WrittenTexts::appends))]
 pub(crate) fn write_duration<W: Write>(out: &mut W, time: i128, unit: TimeUnit) -> io::Result<()>
     ensures { OnOk result (Appends (W.contents out.old) (W.contents out.new) (duration_text (scale_of unit) time)) }
 {

@@ -19,7 +19,7 @@ pub(crate) fn shifted(number: u128, places: u8) -> u128
 }
 
 /// Writes the last `count` digits of a number, with zeros before them where it has fewer.
-#[tactic(auto, using(crate::proofs::Appending::appends))]
+#[tactic(auto, using(crate::proofs::WrittenTexts::appends))]
 pub(crate) fn write_digits<W: Write>(out: &mut W, number: u128, count: u8) -> io::Result<()>
     ensures { OnOk result (Appends (W.contents out.old) (W.contents out.new) (fixed_digits count number)) }
 {
@@ -54,7 +54,7 @@ pub(crate) fn write_sign<W: Write>(out: &mut W, number: i128) -> io::Result<()>
 }
 
 /// Writes a point and the last `scale` digits of a number; nothing where the scale is 0.
-#[tactic(auto, using(crate::proofs::Appending::appends))]
+#[tactic(auto, using(crate::proofs::WrittenTexts::appends))]
 pub(crate) fn write_fraction<W: Write>(out: &mut W, number: u128, scale: u8) -> io::Result<()>
     ensures { OnOk result (Appends (W.contents out.old) (W.contents out.new) (fraction_text scale number)) }
 {
@@ -66,7 +66,7 @@ pub(crate) fn write_fraction<W: Write>(out: &mut W, number: u128, scale: u8) -> 
 }
 
 /// Writes a number divided by the power of ten with this exponent.
-#[tactic(auto, using(crate::proofs::Appending::appends))]
+#[tactic(auto, using(crate::proofs::WrittenTexts::appends))]
 pub(crate) fn write_scaled<W: Write>(out: &mut W, number: u128, scale: u8) -> io::Result<()>
     ensures { OnOk result (Appends (W.contents out.old) (W.contents out.new) (scaled_text scale number)) }
 {
@@ -76,7 +76,7 @@ pub(crate) fn write_scaled<W: Write>(out: &mut W, number: u128, scale: u8) -> io
 }
 
 /// Writes a decimal by its unscaled number, with `scale` digits behind the point.
-#[tactic(auto, using(crate::proofs::Appending::appends))]
+#[tactic(auto, using(crate::proofs::WrittenTexts::appends))]
 pub(crate) fn write_decimal<W: Write>(out: &mut W, unscaled: i128, scale: u8) -> io::Result<()>
     ensures { OnOk result (Appends (W.contents out.old) (W.contents out.new) (decimal_text scale unscaled)) }
 {

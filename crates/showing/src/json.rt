@@ -58,7 +58,7 @@ fn write_chars<W: Write>(out: &mut W, quote: &str, text: &str) -> io::Result<()>
 }
 
 /// Writes a text as a JSON string.
-#[tactic(auto, using(crate::proofs::Appending::appends))]
+#[tactic(auto, using(crate::proofs::WrittenTexts::appends))]
 fn write_string<W: Write>(out: &mut W, quote: &str, text: &str) -> io::Result<()>
     ensures { OnOk result (Appends (W.contents out.old) (W.contents out.new) (json_string quote.now text.now)) }
 {
@@ -68,7 +68,7 @@ fn write_string<W: Write>(out: &mut W, quote: &str, text: &str) -> io::Result<()
 }
 
 /// Writes a number: a whole number as one of JSON, and any other as a string.
-#[tactic(auto, using(crate::proofs::Appending::appends))]
+#[tactic(auto, using(crate::proofs::WrittenTexts::appends))]
 fn write_json_number<W: Write>(
     out: &mut W,
     quote: &str,
@@ -86,7 +86,7 @@ fn write_json_number<W: Write>(
     write!(out, "{quote}")
 }
 
-#[tactic(auto, using(crate::proofs::Appending::appends))]
+#[tactic(auto, using(crate::proofs::WrittenTexts::appends))]
 fn write_json_bytes<W: Write>(out: &mut W, quote: &str, bytes: &[u8]) -> io::Result<()>
     ensures { OnOk result (Appends (W.contents out.old) (W.contents out.new)
         (quote.now ++ (hex_text bytes.now ++ quote.now))) }

@@ -345,7 +345,7 @@ fn write_amount<W: Write>(shown: u64, rows: u64, out: &mut W) -> io::Result<()>
 
 /// Writes the line that ends a table: how many rows were shown, and of how many. Where the writer fails, some of it may
 /// have been written.
-#[tactic(auto, using(crate::proofs::Appending::appends))]
+#[tactic(auto, using(crate::proofs::WrittenTexts::appends))]
 pub fn write_count<W: Write>(shown: u64, rows: u64, out: &mut W) -> io::Result<()>
     ensures { OnOk result (Appends (W.contents out.old) (W.contents out.new) (count_line shown rows)) }
 {

@@ -42,7 +42,7 @@ fn write_all_doubled<W: Write>(out: &mut W, text: &[u8]) -> io::Result<()>
 }
 
 /// Writes a text between quotes.
-#[tactic(auto, using(crate::proofs::Appending::appends))]
+#[tactic(auto, using(crate::proofs::WrittenTexts::appends))]
 fn write_quoted<W: Write>(out: &mut W, text: &[u8]) -> io::Result<()>
     ensures { OnOk result (Appends (W.contents out.old) (W.contents out.new) (quoted text.now)) }
 {

@@ -15,7 +15,7 @@ pub mod Lengths
 pub mod BatchRead
 pub mod RowsRead
 pub mod Decoded
-pub mod Numbering
+pub mod NumberedTexts
 pub mod ValueLemmas
 pub mod IndexedRows
 pub mod CodedRead

@@ -37,7 +37,7 @@ use Rattle.stream_writer.specs.DictionaryLaw.{
   StandForTheirTexts,
 }
 use Rattle.stream_writer.proofs.Decoded.{added, kept, or-left, or-right, place-found}
-use Rattle.stream_writer.proofs.Numbering.{texts-next}
+use Rattle.stream_writer.proofs.NumberedTexts.{texts-next}
 
 -- a text is one of these exactly where the test says so
 

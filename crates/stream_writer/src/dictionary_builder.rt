@@ -44,7 +44,7 @@ impl<'a> DictionaryBuilder<'a> {
     }
 
     /// The index of a cell's text, which is added where it is new; a null has none.
-    #[tactic(auto, using(crate::proofs::Numbering::numbering))]
+    #[tactic(auto, using(crate::proofs::NumberedTexts::numbering))]
     fn append(&mut self, cell: Option<&'a Value>) -> Result<Value, AllocError>
         requires { IsTextCell (cell_of cell) }
         ensures texts { OnOk result
@@ -82,7 +82,7 @@ pub(crate) struct CodedColumn<'a> {
 }
 
 /// Numbers the texts of a column.
-#[tactic(auto, using(crate::proofs::Numbering::numbering))]
+#[tactic(auto, using(crate::proofs::NumberedTexts::numbering))]
 pub(crate) fn code_column<'a>(
     alloc: Global,
     cells: &[Option<&'a Value>],

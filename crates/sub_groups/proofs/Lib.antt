@@ -1,7 +1,7 @@
 pub mod Absent
 pub mod Conjuncts
 pub mod FilterSplit
-pub mod Placing
-pub mod Parting
-pub mod Standing
-pub mod Moving
+pub mod StandInRows
+pub mod CountedRows
+pub mod StandInCells
+pub mod MovedViews

@@ -21,7 +21,7 @@ fn place_in(columns: &[usize], column: usize) -> Option<usize>
 }
 
 /// The cell of a column in a row that has the cells of a tuple in the columns `keys`; null in the others.
-#[tactic(auto, using(crate::proofs::Standing::standing_laws))]
+#[tactic(auto, using(crate::proofs::StandInCells::standing_laws))]
 fn stand_cell(
     alloc: Global,
     keys: &[usize],
@@ -41,7 +41,7 @@ fn stand_cell(
 
 /// A row of the main table, which has `width` columns, that stands for all rows of a sub-group: it has their cells in
 /// the columns `keys`, by which sub-groups are made, and null in the others.
-#[tactic(auto, using(crate::proofs::Standing::standing_laws))]
+#[tactic(auto, using(crate::proofs::StandInCells::standing_laws))]
 pub(crate) fn stand_in(
     alloc: Global,
     keys: &[usize],

@@ -3,5 +3,5 @@ pub mod Appended
 pub mod SortKeys
 pub mod Ties
 pub mod OneRow
-pub mod Sorting
+pub mod SortedPlaces
 pub mod FirstRows

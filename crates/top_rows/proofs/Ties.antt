@@ -22,7 +22,7 @@ use Rattle.view_lang.specs.Sorted.{placed, sorted}
 use Rattle.view_lang.specs.RowOrder.{row_cmp}
 use Rattle.view_lang.specs.declared.view.OrderBy.{OrderBy}
 use Rattle.view_lang.proofs.AscendingKeys.{same-keys}
-use Rattle.view_lang.proofs.Keeping.{sorted_by_place}
+use Rattle.view_lang.proofs.KeptRows.{sorted_by_place}
 use Rattle.view_lang.proofs.OwnEntries.{HasOwn, own-entries}
 use Rattle.top_rows.specs.PlaceOrder.{sort_key_cmp, tied_cmp, tied_total}
 use Rattle.top_rows.specs.SortKeys.{sort_keys_of}

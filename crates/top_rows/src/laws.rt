@@ -4,7 +4,7 @@ ghost use Rattle.top_rows.specs.SortedPlaces.{PlacesAreSorted};
 
 /// What is kept of some rows is their places, sorted, ties by number. So it is a function of the rows alone, and
 /// doesn't depend on the changes that led to them.
-#[tactic(auto, using(crate::proofs::Sorting::sorting_laws))]
+#[tactic(auto, using(crate::proofs::SortedPlaces::sorting_laws))]
 pub fn order_law()
     ensures sorted { PlacesAreSorted }
 {}

@@ -101,7 +101,7 @@ use Rattle.upkeep.specs.ViewStates.{IsDroppedLink, link_row, made_by, made_row, 
 use Rattle.upkeep.specs.declared.view_state.Links.{Links}
 use Rattle.upkeep.specs.declared.view_state.Links.TheVariants as links
 use Rattle.upkeep.specs.declared.arrivals.Arrival.{Arrival}
-use Rattle.upkeep.proofs.Editing.{rows_now}
+use Rattle.upkeep.proofs.ChangedStores.{rows_now}
 use Rattle.upkeep.proofs.MainTable.{batch_length}
 
 -- The rows of a batch

@@ -94,11 +94,11 @@ use Rattle.upkeep.specs.declared.view_state.Links.TheVariants as links
 use Rattle.upkeep.specs.declared.view_state.Turn.{Turn}
 use Rattle.upkeep.specs.declared.view_state.Turn.TheVariants as turn
 use Rattle.upkeep.specs.declared.view_state.ViewState.{ViewState}
-use Rattle.upkeep.proofs.Following.{image_length}
+use Rattle.upkeep.proofs.FollowedRows.{image_length}
 use Rattle.upkeep.proofs.LiveSides.{current_same, set_main, sides_same}
 use Rattle.upkeep.proofs.LookedUpViews.{current_after, main_same}
 use Rattle.upkeep.proofs.MainTable.{live_few, numbered_length, turned_length}
-use Rattle.upkeep.proofs.Referring.{
+use Rattle.upkeep.proofs.ReferringRows.{
   AreReferring,
   are_referring,
   can_retract,

@@ -65,7 +65,7 @@ use Rattle.upkeep.specs.ViewStates.{EachIsCurrent, turned, turned_last}
 use Rattle.upkeep.specs.declared.table_change.TableChange.{TableChange}
 use Rattle.upkeep.specs.declared.view_state.Turn.TheVariants as turn
 use Rattle.upkeep.specs.declared.view_state.ViewState.{ViewState}
-use Rattle.upkeep.proofs.Editing.{others_same, rows_now, still_of, store_makes}
+use Rattle.upkeep.proofs.ChangedStores.{others_same, rows_now, still_of, store_makes}
 use Rattle.upkeep.proofs.MainTable.{
   each_set,
   gives,

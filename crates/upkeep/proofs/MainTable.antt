@@ -55,7 +55,7 @@ use Rattle.upkeep.specs.ViewStates.{AreCurrent, EachIsCurrent, IsCurrent, turned
 use Rattle.upkeep.specs.declared.view_state.Turn.{Turn}
 use Rattle.upkeep.specs.declared.view_state.Turn.TheVariants as turn
 use Rattle.upkeep.specs.declared.view_state.ViewState.{ViewState}
-use Rattle.upkeep.proofs.Editing.{rows_now, still_of}
+use Rattle.upkeep.proofs.ChangedStores.{rows_now, still_of}
 
 -- What views look up is in other tables than the main one.
 

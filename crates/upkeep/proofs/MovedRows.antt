@@ -73,7 +73,7 @@ use Rattle.upkeep.specs.ViewStates.{
 use Rattle.upkeep.specs.declared.view_state.Kept.{Kept}
 use Rattle.upkeep.specs.declared.view_state.Kept.TheVariants as kept
 use Rattle.upkeep.specs.declared.view_state.Links.TheVariants as links
-use Rattle.upkeep.proofs.Referring.{keyless}
+use Rattle.upkeep.proofs.ReferringRows.{keyless}
 
 -- A looked-up cell that is none of some values
 

@@ -56,7 +56,7 @@ use Rattle.upkeep.specs.declared.table_change.TableChange.{TableChange}
 use Rattle.upkeep.specs.declared.view_state.Turn.{Turn}
 use Rattle.upkeep.specs.declared.view_state.Turn.TheVariants as turn
 use Rattle.upkeep.specs.declared.view_state.ViewState.{ViewState}
-use Rattle.upkeep.proofs.Editing.{others_same, rows_now, still_of, store_makes}
+use Rattle.upkeep.proofs.ChangedStores.{others_same, rows_now, still_of, store_makes}
 use Rattle.upkeep.proofs.LiveSides.{each_same, set_main}
 use Rattle.upkeep.proofs.SwappedRows.{hidden_live, keys_hidden, side_change}
 

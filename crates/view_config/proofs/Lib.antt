@@ -4,9 +4,9 @@ pub mod Texts
 pub mod Arrays
 pub mod Names
 pub mod Fields
-pub mod Counting
+pub mod FieldCounts
 pub mod Slots
-pub mod Gathering
+pub mod GatheredItems
 pub mod Joined
 pub mod FilterDepths
 pub mod FilterCounts
@@ -23,7 +23,7 @@ pub mod SoundTables
 pub mod SoundFilters
 pub mod Samples
 pub mod SoundOutputs
-pub mod Ascending
+pub mod AscendingNumbers
 pub mod SoundDict
 pub mod SoundViews
 pub mod SoundConfig

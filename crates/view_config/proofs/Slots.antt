@@ -8,7 +8,7 @@ use Rattle.values.proofs.Roses.{kids_step, kids_end, kid_smaller}
 use Rattle.values.specs.Layouts.{slot, slots}
 use Rattle.values.specs.declared.layout.Layout.{Layout}
 use Rattle.view_config.specs.Limits.{is_within_slot, are_within_slot}
-use Rattle.view_config.proofs.Counting.{fields_step}
+use Rattle.view_config.proofs.FieldCounts.{fields_step}
 
 abbrev left : List (Rose NamedType) → ℕ → Roses Layout
 left fs k = trees_of (kids_of (drop k fs))

@@ -22,7 +22,7 @@ use Rattle.view_config.specs.Numbers.{is_number_in}
 use Rattle.view_config.specs.Scope.{Column}
 use Rattle.view_config.specs.Tree.{each_item, items_in}
 use Rattle.view_config.specs.declared.faults.ConfigFault.TheVariants as fault
-use Rattle.view_config.proofs.Ascending.{ascending-ascends}
+use Rattle.view_config.proofs.AscendingNumbers.{ascending-ascends}
 use Rattle.view_config.proofs.Found.{found-at}
 use Rattle.view_config.proofs.Readings.{bound, items_all, test_Ok}
 

@@ -36,7 +36,7 @@ fn coded_output(shown: &[LogicalField], value: &Value) -> Result<usize, ConfigFa
     }
 }
 
-#[tactic(auto, using(crate::proofs::Gathering::gathering, crate::proofs::Causes::failing))]
+#[tactic(auto, using(crate::proofs::GatheredItems::gathering, crate::proofs::Causes::failing))]
 fn read_each_output(
     alloc: Global,
     shown: &[LogicalField],
@@ -52,7 +52,7 @@ fn read_each_output(
 }
 
 /// Those of the numbers below `count` that are among these, in ascending order.
-#[tactic(auto, using(crate::proofs::Ascending::numbers_ascending))]
+#[tactic(auto, using(crate::proofs::AscendingNumbers::numbers_ascending))]
 fn ascending(alloc: Global, numbers: &[usize], count: usize) -> Result<Vec<usize>, AllocError>
     ensures { IfOk result (λ ns. ns.items ≡ ascending numbers.now count) }
 {

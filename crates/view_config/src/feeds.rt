@@ -77,7 +77,7 @@ pub(crate) fn read_feed(
     })
 }
 
-#[tactic(auto, using(crate::proofs::Gathering::entering))]
+#[tactic(auto, using(crate::proofs::GatheredItems::entering))]
 fn read_each_feed(
     alloc: Global,
     sides: &[SideTable],

@@ -200,7 +200,7 @@ fn read_parts(
 }
 
 #[cycle(filters)]
-#[tactic(auto, using(crate::proofs::Gathering::gathering))]
+#[tactic(auto, using(crate::proofs::GatheredItems::gathering))]
 fn read_each_part(
     alloc: Global,
     scope: &Scope,

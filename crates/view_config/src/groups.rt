@@ -57,7 +57,7 @@ fn grouping_column(scope: &Scope, value: &Value) -> Result<usize, ConfigFault>
     Ok(number)
 }
 
-#[tactic(auto, using(crate::proofs::Gathering::gathering, crate::proofs::Causes::failing))]
+#[tactic(auto, using(crate::proofs::GatheredItems::gathering, crate::proofs::Causes::failing))]
 fn read_each_grouping(
     alloc: Global,
     scope: &Scope,

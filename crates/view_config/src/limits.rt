@@ -64,7 +64,7 @@ pub(crate) fn room_after(field: &LogicalField, room: u32) -> Option<u32>
 
 /// `room` less the number of these fields and all below them; `None` where they are more.
 #[cycle(count)]
-#[tactic(auto, using(crate::proofs::Counting::counting))]
+#[tactic(auto, using(crate::proofs::FieldCounts::counting))]
 fn room_after_all(fields: &[LogicalField], room: u32) -> Option<u32>
     ensures { IsRoomAfter room (roses_size (kids_of fields.now)) result }
 {

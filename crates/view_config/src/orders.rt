@@ -75,7 +75,7 @@ fn read_order_by(
     Ok(OrderBy { column, direction })
 }
 
-#[tactic(auto, using(crate::proofs::Gathering::gathering, crate::proofs::Causes::failing))]
+#[tactic(auto, using(crate::proofs::GatheredItems::gathering, crate::proofs::Causes::failing))]
 fn read_each_order_by(
     alloc: Global,
     scope: &Scope,

@@ -67,7 +67,7 @@ fn read_group_output(
     })
 }
 
-#[tactic(auto, using(crate::proofs::Gathering::gathering))]
+#[tactic(auto, using(crate::proofs::GatheredItems::gathering))]
 fn read_each_output(
     alloc: Global,
     scope: &Scope,
@@ -82,7 +82,7 @@ fn read_each_output(
     Ok(outputs)
 }
 
-#[tactic(auto, using(crate::proofs::Gathering::gathering))]
+#[tactic(auto, using(crate::proofs::GatheredItems::gathering))]
 fn read_each_group_output(
     alloc: Global,
     scope: &Scope,

@@ -28,7 +28,7 @@ pub(crate) fn read_side(alloc: Global, name: &str, value: &Value) -> Result<Side
     })
 }
 
-#[tactic(auto, using(crate::proofs::Gathering::entering))]
+#[tactic(auto, using(crate::proofs::GatheredItems::entering))]
 fn read_each_side(alloc: Global, entries: &Entries) -> Result<Vec<SideTable>, ConfigFault>
     ensures { Answers (λ ss. ss.items) result (each_member side_of (table_view entries.now)) }
 {

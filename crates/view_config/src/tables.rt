@@ -31,7 +31,7 @@ fn read_column(alloc: Global, value: &Value) -> Result<LogicalField, ConfigFault
     read_field(alloc, name, value, MAX_DEPTH)
 }
 
-#[tactic(auto, using(crate::proofs::Gathering::gathering))]
+#[tactic(auto, using(crate::proofs::GatheredItems::gathering))]
 fn read_each_column(alloc: Global, values: &[Value]) -> Result<Vec<LogicalField>, ConfigFault>
     ensures { Answers (λ ns. ns.items) result (each_item column_of (items_view values.now)) }
 {

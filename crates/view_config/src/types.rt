@@ -283,7 +283,7 @@ fn read_struct(
 }
 
 #[cycle(types)]
-#[tactic(auto, using(crate::proofs::Gathering::gathering))]
+#[tactic(auto, using(crate::proofs::GatheredItems::gathering))]
 fn read_children(
     alloc: Global,
     values: &[Value],

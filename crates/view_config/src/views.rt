@@ -135,7 +135,7 @@ pub(crate) fn read_view(
     }
 }
 
-#[tactic(auto, using(crate::proofs::Gathering::entering))]
+#[tactic(auto, using(crate::proofs::GatheredItems::entering))]
 fn read_each_view(
     alloc: Global,
     main: &Table,

@@ -8,16 +8,16 @@ mod ViewRows
 mod KeyCells
 mod Sample
 pub mod Orders
-pub mod Sorting
-pub mod Projecting
+pub mod StableOrder
+pub mod ShownRows
 pub mod Distinct
-pub mod Passing
+pub mod PassingRows
 pub mod TruthLaws
 pub mod OrderLaws
 pub mod Tuples
-pub mod Keeping
+pub mod KeptRows
 pub mod Multisets
-pub mod Imaging
+pub mod RowImages
 pub mod OneByOne
 pub mod LiveKeys
 pub mod AscendingKeys

@@ -62,8 +62,8 @@ use Rattle.view_lang.specs.declared.view.Direction.TheVariants as direction
 use Rattle.view_lang.specs.Contents.{is_among, same_key}
 use Rattle.view_lang.proofs.Distinct.{either_first, one_more_alike, two_turned}
 use Rattle.view_lang.proofs.Orders.{cell_cmp_total, datum_cmp_total, tuple_cmp_total}
-use Rattle.view_lang.proofs.Sorting.{weaker}
-use Rattle.view_lang.proofs.Keeping.{placed-placed, first_in-sorted}
+use Rattle.view_lang.proofs.StableOrder.{weaker}
+use Rattle.view_lang.proofs.KeptRows.{placed-placed, first_in-sorted}
 
 all-map : {X Y : Type 0} (P : Y → Type 0) (f : X → Y) (xs : List X) → AllByRecursion (λ x. P (f x)) xs
     → AllByRecursion P (map f xs)

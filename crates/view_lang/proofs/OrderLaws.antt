@@ -5,7 +5,7 @@ use Rattle.view_lang.specs.RowOrder.{row_cmp}
 use Rattle.view_lang.specs.Sorted.{IsArranged}
 use Rattle.view_lang.specs.ViewLaws.{RowsAreRanked, SortedIsTheArrangement}
 use Rattle.view_lang.proofs.Orders.{row_cmp_total}
-use Rattle.view_lang.proofs.Sorting.{arranged-sorted, sorted_is}
+use Rattle.view_lang.proofs.StableOrder.{arranged-sorted, sorted_is}
 
 pub rows-ranked : RowsAreRanked
 rows-ranked os = row_cmp_total os

@@ -35,7 +35,7 @@ use Rattle.view_lang.specs.RowOrder.{tuple_cmp}
 use Rattle.view_lang.specs.Groups.{tuples_of, same_tuple}
 use Rattle.view_lang.specs.ViewLaws.{TuplesAreOfRows, TuplesAscend, TuplesAsk, TuplesCover}
 use Rattle.view_lang.proofs.Orders.{tuple_cmp_total}
-use Rattle.view_lang.proofs.Sorting.{IsPermutation-sorted, arranged-sorted, from_is_eq}
+use Rattle.view_lang.proofs.StableOrder.{IsPermutation-sorted, arranged-sorted, from_is_eq}
 
 twice : (a b : Bool) → (a || b) ≡ (a || (a || b))
 twice true b = refl

@@ -12,7 +12,7 @@ use std::alloc::{AllocError, Global};
 use values::Row;
 
 /// The output row that a view with these outputs makes of a joined row.
-#[tactic(auto, using(crate::proofs::Projecting::cell_steps))]
+#[tactic(auto, using(crate::proofs::ShownRows::cell_steps))]
 pub fn project<R: RowView>(alloc: Global, outputs: &[Output], row: &R) -> Result<Row, AllocError>
     ensures { IfOk result (λ shown. shown.items ≡ shown_row outputs.now (R.cells row.now)) }
 {
@@ -24,7 +24,7 @@ pub fn project<R: RowView>(alloc: Global, outputs: &[Output], row: &R) -> Result
 }
 
 /// The rows of which a filter, if there is one, is true, in their order.
-#[tactic(auto, using(crate::proofs::Passing::passing_steps))]
+#[tactic(auto, using(crate::proofs::PassingRows::passing_steps))]
 pub fn passing_rows(
     alloc: Global,
     test: &Option<Filter>,

@@ -86,7 +86,7 @@ pub fn one_by_one_law()
 
 /// Where something is made of each row, a change of the rows is a change of what is made of them, and leads to what is
 /// made of the rows after it.
-#[tactic(auto, using(crate::proofs::Imaging::image_laws))]
+#[tactic(auto, using(crate::proofs::RowImages::image_laws))]
 pub fn image_law()
     ensures fits { ImageFits }
     ensures patched { ImagePatched }

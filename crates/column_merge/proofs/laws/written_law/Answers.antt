@@ -1,4 +1,4 @@
-use Rattle.column_merge.proofs.Writing.{written-law}
+use Rattle.column_merge.proofs.RowsReadBack.{written-law}
 use Rattle.column_merge.proofs.laws.written_law.Goals as goal
 
 pub returns : goal.returns

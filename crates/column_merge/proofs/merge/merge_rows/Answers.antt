@@ -1,6 +1,6 @@
 use Rattle.values.specs.Rose.{kids_of}
 use Rattle.column_writer.specs.Batches.{ranges_rows}
-use Rattle.column_merge.proofs.Reading.{columns_long}
+use Rattle.column_merge.proofs.BodyColumns.{columns_long}
 use Rattle.column_merge.proofs.merge.merge_rows.Goals as goal
 
 pub returns-clause-long : goal.returns-clause-long

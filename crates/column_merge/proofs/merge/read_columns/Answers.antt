@@ -3,7 +3,7 @@ use Rattle.values.proofs.Roses.{kids_end, kids_step}
 use Rattle.array_layout.specs.Placing.{layout_of}
 use Rattle.array_layout.specs.Typed.{IsTyped}
 use Rattle.column_merge.proofs.Places.{nodes_step, ranges_step}
-use Rattle.column_merge.proofs.Reading.{between_end, between_more, layouts_more, placed-layout, placed-typed}
+use Rattle.column_merge.proofs.BodyColumns.{between_end, between_more, layouts_more, placed-layout, placed-typed}
 use Rattle.column_merge.proofs.merge.read_columns.Goals as goal
 
 pub check_column-requires-clause-dictionary : goal.check_column-requires-clause-dictionary

@@ -3,7 +3,7 @@ use Rattle.std.specs.Prelude.{map}
 use Rattle.values.specs.Rose.{kids_of, roses_size}
 use Rattle.array_layout.specs.Placing.{placed_all, ranges_below}
 use Rattle.schema_meta.specs.Rows.{columns_in}
-use Rattle.column_merge.proofs.Reading.{IsBetween}
+use Rattle.column_merge.proofs.BodyColumns.{IsBetween}
 use Rattle.column_merge.proofs.merge.read_columns.Given as goal
 
 abbrev pub invariant-loop-tree : goal.invariant-loop-tree

@@ -1,7 +1,7 @@
 use Rattle.std.proofs.Common.{get_or}
 use Rattle.values.specs.Datum.{null}
 use Rattle.view_lang.specs.Truth.{compared}
-use Rattle.column_truths.proofs.Gathering.{Gathered}
+use Rattle.column_truths.proofs.JoinedTruths.{Gathered}
 use Rattle.column_truths.proofs.by_cell.compare_cells.Given as goal
 
 abbrev pub invariant-loop-i : goal.invariant-loop-i

@@ -1,7 +1,7 @@
 use Rattle.std.proofs.Common.{◌∙◌, ap, arith, get_or, length, refl, sym}
 use Rattle.values.specs.Datum.{null}
 use Rattle.view_lang.specs.Truth.{compared}
-use Rattle.column_truths.proofs.Gathering.{
+use Rattle.column_truths.proofs.JoinedTruths.{
   gathered_step,
   gathered_known,
   gathered_unknown,

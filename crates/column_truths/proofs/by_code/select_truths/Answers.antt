@@ -1,6 +1,6 @@
 use Rattle.std.proofs.Common.{◌∙◌, arith}
 use Rattle.column_truths.specs.Compared.{slot_truth}
-use Rattle.column_truths.proofs.Gathering.{gathered_step, gathered_known, gathered_unknown, gathered_end}
+use Rattle.column_truths.proofs.JoinedTruths.{gathered_step, gathered_known, gathered_unknown, gathered_end}
 use Rattle.column_truths.proofs.by_code.select_truths.Goals as goal
 
 pub push_truth-requires-clause-known : goal.push_truth-requires-clause-known

@@ -1,5 +1,5 @@
 use Rattle.column_truths.specs.Compared.{slot_truth}
-use Rattle.column_truths.proofs.Gathering.{Gathered}
+use Rattle.column_truths.proofs.JoinedTruths.{Gathered}
 use Rattle.column_truths.proofs.by_code.select_truths.Given as goal
 
 abbrev pub invariant-loop-i : goal.invariant-loop-i

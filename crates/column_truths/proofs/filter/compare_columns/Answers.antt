@@ -3,7 +3,7 @@ use Rattle.std.proofs.lemmas.Option.{get_or_from_slice_get}
 use Rattle.values.specs.Datum.{null}
 use Rattle.view_lang.specs.Truth.{compared}
 use Rattle.column_truths.specs.Compared.{columns_compared}
-use Rattle.column_truths.proofs.Gathering.{
+use Rattle.column_truths.proofs.JoinedTruths.{
   gathered_step,
   gathered_known,
   gathered_unknown,

@@ -3,7 +3,7 @@ use Rattle.std.proofs.lemmas.Option.{get_or_from_slice_get}
 use Rattle.values.specs.Datum.{null, is_null}
 use Rattle.std.specs.Prelude.{Some}
 use Rattle.column_truths.specs.Compared.{nulls_in}
-use Rattle.column_truths.proofs.Gathering.{
+use Rattle.column_truths.proofs.JoinedTruths.{
   gathered_step,
   gathered_known,
   gathered_unknown,

@@ -1,7 +1,7 @@
 use Rattle.std.proofs.Common.{◌∙◌, arith, refl}
 use Rattle.std.specs.Prelude.{Some}
 use Rattle.column_truths.specs.Compared.{all_alike}
-use Rattle.column_truths.proofs.Gathering.{gathered_step, gathered_known, gathered_unknown, gathered_end}
+use Rattle.column_truths.proofs.JoinedTruths.{gathered_step, gathered_known, gathered_unknown, gathered_end}
 use Rattle.column_truths.proofs.filter.repeated.Goals as goal
 
 pub push_truth-requires-clause-known : goal.push_truth-requires-clause-known

@@ -1,5 +1,5 @@
 use Rattle.std.specs.Prelude.{Some}
-use Rattle.column_truths.proofs.Gathering.{Gathered}
+use Rattle.column_truths.proofs.JoinedTruths.{Gathered}
 use Rattle.column_truths.proofs.filter.repeated.Given as goal
 
 abbrev pub invariant-loop-i : goal.invariant-loop-i

@@ -1,5 +1,5 @@
 use Rattle.std.proofs.Common.{◌∙◌, sym}
-use Rattle.group_order.proofs.Following.{same-place}
+use Rattle.group_order.proofs.OrderedGroups.{same-place}
 use Rattle.group_order.proofs.ranked.exchange.Goals as goal
 
 pub returns-then-eq : goal.returns-then-eq

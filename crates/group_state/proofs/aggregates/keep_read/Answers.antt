@@ -1,5 +1,5 @@
 use Rattle.std.proofs.Common.{◌∙◌, sym}
-use Rattle.group_state.proofs.Keeping.{kept-read, only-read}
+use Rattle.group_state.proofs.KeptColumns.{kept-read, only-read}
 use Rattle.group_state.proofs.aggregates.keep_read.Goals as goal
 
 pub returns-in-Some-clause-only : goal.returns-in-Some-clause-only

@@ -2,7 +2,7 @@ use Rattle.std.proofs.Common.{◌≡◌, ℕ, All, Bool, List, subst, true}
 use Rattle.std.proofs.lemmas.List.{take_all}
 use Rattle.view_lang.specs.Outputs.{GroupOutput}
 use Rattle.group_state.specs.Aggregates.{IsKept, is_read, reads}
-use Rattle.group_state.proofs.Keeping.{kept-more, read-there}
+use Rattle.group_state.proofs.KeptColumns.{kept-more, read-there}
 use Rattle.group_state.proofs.aggregates.kept_columns.Goals as goal
 
 pub loop-output-preserved : goal.loop-output-preserved

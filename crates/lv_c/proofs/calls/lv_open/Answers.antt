@@ -1,4 +1,4 @@
-use Rattle.lv_c.proofs.Opening.{opens-kept}
+use Rattle.lv_c.proofs.OpenedSessions.{opens-kept}
 use Rattle.lv_c.proofs.calls.lv_open.Goals as goal
 
 pub returns-in-Ok : goal.returns-in-Ok

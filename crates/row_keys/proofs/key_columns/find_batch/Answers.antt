@@ -2,7 +2,7 @@ use Rattle.std.proofs.Common.{◌≡◌, List, ap, arith, get_or, subst}
 use Rattle.values.specs.Datum.{Datum}
 use Rattle.view_lang.specs.Config.{Table}
 use Rattle.row_keys.specs.Found.{FindsAll, known_keys}
-use Rattle.row_keys.proofs.Appending.{key_column, key_within, keys_of_rows}
+use Rattle.row_keys.proofs.AppendedBatches.{key_column, key_within, keys_of_rows}
 use Rattle.row_keys.proofs.key_columns.find_batch.Goals as goal
 
 pub bounds-columns-table-inside : goal.bounds-columns-table-inside

@@ -1,5 +1,5 @@
 use Rattle.std.proofs.Common.{arith}
-use Rattle.row_keys.proofs.Finding.{misses_key}
+use Rattle.row_keys.proofs.FoundRows.{misses_key}
 use Rattle.row_keys.proofs.key_columns.find_keys.Goals as goal
 
 pub returns-in-None-clause-missed : goal.returns-in-None-clause-missed

@@ -1,5 +1,5 @@
 use Rattle.std.proofs.Common.{arith}
-use Rattle.row_keys.proofs.Replacing.{known_found, known_passed}
+use Rattle.row_keys.proofs.ReplacedRows.{known_found, known_passed}
 use Rattle.row_keys.proofs.key_columns.find_known.Goals.{in-Some+in_ok-push, in_default}
 use Rattle.row_keys.proofs.key_columns.find_known.Goals as goal
 

@@ -1,6 +1,6 @@
 use Rattle.std.proofs.Common.{◌≡◌, ap, arith, get_or, subst}
 use Rattle.view_lang.specs.Config.{Table}
-use Rattle.row_keys.proofs.Appending.{key_column, key_within, keys_of_rows}
+use Rattle.row_keys.proofs.AppendedBatches.{key_column, key_within, keys_of_rows}
 use Rattle.row_keys.proofs.BatchKeys.{pushes_same, refuses_same}
 use Rattle.row_keys.proofs.key_columns.push_batch.Goals as goal
 

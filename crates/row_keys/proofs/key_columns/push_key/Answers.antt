@@ -1,4 +1,4 @@
-use Rattle.row_keys.proofs.Keying.{null_told}
+use Rattle.row_keys.proofs.KeysOfBatch.{null_told}
 use Rattle.row_keys.proofs.key_columns.push_key.Goals as goal
 
 pub returns-then-is_null_key-clause-refused : goal.returns-then-is_null_key-clause-refused

@@ -1,5 +1,5 @@
 use Rattle.std.proofs.Common.{arith}
-use Rattle.row_keys.proofs.Keying.{keys_refused}
+use Rattle.row_keys.proofs.KeysOfBatch.{keys_refused}
 use Rattle.row_keys.proofs.key_columns.push_keys.Goals as goal
 
 pub returns-in-Err-clause-refused : goal.returns-in-Err-clause-refused

@@ -1,7 +1,7 @@
-use Rattle.row_keys.proofs.Changing.{changes_add}
+use Rattle.row_keys.proofs.NumberedChanges.{changes_add}
 use Rattle.row_keys.proofs.ComingBack.{live_can_go, retracted_come_back}
 use Rattle.row_keys.proofs.Emptied.{released_unseen}
-use Rattle.row_keys.proofs.Hiding.{hidden_live}
+use Rattle.row_keys.proofs.HiddenRows.{hidden_live}
 use Rattle.row_keys.proofs.NumberLaw.{
   all_come,
   new_come,

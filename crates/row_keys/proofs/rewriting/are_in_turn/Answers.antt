@@ -1,5 +1,5 @@
 use Rattle.std.proofs.Common.{arith}
-use Rattle.row_keys.proofs.Gathering.{turn_end}
+use Rattle.row_keys.proofs.GatheredRows.{turn_end}
 use Rattle.row_keys.proofs.rewriting.are_in_turn.Goals as goal
 
 pub returns : goal.returns

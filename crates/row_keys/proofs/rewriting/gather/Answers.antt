@@ -1,6 +1,6 @@
 use Rattle.std.proofs.Common.{◌∙◌, ap, sym}
 use Rattle.row_keys.specs.Chunks.{Chunk}
-use Rattle.row_keys.proofs.Gathering.{gathered_more, next_in}
+use Rattle.row_keys.proofs.GatheredRows.{gathered_more, next_in}
 use Rattle.row_keys.proofs.rewriting.gather.Goals as goal
 
 pub push_ranges-requires-clause-rows : goal.push_ranges-requires-clause-rows

@@ -1,4 +1,4 @@
-use Rattle.row_keys.proofs.Gathering.{IsGathered}
+use Rattle.row_keys.proofs.GatheredRows.{IsGathered}
 use Rattle.row_keys.proofs.rewriting.gather.Given as goal
 
 abbrev pub invariant-loop-chunk : goal.invariant-loop-chunk

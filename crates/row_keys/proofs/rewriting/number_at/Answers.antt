@@ -1,7 +1,7 @@
 use Rattle.std.proofs.Common.{◌≡◌, ◌∙◌, ap, arith, get_or, length}
 use Rattle.std.proofs.lemmas.Grind.{common_steps}
 use Rattle.row_keys.specs.Chunks.{Chunk}
-use Rattle.row_keys.proofs.Gathering.{unlisted, unlisted_fits}
+use Rattle.row_keys.proofs.GatheredRows.{unlisted, unlisted_fits}
 use Rattle.row_keys.proofs.rewriting.number_at.Goals as goal
 
 pub overflow_add-result : goal.overflow_add-result

@@ -1,5 +1,5 @@
 use Rattle.std.proofs.Common.{refl}
-use Rattle.row_keys.proofs.Gathering.{pushed_first, pushed_more}
+use Rattle.row_keys.proofs.GatheredRows.{pushed_first, pushed_more}
 use Rattle.row_keys.proofs.rewriting.push_ranges.Goals as goal
 
 pub loop-at-init : goal.loop-at-init

@@ -1,5 +1,5 @@
 use Rattle.std.proofs.Common.{◌-◌, length}
-use Rattle.row_keys.proofs.Gathering.{IsPushed}
+use Rattle.row_keys.proofs.GatheredRows.{IsPushed}
 use Rattle.row_keys.proofs.rewriting.push_ranges.Given as goal
 
 abbrev pub invariant-loop-at : goal.invariant-loop-at

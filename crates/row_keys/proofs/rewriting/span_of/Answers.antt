@@ -1,6 +1,6 @@
 use Rattle.std.proofs.Common.{◌≡◌, ◌+◌, ◌-◌, ◌∙◌, ap, arith, length}
 use Rattle.row_keys.specs.Chunks.{Chunk}
-use Rattle.row_keys.proofs.Merging.{span_end, span_fits}
+use Rattle.row_keys.proofs.MergedChunks.{span_end, span_fits}
 use Rattle.row_keys.proofs.rewriting.span_of.Goals as goal
 
 pub overflow_add-result : goal.overflow_add-result

@@ -4,7 +4,7 @@ use Rattle.column_writer.specs.Batches.{IsRange, ranges_rows}
 use Rattle.column_writer.specs.declared.batch.RowRange.{RowRange}
 use Rattle.body_writer.specs.Batch.{IsBatch}
 use Rattle.row_keys.specs.Batches.{batch_rows}
-use Rattle.row_keys.proofs.Merging.{few_rows, made_of}
+use Rattle.row_keys.proofs.MergedChunks.{few_rows, made_of}
 use Rattle.row_keys.proofs.rewriting.write_left.Goals as goal
 
 pub are_few-requires-clause-ranges : goal.are_few-requires-clause-ranges

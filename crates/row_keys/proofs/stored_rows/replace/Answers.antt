@@ -1,6 +1,6 @@
 use Rattle.std.proofs.Common.{◌∙◌, ap, arith}
 use Rattle.std.specs.Prelude.{slice_set}
-use Rattle.row_keys.proofs.Merging.{put_in_place}
+use Rattle.row_keys.proofs.MergedChunks.{put_in_place}
 use Rattle.row_keys.proofs.stored_rows.replace.Goals as goal
 
 pub returns : goal.returns

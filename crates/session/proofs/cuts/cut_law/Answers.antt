@@ -1,4 +1,4 @@
-use Rattle.session.proofs.Breaking.{breaks-in-both}
+use Rattle.session.proofs.BrokenFeeds.{breaks-in-both}
 use Rattle.session.proofs.Replaying.{
   faults-are-told,
   faults-break,

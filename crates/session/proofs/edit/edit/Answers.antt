@@ -10,7 +10,7 @@ use Rattle.upkeep.specs.Touched.{OpensTwice, touched}
 use Rattle.session.specs.Shows.{HoldsBack, ShowsPast}
 use Rattle.session.specs.Steps.{Past, unfit_in}
 use Rattle.session.proofs.Pasts.{edit_refused, edit_shown, edit_whole}
-use Rattle.session.proofs.Touching.{opens_after}
+use Rattle.session.proofs.TouchedRows.{opens_after}
 use Rattle.session.proofs.edit.edit.Goals as goal
 
 pub returns-in_err-change-clause-edits : goal.returns-in_err-change-clause-edits

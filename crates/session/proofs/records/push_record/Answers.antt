@@ -2,7 +2,7 @@ use Rattle.std.proofs.Common.{◌≡◌, ◌∷◌, ◌++◌, [], ◌≤◌, Lis
 use Rattle.std.specs.Prelude.{IfSome}
 use Rattle.circular_buffer.specs.Buffer.{Buffer}
 use Rattle.session.specs.declared.undo.UndoRecord.{UndoRecord}
-use Rattle.session.proofs.Evicting.{if_oldest, none_out}
+use Rattle.session.proofs.LastItems.{if_oldest, none_out}
 use Rattle.session.proofs.records.push_record.Goals as goal
 
 pub returns-clause-oldest : goal.returns-clause-oldest

@@ -1,5 +1,5 @@
-use Rattle.session.proofs.Releasing.{evicted_go, nothing_is_seen, oldest_is_out}
-use Rattle.session.proofs.Touching.{newest_touches}
+use Rattle.session.proofs.ReleasedRecords.{evicted_go, nothing_is_seen, oldest_is_out}
+use Rattle.session.proofs.TouchedRows.{newest_touches}
 use Rattle.session.proofs.releases.release_law.Goals as goal
 
 pub returns : goal.returns

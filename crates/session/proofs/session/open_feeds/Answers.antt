@@ -1,6 +1,6 @@
 use Rattle.std.proofs.Common.{◌≡◌, ◌<◌, List, ap, get_or, length, refl, subst, ◌∙◌}
 use Rattle.view_lang.specs.Config.{Config, FeedConfig, tables_of}
-use Rattle.session.proofs.Opening.{feed_there, one_opened}
+use Rattle.session.proofs.OpenedSessions.{feed_there, one_opened}
 use Rattle.session.proofs.session.open_feeds.Goals as goal
 
 pub feed_schema-requires-clause-there : goal.feed_schema-requires-clause-there

@@ -3,7 +3,7 @@ use Rattle.std.proofs.lemmas.List.{map-append}
 use Rattle.values.specs.declared.schema.Schema.{Schema}
 use Rattle.view_lang.specs.Config.{Config, View}
 use Rattle.session.specs.Shows.{columns_of}
-use Rattle.session.proofs.Opening.{view_opened, view_there}
+use Rattle.session.proofs.OpenedSessions.{view_opened, view_there}
 use Rattle.session.proofs.session.open_views.Goals as goal
 
 pub view_schema-requires-clause-view : goal.view_schema-requires-clause-view

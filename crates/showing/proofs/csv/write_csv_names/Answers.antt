@@ -1,6 +1,6 @@
 use Rattle.std.proofs.Common.{ap, ◌∙◌, rules}
 use Rattle.showing.specs.Fields.{entry}
-use Rattle.showing.proofs.Leaving.{leaves-item}
+use Rattle.showing.proofs.WrittenParts.{leaves-item}
 use Rattle.showing.proofs.Lists.{names-step}
 use Rattle.showing.proofs.csv.write_csv_names.Goals as goal
 

@@ -1,7 +1,7 @@
 use Rattle.std.proofs.Common.{ap, rules}
 use Rattle.std.specs.Prelude.{codes}
 use Rattle.showing.specs.Joined.{joined_behind}
-use Rattle.showing.proofs.Leaving.{leaves-end, leaves-item}
+use Rattle.showing.proofs.WrittenParts.{leaves-end, leaves-item}
 use Rattle.showing.proofs.Lists.{row-fields-step, row-fields-none, row-fields-end, seen-in}
 use Rattle.showing.proofs.csv.write_csv_row.Goals as goal
 use Rattle.showing.proofs.csv.write_csv_row.Goals.{else-loop-column-test, then-loop-column-test+in_default}

@@ -4,7 +4,7 @@ use denote.Shadow.{shadow}
 use denote.Text.{Utf8}
 use Rattle.showing.specs.Lines.{row_fields}
 use Rattle.showing.specs.Joined.{joined, joined_behind}
-use Rattle.showing.proofs.Leaving.{Leaves}
+use Rattle.showing.proofs.WrittenParts.{Leaves}
 use Rattle.showing.proofs.csv.write_csv_row.Given as goal
 
 abbrev pub invariant-loop-column : goal.invariant-loop-column

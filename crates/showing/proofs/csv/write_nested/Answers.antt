@@ -1,5 +1,5 @@
 use Rattle.showing.specs.Shown.{seen}
-use Rattle.showing.proofs.Appending.{appends-three}
+use Rattle.showing.proofs.WrittenTexts.{appends-three}
 use Rattle.showing.proofs.Doubled.{nested-quoted}
 use Rattle.showing.proofs.csv.write_nested.Goals as goal
 

@@ -1,5 +1,5 @@
 use Rattle.std.proofs.Common.{ap, ◌+◌, ◌%◌}
-use Rattle.showing.proofs.Appending.{digit-more, digits-end}
+use Rattle.showing.proofs.WrittenTexts.{digit-more, digits-end}
 use Rattle.showing.proofs.digits.write_digits.Goals as goal
 
 pub loop-left-preserved : goal.loop-left-preserved

@@ -10,8 +10,8 @@ use Rattle.showing.specs.Fields.{below, entry}
 use Rattle.showing.specs.Joined.{joined, joined_behind}
 use Rattle.showing.specs.Json.{items_of_first}
 use Rattle.showing.specs.Shown.{value_of, values_of}
-use Rattle.showing.proofs.Appending.{appends-same, appends-three}
-use Rattle.showing.proofs.Leaving.{leaves-item, leaves-member, leaves-none}
+use Rattle.showing.proofs.WrittenTexts.{appends-same, appends-three}
+use Rattle.showing.proofs.WrittenParts.{leaves-item, leaves-member, leaves-none}
 use Rattle.showing.proofs.Lists.{drop-step, first-items, items-step, members-step, row-step, values-step, structure-shown}
 use Rattle.showing.proofs.Members.{first-member}
 use Rattle.showing.proofs.json.+json.Goals as goal

@@ -9,7 +9,7 @@ use Rattle.array_layout.specs.Cells.{cell, row}
 use Rattle.showing.specs.Joined.{joined, joined_behind}
 use Rattle.showing.specs.Json.{items_of_first, members}
 use Rattle.showing.specs.Shown.{AreMembers, values_of}
-use Rattle.showing.proofs.Leaving.{Leaves}
+use Rattle.showing.proofs.WrittenParts.{Leaves}
 use Rattle.showing.proofs.json.+json.Given as goal
 
 abbrev pub decreases-write_json : goal.decreases-write_json

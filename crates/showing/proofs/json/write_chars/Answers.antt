@@ -3,7 +3,7 @@ use Rattle.std.specs.Prelude.{flat_map}
 use Rattle.std.specs.Io.KnownBytes.{Appends}
 use Rattle.std.proofs.lemmas.Str.{chars_from_encodes}
 use Rattle.showing.specs.Json.{json_char}
-use Rattle.showing.proofs.Appending.{char-more, chars-end, item-more}
+use Rattle.showing.proofs.WrittenTexts.{char-more, chars-end, item-more}
 use Rattle.showing.proofs.json.write_chars.Goals as goal
 
 pub loop-c-preserved : goal.loop-c-preserved

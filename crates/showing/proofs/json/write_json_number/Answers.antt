@@ -2,7 +2,7 @@ use Rattle.std.proofs.Common.{◌++◌, ◌∙◌, ap, sym}
 use Rattle.std.proofs.lemmas.Int.{to_z-of_z}
 use Rattle.std.specs.Int.{w128}
 use Rattle.showing.specs.Numbers.{number_text}
-use Rattle.showing.proofs.Appending.{appends-three}
+use Rattle.showing.proofs.WrittenTexts.{appends-three}
 use Rattle.showing.proofs.Numbers.{other-number}
 use Rattle.showing.proofs.json.write_json_number.Goals as goal
 

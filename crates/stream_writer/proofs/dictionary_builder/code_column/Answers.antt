@@ -2,7 +2,7 @@ use Rattle.std.proofs.Common.{drop, map, subst, [], ◌+◌}
 use Rattle.body_writer.specs.Slots.{cell_of, cells_of}
 use Rattle.stream_writer.specs.Coding.{AreTextCells, index_in, texts_after}
 use Rattle.stream_writer.specs.Texts.{texts_in}
-use Rattle.stream_writer.proofs.Numbering.{cells-next, indices-more, texts-more}
+use Rattle.stream_writer.proofs.NumberedTexts.{cells-next, indices-more, texts-more}
 use Rattle.stream_writer.proofs.dictionary_builder.code_column.Goals as goal
 
 pub append-requires : goal.append-requires

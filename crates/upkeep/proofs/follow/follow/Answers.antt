@@ -3,7 +3,7 @@ use Rattle.upkeep.specs.Stores.{rows_at, rows_in, tables_in}
 use Rattle.upkeep.specs.ViewStates.{turned}
 use Rattle.upkeep.proofs.EachRow.{still_current}
 use Rattle.upkeep.proofs.FollowedLookups.{on_ok_four}
-use Rattle.upkeep.proofs.Following.{follow_needs, followed, link_needs}
+use Rattle.upkeep.proofs.FollowedRows.{follow_needs, followed, link_needs}
 use Rattle.upkeep.proofs.follow.follow.Goals as goal
 
 pub follow_numbers-followed-requires-clause-fits : goal.follow_numbers-followed-requires-clause-fits

@@ -10,7 +10,7 @@ use Rattle.upkeep.specs.Stores.{Rows, rows_at, rows_in, tables_in}
 use Rattle.upkeep.specs.ViewStates.{IsKept, KeepsLinks, link_change, link_row, made_change, made_row, turned}
 use Rattle.upkeep.specs.declared.view_state.Links.{Links}
 use Rattle.upkeep.proofs.ArrivalRows.{opened_grows, opened_next, tells_one}
-use Rattle.upkeep.proofs.Following.{links_same}
+use Rattle.upkeep.proofs.FollowedRows.{links_same}
 use Rattle.upkeep.proofs.RowByRow.{at_stores, kept_all, kept_more, next_needs}
 use Rattle.upkeep.proofs.follow.follow_numbers.Goals as goal
 

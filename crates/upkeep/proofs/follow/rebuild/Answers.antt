@@ -4,7 +4,7 @@ use Rattle.view_lang.specs.Shifts.{NumberedRows}
 use Rattle.upkeep.specs.Inputs.{side_by}
 use Rattle.upkeep.specs.Stores.{rows_in, tables_in}
 use Rattle.upkeep.specs.ViewStates.{IsCurrent}
-use Rattle.upkeep.proofs.Following.{main_width, none_current, rebuild_needs, rebuilt}
+use Rattle.upkeep.proofs.FollowedRows.{main_width, none_current, rebuild_needs, rebuilt}
 use Rattle.upkeep.proofs.follow.rebuild.Goals as goal
 
 pub follow-requires-clause-fits : goal.follow-requires-clause-fits

@@ -23,7 +23,7 @@ use Rattle.upkeep.proofs.FollowedLookups.{
   remake_needs,
   there,
 }
-use Rattle.upkeep.proofs.Following.{links_stay}
+use Rattle.upkeep.proofs.FollowedRows.{links_stay}
 use Rattle.upkeep.proofs.lookup_views.follow_lookup.Goals as goal
 
 pub returns-then-state-looks_up-clause-kept : goal.returns-then-state-looks_up-clause-kept

@@ -13,7 +13,7 @@ use Rattle.upkeep.specs.Swaps.{CanSwap}
 use Rattle.upkeep.specs.Touched.{opened_for, refers}
 use Rattle.upkeep.specs.ViewStates.{AreCurrent, IsBefore, IsCurrentWith, stale_in, width_in}
 use Rattle.upkeep.specs.declared.view_state.ViewState.{ViewState}
-use Rattle.upkeep.proofs.Editing.{view_there}
+use Rattle.upkeep.proofs.ChangedStores.{view_there}
 use Rattle.upkeep.proofs.FollowedViews.{current_alike}
 use Rattle.upkeep.proofs.LookedUpViews.{
   all_following,

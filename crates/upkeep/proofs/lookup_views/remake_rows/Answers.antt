@@ -7,7 +7,7 @@ use Rattle.upkeep.specs.ViewStates.{IsKept, made_change, swapped_at}
 use Rattle.upkeep.specs.declared.view_state.Turn.TheVariants as turn
 use Rattle.upkeep.proofs.FollowedLookups.{on_ok}
 use Rattle.upkeep.proofs.RowByRow.{at_stores, few_left, few_right, fits_left, fits_right, patched_both}
-use Rattle.upkeep.proofs.Swapping.{
+use Rattle.upkeep.proofs.SwappedStores.{
   Since,
   Turned,
   back_rows,

@@ -52,7 +52,7 @@ use Rattle.upkeep.proofs.MovedRows.{
 }
 use Rattle.upkeep.proofs.MovedSubGroups.{still_can}
 use Rattle.upkeep.proofs.RowByRow.{at_stores}
-use Rattle.upkeep.proofs.Swapping.{
+use Rattle.upkeep.proofs.SwappedStores.{
   Since,
   Turned,
   back_rows,

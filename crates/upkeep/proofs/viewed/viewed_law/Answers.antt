@@ -2,7 +2,7 @@ use Rattle.std.proofs.Common.{◌+◌, ◌∙◌, add-one, ap, arith, sym}
 use Rattle.view_lang.specs.Config.{View}
 use Rattle.upkeep.specs.Stores.{tables_in}
 use Rattle.upkeep.specs.StoreLaws.{tables_length}
-use Rattle.upkeep.proofs.Viewing.{side_there, viewed_alone, viewed_joined}
+use Rattle.upkeep.proofs.TypedRows.{side_there, viewed_alone, viewed_joined}
 use Rattle.upkeep.proofs.viewed.viewed_law.Goals as goal
 
 pub returns-in-Some : goal.returns-in-Some

@@ -1,5 +1,5 @@
 use Rattle.std.proofs.Common.{arith}
-use Rattle.view_config.proofs.Counting.{fields_step}
+use Rattle.view_config.proofs.FieldCounts.{fields_step}
 use Rattle.view_config.proofs.Slots.{slim_step, slots_step, some_size}
 use Rattle.view_config.proofs.limits.+slots.Goals as goal
 

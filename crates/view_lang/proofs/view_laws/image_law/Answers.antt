@@ -1,4 +1,4 @@
-use Rattle.view_lang.proofs.Imaging.{image-fits}
+use Rattle.view_lang.proofs.RowImages.{image-fits}
 use Rattle.view_lang.proofs.view_laws.image_law.Goals as goal
 
 pub returns-clause-fits : goal.returns-clause-fits

@@ -8,7 +8,7 @@ use Rattle.group_state.specs.Grouped.{Grouped}
 use Rattle.group_state.specs.Groups.{Keeps as KeepsGroups}
 use Rattle.group_state.specs.Touched.{StayBut, touches}
 use Rattle.group_order.specs.Ranked.{Ranked}
-use Rattle.group_order.proofs.Following.{ranked-again, through}
+use Rattle.group_order.proofs.OrderedGroups.{ranked-again, through}
 use Rattle.group_order.proofs.ranked.RankedGroups.change_places.Goals as goal
 
 pub returns-clause-kept : goal.returns-clause-kept

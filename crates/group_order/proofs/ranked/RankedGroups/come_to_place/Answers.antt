@@ -10,7 +10,7 @@ use Rattle.group_state.specs.Groups.{Keeps as KeepsGroups}
 use Rattle.group_state.specs.Keys.{tuple_cmp}
 use Rattle.top_rows.specs.Ties.{place_by}
 use Rattle.group_order.specs.Ranked.{IsRanked, Ranked, placed_at}
-use Rattle.group_order.proofs.Following.{ranked-one}
+use Rattle.group_order.proofs.OrderedGroups.{ranked-one}
 use Rattle.group_order.proofs.ranked.RankedGroups.come_to_place.Goals as goal
 
 pub returns-clause-kept : goal.returns-clause-kept

@@ -7,7 +7,7 @@ use Rattle.group_state.specs.Keys.{tuple_cmp}
 use Rattle.group_state.specs.Moves.{IsPartOf}
 use Rattle.top_rows.specs.Ties.{place_by}
 use Rattle.group_order.specs.Ranked.{IsRanked, Ranked, placed_at}
-use Rattle.group_order.proofs.Following.{ranked-at}
+use Rattle.group_order.proofs.OrderedGroups.{ranked-at}
 use Rattle.group_order.proofs.ranked.RankedGroups.give_up_from_place.Goals as goal
 
 pub returns-clause-kept : goal.returns-clause-kept

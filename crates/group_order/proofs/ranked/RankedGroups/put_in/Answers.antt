@@ -3,7 +3,7 @@ use Rattle.std.specs.Prelude.{cond, true}
 use Rattle.group_state.specs.Keys.{tuple_cmp}
 use Rattle.top_rows.specs.Ties.{is_place_by, stands_by}
 use Rattle.group_order.specs.Ranked.{Ranked, placed_at}
-use Rattle.group_order.proofs.Following.{is-placed}
+use Rattle.group_order.proofs.OrderedGroups.{is-placed}
 use Rattle.group_order.proofs.ranked.RankedGroups.put_in.Goals as goal
 
 pub returns-in_ok-insert-clause-places : goal.returns-in_ok-insert-clause-places

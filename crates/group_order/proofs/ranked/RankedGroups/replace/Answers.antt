@@ -1,7 +1,7 @@
 use Rattle.std.proofs.Common.{ap, sym}
 use Rattle.std.specs.Prelude.{None, Some}
 use Rattle.group_order.specs.Ranked.{Ranked}
-use Rattle.group_order.proofs.Following.{said-replaced}
+use Rattle.group_order.proofs.OrderedGroups.{said-replaced}
 use Rattle.group_order.proofs.ranked.RankedGroups.replace.Goals as goal
 
 pub returns-in_ok-exchange-in-Some-Some-clause-places : goal.returns-in_ok-exchange-in-Some-Some-clause-places

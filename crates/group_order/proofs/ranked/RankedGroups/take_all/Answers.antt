@@ -5,7 +5,7 @@ use Rattle.values.specs.declared.key.Key.{Key}
 use Rattle.group_state.specs.Keys.{tuple_cmp}
 use Rattle.top_rows.specs.Ties.{KeepsBy, without}
 use Rattle.group_order.specs.Ranked.{placed_at}
-use Rattle.group_order.proofs.Following.{take-step}
+use Rattle.group_order.proofs.OrderedGroups.{take-step}
 use Rattle.group_order.proofs.ranked.RankedGroups.take_all.Goals as goal
 
 pub loop-tuple-preserved : goal.loop-tuple-preserved

@@ -3,7 +3,7 @@ use Rattle.std.specs.Prelude.{if◌then◌else◌}
 use Rattle.row_keys.specs.Entries.{all_entries}
 use Rattle.row_keys.specs.declared.numbers.Entry.{Entry}
 use Rattle.row_keys.specs.Index.{IsIndex, seen_all}
-use Rattle.row_keys.proofs.Indexing.{index_popped, kept_below, kept_within, live_covers, rows_popped}
+use Rattle.row_keys.proofs.IndexChanges.{index_popped, kept_below, kept_within, live_covers, rows_popped}
 use Rattle.row_keys.proofs.numbers.Numbers.pop.Goals as goal
 
 abbrev rest : goal.After-self-2-1 → List Entry

@@ -8,7 +8,7 @@ use Rattle.row_keys.specs.Index.{HoldsPlace, IsFree, IsIndex, Puts, seen_all}
 use Rattle.row_keys.specs.Numbers.{IsAt, IsUnused, Numbered, numbered}
 use Rattle.row_keys.proofs.GoneRows.{Started, key_there, place_within, started}
 use Rattle.row_keys.proofs.Indexes.{found_row}
-use Rattle.row_keys.proofs.Indexing.{index_pushed, new_entry, rows_pushed, unused_before}
+use Rattle.row_keys.proofs.IndexChanges.{index_pushed, new_entry, rows_pushed, unused_before}
 use Rattle.row_keys.proofs.KeptEntries.{entries_long, entries_pushed, order_more}
 use Rattle.row_keys.proofs.KeptIndex.{live_fits}
 use Rattle.row_keys.proofs.numbers.Numbers.push.Goals as goal

@@ -10,7 +10,7 @@ use Rattle.row_keys.specs.Numbers.{live_count}
 use Rattle.row_keys.specs.Slots.{new_slot, contents_of}
 use Rattle.row_keys.specs.Store.{Refuses, Store}
 use Rattle.row_keys.specs.Stored.{joined}
-use Rattle.row_keys.proofs.Appending.{
+use Rattle.row_keys.proofs.AppendedBatches.{
   appended_back,
   batch_fits,
   keys_unfit,
@@ -18,7 +18,7 @@ use Rattle.row_keys.proofs.Appending.{
   slots_appended,
   stored_appended,
 }
-use Rattle.row_keys.proofs.Joining.{world_added}
+use Rattle.row_keys.proofs.JoinedNumbers.{world_added}
 use Rattle.row_keys.proofs.store.RowStore.add_batch.Goals as goal
 
 pub returns-in-Err-clause-refused : goal.returns-in-Err-clause-refused

@@ -1,6 +1,6 @@
 use Rattle.std.proofs.Common.{ap, length, sym, ◌∙◌}
 use Rattle.row_keys.specs.Store.{Store}
-use Rattle.row_keys.proofs.Joining.{keyed_length}
+use Rattle.row_keys.proofs.JoinedNumbers.{keyed_length}
 use Rattle.row_keys.proofs.store.RowStore.appended.Goals as goal
 
 pub returns : goal.returns

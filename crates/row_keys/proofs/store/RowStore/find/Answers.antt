@@ -1,7 +1,7 @@
 use Rattle.std.proofs.Common.{subst}
 use Rattle.std.specs.Prelude.{MatchOption}
 use Rattle.row_keys.specs.Store.{IsAbsent, IsFound, Store}
-use Rattle.row_keys.proofs.Storing.{found_in}
+use Rattle.row_keys.proofs.StoreStates.{found_in}
 use Rattle.row_keys.proofs.store.RowStore.find.Goals as goal
 
 pub returns : goal.returns

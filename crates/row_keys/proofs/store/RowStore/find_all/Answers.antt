@@ -9,7 +9,7 @@ use Rattle.row_keys.specs.Numbers.{Numbered}
 use Rattle.row_keys.specs.Slots.{CanRetract, keys_at, contents_of}
 use Rattle.row_keys.specs.Store.{Refuses, Store}
 use Rattle.row_keys.specs.Stored.{joined}
-use Rattle.row_keys.proofs.Finding.{found_can, found_fits, found_keys, keys_refused, keys_unknown}
+use Rattle.row_keys.proofs.FoundRows.{found_can, found_fits, found_keys, keys_refused, keys_unknown}
 use Rattle.row_keys.proofs.Results.{if_err, if_ok, on_ok}
 use Rattle.row_keys.proofs.store.RowStore.find_all.Goals as goal
 

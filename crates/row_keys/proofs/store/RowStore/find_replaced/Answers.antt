@@ -12,7 +12,7 @@ use Rattle.row_keys.specs.Slots.{CanRetract, contents_of, keys_at, live}
 use Rattle.row_keys.specs.Store.{Refuses, Store}
 use Rattle.row_keys.specs.Stored.{joined}
 use Rattle.row_keys.proofs.Results.{if_both, if_err, if_ok}
-use Rattle.row_keys.proofs.Replacing.{put_refused, replaced_can, replaced_gone}
+use Rattle.row_keys.proofs.ReplacedRows.{put_refused, replaced_can, replaced_gone}
 use Rattle.row_keys.proofs.store.RowStore.find_replaced.Goals as goal
 
 abbrev keys : goal.After-find_batch → List Datum

@@ -12,7 +12,7 @@ use Rattle.row_keys.specs.Slots.{
   taken_back,
 }
 use Rattle.row_keys.specs.Store.{Store}
-use Rattle.row_keys.proofs.Hiding.{hidden_can, hidden_live, hidden_shown, hidden_take, hidden_taken, hide_can}
+use Rattle.row_keys.proofs.HiddenRows.{hidden_can, hidden_live, hidden_shown, hidden_take, hidden_taken, hide_can}
 use Rattle.row_keys.proofs.store.RowStore.hide_put.Goals as goal
 
 pub put_back-requires : goal.put_back-requires

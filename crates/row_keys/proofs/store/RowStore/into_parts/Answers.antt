@@ -4,7 +4,7 @@ use Rattle.row_keys.specs.Chunks.{AreChunks, stored_rows}
 use Rattle.row_keys.specs.Numbers.{AreDistinct, Numbered}
 use Rattle.row_keys.specs.Parts.{AreNumbered, numbers_in}
 use Rattle.row_keys.specs.Stored.{IsStored, joined}
-use Rattle.row_keys.proofs.Joining.{keyed_length}
+use Rattle.row_keys.proofs.JoinedNumbers.{keyed_length}
 use Rattle.row_keys.proofs.store.RowStore.into_parts.Goals as goal
 use Rattle.row_keys.proofs.store.RowStore.into_parts.Goals.{After-drop-numbers-inside-7}
 

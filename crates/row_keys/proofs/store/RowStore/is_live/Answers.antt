@@ -1,7 +1,7 @@
 use Rattle.std.proofs.Common.{◌<◌, ap, get_or, length, subst, sym, ◌∙◌}
 use Rattle.row_keys.specs.Slots.{no_slot}
 use Rattle.row_keys.specs.Store.{Store}
-use Rattle.row_keys.proofs.Storing.{live_joined, number_within}
+use Rattle.row_keys.proofs.StoreStates.{live_joined, number_within}
 use Rattle.row_keys.proofs.store.RowStore.is_live.Goals as goal
 
 pub is_live-requires : goal.is_live-requires

@@ -3,7 +3,7 @@ use Rattle.std.proofs.lemmas.List.Elements.{All-get_or}
 use Rattle.row_keys.specs.Store.{Store}
 use Rattle.row_keys.specs.Stored.{joined}
 use Rattle.row_keys.proofs.NumberedKeys.{key_more}
-use Rattle.row_keys.proofs.Storing.{number_within}
+use Rattle.row_keys.proofs.StoreStates.{number_within}
 use Rattle.row_keys.proofs.store.RowStore.keys_of.Goals as goal
 
 pub key-requires : goal.key-requires

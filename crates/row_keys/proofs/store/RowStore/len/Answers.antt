@@ -1,6 +1,6 @@
 use Rattle.std.proofs.Common.{ap, sym, ◌∙◌, length}
 use Rattle.row_keys.specs.Store.{live_in}
-use Rattle.row_keys.proofs.Joining.{live_counted}
+use Rattle.row_keys.proofs.JoinedNumbers.{live_counted}
 use Rattle.row_keys.proofs.store.RowStore.len.Goals as goal
 
 pub returns-clause-value : goal.returns-clause-value

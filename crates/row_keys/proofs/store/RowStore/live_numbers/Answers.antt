@@ -1,5 +1,5 @@
 use Rattle.std.proofs.Common.{◌+◌, ◌-◌, ◌∙◌, arith, sym}
-use Rattle.row_keys.proofs.Listing.{listed_more, listed_none, listed_over, listed_same}
+use Rattle.row_keys.proofs.ListedNumbers.{listed_more, listed_none, listed_over, listed_same}
 use Rattle.row_keys.proofs.store.RowStore.live_numbers.Goals.{then-is_live+in_ok-push, else-is_live}
 use Rattle.row_keys.proofs.store.RowStore.live_numbers.Goals as goal
 

@@ -1,5 +1,5 @@
 use Rattle.std.proofs.Common.{◌-◌, ◌≤◌, length}
-use Rattle.row_keys.proofs.Listing.{Listed}
+use Rattle.row_keys.proofs.ListedNumbers.{Listed}
 use Rattle.row_keys.proofs.store.RowStore.live_numbers.Given as goal
 
 abbrev pub invariant-loop-number : goal.invariant-loop-number

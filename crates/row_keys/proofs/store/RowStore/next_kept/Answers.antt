@@ -1,8 +1,8 @@
 use Rattle.std.proofs.Common.{◌∙◌, ap, arith, get_or, length, sym}
 use Rattle.row_keys.specs.Slots.{no_slot}
 use Rattle.row_keys.specs.Store.{Store}
-use Rattle.row_keys.proofs.Joining.{keyed_length}
-use Rattle.row_keys.proofs.Storing.{live_joined}
+use Rattle.row_keys.proofs.JoinedNumbers.{keyed_length}
+use Rattle.row_keys.proofs.StoreStates.{live_joined}
 use Rattle.row_keys.proofs.store.RowStore.next_kept.Goals as goal
 
 pub next_kept-requires : goal.next_kept-requires

@@ -2,7 +2,7 @@ use Rattle.std.proofs.Common.{subst}
 use Rattle.std.specs.Prelude.{MatchOption}
 use Rattle.values.specs.Keys.{datum_of_key}
 use Rattle.row_keys.specs.Store.{IsKnown, IsUnknown, Store}
-use Rattle.row_keys.proofs.Looking.{key_known}
+use Rattle.row_keys.proofs.LookedUpRows.{key_known}
 use Rattle.row_keys.proofs.store.RowStore.number_with.Goals as goal
 
 pub returns : goal.returns

@@ -4,8 +4,8 @@ use Rattle.view_lang.specs.Contents.{keys_in, without}
 use Rattle.row_keys.specs.Batches.{batch_rows}
 use Rattle.row_keys.specs.Slots.{CanPutBack, Slot, keys_at, live, new_slot, retracted}
 use Rattle.row_keys.specs.Store.{Refuses, Store}
-use Rattle.row_keys.proofs.Hiding.{can_hide_new}
-use Rattle.row_keys.proofs.Replacing.{put_refusal}
+use Rattle.row_keys.proofs.HiddenRows.{can_hide_new}
+use Rattle.row_keys.proofs.ReplacedRows.{put_refusal}
 use Rattle.row_keys.proofs.store.RowStore.put.Goals as goal
 
 pub returns-in-Ok-clause-fits : goal.returns-in-Ok-clause-fits

@@ -4,7 +4,7 @@ use Rattle.row_keys.specs.Slots.{CanPutBack, CanTakeBack, Slot, last_numbers, pu
 use Rattle.row_keys.specs.Store.{Store, with_slots}
 use Rattle.row_keys.specs.Stored.{IsStored, joined}
 use Rattle.row_keys.proofs.LastRows.{from_last, revive_last}
-use Rattle.row_keys.proofs.Storing.{can_take, stored_revived}
+use Rattle.row_keys.proofs.StoreStates.{can_take, stored_revived}
 use Rattle.row_keys.proofs.TurnedRows.{joined_revived}
 use Rattle.row_keys.proofs.store.RowStore.put_back_last.Goals as goal
 

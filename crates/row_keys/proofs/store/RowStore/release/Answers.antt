@@ -1,5 +1,5 @@
 use Rattle.std.proofs.Common.{◌∙◌}
-use Rattle.row_keys.proofs.Storing.{left_first, left_next, left_none, out_next}
+use Rattle.row_keys.proofs.StoreStates.{left_first, left_next, left_none, out_next}
 use Rattle.row_keys.proofs.store.RowStore.release.Goals as goal
 
 pub loop-number-init : goal.loop-number-init

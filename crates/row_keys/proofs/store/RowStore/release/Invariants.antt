@@ -1,4 +1,4 @@
-use Rattle.row_keys.proofs.Storing.{IsLeft}
+use Rattle.row_keys.proofs.StoreStates.{IsLeft}
 use Rattle.row_keys.proofs.store.RowStore.release.Given as goal
 
 abbrev pub invariant-loop-number : goal.invariant-loop-number

@@ -4,7 +4,7 @@ use Rattle.row_keys.specs.Numbers.{no_row}
 use Rattle.row_keys.specs.Slots.{IsOut, emptied}
 use Rattle.row_keys.specs.Store.{Store, with_slots}
 use Rattle.row_keys.specs.Stored.{joined}
-use Rattle.row_keys.proofs.Storing.{joined_gone, live_joined, number_within, stored_gone}
+use Rattle.row_keys.proofs.StoreStates.{joined_gone, live_joined, number_within, stored_gone}
 use Rattle.row_keys.proofs.store.RowStore.release_row.Goals as goal
 
 out : (c : goal.After-release-2) → IsOut (joined c.self.inside.rows c.self.inside.numbers) c.args.number

@@ -5,7 +5,7 @@ use Rattle.row_keys.specs.Numbers.{AreLive, Numbered}
 use Rattle.row_keys.specs.Slots.{CanPutBack, CanRetract, keys_at, retracted, contents_of}
 use Rattle.row_keys.specs.Store.{Store, with_slots}
 use Rattle.row_keys.specs.Stored.{IsStored, joined}
-use Rattle.row_keys.proofs.Storing.{off_back, off_can, off_world, stored_off}
+use Rattle.row_keys.proofs.StoreStates.{off_back, off_can, off_world, stored_off}
 use Rattle.row_keys.proofs.TurnedRows.{are_live, joined_off}
 use Rattle.row_keys.proofs.store.RowStore.retract.Goals as goal
 

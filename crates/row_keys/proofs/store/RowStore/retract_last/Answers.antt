@@ -4,7 +4,7 @@ use Rattle.row_keys.specs.Slots.{CanPutBack, CanRetract, CanTakeBack, Slot, last
 use Rattle.row_keys.specs.Store.{Store, with_slots}
 use Rattle.row_keys.specs.Stored.{IsStored, joined}
 use Rattle.row_keys.proofs.LastRows.{from_last, live_last}
-use Rattle.row_keys.proofs.Storing.{can_take, off_back, off_can, stored_off}
+use Rattle.row_keys.proofs.StoreStates.{can_take, off_back, off_can, stored_off}
 use Rattle.row_keys.proofs.TurnedRows.{are_live, joined_off}
 use Rattle.row_keys.proofs.store.RowStore.retract_last.Goals as goal
 

@@ -2,7 +2,7 @@ use Rattle.std.proofs.Common.{◌≡◌, ◌<◌, length, subst, sym}
 use Rattle.view_lang.specs.Rows.{IsRow}
 use Rattle.row_keys.specs.Slots.{HasKey, row_of}
 use Rattle.row_keys.specs.Store.{Store}
-use Rattle.row_keys.proofs.Storing.{row_lies}
+use Rattle.row_keys.proofs.StoreStates.{row_lies}
 use Rattle.row_keys.proofs.store.RowStore.row_at.Goals as goal
 
 pub returns-clause-row : goal.returns-clause-row

@@ -5,7 +5,7 @@ use Rattle.values.proofs.ShallowLemmas.{key_of-shallow}
 use Rattle.view_lang.specs.Joined.{side_of}
 use Rattle.row_keys.specs.Slots.{contents_of}
 use Rattle.row_keys.specs.Store.{Store}
-use Rattle.row_keys.proofs.Looking.{unknown_kind}
+use Rattle.row_keys.proofs.LookedUpRows.{unknown_kind}
 use Rattle.row_keys.proofs.store.RowStore.row_with_key.Goals as goal
 
 pub returns-in-None-clause-row : goal.returns-in-None-clause-row

@@ -1,7 +1,7 @@
 use Rattle.std.proofs.Common.{subst, sym}
 use Rattle.row_keys.specs.Slots.{CanTakeBack}
 use Rattle.row_keys.specs.Store.{Store}
-use Rattle.row_keys.proofs.Hiding.{show_few}
+use Rattle.row_keys.proofs.HiddenRows.{show_few}
 use Rattle.row_keys.proofs.store.RowStore.show_put.Goals as goal
 
 pub put_back_last-requires-clause-few : goal.put_back_last-requires-clause-few

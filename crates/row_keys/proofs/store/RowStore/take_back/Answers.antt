@@ -2,7 +2,7 @@ use Rattle.std.proofs.Common.{◌-◌, ap, arith, subst, sym, take, ◌∙◌}
 use Rattle.row_keys.specs.Slots.{CanTakeBack, taken_back}
 use Rattle.row_keys.specs.Store.{Store, with_slots}
 use Rattle.row_keys.specs.Stored.{joined}
-use Rattle.row_keys.proofs.Storing.{can_take, stored_taken, taken_slots}
+use Rattle.row_keys.proofs.StoreStates.{can_take, stored_taken, taken_slots}
 use Rattle.row_keys.proofs.store.RowStore.take_back.Goals as goal
 
 pub overflow_sub-left : goal.overflow_sub-left

@@ -1,5 +1,5 @@
 use Rattle.std.proofs.Common.{◌∙◌, sym}
-use Rattle.scenarios.proofs.Shelving.{placed}
+use Rattle.scenarios.proofs.Shelves.{placed}
 use Rattle.scenarios.proofs.shelf.ShelfFiles.place.Goals as goal
 
 pub returns-in-Some-clause-content : goal.returns-in-Some-clause-content

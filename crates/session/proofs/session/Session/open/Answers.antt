@@ -7,7 +7,7 @@ use Rattle.view_lang.specs.ViewColumns.{view_columns}
 use Rattle.session.specs.Shows.{Shows, ShowsEach, columns_of}
 use Rattle.session.specs.Steps.{opened, start}
 use Rattle.session.specs.declared.undo.UndoRecord.{UndoRecord}
-use Rattle.session.proofs.Opening.{opened_config, opened_none, opened_parts, opened_right, opened_session, opened_shown}
+use Rattle.session.proofs.OpenedSessions.{opened_config, opened_none, opened_parts, opened_right, opened_session, opened_shown}
 use Rattle.session.proofs.session.Session.open.Goals as goal
 
 pub invariant_of-result : goal.invariant_of-result

@@ -1,5 +1,5 @@
 use Rattle.std.proofs.Common.{rules}
-use Rattle.showing.proofs.Leaving.{leaves-item}
+use Rattle.showing.proofs.WrittenParts.{leaves-item}
 use Rattle.showing.proofs.Bars.{dashes-step}
 use Rattle.showing.proofs.table.Table.write_rule.Goals as goal
 

@@ -4,7 +4,7 @@ use denote.Shadow.{shadow}
 use denote.Text.{Utf8}
 use Rattle.showing.specs.Joined.{joined, joined_behind}
 use Rattle.showing.specs.Tables.{dashes}
-use Rattle.showing.proofs.Leaving.{Leaves}
+use Rattle.showing.proofs.WrittenParts.{Leaves}
 use Rattle.showing.proofs.table.Table.write_rule.Given as goal
 
 abbrev pub invariant-loop-width : goal.invariant-loop-width

@@ -2,7 +2,7 @@ use Rattle.std.proofs.Common.{◌≡◌, ap, sym, ◌∙◌}
 use Rattle.stream_writer.specs.Coding.{index_in}
 use Rattle.stream_writer.specs.Texts.{texts_in}
 use Rattle.body_writer.specs.Slots.{cell_of}
-use Rattle.stream_writer.proofs.Numbering.{index-inserted, text-inserted}
+use Rattle.stream_writer.proofs.NumberedTexts.{index-inserted, text-inserted}
 use Rattle.stream_writer.proofs.dictionary_builder.DictionaryBuilder.append.Goals.{then-is_new+in_ok-push, else-is_new}
 use Rattle.stream_writer.proofs.dictionary_builder.DictionaryBuilder.append.Goals as goal
 

@@ -7,7 +7,7 @@ use Rattle.view_lang.specs.declared.view.Lookup.{Lookup}
 use Rattle.sub_groups.specs.FilterParts.{are_decided, conjuncts}
 use Rattle.sub_groups.specs.Moved.{KeepRead, moves_by}
 use Rattle.sub_groups.specs.SubGroups.{are_main, sub_keys}
-use Rattle.sub_groups.proofs.Moving.{unmoved}
+use Rattle.sub_groups.proofs.MovedViews.{unmoved}
 use Rattle.sub_groups.proofs.sub_groups.SubGroups.of.Goals as goal
 
 pub returns-clause-right : goal.returns-clause-right

@@ -12,7 +12,7 @@ use Rattle.upkeep.specs.TableChanges.{CanGoBack, back}
 use Rattle.upkeep.specs.Touched.{touched}
 use Rattle.upkeep.specs.ViewStates.{AreCurrent}
 use Rattle.upkeep.specs.declared.view_state.Turn.TheVariants as turn
-use Rattle.upkeep.proofs.Editing.{store_can_go_back}
+use Rattle.upkeep.proofs.ChangedStores.{store_can_go_back}
 use Rattle.upkeep.proofs.SwappedRows.{side_change}
 use Rattle.upkeep.proofs.SideEdits.{
   Changed,

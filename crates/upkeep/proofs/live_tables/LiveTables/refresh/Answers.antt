@@ -1,7 +1,7 @@
 use Rattle.std.proofs.Common.{◌<◌, ap, length, subst, sym, ◌∙◌}
 use Rattle.upkeep.specs.LiveParts.{AreLive}
 use Rattle.upkeep.specs.ViewStates.{stale_in}
-use Rattle.upkeep.proofs.Refreshing.{fresh_at, fresh_was, opened_stays, refreshed}
+use Rattle.upkeep.proofs.RebuiltViews.{fresh_at, fresh_was, opened_stays, refreshed}
 use Rattle.upkeep.proofs.SideEdits.{live_many}
 use Rattle.upkeep.proofs.live_tables.LiveTables.refresh.Goals as goal
 

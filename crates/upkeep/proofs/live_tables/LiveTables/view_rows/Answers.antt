@@ -3,7 +3,7 @@ use Rattle.view_lang.specs.TableRules.{IsTable}
 use Rattle.row_keys.specs.Numbered.{numbered}
 use Rattle.row_keys.specs.Store.{Store}
 use Rattle.upkeep.specs.Stores.{rows_at, rows_in, tables_in}
-use Rattle.upkeep.proofs.Refreshing.{opened_stays, stale_there, state_current}
+use Rattle.upkeep.proofs.RebuiltViews.{opened_stays, stale_there, state_current}
 use Rattle.upkeep.proofs.SideEdits.{live_many}
 use Rattle.upkeep.proofs.live_tables.LiveTables.view_rows.Goals as goal
 

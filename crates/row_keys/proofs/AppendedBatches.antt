@@ -63,10 +63,10 @@ use Rattle.row_keys.specs.Numbers.{Numbered, live_count, numbered}
 use Rattle.row_keys.specs.Slots.{CanTakeBack, Slot, live, new_slot, taken_back, contents_of}
 use Rattle.row_keys.specs.Store.{Refuses}
 use Rattle.row_keys.specs.Stored.{AreGiven, AreKeyed, IsRight, IsStored, joined, live_keys}
-use Rattle.row_keys.proofs.Batching.{none_heavy}
+use Rattle.row_keys.proofs.LightRows.{none_heavy}
 use Rattle.row_keys.proofs.HeavyRows.{alike_any}
 use Rattle.row_keys.proofs.HeldRows.{rows_held}
-use Rattle.row_keys.proofs.Joining.{
+use Rattle.row_keys.proofs.JoinedNumbers.{
   can_take_added,
   joined_added,
   keyed_added,

@@ -82,7 +82,7 @@ use Rattle.session.proofs.Replaying.{
   push-faults-are-told,
   same_by,
 }
-use Rattle.session.proofs.Telling.{FeedLaws}
+use Rattle.session.proofs.FedBytes.{FeedLaws}
 
 both-ways : (b : Bool) → b ≡ true → b ≡ false → ⊥
 both-ways true x y = absurd (cc)

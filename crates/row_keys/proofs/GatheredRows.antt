@@ -11,7 +11,7 @@ use Rattle.column_writer.specs.declared.batch.Batch.{Batch}
 use Rattle.column_writer.specs.declared.batch.RowRange.{RowRange}
 use Rattle.row_keys.specs.Chunks.{AreChunks, Chunk, IsLong, in_turn, numbers_by}
 use Rattle.row_keys.specs.RowsLeft.{IsPart, IsWide, all_numbers, all_rows, numbers_left, rows_left, unflagged}
-use Rattle.row_keys.proofs.Chunking.{ends_within}
+use Rattle.row_keys.proofs.RowsOfChunks.{ends_within}
 use Rattle.row_keys.proofs.RowPlaces.{rising_at}
 
 abbrev Row : Type 0

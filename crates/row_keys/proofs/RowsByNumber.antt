@@ -68,9 +68,9 @@ use Rattle.row_keys.specs.Slots.{
   row_of,
   slot,
 }
-use Rattle.row_keys.proofs.Changing.{Up, is_named, is_same, same_is}
+use Rattle.row_keys.proofs.NumberedChanges.{Up, is_named, is_same, same_is}
 use Rattle.row_keys.proofs.Places.{some_same}
-use Rattle.row_keys.proofs.Retracting.{row_marked}
+use Rattle.row_keys.proofs.RetractedRows.{row_marked}
 
 -- numbers
 

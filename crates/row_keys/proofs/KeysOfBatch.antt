@@ -53,7 +53,7 @@ use Rattle.row_keys.specs.declared.faults.EditFault.TheVariants as fault
 use Rattle.row_keys.specs.KeyColumns.{HoldsKeys, PushesKey, PushesKeys, RefusesKey, RefusesKeys, fresh}
 use Rattle.row_keys.specs.Numbers.{Numbered}
 use Rattle.row_keys.specs.Stored.{live_keys}
-use Rattle.row_keys.proofs.Joining.{unused_among, used_among}
+use Rattle.row_keys.proofs.JoinedNumbers.{unused_among, used_among}
 use Rattle.row_keys.proofs.KeyFacts.{
   among_joined,
   any_joined,

@@ -16,10 +16,10 @@ use Rattle.schema_meta.specs.Rows.{row_at, rows_from}
 use Rattle.row_keys.specs.Batches.{batch_rows, cells_in}
 use Rattle.row_keys.specs.Chunks.{AreChunks, AreRising, Chunk, IsLong, number_row, place_in, row_in, stored_rows}
 use Rattle.row_keys.specs.RowsLeft.{IsHeld, IsMade, IsMadeIn, IsMerged, IsPart, IsWide, all_numbers, all_rows, end_of, numbers_left, rows_left, unflagged}
-use Rattle.row_keys.proofs.Appending.{batch_counted}
+use Rattle.row_keys.proofs.AppendedBatches.{batch_counted}
 use Rattle.row_keys.proofs.ChunkedRows.{flags_long, stored_at, stored_long}
 use Rattle.row_keys.proofs.ListedItems.{listed_same}
-use Rattle.row_keys.proofs.Chunking.{ends_within, lt_or_le, none_before, none_past, row_after, row_before, row_within}
+use Rattle.row_keys.proofs.RowsOfChunks.{ends_within, lt_or_le, none_before, none_past, row_after, row_before, row_within}
 use Rattle.row_keys.proofs.RowPlaces.{first_or_not, here_first, not_first, rising_at, rising_from, rising_within}
 
 abbrev pub Row : Type 0

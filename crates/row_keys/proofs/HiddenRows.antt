@@ -58,10 +58,10 @@ use Rattle.row_keys.specs.Slots.{
   slot,
   taken_back,
 }
-use Rattle.row_keys.proofs.Appending.{batch_counted}
+use Rattle.row_keys.proofs.AppendedBatches.{batch_counted}
 use Rattle.row_keys.proofs.Places.{at_more, take_front}
-use Rattle.row_keys.proofs.PuttingBack.{can_retract_again, length_put_back, retracted_again}
-use Rattle.row_keys.proofs.Retracting.{length_retracted, put_back_undoes}
+use Rattle.row_keys.proofs.RowsPutBack.{can_retract_again, length_put_back, retracted_again}
+use Rattle.row_keys.proofs.RetractedRows.{length_retracted, put_back_undoes}
 use Rattle.row_keys.proofs.TurnedRows.{row_put_back}
 
 -- the row after those

@@ -4,7 +4,7 @@ use Rattle.std.proofs.lemmas.Option.{none-some}
 use Rattle.view_lang.specs.Config.{Table}
 use Rattle.row_keys.specs.Slots.{AreRetracted, CanRetract, IsThere, Slot, marked, put_back, retracted, slot}
 use Rattle.row_keys.proofs.Places.{some_same}
-use Rattle.row_keys.proofs.Retracting.{length_marked}
+use Rattle.row_keys.proofs.RetractedRows.{length_marked}
 
 live_again : (slots : List Slot) (n : ℕ) → IsThere slots n false → IsThere (marked true slots n) n true
 live_again [] n there = absurd (none-some (slot there.0 false) there.1)

@@ -49,8 +49,8 @@ use Rattle.row_keys.specs.Numbers.{IsAt, IsUnused, Numbered, numbered, turned}
 use Rattle.row_keys.specs.Slots.{CanRetract, Slot, keys_at, live, contents_of}
 use Rattle.row_keys.specs.Store.{Refuses}
 use Rattle.row_keys.specs.Stored.{AreKeyed, IsStored, joined, live_keys}
-use Rattle.row_keys.proofs.Appending.{live_keys_are}
-use Rattle.row_keys.proofs.Joining.{joined_at, joined_turned, keyed_turned, unused_among, used_among}
+use Rattle.row_keys.proofs.AppendedBatches.{live_keys_are}
+use Rattle.row_keys.proofs.JoinedNumbers.{joined_at, joined_turned, keyed_turned, unused_among, used_among}
 use Rattle.row_keys.proofs.KeyFacts.{either, neither, same_refl}
 use Rattle.row_keys.proofs.Places.{some_same}
 

@@ -50,7 +50,7 @@ use Rattle.row_keys.specs.Slots.{
 use Rattle.row_keys.specs.Store.{IsAbsent, IsFound, Store, with_slots}
 use Rattle.row_keys.specs.Stored.{AreKeyed, IsRight, IsStored, joined}
 use Rattle.row_keys.proofs.Emptied.{out_emptied}
-use Rattle.row_keys.proofs.Joining.{
+use Rattle.row_keys.proofs.JoinedNumbers.{
   joined_at,
   joined_taken,
   keyed_length,
@@ -60,8 +60,8 @@ use Rattle.row_keys.proofs.Joining.{
   unused_among,
 }
 use Rattle.row_keys.proofs.Places.{at_taken, some_same}
-use Rattle.row_keys.proofs.PuttingBack.{can_retract_again, retracted_again}
-use Rattle.row_keys.proofs.Retracting.{can_put_back, put_back_undoes, world_retracted}
+use Rattle.row_keys.proofs.RowsPutBack.{can_retract_again, retracted_again}
+use Rattle.row_keys.proofs.RetractedRows.{can_put_back, put_back_undoes, world_retracted}
 use Rattle.row_keys.proofs.TurnedRows.{
   can_revive,
   fewer_off,

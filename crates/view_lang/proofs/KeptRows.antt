@@ -17,7 +17,7 @@ use Rattle.view_lang.specs.ViewLaws.{
 }
 use Rattle.view_lang.specs.declared.view.Direction.{Direction}
 use Rattle.view_lang.specs.declared.view.Direction.TheVariants as direction
-use Rattle.view_lang.proofs.Sorting.{all-placed}
+use Rattle.view_lang.proofs.StableOrder.{all-placed}
 
 first_null : (o : Direction) (d : Datum) → earlier o d null ≡ d
 first_null direction.Ascending null = refl

@@ -39,10 +39,10 @@ use Rattle.row_keys.specs.Numbers.{AreDistinct, IsAt, IsUnused, Numbered}
 use Rattle.row_keys.specs.Slots.{IsThere, Slot, contents_of, live, row_of, slot}
 use Rattle.row_keys.specs.Store.{IsKnown, IsUnknown, Store}
 use Rattle.row_keys.specs.Stored.{AreGiven, AreKeyed, joined, live_keys}
-use Rattle.row_keys.proofs.Joining.{joined_at, keys_live, unused_among}
+use Rattle.row_keys.proofs.JoinedNumbers.{joined_at, keys_live, unused_among}
 use Rattle.row_keys.proofs.KeyFacts.{key_datum, neither, or_none, same_refl, same_sym}
 use Rattle.row_keys.proofs.Places.{some_same}
-use Rattle.row_keys.proofs.Retracting.{among_live}
+use Rattle.row_keys.proofs.RetractedRows.{among_live}
 use Rattle.row_keys.proofs.TurnedRows.{distinct_joined}
 
 side_given : (t : Table) (c : Contents) (d : Datum) → is_null d ≡ false

@@ -30,7 +30,7 @@ use Rattle.upkeep.specs.StoreLaws.{set_mapped}
 use Rattle.upkeep.specs.Stores.{Rows, rows_at, rows_in, tables_in}
 use Rattle.upkeep.specs.ViewStates.{AreCurrent, EachIsCurrent, IsCurrent, stale_in}
 use Rattle.upkeep.specs.declared.view_state.ViewState.{ViewState}
-use Rattle.upkeep.proofs.Editing.{still_of}
+use Rattle.upkeep.proofs.ChangedStores.{still_of}
 use Rattle.upkeep.proofs.SideEdits.{Opened}
 
 pub opened_stays :

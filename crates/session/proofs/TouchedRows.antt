@@ -55,7 +55,7 @@ use Rattle.session.specs.Shows.{CanUndo, HoldsBack}
 use Rattle.session.specs.Visits.{OpensTouched}
 use Rattle.session.specs.declared.undo.UndoRecord.{UndoRecord}
 use Rattle.session.proofs.Pasts.{can_held}
-use Rattle.session.proofs.Releasing.{
+use Rattle.session.proofs.ReleasedRecords.{
   Goes,
   at_case,
   can_emptied,

@@ -47,9 +47,9 @@ use Rattle.row_keys.specs.Numbers.{IsAt, IsUnused, Numbered}
 use Rattle.row_keys.specs.Slots.{CanRetract, contents_of, keys_at, live, retracted}
 use Rattle.row_keys.specs.Store.{Refuses, Store, with_slots}
 use Rattle.row_keys.specs.Stored.{IsStored, joined, live_keys}
-use Rattle.row_keys.proofs.Appending.{live_keys_are}
-use Rattle.row_keys.proofs.Finding.{all_taken, finds_pushed, found_can, found_keys, twice_named}
-use Rattle.row_keys.proofs.Joining.{unused_among, used_among}
+use Rattle.row_keys.proofs.AppendedBatches.{live_keys_are}
+use Rattle.row_keys.proofs.FoundRows.{all_taken, finds_pushed, found_can, found_keys, twice_named}
+use Rattle.row_keys.proofs.JoinedNumbers.{unused_among, used_among}
 use Rattle.row_keys.proofs.KeyFacts.{neither, or_left, or_none, or_right, same_sym}
 
 -- one key after another
