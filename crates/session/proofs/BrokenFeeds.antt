@@ -73,15 +73,8 @@ use Rattle.session.specs.Cuts.{
   IsFault,
   told_at,
 }
-use Rattle.session.proofs.Replaying.{
-  faults-are-told,
-  faults-break,
-  finish-is-told,
-  get-other,
-  get-set,
-  push-faults-are-told,
-  same_by,
-}
+use Rattle.session.proofs.ReplayedFeeds.{get-other, get-set, same_by}
+use Rattle.session.proofs.ReplayedRuns.{faults-are-told, faults-break, finish-is-told, push-faults-are-told}
 use Rattle.session.proofs.FedBytes.{FeedLaws}
 
 both-ways : (b : Bool) → b ≡ true → b ≡ false → ⊥

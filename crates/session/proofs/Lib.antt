@@ -12,7 +12,9 @@ pub mod Sample
 pub mod Written
 pub mod Readings
 mod FedBytes
-mod Replaying
+mod ReplayedFeeds
+mod ReplayedSteps
+mod ReplayedRuns
 mod BrokenFeeds
 mod Restored
 mod ReleasedRecords

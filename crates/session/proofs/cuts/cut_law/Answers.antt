@@ -1,12 +1,5 @@
 use Rattle.session.proofs.BrokenFeeds.{breaks-in-both}
-use Rattle.session.proofs.Replaying.{
-  faults-are-told,
-  faults-break,
-  finish-is-told,
-  push-faults-are-told,
-  run-is-replayed,
-  same-runs,
-}
+use Rattle.session.proofs.ReplayedRuns.{faults-are-told, faults-break, finish-is-told, push-faults-are-told, run-is-replayed, same-runs}
 use Rattle.session.proofs.cuts.cut_law.Goals as goal
 
 pub returns-clause-replay : goal.returns-clause-replay
