@@ -37,7 +37,7 @@ use Rattle.liveviews.specs.Inspecting.{
   StopsAt,
   condition_when,
 }
-use Rattle.liveviews.specs.declared.inspecting.Inspection.{Inspection}
+use Rattle.liveviews.specs.declared.inspecting.events.Inspection.{Inspection}
 use Rattle.liveviews.specs.Lines.{ended_after, given_lines, is_end}
 
 pub left-open : (a : Account) (i : Inspection) (rest : List ℕ) → IsLeft a i rest → IsOpen i

@@ -25,7 +25,7 @@ use Rattle.liveviews.specs.Kept.{IsKept, IsKeptSo}
 use Rattle.liveviews.specs.Refused.{RefusesBatch}
 use Rattle.liveviews.specs.Steps.{AreTakenSo, Reached, Refuses}
 use Rattle.liveviews.specs.Taken.{AreTaken}
-use Rattle.liveviews.specs.declared.kept_batches.KeptBatches.{KeptBatches}
+use Rattle.liveviews.specs.declared.recasting.kept_batches.KeptBatches.{KeptBatches}
 use Rattle.liveviews.proofs.Counted.{as-many}
 use Rattle.liveviews.proofs.Stories.{Comes, batch-reached, batch-refused, batch-tells, typed-fields}
 

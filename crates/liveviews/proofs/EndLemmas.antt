@@ -5,10 +5,10 @@ use Rattle.values.specs.declared.causes.Cause.TheVariants as cause
 use Rattle.liveviews.specs.Files.{MakesNone}
 use Rattle.liveviews.specs.Program.{DoesSomewhere, IsBegun, IsNoConfig, StopsSo}
 use Rattle.liveviews.specs.declared.files.FileFault.{FileFault}
-use Rattle.liveviews.specs.declared.program.Outcome.{Outcome}
-use Rattle.liveviews.specs.declared.program.Outcome.TheVariants as outcome
-use Rattle.liveviews.specs.declared.program.Refusal.{Refusal}
-use Rattle.liveviews.specs.declared.program.Refusal.TheVariants as refusal
+use Rattle.liveviews.specs.declared.program.outcome.Outcome.{Outcome}
+use Rattle.liveviews.specs.declared.program.outcome.Outcome.TheVariants as outcome
+use Rattle.liveviews.specs.declared.program.outcome.Refusal.{Refusal}
+use Rattle.liveviews.specs.declared.program.outcome.Refusal.TheVariants as refusal
 
 unmade-begun :
     (content : List ℕ → Option (List ℕ)) (old new : Sunk) (unmade : Option FileFault) (why : FileFault) (path : List ℕ)

@@ -55,8 +55,8 @@ use Rattle.feed.specs.States.{FeedState, Finishes, after_finish, after_push, fin
 use Rattle.feed.specs.StoryLaw.{AllIsTold, IsBetween, PartialIsHeld, PartialTells, rest_story}
 use Rattle.liveviews.specs.Kept.{taken_rows}
 use Rattle.liveviews.specs.Source.{OfSource}
-use Rattle.liveviews.specs.declared.table.Table.{Table}
-use Rattle.liveviews.specs.declared.kept_batches.KeptBatches.{KeptBatches}
+use Rattle.liveviews.specs.declared.recasting.table.Table.{Table}
+use Rattle.liveviews.specs.declared.recasting.kept_batches.KeptBatches.{KeptBatches}
 use Rattle.liveviews.specs.Steps.{AreTakenSo, GoesOn, HasTaken, HasTakenAll, IsComplete, IsRead, Reached, Refuses}
 use Rattle.liveviews.proofs.Accounts.{after-shows, finish-fault, finish-valid}
 use Rattle.liveviews.proofs.KeptLemmas.{kept-so-none}

@@ -24,7 +24,7 @@ use Rattle.stream_writer.specs.Heavy.{IsLight, row_weight}
 use Rattle.liveviews.specs.Taken.{AreFit}
 use Rattle.liveviews.specs.Kept.{AreLightUpTo, IsKept, IsKeptSo, IsWritable, taken_rows}
 use Rattle.stream_writer.specs.Weights.{IsLightBatch, WeighsAs}
-use Rattle.liveviews.specs.declared.kept_batches.KeptBatches.{KeptBatches}
+use Rattle.liveviews.specs.declared.recasting.kept_batches.KeptBatches.{KeptBatches}
 use Rattle.liveviews.proofs.BatchLemmas.{rows_from-length}
 
 -- the columns from one on: what is left to say

@@ -20,8 +20,8 @@ use Rattle.liveviews.specs.Source.{OfSource}
 use Rattle.liveviews.specs.Steps.{AreTakenSo, IsRead, Refuses}
 use Rattle.liveviews.specs.declared.files.FileFault.{FileFault}
 use Rattle.liveviews.specs.declared.files.FileFault.TheVariants as file
-use Rattle.liveviews.specs.declared.recasting.RecastFault.{RecastFault}
-use Rattle.liveviews.specs.declared.table.Table.{Table}
+use Rattle.liveviews.specs.declared.recasting.whole.RecastFault.{RecastFault}
+use Rattle.liveviews.specs.declared.recasting.table.Table.{Table}
 use Rattle.liveviews.specs.Recast.{WritesTable, IsUntouched, Recasts, Stops}
 
 untouched : (old : Sunk) → IsUntouched old old 0

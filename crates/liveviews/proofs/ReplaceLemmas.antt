@@ -27,9 +27,9 @@ use Rattle.liveviews.specs.Program.{StopsFor, StopsSo, refusal_after}
 use Rattle.liveviews.specs.Source.{HoldsFile}
 use Rattle.liveviews.specs.Streams.{StopsWithin, StreamsSource}
 use Rattle.liveviews.specs.declared.files.FileFault.{FileFault}
-use Rattle.liveviews.specs.declared.program.Refusal.{Refusal}
-use Rattle.liveviews.specs.declared.recasting.SourceFault.{SourceFault}
-use Rattle.liveviews.specs.declared.recasting.SourceFault.TheVariants as source
+use Rattle.liveviews.specs.declared.program.outcome.Refusal.{Refusal}
+use Rattle.liveviews.specs.declared.recasting.whole.SourceFault.{SourceFault}
+use Rattle.liveviews.specs.declared.recasting.whole.SourceFault.TheVariants as source
 
 appends-none : (old new : Option (List ℕ)) → Keeps old new → Appends old new []
 appends-none None new kept = tt

@@ -47,7 +47,7 @@ use Rattle.liveviews.specs.Steps.{AreTakenSo, IsComplete, Refuses}
 use Rattle.liveviews.specs.Source.{OfRead, OfSource}
 use Rattle.liveviews.specs.declared.files.FileFault.{FileFault}
 use Rattle.liveviews.specs.declared.files.FileFault.TheVariants as file
-use Rattle.liveviews.specs.declared.recasting.RecastFault.{RecastFault}
+use Rattle.liveviews.specs.declared.recasting.whole.RecastFault.{RecastFault}
 use Rattle.liveviews.specs.Streams.{
   BeginsTable,
   HasStreamed,
@@ -62,7 +62,7 @@ use Rattle.liveviews.specs.Streams.{
   written_by,
 }
 use Rattle.liveviews.specs.Taken.{AreFit, AreTaken, IsTakenRow}
-use Rattle.liveviews.specs.declared.streaming.Streaming.{Streaming}
+use Rattle.liveviews.specs.declared.recasting.one_pass.Streaming.{Streaming}
 use Rattle.liveviews.proofs.BatchLemmas.{taken-rows}
 use Rattle.liveviews.proofs.KeptLemmas.{all-rows, fit-rows}
 use Rattle.liveviews.proofs.Recasts.{no-device, some-content}

@@ -33,7 +33,7 @@ use Rattle.feed.specs.States.{FeedState, fresh, retained_in}
 use Rattle.feed.specs.StoryLaw.{IsBetween, rest_story}
 use Rattle.liveviews.specs.Taken.{AreTaken, IsTakenRow}
 use Rattle.liveviews.specs.Kept.{IsKept, IsKeptSo}
-use Rattle.liveviews.specs.declared.kept_batches.KeptBatches.{KeptBatches}
+use Rattle.liveviews.specs.declared.recasting.kept_batches.KeptBatches.{KeptBatches}
 use Rattle.liveviews.specs.Steps.{AreTakenSo, IsComplete, Refuses}
 
 -- What is known of the logical columns is handed in: it is the contract of `logical_law`.

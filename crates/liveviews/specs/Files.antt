@@ -7,9 +7,9 @@ use Rattle.liveviews.specs.Inspect.{Tells, account_of, status_where}
 use Rattle.liveviews.specs.Recast.{Recasts}
 use Rattle.liveviews.specs.declared.files.FileFault.{FileFault}
 use Rattle.liveviews.specs.declared.files.FileFault.TheVariants as file
-use Rattle.liveviews.specs.declared.recasting.RecastFault.{RecastFault}
-use Rattle.liveviews.specs.declared.recasting.SourceFault.{SourceFault}
-use Rattle.liveviews.specs.declared.recasting.SourceFault.TheVariants as source
+use Rattle.liveviews.specs.declared.recasting.whole.RecastFault.{RecastFault}
+use Rattle.liveviews.specs.declared.recasting.whole.SourceFault.{SourceFault}
+use Rattle.liveviews.specs.declared.recasting.whole.SourceFault.TheVariants as source
 
 -- what was read is what the file holds, where that is known
 abbrev pub IsContent : Option (List ℕ) → List ℕ → Type 0

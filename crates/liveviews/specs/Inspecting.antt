@@ -9,7 +9,7 @@ use Rattle.feed.specs.Shown.{Shows}
 use Rattle.feed.specs.States.{FeedState, fresh}
 use Rattle.feed.specs.Transcript.{transcript}
 use Rattle.liveviews.specs.Inspect.{Account, Tells, account_in, account_of, after_lines}
-use Rattle.liveviews.specs.declared.inspecting.Inspection.{Inspection}
+use Rattle.liveviews.specs.declared.inspecting.events.Inspection.{Inspection}
 
 pub record IsFresh (i : Inspection) : Type 0 where
   pub shows : Shows i.feed (fresh None)

@@ -13,7 +13,7 @@ use Rattle.column_writer.specs.Batches.{IsSized, rows_of}
 use Rattle.stream_writer.specs.Stream.{trees}
 use Rattle.stream_writer.specs.Heavy.{IsLight, row_weight}
 use Rattle.stream_writer.specs.Weights.{IsLightBatch, WeighsAs}
-use Rattle.liveviews.specs.declared.kept_batches.KeptBatches.{KeptBatches}
+use Rattle.liveviews.specs.declared.recasting.kept_batches.KeptBatches.{KeptBatches}
 
 abbrev pub taken_rows : KeptBatches → List (List Datum)
 taken_rows t = rows_of t.batches.items

@@ -31,17 +31,17 @@ use Rattle.liveviews.specs.declared.files.FileFault.{FileFault}
 use Rattle.liveviews.specs.declared.files.FileFault.TheVariants as file
 use Rattle.liveviews.specs.Check.{ChecksFile, RefusesFile}
 use Rattle.liveviews.specs.Streams.{Discards}
-use Rattle.liveviews.specs.declared.program.FileCommand.{FileCommand}
-use Rattle.liveviews.specs.declared.program.FileCommand.TheVariants as command
-use Rattle.liveviews.specs.declared.program.Asked.{Asked}
-use Rattle.liveviews.specs.declared.program.Asked.TheVariants as asked
-use Rattle.liveviews.specs.declared.program.Outcome.{Outcome}
-use Rattle.liveviews.specs.declared.program.Outcome.TheVariants as outcome
-use Rattle.liveviews.specs.declared.program.Refusal.{Refusal}
-use Rattle.liveviews.specs.declared.program.Refusal.TheVariants as refusal
-use Rattle.liveviews.specs.declared.recasting.RecastFault.{RecastFault}
-use Rattle.liveviews.specs.declared.recasting.SourceFault.{SourceFault}
-use Rattle.liveviews.specs.declared.recasting.SourceFault.TheVariants as source
+use Rattle.liveviews.specs.declared.program.words.FileCommand.{FileCommand}
+use Rattle.liveviews.specs.declared.program.words.FileCommand.TheVariants as command
+use Rattle.liveviews.specs.declared.program.words.Asked.{Asked}
+use Rattle.liveviews.specs.declared.program.words.Asked.TheVariants as asked
+use Rattle.liveviews.specs.declared.program.outcome.Outcome.{Outcome}
+use Rattle.liveviews.specs.declared.program.outcome.Outcome.TheVariants as outcome
+use Rattle.liveviews.specs.declared.program.outcome.Refusal.{Refusal}
+use Rattle.liveviews.specs.declared.program.outcome.Refusal.TheVariants as refusal
+use Rattle.liveviews.specs.declared.recasting.whole.RecastFault.{RecastFault}
+use Rattle.liveviews.specs.declared.recasting.whole.SourceFault.{SourceFault}
+use Rattle.liveviews.specs.declared.recasting.whole.SourceFault.TheVariants as source
 
 -- the command is over the file, or the files, that the arguments name
 abbrev pub AsksInspect : Found → FileCommand → Type 0

@@ -12,7 +12,7 @@ use Rattle.stream_writer.specs.Stream.{canon}
 use Rattle.stream_writer.specs.declared.faults.WriteFault.{WriteFault}
 use Rattle.stream_writer.specs.declared.faults.WriteFault.TheVariants as write
 use Rattle.liveviews.specs.Steps.{Refuses}
-use Rattle.liveviews.specs.declared.recasting.RecastFault.{RecastFault}
+use Rattle.liveviews.specs.declared.recasting.whole.RecastFault.{RecastFault}
 
 -- The stream means a table, this came of writing the table's canonical stream, and that stream means the table too.
 pub record WritesTable (old new : Sunk) (answer : Result ℕ WriteFault) (s : Story) : Type 0 where

@@ -19,8 +19,8 @@ use Rattle.stream_writer.specs.Heavy.{IsHeavy}
 use Rattle.liveviews.specs.Taken.{AreTaken}
 use Rattle.liveviews.specs.Refused.{StandsAs}
 use Rattle.liveviews.specs.Kept.{IsKeptSo, taken_rows}
-use Rattle.liveviews.specs.declared.table.Table.{Table}
-use Rattle.liveviews.specs.declared.kept_batches.KeptBatches.{KeptBatches}
+use Rattle.liveviews.specs.declared.recasting.table.Table.{Table}
+use Rattle.liveviews.specs.declared.recasting.kept_batches.KeptBatches.{KeptBatches}
 
 -- the reading of the stream is these rows, and then the reading of these bytes after those of which this is kept
 abbrev pub Tells : Story → List (List Datum) → Retained → List ℕ → Type 0

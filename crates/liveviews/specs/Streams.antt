@@ -21,10 +21,10 @@ use Rattle.liveviews.specs.Source.{OfSource}
 use Rattle.liveviews.specs.Steps.{Reached, Refuses}
 use Rattle.liveviews.specs.declared.files.FileFault.{FileFault}
 use Rattle.liveviews.specs.declared.files.FileFault.TheVariants as file
-use Rattle.liveviews.specs.declared.recasting.RecastFault.{RecastFault}
-use Rattle.liveviews.specs.declared.recasting.SourceFault.{SourceFault}
-use Rattle.liveviews.specs.declared.recasting.SourceFault.TheVariants as source
-use Rattle.liveviews.specs.declared.streaming.Streaming.{Streaming}
+use Rattle.liveviews.specs.declared.recasting.whole.RecastFault.{RecastFault}
+use Rattle.liveviews.specs.declared.recasting.whole.SourceFault.{SourceFault}
+use Rattle.liveviews.specs.declared.recasting.whole.SourceFault.TheVariants as source
+use Rattle.liveviews.specs.declared.recasting.one_pass.Streaming.{Streaming}
 
 -- a table of the stream's columns and its first rows, which can be written
 pub record BeginsTable (s : Story) (entries : List (Rose Entry)) (rows : List (List Datum)) : Type 0 where

@@ -3,30 +3,20 @@
 //! A stream can be recast whole, from a source that is read piece by piece, or in one pass, also to a new file.
 #![tactic(auto)]
 
-mod batch;
-mod configuring;
 mod files;
 mod inspecting;
-mod kept_batches;
 mod laws;
-mod lines;
-mod live;
-mod next_message;
-mod pieces;
 mod program;
+mod reading;
 mod recasting;
-mod replacing;
-mod running;
-mod script;
+mod scripting;
 mod show;
-mod streaming;
-mod table;
-mod types;
 
 pub use files::{FileFault, Files};
-pub use inspecting::{Inspected, inspect, inspect_from};
+pub use inspecting::events::{Inspected, inspect, inspect_from};
 pub use laws::{account_law, recast_law};
-pub use program::{Refusal, lv};
-pub use recasting::{RecastFault, SourceFault, recast, recast_from};
-pub use replacing::recast_to_new;
-pub use streaming::recast_through;
+pub use program::lv;
+pub use program::outcome::Refusal;
+pub use recasting::new_file::recast_to_new;
+pub use recasting::one_pass::recast_through;
+pub use recasting::whole::{RecastFault, SourceFault, recast, recast_from};

@@ -8,7 +8,7 @@ ghost use Rattle.liveviews.specs.Steps.{IsOpen};
 
 use crate::files::FileFault;
 use crate::laws::account_law;
-use crate::pieces::{read_piece, room};
+use crate::reading::pieces::{read_piece, room};
 use arrays::Column;
 use feed::{Fed, Feed, FeedEvent, cut_law, pieces_law};
 use schema_meta::Field;

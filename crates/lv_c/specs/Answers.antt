@@ -10,7 +10,7 @@ use Rattle.session.specs.declared.calls.Fault.{Fault}
 use Rattle.session.specs.declared.calls.Pushed.{Pushed}
 use Rattle.session.specs.declared.calls.ViewFault.{ViewFault}
 use Rattle.session.specs.declared.calls.ViewFault.TheVariants as view_fault
-use Rattle.liveviews.specs.declared.recasting.RecastFault.{RecastFault}
+use Rattle.liveviews.specs.declared.recasting.whole.RecastFault.{RecastFault}
 use Rattle.lv_c.specs.declared.answers.LvPushed.{LvPushed}
 use Rattle.lv_c.specs.declared.answers.LvWritten.{LvWritten}
 

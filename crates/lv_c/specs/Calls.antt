@@ -17,7 +17,7 @@ use Rattle.session.specs.declared.calls.Pushed.{Pushed}
 use Rattle.session.specs.declared.calls.ViewFault.{ViewFault}
 use Rattle.liveviews.specs.Recast.{Recasts}
 use Rattle.liveviews.specs.Steps.{AreTakenSo}
-use Rattle.liveviews.specs.declared.recasting.RecastFault.{RecastFault}
+use Rattle.liveviews.specs.declared.recasting.whole.RecastFault.{RecastFault}
 use Rattle.lv_c.specs.declared.answers.LvPushed.{LvPushed}
 use Rattle.lv_c.specs.declared.answers.LvWritten.{LvWritten}
 use Rattle.lv_c.specs.declared.held.Held.{Held}

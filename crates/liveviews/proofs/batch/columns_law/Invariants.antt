@@ -1,5 +1,0 @@
-use Rattle.liveviews.proofs.KeptLemmas.{Rest}
-use Rattle.liveviews.proofs.batch.columns_law.Given as goal
-
-abbrev pub invariant-loop-column : goal.invariant-loop-column
-invariant-loop-column l = Rest l.columns l.column-index

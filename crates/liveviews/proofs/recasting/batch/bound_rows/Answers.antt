@@ -1,0 +1,11 @@
+use Rattle.std.proofs.Common.{arith}
+use Rattle.liveviews.proofs.BoundLemmas.{covers_more}
+use Rattle.liveviews.proofs.recasting.batch.bound_rows.Goals as goal
+
+pub loop-column-preserved : goal.loop-column-preserved
+loop-column-preserved c = (
+  covers_more c.loop-column.sum c.loop-column.column-index c.weight_bound-sum.result c.args.columns.now
+      c.column-item.result c.column-item.is c.loop-column-test.true c.weight_bound-sum.ensures.each
+      (omega arith) c.loop-column.invariant.0,
+  omega arith,
+)
