@@ -46,7 +46,7 @@ use Rattle.upkeep.specs.LiveParts.{LiveParts}
 use Rattle.upkeep.specs.Stores.{Rows, rows_at, rows_in, tables_in, visits_in}
 use Rattle.upkeep.specs.Swaps.{named_keys}
 use Rattle.upkeep.specs.TableChanges.{CanGoBack, released_at, restores}
-use Rattle.upkeep.specs.Touched.{OpensTwice, refers, touched}
+use Rattle.upkeep.specs.Touched.{OpensOnce, refers, touched}
 use Rattle.upkeep.specs.ViewStates.{width_in}
 use Rattle.upkeep.specs.declared.table_change.TableChange.{TableChange}
 use Rattle.upkeep.specs.declared.table_change.TableChange.TheVariants.{Appended, Put, Retracted}
@@ -164,15 +164,15 @@ newest_touches tables views rows r rs oldest es holds =
 pub opens_after :
     (old mid new : LiveParts) (records : List UndoRecord) (r : UndoRecord) (rs : List UndoRecord)
     → records ≡ take 64 (r ∷ rs)
-    → OpensTwice old (touched (tables_in old.stores) old.views (rows_in mid.stores) r.table r.change) mid
+    → OpensOnce old (touched (tables_in old.stores) old.views (rows_in mid.stores) r.table r.change) mid
     → visits_in new.stores ≡ visits_in mid.stores
     → touched (tables_in old.stores) old.views (rows_in new.stores) r.table r.change
     ≡ touched (tables_in old.stores) old.views (rows_in mid.stores) r.table r.change
     → OpensTouched old (rows_in new.stores) records new
 opens_after old mid new records r rs first opens same touches =
     let P : List UndoRecord → Type 0 = λ xs. OpensTouched old (rows_in new.stores) xs new in
-    let T : ℕ → Type 0 = λ n. visits_in new.stores ≤ visits_in old.stores + 2 * (length old.views * n) in
+    let T : ℕ → Type 0 = λ n. visits_in new.stores ≤ visits_in old.stores + length old.views * n in
     let V : ℕ → Type 0 = λ n.
-    n ≤ visits_in old.stores + 2 * (length old.views * touched (tables_in old.stores) old.views (rows_in mid.stores)
-    r.table r.change) in
+    n ≤ visits_in old.stores + length old.views * touched (tables_in old.stores) old.views (rows_in mid.stores)
+    r.table r.change in
     subst P (sym first) (subst T (sym touches) (subst V (sym same) opens))

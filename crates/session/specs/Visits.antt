@@ -6,7 +6,7 @@ use Rattle.row_keys.specs.declared.faults.EditFault.{EditFault}
 use Rattle.row_keys.specs.declared.faults.EditFault.TheVariants as edit_fault
 use Rattle.upkeep.specs.LiveParts.{LiveParts}
 use Rattle.upkeep.specs.Stores.{Rows, rows_in, tables_in, visits_in}
-use Rattle.upkeep.specs.Touched.{OpensTwice, touched}
+use Rattle.upkeep.specs.Touched.{OpensOnce, touched}
 use Rattle.session.specs.declared.calls.Event.{Event}
 use Rattle.session.specs.declared.calls.Event.TheVariants as event
 use Rattle.session.specs.declared.calls.Fault.{Fault}
@@ -20,9 +20,9 @@ OpensNone old new = visits_in new.stores ≡ visits_in old.stores
 abbrev pub OpensTouched : LiveParts → Rows → List UndoRecord → LiveParts → Type 0
 OpensTouched old rows [] new = OpensNone old new
 OpensTouched old rows (r ∷ rs) new =
-    OpensTwice old (touched (tables_in old.stores) old.views rows r.table r.change) new
+    OpensOnce old (touched (tables_in old.stores) old.views rows r.table r.change) new
 
--- An edit that is accepted opens the rows that it touches, at most twice for each view; one that doesn't fit opens
+-- An edit that is accepted opens the rows that it touches, at most once for each view; one that doesn't fit opens
 -- none.
 abbrev pub EditOpens : {X : Type 0} → LiveParts → Result X EditFault → List UndoRecord → LiveParts → Type 0
 EditOpens old (Ok x) records new = OpensTouched old (rows_in new.stores) records new

@@ -412,13 +412,13 @@ fn opens_rows_that_edits_touch(rt: HostRuntime) -> Result<(), Fail> {
     assert_eq!(rt; session.visits(), 3);
     // Of the keys 3, 4 and 5 one row of the main table refers to the first, in one view.
     push_rows(&mut session, "put", &batch_with(3));
-    assert_eq!(rt; session.visits(), 5);
+    assert_eq!(rt; session.visits(), 4);
     assert_eq!(rt; session.undo(), Ok(()));
-    assert_eq!(rt; session.visits(), 7);
+    assert_eq!(rt; session.visits(), 5);
     let mut sink = MemorySink::new(rt.alloc());
     assert_eq!(rt; session.write_view("named", &mut sink), Ok(240));
-    assert_eq!(rt; session.visits(), 7);
+    assert_eq!(rt; session.visits(), 5);
     assert_eq!(rt; session.write_view("t", &mut sink), Ok(504));
-    assert_eq!(rt; session.visits(), 10);
+    assert_eq!(rt; session.visits(), 8);
     Ok(())
 }

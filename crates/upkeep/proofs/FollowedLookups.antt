@@ -1,38 +1,5 @@
 -- A view that looks up a table whose rows change, brought up to the change by the rows that refer to its keys.
-use Rattle.std.proofs.Common.{
-  ◌≡◌,
-  ◌≤◌,
-  ◌||◌,
-  ◌&&◌,
-  All,
-  Err,
-  Ok,
-  Result,
-  length-append,
-  not,
-  ℕ,
-  zero,
-  suc,
-  ◌<◌,
-  length,
-  Bool,
-  true,
-  false,
-  List,
-  [],
-  ◌∷◌,
-  ◌++◌,
-  Option,
-  None,
-  Some,
-  ap,
-  arith,
-  map,
-  refl,
-  subst,
-  sym,
-  ◌∙◌,
-}
+use Rattle.std.proofs.Common.{◌≡◌, ◌≤◌, ◌||◌, ◌&&◌, All, Err, Ok, Result, not, ℕ, zero, suc, ◌<◌, length, Bool, true, false, List, [], ◌∷◌, Option, None, Some, ap, arith, map, refl, subst, sym, ◌∙◌}
 use Rattle.std.specs.List.{list_any}
 use Rattle.std.specs.List.Sorted.{IsStrictlySortedBy}
 use Rattle.std.specs.Ordering.{nat_cmp}
@@ -45,28 +12,26 @@ use Rattle.std.proofs.lemmas.Bool.{eqb-true, true≢false}
 use Rattle.values.specs.Datum.{Datum}
 use Rattle.view_lang.specs.Config.{Table, View}
 use Rattle.view_lang.specs.Contents.{is_among}
-use Rattle.view_lang.specs.Images.{ImageAt, ImageFits, ImagePatched, image, shift_image}
+use Rattle.view_lang.specs.Images.{ImageAt, ImageFits, image}
 use Rattle.view_lang.specs.Joined.{side_of}
-use Rattle.view_lang.specs.Shifts.{Fits, IsFew, NumberedRows, patched}
-use Rattle.view_lang.specs.TableRules.{IsTable}
+use Rattle.view_lang.specs.Shifts.{Fits, IsFew, NumberedRows, patched, shift}
+use Rattle.view_lang.specs.ConfigRules.{IsLookup}
+use Rattle.view_lang.specs.TableRules.{IsSideTable, IsTable}
 use Rattle.lookups.specs.Keeping.{Keeps as KeepsReferrers}
 use Rattle.lookups.specs.Refers.{RowsByKey, is_among as is_numbered, refers as refers_to}
 use Rattle.view_lang.specs.Views.{side_in}
 use Rattle.view_lang.specs.World.{contents_at, table_at}
 use Rattle.view_lang.specs.declared.view.Lookup.{Lookup}
 use Rattle.row_keys.specs.NumberLaws.{
-  ChangesAdd,
   FewRetracted,
   Leads,
   LiveCanGo,
   NumbersAscend,
-  RetractedComeBack,
-  RetractedGo,
   RowsAreAtNumbers,
   RowsAreLive,
 }
-use Rattle.row_keys.specs.Numbered.{come, gone, numbered}
-use Rattle.row_keys.specs.Slots.{CanRetract, Slot, contents_of, live}
+use Rattle.row_keys.specs.Numbered.{numbered}
+use Rattle.row_keys.specs.Slots.{CanRetract, Slot, contents_of, live, row_of}
 use Rattle.sub_groups.specs.Moved.{is_moved}
 use Rattle.upkeep.specs.Inputs.{side_by}
 use Rattle.upkeep.specs.Stores.{Rows, rows_at, world_of}
@@ -81,7 +46,6 @@ use Rattle.upkeep.specs.ViewStates.{
   KeepsLinks,
   link_row,
   looks_up,
-  made_change,
   made_row,
   referring_row,
   remade_change,
@@ -92,21 +56,22 @@ use Rattle.upkeep.specs.declared.table_change.TableChange.{TableChange}
 use Rattle.upkeep.specs.declared.view_state.Links.{Links}
 use Rattle.upkeep.specs.declared.view_state.Links.TheVariants as links
 use Rattle.upkeep.specs.declared.view_state.Turn.{Turn}
-use Rattle.upkeep.specs.declared.view_state.Turn.TheVariants as turn
 use Rattle.upkeep.specs.declared.view_state.ViewState.{ViewState}
 use Rattle.upkeep.proofs.FollowedRows.{image_length}
-use Rattle.upkeep.proofs.LiveSides.{current_same, set_main, sides_same}
+use Rattle.upkeep.proofs.LiveSides.{current_same, sides_same}
 use Rattle.upkeep.proofs.LookedUpViews.{current_after, main_same}
-use Rattle.upkeep.proofs.MainTable.{live_few, numbered_length, turned_length}
+use Rattle.upkeep.proofs.MainTable.{live_few, numbered_length}
 use Rattle.upkeep.proofs.ReferringRows.{
   AreReferring,
   are_referring,
   can_retract,
   left_alike,
+  lives,
   referring_below,
   referring_counted,
-  remade,
+  referring_rows,
 }
+use Rattle.upkeep.proofs.Remade.{remade_leads}
 use Rattle.upkeep.proofs.SwappedRows.{side_swapped}
 
 set_twice : {X : Type 0} (xs : List X) (n : ℕ) (x y : X) → slice_set (slice_set xs n x) n y ≡ slice_set xs n y
@@ -129,13 +94,13 @@ current_without tables n u c old new v s side before current =
     (current_same tables v (side_by tables old v) (side_by tables (slice_set old n slots) v) s (numbered (rows_at old 0))
     (sides_same tables v.lookup old n slots (sym before.live_same)) current))
 
-world_placed : (rows : Rows) (n : ℕ) (slots : List Slot) → n < length rows
+pub world_placed : (rows : Rows) (n : ℕ) (slots : List Slot) → n < length rows
     → contents_at (world_of (slice_set rows n slots)) n ≡ contents_of slots
 world_placed [] n slots below = absurd (omega (arith, below))
 world_placed (r ∷ rs) zero slots below = refl
 world_placed (r ∷ rs) (suc n) slots below = world_placed rs n slots (omega (arith, below))
 
-world_here : (rows : Rows) (n : ℕ) → n < length rows → contents_at (world_of rows) n ≡ contents_of (rows_at rows n)
+pub world_here : (rows : Rows) (n : ℕ) → n < length rows → contents_at (world_of rows) n ≡ contents_of (rows_at rows n)
 world_here [] n below = absurd (omega (arith, below))
 world_here (r ∷ rs) zero below = refl
 world_here (r ∷ rs) (suc n) below = world_here rs n (omega (arith, below))
@@ -159,16 +124,12 @@ sides_swapped tables (Some l) n u c rows below look d other =
 
 pub record Laws : Type 0 where
   pub fits : ImageFits
-  pub patched : ImagePatched
   pub at : ImageAt
   pub keys : KeysStandInOrder
   pub ascend : NumbersAscend
   pub live : RowsAreLive
   pub numbers : RowsAreAtNumbers
   pub can_go : LiveCanGo
-  pub retracted : RetractedGo
-  pub come_back : RetractedComeBack
-  pub add : ChangesAdd
   pub few : FewRetracted
 
 pub look_some : (o : Option Lookup) (n : ℕ) → looks_up o n ≡ true → (l : Lookup) × (o ≡ Some l)
@@ -242,32 +203,31 @@ module _ (laws : Laws) (tables : List Table) (n : ℕ) (u : Turn) (c : TableChan
         (sym unmoved)
         (referring_counted laws.can_go v.lookup look.0 n named main ns look.1 looks refer ascending)
 
-    change_leads : Leads (image made_without (numbered main))
-        (made_change tables (swapped_at n u c rows) v turn.Go ns ++ made_change tables rows v turn.Come ns)
+    -- each of them refers to one of the keys
+    pub refer_all : All (λ m. refers_by v.lookup n (map datum_of_key keys) (row_of main m) ≡ true) ns
+    refer_all =
+        subst (λ (ks : List Datum). All (λ m. refers_by v.lookup n ks (row_of main m) ≡ true) ns) (sym named)
+        (referring_rows v.lookup look.0 n (named_keys (table_at tables n) c (rows_at rows n)) main ns look.1 looks
+        refer)
+
+    change_leads : Leads (image made_without (numbered main)) (remade_change tables rows v n u c ns)
         (image made_with (numbered main))
     change_leads =
-        subst (λ (slots : List Slot). Leads (image made_without (numbered main))
-        (map (shift_image made_without) (gone slots ns) ++ map (shift_image made_with) (come main ns))
-        (image made_with (numbered main))) (sym (set_main rows n (swapped u c (rows_at rows n)) side))
-        (remade laws.fits laws.patched laws.add laws.retracted laws.come_back made_without made_with main ns can
-        (left_alike v look.0 (side_by tables (swapped_at n u c rows) v) (side_by tables rows v)
-        (named_keys (table_at tables n) c (rows_at rows n)) main ns look.1
-        (sides_swapped tables v.lookup n u c rows below looks) refer))
+        let names : List Datum = named_keys (table_at tables n) c (rows_at rows n) in
+        remade_leads made_without made_with main laws.at laws.fits laws.ascend laws.numbers ns ascending
+        (λ m listed. lives look.0 names main m (sym (refer m) ∙ listed))
+        (left_alike v look.0 (side_by tables (swapped_at n u c rows) v) (side_by tables rows v) names main ns look.1
+        (sides_swapped tables v.lookup n u c rows below looks) refer)
 
     change_few : (t : Table) → IsTable t → length (live main) ≤ t.max_rows
-        → IsFew (image made_without (numbered main))
-        (made_change tables (swapped_at n u c rows) v turn.Go ns ++ made_change tables rows v turn.Come ns)
+        → IsFew (image made_without (numbered main)) (remade_change tables rows v n u c ns)
     change_few t right held =
-        let swapped_main : List Slot = rows_at (swapped_at n u c rows) 0 in
         let shorter = image_length made_without (numbered main) in
         let few = live_few laws.live t main right held in
         let less = laws.few ns main can in
         let many = numbered_length laws.live main in
-        let go = length-map (gone swapped_main ns) (shift_image made_without) ∙ turned_length turn.Go swapped_main ns in
-        let back = length-map (come main ns) (shift_image made_with) ∙ turned_length turn.Come main ns in
-        let both = length-append (map (shift_image made_without) (gone swapped_main ns))
-        (map (shift_image made_with) (come main ns)) in
-        omega (arith, shorter, few, less, many, go, back, both)
+        let long = length-map ns (λ m. shift m (made_without (row_of main m)) (made_with (row_of main m))) in
+        omega (arith, shorter, few, less, many, long)
 
     -- what is asked where the change is made
     pub remake_needs : (t : Table) → IsTable t → length (live main) ≤ t.max_rows
@@ -290,6 +250,13 @@ module _ (laws : Laws) (tables : List Table) (n : ℕ) (u : Turn) (c : TableChan
       subst (λ (l : Links). AreLinks tables v new.kept l × KeepsLinks l (image (link_row l v) (numbered main)))
           (sym (same ∙ is)) (unmoved, keeps),
     )
+
+-- the table that a view looks up
+pub looked_side : (tables : List Table) (o : Option Lookup) (n : ℕ) → IsLookup tables o → looks_up o n ≡ true
+    → IsSideTable (table_at tables n)
+looked_side tables None n right looks = absurd (true≢false (sym looks))
+looked_side tables (Some l) n right looks =
+    subst (λ (m : ℕ). IsSideTable (table_at tables m)) (eqb-true (suc l.side) n looks) right.3
 
 pub on_ok : {X E : Type 0} (P Q : Type 0) (r : Result X E) → (P → Q) → OnOk r P → OnOk r Q
 on_ok P Q (Ok x) f h = f h

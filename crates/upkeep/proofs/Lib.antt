@@ -19,6 +19,10 @@ pub mod SwappedRows
 pub mod SwappedStores
 pub mod FollowedLookups
 pub mod ReferringRows
+pub mod Remade
+pub mod KeptAlike
+pub mod SameCells
+pub mod SidesByKey
 pub mod LiveSides
 pub mod SideEdits
 pub mod RebuiltViews

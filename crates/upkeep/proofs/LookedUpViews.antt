@@ -292,8 +292,8 @@ view_counted width views i v n keys rows at below =
     counted_below (opened_for width v n keys) (refers width views n keys) rows
     (λ row h. any_here views i v (λ w. opened_for width w n keys row) at below h)
 
-pub opened_more : (old mid new place one all : ℕ) → mid ≤ old + 2 * (place * all) → new ≤ mid + 2 * one → one ≤ all
-    → new ≤ old + 2 * ((place + 1) * all)
+pub opened_more : (old mid new place one all : ℕ) → mid ≤ old + place * all → new ≤ mid + one → one ≤ all
+    → new ≤ old + (place + 1) * all
 opened_more old mid new place one all so_far opened few =
     omega (arith, so_far, opened, few, distributes place all)
   where

@@ -60,7 +60,7 @@ use Rattle.upkeep.specs.LiveParts.{AreLive, AreOf, LiveParts}
 use Rattle.upkeep.specs.Stores.{Rows, rows_at, rows_in, tables_in, visits_in}
 use Rattle.upkeep.specs.StoreLaws.{rows_kept, rows_set, rows_there, table_there, tables_set}
 use Rattle.upkeep.specs.TableChanges.{IsChangeOf, Makes}
-use Rattle.upkeep.specs.Touched.{OpensTwice, touched}
+use Rattle.upkeep.specs.Touched.{OpensOnce, touched}
 use Rattle.upkeep.specs.ViewStates.{EachIsCurrent, turned, turned_last}
 use Rattle.upkeep.specs.declared.table_change.TableChange.{TableChange}
 use Rattle.upkeep.specs.declared.view_state.Turn.TheVariants as turn
@@ -155,7 +155,7 @@ pub edit_made :
     → Makes s.table e s.slots t.slots (Ok change) → IsChangeOf 0 change → tables_in stores ≡ tables_in old
     → rows_in stores ≡ rows_in old → tables_in now ≡ tables_in (slice_set stores 0 t)
     → rows_in now ≡ rows_in (slice_set stores 0 t) → b ≡ a
-    → OpensTwice (parts old views a) (touched (tables_in old) views (rows_in now) 0 change) (parts now views b)
+    → OpensOnce (parts old views a) (touched (tables_in old) views (rows_in now) 0 change) (parts now views b)
     → Edited 0 e (parts old views a) (parts now views b) (Ok change)
 edit_made old stores now views a b s t e change is table main made kind tables_old rows_old tables_now rows_is stale
     opens =
@@ -282,7 +282,7 @@ pub went_back :
     {X E : Type 0} (stores mid : List Store) (views : List View) (a b : List Bool) (u v : Store)
     (after : List Slot → List Slot) (n : ℕ) (x : X) → 0 < length mid → tables_in mid ≡ tables_in stores
     → rows_in mid ≡ rows_in stores → u ≡ get_or mid 0 u → v ≡ with_slots u (after u.slots) → b ≡ a
-    → OpensTwice (parts stores views a) n (parts (slice_set mid 0 v) views b)
+    → OpensOnce (parts stores views a) n (parts (slice_set mid 0 v) views b)
     → WentBack {X = X} {E = E} 0 (after (rows_at (rows_in stores) 0)) n (parts stores views a)
     (parts (slice_set mid 0 v) views b) (Ok x)
 went_back stores mid views a b u v after n x main tables rows there done stale opens =

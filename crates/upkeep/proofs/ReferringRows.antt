@@ -1,13 +1,12 @@
 -- The rows that refer to keys, and a view of them where those keys' rows change.
-use Rattle.std.proofs.Common.{◌≡◌, ℕ, zero, suc, ◌+◌, ◌<◌, ◌≤◌, ◌||◌, ◌&&◌, All, Bool, true, false, cond, List, [], ◌∷◌, ◌++◌, Option, None, Some, count_by, get_or, length, map, refl, ap, sym, subst, ◌∙◌, arith, true≢false}
+use Rattle.std.proofs.Common.{◌≡◌, ℕ, zero, suc, ◌+◌, ◌<◌, ◌≤◌, ◌||◌, ◌&&◌, All, Bool, true, false, cond, List, [], ◌∷◌, Option, None, Some, count_by, get_or, length, map, refl, ap, sym, subst, ◌∙◌, arith, true≢false}
 use Rattle.std.specs.BTreeMap.{is_at}
 use Rattle.std.specs.List.{list_any}
 use Rattle.std.specs.List.Sorted.{IsStrictlySortedBy}
 use Rattle.std.specs.Ordering.{is_eq, nat_cmp}
 use Rattle.std.specs.Option.{option_and_then}
-use Rattle.std.proofs.lemmas.Map.Views.{exact_unsigned_eq}
 use Rattle.std.proofs.lemmas.Option.{none-some}
-use Rattle.std.specs.Cmp.{nat_cmp_total, tied_itself, unsigned_tied}
+use Rattle.std.specs.Cmp.{nat_cmp_total, tied_itself}
 use Rattle.std.specs.Prelude.{if◌then◌else◌, nat_eq, slice_index_or}
 use Rattle.std.proofs.lemmas.List.Elements.{All-cons, All-head, All-nil, All-tail}
 use Rattle.std.proofs.lemmas.List.Sums.{sum_by-cons}
@@ -19,24 +18,16 @@ use Rattle.values.specs.declared.key.Key.TheVariants as key
 use Rattle.view_lang.specs.Cells.{cell_at}
 use Rattle.view_lang.specs.Config.{View}
 use Rattle.view_lang.specs.Contents.{is_among, same_key}
-use Rattle.view_lang.specs.Images.{ImageAt, ImageFits, ImagePatched, image, image_by, shift_image}
+use Rattle.view_lang.specs.Images.{ImageAt, image}
 use Rattle.view_lang.specs.Joined.{Side, joined_by, joined_row, looked_up}
-use Rattle.view_lang.specs.Shifts.{NumberedRows, Shift, row_at}
+use Rattle.view_lang.specs.Shifts.{row_at}
 use Rattle.view_lang.specs.Truth.{passes}
 use Rattle.view_lang.specs.declared.view.Lookup.{Lookup}
 use Rattle.lookups.specs.Keeping.{Keeps as KeepsReferrers, holds, is_key}
 use Rattle.lookups.specs.Refers.{RowsByKey, is_among as is_numbered, refers as refers_to}
-use Rattle.row_keys.specs.NumberLaws.{
-  ChangesAdd,
-  Leads,
-  LiveCanGo,
-  NumbersAscend,
-  RetractedComeBack,
-  RetractedGo,
-  RowsAreAtNumbers,
-}
-use Rattle.row_keys.specs.Numbered.{come, gone, live_at, numbered, numbered_from}
-use Rattle.row_keys.specs.Slots.{CanRetract, IsThere, Slot, live, marked, no_slot, retracted, row_of, slot}
+use Rattle.row_keys.specs.NumberLaws.{LiveCanGo, NumbersAscend, RowsAreAtNumbers}
+use Rattle.row_keys.specs.Numbered.{live_at, numbered}
+use Rattle.row_keys.specs.Slots.{CanRetract, IsThere, Slot, live, marked, no_slot, row_of, slot}
 use Rattle.upkeep.specs.Touched.{refers_by}
 use Rattle.upkeep.specs.ViewStates.{looks_up, made_by, made_row, referring_by, referring_row}
 use Rattle.upkeep.proofs.SwappedRows.{row_marked}
@@ -46,7 +37,7 @@ use Rattle.upkeep.proofs.SwappedRows.{row_marked}
 some_is : {X : Type 0} (x y : X) → Some x ≡ Some y → x ≡ y
 some_is x y h = cc h
 
-key_datum : (d : Datum) (k : Key) → key_of d ≡ Some k → datum_of_key k ≡ d
+pub key_datum : (d : Datum) (k : Key) → key_of d ≡ Some k → datum_of_key k ≡ d
 key_datum null k h = subst (λ x. datum_of_key x ≡ null) (some_is key.Null k h) refl
 key_datum (truth b) k h = subst (λ x. datum_of_key x ≡ truth b) (some_is (key.Bool b) k h) refl
 key_datum (whole n) k h = subst (λ x. datum_of_key x ≡ whole n) (some_is (key.Int n) k h) refl
@@ -72,7 +63,7 @@ keyless (structure es) (key.Utf8 s) h = refl
 keyless (structure es) (key.Binary b) h = refl
 keyless (structure es) key.Null h = refl
 
-is_key_same : KeysStandInOrder → (d : Datum) (k : Key) (o : Option Key) → key_of d ≡ o
+pub is_key_same : KeysStandInOrder → (d : Datum) (k : Key) (o : Option Key) → key_of d ≡ o
     → is_key k o ≡ same_key d (datum_of_key k)
 is_key_same law d k None h = sym (keyless d k h)
 is_key_same law d k (Some held) h =
@@ -125,73 +116,6 @@ are_referring law at ascend numbers v l kept slots keys ns look keeps are = λ n
     ∙ ap (option_and_then (referring_by (Some l))) (numbers slots n)))
     ∙ cell_refers law l keys (live_at slots n)
 
--- Rows that are left where numbered ones are retracted
-
-marked_none : (slots : List Slot) (n : ℕ) → live_at (marked false slots n) n ≡ None
-marked_none [] n = refl
-marked_none (s ∷ ss) zero = refl
-marked_none (s ∷ ss) (suc n) = marked_none ss n
-
-marked_some : (slots : List Slot) (n m : ℕ) (r : List Datum) → live_at (marked false slots n) m ≡ Some r
-    → live_at slots m ≡ Some r
-marked_some [] n m r h = h
-marked_some (s ∷ ss) zero zero r h = absurd (none-some r h)
-marked_some (s ∷ ss) zero (suc m) r h = h
-marked_some (s ∷ ss) (suc n) zero r h = h
-marked_some (s ∷ ss) (suc n) (suc m) r h = marked_some ss n m r h
-
-apart : (slots : List Slot) (n m : ℕ) (r : List Datum) → live_at (marked false slots n) m ≡ Some r → (b : Bool)
-    → is_at (nat_cmp m) n ≡ b → is_at (nat_cmp m) n ≡ false
-apart slots n m r h true e =
-    let same : m ≡ n = exact_unsigned_eq m n (sym (unsigned_tied m n) ∙ e) in
-    absurd (none-some r (sym (ap (λ k. live_at (marked false slots n) k) same ∙ marked_none slots n) ∙ h))
-apart slots n m r h false e = e
-
-not_gone : (ns : List ℕ) (slots : List Slot) (m : ℕ) (r : List Datum) → live_at (retracted ns slots) m ≡ Some r
-    → (live_at slots m ≡ Some r) × (is_numbered ns m ≡ false)
-unfolding retracted
-not_gone [] slots m r h = (h, refl)
-not_gone (n ∷ ns) slots m r h =
-    let rest = not_gone ns (marked false slots n) m r h in
-    let here = apart slots n m r rest.0 (is_at (nat_cmp m) n) refl in
-    (marked_some slots n m r rest.0, ap (λ b. b || is_numbered ns m) here ∙ rest.1)
-
-image_agree : (f g : List Datum → Option (List Datum)) (slots : List Slot) (n : ℕ)
-    → ((m : ℕ) (r : List Datum) → live_at slots m ≡ Some r → f r ≡ g r)
-    → image f (numbered_from n slots) ≡ image g (numbered_from n slots)
-image_agree f g [] n h = refl
-image_agree f g (s ∷ ss) n h = by s.live refl (image_agree f g ss (suc n) (λ m r e. h (suc m) r e))
-  where
-    by : (b : Bool) → s.live ≡ b → image f (numbered_from (suc n) ss) ≡ image g (numbered_from (suc n) ss)
-        → image f (if b then (n, s.row) ∷ numbered_from (suc n) ss else numbered_from (suc n) ss)
-        ≡ image g (if b then (n, s.row) ∷ numbered_from (suc n) ss else numbered_from (suc n) ss)
-    by true e rest =
-        ap (λ o. image_by n o (image f (numbered_from (suc n) ss)))
-        (h zero s.row (ap (λ x. if x then Some s.row else None) e))
-        ∙ ap (image_by n (g s.row)) rest
-    by false e rest = rest
-
-image_leads : ImageFits → ImagePatched → (f : List Datum → Option (List Datum)) (old new : NumberedRows)
-    (change : List Shift) → Leads old change new → Leads (image f old) (map (shift_image f) change) (image f new)
-image_leads fits_law patched_law f old new change leads = record {
-  fits = fits_law f old change leads.fits;
-  patched_is = sym (patched_law f old change leads.fits) ∙ ap (image f) leads.patched_is;
-}
-
-pub remade : ImageFits → ImagePatched → ChangesAdd → RetractedGo → RetractedComeBack
-    → (f g : List Datum → Option (List Datum)) (slots : List Slot) (ns : List ℕ) → CanRetract ns slots
-    → ((m : ℕ) (r : List Datum) → live_at (retracted ns slots) m ≡ Some r → f r ≡ g r)
-    → Leads (image f (numbered slots)) (map (shift_image f) (gone slots ns) ++ map (shift_image g) (come slots ns))
-    (image g (numbered slots))
-remade fits_law patched_law add_law go_law back_law f g slots ns can agree =
-    let mid : NumberedRows = numbered (retracted ns slots) in
-    let same : image f mid ≡ image g mid = image_agree f g (retracted ns slots) 0 agree in
-    add_law (image f (numbered slots)) (image f mid) (image g (numbered slots))
-    (map (shift_image f) (gone slots ns)) (map (shift_image g) (come slots ns))
-    (image_leads fits_law patched_law f (numbered slots) mid (gone slots ns) (go_law ns slots can))
-    (subst (λ (x : NumberedRows). Leads x (map (shift_image g) (come slots ns)) (image g (numbered slots))) (sym same)
-    (image_leads fits_law patched_law g mid (numbered slots) (come slots ns) (back_law ns slots can)))
-
 -- The numbered rows can be retracted: they are live.
 
 itself : (n : ℕ) → is_at (nat_cmp n) n ≡ true
@@ -208,7 +132,7 @@ all_listed (m ∷ ms) ns f =
     All-cons (λ k. is_numbered ns k ≡ true) m ms (f m (ap (λ b. b || is_numbered ms m) (itself m)))
     (all_listed ms ns (λ k h. f k (or_true (is_at (nat_cmp k) m) (is_numbered ms k) h)))
 
-lives : (l : Lookup) (keys : List Datum) (slots : List Slot) (n : ℕ)
+pub lives : (l : Lookup) (keys : List Datum) (slots : List Slot) (n : ℕ)
     → refers_live l keys (live_at slots n) ≡ true → live_at slots n ≡ Some (row_of slots n)
 lives l keys slots n h = by (get_or slots n no_slot).live h
   where
@@ -282,7 +206,7 @@ refers_true o l table keys row is look among =
     subst P (sym is) (λ (h : nat_eq (suc l.side) table ≡ true).
     ap (λ b. b && is_among (cell_at row l.on) keys) h ∙ among) look
 
-referring_rows : (o : Option Lookup) (l : Lookup) (table : ℕ) (keys : List Datum) (slots : List Slot) (ns : List ℕ)
+pub referring_rows : (o : Option Lookup) (l : Lookup) (table : ℕ) (keys : List Datum) (slots : List Slot) (ns : List ℕ)
     → o ≡ Some l → looks_up o table ≡ true → AreReferring l keys slots ns
     → All (λ n. refers_by o table keys (row_of slots n) ≡ true) ns
 referring_rows o l table keys slots ns is look are = λ k d below.
@@ -305,7 +229,7 @@ looked_alike : (o : Option Lookup) (l : Lookup) (a b : Side) (row : List Datum) 
 looked_alike o l a b row is same =
     subst (λ (x : Option Lookup). looked_up x a row ≡ looked_up x b row) (sym is) same
 
-made_alike : (v : View) (a b : Side) (row : List Datum) → looked_up v.lookup a row ≡ looked_up v.lookup b row
+pub made_alike : (v : View) (a b : Side) (row : List Datum) → looked_up v.lookup a row ≡ looked_up v.lookup b row
     → made_row v a row ≡ made_row v b row
 unfolding joined_row
 made_alike v a b row same =
@@ -314,9 +238,8 @@ made_alike v a b row same =
 
 pub left_alike : (v : View) (l : Lookup) (a b : Side) (keys : List Datum) (slots : List Slot) (ns : List ℕ)
     → v.lookup ≡ Some l → ((d : Datum) → is_among d keys ≡ false → a d ≡ b d) → AreReferring l keys slots ns
-    → (m : ℕ) (r : List Datum) → live_at (retracted ns slots) m ≡ Some r → made_row v a r ≡ made_row v b r
-left_alike v l a b keys slots ns is same are m r live =
-    let stays = not_gone ns slots m r live in
+    → (m : ℕ) (r : List Datum) → live_at slots m ≡ Some r → is_numbered ns m ≡ false → made_row v a r ≡ made_row v b r
+left_alike v l a b keys slots ns is same are m r live apart =
     made_alike v a b r
     (looked_alike v.lookup l a b r is
-    (same (cell_at r l.on) (sym (ap (refers_live l keys) stays.0) ∙ sym (are m) ∙ stays.1)))
+    (same (cell_at r l.on) (sym (ap (refers_live l keys) live) ∙ sym (are m) ∙ apart)))

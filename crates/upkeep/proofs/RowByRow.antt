@@ -1,35 +1,5 @@
 -- Rows that come or go one by one.
-use Rattle.std.proofs.Common.{
-  ◌≡◌,
-  ℕ,
-  zero,
-  suc,
-  ◌+◌,
-  ◌<◌,
-  ◌≤◌,
-  Bool,
-  true,
-  false,
-  cond,
-  List,
-  [],
-  ◌∷◌,
-  ◌++◌,
-  Option,
-  None,
-  Some,
-  get_or,
-  length,
-  map,
-  take,
-  refl,
-  ap,
-  sym,
-  subst,
-  ◌∙◌,
-  arith,
-  true≢false,
-}
+use Rattle.std.proofs.Common.{◌≡◌, ℕ, zero, suc, ◌+◌, ◌<◌, ◌≤◌, Bool, true, false, cond, List, [], ◌∷◌, Option, None, Some, get_or, length, map, take, refl, ap, sym, subst, ◌∙◌, arith, true≢false}
 use Rattle.std.specs.Prelude.{◌^◌, if◌then◌else◌, is_some, slice_set}
 use Rattle.std.specs.BTreeMap.{insert_entry, is_at}
 use Rattle.std.specs.List.Sorted.{IsStrictlySortedBy}
@@ -38,23 +8,13 @@ use Rattle.std.specs.Ordering.{match_ordering, nat_cmp}
 use Rattle.std.specs.declared.cmp.Ordering.{Ordering}
 use Rattle.std.specs.declared.cmp.Ordering.TheVariants as ordering
 use Rattle.std.specs.Cmp.{nat_cmp_total}
-use Rattle.std.proofs.lemmas.List.{get_or_default, length-append, length-map, take_all}
+use Rattle.std.proofs.lemmas.List.{get_or_default, length-map, take_all}
 use Rattle.values.specs.Datum.{Datum}
 use Rattle.view_lang.specs.Counted.{fits-at, patched-more}
 use Rattle.view_lang.specs.Config.{Table, View}
 use Rattle.view_lang.specs.Images.{shift_image}
 use Rattle.view_lang.specs.Outputs.{Output, Outputs, columns}
-use Rattle.view_lang.specs.Shifts.{
-  Fits,
-  FitsInTurn,
-  IsFew,
-  NumberedRows,
-  Shift,
-  patched,
-  row_at,
-  shift,
-  with_at,
-}
+use Rattle.view_lang.specs.Shifts.{Fits, IsFew, NumberedRows, Shift, patched, row_at, shift, with_at}
 use Rattle.view_lang.specs.SortedEntries.{sorted-insert_entry, sorted-remove_entry}
 use Rattle.view_lang.specs.Views.{shown_row}
 use Rattle.view_lang.specs.declared.view.OrderBy.{OrderBy}
@@ -185,7 +145,7 @@ shorter-by : (b : Bool) (a c : NumberedRows) (k : ℕ) → length a ≤ k → le
 shorter-by true a c k x y = x
 shorter-by false a c k x y = y
 
-shorter : (test : ℕ → Bool) (es : NumberedRows) → length (remove_entry test es) ≤ length es
+pub shorter : (test : ℕ → Bool) (es : NumberedRows) → length (remove_entry test es) ≤ length es
 shorter test [] = omega arith
 shorter test (e ∷ es) =
     let rest = shorter test es in
@@ -252,7 +212,7 @@ module _ (stores now : List Store) (s s' read : Store) (v : View) (n visit : ℕ
   now_rows =
       ap rows_in set ∙ set_same (λ (x : Store). x.slots) stores 0 s s' is (ap (λ (x : Store). x.slots) counted)
 
-  row_is : row ≡ row_of (rows_at (rows_in stores) 0) n
+  pub row_is : row ≡ row_of (rows_at (rows_in stores) 0) n
   row_is =
       let before = tables_length stores in
       let after = tables_length now in
@@ -356,44 +316,15 @@ next_needs P Q make t slots ns i rows below so_far before fits few =
       (so_far rows fits before, (next.fits, few_next rows es i few)),
     )
 
--- A change in two parts
+-- Rows stay in the order of their numbers.
 
-left_in_turn : (rows : NumberedRows) (a b : List Shift) → FitsInTurn rows (a ++ b) → FitsInTurn rows a
-left_in_turn rows [] b fits = tt
-left_in_turn rows (e ∷ a) b fits = (fits.0, left_in_turn (with_at e.number e.after rows) a b fits.1)
-
-right_in_turn : (rows : NumberedRows) (a b : List Shift) → FitsInTurn rows (a ++ b) → FitsInTurn (patched rows a) b
-right_in_turn rows [] b fits = fits
-right_in_turn rows (e ∷ a) b fits = right_in_turn (with_at e.number e.after rows) a b fits.1
-
-sorted_with : (n : ℕ) (a : Option (List Datum)) (rows : NumberedRows) → IsStrictlySortedBy nat_cmp (keys_of rows)
+pub sorted_with : (n : ℕ) (a : Option (List Datum)) (rows : NumberedRows) → IsStrictlySortedBy nat_cmp (keys_of rows)
     → IsStrictlySortedBy nat_cmp (keys_of (with_at n a rows))
 sorted_with n None rows s = sorted-remove_entry nat_cmp_total (is_at (nat_cmp n)) rows s
 sorted_with n (Some r) rows s = sorted-insert_entry nat_cmp_total n r rows s
 
-sorted_patched : (rows : NumberedRows) (es : List Shift) → IsStrictlySortedBy nat_cmp (keys_of rows)
+pub sorted_patched : (rows : NumberedRows) (es : List Shift) → IsStrictlySortedBy nat_cmp (keys_of rows)
     → IsStrictlySortedBy nat_cmp (keys_of (patched rows es))
 sorted_patched rows [] s = s
 sorted_patched rows (e ∷ es) s =
     sorted_patched (with_at e.number e.after rows) es (sorted_with e.number e.after rows s)
-
-pub fits_left : (rows : NumberedRows) (a b : List Shift) → Fits rows (a ++ b) → Fits rows a
-fits_left rows a b fits = record { ascending = fits.ascending; in_turn = left_in_turn rows a b fits.in_turn }
-
-pub fits_right : (rows : NumberedRows) (a b : List Shift) → Fits rows (a ++ b) → Fits (patched rows a) b
-fits_right rows a b fits = record {
-  ascending = sorted_patched rows a fits.ascending;
-  in_turn = right_in_turn rows a b fits.in_turn;
-}
-
-pub few_left : (rows : NumberedRows) (a b : List Shift) → IsFew rows (a ++ b) → IsFew rows a
-few_left rows a b few = let both = length-append a b in omega (arith, few, both)
-
-pub few_right : (rows : NumberedRows) (a b : List Shift) → IsFew rows (a ++ b) → IsFew (patched rows a) b
-few_right rows a b few =
-    let both = length-append a b in
-    let less = patched_few rows a in omega (arith, few, both, less)
-
-pub patched_both : (rows : NumberedRows) (a b : List Shift) → patched rows (a ++ b) ≡ patched (patched rows a) b
-patched_both rows [] b = refl
-patched_both rows (e ∷ a) b = patched_both (with_at e.number e.after rows) a b

@@ -48,9 +48,9 @@ use Rattle.upkeep.specs.StoreLaws.{
   tables_length,
   tables_set,
 }
-use Rattle.upkeep.specs.Swaps.{CanSwap, IsHidden, forgotten, hidden, named_keys, shown, swapped}
+use Rattle.upkeep.specs.Swaps.{CanSwap, forgotten, hidden, named_keys, shown, swapped}
 use Rattle.upkeep.specs.TableChanges.{CanGoBack, IsChangeOf, Makes, back}
-use Rattle.upkeep.specs.Touched.{OpensTwice, refers, touched}
+use Rattle.upkeep.specs.Touched.{OpensOnce, refers, touched}
 use Rattle.upkeep.specs.ViewStates.{AreCurrent, DiffersAt, EachIsCurrent, IsBefore, stale_in, width_in}
 use Rattle.upkeep.specs.declared.table_change.TableChange.{TableChange}
 use Rattle.upkeep.specs.declared.view_state.Turn.{Turn}
@@ -313,13 +313,13 @@ touched_side tables views rows (suc n) c side = refl
 pub opened_after :
     (ss ss' : List Store) (views : List View) (states states' : List ViewState) (n : ℕ) (s t : Store) (c : TableChange)
     → 0 < n → Changed ss n s t → Opened (slice_set ss n t) ss'
-    → visits_in ss' ≤ visits_in (slice_set ss n t) + 2 * (length views
+    → visits_in ss' ≤ visits_in (slice_set ss n t) + length views
     * count_by (refers (width_in (tables_in (slice_set ss n t))) views n
     (named_keys (table_at (tables_in (slice_set ss n t)) n) c
-    (rows_at (rows_in (slice_set ss n t)) n))) (live (rows_at (rows_in (slice_set ss n t)) 0)))
-    → OpensTwice (parts ss views states) (touched (tables_in ss) views (rows_in ss') n c) (parts ss' views states')
+    (rows_at (rows_in (slice_set ss n t)) n))) (live (rows_at (rows_in (slice_set ss n t)) 0))
+    → OpensOnce (parts ss views states) (touched (tables_in ss) views (rows_in ss') n c) (parts ss' views states')
 opened_after ss ss' views states states' n s t c side changed opened few =
-    let P : ℕ → ℕ → Type 0 = λ old k. visits_in ss' ≤ old + 2 * (length views * k) in
+    let P : ℕ → ℕ → Type 0 = λ old k. visits_in ss' ≤ old + length views * k in
     let count : List Table → Rows → ℕ = λ ts rs.
     count_by (refers (width_in ts) views n (named_keys (table_at ts n) c (rows_at rs n))) (live (rows_at rs 0)) in
     subst (P (visits_in ss)) (sym (touched_side (tables_in ss) views (rows_in ss') n c side))
@@ -333,14 +333,14 @@ opened_after ss ss' views states states' n s t c side changed opened few =
 pub opened_before :
     (ss ss' : List Store) (views : List View) (states states' : List ViewState) (n : ℕ) (s t v u : Store)
     (c : TableChange) → 0 < n → Changed ss n s t → t.slots ≡ hidden c s.slots
-    → visits_in ss' ≤ visits_in (slice_set ss n t) + 2 * (length views
+    → visits_in ss' ≤ visits_in (slice_set ss n t) + length views
     * count_by (refers (width_in (tables_in (slice_set ss n t))) views n
     (named_keys (table_at (tables_in (slice_set ss n t)) n) c
-    (rows_at (rows_in (slice_set ss n t)) n))) (live (rows_at (rows_in (slice_set ss n t)) 0)))
-    → OpensTwice (parts ss views states) (touched (tables_in ss) views (rows_in ss) n c)
+    (rows_at (rows_in (slice_set ss n t)) n))) (live (rows_at (rows_in (slice_set ss n t)) 0))
+    → OpensOnce (parts ss views states) (touched (tables_in ss) views (rows_in ss) n c)
     (parts (slice_set ss' n u) views states')
 opened_before ss ss' views states states' n s t v u c side changed is few =
-    let P : ℕ → ℕ → ℕ → Type 0 = λ new old k. new ≤ old + 2 * (length views * k) in
+    let P : ℕ → ℕ → ℕ → Type 0 = λ new old k. new ≤ old + length views * k in
     let count : List Table → List Slot → List Slot → ℕ = λ ts rows main.
     count_by (refers (width_in ts) views n (named_keys (table_at ts n) c rows)) (live main) in
     let rows : List Slot = rows_at (rows_in ss) n in
@@ -370,7 +370,7 @@ opened_before ss ss' views states states' n s t v u c side changed is few =
 pub went_back :
     {X E : Type 0} (x : X) (ss ss' : List Store) (views : List View) (states states' : List ViewState) (n : ℕ)
     (slots : List Slot) (k : ℕ) → rows_in ss' ≡ slice_set (rows_in ss) n slots → tables_in ss' ≡ tables_in ss
-    → stale_in states' ≡ stale_in states → OpensTwice (parts ss views states) k (parts ss' views states')
+    → stale_in states' ≡ stale_in states → OpensOnce (parts ss views states) k (parts ss' views states')
     → WentBack {X = X} {E = E} n slots k (parts ss views states) (parts ss' views states') (Ok x)
 went_back x ss ss' views states states' n slots k rows tables stale opens = record {
   rows = rows;
@@ -447,7 +447,7 @@ pub edit_made :
     (ss ss' : List Store) (views : List View) (states states' : List ViewState) (n : ℕ) (s t : Store) (e : TableEdit)
     (change : TableChange) → Changed ss n s t → Opened (slice_set ss n t) ss'
     → Makes s.table e s.slots t.slots (Ok change) → IsChangeOf n change → stale_in states' ≡ stale_in states
-    → OpensTwice (parts ss views states) (touched (tables_in ss) views (rows_in ss') n change) (parts ss' views states')
+    → OpensOnce (parts ss views states) (touched (tables_in ss) views (rows_in ss') n change) (parts ss' views states')
     → Edited n e (parts ss views states) (parts ss' views states') (Ok change)
 edit_made ss ss' views states states' n s t e change changed opened makes kind stale opens =
     let P : Rows → Type 0 = λ rs.

@@ -1,23 +1,13 @@
 -- Stores of which one is turned to its rows with a change, or without it.
-use Rattle.std.proofs.Common.{◌≡◌, ℕ, ◌<◌, List, ap, arith, get_or, length, subst, sym, ◌∙◌}
+use Rattle.std.proofs.Common.{◌≡◌, ℕ, zero, suc, ◌<◌, List, [], ◌∷◌, ap, arith, get_or, length, refl, subst, sym, ◌∙◌}
 use Rattle.std.specs.Prelude.{slice_set}
 use Rattle.view_lang.specs.Config.{Table, View}
 use Rattle.view_lang.specs.ConfigRules.{IsView}
-use Rattle.view_lang.specs.World.{table_at}
 use Rattle.row_keys.specs.Slots.{Slot}
 use Rattle.row_keys.specs.Store.{Store, with_slots}
 use Rattle.upkeep.specs.Stores.{Rows, rows_at, rows_in, tables_in}
-use Rattle.upkeep.specs.StoreLaws.{
-  rows_placed,
-  rows_length,
-  rows_restored,
-  rows_set,
-  rows_there,
-  table_there,
-  tables_length,
-  tables_set,
-}
-use Rattle.upkeep.specs.Swaps.{CanSwap, opposite, swapped}
+use Rattle.upkeep.specs.StoreLaws.{rows_restored, rows_set, rows_there, tables_length, tables_set}
+use Rattle.upkeep.specs.Swaps.{opposite, swapped}
 use Rattle.upkeep.specs.ViewStates.{swapped_at}
 use Rattle.upkeep.specs.declared.table_change.TableChange.{TableChange}
 use Rattle.upkeep.specs.declared.view_state.Turn.{Turn}
@@ -40,6 +30,12 @@ turned_rows ss n u c s t turned =
     (ap (λ (x : Store). x.slots) turned.slots
     ∙ ap (swapped u c) (sym (rows_there ss n s turned.is turned.below)))
 
+-- stores of which one is what it was
+pub kept_store : (ss : List Store) (n : ℕ) (s t : Store) → s ≡ get_or ss n s → t ≡ s → slice_set ss n t ≡ ss
+kept_store [] n s t is same = refl
+kept_store (x ∷ xs) zero s t is same = ap (λ (y : Store). y ∷ xs) (same ∙ is)
+kept_store (x ∷ xs) (suc n) s t is same = ap (λ (ys : List Store). x ∷ ys) (kept_store xs n s t is same)
+
 -- stores that were opened since then
 pub record Since (ss ss' : List Store) (n : ℕ) (t : Store) : Type 0 where
   pub tables : tables_in ss' ≡ tables_in (slice_set ss n t)
@@ -52,30 +48,7 @@ still_below ss ss' n same below =
     let e = ap length same in
     omega (arith, a, b, e, below)
 
--- The store can be turned back,
-pub can_turn_back :
-    (ss ss' : List Store) (n : ℕ) (u w : Turn) (c : TableChange) (s t s' : Store) → Turned ss n u c s t
-    → Since ss ss' n t → s' ≡ get_or ss' n s' → w ≡ opposite u → CanSwap (opposite u) s.table c t.slots
-    → CanSwap w s'.table c s'.slots
-can_turn_back ss ss' n u w c s t s' turned since is other can =
-    let same = since.tables ∙ turned_tables ss n u c s t turned in
-    let below = still_below ss ss' n same turned.below in
-    let table : s'.table ≡ s.table =
-    sym (table_there ss' n s' is below) ∙ ap (λ ts. table_at ts n) same ∙ table_there ss n s turned.is turned.below in
-    let placed : rows_at (slice_set (rows_in ss) n t.slots) n ≡ t.slots =
-    rows_placed (rows_in ss) n t.slots (let long = rows_length ss in let there = turned.below in omega (
-      arith,
-      long,
-      there,
-    )) in
-    let slots : s'.slots ≡ t.slots =
-    sym (rows_there ss' n s' is below)
-    ∙ ap (λ (rs : Rows). rows_at rs n) (since.rows ∙ rows_set ss n t) ∙ placed in
-    subst (λ (x : Table). CanSwap w x c s'.slots) (sym table)
-    (subst (λ (x : List Slot). CanSwap w s.table c x) (sym slots)
-    (subst (λ (x : Turn). CanSwap x s.table c t.slots) (sym other) can))
-
--- and its rows are then those that were there.
+-- Where the store is turned back, its rows are those that were there.
 pub back_tables :
     (ss ss' : List Store) (n : ℕ) (u w : Turn) (c : TableChange) (s t s' t' : Store) → Turned ss n u c s t
     → Since ss ss' n t → s' ≡ get_or ss' n s' → t' ≡ with_slots s' (swapped w c s'.slots)

@@ -2,9 +2,11 @@ pub mod Stores
 pub mod StoreLaws
 pub mod Inputs
 pub mod JoinedRows
+pub mod SideRows
 pub mod TableChanges
 pub mod Swaps
 pub mod ViewStates
+pub mod AlikeRows
 pub mod LiveParts
 pub mod Arrivals
 pub mod ViewParts

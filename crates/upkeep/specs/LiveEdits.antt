@@ -8,7 +8,7 @@ use Rattle.row_keys.specs.declared.faults.EditFault.TheVariants as fault
 use Rattle.upkeep.specs.LiveParts.{LiveParts}
 use Rattle.upkeep.specs.Stores.{rows_at, rows_in, tables_in, visits_in}
 use Rattle.upkeep.specs.TableChanges.{IsChangeOf, Makes}
-use Rattle.upkeep.specs.Touched.{OpensTwice, touched}
+use Rattle.upkeep.specs.Touched.{OpensOnce, touched}
 use Rattle.upkeep.specs.declared.table_change.TableChange.{TableChange}
 
 -- Views become stale only where memory is refused.
@@ -21,11 +21,11 @@ StaleByMemory old (Err fault.Memory) new = Unit {0}
 abbrev pub NoneBecomesStale : List Bool → List Bool → Type 0
 NoneBecomesStale old new = (n : ℕ) → get_or old n false ≡ false → get_or new n false ≡ false
 
--- An edit of table n that is made opens the rows that it touches, at most twice for each view; one that doesn't fit
+-- An edit of table n that is made opens the rows that it touches, at most once for each view; one that doesn't fit
 -- opens none.
 abbrev pub VisitsOf : ℕ → LiveParts → Result TableChange EditFault → LiveParts → Type 0
 VisitsOf n old (Ok change) new =
-    OpensTwice old (touched (tables_in old.stores) old.views (rows_in new.stores) n change) new
+    OpensOnce old (touched (tables_in old.stores) old.views (rows_in new.stores) n change) new
 VisitsOf n old (Err (fault.Unfit u)) new = visits_in new.stores ≡ visits_in old.stores
 VisitsOf n old (Err fault.Memory) new = Unit {0}
 
@@ -54,4 +54,4 @@ pub record WentBack {X E : Type 0} (n : ℕ) (slots : List Slot) (rows_touched :
   pub tables : tables_in new.stores ≡ tables_in old.stores
   pub views : new.views ≡ old.views
   pub stale : OnOk answer (new.stale ≡ old.stale)
-  pub visits : OnOk answer (OpensTwice old rows_touched new)
+  pub visits : OnOk answer (OpensOnce old rows_touched new)

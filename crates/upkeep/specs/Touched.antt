@@ -44,9 +44,9 @@ touched tables views rows (suc side) change =
     count_by (refers (width_in tables) views (suc side)
     (named_keys (table_at tables (suc side)) change (rows_at rows (suc side)))) (live (rows_at rows 0))
 
--- Each view may open each row twice.
-abbrev pub OpensTwice : LiveParts → ℕ → LiveParts → Type 0
-OpensTwice old rows new = visits_in new.stores ≤ visits_in old.stores + 2 * (length old.views * rows)
+-- Each view may open each row once.
+abbrev pub OpensOnce : LiveParts → ℕ → LiveParts → Type 0
+OpensOnce old rows new = visits_in new.stores ≤ visits_in old.stores + length old.views * rows
 
 -- how many rows are opened for a view that shows this number of rows: as many for a plain view, none for groups
 abbrev pub opened_by : Outputs → ℕ → ℕ

@@ -11,7 +11,6 @@ use Rattle.std.specs.Prelude.{
   List,
   [],
   ◌∷◌,
-  ◌++◌,
   Option,
   None,
   Some,
@@ -44,7 +43,7 @@ use Rattle.sub_groups.specs.Moved.{is_moved}
 use Rattle.sub_groups.specs.SubGroups.{AreSubGroups, sub_row}
 use Rattle.top_rows.specs.Keeping.{Keeps as KeepsOrder}
 use Rattle.row_keys.specs.Numbered.{come, gone, numbered}
-use Rattle.row_keys.specs.Slots.{Slot, last_numbers, live}
+use Rattle.row_keys.specs.Slots.{Slot, last_numbers, live, row_of}
 use Rattle.upkeep.specs.Inputs.{side_by}
 use Rattle.upkeep.specs.Stores.{Rows, rows_at}
 use Rattle.upkeep.specs.Swaps.{swapped}
@@ -208,11 +207,16 @@ DiffersAt n old new = old ≡ slice_set new n (rows_at old n)
 abbrev pub swapped_at : ℕ → Turn → TableChange → Rows → Rows
 swapped_at n t c rows = slice_set rows n (swapped t c (rows_at rows n))
 
--- the change of what a view makes of these rows where the change of a side table is turned: what it made of them goes,
--- and what it makes of them comes
+-- the change of what is made of the rows of these numbers, where it was made by f and is made by g
+abbrev pub remade_by :
+    (List Datum → Option (List Datum)) → (List Datum → Option (List Datum)) → List Slot → List ℕ → List Shift
+remade_by f g slots ns = map (λ n. shift n (f (row_of slots n)) (g (row_of slots n))) ns
+
+-- the change of what a view makes of these rows where the change of a side table is turned
 abbrev pub remade_change : List Table → Rows → View → ℕ → Turn → TableChange → List ℕ → List Shift
 remade_change tables rows v n t c ns =
-    made_change tables (swapped_at n t c rows) v turn.Go ns ++ made_change tables rows v turn.Come ns
+    remade_by (made_row v (side_by tables (swapped_at n t c rows) v)) (made_row v (side_by tables rows v))
+    (rows_at rows 0) ns
 
 -- The rows before the change of a table was turned: the other tables' are the same, and of the table those are live
 -- that are live where the change is turned back.

@@ -80,7 +80,7 @@ fn turn_main_row(
         return Ok(());
     }
     let joined = join_row(stores, view, row, keys)?;
-    turn_joined(view, kept, turn, number, joined)
+    turn_joined(view, kept, turn, number, &joined)
 }
 
 /// Whether the row of this number, which comes or goes, was gone before: a row that isn't live doesn't go.
@@ -96,72 +96,6 @@ fn is_gone(stores: &[RowStore], turn: Turn, number: usize) -> bool
         Turn::Come => false,
         Turn::Go => !stores[0].is_live(number),
     }
-}
-
-/// Brings what is kept of a view up to the row of this number, which comes or goes. A row that isn't live doesn't go.
-fn turn_number(
-    stores: &mut Vec<RowStore>,
-    view: &View,
-    kept: &mut Kept,
-    turn: Turn,
-    number: usize,
-    keys: &mut KeyBuffer,
-) -> Result<(), AllocError>
-    requires view { IsView (tables_in stores.old.items) view.now }
-    requires main { 0 < length stores.old.items }
-    requires there { number < length (rows_at (rows_in stores.old.items) 0) }
-    requires fits { (rows : NumberedRows) × (IsKept view.now kept.old rows
-        × (Fits rows (made_change (tables_in stores.old.items) (rows_in stores.old.items) view.now turn (number ∷ []))
-        × (length rows < 2 ^ 62))) }
-    ensures kept { OnOk result ((rows : NumberedRows)
-        → Fits rows (made_change (tables_in stores.old.items) (rows_in stores.old.items) view.now turn (number ∷ []))
-        → IsKept view.now kept.old rows
-        → IsKept view.now kept.new (patched rows
-        (made_change (tables_in stores.old.items) (rows_in stores.old.items) view.now turn (number ∷ [])))) }
-    ensures tables { tables_in stores.new.items ≡ tables_in stores.old.items }
-    ensures rows { rows_in stores.new.items ≡ rows_in stores.old.items }
-    ensures visits { visits_in stores.new.items ≤ visits_in stores.old.items + 1 }
-{
-    if is_gone(stores, turn, number) {
-        return Ok(());
-    }
-    let visit = stores[0].visit(number);
-    let row = stores[0].row(visit);
-    turn_main_row(stores, view, kept, turn, number, row, keys)
-}
-
-/// Brings what is kept of a view up to the rows of these numbers, which come or go. Each is visited at most once.
-pub(crate) fn turn_numbers(
-    alloc: Global,
-    stores: &mut Vec<RowStore>,
-    view: &View,
-    kept: &mut Kept,
-    turn: Turn,
-    numbers: &[usize],
-) -> Result<(), AllocError>
-    requires view { IsView (tables_in stores.old.items) view.now }
-    requires main { 0 < length stores.old.items }
-    requires there { All (λ n. n < length (rows_at (rows_in stores.old.items) 0)) numbers.now }
-    requires fits { (rows : NumberedRows) × (IsKept view.now kept.old rows
-        × (Fits rows (made_change (tables_in stores.old.items) (rows_in stores.old.items) view.now turn numbers.now)
-        × IsFew rows (made_change (tables_in stores.old.items) (rows_in stores.old.items) view.now turn numbers.now))) }
-    ensures kept { OnOk result ((rows : NumberedRows)
-        → Fits rows (made_change (tables_in stores.old.items) (rows_in stores.old.items) view.now turn numbers.now)
-        → IsKept view.now kept.old rows
-        → IsKept view.now kept.new (patched rows
-        (made_change (tables_in stores.old.items) (rows_in stores.old.items) view.now turn numbers.now))) }
-    ensures tables { tables_in stores.new.items ≡ tables_in stores.old.items }
-    ensures rows { rows_in stores.new.items ≡ rows_in stores.old.items }
-    ensures visits { visits_in stores.new.items ≤ visits_in stores.old.items + length numbers.now }
-{
-    if let Kept::Live = kept {
-        return Ok(());
-    }
-    let mut keys = KeyBuffer::new(alloc);
-    for index in 0..numbers.len() {
-        turn_number(stores, view, kept, turn, numbers[index], &mut keys)?;
-    }
-    Ok(())
 }
 
 /// Brings links up to a row that the filter drops, of which this is the cell that it looks up. Such a row is in no

@@ -7,6 +7,7 @@
 //! `specs/ViewParts.antt` and `specs/TablesParts.antt` of which parts all of it is made.
 #![tactic(auto)]
 
+mod alike;
 mod all_views;
 mod arrivals;
 mod edits;
@@ -18,6 +19,9 @@ mod lookup_views;
 mod parts;
 mod reading;
 mod release;
+mod remaking;
+mod side_rows;
+mod sided_row;
 mod sub_group_moves;
 mod swaps;
 mod table_change;

@@ -4,12 +4,13 @@ ghost use Rattle.std.specs.Prelude.{◌≡◌, ◌<◌, ◌≤◌, ◌+◌, ◌*
 ghost use Rattle.values.specs.Keys.{datum_of_key};
 ghost use Rattle.view_lang.specs.ConfigRules.{IsView};
 ghost use Rattle.view_lang.specs.Shifts.{Fits, IsFew, NumberedRows, patched};
+ghost use Rattle.view_lang.specs.TableRules.{IsSideTable};
 ghost use Rattle.view_lang.specs.World.{table_at};
-ghost use Rattle.row_keys.specs.Slots.{live};
+ghost use Rattle.row_keys.specs.Slots.{live, row_of};
 ghost use Rattle.upkeep.specs.LiveParts.{AreOf};
 ghost use Rattle.upkeep.specs.Stores.{Rows, rows_at, rows_in, tables_in, visits_in};
 ghost use Rattle.upkeep.specs.Swaps.{CanSwap, named_keys, swapped};
-ghost use Rattle.upkeep.specs.Touched.{opened_for, refers};
+ghost use Rattle.upkeep.specs.Touched.{opened_for, refers, refers_by};
 ghost use Rattle.upkeep.specs.ViewStates.{
   AreCurrent,
   IsBefore,
@@ -22,9 +23,10 @@ ghost use Rattle.upkeep.specs.ViewStates.{
   width_in,
 };
 
-use crate::follow::turn_numbers;
+use crate::remaking::remake_numbers;
+use crate::side_rows::side_rows;
 use crate::sub_group_moves::move_sub_groups;
-use crate::swaps::{named_keys, swap};
+use crate::swaps::named_keys;
 use crate::table_change::TableChange;
 use crate::view_state::{Kept, Links, Turn, ViewState};
 use row_keys::{RowStore, numbers_law};
@@ -52,9 +54,10 @@ fn mark_lookups_stale(views: &[View], states: &mut Vec<ViewState>, table: usize)
     }
 }
 
-/// Brings what is kept of a view up to a change of a side table, by the rows of the main table with these numbers,
-/// which refer to rows that the change names: what the view made of them before goes, and what it makes of them now
-/// comes. After an error what is kept has no meaning.
+/// Brings what is kept of a view up to a change of a side table that names `keys`, by the rows of the main table with
+/// these numbers, which refer to these keys: what the view made of a row before goes, and what it makes of it now comes,
+/// but where the same is kept of both. Each of the rows is visited at most once. After an error what is kept has no
+/// meaning.
 fn remake_rows(
     alloc: Global,
     stores: &mut Vec<RowStore>,
@@ -63,15 +66,17 @@ fn remake_rows(
     table: usize,
     change: &TableChange,
     turn: Turn,
+    keys: &[Key],
     numbers: &[usize],
 ) -> Result<(), AllocError>
-    requires view { IsView (tables_in stores.old.items) view.now }
     requires main { 0 < length stores.old.items }
-    requires side { 0 < table }
     requires there { table < length stores.old.items }
+    requires side { IsSideTable (table_at (tables_in stores.old.items) table) }
     requires swaps { CanSwap turn (table_at (tables_in stores.old.items) table) change.now
         (rows_at (rows_in stores.old.items) table) }
     requires numbers { All (λ n. n < length (rows_at (rows_in stores.old.items) 0)) numbers.now }
+    requires refer { All (λ n. refers_by view.now.lookup table (map datum_of_key keys.now)
+        (row_of (rows_at (rows_in stores.old.items) 0) n) ≡ true) numbers.now }
     requires fits { (rows : NumberedRows) × (IsKept view.now kept.old rows
         × (Fits rows (remade_change (tables_in stores.old.items) (rows_in stores.old.items) view.now table turn
         change.now numbers.now)
@@ -86,13 +91,16 @@ fn remake_rows(
         numbers.now))) }
     ensures tables { tables_in stores.new.items ≡ tables_in stores.old.items }
     ensures rows { rows_in stores.new.items ≡ rows_in stores.old.items }
-    ensures visits { visits_in stores.new.items ≤ visits_in stores.old.items + 2 * length numbers.now }
+    ensures visits { visits_in stores.new.items ≤ visits_in stores.old.items + length numbers.now }
 {
-    swap(&mut stores[table], change, turn);
-    let gone = turn_numbers(alloc, stores, view, kept, Turn::Go, numbers);
-    swap(&mut stores[table], change, turn.opposite());
-    gone?;
-    turn_numbers(alloc, stores, view, kept, Turn::Come, numbers)
+    if let Kept::Live = kept {
+        return Ok(());
+    }
+    if numbers.is_empty() {
+        return Ok(());
+    }
+    let sides = side_rows(alloc, &mut stores[table], change, turn, keys)?;
+    remake_numbers(alloc, stores, view, kept, &sides, numbers)
 }
 
 /// Brings what is kept of a view up to a change of a side table that it looks up. Only rows of the main table are
@@ -126,7 +134,7 @@ fn follow_lookup(
     ensures tables { tables_in stores.new.items ≡ tables_in stores.old.items }
     ensures rows { rows_in stores.new.items ≡ rows_in stores.old.items }
     ensures visits { visits_in stores.new.items ≤ visits_in stores.old.items
-        + 2 * count_by (opened_for (width_in (tables_in stores.old.items)) view.now table
+        + count_by (opened_for (width_in (tables_in stores.old.items)) view.now table
         (named_keys (table_at (tables_in stores.old.items) table) change.now
         (rows_at (rows_in stores.old.items) table)))
         (live (rows_at (rows_in stores.old.items) 0)) }
@@ -150,6 +158,7 @@ fn follow_lookup(
                 table,
                 change,
                 turn,
+                keys,
                 &numbers,
             )
         }
@@ -199,11 +208,11 @@ fn follow_lookups_of(
     ensures many { length states.new.items ≡ length states.old.items }
     ensures tables { tables_in stores.new.items ≡ tables_in stores.old.items }
     ensures rows { rows_in stores.new.items ≡ rows_in stores.old.items }
-    ensures visits { visits_in stores.new.items ≤ visits_in stores.old.items + 2 * (length views.now
+    ensures visits { visits_in stores.new.items ≤ visits_in stores.old.items + length views.now
         * count_by (refers (width_in (tables_in stores.old.items)) views.now table
         (named_keys (table_at (tables_in stores.old.items) table) change.now
         (rows_at (rows_in stores.old.items) table)))
-        (live (rows_at (rows_in stores.old.items) 0))) }
+        (live (rows_at (rows_in stores.old.items) 0)) }
 {
     for place in 0..views.len() {
         let view = &views[place];
@@ -254,11 +263,11 @@ pub(crate) fn follow_lookups(
     ensures many { length states.new.items ≡ length states.old.items }
     ensures tables { tables_in stores.new.items ≡ tables_in stores.old.items }
     ensures rows { rows_in stores.new.items ≡ rows_in stores.old.items }
-    ensures visits { visits_in stores.new.items ≤ visits_in stores.old.items + 2 * (length views.now
+    ensures visits { visits_in stores.new.items ≤ visits_in stores.old.items + length views.now
         * count_by (refers (width_in (tables_in stores.old.items)) views.now table
         (named_keys (table_at (tables_in stores.old.items) table) change.now
         (rows_at (rows_in stores.old.items) table)))
-        (live (rows_at (rows_in stores.old.items) 0))) }
+        (live (rows_at (rows_in stores.old.items) 0)) }
 {
     let keys = match named_keys(alloc, &stores[table], change, turn) {
         Ok(keys) => keys,

@@ -10,7 +10,6 @@ ghost use Rattle.view_lang.specs.Views.{shown_row};
 ghost use Rattle.group_order.specs.Ranked.{Keeps as KeepsRanked};
 ghost use Rattle.lookups.specs.Keeping.{Keeps as KeepsReferrers};
 ghost use Rattle.top_rows.specs.Keeping.{Keeps as KeepsOrder};
-ghost use Rattle.upkeep.specs.JoinedRows.{joined_cells};
 ghost use Rattle.group_state.specs.Groups.{Keeps as KeepsGroups};
 ghost use Rattle.sub_groups.specs.SubGroups.{IsSame};
 ghost use Rattle.upkeep.specs.ViewStates.{
@@ -25,7 +24,6 @@ ghost use Rattle.upkeep.specs.ViewStates.{
   turned_by,
 };
 
-use crate::joined_row::JoinedRow;
 use crate::view_state::{Kept, Links, Turn};
 use group_order::RankedGroups;
 use lookups::Referrers;
@@ -127,27 +125,27 @@ fn turn_row<R: RowView>(
 
 /// Brings what is kept of a view up to a row of the main table that comes or goes, joined; `None` changes nothing: the
 /// view leaves the row out. After an error what is kept has no meaning.
-pub(crate) fn turn_joined(
+pub(crate) fn turn_joined<R: RowView>(
     view: &View,
     kept: &mut Kept,
     turn: Turn,
     number: usize,
-    joined: Option<JoinedRow<'_>>,
+    joined: &Option<R>,
 ) -> Result<(), AllocError>
     requires { (rows : NumberedRows) × (IsKept view.now kept.old rows
-        × (Fits rows (turned_by turn number (made_by view.now.outputs (option_map joined_cells joined)) ∷ [])
+        × (Fits rows (turned_by turn number (made_by view.now.outputs (option_map R.cells joined.now)) ∷ [])
         × (length rows < 2 ^ 62))) }
     ensures columns { OnOk result (columns_in kept.new ≡ columns_in kept.old) }
     ensures kept { OnOk result ((rows : NumberedRows)
-        → Fits rows (turned_by turn number (made_by view.now.outputs (option_map joined_cells joined.entry)) ∷ [])
+        → Fits rows (turned_by turn number (made_by view.now.outputs (option_map R.cells joined.now)) ∷ [])
         → IsKept view.now kept.old rows
         → IsKept view.now kept.new
-        (patched rows (turned_by turn number (made_by view.now.outputs (option_map joined_cells joined.entry)) ∷ []))) }
+        (patched rows (turned_by turn number (made_by view.now.outputs (option_map R.cells joined.now)) ∷ []))) }
 {
     let Some(row) = joined else {
         return Ok(());
     };
-    turn_row(view, kept, turn, number, &row)
+    turn_row(view, kept, turn, number, row)
 }
 
 /// Brings referrers up to the cell by which a row refers.

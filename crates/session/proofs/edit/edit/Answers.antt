@@ -6,7 +6,7 @@ use Rattle.row_keys.specs.Store.{Refuses}
 use Rattle.upkeep.specs.Stores.{Rows, rows_at, rows_in, tables_in}
 use Rattle.upkeep.specs.StoreLaws.{rows_length}
 use Rattle.session.specs.Changes.{edit_by}
-use Rattle.upkeep.specs.Touched.{OpensTwice, touched}
+use Rattle.upkeep.specs.Touched.{OpensOnce, touched}
 use Rattle.session.specs.Shows.{HoldsBack, ShowsPast}
 use Rattle.session.specs.Steps.{Past, unfit_in}
 use Rattle.session.proofs.Pasts.{edit_refused, edit_shown, edit_whole}
@@ -78,7 +78,7 @@ returns-clause-visits c =
     ≡ touched (tables_in c.args.tables.now.stores) vs (rows_in c.edit.new.self.stores) c.table_of-table.result
     c.in_ok-change.change in
     let N : ℕ → Type 0 = λ n.
-    OpensTwice c.args.tables.now
+    OpensOnce c.args.tables.now
     (touched (tables_in c.args.tables.now.stores) c.args.tables.now.views (rows_in c.edit.new.self.stores) n
     c.in_ok-change.change) c.edit.new.self in
     opens_after c.args.tables.now c.edit.new.self c.record_change.new.tables c.record_change.new.records.items

@@ -16,9 +16,11 @@ use Rattle.upkeep.proofs.FollowedLookups.{
   counted,
   current_without,
   left_as_was,
+  looked_side,
   neither_one,
   on_ok,
   on_ok_two,
+  refer_all,
   remade_kept,
   remake_needs,
   there,
@@ -39,16 +41,12 @@ pub remake_rows-requires-clause-numbers : goal.remake_rows-requires-clause-numbe
 remake_rows-requires-clause-numbers c =
     let laws : Laws = record {
       fits = c.image_law.ensures.fits;
-      patched = c.image_law.ensures.patched;
       at = c.image_law.ensures.at;
       keys = c.key_law.ensures.ordered;
       ascend = c.numbers_law.ensures.ascend;
       live = c.numbers_law.ensures.live;
       numbers = c.numbers_law.ensures.at;
       can_go = c.numbers_law.ensures.can_go;
-      retracted = c.numbers_law.ensures.retracted;
-      come_back = c.numbers_law.ensures.come_back;
-      add = c.numbers_law.ensures.add;
       few = c.numbers_law.ensures.few_retracted;
     } in
     let seen : (c.args.state.now.stale ≡ false) × (looks_up c.args.view.now.lookup c.args.table ≡ true) =
@@ -65,20 +63,49 @@ remake_rows-requires-clause-numbers c =
     c.requires.side (rows_below c.args.stores.now.items c.args.table c.requires.there) seen.1 seen.0
     c.requires.keys ascends c.in-Rows.referrers c.in-Rows.is named c.requires.current.0 c.requires.current.1 c.requires.current.2
 
-pub returns-in_ok-numbers-in-Rows-clause-visits : goal.returns-in_ok-numbers-in-Rows-clause-visits
-returns-in_ok-numbers-in-Rows-clause-visits c =
+pub remake_rows-requires-clause-refer : goal.remake_rows-requires-clause-refer
+remake_rows-requires-clause-refer c =
     let laws : Laws = record {
       fits = c.image_law.ensures.fits;
-      patched = c.image_law.ensures.patched;
       at = c.image_law.ensures.at;
       keys = c.key_law.ensures.ordered;
       ascend = c.numbers_law.ensures.ascend;
       live = c.numbers_law.ensures.live;
       numbers = c.numbers_law.ensures.at;
       can_go = c.numbers_law.ensures.can_go;
-      retracted = c.numbers_law.ensures.retracted;
-      come_back = c.numbers_law.ensures.come_back;
-      add = c.numbers_law.ensures.add;
+      few = c.numbers_law.ensures.few_retracted;
+    } in
+    let seen : (c.args.state.now.stale ≡ false) × (looks_up c.args.view.now.lookup c.args.table ≡ true) =
+    neither_one c.args.state.now.stale (looks_up c.args.view.now.lookup c.args.table)
+    (ap (λ b. c.args.state.now.stale || not b) (sym c.looks_up.ensures) ∙ c.if-state-looks_up.false) in
+    let named : (m : ℕ) → is_among c.deref.result.now m
+    ≡ list_any (λ k. refers c.in-Rows.referrers k m) c.args.keys.now = λ m.
+    ap (λ ns. is_among ns m) c.deref.ensures.value ∙ c.in_ok-numbers-in-Rows.ensures.numbers m in
+    let ascends : IsStrictlySortedBy nat_cmp c.deref.result.now =
+    subst (λ (ns : List ℕ). IsStrictlySortedBy nat_cmp ns) (sym c.deref.ensures.value)
+    c.in_ok-numbers-in-Rows.ensures.ascending in
+    refer_all laws (tables_in c.args.stores.now.items) c.args.table c.args.turn c.args.change.now
+    (rows_in c.args.stores.now.items) c.args.view.now c.args.state.now c.args.keys.now c.deref.result.now
+    c.requires.side (rows_below c.args.stores.now.items c.args.table c.requires.there) seen.1 seen.0
+    c.requires.keys ascends c.in-Rows.referrers c.in-Rows.is named c.requires.current.0 c.requires.current.1 c.requires.current.2
+
+pub remake_rows-requires-clause-side : goal.remake_rows-requires-clause-side
+remake_rows-requires-clause-side c =
+    let seen : (c.args.state.now.stale ≡ false) × (looks_up c.args.view.now.lookup c.args.table ≡ true) =
+    neither_one c.args.state.now.stale (looks_up c.args.view.now.lookup c.args.table)
+    (ap (λ b. c.args.state.now.stale || not b) (sym c.looks_up.ensures) ∙ c.if-state-looks_up.false) in
+    looked_side (tables_in c.args.stores.now.items) c.args.view.now.lookup c.args.table c.requires.view.lookup seen.1
+
+pub returns-in_ok-numbers-in-Rows-clause-visits : goal.returns-in_ok-numbers-in-Rows-clause-visits
+returns-in_ok-numbers-in-Rows-clause-visits c =
+    let laws : Laws = record {
+      fits = c.image_law.ensures.fits;
+      at = c.image_law.ensures.at;
+      keys = c.key_law.ensures.ordered;
+      ascend = c.numbers_law.ensures.ascend;
+      live = c.numbers_law.ensures.live;
+      numbers = c.numbers_law.ensures.at;
+      can_go = c.numbers_law.ensures.can_go;
       few = c.numbers_law.ensures.few_retracted;
     } in
     let seen : (c.args.state.now.stale ≡ false) × (looks_up c.args.view.now.lookup c.args.table ≡ true) =
@@ -101,16 +128,12 @@ pub remake_rows-requires-clause-fits : goal.remake_rows-requires-clause-fits
 remake_rows-requires-clause-fits c =
     let laws : Laws = record {
       fits = c.image_law.ensures.fits;
-      patched = c.image_law.ensures.patched;
       at = c.image_law.ensures.at;
       keys = c.key_law.ensures.ordered;
       ascend = c.numbers_law.ensures.ascend;
       live = c.numbers_law.ensures.live;
       numbers = c.numbers_law.ensures.at;
       can_go = c.numbers_law.ensures.can_go;
-      retracted = c.numbers_law.ensures.retracted;
-      come_back = c.numbers_law.ensures.come_back;
-      add = c.numbers_law.ensures.add;
       few = c.numbers_law.ensures.few_retracted;
     } in
     let seen : (c.args.state.now.stale ≡ false) × (looks_up c.args.view.now.lookup c.args.table ≡ true) =
@@ -136,16 +159,12 @@ pub returns-in_ok-numbers-in-Rows-clause-kept : goal.returns-in_ok-numbers-in-Ro
 returns-in_ok-numbers-in-Rows-clause-kept c =
     let laws : Laws = record {
       fits = c.image_law.ensures.fits;
-      patched = c.image_law.ensures.patched;
       at = c.image_law.ensures.at;
       keys = c.key_law.ensures.ordered;
       ascend = c.numbers_law.ensures.ascend;
       live = c.numbers_law.ensures.live;
       numbers = c.numbers_law.ensures.at;
       can_go = c.numbers_law.ensures.can_go;
-      retracted = c.numbers_law.ensures.retracted;
-      come_back = c.numbers_law.ensures.come_back;
-      add = c.numbers_law.ensures.add;
       few = c.numbers_law.ensures.few_retracted;
     } in
     let seen : (c.args.state.now.stale ≡ false) × (looks_up c.args.view.now.lookup c.args.table ≡ true) =

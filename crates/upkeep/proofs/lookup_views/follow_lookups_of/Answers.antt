@@ -1,4 +1,4 @@
-use Rattle.std.proofs.Common.{◌≡◌, ◌≤◌, ◌+◌, ◌*◌, List, ap, arith, length, map, subst, sym, ◌∙◌}
+use Rattle.std.proofs.Common.{◌≡◌, ◌≤◌, ◌+◌, List, ap, arith, length, map, subst, sym, ◌∙◌}
 use Rattle.std.specs.Prelude.{slice_set}
 use Rattle.std.proofs.lemmas.List.{length-set}
 use Rattle.values.specs.Keys.{datum_of_key}
@@ -136,7 +136,7 @@ loop-place-preserved c = record {
       c.loop-place.invariant.visits
       (moved (λ (ts : List Table) (rs : Rows). visits_in c.follow_lookup.new.stores.items
       ≤ visits_in c.loop-place.stores.items
-      + 2 * referring_at (opened_for (width_in ts) c.index-views-place.result c.args.table) c.args.table c.args.change.now ts
+      + referring_at (opened_for (width_in ts) c.index-views-place.result c.args.table) c.args.table c.args.change.now ts
       rs)
       c.loop-place.stores.items c.args.stores.now.items (sym c.loop-place.invariant.tables)
       (sym c.loop-place.invariant.rows) c.follow_lookup.ensures.visits)
@@ -188,7 +188,7 @@ returns-in-Err-clause-visits c =
     all c.loop-place.invariant.visits
     (moved (λ (ts : List Table) (rs : Rows). visits_in c.follow_lookup.new.stores.items
     ≤ visits_in c.loop-place.stores.items
-    + 2 * referring_at (opened_for (width_in ts) c.index-views-place.result c.args.table) c.args.table c.args.change.now ts rs)
+    + referring_at (opened_for (width_in ts) c.index-views-place.result c.args.table) c.args.table c.args.change.now ts rs)
     c.loop-place.stores.items c.args.stores.now.items (sym c.loop-place.invariant.tables)
     (sym c.loop-place.invariant.rows) c.follow_lookup.ensures.visits)
     (view_counted (width_in (tables_in c.args.stores.now.items)) c.args.views.now c.loop-place.place c.index-views-place.result c.args.table

@@ -18,6 +18,6 @@ invariant-loop-place l = record {
   visits :
       visits_in l.stores.items
       ≤ visits_in l.fn.stores.items
-      + 2 * (l.place * referring_at (refers (width_in (tables_in l.fn.stores.items)) l.views l.table) l.table l.change (tables_in l.fn.stores.items)
-      (rows_in l.fn.stores.items));
+      + l.place * referring_at (refers (width_in (tables_in l.fn.stores.items)) l.views l.table) l.table l.change
+      (tables_in l.fn.stores.items) (rows_in l.fn.stores.items);
 }

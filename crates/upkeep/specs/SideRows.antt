@@ -1,0 +1,44 @@
+-- Rows of a side table by their keys, as they are where a change is there, and where it isn't.
+use Rattle.std.specs.Prelude.{◌≡◌, ◌++◌, true, cond, List, Option, None, Some, Vec}
+use Rattle.std.specs.BTreeMap.{is_at}
+use Rattle.std.specs.Map.{lookup}
+use Rattle.std.specs.Option.{option_and_then, option_map}
+use Rattle.std.specs.declared.alloc.Global.{Global}
+use Rattle.values.specs.Datum.{Datum}
+use Rattle.values.specs.Keys.{key_of}
+use Rattle.values.specs.declared.key.Key.{Key}
+use Rattle.view_lang.specs.Config.{View}
+use Rattle.view_lang.specs.Contents.{is_among}
+use Rattle.view_lang.specs.Joined.{Side, joined_by}
+use Rattle.view_lang.specs.Truth.{passes}
+use Rattle.lookups.specs.Refers.{key_cmp}
+use Rattle.upkeep.specs.JoinedRows.{side_cells}
+use Rattle.upkeep.specs.declared.sided_row.SidedRow.{SidedRow}
+
+-- the row under each of some keys, or that there is none
+abbrev pub RowsByKey : Type 0
+RowsByKey = List (Key × Option (Vec Datum Global))
+
+-- what is known of a key: nothing, that it has no row, or its row
+abbrev pub known_at : RowsByKey → Option Key → Option (Option (Vec Datum Global))
+known_at rows k = option_and_then (λ x. lookup (is_at (key_cmp x)) rows) k
+
+abbrev pub row_in : Option (Option (Vec Datum Global)) → Option (List Datum)
+row_in None = None
+row_in (Some None) = None
+row_in (Some (Some row)) = Some row.items
+
+-- the side table that these rows are
+abbrev pub side_of_rows : RowsByKey → Side
+side_of_rows rows d = row_in (known_at rows (key_of d))
+
+-- Under each of these keys stands what a side table has.
+abbrev pub AreOfKeys : List Datum → Side → RowsByKey → Type 0
+AreOfKeys keys side rows = (d : Datum) → is_among d keys ≡ true → side_of_rows rows d ≡ side d
+
+-- what a view makes of a row with this row of a side table, joined and filtered
+abbrev pub kept_with : View → List Datum → Option (List Datum) → Option (List Datum)
+kept_with v row found = option_and_then (λ r. cond (passes v.filter r) (Some r) None) (joined_by v.lookup row found)
+
+abbrev pub sided_cells : SidedRow → List Datum
+sided_cells s = s.main.now ++ side_cells (option_map (λ cells. cells.now) s.side) s.nulls

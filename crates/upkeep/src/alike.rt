@@ -1,0 +1,83 @@
+//! Joined rows of which the same is kept.
+
+ghost use Rattle.std.specs.Prelude.{◌≡◌};
+ghost use Rattle.std.specs.List.{list_any};
+ghost use Rattle.values.specs.CellViews.{viewed};
+ghost use Rattle.upkeep.specs.AlikeRows.{are_alike, are_same, differ_in};
+
+use crate::view_state::Kept;
+use group_state::KeptColumn;
+use values::{CellView, cmp_cells};
+use view_lang::{OrderBy, Outputs, RowView, ShownRow, View};
+
+/// Whether two cells are known to have the same value. Of lists and structs it isn't known.
+fn is_same_cell(a: CellView<'_>, b: CellView<'_>) -> bool
+    ensures { result ≡ are_same (viewed a.entry) (viewed b.entry) }
+{
+    match a {
+        CellView::List => false,
+        CellView::Struct => false,
+        _ => cmp_cells(a, b).is_eq(),
+    }
+}
+
+/// Whether two rows differ in a column, or may differ.
+fn differs<R: RowView>(a: &R, b: &R, column: usize) -> bool
+    ensures { result ≡ differ_in (R.cells a.now) (R.cells b.now) column }
+{
+    !is_same_cell(a.cell(column), b.cell(column))
+}
+
+/// Whether two rows differ in a column by which rows are ordered.
+fn differs_in_order<R: RowView>(order: &[OrderBy], a: &R, b: &R) -> bool
+    ensures { result ≡ list_any (λ by. differ_in (R.cells a.now) (R.cells b.now) by.column) order.now }
+{
+    for by in order {
+        if differs(a, b, by.column) {
+            return true;
+        }
+    }
+    false
+}
+
+/// Whether two rows differ in a column of a grouping tuple.
+fn differs_in_tuple<R: RowView>(columns: &[usize], a: &R, b: &R) -> bool
+    ensures { result ≡ list_any (differ_in (R.cells a.now) (R.cells b.now)) columns.now }
+{
+    for column in columns {
+        if differs(a, b, *column) {
+            return true;
+        }
+    }
+    false
+}
+
+/// Whether two rows differ in a column of which groups keep something.
+fn differs_in_kept<R: RowView>(columns: &[KeptColumn], a: &R, b: &R) -> bool
+    ensures { result ≡ list_any (λ c. differ_in (R.cells a.now) (R.cells b.now) c.column) columns.now }
+{
+    for kept in columns {
+        if differs(a, b, kept.column) {
+            return true;
+        }
+    }
+    false
+}
+
+/// Whether the same is kept of two joined rows that a view's filter keeps: they have the same cells in the columns by
+/// which the view orders its rows, or in those by which its groups are made and of which they keep something.
+pub(crate) fn is_kept_alike<R: RowView>(view: &View, kept: &Kept, a: &R, b: &R) -> bool
+    ensures { result ≡ are_alike view.now kept.now (R.cells a.now) (R.cells b.now) }
+{
+    match (&view.outputs, kept) {
+        (Outputs::Columns(outputs), Kept::Order(_)) => {
+            let shown_a = ShownRow { outputs, row: a };
+            let shown_b = ShownRow { outputs, row: b };
+            !differs_in_order(&view.order, &shown_a, &shown_b)
+        }
+        (Outputs::Groups { by, .. }, Kept::Groups(groups)) => {
+            !differs_in_tuple(by, a, b) && !differs_in_kept(groups.columns(), a, b)
+        }
+        _ => false,
+    }
+}

@@ -1,0 +1,142 @@
+//! Brings what is kept of a view up to rows of the main table for which another row of a side table is looked up.
+
+ghost use Rattle.std.specs.Prelude.{◌≡◌, ◌<◌, ◌≤◌, ◌+◌, ◌^◌, [], ◌∷◌, All, OnOk, length, true};
+ghost use Rattle.std.specs.Option.{option_map};
+ghost use Rattle.view_lang.specs.Shifts.{Fits, IsFew, NumberedRows, patched, shift};
+ghost use Rattle.upkeep.specs.AlikeRows.{are_kept_alike};
+ghost use Rattle.upkeep.specs.SideRows.{side_of_rows, sided_cells};
+ghost use Rattle.upkeep.specs.Stores.{rows_at, rows_in, tables_in, visits_in};
+ghost use Rattle.upkeep.specs.ViewStates.{IsKept, made_by, made_row, remade_by};
+
+use crate::alike::is_kept_alike;
+use crate::side_rows::{SideRows, row_for};
+use crate::sided_row::{SidedRow, keep_row};
+use crate::turning::turn_joined;
+use crate::view_state::{Kept, Turn};
+use row_keys::RowStore;
+use std::alloc::{AllocError, Global};
+use values::KeyBuffer;
+use view_lang::View;
+
+/// Whether the same is kept of what a view made of a row, joined, and of what it makes of it now; `None` where it
+/// leaves the row out.
+fn is_remade_alike(
+    view: &View,
+    kept: &Kept,
+    before: &Option<SidedRow<'_>>,
+    after: &Option<SidedRow<'_>>,
+) -> bool
+    ensures { result ≡ are_kept_alike view.now kept.now (option_map sided_cells before.now)
+        (option_map sided_cells after.now) }
+{
+    match (before, after) {
+        (None, None) => true,
+        (Some(before), Some(after)) => is_kept_alike(view, kept, before, after),
+        _ => false,
+    }
+}
+
+/// Brings what is kept of a view up to a row of which the view made one thing and makes another now, joined; `None`
+/// where it leaves the row out. Where the same is kept of both, nothing is touched. After an error what is kept has no
+/// meaning.
+fn remake_row(
+    view: &View,
+    kept: &mut Kept,
+    number: usize,
+    before: &Option<SidedRow<'_>>,
+    after: &Option<SidedRow<'_>>,
+) -> Result<(), AllocError>
+    requires { (rows : NumberedRows) × (IsKept view.now kept.old rows
+        × (Fits rows (shift number (made_by view.now.outputs (option_map sided_cells before.now))
+        (made_by view.now.outputs (option_map sided_cells after.now)) ∷ []) × (length rows < 2 ^ 62))) }
+    ensures kept { OnOk result ((rows : NumberedRows)
+        → Fits rows (shift number (made_by view.now.outputs (option_map sided_cells before.now))
+        (made_by view.now.outputs (option_map sided_cells after.now)) ∷ [])
+        → IsKept view.now kept.old rows
+        → IsKept view.now kept.new
+        (patched rows (shift number (made_by view.now.outputs (option_map sided_cells before.now))
+        (made_by view.now.outputs (option_map sided_cells after.now)) ∷ []))) }
+    ensures left { are_kept_alike view.now kept.old (option_map sided_cells before.now)
+        (option_map sided_cells after.now) ≡ true → kept.new ≡ kept.old }
+{
+    if is_remade_alike(view, kept, before, after) {
+        return Ok(());
+    }
+    turn_joined(view, kept, Turn::Go, number, before)?;
+    turn_joined(view, kept, Turn::Come, number, after)
+}
+
+/// Brings what is kept of a view up to the row of this number, for which another row of a side table is looked up. The
+/// row is visited once.
+fn remake_number(
+    stores: &mut Vec<RowStore>,
+    view: &View,
+    kept: &mut Kept,
+    sides: &SideRows,
+    number: usize,
+    keys: &mut KeyBuffer,
+) -> Result<(), AllocError>
+    requires main { 0 < length stores.old.items }
+    requires there { number < length (rows_at (rows_in stores.old.items) 0) }
+    requires fits { (rows : NumberedRows) × (IsKept view.now kept.old rows
+        × (Fits rows (remade_by (made_row view.now (side_of_rows sides.now.before.entries))
+        (made_row view.now (side_of_rows sides.now.after.entries)) (rows_at (rows_in stores.old.items) 0)
+        (number ∷ [])) × (length rows < 2 ^ 62))) }
+    ensures kept { OnOk result ((rows : NumberedRows)
+        → Fits rows (remade_by (made_row view.now (side_of_rows sides.now.before.entries))
+        (made_row view.now (side_of_rows sides.now.after.entries)) (rows_at (rows_in stores.old.items) 0)
+        (number ∷ []))
+        → IsKept view.now kept.old rows
+        → IsKept view.now kept.new (patched rows
+        (remade_by (made_row view.now (side_of_rows sides.now.before.entries))
+        (made_row view.now (side_of_rows sides.now.after.entries)) (rows_at (rows_in stores.old.items) 0)
+        (number ∷ [])))) }
+    ensures tables { tables_in stores.new.items ≡ tables_in stores.old.items }
+    ensures rows { rows_in stores.new.items ≡ rows_in stores.old.items }
+    ensures visits { visits_in stores.new.items ≤ visits_in stores.old.items + 1 }
+{
+    let visit = stores[0].visit(number);
+    let row = stores[0].row(visit);
+    let side_before = row_for(&sides.before, view.lookup, &row, keys)?;
+    let side_after = row_for(&sides.after, view.lookup, &row, keys)?;
+    let before = keep_row(view, &row, side_before);
+    let after = keep_row(view, &row, side_after);
+    remake_row(view, kept, number, &before, &after)
+}
+
+/// Brings what is kept of a view up to the rows of these numbers, for which other rows of a side table are looked up.
+/// Each is visited at most once. After an error what is kept has no meaning.
+pub(crate) fn remake_numbers(
+    alloc: Global,
+    stores: &mut Vec<RowStore>,
+    view: &View,
+    kept: &mut Kept,
+    sides: &SideRows,
+    numbers: &[usize],
+) -> Result<(), AllocError>
+    requires main { 0 < length stores.old.items }
+    requires there { All (λ n. n < length (rows_at (rows_in stores.old.items) 0)) numbers.now }
+    requires fits { (rows : NumberedRows) × (IsKept view.now kept.old rows
+        × (Fits rows (remade_by (made_row view.now (side_of_rows sides.now.before.entries))
+        (made_row view.now (side_of_rows sides.now.after.entries)) (rows_at (rows_in stores.old.items) 0) numbers.now)
+        × IsFew rows (remade_by (made_row view.now (side_of_rows sides.now.before.entries))
+        (made_row view.now (side_of_rows sides.now.after.entries)) (rows_at (rows_in stores.old.items) 0)
+        numbers.now))) }
+    ensures kept { OnOk result ((rows : NumberedRows)
+        → Fits rows (remade_by (made_row view.now (side_of_rows sides.now.before.entries))
+        (made_row view.now (side_of_rows sides.now.after.entries)) (rows_at (rows_in stores.old.items) 0) numbers.now)
+        → IsKept view.now kept.old rows
+        → IsKept view.now kept.new (patched rows
+        (remade_by (made_row view.now (side_of_rows sides.now.before.entries))
+        (made_row view.now (side_of_rows sides.now.after.entries)) (rows_at (rows_in stores.old.items) 0)
+        numbers.now))) }
+    ensures tables { tables_in stores.new.items ≡ tables_in stores.old.items }
+    ensures rows { rows_in stores.new.items ≡ rows_in stores.old.items }
+    ensures visits { visits_in stores.new.items ≤ visits_in stores.old.items + length numbers.now }
+{
+    let mut keys = KeyBuffer::new(alloc);
+    for index in 0..numbers.len() {
+        remake_number(stores, view, kept, sides, numbers[index], &mut keys)?;
+    }
+    Ok(())
+}
