@@ -6,6 +6,7 @@ ghost use Rattle.dictionaries.specs.Batches.{batch};
 ghost use Rattle.dictionaries.specs.Table.{Changes, Takes, change_of, found, values_in, HasRoom};
 
 use crate::dictionary::Dictionary;
+use crate::latest::Latest;
 use crate::value_runs::ValueRuns;
 use indexmap::IndexMap;
 use std::alloc::{AllocError, Global};
@@ -17,7 +18,7 @@ use std::marker::Model;
 #[derive(Drop)]
 pub struct Dicts {
     alloc: Global,
-    by_id: IndexMap<i64, Dictionary>,
+    by_id: IndexMap<i64, Latest>,
 }
 
 impl Model for Dicts {
@@ -36,7 +37,7 @@ impl Model for Dicts {
 #[derive(Drop)]
 pub struct Ready {
     id: i64,
-    dictionary: Dictionary,
+    latest: Latest,
 }
 
 impl Model for Ready {
@@ -46,7 +47,7 @@ impl Model for Ready {
 
     ghost coded = { change_code };
 
-    ghost view = { λ r. change r.id r.dictionary };
+    ghost view = { λ r. change r.id r.latest };
 }
 
 impl Dicts {
@@ -64,7 +65,10 @@ impl Dicts {
     pub fn lookup(&self, id: i64) -> Option<&Dictionary>
         ensures { option_copied result ≡ found self.now id }
     {
-        self.by_id.get(&id)
+        match self.by_id.get(&id) {
+            Some(latest) => Some(latest.dictionary()),
+            None => None,
+        }
     }
 
     /// The dictionary of an id as it is now, shared: empty where no batch came for it.
@@ -88,12 +92,12 @@ impl Dicts {
         ensures ready { IfOk result (λ r. r ≡ change_of self.old (batch id is_delta values)) }
         ensures room { OnOk result (HasRoom self.new) }
     {
-        let dictionary = match self.lookup(id) {
+        let latest = match self.by_id.get(&id) {
             Some(before) if is_delta => before.extended(self.alloc, values)?,
-            _ => Dictionary::of(self.alloc, values)?,
+            _ => Latest::of(self.alloc, values)?,
         };
         self.by_id.reserve(1)?;
-        Ok(Ready { id, dictionary })
+        Ok(Ready { id, latest })
     }
 
     /// Makes a prepared change. It takes no memory.
@@ -101,8 +105,23 @@ impl Dicts {
         requires { HasRoom self.old }
         ensures { Changes self.old self.new ready }
     {
-        let Ready { id, dictionary } = ready;
-        self.by_id.insert(id, dictionary).unwrap();
+        let Ready { id, latest } = ready;
+        self.by_id.insert(id, latest).unwrap();
+    }
+
+    /// Counts slots of a record batch: so many stand for values of each dictionary. A dictionary whose values can't be
+    /// lent as a slice is laid in one part, of copies, once there were enough slots to pay for it. Each keeps its
+    /// values, and one that was handed out stays as it is.
+    #[tactic(auto, using(crate::proofs::GatherLemmas::replacing))]
+    pub fn count_slots(&mut self, slots: usize) -> Result<(), AllocError>
+        ensures { self.new.entries ≡ self.old.entries }
+    {
+        for i in 0..self.by_id.len() {
+            if let Some(latest) = self.by_id.get_index_mut(i) {
+                latest.count_slots(self.alloc, slots)?;
+            }
+        }
+        Ok(())
     }
 
     /// Applies a dictionary batch: `values` replace those of the id, or are added to them if `is_delta`. If memory is

@@ -17,6 +17,8 @@ use values::Value;
 pub struct Dictionary {
     chunks: Rc<Vec<Chunk>>,
     len: usize,
+    // The bytes that a copy of each value takes.
+    weight: usize,
 }
 
 impl Model for Dictionary {
@@ -40,9 +42,14 @@ impl Dictionary {
         ensures { IfOk result (λ d. d ≡ values) }
     {
         let len = values.len();
+        let weight = values.weight();
         let chunks = extend(alloc, &[], values)?;
         let chunks = Rc::new(alloc, chunks)?;
-        Ok(Dictionary { chunks, len })
+        Ok(Dictionary {
+            chunks,
+            len,
+            weight,
+        })
     }
 
     /// A dictionary of its values followed by these. It shares most of its values.
@@ -54,9 +61,38 @@ impl Dictionary {
         ensures { IfOk result (λ d. d ≡ self.now ++ values) }
     {
         let len = self.len.checked_add(values.len()).ok_or(AllocError)?;
+        let weight = self.weight.saturating_add(values.weight());
         let chunks = extend(alloc, self.chunks.as_ref().as_slice(), values)?;
         let chunks = Rc::new(alloc, chunks)?;
-        Ok(Dictionary { chunks, len })
+        Ok(Dictionary {
+            chunks,
+            len,
+            weight,
+        })
+    }
+
+    /// Copies all values.
+    #[tactic(auto, using(crate::proofs::GatherLemmas::copying))]
+    fn copy_values(&self, alloc: Global) -> Result<Vec<Value>, AllocError>
+        ensures { IfOk result (λ values. values.items ≡ self.now) }
+    {
+        let mut values = Vec::with_capacity(alloc, self.len)?;
+        for i in 0..self.len() {
+            values.push(self.get(i).unwrap().copy(alloc)?)?;
+        }
+        Ok(values)
+    }
+
+    /// The same dictionary, of copies of its values, which lie in one part, each by itself.
+    pub(crate) fn gathered(&self, alloc: Global) -> Result<Dictionary, AllocError>
+        ensures { IfOk result (λ d. d ≡ self.now) }
+    {
+        Dictionary::of(alloc, ValueRuns::each(self.copy_values(alloc)?))
+    }
+
+    /// The bytes that a copy of each value takes.
+    pub(crate) fn weight(&self) -> usize {
+        self.weight
     }
 
     /// The same dictionary, shared. No value is copied.
@@ -64,8 +100,13 @@ impl Dictionary {
         ensures { IfOk result (λ d. d ≡ self.now) }
     {
         let len = self.len;
+        let weight = self.weight;
         let chunks = self.chunks.clone()?;
-        Ok(Dictionary { chunks, len })
+        Ok(Dictionary {
+            chunks,
+            len,
+            weight,
+        })
     }
 
     /// The number of values.

@@ -8,6 +8,7 @@
 mod chunks;
 mod dictionaries;
 mod dictionary;
+mod latest;
 mod laws;
 mod run_ends;
 #[cfg(test)]

@@ -218,3 +218,54 @@ fn repeated_values_are_no_slice(rt: HostRuntime) -> Result<(), Fail> {
     assert!(rt; dictionaries.lookup(8).ok_or("none")?.as_slice().is_none());
     Ok(())
 }
+
+/// A dictionary 7 of the numbers from 1 to 4, which lies in two parts.
+fn of_two_parts(alloc: Global) -> Result<Dicts, AllocError> {
+    let mut dictionaries = Dicts::new(alloc);
+    bring(&mut dictionaries, alloc, 7, false, &[1, 2, 3])?;
+    bring(&mut dictionaries, alloc, 7, true, &[4])?;
+    Ok(dictionaries)
+}
+
+#[test]
+fn values_of_many_slots_are_gathered(rt: HostRuntime) -> Result<(), Fail> {
+    let alloc = rt.alloc();
+    let mut dictionaries = of_two_parts(alloc)?;
+    let handed_out = dictionaries.share(7)?;
+    dictionaries.count_slots(100)?;
+    assert!(rt; stands(&dictionaries, 7, &[1, 2, 3, 4]));
+    let gathered = dictionaries.share(7)?;
+    assert_eq!(rt; gathered.as_slice().ok_or("several parts")?.len(), 4);
+    assert!(rt; handed_out.as_slice().is_none());
+    assert!(rt; holds(&handed_out, &[1, 2, 3, 4]));
+    bring(&mut dictionaries, alloc, 7, true, &[5])?;
+    assert!(rt; stands(&dictionaries, 7, &[1, 2, 3, 4, 5]));
+    assert!(rt; holds(&gathered, &[1, 2, 3, 4]));
+    Ok(())
+}
+
+#[test]
+fn few_slots_gather_nothing_until_they_are_many(rt: HostRuntime) -> Result<(), Fail> {
+    let alloc = rt.alloc();
+    let mut dictionaries = of_two_parts(alloc)?;
+    dictionaries.count_slots(20)?;
+    assert!(rt; dictionaries.share(7)?.as_slice().is_none());
+    dictionaries.count_slots(20)?;
+    assert!(rt; dictionaries.share(7)?.as_slice().is_some());
+    bring(&mut dictionaries, alloc, 7, true, &[5])?;
+    dictionaries.count_slots(20)?;
+    assert!(rt; dictionaries.share(7)?.as_slice().is_none());
+    Ok(())
+}
+
+#[test]
+fn repeated_values_are_gathered_too(rt: HostRuntime) -> Result<(), Fail> {
+    let alloc = rt.alloc();
+    let mut dictionaries = Dicts::new(alloc);
+    dictionaries.apply(8, false, nulls(alloc, 3)?)?;
+    dictionaries.count_slots(100)?;
+    let gathered = dictionaries.share(8)?;
+    assert_eq!(rt; gathered.as_slice().ok_or("runs")?.len(), 3);
+    assert!(rt; is_null(&gathered, 2));
+    Ok(())
+}

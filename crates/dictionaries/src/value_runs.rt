@@ -6,7 +6,7 @@ ghost use Rattle.std.specs.Option.{option_copied};
 use crate::run_ends::RunEnds;
 use std::alloc::{AllocError, Global};
 use std::marker::Model;
-use values::{Value, copy_row};
+use values::{Kind, Value, copy_row};
 
 /// A list of values that holds a repeated value once. Contracts see the whole list.
 #[derive(Drop)]
@@ -28,6 +28,34 @@ impl Model for ValueRuns {
     ghost view = { λ r. spread 0 r.held.items (ends_in r.ends) };
 
     ghost invariant = { λ r. AreRuns r.held.items (ends_in r.ends) };
+}
+
+/// The bytes of a place for a value.
+const PLACE_BYTES: usize = 32;
+
+/// The bytes that a copy of a value takes: its place, and its text or its bytes.
+fn weight_of(value: &Value) -> usize {
+    PLACE_BYTES.saturating_add(match &value.kind {
+        Kind::Utf8(text) => text.len(),
+        Kind::Binary(bytes) => bytes.len(),
+        _ => 0,
+    })
+}
+
+fn weight_of_all(values: &[Value]) -> usize {
+    let mut sum = 0usize;
+    for value in values {
+        sum = sum.saturating_add(weight_of(value));
+    }
+    sum
+}
+
+fn greatest_weight(values: &[Value]) -> usize {
+    let mut greatest = 0usize;
+    for value in values {
+        greatest = greatest.max(weight_of(value));
+    }
+    greatest
 }
 
 fn value_in(values: &[Value], i: usize) -> Option<&Value>
@@ -70,6 +98,14 @@ impl ValueRuns {
     /// The number of values that are held, one for each run.
     pub(crate) fn held(&self) -> usize {
         self.held.len()
+    }
+
+    /// At least the bytes that a copy of each value takes, of a repeated one too.
+    pub(crate) fn weight(&self) -> usize {
+        match &self.ends {
+            RunEnds::Single(_) => weight_of_all(&self.held),
+            RunEnds::At(_) => self.len().saturating_mul(greatest_weight(&self.held)),
+        }
     }
 
     /// Value `i`, if there are more than `i`.

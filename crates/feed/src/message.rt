@@ -81,22 +81,24 @@ fn take_dictionary(
     })
 }
 
-/// Reads a record batch.
+/// Reads a record batch. Its slots are counted before: no more than its rows for each dictionary, nor than its bytes.
 fn take_batch(
     alloc: Global,
     schema: &StreamSchema,
     header: &BatchHeader,
     body: Vec<u8>,
-    dicts: &Dicts,
+    dicts: &mut Dicts,
 ) -> Result<FeedEvent, StreamFault>
     requires fits { Fits (slot_layouts_of schema.now.fields.items) (length body.items) header.now }
-    requires has { HasValues (Some schema.now.fields.items) (values_in dicts.now) }
+    requires has { HasValues (Some schema.now.fields.items) (values_in dicts.old) }
     ensures seen { Answers event_seen result
-        (batch_event (values_in dicts.now) schema.now.fields.items header.now body.items) }
+        (batch_event (values_in dicts.old) schema.now.fields.items header.now body.items) }
+    ensures same { dicts.new.entries ≡ dicts.old.entries }
     ensures typed { IfOk result (IsTypedEvent (Some schema.now.fields.items)) }
 {
     let rows = header.rows;
     let len = body.len();
+    dicts.count_slots(rows.min(len))?;
     let columns = take_columns(alloc, schema, header, body, dicts)?;
     Ok(FeedEvent::Batch {
         columns,
