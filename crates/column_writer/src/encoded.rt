@@ -152,6 +152,25 @@ fn push_indexed<'a>(
     requires { IsIndexed width values.now range.now }
     ensures { OnOk result (cells_of cells.new.items ≡ cells_of cells.old.items ++ range_cells range.now) }
 {
+    match width {
+        IntWidth::Bits8 => push_of_width(cells, range, values, IntWidth::Bits8),
+        IntWidth::Bits16 => push_of_width(cells, range, values, IntWidth::Bits16),
+        IntWidth::Bits32 => push_of_width(cells, range, values, IntWidth::Bits32),
+        IntWidth::Bits64 => push_of_width(cells, range, values, IntWidth::Bits64),
+    }
+}
+
+/// The same for indices of one width: each call has a loop of its own, in which the width is constant.
+#[inline(always)]
+fn push_of_width<'a>(
+    cells: &mut Vec<Option<&'a Value>>,
+    range: &SlotRange<'a>,
+    values: &'a [Value],
+    width: IntWidth,
+) -> Result<(), AllocError>
+    requires { IsIndexed width values.now range.now }
+    ensures { OnOk result (cells_of cells.new.items ≡ cells_of cells.old.items ++ range_cells range.now) }
+{
     let bits = buffer(range.parts.body, &range.parts.own.validity);
     let indices = buffer(range.parts.body, &range.parts.own.values);
     for i in range.from..range.to {

@@ -45,6 +45,26 @@ fn push_indexed<'a>(
     ensures { OnOk result
         (bytes_cells texts.new.items ≡ bytes_cells texts.old.items ++ map as_bytes (range_cells range.now)) }
 {
+    match width {
+        IntWidth::Bits8 => push_of_width(texts, range, values, IntWidth::Bits8),
+        IntWidth::Bits16 => push_of_width(texts, range, values, IntWidth::Bits16),
+        IntWidth::Bits32 => push_of_width(texts, range, values, IntWidth::Bits32),
+        IntWidth::Bits64 => push_of_width(texts, range, values, IntWidth::Bits64),
+    }
+}
+
+/// The same for indices of one width: each call has a loop of its own, in which the width is constant.
+#[inline(always)]
+fn push_of_width<'a>(
+    texts: &mut Vec<Option<&'a [u8]>>,
+    range: &SlotRange<'a>,
+    values: &'a [Value],
+    width: IntWidth,
+) -> Result<(), AllocError>
+    requires { IsIndexed width values.now range.now }
+    ensures { OnOk result
+        (bytes_cells texts.new.items ≡ bytes_cells texts.old.items ++ map as_bytes (range_cells range.now)) }
+{
     let bits = buffer(range.parts.body, &range.parts.own.validity);
     let indices = buffer(range.parts.body, &range.parts.own.values);
     for i in range.from..range.to {

@@ -11,7 +11,6 @@ use Rattle.std.proofs.Common.{
   false,
   List,
   [],
-  ◌∷◌,
   ◌++◌,
   Option,
   None,
@@ -40,11 +39,8 @@ use Rattle.std.specs.declared.alloc.Global.{Global}
 use Rattle.values.specs.declared.faults.StreamFault.{StreamFault}
 use Rattle.array_layout.specs.declared.array.ArrayData.{ArrayData}
 use Rattle.array_layout.specs.Placing.{layouts_of as layouts_of_arrays}
-use Rattle.array_layout.specs.Sound.{ArePlaced}
-use Rattle.array_layout.specs.Typed.{AreTyped}
 use Rattle.arrays.specs.Checked.{CheckedColumn}
-use Rattle.dictionaries.specs.Batches.{DictionaryBatch, batch, found_after}
-use Rattle.dictionaries.specs.Law.{OneMore, StandsAfter}
+use Rattle.dictionaries.specs.Batches.{batch}
 use Rattle.dictionaries.specs.Table.{Table, change_of, found, values_in}
 use Rattle.values.specs.declared.col_type.ColType.{ColType}
 use Rattle.schema_meta.specs.Entry.{Entry}
@@ -53,13 +49,12 @@ use Rattle.schema_meta.specs.declared.header.DictionaryHeader.{DictionaryHeader}
 use Rattle.schema_meta.specs.Dictionaries.{value_type}
 use Rattle.schema_meta.specs.DictionaryBatch.{value_layout, value_layouts}
 use Rattle.schema_meta.specs.FieldLayouts.{slot_layouts_of}
-use Rattle.schema_meta.specs.FieldsLaw.{AreFields}
 use Rattle.schema_meta.specs.Parts.{arrays_of}
-use Rattle.schema_meta.specs.PlaceLaw.{AreValues, HaveLength, PlaceLaw, TypedArraysLaw}
+use Rattle.schema_meta.specs.PlaceLaw.{AreValues, HaveLength, PlaceLaw}
 use Rattle.schema_meta.specs.Rows.{columns_in}
 use Rattle.schema_meta.specs.Sound.{Fits, FitsValues}
 use Rattle.feed.specs.Columns.{cells_in, layouts_in}
-use Rattle.feed.specs.Shown.{HasColumns, HasValues, WillStandAfter, values_next}
+use Rattle.feed.specs.Shown.{HasColumns, HasValues, values_next}
 use Rattle.feed.proofs.GatherLemmas.{columns-whole}
 
 pub batch-columns :

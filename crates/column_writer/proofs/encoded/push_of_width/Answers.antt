@@ -1,10 +1,9 @@
-use Rattle.std.proofs.Common.{arith, ◌∙◌, ap}
+use Rattle.std.proofs.Common.{arith}
 use Rattle.values.specs.Rose.{node, kids_of}
 use Rattle.array_layout.specs.Cells.{cell}
-use Rattle.column_writer.specs.Texts.{as_bytes, bytes_cells}
-use Rattle.column_writer.proofs.EncodedLemmas.{indexed-cell, indexed-room}
-use Rattle.column_writer.proofs.TextLemmas.{text-step, text-over}
-use Rattle.column_writer.proofs.encoded_texts.push_indexed.Goals as goal
+use Rattle.body_writer.specs.Slots.{cells_of}
+use Rattle.column_writer.proofs.EncodedLemmas.{encoded-step, encoded-over, indexed-cell, indexed-room}
+use Rattle.column_writer.proofs.encoded.push_of_width.Goals as goal
 
 pub value_in-requires-clause-room : goal.value_in-requires-clause-room
 value_in-requires-clause-room c =
@@ -19,16 +18,15 @@ loop-i-preserved c =
     c.loop-i.invariant.past c.loop-i-test.true c.value_in.ensures.missing c.value_in.ensures.found in
     record {
       past = omega (arith, c.loop-i.invariant.past);
-      texts = text-step (cell parts.body.now (node parts.own.now (kids_of parts.children.now))) c.loop-i.i
+      cells = encoded-step (cell parts.body.now (node parts.own.now (kids_of parts.children.now))) c.loop-i.i
           c.args.range.now.to
-          c.text_of.result c.loop-i.texts.items c.push.new.self.items _ c.loop-i-test.true
-          (c.text_of.ensures ∙ ap as_bytes found)
+          c.value_in.result c.loop-i.cells.items c.push.new.self.items _ c.loop-i-test.true found
           c.in_ok-push.ensures.items
-          c.loop-i.invariant.texts;
+          c.loop-i.invariant.cells;
     }
 
 pub returns : goal.returns
 returns c =
     let parts = c.args.range.now.parts in
-    text-over (cell parts.body.now (node parts.own.now (kids_of parts.children.now))) c.loop-i.i c.args.range.now.to
-    (bytes_cells c.loop-i.texts.items) _ c.loop-i-test.false c.loop-i.invariant.texts
+    encoded-over (cell parts.body.now (node parts.own.now (kids_of parts.children.now))) c.loop-i.i c.args.range.now.to
+    (cells_of c.loop-i.cells.items) _ c.loop-i-test.false c.loop-i.invariant.cells

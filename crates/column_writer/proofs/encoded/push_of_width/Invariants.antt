@@ -3,7 +3,7 @@ use Rattle.values.specs.Rose.{node, kids_of}
 use Rattle.array_layout.specs.Cells.{cell}
 use Rattle.body_writer.specs.Slots.{cells_of}
 use Rattle.column_writer.specs.Runs.{slots}
-use Rattle.column_writer.proofs.encoded.push_indexed.Given as goal
+use Rattle.column_writer.proofs.encoded.push_of_width.Given as goal
 
 abbrev pub invariant-loop-i : goal.invariant-loop-i
 invariant-loop-i l = record {

@@ -4,7 +4,7 @@ use Rattle.values.specs.Rose.{node, kids_of}
 use Rattle.array_layout.specs.Cells.{cell}
 use Rattle.column_writer.specs.Runs.{slots}
 use Rattle.column_writer.specs.Texts.{as_bytes, bytes_cells}
-use Rattle.column_writer.proofs.encoded_texts.push_indexed.Given as goal
+use Rattle.column_writer.proofs.encoded_texts.push_of_width.Given as goal
 
 abbrev pub invariant-loop-i : goal.invariant-loop-i
 invariant-loop-i l = record {
