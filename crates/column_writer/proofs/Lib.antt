@@ -12,3 +12,4 @@ pub mod PieceLemmas
 pub mod BatchLemmas
 pub mod EncodedLemmas
 pub mod TextLemmas
+pub mod PickedLemmas

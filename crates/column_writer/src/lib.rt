@@ -6,7 +6,8 @@
 //! (`specs/Batches.antt`). The pieces of a child follow from the runs of the array above it. Where arrays have a
 //! dictionary, below lists and structs too, cells are written from references to its values (`src/encoded.rt`), texts and
 //! bytes from slices of them (`src/encoded_texts.rt`, `specs/Texts.antt`). Columns with arrays of another layout, or with
-//! dictionaries in some of their batches alone, are written from copies of their cells.
+//! dictionaries in some of their batches alone, are written from copies of their cells. Some columns alone may be
+//! written of rows (`specs/Picked.antt`).
 #![tactic(auto)]
 
 mod batch;
@@ -18,6 +19,7 @@ mod encoded_texts;
 mod gather;
 mod kinds;
 mod own;
+mod picked;
 mod piece;
 mod pieces;
 mod slot_runs;
@@ -25,4 +27,5 @@ mod texts;
 mod write;
 
 pub use batch::{Batch, RowRange};
+pub use picked::write_picked;
 pub use write::write_body;

@@ -168,7 +168,7 @@ fn write_pieces(
 }
 
 /// Appends column `j` of these rows.
-fn write_column(
+pub(crate) fn write_column(
     alloc: Global,
     layout: &LayoutTree,
     ranges: &[RowRange],

@@ -73,7 +73,7 @@ run gs xs i (suc k) d flags within few =
 
 -- the rows of a batch
 
-rows_counted : (cells : List (List Datum)) (i n : ℕ) → length (rows_from cells i n) ≡ n
+pub rows_counted : (cells : List (List Datum)) (i n : ℕ) → length (rows_from cells i n) ≡ n
 unfolding rows_from
 rows_counted cells i zero = refl
 rows_counted cells i (suc n) = ap suc (rows_counted cells (i + 1) n)

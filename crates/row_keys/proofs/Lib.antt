@@ -47,3 +47,6 @@ mod Trees
 mod GoneRows
 mod TakenApart
 pub mod Emptied
+mod RunRows
+pub mod LiveRows
+mod LiveRanges

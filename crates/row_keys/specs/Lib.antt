@@ -16,3 +16,4 @@ pub mod KeyColumns
 pub mod RefusedRows
 pub mod Found
 pub mod Entries
+pub mod Runs

@@ -19,12 +19,14 @@ ghost use Rattle.std.specs.Prelude.{
   get_or,
   length,
   map,
+  true,
 };
 ghost use Rattle.std.specs.Map.{keys_of};
 ghost use Rattle.values.specs.CellViews.{shallow, viewed};
 ghost use Rattle.values.specs.Datum.{Datum};
 ghost use Rattle.values.specs.Keys.{datum_of_key};
 ghost use Rattle.values.specs.Limits.{max_main_rows};
+ghost use Rattle.column_writer.specs.Batches.{IsRange, ranges_rows};
 ghost use Rattle.view_lang.specs.Causes.{cause_of};
 ghost use Rattle.view_lang.specs.Contents.{applied, key_in, keys_in, without};
 ghost use Rattle.view_lang.specs.Edits.{append, put, retract};
@@ -78,10 +80,11 @@ use crate::key_columns::{find_batch, find_keys, push_batch, push_keys};
 use crate::layouts::table_layouts;
 use crate::numbers::Numbers;
 use crate::parts::{StoreParts, make_numbers, renumbered};
-use crate::stored_row::{StoredRow, Visit};
+use crate::stored_row::{StoredRow, Visit, Visits};
 use crate::stored_rows::StoredRows;
 use crate::turning::{retract_all, retract_from, revive_all, revive_from};
 use arrays::Column;
+use column_writer::RowRange;
 use std::alloc::{AllocError, Global};
 use std::marker::Model;
 use values::{CellView, Key, KeyBuffer, Row, Value};
@@ -537,6 +540,26 @@ impl RowStore {
         ensures held { HasKey self.now.table result → IsRow self.now.table.columns result }
     {
         self.row_at(visit.number())
+    }
+
+    /// Counts a visit of each of the rows of these numbers.
+    pub fn visit_all(&mut self, numbers: Vec<usize>) -> Visits
+        ensures numbers { result ≡ numbers.items }
+        ensures counted { self.new ≡ visited (length numbers.items) self.old }
+    {
+        self.visits = self.visits.saturating_add(numbers.len() as u128);
+        Visits::new(numbers)
+    }
+
+    /// Where the visited rows lie, which are live: as many as lie one after the other at once. Each lies in as many
+    /// columns as the table has.
+    pub fn ranges(&self, visits: Visits) -> Result<Vec<RowRange<'_>>, AllocError>
+        requires { All (λ n. (get_or self.now.slots n no_slot).live ≡ true) visits }
+        ensures rows { IfOk result (λ ranges. ranges_rows ranges.items ≡ map (row_of self.now.slots) visits) }
+        ensures ranges { IfOk result (λ ranges. All (IsRange (length self.now.table.columns)) ranges.items) }
+    {
+        let _table = &self.table;
+        self.rows.ranges(self.alloc, visits.numbers())
     }
 
     /// A copy of the row of this number, live or retracted; one that is gone has no cells. It is counted as a visit.

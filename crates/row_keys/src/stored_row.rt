@@ -131,3 +131,43 @@ impl Visit {
         self.number
     }
 }
+
+/// The right to read some stored rows of the main table: a visit of each, which is counted. Contracts see the rows'
+/// numbers, in order.
+#[derive(Debug, Drop)]
+pub struct Visits {
+    numbers: Vec<usize>,
+}
+
+impl Model for Visits {
+    ghost use Rattle.std.specs.Prelude.{List, ℕ};
+    ghost use Rattle.std.specs.Coded.{coded_list, coded_ℕ};
+
+    ghost Value = { List ℕ };
+
+    ghost coded = { coded_list coded_ℕ };
+
+    ghost view = { λ v. v.numbers.items };
+}
+
+impl Visits {
+    pub(crate) fn new(numbers: Vec<usize>) -> Visits
+        ensures { result ≡ numbers.items }
+    {
+        Visits { numbers }
+    }
+
+    /// How many rows are visited.
+    pub fn len(&self) -> usize
+        ensures { result ≡ length self.now }
+    {
+        self.numbers.len()
+    }
+
+    /// The numbers of the rows.
+    pub(crate) fn numbers(&self) -> &[usize]
+        ensures { result.now ≡ self.now }
+    {
+        &self.numbers
+    }
+}

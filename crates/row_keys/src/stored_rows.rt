@@ -9,7 +9,9 @@ ghost use Rattle.std.specs.Prelude.{
   ◌∷◌,
   [],
   All,
+  IfOk,
   drop,
+  map,
   MatchOption,
   OnErr,
   OnOk,
@@ -26,6 +28,7 @@ ghost use Rattle.std.specs.List.Sorted.{IsPartitionPoint};
 ghost use Rattle.values.specs.Layouts.{AreLayouts};
 ghost use Rattle.values.specs.Limits.{max_fields};
 ghost use Rattle.values.specs.Rose.{kids_of, roses_size};
+ghost use Rattle.column_writer.specs.Batches.{IsRange, ranges_rows};
 ghost use Rattle.row_keys.specs.Batches.{batch_rows};
 ghost use Rattle.row_keys.specs.Chunks.{
   AreChunks,
@@ -43,10 +46,11 @@ ghost use Rattle.row_keys.specs.Chunks.{
 ghost use Rattle.row_keys.specs.RowsLeft.{IsHeld, IsSplit};
 
 use crate::rewriting::{merge, write_tail};
+use crate::runs::find_ranges;
 use crate::stored_chunk::{StoredChunk, flags, index_of, release_in, row_of, shorten};
 use crate::stored_row::StoredRow;
 use arrays::Column;
-use column_writer::Batch;
+use column_writer::{Batch, RowRange};
 use std::alloc::{AllocError, Global};
 use std::marker::Model;
 use values::LayoutTree;
@@ -106,7 +110,7 @@ fn count_from(chunks: &[StoredChunk], number: usize) -> usize
 }
 
 /// The place of the chunk that has this number, if there is one.
-fn chunk_of(chunks: &[StoredChunk], number: usize) -> Option<usize>
+pub(crate) fn chunk_of(chunks: &[StoredChunk], number: usize) -> Option<usize>
     requires { (len : ℕ) × AreChunks 0 chunks.now len }
     ensures { MatchOption result (row_in chunks.now number ≡ []) (LiesIn chunks.now number) }
 {
@@ -121,9 +125,21 @@ fn chunk_of(chunks: &[StoredChunk], number: usize) -> Option<usize>
 
 /// Where the row of a number lies: the place of its chunk, and its index there.
 #[derive(Clone, Copy, Debug)]
-struct Location {
-    chunk: usize,
-    index: usize,
+pub(crate) struct Location {
+    pub(crate) chunk: usize,
+    pub(crate) index: usize,
+}
+
+/// Where the row of this number lies, if it is kept: in the chunk at this place, whose numbers it is among.
+pub(crate) fn index_in(chunks: &[StoredChunk], place: usize, number: usize) -> Option<Location>
+    requires { LiesIn chunks.now number place }
+    ensures { MatchOption result (row_in chunks.now number ≡ []) (λ at. LiesAt chunks.now number at.chunk at.index) }
+{
+    let index = index_of(&chunks[place], number)?;
+    Some(Location {
+        chunk: place,
+        index,
+    })
 }
 
 /// Where the row of this number lies, if it is kept.
@@ -132,11 +148,7 @@ fn locate(chunks: &[StoredChunk], number: usize) -> Option<Location>
     ensures { MatchOption result (row_in chunks.now number ≡ []) (λ at. LiesAt chunks.now number at.chunk at.index) }
 {
     let place = chunk_of(chunks, number)?;
-    let index = index_of(&chunks[place], number)?;
-    Some(Location {
-        chunk: place,
-        index,
-    })
+    index_in(chunks, place, number)
 }
 
 /// Releases row `index` of the chunk at this place. It returns whether the chunk's columns went.
@@ -524,5 +536,21 @@ impl StoredRows {
             return StoredRow::new(&[], 0);
         };
         row_of(&self.chunks[at.chunk], at.index)
+    }
+
+    /// Where the rows of these numbers lie, which are kept: as many as lie one after the other at once.
+    pub(crate) fn ranges(
+        &self,
+        alloc: Global,
+        numbers: &[usize],
+    ) -> Result<Vec<RowRange<'_>>, AllocError>
+        requires { All (λ n. 0 < length (get_or self.now n [])) numbers.now }
+        ensures rows { IfOk result (λ ranges.
+            ranges_rows ranges.items ≡ map (λ n. get_or self.now n []) numbers.now) }
+        ensures ranges { IfOk result (λ ranges. (w : ℕ) → All (λ n. length (get_or self.now n []) ≡ w) numbers.now
+            → All (IsRange w) ranges.items) }
+    {
+        let _len = self.len;
+        find_ranges(alloc, &self.chunks, numbers)
     }
 }

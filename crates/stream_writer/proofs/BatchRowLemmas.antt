@@ -43,6 +43,7 @@ use Rattle.std.proofs.lemmas.List.Elements.{
   All-nil,
   All-weaker,
 }
+use Rattle.std.specs.List.{flat_map}
 use Rattle.std.proofs.lemmas.List.Concat.{flat_map-append}
 use Rattle.values.specs.Limits.{max_batch_rows, max_batch_weight}
 use Rattle.values.specs.Datum.{Datum}
@@ -114,20 +115,33 @@ take-joined (suc s) (x ∷ xs) ys =
     let same : s - length xs ≡ suc s - suc (length xs) = omega arith in
     ap (λ zs. x ∷ zs) (take-joined s xs ys ∙ ap (λ k. take s xs ++ take k ys) same)
 
+-- of lists of rows, one after the other
+
+split-at : {X : Type 0} (f : X → List (List Datum)) (xs : List X) (i : ℕ) (x : X) → i < length xs → x ≡ get_or xs i x
+    → flat_map f (drop i xs) ≡ f x ++ flat_map f (drop (i + 1) xs)
+split-at f xs i x h e =
+    ap (flat_map f) (drop_more xs i x h) ∙ ap (λ y. f y ++ flat_map f (drop (i + 1) xs)) (sym e)
+
 pub rows-split : (bs : List Batch) (i : ℕ) (b : Batch) → i < length bs → b ≡ get_or bs i b
     → rows_of (drop i bs) ≡ batch_rows b ++ rows_of (drop (i + 1) bs)
-rows-split bs i b h e = ap rows_of (drop_more bs i b h) ∙ ap (λ x. batch_rows x ++ rows_of (drop (i + 1) bs)) (sym e)
+rows-split bs i b h e = split-at batch_rows bs i b h e
+
+pub step-over :
+    {X : Type 0} (f : X → List (List Datum)) (xs : List X) (i : ℕ) (x : X) (n from : ℕ) (whole : List (List Datum))
+    → i < length xs → x ≡ get_or xs i x → length (f x) ≡ n
+    → n ≤ from → drop from (flat_map f (drop i xs)) ≡ whole → drop (from - n) (flat_map f (drop (i + 1) xs)) ≡ whole
+step-over f xs i x n from whole some e size past is =
+    let behind = flat_map f (drop (i + 1) xs) in
+    let gone : drop from (f x) ≡ [] = drop_all from (f x) (omega (arith, size, past)) in
+    let same : from - n ≡ from - length (f x) = omega (arith, size) in
+    ap (λ k. drop k behind) same ∙ ap (λ ys. ys ++ drop (from - length (f x)) behind) (sym gone)
+    ∙ sym (drop-joined from (f x) behind) ∙ ap (drop from) (sym (split-at f xs i x some e)) ∙ is
 
 pub place-step : (bs : List Batch) (i : ℕ) (b : Batch) (from : ℕ) (whole : List (List Datum)) → i < length bs
     → b ≡ get_or bs i b
     → b.rows ≤ from → drop from (rows_of (drop i bs)) ≡ whole → drop (from - b.rows) (rows_of (drop (i + 1) bs)) ≡ whole
 place-step bs i b from whole some e past is =
-    let behind = rows_of (drop (i + 1) bs) in
-    let size = batch-long b in
-    let gone : drop from (batch_rows b) ≡ [] = drop_all from (batch_rows b) (omega (arith, size, past)) in
-    let same : from - b.rows ≡ from - length (batch_rows b) = omega (arith, size) in
-    ap (λ k. drop k behind) same ∙ ap (λ xs. xs ++ drop (from - length (batch_rows b)) behind) (sym gone)
-    ∙ sym (drop-joined from (batch_rows b) behind) ∙ ap (drop from) (sym (rows-split bs i b some e)) ∙ is
+    step-over batch_rows bs i b b.rows from whole some e (batch-long b) past is
 
 pub first-is : (bs : List Batch) (i : ℕ) (b : Batch) (from : ℕ) → i < length bs → b ≡ get_or bs i b → from < b.rows
     → IsInFirst from (drop i bs)
@@ -143,35 +157,33 @@ take-least n m xs e = elim (cases_lt n (length xs)) [
   | inr over ↦ take_all n xs over ∙ sym (take_all m xs (omega (arith, e, over)))
 ]
 
--- the rows of the next batch, and those of the batches after it
-pub range-split : (b : Batch) (others : List (List Datum)) (from left to : ℕ) → from < to
-    → to ≡ min b.rows (from + left)
-    → take left (drop from (batch_rows b ++ others))
-    ≡ take (to - from) (drop from (batch_rows b)) ++ take (left - (to - from)) (drop (from - b.rows) others)
-range-split b others from left to some e =
-    let size = batch-long b in
-    let behind = length-drop from (batch_rows b) in
-    let same : from - length (batch_rows b) ≡ from - b.rows = omega (arith, size) in
-    let here : take left (drop from (batch_rows b)) ≡ take (to - from) (drop from (batch_rows b)) =
-    take-least left (to - from) (drop from (batch_rows b)) (omega (arith, size, behind, some, e)) in
-    let rest : take (left - length (drop from (batch_rows b))) (drop (from - b.rows) others) ≡ take (left - (to -
-    from)) (drop (from - b.rows) others) =
-    (let k : left - length (drop from (batch_rows b)) ≡ left - (to - from) = omega (arith, size, behind, some, e) in
-    ap (λ n. take n (drop (from - b.rows) others)) k) in
-    ap (take left) (drop-joined from (batch_rows b) others ∙ ap (λ k. drop from (batch_rows b) ++ drop k others) same)
-    ∙ take-joined left (drop from (batch_rows b)) (drop (from - b.rows) others)
-    ∙ ap (λ xs. xs ++ take (left - length (drop from (batch_rows b))) (drop (from - b.rows) others)) here
-    ∙ ap (λ ys. take (to - from) (drop from (batch_rows b)) ++ ys) rest
+-- the n rows of the first, and those of the ones after it
 
-pub range-none : (b : Batch) (others : List (List Datum)) (from left to : ℕ) → to ≤ from → 0 < left
-    → to ≡ min b.rows (from + left)
-    → take left (drop from (batch_rows b ++ others)) ≡ take left (drop (from - b.rows) others)
-range-none b others from left to past some e =
-    let size = batch-long b in
-    let gone : drop from (batch_rows b) ≡ [] = drop_all from (batch_rows b) (omega (arith, size, past, some, e)) in
-    let same : from - length (batch_rows b) ≡ from - b.rows = omega (arith, size) in
-    ap (take left) (drop-joined from (batch_rows b) others ∙ ap (λ k. drop from (batch_rows b) ++ drop k others) same
-    ∙ ap (λ xs. xs ++ drop (from - b.rows) others) gone)
+range-split : (rows others : List (List Datum)) (n from left to : ℕ) → length rows ≡ n → from < to
+    → to ≡ min n (from + left)
+    → take left (drop from (rows ++ others))
+    ≡ take (to - from) (drop from rows) ++ take (left - (to - from)) (drop (from - n) others)
+range-split rows others n from left to size some e =
+    let behind = length-drop from rows in
+    let same : from - length rows ≡ from - n = omega (arith, size) in
+    let here : take left (drop from rows) ≡ take (to - from) (drop from rows) =
+    take-least left (to - from) (drop from rows) (omega (arith, size, behind, some, e)) in
+    let rest : take (left - length (drop from rows)) (drop (from - n) others) ≡ take (left - (to - from)) (drop (from - n) others) =
+    (let k : left - length (drop from rows) ≡ left - (to - from) = omega (arith, size, behind, some, e) in
+    ap (λ m. take m (drop (from - n) others)) k) in
+    ap (take left) (drop-joined from rows others ∙ ap (λ k. drop from rows ++ drop k others) same)
+    ∙ take-joined left (drop from rows) (drop (from - n) others)
+    ∙ ap (λ xs. xs ++ take (left - length (drop from rows)) (drop (from - n) others)) here
+    ∙ ap (λ ys. take (to - from) (drop from rows) ++ ys) rest
+
+range-none : (rows others : List (List Datum)) (n from left to : ℕ) → length rows ≡ n → to ≤ from → 0 < left
+    → to ≡ min n (from + left)
+    → take left (drop from (rows ++ others)) ≡ take left (drop (from - n) others)
+range-none rows others n from left to size past some e =
+    let gone : drop from rows ≡ [] = drop_all from rows (omega (arith, size, past, some, e)) in
+    let same : from - length rows ≡ from - n = omega (arith, size) in
+    ap (take left) (drop-joined from rows others ∙ ap (λ k. drop from rows ++ drop k others) same
+    ∙ ap (λ xs. xs ++ drop (from - n) others) gone)
 
 pub ranges-more : (rs : List RowRange) (r : RowRange) → ranges_rows (rs ++ r ∷ []) ≡ ranges_rows rs ++ range_rows r
 ranges-more rs r = flat_map-append range_rows rs (r ∷ []) ∙ ap (λ cs. ranges_rows rs ++ cs) (append-nil (range_rows r))
@@ -184,40 +196,42 @@ pub batch-sized : (n : ℕ) (bs : List Batch) (i : ℕ) (b : Batch) → i < leng
 batch-sized n bs i b h e all = subst (IsSized n) (sym e) (All-get_or (IsSized n) bs i b h all)
 
 pub rows-then :
-    (bs : List Batch) (i : ℕ) (b : Batch) (start left to next others : ℕ) (rs more_ranges : List RowRange) (r :
-    RowRange)
-    (whole : List (List Datum)) → i < length bs → b ≡ get_or bs i b → start < to → to ≡ min b.rows (start + left)
-    → more_ranges ≡ rs ++ r ∷ [] → range_rows r ≡ take (to - start) (drop start (batch_rows b))
+    {X : Type 0} (f : X → List (List Datum)) (bs : List X) (i : ℕ) (b : X) (n start left to next others : ℕ)
+    (rs more_ranges : List RowRange) (r : RowRange)
+    (whole : List (List Datum)) → i < length bs → b ≡ get_or bs i b → length (f b) ≡ n → start < to
+    → to ≡ min n (start + left)
+    → more_ranges ≡ rs ++ r ∷ [] → range_rows r ≡ take (to - start) (drop start (f b))
     → others ≡ left - (to - start)
-    → next ≡ start - b.rows → ranges_rows rs ++ take left (drop start (rows_of (drop i bs))) ≡ whole
-    → ranges_rows more_ranges ++ take others (drop next (rows_of (drop (i + 1) bs))) ≡ whole
-rows-then bs i b start left to next others rs more_ranges r whole h e some least grown here fewer on is =
-    let behind = rows_of (drop (i + 1) bs) in
-    let split = ap (λ rows. take left (drop start rows)) (rows-split bs i b h e)
-    ∙ range-split b behind start left to some least in
+    → next ≡ start - n → ranges_rows rs ++ take left (drop start (flat_map f (drop i bs))) ≡ whole
+    → ranges_rows more_ranges ++ take others (drop next (flat_map f (drop (i + 1) bs))) ≡ whole
+rows-then f bs i b n start left to next others rs more_ranges r whole h e size some least grown here fewer on is =
+    let behind = flat_map f (drop (i + 1) bs) in
+    let split = ap (λ rows. take left (drop start rows)) (split-at f bs i b h e)
+    ∙ range-split (f b) behind n start left to size some least in
     ap (λ k. ranges_rows more_ranges ++ take k (drop next behind)) fewer
     ∙ ap (λ k. ranges_rows more_ranges ++ take (left - (to - start)) (drop k behind)) on
-    ∙ ap (λ xs. xs ++ take (left - (to - start)) (drop (start - b.rows) behind)) (ap ranges_rows grown
+    ∙ ap (λ xs. xs ++ take (left - (to - start)) (drop (start - n) behind)) (ap ranges_rows grown
     ∙ ranges-more rs r
     ∙ ap (λ ys. ranges_rows rs ++ ys) here)
-    ∙ append_assoc (ranges_rows rs) (take (to - start) (drop start (batch_rows b))) (take (left - (to - start)) (drop
-    (start - b.rows) behind))
+    ∙ append_assoc (ranges_rows rs) (take (to - start) (drop start (f b))) (take (left - (to - start)) (drop
+    (start - n) behind))
     ∙ ap (λ ys. ranges_rows rs ++ ys) (sym split) ∙ is
 
 pub rows-else :
-    (bs : List Batch) (i : ℕ) (b : Batch) (start left to next others : ℕ) (rs same_ranges : List RowRange)
-    (whole : List (List Datum)) → i < length bs → b ≡ get_or bs i b → to ≤ start → 0 < left
-    → to ≡ min b.rows (start + left)
-    → same_ranges ≡ rs → others ≡ left → next ≡ start - b.rows
-    → ranges_rows rs ++ take left (drop start (rows_of (drop i bs))) ≡ whole
-    → ranges_rows same_ranges ++ take others (drop next (rows_of (drop (i + 1) bs))) ≡ whole
-rows-else bs i b start left to next others rs same_ranges whole h e past some least same fewer on is =
-    let behind = rows_of (drop (i + 1) bs) in
-    let split = ap (λ rows. take left (drop start rows)) (rows-split bs i b h e)
-    ∙ range-none b behind start left to past some least in
+    {X : Type 0} (f : X → List (List Datum)) (bs : List X) (i : ℕ) (b : X) (n start left to next others : ℕ)
+    (rs same_ranges : List RowRange)
+    (whole : List (List Datum)) → i < length bs → b ≡ get_or bs i b → length (f b) ≡ n → to ≤ start → 0 < left
+    → to ≡ min n (start + left)
+    → same_ranges ≡ rs → others ≡ left → next ≡ start - n
+    → ranges_rows rs ++ take left (drop start (flat_map f (drop i bs))) ≡ whole
+    → ranges_rows same_ranges ++ take others (drop next (flat_map f (drop (i + 1) bs))) ≡ whole
+rows-else f bs i b n start left to next others rs same_ranges whole h e size past some least same fewer on is =
+    let behind = flat_map f (drop (i + 1) bs) in
+    let split = ap (λ rows. take left (drop start rows)) (split-at f bs i b h e)
+    ∙ range-none (f b) behind n start left to size past some least in
     ap (λ k. ranges_rows same_ranges ++ take k (drop next behind)) fewer
     ∙ ap (λ k. ranges_rows same_ranges ++ take left (drop k behind)) on
-    ∙ ap (λ xs. ranges_rows xs ++ take left (drop (start - b.rows) behind)) same
+    ∙ ap (λ xs. ranges_rows xs ++ take left (drop (start - n) behind)) same
     ∙ ap (λ ys. ranges_rows rs ++ ys) (sym split) ∙ is
 
 -- as many layouts as columns

@@ -29,3 +29,5 @@ pub mod BatchRowLemmas
 pub mod FittingLemmas
 pub mod WeightLemmas
 pub mod RowWeights
+mod RangeLemmas
+mod RangeBoundLemmas

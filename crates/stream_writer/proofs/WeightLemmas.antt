@@ -76,7 +76,7 @@ cell_there columns i k c is below all =
     subst P (sym is) (All-get_or P columns i c below all)
 
 -- what a column says of the cell's weight
-weight_said :
+pub weight_said :
     (c : CheckedColumn) (k w : ℕ) → k < length c.cells → IfSome (slice_get c.cells k) (λ d. Says w (weight c.layouts d))
     → Says w (weight c.layouts (get_or c.cells k null))
 weight_said c k w below says =

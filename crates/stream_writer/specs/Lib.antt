@@ -19,3 +19,5 @@ pub mod RoundTrip
 pub mod Heavy
 pub mod BatchRows
 pub mod Weights
+pub mod RangeRows
+pub mod RangeBounds

@@ -17,6 +17,9 @@ mod layouts;
 mod memory;
 mod messages;
 mod progress;
+mod range_bounds;
+mod range_copies;
+mod range_rows;
 mod rows;
 mod sink;
 mod table;
@@ -31,7 +34,7 @@ pub use laws::{
 pub use layouts::layouts_of;
 pub use memory::MemorySink;
 pub use sink::{DeviceFault, Sink, put_all};
-pub use table::{write_batches, write_coded, write_table, write_weighed_batches};
+pub use table::{write_batches, write_coded, write_ranges, write_table, write_weighed_batches};
 pub use table_writer::TableWriter;
 pub use weighing::{MAX_LIGHT_ROW, weigh_row, weights_in};
 

@@ -1,11 +1,12 @@
 //! Writes a table, message by message.
 
-ghost use Rattle.std.specs.Prelude.{◌≡◌, All, length, map};
+ghost use Rattle.std.specs.Prelude.{◌≡◌, ℕ, All, length, map};
 ghost use Rattle.values.specs.Rose.{kids_of};
 ghost use Rattle.stream_writer.specs.Sinks.{Writes};
 ghost use Rattle.values.specs.Coded.{AreCoded};
 ghost use Rattle.stream_writer.specs.Stream.{trees, canon, coded_canon};
-ghost use Rattle.column_writer.specs.Batches.{IsSized, rows_of};
+ghost use Rattle.column_writer.specs.Batches.{IsSized, ranges_rows, rows_of};
+ghost use Rattle.column_writer.specs.Picked.{HaveColumns, picked_rows};
 ghost use Rattle.stream_writer.specs.BatchRows.{AreLightRows};
 ghost use Rattle.stream_writer.specs.Table.{IsTable};
 ghost use Rattle.stream_writer.specs.Weights.{weights_of};
@@ -14,9 +15,12 @@ use crate::batch_rows::BatchRows;
 use crate::faults::WriteFault;
 use crate::layouts::layouts_of;
 use crate::progress::{put_rest, put_schema};
+use crate::range_bounds::are_light;
+use crate::range_copies::copy_rows;
+use crate::range_rows::RangeRows;
 use crate::rows::{RowSource, ValueRows};
 use crate::sink::Sink;
-use column_writer::Batch;
+use column_writer::{Batch, RowRange};
 use std::alloc::Global;
 use values::{LayoutTree, Row, Schema};
 
@@ -112,6 +116,41 @@ pub fn write_weighed_batches<S: Sink>(
         from: 0,
         left: weights.len(),
         weights,
+    };
+    write_messages(alloc, sink, schema, &[], &layouts, left)
+}
+
+/// Writes the canonical stream of a table whose `rows` rows lie in these ranges of batches of checked columns, and
+/// returns its length in bytes. Its columns are those of the batches at these positions, in this order. Cells are
+/// copied where a row may be so heavy that a batch would have fewer than 1,024 rows for it, and where there are lists
+/// or structs.
+///
+/// On an error the sink took a beginning of that stream: `written` bytes.
+pub fn write_ranges<S: Sink>(
+    alloc: Global,
+    sink: &mut S,
+    schema: &Schema,
+    columns: &[usize],
+    ranges: &[RowRange],
+    rows: usize,
+) -> Result<u64, WriteFault>
+    requires table { IsTable schema.now.fields.items (picked_rows columns.now (ranges_rows ranges.now)) }
+    requires many { length columns.now ≡ length schema.now.fields.items }
+    requires ranges { (n : ℕ) × HaveColumns n columns.now ranges.now }
+    requires rows { rows ≡ length (ranges_rows ranges.now) }
+    ensures { Writes (S.sunk sink.old) (S.sunk sink.new) result
+        (canon schema.now.fields.items (picked_rows columns.now (ranges_rows ranges.now))) }
+{
+    let layouts = layouts_of(alloc, schema)?;
+    if !are_light(&layouts, columns, ranges) {
+        let copies = copy_rows(alloc, columns, ranges)?;
+        return write_table(alloc, sink, schema, &copies);
+    }
+    let left = RangeRows {
+        columns,
+        ranges,
+        from: 0,
+        left: rows,
     };
     write_messages(alloc, sink, schema, &[], &layouts, left)
 }

@@ -1,6 +1,6 @@
 use Rattle.std.proofs.Common.{◌∙◌, arith, refl, subst, sym, ap, All}
-use Rattle.column_writer.specs.Batches.{IsRange}
-use Rattle.stream_writer.proofs.BatchRowLemmas.{rows-then, rows-else, all-ranges, batch-sized}
+use Rattle.column_writer.specs.Batches.{IsRange, batch_rows}
+use Rattle.stream_writer.proofs.BatchRowLemmas.{rows-then, rows-else, all-ranges, batch-long, batch-sized}
 use Rattle.stream_writer.proofs.batch_rows.ranges_of.Goals as goal
 use Rattle.stream_writer.proofs.batch_rows.ranges_of.Goals.{then-start-to+in_ok-push, else-start-to}
 
@@ -18,9 +18,10 @@ loop-batch-preserved c =
           let some = w.if-start-to.true in
           record {
             small = omega (arith, w.left-is, on, least, l.invariant.small, some);
-            rows = rows-then bs l.batch-index b l.start l.left to c.saturating_sub-start.result c.if-start-to.left
-                l.ranges.items
-                c.if-start-to.ranges.items _ _ c.loop-batch-test.true c.batch-item.is some least grown refl w.left-is
+            rows = rows-then batch_rows bs l.batch-index b b.rows l.start l.left to c.saturating_sub-start.result
+                c.if-start-to.left l.ranges.items
+                c.if-start-to.ranges.items _ _ c.loop-batch-test.true c.batch-item.is (batch-long b) some least grown refl
+                w.left-is
                 on l.invariant.rows;
             sized = λ n all.
                 subst (All (IsRange n)) (sym grown)
@@ -35,9 +36,9 @@ loop-batch-preserved c =
           (let same = ap (λ v. v.items) w.ranges-is in
           record {
             small = omega (arith, w.left-is, on, l.invariant.small);
-            rows = rows-else bs l.batch-index b l.start l.left to c.saturating_sub-start.result c.if-start-to.left
-                l.ranges.items
-                c.if-start-to.ranges.items _ c.loop-batch-test.true c.batch-item.is w.if-start-to.false (omega (
+            rows = rows-else batch_rows bs l.batch-index b b.rows l.start l.left to c.saturating_sub-start.result
+                c.if-start-to.left l.ranges.items
+                c.if-start-to.ranges.items _ c.loop-batch-test.true c.batch-item.is (batch-long b) w.if-start-to.false (omega (
                   arith,
                   c.if-left-eq0.false,
                 ))

@@ -1,0 +1,42 @@
+use Rattle.std.proofs.Common.{◌≡◌, ◌<◌, ◌∙◌, All, List, [], ap, arith, get_or, length, map, subst, sym, ℕ}
+use Rattle.std.proofs.lemmas.Result.{IfOk-weaker}
+use Rattle.std.proofs.lemmas.List.Elements.{All-weaker}
+use Rattle.column_writer.specs.Batches.{IsRange}
+use Rattle.row_keys.specs.Chunks.{AreChunks, Chunk, row_in}
+use Rattle.row_keys.proofs.RunRows.{mapped_as, stored_as}
+use Rattle.row_keys.proofs.stored_rows.StoredRows.ranges.Goals as goal
+
+pub find_ranges-requires-clause-kept : goal.find_ranges-requires-clause-kept
+find_ranges-requires-clause-kept c =
+    let cs = c.self.inside.chunks.items in
+    let same = stored_as cs c.self.inside.len c.args.self.now c.self.invariant c.self.view_is in
+    subst (λ (xs : List Chunk). All (λ n. 0 < length (row_in xs n)) c.args.numbers.now) (sym c.deref.ensures.value)
+    (All-weaker (λ n. 0 < length (get_or c.args.self.now n [])) (λ n. 0 < length (row_in cs n))
+    (λ n some. subst (λ row. 0 < length row) (sym (same n)) some) c.args.numbers.now c.requires)
+
+pub returns-clause-rows : goal.returns-clause-rows
+returns-clause-rows c =
+    let cs = c.self.inside.chunks.items in
+    let same = stored_as cs c.self.inside.len c.args.self.now c.self.invariant c.self.view_is in
+    IfOk-weaker c.find_ranges.result _ _
+    (λ ranges rows. rows ∙ ap (λ (xs : List Chunk). map (row_in xs) c.args.numbers.now) c.deref.ensures.value
+    ∙ mapped_as (row_in cs) (λ n. get_or c.args.self.now n []) c.args.numbers.now same)
+    c.find_ranges.ensures.rows
+
+pub returns-clause-ranges : goal.returns-clause-ranges
+returns-clause-ranges c =
+    let cs = c.self.inside.chunks.items in
+    let same = stored_as cs c.self.inside.len c.args.self.now c.self.invariant c.self.view_is in
+    IfOk-weaker c.find_ranges.result _ _
+    (λ ranges sized w wide. sized w
+    (subst (λ (xs : List Chunk). All (λ n. length (row_in xs n) ≡ w) c.args.numbers.now) (sym c.deref.ensures.value)
+    (All-weaker (λ n. length (get_or c.args.self.now n []) ≡ w) (λ n. length (row_in cs n) ≡ w)
+    (λ n size. ap length (same n) ∙ size) c.args.numbers.now wide)))
+    c.find_ranges.ensures.ranges
+
+pub find_ranges-requires-clause-chunks : goal.find_ranges-requires-clause-chunks
+find_ranges-requires-clause-chunks c = (
+  c.self.inside.len,
+  subst (λ (cs : List Chunk). AreChunks 0 cs c.self.inside.len) (sym c.deref.ensures.value) c.self.invariant,
+  omega arith,
+)

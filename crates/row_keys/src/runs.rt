@@ -1,0 +1,101 @@
+//! Where rows lie in chunks: those that lie one after the other, at once.
+
+ghost use Rattle.std.specs.Prelude.{◌≡◌, ℕ, ◌^◌, ◌<◌, ◌≤◌, ◌++◌, All, IfOk, MatchOption, OnOk, [], length, map};
+ghost use Rattle.column_writer.specs.Batches.{IsRange, ranges_rows};
+ghost use Rattle.row_keys.specs.Chunks.{AreChunks, LiesAt, LiesIn, row_in};
+ghost use Rattle.row_keys.specs.Runs.{HasRun, IsWideAt, run_rows};
+
+use crate::stored_chunk::StoredChunk;
+use crate::stored_rows::{Location, chunk_of, index_in};
+use column_writer::RowRange;
+use std::alloc::{AllocError, Global};
+
+/// Rows that lie one after the other: the place of their chunk, and from which row up to, and without, which one.
+#[derive(Clone, Copy)]
+struct Run {
+    chunk: usize,
+    from: usize,
+    to: usize,
+}
+
+/// The place of the chunk that has this number, if there is one. That at place `near` is looked at first.
+fn chunk_near(chunks: &[StoredChunk], near: usize, number: usize) -> Option<usize>
+    requires { (len : ℕ) × AreChunks 0 chunks.now len }
+    ensures { MatchOption result (row_in chunks.now number ≡ []) (LiesIn chunks.now number) }
+{
+    if near < chunks.len() {
+        let chunk = &chunks[near];
+        if number >= chunk.first && number - chunk.first < chunk.span {
+            return Some(near);
+        }
+    }
+    chunk_of(chunks, number)
+}
+
+/// Where the row of this number lies, if it is kept.
+fn locate_near(chunks: &[StoredChunk], near: usize, number: usize) -> Option<Location>
+    requires { (len : ℕ) × AreChunks 0 chunks.now len }
+    ensures { MatchOption result (row_in chunks.now number ≡ []) (λ at. LiesAt chunks.now number at.chunk at.index) }
+{
+    let place = chunk_near(chunks, near, number)?;
+    index_in(chunks, place, number)
+}
+
+/// Adds a run to the ranges, unless it has no rows.
+fn push_run<'a>(
+    chunks: &'a [StoredChunk],
+    run: Run,
+    ranges: &mut Vec<RowRange<'a>>,
+) -> Result<(), AllocError>
+    requires order { run.from ≤ run.to }
+    requires there { run.from < run.to → HasRun chunks.now run.chunk run.to }
+    ensures rows { OnOk result (ranges_rows ranges.new.items
+        ≡ ranges_rows ranges.old.items ++ run_rows chunks.now run.chunk run.from run.to) }
+    ensures ranges { OnOk result ((w : ℕ) → (run.from < run.to → IsWideAt chunks.now run.chunk w)
+        → All (IsRange w) ranges.old.items → All (IsRange w) ranges.new.items) }
+{
+    if run.from < run.to {
+        let chunk = &chunks[run.chunk];
+        ranges.push(RowRange {
+            batch: &chunk.batch,
+            from: run.from,
+            to: run.to,
+        })?;
+    }
+    Ok(())
+}
+
+/// Where the rows of these numbers lie, which are kept: as many as lie one after the other at once.
+pub(crate) fn find_ranges<'a>(
+    alloc: Global,
+    chunks: &'a [StoredChunk],
+    numbers: &[usize],
+) -> Result<Vec<RowRange<'a>>, AllocError>
+    requires chunks { (len : ℕ) × AreChunks 0 chunks.now len × (len < 2 ^ 64) }
+    requires kept { All (λ n. 0 < length (row_in chunks.now n)) numbers.now }
+    ensures rows { IfOk result (λ ranges. ranges_rows ranges.items ≡ map (row_in chunks.now) numbers.now) }
+    ensures ranges { IfOk result (λ ranges. (w : ℕ) → All (λ n. length (row_in chunks.now n) ≡ w) numbers.now
+        → All (IsRange w) ranges.items) }
+{
+    let mut ranges = Vec::new(alloc);
+    let mut run = Run {
+        chunk: 0,
+        from: 0,
+        to: 0,
+    };
+    for number in numbers {
+        let at = locate_near(chunks, run.chunk, *number).unwrap();
+        if at.chunk == run.chunk && at.index == run.to {
+            run.to += 1;
+        } else {
+            push_run(chunks, run, &mut ranges)?;
+            run = Run {
+                chunk: at.chunk,
+                from: at.index,
+                to: at.index + 1,
+            };
+        }
+    }
+    push_run(chunks, run, &mut ranges)?;
+    Ok(ranges)
+}
