@@ -110,18 +110,17 @@ impl Dicts {
     }
 
     /// Counts slots of a record batch: so many stand for values of each dictionary. A dictionary whose values can't be
-    /// lent as a slice is laid in one part, of copies, once there were enough slots to pay for it. Each keeps its
-    /// values, and one that was handed out stays as it is.
+    /// lent as a slice is laid in one part, of copies, once there were enough slots to pay for it, if there is memory for
+    /// it. Each keeps its values, and one that was handed out stays as it is.
     #[tactic(auto, using(crate::proofs::GatherLemmas::replacing))]
-    pub fn count_slots(&mut self, slots: usize) -> Result<(), AllocError>
+    pub fn count_slots(&mut self, slots: usize)
         ensures { self.new.entries ≡ self.old.entries }
     {
         for i in 0..self.by_id.len() {
             if let Some(latest) = self.by_id.get_index_mut(i) {
-                latest.count_slots(self.alloc, slots)?;
+                latest.count_slots(self.alloc, slots);
             }
         }
-        Ok(())
     }
 
     /// Applies a dictionary batch: `values` replace those of the id, or are added to them if `is_delta`. If memory is

@@ -59,20 +59,21 @@ impl Latest {
     }
 
     /// Counts slots that stand for values of the dictionary. Where the values can't be lent as a slice, and the slots
-    /// so far pay for it, they are gathered: then they can.
+    /// so far pay for it, they are gathered: then they can. Where memory for that is refused they stay as they lie.
     ///
     /// So the bytes that are copied are at most so many times the slots that came, whatever deltas came between them.
-    pub(crate) fn count_slots(&mut self, alloc: Global, slots: usize) -> Result<(), AllocError>
+    pub(crate) fn count_slots(&mut self, alloc: Global, slots: usize)
         ensures { self.new ≡ self.old }
     {
         self.slots = self.slots.saturating_add(slots);
         if self.dictionary.as_slice().is_some() {
-            return Ok(());
+            return;
         }
         if self.dictionary.weight() <= self.slots.saturating_mul(BYTES_FOR_A_SLOT) {
-            self.dictionary = self.dictionary.gathered(alloc)?;
             self.slots = 0;
+            if let Ok(gathered) = self.dictionary.gathered(alloc) {
+                self.dictionary = gathered;
+            }
         }
-        Ok(())
     }
 }

@@ -232,7 +232,7 @@ fn values_of_many_slots_are_gathered(rt: HostRuntime) -> Result<(), Fail> {
     let alloc = rt.alloc();
     let mut dictionaries = of_two_parts(alloc)?;
     let handed_out = dictionaries.share(7)?;
-    dictionaries.count_slots(100)?;
+    dictionaries.count_slots(100);
     assert!(rt; stands(&dictionaries, 7, &[1, 2, 3, 4]));
     let gathered = dictionaries.share(7)?;
     assert_eq!(rt; gathered.as_slice().ok_or("several parts")?.len(), 4);
@@ -248,12 +248,12 @@ fn values_of_many_slots_are_gathered(rt: HostRuntime) -> Result<(), Fail> {
 fn few_slots_gather_nothing_until_they_are_many(rt: HostRuntime) -> Result<(), Fail> {
     let alloc = rt.alloc();
     let mut dictionaries = of_two_parts(alloc)?;
-    dictionaries.count_slots(20)?;
+    dictionaries.count_slots(20);
     assert!(rt; dictionaries.share(7)?.as_slice().is_none());
-    dictionaries.count_slots(20)?;
+    dictionaries.count_slots(20);
     assert!(rt; dictionaries.share(7)?.as_slice().is_some());
     bring(&mut dictionaries, alloc, 7, true, &[5])?;
-    dictionaries.count_slots(20)?;
+    dictionaries.count_slots(20);
     assert!(rt; dictionaries.share(7)?.as_slice().is_none());
     Ok(())
 }
@@ -263,7 +263,7 @@ fn repeated_values_are_gathered_too(rt: HostRuntime) -> Result<(), Fail> {
     let alloc = rt.alloc();
     let mut dictionaries = Dicts::new(alloc);
     dictionaries.apply(8, false, nulls(alloc, 3)?)?;
-    dictionaries.count_slots(100)?;
+    dictionaries.count_slots(100);
     let gathered = dictionaries.share(8)?;
     assert_eq!(rt; gathered.as_slice().ok_or("runs")?.len(), 3);
     assert!(rt; is_null(&gathered, 2));

@@ -81,7 +81,8 @@ fn take_dictionary(
     })
 }
 
-/// Reads a record batch. Its slots are counted before: no more than its rows for each dictionary, nor than its bytes.
+/// Reads a record batch. Before that its rows are counted as slots of each dictionary, but no more of them than its body
+/// has bytes.
 fn take_batch(
     alloc: Global,
     schema: &StreamSchema,
@@ -98,7 +99,7 @@ fn take_batch(
 {
     let rows = header.rows;
     let len = body.len();
-    dicts.count_slots(rows.min(len))?;
+    dicts.count_slots(rows.min(len));
     let columns = take_columns(alloc, schema, header, body, dicts)?;
     Ok(FeedEvent::Batch {
         columns,
