@@ -1,15 +1,15 @@
 -- Views that can be kept by sub-groups.
-use Rattle.std.proofs.Common.{◌≡◌, ◌&&◌, ◌||◌, ℕ, suc, arith, Bool, List, [], ◌∷◌, ap, ap₂, false, not, refl, subst, sym, true, true≢false}
+use Rattle.std.proofs.Common.{◌≡◌, ◌&&◌, ◌||◌, ℕ, suc, arith, Bool, List, None, Option, Some, [], ◌∷◌, ap, ap₂, false, not, refl, subst, sym, true, true≢false}
 use Rattle.std.proofs.lemmas.Bool.{eqb-true}
 use Rattle.std.specs.List.{list_any}
 use Rattle.std.specs.Prelude.{◌==◌}
 use Rattle.view_lang.specs.Outputs.{GroupOutput}
 use Rattle.view_lang.specs.declared.aggregate.Aggregate.{Aggregate}
-use Rattle.view_lang.specs.declared.aggregate.Aggregate.TheVariants as aggregate
-use Rattle.group_state.specs.Aggregates.{AreReadBy, is_read, reads}
+use Rattle.view_lang.specs.Aggregates.{column_read}
+use Rattle.group_state.specs.Aggregates.{AreReadBy, is_number_of, is_read, reads}
 use Rattle.group_state.specs.declared.kept_columns.KeptColumn.{KeptColumn}
 use Rattle.sub_groups.specs.FilterParts.{is_main}
-use Rattle.sub_groups.specs.Moved.{read_side, reads_side}
+use Rattle.sub_groups.specs.Moved.{is_side, read_side, reads_side}
 use Rattle.sub_groups.specs.SubGroups.{are_main}
 
 not-not : (b : Bool) → not b ≡ false → b ≡ true
@@ -19,14 +19,12 @@ not-not false h = absurd (true≢false h)
 same-main : (n j k : ℕ) → (j == k) ≡ true → not (is_main n j) ≡ false → is_main n k ≡ true
 same-main n j k same main = subst (λ (i : ℕ). is_main n i ≡ true) (eqb-true j k same) (not-not (is_main n j) main)
 
+by-column : (n k : ℕ) (column : Option ℕ) → is_number_of column k ≡ true → is_side n column ≡ false → is_main n k ≡ true
+by-column n k None read main = absurd (true≢false (sym read))
+by-column n k (Some j) read main = same-main n j k read main
+
 one-main : (n k : ℕ) (a : Aggregate) → reads a k ≡ true → reads_side n a ≡ false → is_main n k ≡ true
-one-main n k (aggregate.Key i) read main = absurd (true≢false (sym read))
-one-main n k aggregate.Count read main = absurd (true≢false (sym read))
-one-main n k (aggregate.CountOf j) read main = same-main n j k read main
-one-main n k (aggregate.Distinct j) read main = same-main n j k read main
-one-main n k (aggregate.Sum j) read main = same-main n j k read main
-one-main n k (aggregate.Least j) read main = same-main n j k read main
-one-main n k (aggregate.Greatest j) read main = same-main n j k read main
+one-main n k a = by-column n k (column_read a)
 
 either-main : (P : Type 0) (a b c d : Bool) → (c || d) ≡ false → (a || b) ≡ true
     → (a ≡ true → c ≡ false → P) → (b ≡ true → d ≡ false → P) → P
