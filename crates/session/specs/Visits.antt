@@ -22,8 +22,7 @@ OpensTouched old rows [] new = OpensNone old new
 OpensTouched old rows (r ∷ rs) new =
     OpensOnce old (touched (tables_in old.stores) old.views rows r.table r.change) new
 
--- An edit that is accepted opens the rows that it touches, at most once for each view; one that doesn't fit opens
--- none.
+-- An edit that is accepted opens at most as many rows for each view as it touches; one that doesn't fit opens none.
 abbrev pub EditOpens : {X : Type 0} → LiveParts → Result X EditFault → List UndoRecord → LiveParts → Type 0
 EditOpens old (Ok x) records new = OpensTouched old (rows_in new.stores) records new
 EditOpens old (Err (edit_fault.Unfit u)) records new = OpensNone old new

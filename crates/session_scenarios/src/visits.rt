@@ -28,7 +28,7 @@ fn r7_rows(rt: HostRuntime) -> Result<(), Fail> {
     add(&rt, &mut session, 3, b'p', 4);
     let before = session.visits();
     retract(&rt, &mut session, 1);
-    assert!(rt; opened(&session, before) <= 8);
+    assert!(rt; opened(&session, before) <= 6);
     let mut sink = MemorySink::new(rt.alloc());
     for view in ["sums", "zone", "all"] {
         assert_eq!(rt; write(&rt, &mut session, view, &mut sink), 0);

@@ -21,8 +21,8 @@ StaleByMemory old (Err fault.Memory) new = Unit {0}
 abbrev pub NoneBecomesStale : List Bool → List Bool → Type 0
 NoneBecomesStale old new = (n : ℕ) → get_or old n false ≡ false → get_or new n false ≡ false
 
--- An edit of table n that is made opens the rows that it touches, at most once for each view; one that doesn't fit
--- opens none.
+-- An edit of table n that is made opens at most as many rows for each view as it touches; one that doesn't fit opens
+-- none.
 abbrev pub VisitsOf : ℕ → LiveParts → Result TableChange EditFault → LiveParts → Type 0
 VisitsOf n old (Ok change) new =
     OpensOnce old (touched (tables_in old.stores) old.views (rows_in new.stores) n change) new

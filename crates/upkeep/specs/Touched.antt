@@ -44,7 +44,7 @@ touched tables views rows (suc side) change =
     count_by (refers (width_in tables) views (suc side)
     (named_keys (table_at tables (suc side)) change (rows_at rows (suc side)))) (live (rows_at rows 0))
 
--- Each view may open each row once.
+-- Each view may open so many rows.
 abbrev pub OpensOnce : LiveParts → ℕ → LiveParts → Type 0
 OpensOnce old rows new = visits_in new.stores ≤ visits_in old.stores + length old.views * rows
 
@@ -60,7 +60,7 @@ opened_of v side slots = opened_by v.outputs (length (view_rows v side (live slo
 abbrev pub built_of : Bool → List Slot → ℕ
 built_of stale slots = if stale then length (live slots) else 0
 
--- The rows of a view are read: those that it shows are opened once, and once more all live ones if it is stale.
+-- The rows of a view are read: no more are opened than it shows, and besides as many as are live if it is stale.
 abbrev pub OpensShown : LiveParts → ℕ → LiveParts → Type 0
 OpensShown old place new =
     visits_in new.stores
