@@ -55,9 +55,8 @@ fn mark_lookups_stale(views: &[View], states: &mut Vec<ViewState>, table: usize)
 }
 
 /// Brings what is kept of a view up to a change of a side table that names `keys`, by the rows of the main table with
-/// these numbers, which refer to these keys: what the view made of a row before goes, and what it makes of it now comes,
-/// but where the same is kept of both. Each of the rows is visited at most once. After an error what is kept has no
-/// meaning.
+/// these numbers, which refer to these keys: what the view made of a row before goes, and what it makes of it now
+/// comes, but where the same is kept of both. After an error what is kept has no meaning.
 fn remake_rows(
     alloc: Global,
     stores: &mut Vec<RowStore>,
