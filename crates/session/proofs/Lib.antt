@@ -18,3 +18,4 @@ mod Restored
 mod Releasing
 mod Evicting
 mod Touching
+pub mod StoredViews

@@ -27,3 +27,4 @@ pub mod TakenApart
 pub mod GoneRows
 pub mod MovedSubGroups
 pub mod MovedRows
+pub mod ShownColumns
