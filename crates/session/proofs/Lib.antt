@@ -20,3 +20,4 @@ mod Restored
 mod ReleasedRecords
 mod LastItems
 mod TouchedRows
+pub mod StoredViews

@@ -1,19 +1,86 @@
 //! Writes views.
 
-ghost use Rattle.std.specs.Prelude.{◌≡◌, ◌<◌, false, OnOk, length, slice_set};
+ghost use Rattle.std.specs.Prelude.{◌≡◌, ◌<◌, All, false, OnOk, length, map, slice_set};
+ghost use Rattle.column_writer.specs.Picked.{picked_rows};
 ghost use Rattle.stream_writer.specs.Sinks.{Writes};
+ghost use Rattle.stream_writer.specs.Stream.{canon};
+ghost use Rattle.stream_writer.specs.Table.{IsTable};
+ghost use Rattle.view_lang.specs.Laws.{Viewed};
 ghost use Rattle.view_lang.specs.ViewColumns.{view_columns};
+ghost use Rattle.view_lang.specs.Views.{view_rows};
+ghost use Rattle.row_keys.specs.Slots.{live, row_of};
+ghost use Rattle.upkeep.specs.Inputs.{side_by};
 ghost use Rattle.upkeep.specs.LiveEdits.{NoneBecomesStale};
 ghost use Rattle.upkeep.specs.LiveParts.{view_at};
-ghost use Rattle.upkeep.specs.Stores.{rows_in, tables_in, world_of};
+ghost use Rattle.upkeep.specs.Shown.{IsLiveAt, Shows};
+ghost use Rattle.upkeep.specs.Stores.{rows_at, rows_in, tables_in, world_of};
 ghost use Rattle.upkeep.specs.Touched.{OpensShown};
+ghost use Rattle.upkeep.specs.ViewStates.{width_in};
 ghost use Rattle.session.specs.Steps.{IsReadAsView, stream_of};
 
 use std::alloc::Global;
-use stream_writer::{Sink, WriteFault, coded_law, write_coded};
-use upkeep::LiveTables;
+use stream_writer::{Sink, WriteFault, coded_law, write_coded, write_ranges};
+use upkeep::{LiveTables, Shown, StoredColumns};
 use values::Schema;
 use view_lang::{config_law, rows_law};
+
+/// Writes the canonical stream of columns of the main table from where they are stored, and returns its length in
+/// bytes.
+fn write_stored<S: Sink>(
+    alloc: Global,
+    tables: &LiveTables,
+    schema: &Schema,
+    stored: StoredColumns,
+    sink: &mut S,
+) -> Result<u64, WriteFault>
+    requires live { All (IsLiveAt (rows_at (rows_in tables.now.stores) 0)) stored.visits }
+    requires below { All (λ j. j < width_in (tables_in tables.now.stores)) stored.columns.items }
+    requires many { length stored.columns.items ≡ length schema.now.fields.items }
+    requires table { IsTable schema.now.fields.items (picked_rows stored.columns.items
+        (map (row_of (rows_at (rows_in tables.now.stores) 0)) stored.visits)) }
+    ensures { Writes (S.sunk sink.old) (S.sunk sink.new) result (canon schema.now.fields.items
+        (picked_rows stored.columns.items
+        (map (row_of (rows_at (rows_in tables.now.stores) 0)) stored.visits))) }
+{
+    let StoredColumns { columns, visits } = stored;
+    let count = visits.len();
+    let ranges = tables.ranges(visits)?;
+    write_ranges(alloc, sink, schema, &columns, &ranges, count)
+}
+
+/// Writes the canonical stream of what the view at this place shows, and returns its length in bytes.
+fn write_shown<S: Sink>(
+    alloc: Global,
+    tables: &LiveTables,
+    place: usize,
+    schema: &Schema,
+    shown: Shown,
+    sink: &mut S,
+) -> Result<u64, WriteFault>
+    requires main { 0 < length tables.now.stores }
+    requires there { place < length tables.now.views }
+    requires schema { schema.now.fields.items
+        ≡ view_columns (tables_in tables.now.stores) (view_at tables.now.views place) }
+    requires viewed { Viewed (tables_in tables.now.stores) (view_at tables.now.views place)
+        (side_by (tables_in tables.now.stores) (rows_in tables.now.stores) (view_at tables.now.views place))
+        (live (rows_at (rows_in tables.now.stores) 0)) }
+    requires shown { Shows (view_at tables.now.views place) (width_in (tables_in tables.now.stores))
+        (rows_at (rows_in tables.now.stores) 0) shown (view_rows (view_at tables.now.views place)
+        (side_by (tables_in tables.now.stores) (rows_in tables.now.stores) (view_at tables.now.views place))
+        (live (rows_at (rows_in tables.now.stores) 0))) }
+    ensures { Writes (S.sunk sink.old) (S.sunk sink.new) result
+        (stream_of (tables_in tables.now.stores) (view_at tables.now.views place)
+        (world_of (rows_in tables.now.stores))) }
+{
+    // They do nothing: the proof takes from them that the rows of a view can be written.
+    config_law();
+    rows_law();
+    let view = &tables.views()[place];
+    match shown {
+        Shown::Rows(rows) => write_coded(alloc, sink, schema, &view.coded_outputs, &rows),
+        Shown::Stored(stored) => write_stored(alloc, tables, schema, stored, sink),
+    }
+}
 
 /// Writes the canonical stream of what a view shows of the live rows, and returns its length in bytes.
 pub(crate) fn write_rows<S: Sink>(
@@ -46,6 +113,5 @@ pub(crate) fn write_rows<S: Sink>(
     rows_law();
     coded_law();
     let shown = tables.view_rows(place)?;
-    let view = &tables.views()[place];
-    write_coded(alloc, sink, schema, &view.coded_outputs, &shown)
+    write_shown(alloc, tables, place, schema, shown, sink)
 }

@@ -76,7 +76,7 @@ use Rattle.upkeep.specs.declared.view_state.Kept.TheVariants as kept
 use Rattle.upkeep.specs.declared.view_state.Links.{Links}
 use Rattle.upkeep.specs.declared.view_state.Links.TheVariants as links
 use Rattle.upkeep.specs.declared.view_state.ViewState.{ViewState}
-use Rattle.upkeep.proofs.MadeRows.{Laws, are_made, first_taken, made_rows, made_values}
+use Rattle.upkeep.proofs.MadeRows.{Laws, are_made, first_taken, made_rows, made_values, shown_by}
 
 -- Something is made of each row
 
@@ -176,7 +176,7 @@ module _ (laws : Laws) (tables : List Table) (v : View) (side : Side) (slots : L
       ∙ own_taken made made (own-entries nat_cmp nat_cmp_total made ascending) most
       ∙ ap (map Some) (taken is) in
       let are = are_made laws v side slots numbers (view_rows v side (live slots)) same in
-      record { there = are.all; rows = are.made; many = are.many }
+      shown_by v side slots numbers are
 
 pub live_are_shown : Laws → LiveAreShown
 live_are_shown laws tables v side slots is = live_shown laws tables v side slots is.kept is.viewed

@@ -31,3 +31,4 @@ pub mod TakenApart
 pub mod GoneRows
 pub mod MovedSubGroups
 pub mod MovedRows
+pub mod ShownColumns

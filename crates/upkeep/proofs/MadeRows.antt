@@ -37,7 +37,7 @@ use Rattle.std.specs.List.{AllByRecursion, cons_option}
 use Rattle.std.specs.Map.{values_of}
 use Rattle.std.specs.Option.{option_and_then, unwrap_or}
 use Rattle.std.proofs.lemmas.List.{length-map, take_all, take_more}
-use Rattle.std.proofs.lemmas.List.Elements.{All-cons, All-nil, filter_map-append}
+use Rattle.std.proofs.lemmas.List.Elements.{All-cons, All-nil, All-weaker, filter_map-append}
 use Rattle.values.specs.Datum.{Datum}
 use Rattle.values.specs.Limits.{max_main_rows}
 use Rattle.view_lang.specs.Cells.{rows_of}
@@ -74,6 +74,7 @@ use Rattle.upkeep.specs.Reading.{
   IsReadable,
   made_at,
 }
+use Rattle.upkeep.specs.Shown.{IsLiveAt}
 use Rattle.upkeep.specs.ViewStates.{IsKept, IsKeptBy, ShowsEach, made_by, made_row}
 use Rattle.upkeep.specs.declared.view_state.Kept.TheVariants as kept
 
@@ -154,6 +155,25 @@ made_numbers given make P each (n ∷ ns) (r ∷ rs) same =
       many = ap suc rest.many;
     }
 
+-- The row of that number is live, and something is made of it.
+abbrev pub IsMadeAt : View → Side → List Slot → ℕ → Type 0
+IsMadeAt v side slots n = IsLiveAt slots n × ((row : List Datum) × (made_row v side (row_of slots n) ≡ Some row))
+
+pub shown_by :
+    (v : View) (side : Side) (slots : List Slot) (numbers : List ℕ)
+    → Are (λ n. made_row v side (row_of slots n)) (IsMadeAt v side slots) numbers (view_rows v side (live slots))
+    → AreShown v side slots numbers
+shown_by v side slots numbers are =
+    let P : ℕ → Type 0 = IsMadeAt v side slots in
+    let M : ℕ → Type 0 = λ n. (row : List Datum) × (made_row v side (row_of slots n) ≡ Some row) in
+    record {
+      there = All-weaker P (λ n. n < length slots) (λ n h. live_there slots n h.0) numbers are.all;
+      each_live = All-weaker P (IsLiveAt slots) (λ n h. h.0) numbers are.all;
+      each_made = All-weaker P M (λ n h. h.1) numbers are.all;
+      rows = are.made;
+      many = are.many;
+    }
+
 -- The first rows
 
 all_at : (P : List Datum → Type 0) (es : NumberedRows) → AllByRecursion P (values_of es)
@@ -176,23 +196,23 @@ module _ (laws : Laws) where
   made_there :
       (v : View) (side : Side) (slots : List Slot) (n : ℕ) (r : List Datum)
       → row_at n (image (made_row v side) (numbered slots)) ≡ Some r
-      → (made_row v side (row_of slots n) ≡ Some r) × (n < length slots)
+      → (made_row v side (row_of slots n) ≡ Some r) × IsMadeAt v side slots n
   made_there v side slots n r here =
       let s : Slot = get_or slots n no_slot in
       let made : option_and_then (made_row v side) (live_at slots n) ≡ Some r =
       sym (laws.at (made_row v side) (numbered slots) n (laws.ascend slots)
       ∙ ap (option_and_then (made_row v side)) (laws.numbers slots n)) ∙ here in
       let both = live_made (made_row v side) s.live s.row r made in
-      (both.0, live_there slots n both.1)
+      (both.0, (both.1, (r, both.0)))
 
   -- the rows of numbers under which there is something
   pub are_made :
       (v : View) (side : Side) (slots : List Slot) (numbers : List ℕ) (rows : List (List Datum))
       → map (λ n. row_at n (image (made_row v side) (numbered slots))) numbers ≡ map Some rows
-      → Are (λ n. made_row v side (row_of slots n)) (λ n. n < length slots) numbers rows
+      → Are (λ n. made_row v side (row_of slots n)) (IsMadeAt v side slots) numbers rows
   are_made v side slots numbers rows same =
       made_numbers (λ n. row_at n (image (made_row v side) (numbered slots)))
-      (λ n. made_row v side (row_of slots n)) (λ n. n < length slots) (made_there v side slots) numbers rows same
+      (λ n. made_row v side (row_of slots n)) (IsMadeAt v side slots) (made_there v side slots) numbers rows same
 
   plain_by :
       (Each : Type 0) (v : View) (side : Side) (slots : List Slot) (os : Outputs) (o : OrderedPlaces) → v.outputs ≡ os
@@ -240,7 +260,7 @@ module _ (laws : Laws) where
     firsts :
         (most : ℕ) (numbers : List ℕ) → most ≡ unwrap_or v.first max_main_rows
         → AreFirst o.order most (image (made_row v side) (numbered slots)) numbers
-        → Are (λ n. made_row v side (row_of slots n)) (λ n. n < length slots) numbers (view_rows v side (live slots))
+        → Are (λ n. made_row v side (row_of slots n)) (IsMadeAt v side slots) numbers (view_rows v side (live slots))
     firsts most numbers asked first =
         are_made v side slots numbers (view_rows v side (live slots)) (first ∙ ap (map Some) (shown_first most asked))
 
@@ -285,7 +305,7 @@ pub firsts_are_shown : Laws → FirstsAreShown
 firsts_are_shown laws tables v side slots o numbers is first =
     let are = firsts laws tables v side slots o is.viewed is.kept (unwrap_or v.first max_main_rows) numbers refl
     (first (order_readable laws tables v side slots o is.viewed is.kept)) in
-    record { there = are.all; rows = are.made; many = are.many }
+    shown_by v side slots numbers are
 
 -- the first numbers, however the view's own was read
 pub firsts_asked :

@@ -1,5 +1,5 @@
 -- What a view shows, read out of what is kept of it.
-use Rattle.std.specs.Prelude.{◌≡◌, ℕ, ◌<◌, All, List, length, take}
+use Rattle.std.specs.Prelude.{◌≡◌, ℕ, ◌<◌, All, List, Some, length, take}
 use Rattle.std.specs.List.{filter_map}
 use Rattle.std.specs.Map.{keys_of}
 use Rattle.std.specs.Option.{unwrap_or}
@@ -16,6 +16,7 @@ use Rattle.top_rows.specs.OrderedPlaces.{OrderedPlaces}
 use Rattle.top_rows.specs.ViewOrder.{AreFirst, IsKeptFor}
 use Rattle.row_keys.specs.Numbered.{numbered}
 use Rattle.row_keys.specs.Slots.{Slot, live, row_of}
+use Rattle.upkeep.specs.Shown.{IsLiveAt}
 use Rattle.upkeep.specs.ViewStates.{IsKept, made_row}
 use Rattle.upkeep.specs.declared.view_state.Kept.{Kept}
 use Rattle.upkeep.specs.declared.view_state.Kept.TheVariants as kept
@@ -39,9 +40,12 @@ GroupsAreShown =
     → made ≡ take (unwrap_or v.first max_main_rows) (ranked_rows g.groups.keys g.ranking rows))
     → made ≡ view_rows v side (live slots)
 
--- These are the numbers of the rows that a plain view shows, in their order.
+-- These are the numbers of the rows that a plain view shows, in their order. They are live, and something is made of
+-- each.
 pub record AreShown (v : View) (side : Side) (slots : List Slot) (numbers : List ℕ) : Type 0 where
   pub there : All (λ n. n < length slots) numbers
+  pub each_live : All (IsLiveAt slots) numbers
+  pub each_made : All (λ n. (row : List Datum) × (made_row v side (row_of slots n) ≡ Some row)) numbers
   pub rows : made_at v side slots numbers ≡ view_rows v side (live slots)
   pub many : length numbers ≡ length (view_rows v side (live slots))
 

@@ -3,8 +3,8 @@
 //!
 //! `specs/Stores.antt` says which tables and rows stores hold, `specs/TableChanges.antt` what edits do to them,
 //! `specs/Inputs.antt` what a view keeps of a row, `specs/ViewStates.antt` what is kept of a view, `specs/Reading.antt`
-//! what is read out of it, `specs/LiveEdits.antt` what edits do to tables and views together, and
-//! `specs/ViewParts.antt` and `specs/TablesParts.antt` of which parts all of it is made.
+//! and `specs/Shown.antt` what is read out of it, `specs/LiveEdits.antt` what edits do to tables and views together,
+//! and `specs/ViewParts.antt` and `specs/TablesParts.antt` of which parts all of it is made.
 #![tactic(auto)]
 
 mod alike;
@@ -20,6 +20,7 @@ mod parts;
 mod reading;
 mod release;
 mod remaking;
+mod shown;
 mod side_rows;
 mod sided_row;
 mod sub_group_moves;
@@ -32,4 +33,5 @@ mod viewed;
 
 pub use live_tables::LiveTables;
 pub use parts::{KeptParts, LinksParts, LiveTablesParts, ViewParts};
+pub use shown::{Shown, StoredColumns};
 pub use table_change::TableChange;

@@ -7,6 +7,7 @@ ghost use Rattle.std.specs.Prelude.{
   ◌≤◌,
   ◌+◌,
   [],
+  All,
   false,
   count_by,
   get_or,
@@ -18,7 +19,7 @@ ghost use Rattle.std.specs.Prelude.{
   slice_set,
   true,
 };
-ghost use Rattle.view_lang.specs.Cells.{rows_of};
+ghost use Rattle.column_writer.specs.Batches.{IsRange, ranges_rows};
 ghost use Rattle.view_lang.specs.Edits.{table_of};
 ghost use Rattle.view_lang.specs.Laws.{Viewed};
 ghost use Rattle.view_lang.specs.ViewColumns.{columns_by, feed_columns, key_column};
@@ -31,12 +32,14 @@ ghost use Rattle.row_keys.specs.Slots.{
   CanTakeBack,
   live,
   put_back,
+  row_of,
   taken_back,
 };
 ghost use Rattle.row_keys.specs.Store.{live_in};
 ghost use Rattle.upkeep.specs.Inputs.{side_by};
 ghost use Rattle.upkeep.specs.LiveParts.{AreOf, store_at, view_at};
 ghost use Rattle.upkeep.specs.LiveEdits.{Edited, NoneBecomesStale, WentBack};
+ghost use Rattle.upkeep.specs.Shown.{IsLiveAt, Shows};
 ghost use Rattle.upkeep.specs.Stores.{rows_at, rows_in, tables_in, visits_in};
 ghost use Rattle.upkeep.specs.TableChanges.{
   CanGoBack,
@@ -49,6 +52,7 @@ ghost use Rattle.upkeep.specs.TableChanges.{
 };
 ghost use Rattle.upkeep.specs.TablesParts.{AreLiveParts, live_with};
 ghost use Rattle.upkeep.specs.Touched.{OpensShown, built_of, touched};
+ghost use Rattle.upkeep.specs.ViewStates.{width_in};
 
 use crate::all_views::{count_stale, follow_all, follow_last, fresh_states, replace_state};
 use crate::arrivals::arrivals_for;
@@ -56,18 +60,19 @@ use crate::edits::{append_batch, find_rows, make_edit, restore};
 use crate::follow::rebuild;
 use crate::lookup_views::follow_lookups;
 use crate::parts::LiveTablesParts;
-use crate::reading::kept_rows;
+use crate::reading::show_kept;
 use crate::release::release;
+use crate::shown::Shown;
 use crate::swaps::{forget, swap};
 use crate::table_change::TableChange;
 use crate::view_parts::{make_states, take_states};
 use crate::view_state::{Turn, ViewState};
 use crate::viewed::viewed_law;
 use arrays::Column;
-use row_keys::{EditFault, RowStore, numbers_law};
+use column_writer::RowRange;
+use row_keys::{EditFault, RowStore, Visits, numbers_law};
 use std::alloc::{AllocError, Global};
 use std::marker::Model;
-use values::Row;
 use view_lang::{Role, View};
 
 fn table_of(role: Role, tables: usize) -> usize
@@ -453,13 +458,14 @@ impl LiveTables {
         Ok(())
     }
 
-    /// The rows that the view at this place shows, read out of what is kept of it. A stale view is built anew first.
-    pub fn view_rows(&mut self, place: usize) -> Result<Vec<Row>, AllocError>
+    /// What the view at this place shows, read out of what is kept of it. A stale view is built anew first.
+    pub fn view_rows(&mut self, place: usize) -> Result<Shown, AllocError>
         requires { place < length self.old.views }
-        ensures rows { IfOk result (λ rows. rows_of rows.items ≡ view_rows (view_at self.old.views place)
+        ensures rows { IfOk result (λ shown. Shows (view_at self.old.views place) (width_in (tables_in self.old.stores))
+            (rows_at (rows_in self.old.stores) 0) shown (view_rows (view_at self.old.views place)
             (side_by (tables_in self.old.stores) (rows_in self.old.stores) (view_at self.old.views place))
-            (live (rows_at (rows_in self.old.stores) 0))) }
-        ensures viewed { IfOk result (λ rows. Viewed (tables_in self.old.stores) (view_at self.old.views place)
+            (live (rows_at (rows_in self.old.stores) 0)))) }
+        ensures viewed { IfOk result (λ shown. Viewed (tables_in self.old.stores) (view_at self.old.views place)
             (side_by (tables_in self.old.stores) (rows_in self.old.stores) (view_at self.old.views place))
             (live (rows_at (rows_in self.old.stores) 0))) }
         ensures tables { tables_in self.new.stores ≡ tables_in self.old.stores }
@@ -472,6 +478,16 @@ impl LiveTables {
         self.refresh(place)?;
         let view = &self.views[place];
         viewed_law(&self.stores, view);
-        kept_rows(self.alloc, &mut self.stores, view, &self.states[place])
+        show_kept(self.alloc, &mut self.stores, view, &self.states[place])
+    }
+
+    /// Where the visited rows of the main table lie, which are live: as many as lie one after the other at once.
+    pub fn ranges(&self, visits: Visits) -> Result<Vec<RowRange<'_>>, AllocError>
+        requires { All (IsLiveAt (rows_at (rows_in self.now.stores) 0)) visits }
+        ensures rows { IfOk result (λ ranges.
+            ranges_rows ranges.items ≡ map (row_of (rows_at (rows_in self.now.stores) 0)) visits) }
+        ensures ranges { IfOk result (λ ranges. All (IsRange (width_in (tables_in self.now.stores))) ranges.items) }
+    {
+        self.stores[0].ranges(visits)
     }
 }

@@ -1,4 +1,4 @@
-//! Reads the rows that a view shows out of what is kept of it.
+//! Reads what a view shows out of what is kept of it.
 
 ghost use Rattle.std.specs.Prelude.{◌≡◌, ◌<◌, ◌≤◌, ◌+◌, ◌++◌, All, false, IfOk, OnOk, length, List, true};
 ghost use Rattle.std.specs.Option.{option_map};
@@ -24,11 +24,13 @@ ghost use Rattle.upkeep.specs.Reading.{
 };
 ghost use Rattle.upkeep.specs.Stores.{rows_at, rows_in, tables_in, visits_in};
 ghost use Rattle.upkeep.specs.Touched.{opened_of};
-ghost use Rattle.upkeep.specs.ViewStates.{IsCurrent, is_plain, made_row};
+ghost use Rattle.upkeep.specs.Shown.{Shows};
+ghost use Rattle.upkeep.specs.ViewStates.{IsCurrent, is_plain, made_row, width_in};
 ghost use Rattle.upkeep.specs.declared.view_state.Kept.TheVariants as kept;
 
 use crate::inputs::join_row;
 use crate::joined_row::JoinedRow;
+use crate::shown::{Shown, StoredColumns, shown_columns, shows_stored};
 use crate::view_state::{Kept, ViewState};
 use group_order::RankedGroups;
 use row_keys::{RowStore, numbers_law};
@@ -154,22 +156,56 @@ fn push_some(rows: &mut Vec<Row>, row: Option<Row>) -> Result<(), AllocError>
     }
 }
 
-/// The rows that a plain view shows, of which these are the numbers. Only these are visited.
-fn shown_rows(
+/// What a plain view with these outputs shows, of which these are the numbers. Only these are visited.
+fn show_columns(
     alloc: Global,
     stores: &mut Vec<RowStore>,
     view: &View,
-    numbers: &[usize],
-) -> Result<Vec<Row>, AllocError>
+    outputs: &[Output],
+    numbers: Vec<usize>,
+) -> Result<Shown, AllocError>
+    requires main { 0 < length stores.old.items }
+    requires view { IsView (tables_in stores.old.items) view.now }
+    requires plain { view.now.outputs ≡ columns outputs.now }
+    requires shown { AreShown view.now
+        (side_by (tables_in stores.old.items) (rows_in stores.old.items) view.now)
+        (rows_at (rows_in stores.old.items) 0) numbers.items }
+    ensures rows { IfOk result (λ shown. Shows view.now (width_in (tables_in stores.old.items))
+        (rows_at (rows_in stores.old.items) 0) shown
+        (view_rows view.now (side_by (tables_in stores.old.items) (rows_in stores.old.items) view.now)
+        (live (rows_at (rows_in stores.old.items) 0)))) }
+    ensures tables { tables_in stores.new.items ≡ tables_in stores.old.items }
+    ensures same_rows { rows_in stores.new.items ≡ rows_in stores.old.items }
+    ensures visits { visits_in stores.new.items ≤ visits_in stores.old.items + length numbers.items }
+{
+    if !shows_stored(view, outputs, stores[0].table().columns.len()) {
+        let rows = make_rows(alloc, stores, view, outputs, &numbers)?;
+        return Ok(Shown::Rows(rows));
+    }
+    // It does nothing: the proof takes from it that live rows have a cell in each column.
+    stores[0].rows_law();
+    let columns = shown_columns(alloc, outputs)?;
+    let visits = stores[0].visit_all(numbers);
+    Ok(Shown::Stored(StoredColumns { columns, visits }))
+}
+
+/// What a plain view shows, of which these are the numbers. Only these are visited.
+fn show_numbers(
+    alloc: Global,
+    stores: &mut Vec<RowStore>,
+    view: &View,
+    numbers: Vec<usize>,
+) -> Result<Shown, AllocError>
     requires main { 0 < length stores.old.items }
     requires view { IsView (tables_in stores.old.items) view.now }
     requires plain { is_plain view.now.outputs ≡ true }
     requires shown { AreShown view.now
         (side_by (tables_in stores.old.items) (rows_in stores.old.items) view.now)
-        (rows_at (rows_in stores.old.items) 0) numbers.now }
-    ensures rows { IfOk result (λ rows. rows_of rows.items
-        ≡ view_rows view.now (side_by (tables_in stores.old.items) (rows_in stores.old.items) view.now)
-        (live (rows_at (rows_in stores.old.items) 0))) }
+        (rows_at (rows_in stores.old.items) 0) numbers.items }
+    ensures rows { IfOk result (λ shown. Shows view.now (width_in (tables_in stores.old.items))
+        (rows_at (rows_in stores.old.items) 0) shown
+        (view_rows view.now (side_by (tables_in stores.old.items) (rows_in stores.old.items) view.now)
+        (live (rows_at (rows_in stores.old.items) 0)))) }
     ensures tables { tables_in stores.new.items ≡ tables_in stores.old.items }
     ensures same_rows { rows_in stores.new.items ≡ rows_in stores.old.items }
     ensures visits { visits_in stores.new.items ≤ visits_in stores.old.items + length (view_rows view.now
@@ -177,25 +213,26 @@ fn shown_rows(
         (live (rows_at (rows_in stores.old.items) 0))) }
 {
     match &view.outputs {
-        Outputs::Columns(outputs) => make_rows(alloc, stores, view, outputs, numbers),
+        Outputs::Columns(outputs) => show_columns(alloc, stores, view, outputs, numbers),
         Outputs::Groups { .. } => unreachable!(),
     }
 }
 
-/// The rows that a plain view shows in the order that is kept of it.
-fn first_rows(
+/// What a plain view shows in the order that is kept of it.
+fn show_first(
     alloc: Global,
     stores: &mut Vec<RowStore>,
     view: &View,
     order: &Ordered,
-) -> Result<Vec<Row>, AllocError>
+) -> Result<Shown, AllocError>
     requires main { 0 < length stores.old.items }
     requires kept { IsReadable (tables_in stores.old.items) view.now
         (side_by (tables_in stores.old.items) (rows_in stores.old.items) view.now)
         (rows_at (rows_in stores.old.items) 0) (kept.Order order.now) }
-    ensures rows { IfOk result (λ rows. rows_of rows.items
-        ≡ view_rows view.now (side_by (tables_in stores.old.items) (rows_in stores.old.items) view.now)
-        (live (rows_at (rows_in stores.old.items) 0))) }
+    ensures rows { IfOk result (λ shown. Shows view.now (width_in (tables_in stores.old.items))
+        (rows_at (rows_in stores.old.items) 0) shown
+        (view_rows view.now (side_by (tables_in stores.old.items) (rows_in stores.old.items) view.now)
+        (live (rows_at (rows_in stores.old.items) 0)))) }
     ensures tables { tables_in stores.new.items ≡ tables_in stores.old.items }
     ensures same_rows { rows_in stores.new.items ≡ rows_in stores.old.items }
     ensures visits { visits_in stores.new.items ≤ visits_in stores.old.items + length (view_rows view.now
@@ -203,18 +240,19 @@ fn first_rows(
         (live (rows_at (rows_in stores.old.items) 0))) }
 {
     let numbers = first_numbers(alloc, view, order)?;
-    shown_rows(alloc, stores, view, &numbers)
+    show_numbers(alloc, stores, view, numbers)
 }
 
-/// The rows that a plain view shows where it shows each row in its place.
-fn live_rows(alloc: Global, stores: &mut Vec<RowStore>, view: &View) -> Result<Vec<Row>, AllocError>
+/// What a plain view shows where it shows each row in its place.
+fn show_live(alloc: Global, stores: &mut Vec<RowStore>, view: &View) -> Result<Shown, AllocError>
     requires main { 0 < length stores.old.items }
     requires kept { IsReadable (tables_in stores.old.items) view.now
         (side_by (tables_in stores.old.items) (rows_in stores.old.items) view.now)
         (rows_at (rows_in stores.old.items) 0) kept.Live }
-    ensures rows { IfOk result (λ rows. rows_of rows.items
-        ≡ view_rows view.now (side_by (tables_in stores.old.items) (rows_in stores.old.items) view.now)
-        (live (rows_at (rows_in stores.old.items) 0))) }
+    ensures rows { IfOk result (λ shown. Shows view.now (width_in (tables_in stores.old.items))
+        (rows_at (rows_in stores.old.items) 0) shown
+        (view_rows view.now (side_by (tables_in stores.old.items) (rows_in stores.old.items) view.now)
+        (live (rows_at (rows_in stores.old.items) 0)))) }
     ensures tables { tables_in stores.new.items ≡ tables_in stores.old.items }
     ensures same_rows { rows_in stores.new.items ≡ rows_in stores.old.items }
     ensures visits { visits_in stores.new.items ≤ visits_in stores.old.items + length (view_rows view.now
@@ -222,7 +260,7 @@ fn live_rows(alloc: Global, stores: &mut Vec<RowStore>, view: &View) -> Result<V
         (live (rows_at (rows_in stores.old.items) 0))) }
 {
     let numbers = first_live(alloc, stores, view)?;
-    shown_rows(alloc, stores, view, &numbers)
+    show_numbers(alloc, stores, view, numbers)
 }
 
 /// The rows that a view of groups shows. No other group is read.
@@ -235,13 +273,13 @@ fn group_rows(alloc: Global, view: &View, groups: &RankedGroups) -> Result<Vec<R
     groups.first_rows(alloc, view.first.unwrap_or(MAX_MAIN_ROWS))
 }
 
-/// The rows that a view shows, out of what is kept of it, which isn't stale. A view of groups opens no row.
-pub(crate) fn kept_rows(
+/// What a view shows, out of what is kept of it, which isn't stale. A view of groups opens no row.
+pub(crate) fn show_kept(
     alloc: Global,
     stores: &mut Vec<RowStore>,
     view: &View,
     state: &ViewState,
-) -> Result<Vec<Row>, AllocError>
+) -> Result<Shown, AllocError>
     requires right { All IsTable (tables_in stores.old.items) }
     requires view { IsView (tables_in stores.old.items) view.now }
     requires main { 0 < length stores.old.items }
@@ -252,9 +290,10 @@ pub(crate) fn kept_rows(
     requires current { IsCurrent (tables_in stores.old.items) view.now
         (side_by (tables_in stores.old.items) (rows_in stores.old.items) view.now) state.now
         (numbered (rows_at (rows_in stores.old.items) 0)) }
-    ensures rows { IfOk result (λ rows. rows_of rows.items
-        ≡ view_rows view.now (side_by (tables_in stores.old.items) (rows_in stores.old.items) view.now)
-        (live (rows_at (rows_in stores.old.items) 0))) }
+    ensures rows { IfOk result (λ shown. Shows view.now (width_in (tables_in stores.old.items))
+        (rows_at (rows_in stores.old.items) 0) shown
+        (view_rows view.now (side_by (tables_in stores.old.items) (rows_in stores.old.items) view.now)
+        (live (rows_at (rows_in stores.old.items) 0)))) }
     ensures tables { tables_in stores.new.items ≡ tables_in stores.old.items }
     ensures same_rows { rows_in stores.new.items ≡ rows_in stores.old.items }
     ensures visits { visits_in stores.new.items ≤ visits_in stores.old.items + opened_of view.now
@@ -262,8 +301,8 @@ pub(crate) fn kept_rows(
         (rows_at (rows_in stores.old.items) 0) }
 {
     match &state.kept {
-        Kept::Live => live_rows(alloc, stores, view),
-        Kept::Order(order) => first_rows(alloc, stores, view, order),
-        Kept::Groups(groups) => group_rows(alloc, view, groups),
+        Kept::Live => show_live(alloc, stores, view),
+        Kept::Order(order) => show_first(alloc, stores, view, order),
+        Kept::Groups(groups) => Ok(Shown::Rows(group_rows(alloc, view, groups)?)),
     }
 }

@@ -22,8 +22,8 @@ index-requires c =
     below in
     subst (λ n. c.args.place < n) (sym c.self.inside.states.ok.0) there
 
-pub kept_rows-requires-clause-fresh : goal.kept_rows-requires-clause-fresh
-kept_rows-requires-clause-fresh c =
+pub show_kept-requires-clause-fresh : goal.show_kept-requires-clause-fresh
+show_kept-requires-clause-fresh c =
     let below : c.args.place < length c.self.inside.views.items =
     subst (λ n. c.args.place < n) (ap length (sym c.in_ok-refresh.ensures.views) ∙ ap (λ p. length p.views)
     (sym c.self.view_is)) c.requires in
@@ -34,8 +34,8 @@ kept_rows-requires-clause-fresh c =
     stale_there c.self.inside.states.items c.args.self.now.stale c.args.place c.index.result.now
     (ap (λ p. p.stale) c.self.view_is ∙ c.in_ok-refresh.ensures.stale) c.index.ensures there
 
-pub kept_rows-requires-clause-current : goal.kept_rows-requires-clause-current
-kept_rows-requires-clause-current c =
+pub show_kept-requires-clause-current : goal.show_kept-requires-clause-current
+show_kept-requires-clause-current c =
     let below : c.args.place < length c.self.inside.views.items =
     subst (λ n. c.args.place < n) (ap length (sym c.in_ok-refresh.ensures.views) ∙ ap (λ p. length p.views)
     (sym c.self.view_is)) c.requires in
@@ -47,6 +47,6 @@ kept_rows-requires-clause-current c =
 
 pub invariant_of-self : goal.invariant_of-self
 invariant_of-self c =
-    opened_stays c.self.inside.stores.items c.kept_rows.new.stores.items c.self.inside.views.items
+    opened_stays c.self.inside.stores.items c.show_kept.new.stores.items c.self.inside.views.items
     c.self.inside.states.items
-    (record { tables = c.kept_rows.ensures.tables; rows = c.kept_rows.ensures.same_rows }) c.self.invariant
+    (record { tables = c.show_kept.ensures.tables; rows = c.show_kept.ensures.same_rows }) c.self.invariant

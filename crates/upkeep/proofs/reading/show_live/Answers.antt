@@ -5,23 +5,22 @@ use Rattle.upkeep.specs.Inputs.{side_by}
 use Rattle.upkeep.specs.Reading.{AreShown, IsReadable}
 use Rattle.upkeep.specs.Stores.{rows_at, rows_in, tables_in}
 use Rattle.upkeep.specs.declared.view_state.Kept.TheVariants as kept
-use Rattle.upkeep.proofs.reading.live_rows.Goals as goal
+use Rattle.upkeep.proofs.reading.show_live.Goals as goal
 
-pub shown_rows-requires-clause-view : goal.shown_rows-requires-clause-view
-shown_rows-requires-clause-view c = c.requires.kept.viewed.view
+pub show_numbers-requires-clause-view : goal.show_numbers-requires-clause-view
+show_numbers-requires-clause-view c = c.requires.kept.viewed.view
 
-pub shown_rows-requires-clause-plain : goal.shown_rows-requires-clause-plain
-shown_rows-requires-clause-plain c = c.requires.kept.kept.plain
+pub show_numbers-requires-clause-plain : goal.show_numbers-requires-clause-plain
+show_numbers-requires-clause-plain c = c.requires.kept.kept.plain
 
-pub shown_rows-requires-clause-shown : goal.shown_rows-requires-clause-shown
-shown_rows-requires-clause-shown c =
+pub show_numbers-requires-clause-shown : goal.show_numbers-requires-clause-shown
+show_numbers-requires-clause-shown c =
     let stores = c.args.stores.now.items in
     let v = c.args.view.now in
     let tables = tables_in stores in
     let side = side_by tables (rows_in stores) v in
     let same : rows_at (rows_in stores) 0 ≡ rows_at (rows_in c.deref.result.now) 0 =
     ap (λ (ss : List Store). rows_at (rows_in ss) 0) (sym c.deref.ensures.value) in
-    subst (AreShown v side (rows_at (rows_in stores) 0)) (sym c.deref-2.ensures.value)
-    (subst (λ (slots : List Slot). AreShown v side slots c.in_ok-numbers.numbers.items) (sym same)
+    subst (λ (slots : List Slot). AreShown v side slots c.in_ok-numbers.numbers.items) (sym same)
     (c.in_ok-numbers.ensures tables side
-    (subst (λ (slots : List Slot). IsReadable tables v side slots kept.Live) same c.requires.kept)))
+    (subst (λ (slots : List Slot). IsReadable tables v side slots kept.Live) same c.requires.kept))
