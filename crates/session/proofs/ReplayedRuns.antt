@@ -170,7 +170,6 @@ use Rattle.session.specs.Cuts.{
   written_by,
 }
 use Rattle.session.proofs.FedBytes.{FeedLaws, tells-broken, tells-fault, tells-none, tells-partial, tells-whole}
-
 use Rattle.session.proofs.ReplayedFeeds.{appends-none, Heir, Stand, Follows, Goes, going, stuck, over}
 use Rattle.session.proofs.ReplayedSteps.{step-goes}
 

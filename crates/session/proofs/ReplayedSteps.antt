@@ -170,7 +170,6 @@ use Rattle.session.specs.Cuts.{
   written_by,
 }
 use Rattle.session.proofs.FedBytes.{FeedLaws, tells-broken, tells-fault, tells-none, tells-partial, tells-whole}
-
 use Rattle.session.proofs.ReplayedFeeds.{facts, get-set, get-other, set-same, same_by, put_at-same, put_at-other, appends-more, place, after_given, Heir, Stand, Follows, follows-set, follows-same, Goes, some-length, none-there, true-false, broken-stream, unknown-stream, same-stream, fault-heard, no-fault, faulty, breaks, from-heir, finish-fault, finish-heir, finish-well, finish-stand, put_at-nothing, event-completes, replay-feed, replay-undo, replay-write, undo-nothing, event-heard, going, stuck, over}
 
 module _ (laws : FeedLaws) (conf : Config) (ends : ℕ → Reading FeedState) (messages : ℕ → List Message)
