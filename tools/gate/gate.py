@@ -9,7 +9,7 @@ In a copy of the tree, which holds nothing of an earlier run, and in lanes besid
 3. The program as each compiler made it is run: as crates/lv says, over the examples, with refused memory, with outputs that take nothing.
    The library for C, as each made it, is called from C, Python and Rust, and with refused memory.
 4. `rt all check` looks for files that no crate reads, and finds every crate proved as the tree has it; what the pages name is looked up, and
-   the streams that the tests of `damage` change are compared with those that their tool makes.
+   the streams that the tests of `damage_tests` change are compared with those that their tool makes.
 
 Then the must-fail edits that are due are tried (must_fail.py, records.py), until a time: none is begun later, and the gate
 says of which crates some weren't. With --all all edits are tried, however long it takes, and the tests' own functions are proved too,

@@ -125,7 +125,7 @@ impl Read for Bites<'_> {
 }
 
 impl<'a> Files for Shelf<'a> {
-    ghost use Rattle.scenarios.specs.Shelves.{shelved};
+    ghost use Rattle.scenario_tests.specs.Shelves.{shelved};
 
     ghost content = { λ s path. shelved path s.input.now };
 

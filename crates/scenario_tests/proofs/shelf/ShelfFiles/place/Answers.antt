@@ -1,6 +1,6 @@
 use Rattle.std.proofs.Common.{◌∙◌, sym}
-use Rattle.scenarios.proofs.Shelves.{placed}
-use Rattle.scenarios.proofs.shelf.ShelfFiles.place.Goals as goal
+use Rattle.scenario_tests.proofs.Shelves.{placed}
+use Rattle.scenario_tests.proofs.shelf.ShelfFiles.place.Goals as goal
 
 pub returns-in-Some-clause-content : goal.returns-in-Some-clause-content
 returns-in-Some-clause-content c = λ bytes taken.

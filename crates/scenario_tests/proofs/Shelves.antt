@@ -3,7 +3,7 @@ use Rattle.std.proofs.Common.{◌≡◌, Bool, true, ℕ, List, Option, Some, No
 use Rattle.std.specs.Prelude.{codes, if◌then◌else◌}
 use Rattle.std.specs.Str.{bytes_eq}
 use Rattle.liveviews.specs.Files.{IsContent, Replaces}
-use Rattle.scenarios.specs.Shelves.{shelved}
+use Rattle.scenario_tests.specs.Shelves.{shelved}
 
 pub placed :
     (path input bytes : List ℕ) → bytes_eq path (codes "out") ≡ true
