@@ -1,5 +1,5 @@
 use Rattle.liveviews.proofs.SourceLemmas.{inspects-file}
-use Rattle.liveviews.proofs.program.inspect_file.Goals as goal
+use Rattle.liveviews.proofs.program.commands.inspect.inspect_file.Goals as goal
 
 pub returns-in-Ok-clause-complete : goal.returns-in-Ok-clause-complete
 returns-in-Ok-clause-complete g c =

@@ -1,5 +1,5 @@
 use Rattle.liveviews.proofs.Shows.{shows-file}
-use Rattle.liveviews.proofs.program.show_file.Goals as goal
+use Rattle.liveviews.proofs.program.commands.show.show_file.Goals as goal
 
 pub returns-in-Ok-clause-valid : goal.returns-in-Ok-clause-valid
 returns-in-Ok-clause-valid g c = λ zero.
