@@ -26,6 +26,7 @@ use Rattle.liveviews.specs.Files.{IsInspected, IsRecast, RecastsFile, MakesNone}
 use Rattle.liveviews.specs.declared.files.FileFault.{FileFault}
 use Rattle.liveviews.specs.declared.files.FileFault.TheVariants as file
 use Rattle.liveviews.specs.Check.{IsChecked, RefusesFile}
+use Rattle.liveviews.specs.Showing.{ShowsFile}
 use Rattle.liveviews.specs.Streams.{Discards}
 use Rattle.liveviews.specs.declared.program.outcome.Refusal.{Refusal}
 use Rattle.liveviews.specs.declared.program.outcome.Refusal.TheVariants as refusal
@@ -124,6 +125,14 @@ pub record IsDone (content : List ℕ → Option (List ℕ)) (old new : Sunk) (b
   pub text : List ℕ
   pub comes : Comes (content path) old new text
   pub printed : Appends before after text
+
+-- What status 0 means: of `run` and `live` nothing, of `show` that no fault stands in a stream that was read, and else
+-- that something came of a file.
+abbrev pub Succeeds :
+    {Z : Type 0} → List (String Z) → (List ℕ → Option (List ℕ)) → Sunk → Sunk → Option (List ℕ) → Option (List ℕ)
+    → Type 0
+Succeeds words content old new before after =
+    AsksSession words ⊎ (AsksShow words × ShowsFile content) ⊎ IsDone content old new before after
 
 -- Nothing was put, or a file was read and recast, however far.
 abbrev pub IsBegun : (List ℕ → Option (List ℕ)) → Sunk → Sunk → Type 0

@@ -1,8 +1,7 @@
 //! The program `lv`, over arguments, files and an output that its caller gives.
 
 ghost use Rattle.std.specs.Prelude.{◌≡◌, ◌≤◌, ◌⊎◌};
-ghost use Rattle.liveviews.specs.Program.{AsksSession, AsksShow, IsBegun, IsDone};
-ghost use Rattle.liveviews.specs.Showing.{ShowsFile};
+ghost use Rattle.liveviews.specs.Program.{AsksSession, IsBegun, Succeeds};
 
 mod commands;
 mod configuring;
@@ -23,8 +22,8 @@ pub(crate) use crate::program::opening::open_file;
 /// Returns the program's exit status: 0 where all was done, 1 where something was refused or could not be printed, 2
 /// for arguments that are no command, or a script with a wrong line.
 pub fn lv<F: Files, W: Write>(alloc: Global, words: &[String], files: &mut F, out: &mut W) -> u8
-    ensures done { result ≡ 0 → AsksSession words.now ⊎ (AsksShow words.now × ShowsFile (F.content files.old))
-        ⊎ IsDone (F.content files.old) (F.sunk files.old) (F.sunk files.new) (W.contents out.old) (W.contents out.new) }
+    ensures done { result ≡ 0 → Succeeds words.now (F.content files.old) (F.sunk files.old) (F.sunk files.new)
+        (W.contents out.old) (W.contents out.new) }
     ensures wrong_use { result ≡ 2 → F.sunk files.new ≡ F.sunk files.old }
     ensures begun { AsksSession words.now ⊎ IsBegun (F.content files.old) (F.sunk files.old) (F.sunk files.new) }
     ensures bound { result ≤ 2 }

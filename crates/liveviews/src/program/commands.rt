@@ -3,8 +3,7 @@
 //! `syntax` has them, by `tools/makers/command_tables.py`.
 
 ghost use Rattle.std.specs.Prelude.{◌≡◌, ◌≤◌, ◌⊎◌, IfErr, IfOk, true};
-ghost use Rattle.liveviews.specs.Program.{AsksSession, AsksShow, Begins, IsBegun, IsDone};
-ghost use Rattle.liveviews.specs.Showing.{ShowsFile};
+ghost use Rattle.liveviews.specs.Program.{AsksSession, Begins, IsBegun, Succeeds};
 ghost use Rattle.liveviews.specs.declared.program.outcome.Refusal.TheVariants.{WrongUse};
 
 mod check;
@@ -60,9 +59,8 @@ pub(crate) fn run_command<'a, F: Files, W: Write>(
     files: &mut F,
     out: &mut W,
 ) -> Result<u8, Refusal<'a>>
-    ensures done { IfOk result (λ status. status ≡ 0
-        → AsksSession words.now ⊎ (AsksShow words.now × ShowsFile (F.content files.old))
-        ⊎ IsDone (F.content files.old) (F.sunk files.old) (F.sunk files.new) (W.contents out.old) (W.contents out.new)) }
+    ensures done { IfOk result (λ status. status ≡ 0 → Succeeds words.now (F.content files.old) (F.sunk files.old)
+        (F.sunk files.new) (W.contents out.old) (W.contents out.new)) }
     ensures wrong_line { IfOk result (λ status. status ≡ 2 → F.sunk files.new ≡ F.sunk files.old) }
     ensures wrong_use { IfErr result (λ refusal. refusal ≡ WrongUse → F.sunk files.new ≡ F.sunk files.old) }
     ensures begun { AsksSession words.now ⊎ IsBegun (F.content files.old) (F.sunk files.old) (F.sunk files.new) }

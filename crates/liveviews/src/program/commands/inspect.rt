@@ -52,8 +52,8 @@ pub(crate) fn run<'a, F: Files, W: Write>(
     files: &mut F,
     out: &mut W,
 ) -> Result<u8, Refusal<'a>>
-    ensures done { IfOk result (λ status. status ≡ 0
-        → IsDone (F.content files.old) (F.sunk files.old) (F.sunk files.new) (W.contents out.old) (W.contents out.new)) }
+    ensures done { IfOk result (λ status. status ≡ 0 → IsDone (F.content files.old) (F.sunk files.old)
+        (F.sunk files.new) (W.contents out.old) (W.contents out.new)) }
     ensures sunk { F.sunk files.new ≡ F.sunk files.old }
     ensures bound { IfOk result (λ status. status ≤ 1) }
 {
