@@ -285,7 +285,7 @@ impl Groups {
             ≡ (list_any (is_at (tuple_cmp t)) tuples.old.keys
             || (begins_with first.now t && list_any (is_at (tuple_cmp t)) (keys_of self.now.groups)))) }
     {
-        let start = Tuple::one(self.alloc, first.copy(self.alloc)?)?;
+        let start = Tuple::one(first.copy(self.alloc)?);
         for (tuple, _group) in self.groups.range(&start..) {
             if !tuple.begins_with(first) {
                 break;
