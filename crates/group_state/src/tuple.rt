@@ -93,7 +93,10 @@ impl Ord for Tuple {
     ghost matches_eq = { λ x y. refl };
 
     fn cmp(&self, other: &Tuple) -> Ordering {
-        self.keys().cmp(&other.keys())
+        match (&self.keys, &other.keys) {
+            (TupleKeys::One(key), TupleKeys::One(other)) => key.cmp(other),
+            _ => self.keys().cmp(&other.keys()),
+        }
     }
 }
 
