@@ -5,17 +5,18 @@ In a copy of the tree, which holds nothing of an earlier run, and in lanes besid
 1. Each crate is proved from nothing, once those below it are. rt would begin with what it kept of the same text in another copy on the
    machine, so the copies of a run have a line that no other has.
 2. Over that proof the crate is checked for contracts that no call can meet and for what HANDLES doesn't allow, its layout is compared
-   with rt fmt's, its tests are proved and run, and the program is built by both compilers.
+   with rt fmt's, and the program is built by both compilers. Its tests are compiled with run-time checks, and run.
 3. The program as each compiler made it is run: as crates/lv says, over the examples, with refused memory, with outputs that take nothing.
    The library for C, as each made it, is called from C, Python and Rust, and with refused memory.
 4. `rt all check` looks for files that no crate reads, and finds every crate proved as the tree has it; what the pages name is looked up, and
-   the streams that the tests of `damage` change are compared with those that their tool makes.
+   the streams that the tests of `damage_tests` change are compared with those that their tool makes.
 
 Then the must-fail edits that are due are tried (must_fail.py, records.py), until a time: none is begun later, and the gate
-says of which crates some weren't. With --all all edits are tried, however long it takes.
+says of which crates some weren't. With --all all edits are tried, however long it takes, and the tests' own functions are proved too,
+which takes longer than all that a test could show: that they index no array out of its bounds, and the like.
 
-What a task waits for is all that orders them, so a crate's tests are tried while those above it are proved, and edits where nothing else
-is ready.
+What a task waits for is all that orders them, so tests are run while crates wait for those below them, and edits where nothing else is
+ready.
 
 `make ci` is the toolchain's own gate: it proves each crate three times, and knows no kept work. It is run before a release.
 """
@@ -44,6 +45,8 @@ ROOT = os.path.abspath(f"{__file__}/../../..")
 PROGRAM, LIBRARY = "lv", "lv_c"
 # The merge has 180 minutes.
 UNTIL = 130
+# How many seconds a crate's tests may take with run-time checks, which make `damage` slow.
+SECONDS_OF_TESTS = 600
 # How the program and the library are built, and how what comes of the program is called.
 BACKENDS = {"llvm": "lv", "rattle": "lv.by-rattle"}
 RUNS = (
@@ -147,8 +150,9 @@ class Schedule:
 
 
 class Gate:
-    def __init__(self, tree, room, jobs):
+    def __init__(self, tree, room, jobs, proves_tests):
         self.tree, self.room, self.jobs, self.noting = tree, room, jobs, threading.Lock()
+        self.proves_tests = proves_tests
         self.crates, self.every_lane = crates_of(tree), Lanes(tree, room, jobs)
         self.lanes = [*self.every_lane.free]
         self.passed, self.failed, self.reasons, self.minutes = 0, [], [], {}
@@ -208,8 +212,11 @@ class Gate:
         return self.note("layout", crate, ran, ran.status == 0 and not others, f"run rt fmt, it lays out anew: {' '.join(others)}")
 
     def tests(self, lane, crate):
-        ran = lane.rt(crate, "test", "--jobs", "1")
-        return self.note("tests", crate, ran, ran.status == 0)
+        """Runs a crate's tests: as they were proved, or compiled with run-time checks, for which nothing needs to be proved."""
+        words = ["test", "--jobs", "1"] if self.proves_tests else ["try", "--test", "--seconds", str(SECONDS_OF_TESTS)]
+        ran = lane.rt(crate, *words)
+        passed = re.search(r"^test result: ok\. [1-9]", ran.text, re.M) is not None
+        return self.note("tests", crate, ran, ran.status == 0 and passed, "" if ran.status else "no test was run" * (not passed))
 
     def build(self, lane, backend):
         """Builds the program by a compiler. With no words it ends with status 2, so what counts is that it is there."""
@@ -289,7 +296,7 @@ class Gate:
             for script in CALLS:
                 yield Task(frozenset([built]), partial(self.call_library, script, it))
         for it in (it for it in high if has_tests(self.tree, it)):
-            yield Task(frozenset([it]), in_lane(self.tests, it))
+            yield Task(frozenset([it] if self.proves_tests else []), in_lane(self.tests, it))
         for it in high:
             yield Task(frozenset([it]), in_lane(self.contracts, it))
             yield Task(frozenset([it]), in_lane(self.layout, it))
@@ -338,7 +345,7 @@ def apart(tree):
 def arguments():
     parser = argparse.ArgumentParser(description="The merge gate: proofs from nothing, contracts, layout, tests, runs, must-fail edits.")
     parser.add_argument("--jobs", type=int, default=most_lanes(), help="how many checks run side by side")
-    parser.add_argument("--all", action="store_true", help="try all edits, also of crates whose edits were all refused as they are")
+    parser.add_argument("--all", action="store_true", help="try all edits, also of crates whose edits were all refused, and prove the tests")
     parser.add_argument("--until", type=float, metavar="MINUTES", help=f"begin no edit later: {UNTIL}, or with --all whenever")
     parser.add_argument("--record", action="store_true", help=f"note in {RECORD} of which crates all that were due were refused")
     words = parser.parse_args()
@@ -350,7 +357,7 @@ def arguments():
 def main():
     words, began = arguments(), time.monotonic()
     with tempfile.TemporaryDirectory(prefix="lv-gate-") as room:
-        gate = Gate(apart(copied(f"{room}/tree")), room, words.jobs)
+        gate = Gate(apart(copied(f"{room}/tree")), room, words.jobs, words.all)
         print(free(room), flush=True)
         if read(f"{ROOT}/HANDLES") != "Handles allowed: none.\n":
             gate.failed.append("HANDLES")

@@ -1,6 +1,8 @@
 #!/usr/bin/env python3
-"""Writes the tables of causes of include/lv.h, of python/lv/causes.py and of docs/CAUSES.md. Their numbers, names and texts are those of
-crates/values/src/causes.rt. With --check it writes nothing, and says which file isn't as it would be written."""
+"""Writes all tables of causes. Their numbers, names and texts are those of `Cause` in crates/values/src/causes.rt, the one table that is
+made by hand: of it are made the tables of include/lv.h, of python/lv/causes.py and of docs/CAUSES.md, the names there and in specs/Causes,
+the faults of streams, of edits and of configurations with the causes of the same names, and where a comment says which numbers are whose.
+With --check it writes nothing, and says which file isn't as it would be written."""
 import os
 import re
 import sys
@@ -14,6 +16,23 @@ PYTHON_HEAD = '''"""The causes of a refusal by number: their names, and what the
 
 CAUSES: dict[int, tuple[str, str]] = {
 '''
+# The least number of each kind of causes.
+STREAM, EDIT, CALL, CONFIGURATION = KINDS = 1, 41, 51, 61
+# The tables in the crates: a file, whose causes stand in it, whether Memory stands with them, and the lines of one of them.
+TABLES = (
+    (SOURCE, KINDS, False, '            Cause::{0} => "{0}",'),
+    ("crates/values/specs/Causes.antt", KINDS, False, 'printed cause.{0} = ({1}, codes "{0}")'),
+    ("crates/values/src/faults.rt", [STREAM], True, "    {0},"),
+    ("crates/values/src/faults.rt", [STREAM], True, "            StreamFault::{0} => Cause::{0},"),
+    ("crates/values/specs/StreamCauses.antt", [STREAM], True, "cause_of fault.{0} = cause.{0}"),
+    ("crates/view_lang/src/unfit.rt", [EDIT], False, "            Unfit::{0} => Cause::{0},"),
+    ("crates/view_lang/specs/UnfitCauses.antt", [EDIT], False, "named unfit.{0} = cause.{0}"),
+    ("crates/view_config/src/faults.rt", [CONFIGURATION], True, "    {0},"),
+    ("crates/view_config/src/faults.rt", [CONFIGURATION], True, "            ConfigFault::{0} => Cause::{0},"),
+    ("crates/view_config/specs/ConfigCauses.antt", [CONFIGURATION], True, "cause_of fault.{0} = cause.{0}"),
+)
+# Where it is said which numbers are whose.
+TOLD = SOURCE, "crates/values/specs/Causes.antt", "crates/view_lang/src/unfit.rt", "python/lv/session.py", HEADER
 PAGE_HEAD = """# The causes of a refusal
 
 Why a call or a command is refused. `lv` prints the number and the name, as `refused 41 NullKey`; `Display` of a `Cause`
@@ -42,13 +61,45 @@ def constant(name):
     return "LV_CAUSE_" + re.sub(r"(?<=[a-z0-9])(?=[A-Z])", "_", name).upper()
 
 
+def kind_of(number):
+    """The least number of the causes of the same kind."""
+    return max(it for it in KINDS if it <= number)
+
+
+def ranged(text, table):
+    """A text in which the ranges of numbers are those of the table."""
+    for first in KINDS:
+        last = max(number for number, *_ in table if kind_of(number) == first)
+        text = re.sub(rf"\b{first} to \d+(?= |,|:|\))", f"{first} to {last}", text)
+    return text
+
+
+def tabled(text, line, names):
+    """A text in which the lines of this form, which stand together, are those of these names and numbers."""
+    form = re.escape(line).replace(re.escape("{0}"), r"\w+").replace(re.escape("{1}"), r"\d+")
+    (begin, end), *others = [it.span() for it in re.finditer(rf"(?:^{form}\n)+", text, re.M)]
+    if others:
+        sys.exit(f"causes: lines as {line!r} stand at several places")
+    return text[:begin] + "".join(line.format(*it) + "\n" for it in names) + text[end:]
+
+
+def crates(table):
+    """The tables in the crates, by their files."""
+    made = {path: ranged(read(path), table) for path in TOLD if path != HEADER}
+    for path, kinds, has_memory, line in TABLES:
+        names = [(name, number) for number, name, _ in table if kind_of(number) in kinds]
+        names += [(name, number) for number, name, _ in table if has_memory and name == "Memory"]
+        made[path] = tabled(made.get(path) or read(path), line, names)
+    return made
+
+
 def header(table):
     lines = []
     for number, name, text in table:
         lines += textwrap.wrap(f"/* {text} */", WIDTH, initial_indent="    ", subsequent_indent="     * ")
         lines.append(f"    {constant(name)} = {number}" + "," * (number != table[-1][0]))
     begin, end = "/* causes: written by tools/makers/cause_tables.py */\n", "/* end of causes */\n"
-    before, rest = read(HEADER).split(begin)
+    before, rest = ranged(read(HEADER), table).split(begin)
     return before + begin + "\n".join(lines) + "\n" + end + rest.split(end)[1]
 
 
@@ -58,12 +109,13 @@ def python(table):
 
 
 def page(table):
-    return PAGE_HEAD + "".join(f"| {number} | {name} | {text} |\n" for number, name, text in table)
+    return ranged(PAGE_HEAD, table) + "".join(f"| {number} | {name} | {text} |\n" for number, name, text in table)
 
 
 def main():
     table, stale = list(causes()), []
-    for path, text in ((HEADER, header(table)), (PYTHON, python(table)), (PAGE, page(table))):
+    made = crates(table) | {HEADER: header(table), PYTHON: python(table), PAGE: page(table)}
+    for path, text in made.items():
         if "--check" not in sys.argv:
             with open(f"{ROOT}/{path}", "w", encoding="utf-8") as file:
                 file.write(text)

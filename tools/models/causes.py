@@ -11,10 +11,6 @@ from limits import (
     MOST_SLOT, MOST_SUMMED,
 )
 
-NAMES = {
-    61: "NotToml", 62: "UnknownName", 63: "DuplicateColumn", 64: "TypeText", 65: "ConstantType", 66: "SumType", 67: "OrderType",
-    68: "OverLimit", 69: "Shape", 70: "DictType",
-}
 NUMBER = range(-(2**63), 2**63)
 WIDTHS = {"bool": 1, "date32": 4, "date64": 8, "utf8": 4, "binary": 4, "list": 4, "decimal": 16, "timestamp": 8, "duration": 8}
 WIDTHS |= {f"{sign}int{bits}": bits // 8 for sign in ("", "u") for bits in (8, 16, 32, 64)}

@@ -1,5 +1,5 @@
 #!/usr/bin/env python3
-"""Writes crates/damage/src/streams.rt: the streams of which the tests of `damage` cut off, drop and change bytes. With --check it writes
+"""Writes crates/damage_tests/src/streams.rt: the streams of which the tests of `damage_tests` cut off, drop and change bytes. With --check it writes
 nothing, and says whether the file is as it would be written."""
 import os
 import struct
@@ -15,7 +15,7 @@ from claims import (
 )
 
 ROOT = os.path.abspath(f"{__file__}/../../..")
-SOURCE = "crates/damage/src/streams.rt"
+SOURCE = "crates/damage_tests/src/streams.rt"
 HEAD = """\
 //! The streams. Written by `tools/models/damage_streams.py`, which makes them.
 

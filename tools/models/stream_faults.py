@@ -6,16 +6,11 @@ from typing import Callable
 
 import canonical
 from canonical import Bytes, Vector, half, long, text, word
+from cause_names import STREAM_CAUSES
 from limits import (
     MOST_BODY, MOST_DIGITS, MOST_FIELDS, MOST_FIXED, MOST_LEVELS, MOST_METADATA, MOST_NAME, MOST_NODE, MOST_ROWS, MOST_SLOT, MOST_VALUES,
 )
 from stream_parts import Message, Pairs, Part
-
-NAMES = (
-    "NoContinuation BadSize BadTable BadName Version HeaderKind BodySize NoSchema SecondSchema BigEndian UnsupportedType BadType "
-    "TooManyFields Compressed DictionaryClash UnknownDictionary DictionaryTooLarge NodeCount BufferCount BadLength BufferRange BufferShort "
-    "NullCount Offsets NotUtf8 DictionaryIndex DecimalRange SchemaMismatch AfterEnd Truncated"
-).split()
 
 # The stages of a message, and the ends of the input within it that come before each: a message that is cut in its body is refused for
 # what is wrong with its metadata.
@@ -97,7 +92,7 @@ def standing(stream, faults):
     first = min((order[id(it.message)], it.stage) for it in every)
     there = [it for it in every if (order[id(it.message)], it.stage) == first]
     hidden = {it for fault in there for it in fault.hides}
-    return there[0].message, {f"{it.cause} {NAMES[it.cause - 1]}" for it in there if not hidden & {*it.hidden}}
+    return there[0].message, {f"{it.cause} {STREAM_CAUSES[it.cause]}" for it in there if not hidden & {*it.hidden}}
 
 
 def faults_of(stream, is_first):

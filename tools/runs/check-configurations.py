@@ -15,6 +15,7 @@ sys.dont_write_bytecode = True
 sys.path.insert(1, f"{sys.path[0]}/../models")
 import causes
 from aggregates import AGGREGATES
+from cause_names import OTHER_CAUSES
 from configurations import text_of
 from limits import (
     MOST_BYTES, MOST_COLUMNS, MOST_DIGITS, MOST_ENTRIES, MOST_FIELDS, MOST_FIXED, MOST_LETTERS, MOST_LEVELS, MOST_PARTS, MOST_ROWS,
@@ -493,7 +494,7 @@ def fault_of(program, made, room):
         file.write(made.text)
     ran = subprocess.run([program, "check", "config"], cwd=room, capture_output=True, text=True, timeout=60)
     found, tree = causes.causes_of(made.text)
-    wanted = [f"refused {it} {causes.NAMES[it]}\n" for it in sorted(found.answers())]
+    wanted = [f"refused {it} {OTHER_CAUSES[it]}\n" for it in sorted(found.answers())]
     if not found.stand:
         wanted = [f"ok: {len(tree.get('feed', ()))} feeds, {len(tree.get('view', ()))} views\n"]
     if ran.stdout not in wanted or ran.returncode != bool(found.stand):

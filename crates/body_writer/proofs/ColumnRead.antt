@@ -77,7 +77,7 @@ use Rattle.body_writer.specs.Columns.{
 }
 use Rattle.values.specs.Weights.{weights}
 use Rattle.body_writer.specs.Law.{AreRead, BatchLaw, AreNodes, Stand, ColumnLaw, PlacedLaw, NodesLaw, BuffersLaw}
-use Rattle.body_writer.proofs.Pieces.{each-run}
+use Rattle.body_writer.proofs.CellBytes.{each-run}
 use Rattle.body_writer.proofs.Held.{from_item, item-at, items-after, HeldEach, kids-held}
 use Rattle.body_writer.proofs.WeightLemmas.{
   own_weights,
@@ -88,7 +88,7 @@ use Rattle.body_writer.proofs.WeightLemmas.{
   text-long,
   bytes-long,
 }
-use Rattle.body_writer.proofs.Own.{
+use Rattle.body_writer.proofs.OwnRead.{
   second-here,
   third-here,
   validity-here,

@@ -47,7 +47,7 @@ use Rattle.array_layout.specs.Sound.{offsets_of}
 use Rattle.array_layout.specs.Cells.{items_at}
 use Rattle.body_writer.specs.Slots.{bytes_in, items_in, length_in}
 use Rattle.body_writer.specs.Columns.{offsets_from, offsets, joined, items}
-use Rattle.body_writer.proofs.Pieces.{
+use Rattle.body_writer.proofs.CellBytes.{
   start,
   total,
   start-le,

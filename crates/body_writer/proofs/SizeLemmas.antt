@@ -41,13 +41,13 @@ use Rattle.body_writer.specs.Slots.{fixed_in, length_in}
 use Rattle.body_writer.specs.Columns.{offsets, own_buffers, child_cells, buffers, buffers_below}
 use Rattle.body_writer.specs.Body.{padding, padded, laid}
 use Rattle.body_writer.specs.Law.{SizeLaw, BatchSizeLaw}
-use Rattle.body_writer.proofs.Pieces.{HaveWidth}
+use Rattle.body_writer.proofs.CellBytes.{HaveWidth}
 use Rattle.body_writer.proofs.Validity.{validity-length, truths-length}
-use Rattle.body_writer.proofs.Numbers.{numbers-length, fixed-length}
+use Rattle.body_writer.proofs.NumbersRead.{numbers-length, fixed-length}
 use Rattle.body_writer.proofs.Offsets.{offsets-length}
 use Rattle.body_writer.proofs.Held.{HeldEach, kids-held}
 use Rattle.body_writer.proofs.WeightLemmas.{own_weights, weights_each, weights-split, text-long, bytes-long}
-use Rattle.body_writer.proofs.Own.{fixed-width}
+use Rattle.body_writer.proofs.OwnRead.{fixed-width}
 use Rattle.body_writer.proofs.ColumnRead.{struct-node}
 
 -- bytes without padding

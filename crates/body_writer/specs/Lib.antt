@@ -4,3 +4,8 @@ pub mod Body
 pub mod Grows
 pub mod Law
 pub mod Batch
+pub mod Runs
+pub mod Pieces
+pub mod RowRanges
+pub mod Texts
+pub mod Picked

@@ -1,18 +1,22 @@
-//! Columns as they are written: the canonical buffers of a column of any layout, and the body of a batch.
+//! The canonical buffers of columns of any layout, and the body of a batch, written from values or straight from checked
+//! columns.
 //!
 //! `specs/Columns.antt` says what the nodes and buffers of a column are, `specs/Body.antt` how buffers are laid out,
 //! `specs/Batch.antt` what the body of a batch is and which rows make one, `specs/Law.antt` that a column that is
-//! written is read back. The laws are carried by [`column_law`] and its neighbours.
+//! written is read back. The laws are carried by [`column_law`] and its neighbours. What is written has its source in its
+//! name: [`write_column_from_values`], [`write_body_from_columns`] and [`write_body_from_picked_columns`].
 #![tactic(auto)]
 
-mod batch;
 mod body;
-mod buffers;
-mod column;
+mod bytes;
+mod from_columns;
+mod from_values;
 mod laws;
-mod slots;
 
-pub use batch::column_cells;
 pub use body::Body;
-pub use column::write_column;
+pub use from_columns::batch::{Batch, RowRange};
+pub use from_columns::picked::write_body_from_picked_columns;
+pub use from_columns::write::write_body_from_columns;
+pub use from_values::batch::column_cells;
+pub use from_values::column::write_column_from_values;
 pub use laws::{column_law, count_law, size_law, standing_law};

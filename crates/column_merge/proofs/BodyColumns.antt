@@ -42,7 +42,7 @@ use Rattle.array_layout.specs.Typed.{AreTyped, IsTyped}
 use Rattle.arrays.specs.Checked.{CheckedColumn}
 use Rattle.schema_meta.specs.Rows.{columns_in}
 use Rattle.body_writer.specs.Batch.{body_bytes}
-use Rattle.column_writer.specs.Batches.{cells_in}
+use Rattle.body_writer.specs.RowRanges.{cells_in}
 use Rattle.column_merge.specs.Merged.{IsWritten, arrays_for}
 use Rattle.column_merge.proofs.Places.{nodes_step, ranges_step}
 

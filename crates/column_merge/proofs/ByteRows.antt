@@ -10,8 +10,8 @@ use Rattle.values.specs.declared.layout.Layout.{Layout}
 use Rattle.arrays.specs.Checked.{CheckedColumn}
 use Rattle.schema_meta.specs.Rows.{row_at, rows_from, rows_in}
 use Rattle.body_writer.specs.Batch.{IsBatch, rows_weight}
-use Rattle.column_writer.specs.Batches.{batch_rows, cells_in, range_rows, ranges_rows}
-use Rattle.column_writer.specs.declared.batch.RowRange.{RowRange}
+use Rattle.body_writer.specs.RowRanges.{batch_rows, cells_in, range_rows, ranges_rows}
+use Rattle.body_writer.specs.declared.from_columns.batch.RowRange.{RowRange}
 use Rattle.column_merge.specs.Sample.{AreBytes, IsByteRow, byte_layout, byte_layouts}
 
 byte-rows : (cells : List Datum) (i n : ℕ) → All (Holds byte_layout) cells → i + n ≤ length cells

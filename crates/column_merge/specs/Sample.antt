@@ -7,8 +7,8 @@ use Rattle.values.specs.declared.layout.Layout.{Layout}
 use Rattle.values.specs.declared.layout.Layout.TheVariants.{Int}
 use Rattle.values.specs.Layouts.{HoldsEach}
 use Rattle.body_writer.specs.Batch.{row_weight}
-use Rattle.column_writer.specs.Batches.{IsSized, batch_rows}
-use Rattle.column_writer.specs.declared.batch.Batch.{Batch}
+use Rattle.body_writer.specs.RowRanges.{IsSized, batch_rows}
+use Rattle.body_writer.specs.declared.from_columns.batch.Batch.{Batch}
 
 abbrev pub byte_layout : Rose Layout
 byte_layout = node (Int width.Bits8 false) none

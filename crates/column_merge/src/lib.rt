@@ -1,7 +1,7 @@
 //! Writes rows that lie in several batches of checked columns anew, as the checked columns of one batch, so that the
 //! batches can go.
 //!
-//! The rows are written as the body of a batch (`column_writer`), its arrays are placed in it (`src/place.rt`), and each
+//! The rows are written as the body of a batch (`body_writer`), its arrays are placed in it (`src/place.rt`), and each
 //! is checked as a column that came in a message. That nothing else is read than what was written is the law in
 //! `specs/Merged.antt`.
 #![tactic(auto)]

@@ -8,14 +8,13 @@ ghost use Rattle.array_layout.specs.Sound.{ArePlaced, IsPlaced};
 ghost use Rattle.array_layout.specs.Typed.{IsTyped};
 ghost use Rattle.schema_meta.specs.Rows.{columns_in, rows_in};
 ghost use Rattle.body_writer.specs.Batch.{IsBatch};
-ghost use Rattle.column_writer.specs.Batches.{IsRange, cells_in, ranges_rows};
+ghost use Rattle.body_writer.specs.RowRanges.{IsRange, cells_in, ranges_rows};
 
 use crate::laws::written_law;
 use crate::place::{Cursor, place};
 use array_layout::Array;
 use arrays::Column;
-use body_writer::Body;
-use column_writer::{RowRange, write_body};
+use body_writer::{Body, RowRange, write_body_from_columns};
 use std::alloc::{AllocError, Global};
 use std::rc::Rc;
 use values::LayoutTree;
@@ -85,6 +84,6 @@ pub fn merge_rows(
 {
     // It does nothing: the proof takes from it what is read of the body.
     written_law();
-    let body = write_body(alloc, layouts, ranges, 0)?;
+    let body = write_body_from_columns(alloc, layouts, ranges, 0)?;
     read_columns(alloc, layouts, body)
 }

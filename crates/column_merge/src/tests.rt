@@ -3,13 +3,13 @@
 ghost use Rattle.std.specs.Prelude.{◌≡◌, [], ◌∷◌, All, IfOk};
 ghost use Rattle.values.specs.Rose.{kids_of};
 ghost use Rattle.body_writer.specs.Batch.{IsBatch};
-ghost use Rattle.column_writer.specs.Batches.{IsRange, ranges_rows};
+ghost use Rattle.body_writer.specs.RowRanges.{IsRange, ranges_rows};
 ghost use Rattle.column_merge.specs.Sample.{AreBytes, byte_layout, byte_layouts};
 
 use crate::merge_rows;
 use array_layout::{Array, ArrayData, BufferRange};
 use arrays::Column;
-use column_writer::{Batch, RowRange};
+use body_writer::{Batch, RowRange};
 use std::alloc::{AllocError, Global};
 use std::rc::Rc;
 use std::test::Fail;

@@ -17,10 +17,10 @@ use Rattle.feed.specs.Events.{batch}
 use Rattle.feed.specs.Shown.{FeedParts, HasColumns}
 use Rattle.feed.specs.StoryLaw.{StoryKnowsSchema, rest_story}
 use Rattle.feed.specs.States.{retained_in}
-use Rattle.column_writer.specs.declared.batch.Batch.{Batch}
+use Rattle.body_writer.specs.declared.from_columns.batch.Batch.{Batch}
 use Rattle.liveviews.specs.Brought.{Brings}
 use Rattle.values.specs.declared.causes.Cause.{Cause}
-use Rattle.column_writer.specs.Batches.{batch_rows}
+use Rattle.body_writer.specs.RowRanges.{batch_rows}
 use Rattle.liveviews.specs.Kept.{IsKept, IsKeptSo}
 use Rattle.liveviews.specs.Refused.{RefusesBatch}
 use Rattle.liveviews.specs.Steps.{AreTakenSo, Reached, Refuses}

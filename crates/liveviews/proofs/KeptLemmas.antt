@@ -17,8 +17,8 @@ use Rattle.schema_meta.specs.LogicalLaw.{LogicalTrees, NarrowRowWeighs, narrow_t
 use Rattle.schema_meta.specs.Rows.{row_at, rows_from}
 use Rattle.feed.specs.Columns.{cells_in, layouts_in}
 use Rattle.row_keys.specs.Batches.{HoldsCells}
-use Rattle.column_writer.specs.declared.batch.Batch.{Batch}
-use Rattle.column_writer.specs.Batches.{IsSized, batch_rows, rows_of}
+use Rattle.body_writer.specs.declared.from_columns.batch.Batch.{Batch}
+use Rattle.body_writer.specs.RowRanges.{IsSized, batch_rows, rows_of}
 use Rattle.stream_writer.specs.Stream.{trees}
 use Rattle.stream_writer.specs.Heavy.{IsLight, row_weight}
 use Rattle.liveviews.specs.Taken.{AreFit}

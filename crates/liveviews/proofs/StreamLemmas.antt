@@ -25,8 +25,8 @@ use Rattle.feed.specs.States.{fresh, retained_in}
 use Rattle.feed.specs.StoryLaw.{AllIsTold}
 use Rattle.messages.specs.Laws.{NothingYet}
 use Rattle.row_keys.specs.Batches.{HoldsCells}
-use Rattle.column_writer.specs.declared.batch.Batch.{Batch}
-use Rattle.column_writer.specs.Batches.{batch_rows}
+use Rattle.body_writer.specs.declared.from_columns.batch.Batch.{Batch}
+use Rattle.body_writer.specs.RowRanges.{batch_rows}
 use Rattle.stream_writer.specs.Progress.{StopsIn}
 use Rattle.stream_writer.specs.Sinks.{Sunk, Writes}
 use Rattle.stream_writer.specs.Stream.{canon, trees}

@@ -9,8 +9,8 @@ use Rattle.schema_meta.specs.Story.{Story}
 use Rattle.feed.specs.Columns.{layouts_in}
 use Rattle.feed.specs.Shown.{FeedParts, Shows}
 use Rattle.feed.specs.States.{FeedState, retained_in}
-use Rattle.column_writer.specs.declared.batch.Batch.{Batch}
-use Rattle.column_writer.specs.Batches.{batch_rows}
+use Rattle.body_writer.specs.declared.from_columns.batch.Batch.{Batch}
+use Rattle.body_writer.specs.RowRanges.{batch_rows}
 use Rattle.liveviews.specs.Refused.{RefusesBatch}
 use Rattle.liveviews.specs.Steps.{Reached, Refuses}
 use Rattle.liveviews.specs.Taken.{AreTaken}

@@ -9,7 +9,7 @@ use Rattle.schema_meta.specs.Entry.{Entry}
 use Rattle.schema_meta.specs.FieldLayouts.{layouts_of}
 use Rattle.schema_meta.specs.Rows.{row_at}
 use Rattle.feed.specs.Columns.{cells_in, layouts_in}
-use Rattle.column_writer.specs.Batches.{IsSized, rows_of}
+use Rattle.body_writer.specs.RowRanges.{IsSized, rows_of}
 use Rattle.stream_writer.specs.Stream.{trees}
 use Rattle.stream_writer.specs.Heavy.{IsLight, row_weight}
 use Rattle.stream_writer.specs.Weights.{IsLightBatch, WeighsAs}

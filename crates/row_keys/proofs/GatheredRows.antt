@@ -6,9 +6,9 @@ use Rattle.std.proofs.lemmas.List.Concat.{flat_map-append}
 use Rattle.std.proofs.lemmas.List.Elements.{All-append, All-cons, All-nil}
 use Rattle.values.specs.Datum.{Datum}
 use Rattle.schema_meta.specs.Rows.{rows_from, rows_in}
-use Rattle.column_writer.specs.Batches.{IsRange, IsSized, batch_rows, cells_in, range_rows, ranges_rows}
-use Rattle.column_writer.specs.declared.batch.Batch.{Batch}
-use Rattle.column_writer.specs.declared.batch.RowRange.{RowRange}
+use Rattle.body_writer.specs.RowRanges.{IsRange, IsSized, batch_rows, cells_in, range_rows, ranges_rows}
+use Rattle.body_writer.specs.declared.from_columns.batch.Batch.{Batch}
+use Rattle.body_writer.specs.declared.from_columns.batch.RowRange.{RowRange}
 use Rattle.row_keys.specs.Chunks.{AreChunks, Chunk, IsLong, in_turn, numbers_by}
 use Rattle.row_keys.specs.RowsLeft.{IsPart, IsWide, all_numbers, all_rows, numbers_left, rows_left, unflagged}
 use Rattle.row_keys.proofs.RowsOfChunks.{ends_within}

@@ -8,10 +8,10 @@ use Rattle.std.proofs.lemmas.Option.{none-some, get_or_from_slice_get}
 use Rattle.values.specs.Datum.{Datum}
 use Rattle.arrays.specs.Checked.{CheckedColumn}
 use Rattle.schema_meta.specs.Rows.{row_at, rows_in}
-use Rattle.column_writer.specs.Batches.{IsRange, range_rows, ranges_rows}
-use Rattle.column_writer.specs.declared.batch.Batch.{Batch}
-use Rattle.column_writer.specs.declared.batch.RowRange.{RowRange}
-use Rattle.column_writer.proofs.PickedLemmas.{rows-at}
+use Rattle.body_writer.specs.RowRanges.{IsRange, range_rows, ranges_rows}
+use Rattle.body_writer.specs.declared.from_columns.batch.Batch.{Batch}
+use Rattle.body_writer.specs.declared.from_columns.batch.RowRange.{RowRange}
+use Rattle.body_writer.proofs.PickedLemmas.{rows-at}
 use Rattle.row_keys.specs.Batches.{batch_rows, cells_in}
 use Rattle.row_keys.specs.Chunks.{AreChunks, AreRising, Chunk, IsLong, LiesAt, LiesIn, chunk_row, number_row, row_in, stored_rows}
 use Rattle.row_keys.specs.Runs.{HasRun, IsWideAt, rows_at, run_rows}

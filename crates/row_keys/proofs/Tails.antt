@@ -7,9 +7,9 @@ use Rattle.values.specs.Datum.{items_of}
 use Rattle.values.specs.Layouts.{HoldsEach}
 use Rattle.values.specs.Rose.{Rose, Roses, kids_of}
 use Rattle.values.specs.declared.layout.Layout.{Layout}
-use Rattle.column_writer.specs.Batches.{IsSized, batch_rows as rows_in_batch, ranges_rows}
-use Rattle.column_writer.specs.declared.batch.Batch.{Batch}
-use Rattle.column_writer.specs.declared.batch.RowRange.{RowRange}
+use Rattle.body_writer.specs.RowRanges.{IsSized, batch_rows as rows_in_batch, ranges_rows}
+use Rattle.body_writer.specs.declared.from_columns.batch.Batch.{Batch}
+use Rattle.body_writer.specs.declared.from_columns.batch.RowRange.{RowRange}
 use Rattle.row_keys.specs.Batches.{batch_rows}
 use Rattle.row_keys.specs.Chunks.{AreChunks, AreRising, Chunk, IsLong, IsShortened, number_row, row_in, stored_rows}
 use Rattle.row_keys.specs.RowsLeft.{IsHeld, IsMadeIn, IsPart, IsSplit, IsTail, IsWide, end_of, rows_left, tail_numbers, tail_rows, unflagged}

@@ -8,8 +8,8 @@ use Rattle.values.specs.Weights.{saturated}
 use Rattle.values.specs.declared.layout.Layout.{Layout}
 use Rattle.schema_meta.specs.Rows.{row_at, rows_from}
 use Rattle.body_writer.specs.Batch.{row_weight, rows_weight}
-use Rattle.column_writer.specs.Batches.{cells_in, range_rows, ranges_rows}
-use Rattle.column_writer.specs.declared.batch.RowRange.{RowRange}
+use Rattle.body_writer.specs.RowRanges.{cells_in, range_rows, ranges_rows}
+use Rattle.body_writer.specs.declared.from_columns.batch.RowRange.{RowRange}
 use Rattle.row_keys.specs.RowsLeft.{Bounds}
 
 pub bound_saturated : (n : ℕ) → Bounds (saturated n) n

@@ -28,7 +28,7 @@ ghost use Rattle.values.specs.Layouts.{AreLayouts, HoldsEach};
 ghost use Rattle.values.specs.Limits.{max_batch_rows, max_batch_weight, max_fields};
 ghost use Rattle.values.specs.Rose.{kids_of, roses_size};
 ghost use Rattle.body_writer.specs.Batch.{rows_weight};
-ghost use Rattle.column_writer.specs.Batches.{IsRange, IsSized, batch_rows as rows_in_batch, range_rows, ranges_rows};
+ghost use Rattle.body_writer.specs.RowRanges.{IsRange, IsSized, batch_rows as rows_in_batch, range_rows, ranges_rows};
 ghost use Rattle.row_keys.specs.Batches.{batch_rows};
 ghost use Rattle.row_keys.specs.Chunks.{AreChunks, Chunk, IsLong, in_turn, numbers_by, row_in};
 ghost use Rattle.row_keys.specs.RowsLeft.{
@@ -51,8 +51,8 @@ ghost use Rattle.row_keys.specs.RowsLeft.{
 use crate::batches::read_row;
 use crate::stored_chunk::{StoredChunk, flags};
 use arrays::Column;
+use body_writer::{Batch, RowRange};
 use column_merge::merge_rows;
-use column_writer::{Batch, RowRange};
 use std::alloc::{AllocError, Global};
 use values::limits::{MAX_BATCH_ROWS, MAX_BATCH_WEIGHT};
 use values::{LayoutTree, row_weight};

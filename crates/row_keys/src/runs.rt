@@ -1,13 +1,13 @@
 //! Where rows lie in chunks: those that lie one after the other, at once.
 
 ghost use Rattle.std.specs.Prelude.{◌≡◌, ℕ, ◌^◌, ◌<◌, ◌≤◌, ◌++◌, All, IfOk, MatchOption, OnOk, [], length, map};
-ghost use Rattle.column_writer.specs.Batches.{IsRange, ranges_rows};
+ghost use Rattle.body_writer.specs.RowRanges.{IsRange, ranges_rows};
 ghost use Rattle.row_keys.specs.Chunks.{AreChunks, LiesAt, LiesIn, row_in};
 ghost use Rattle.row_keys.specs.Runs.{HasRun, IsWideAt, run_rows};
 
 use crate::stored_chunk::StoredChunk;
 use crate::stored_rows::{Location, chunk_of, index_in};
-use column_writer::RowRange;
+use body_writer::RowRange;
 use std::alloc::{AllocError, Global};
 
 /// Rows that lie one after the other: the place of their chunk, and from which row up to, and without, which one.

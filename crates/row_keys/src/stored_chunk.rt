@@ -29,7 +29,7 @@ ghost use Rattle.row_keys.specs.Chunks.{
 };
 
 use crate::stored_row::StoredRow;
-use column_writer::Batch;
+use body_writer::Batch;
 use std::alloc::{AllocError, Global};
 use std::marker::Model;
 

@@ -28,7 +28,7 @@ ghost use Rattle.std.specs.List.Sorted.{IsPartitionPoint};
 ghost use Rattle.values.specs.Layouts.{AreLayouts};
 ghost use Rattle.values.specs.Limits.{max_fields};
 ghost use Rattle.values.specs.Rose.{kids_of, roses_size};
-ghost use Rattle.column_writer.specs.Batches.{IsRange, ranges_rows};
+ghost use Rattle.body_writer.specs.RowRanges.{IsRange, ranges_rows};
 ghost use Rattle.row_keys.specs.Batches.{batch_rows};
 ghost use Rattle.row_keys.specs.Chunks.{
   AreChunks,
@@ -50,7 +50,7 @@ use crate::runs::find_ranges;
 use crate::stored_chunk::{StoredChunk, flags, index_of, release_in, row_of, shorten};
 use crate::stored_row::StoredRow;
 use arrays::Column;
-use column_writer::{Batch, RowRange};
+use body_writer::{Batch, RowRange};
 use std::alloc::{AllocError, Global};
 use std::marker::Model;
 use values::LayoutTree;

@@ -1,7 +1,7 @@
 //! Writes views.
 
 ghost use Rattle.std.specs.Prelude.{◌≡◌, ◌<◌, All, false, OnOk, length, map, slice_set};
-ghost use Rattle.column_writer.specs.Picked.{picked_rows};
+ghost use Rattle.body_writer.specs.Picked.{picked_rows};
 ghost use Rattle.stream_writer.specs.Sinks.{Writes};
 ghost use Rattle.stream_writer.specs.Stream.{canon};
 ghost use Rattle.stream_writer.specs.Table.{IsTable};

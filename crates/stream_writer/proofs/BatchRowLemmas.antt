@@ -52,9 +52,9 @@ use Rattle.values.specs.declared.layout.Layout.{Layout}
 use Rattle.values.specs.Logical.{NamedType, trees_of}
 use Rattle.body_writer.specs.Batch.{row_weight}
 use Rattle.schema_meta.specs.Rows.{rows_from}
-use Rattle.column_writer.specs.declared.batch.Batch.{Batch}
-use Rattle.column_writer.specs.declared.batch.RowRange.{RowRange}
-use Rattle.column_writer.specs.Batches.{batch_rows, rows_of, range_rows, ranges_rows, cells_in, IsSized}
+use Rattle.body_writer.specs.declared.from_columns.batch.Batch.{Batch}
+use Rattle.body_writer.specs.declared.from_columns.batch.RowRange.{RowRange}
+use Rattle.body_writer.specs.RowRanges.{batch_rows, rows_of, range_rows, ranges_rows, cells_in, IsSized}
 use Rattle.stream_writer.specs.BatchRows.{max_light_row, AreLightRows, AreWeighed, IsInFirst}
 use Rattle.stream_writer.specs.Weights.{weights_of}
 use Rattle.stream_writer.proofs.FittingLemmas.{weights-left}

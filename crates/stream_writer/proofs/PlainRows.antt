@@ -13,8 +13,8 @@ use Rattle.arrays.specs.Checked.{CheckedColumn}
 use Rattle.schema_meta.specs.Rows.{row_at, rows_from, rows_in}
 use Rattle.schema_meta.specs.SchemaTree.{AreColumns}
 use Rattle.body_writer.specs.Batch.{row_weight}
-use Rattle.column_writer.specs.declared.batch.Batch.{Batch}
-use Rattle.column_writer.specs.Batches.{batch_rows, cells_in}
+use Rattle.body_writer.specs.declared.from_columns.batch.Batch.{Batch}
+use Rattle.body_writer.specs.RowRanges.{batch_rows, cells_in}
 use Rattle.stream_writer.specs.Heavy.{IsLight}
 use Rattle.stream_writer.specs.Stream.{trees}
 use Rattle.stream_writer.specs.Table.{IsRow, IsTable}

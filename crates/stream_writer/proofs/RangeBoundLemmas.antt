@@ -53,9 +53,9 @@ use Rattle.arrays.specs.Checked.{CheckedColumn}
 use Rattle.arrays.specs.Weights.{Says}
 use Rattle.schema_meta.specs.Rows.{row_at}
 use Rattle.body_writer.specs.Batch.{row_weight}
-use Rattle.column_writer.specs.Batches.{IsRange, cells_in, range_rows}
-use Rattle.column_writer.specs.Picked.{picked, picked_rows}
-use Rattle.column_writer.specs.declared.batch.RowRange.{RowRange}
+use Rattle.body_writer.specs.RowRanges.{IsRange, cells_in, range_rows}
+use Rattle.body_writer.specs.Picked.{picked, picked_rows}
+use Rattle.body_writer.specs.declared.from_columns.batch.RowRange.{RowRange}
 use Rattle.stream_writer.specs.BatchRows.{AreLightRows, max_light_row}
 use Rattle.stream_writer.specs.RangeBounds.{BoundsCells, IsHeaviest}
 use Rattle.stream_writer.specs.RangeRows.{HoldRows}

@@ -37,12 +37,12 @@ use Rattle.values.specs.Rose.{Rose, Roses}
 use Rattle.values.specs.declared.layout.Layout.{Layout}
 use Rattle.arrays.specs.Checked.{CheckedColumn}
 use Rattle.schema_meta.specs.Rows.{row_at, rows_from}
-use Rattle.column_writer.specs.Batches.{IsRange, batch_rows, cells_in, range_rows, ranges_rows}
-use Rattle.column_writer.specs.Picked.{HaveColumns, picked, picked_rows}
-use Rattle.column_writer.specs.declared.batch.Batch.{Batch}
-use Rattle.column_writer.specs.declared.batch.RowRange.{RowRange}
-use Rattle.column_writer.proofs.BatchLemmas.{rows-cut}
-use Rattle.column_writer.proofs.PickedLemmas.{rows-at}
+use Rattle.body_writer.specs.RowRanges.{IsRange, batch_rows, cells_in, range_rows, ranges_rows}
+use Rattle.body_writer.specs.Picked.{HaveColumns, picked, picked_rows}
+use Rattle.body_writer.specs.declared.from_columns.batch.Batch.{Batch}
+use Rattle.body_writer.specs.declared.from_columns.batch.RowRange.{RowRange}
+use Rattle.body_writer.proofs.RowRangeLemmas.{rows-cut}
+use Rattle.body_writer.proofs.PickedLemmas.{rows-at}
 use Rattle.stream_writer.specs.RangeRows.{HoldRows}
 use Rattle.stream_writer.specs.Stream.{trees}
 use Rattle.stream_writer.specs.Table.{IsRow}

@@ -39,8 +39,8 @@ use Rattle.values.specs.Limits.{max_batch_rows}
 use Rattle.values.specs.Logical.{NamedType}
 use Rattle.schema_meta.specs.SchemaTree.{AreColumns}
 use Rattle.body_writer.specs.Batch.{row_weight}
-use Rattle.column_writer.specs.declared.batch.Batch.{Batch}
-use Rattle.column_writer.specs.Batches.{IsSized, batch_rows, rows_of}
+use Rattle.body_writer.specs.declared.from_columns.batch.Batch.{Batch}
+use Rattle.body_writer.specs.RowRanges.{IsSized, batch_rows, rows_of}
 use Rattle.stream_writer.specs.BatchRows.{AreWeighed, FitsBatches, HasRows, IsInFirst, max_light_row}
 use Rattle.stream_writer.specs.Progress.{HasPut, IsHeld, StopsIn, last_rows}
 use Rattle.stream_writer.specs.Sinks.{Sunk}

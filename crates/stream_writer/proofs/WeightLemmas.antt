@@ -29,7 +29,7 @@ use Rattle.values.specs.Layouts.{weight}
 use Rattle.arrays.specs.Checked.{CheckedColumn}
 use Rattle.arrays.specs.Weights.{Says}
 use Rattle.schema_meta.specs.Rows.{row_at}
-use Rattle.column_writer.specs.Batches.{cells_in}
+use Rattle.body_writer.specs.RowRanges.{cells_in}
 use Rattle.stream_writer.specs.Weights.{layouts_in}
 use Rattle.stream_writer.specs.Weights.{IsLightAs}
 use Rattle.stream_writer.specs.Heavy.{row_weight, HasHeavyCell, AreLightCells, IsHeavy, IsLight}

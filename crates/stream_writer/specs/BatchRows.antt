@@ -4,8 +4,8 @@ use Rattle.values.specs.Datum.{Datum}
 use Rattle.values.specs.Rose.{Rose, Roses, kids_of}
 use Rattle.values.specs.declared.layout.Layout.{Layout}
 use Rattle.body_writer.specs.Batch.{row_weight}
-use Rattle.column_writer.specs.Batches.{IsSized, rows_of}
-use Rattle.column_writer.specs.declared.batch.Batch.{Batch}
+use Rattle.body_writer.specs.RowRanges.{IsSized, rows_of}
+use Rattle.body_writer.specs.declared.from_columns.batch.Batch.{Batch}
 use Rattle.stream_writer.specs.Weights.{weights_of}
 use Rattle.stream_writer.specs.declared.batch_rows.BatchRows.{BatchRows}
 

@@ -4,8 +4,8 @@ use Rattle.values.specs.Datum.{Datum, items_of}
 use Rattle.values.specs.Layouts.{HoldsEach}
 use Rattle.values.specs.Rose.{Rose, Roses, kids_of}
 use Rattle.values.specs.declared.layout.Layout.{Layout}
-use Rattle.column_writer.specs.Batches.{ranges_rows}
-use Rattle.column_writer.specs.Picked.{HaveColumns, picked_rows}
+use Rattle.body_writer.specs.RowRanges.{ranges_rows}
+use Rattle.body_writer.specs.Picked.{HaveColumns, picked_rows}
 use Rattle.stream_writer.specs.BatchRows.{AreLightRows}
 use Rattle.stream_writer.specs.declared.range_rows.RangeRows.{RangeRows}
 

@@ -6,8 +6,8 @@ use Rattle.values.specs.Rose.{Rose, kids_of}
 use Rattle.values.specs.Logical.{NamedType}
 use Rattle.values.specs.declared.layout.Layout.{Layout}
 use Rattle.body_writer.specs.Batch.{row_weight}
-use Rattle.column_writer.specs.declared.batch.Batch.{Batch}
-use Rattle.column_writer.specs.Batches.{IsSized, batch_rows, rows_of}
+use Rattle.body_writer.specs.declared.from_columns.batch.Batch.{Batch}
+use Rattle.body_writer.specs.RowRanges.{IsSized, batch_rows, rows_of}
 use Rattle.stream_writer.specs.BatchRows.{AreWeighed, HasRows, IsInFirst}
 use Rattle.stream_writer.specs.Progress.{HasPut, IsHeld}
 use Rattle.stream_writer.specs.Sinks.{Sunk}

@@ -22,8 +22,8 @@ use Rattle.values.specs.declared.layout.Layout.{Layout}
 use Rattle.arrays.specs.Checked.{CheckedColumn}
 use Rattle.schema_meta.specs.Rows.{row_at}
 use Rattle.body_writer.specs.Batch.{row_weight}
-use Rattle.column_writer.specs.declared.batch.Batch.{Batch}
-use Rattle.column_writer.specs.Batches.{cells_in}
+use Rattle.body_writer.specs.declared.from_columns.batch.Batch.{Batch}
+use Rattle.body_writer.specs.RowRanges.{cells_in}
 use Rattle.stream_writer.specs.Heavy.{IsLight}
 
 abbrev pub weights_of : Roses Layout → List (List Datum) → List ℕ

@@ -3,7 +3,7 @@
 ghost use Rattle.std.specs.Prelude.{◌≡◌, ℕ, ◌+◌, ◌^◌, ◌<◌, ◌≤◌, All, IfOk, [], length, take, drop};
 ghost use Rattle.values.specs.Rose.{kids_of};
 ghost use Rattle.body_writer.specs.Batch.{IsBatch};
-ghost use Rattle.column_writer.specs.Batches.{IsRange, IsSized, ranges_rows, rows_of};
+ghost use Rattle.body_writer.specs.RowRanges.{IsRange, IsSized, ranges_rows, rows_of};
 ghost use Rattle.stream_writer.specs.BatchRows.{IsInFirst};
 ghost use Rattle.stream_writer.specs.Stream.{batch_messages};
 
@@ -11,7 +11,7 @@ use crate::encoded::Encoded;
 use crate::messages::record_message;
 use crate::rows::RowSource;
 use crate::weighing::count_fitting;
-use column_writer::{Batch, RowRange, write_body};
+use body_writer::{Batch, RowRange, write_body_from_columns};
 use std::alloc::{AllocError, Global};
 use values::LayoutTree;
 use values::limits::MAX_BATCH_ROWS;
@@ -109,7 +109,7 @@ pub(crate) fn encode_rows(
     ensures size { IfOk result (λ bytes. length bytes ≤ 2 ^ 29) }
 {
     let ranges = ranges_of(alloc, batches, from, count)?;
-    let body = write_body(alloc, layouts, &ranges, room)?;
+    let body = write_body_from_columns(alloc, layouts, &ranges, room)?;
     let message = record_message(alloc, count, body, Vec::new(alloc))?;
     Ok(message)
 }

@@ -19,7 +19,7 @@ ghost use Rattle.stream_writer.specs.Stream.{batch_messages};
 use crate::dictionary_batch::write_dictionaries;
 use crate::encoded::Encoded;
 use crate::messages::record_message;
-use body_writer::{Body, column_cells, write_column};
+use body_writer::{Body, column_cells, write_column_from_values};
 use std::alloc::{AllocError, Global};
 use values::{IntWidth, Layout, LayoutTree, Row, Value};
 
@@ -117,7 +117,7 @@ fn write_indexed_body(
     for j in 0..layouts.len() {
         let layout = layout_shown(layouts, coded, &indices, j);
         let cells = column_shown(alloc, rows, coded, columns, j)?;
-        write_column(alloc, layout, &cells, &mut body)?;
+        write_column_from_values(alloc, layout, &cells, &mut body)?;
     }
     Ok(body)
 }

@@ -19,7 +19,7 @@ ghost use Rattle.stream_writer.specs.Stream as stream;
 
 use crate::dictionary_builder::code_column;
 use crate::messages::append_dictionary;
-use body_writer::{Body, column_cells, write_column};
+use body_writer::{Body, column_cells, write_column_from_values};
 use std::alloc::{AllocError, Global};
 use values::{Layout, LayoutTree, OffsetWidth, Row, Value};
 
@@ -50,7 +50,7 @@ fn write_values(alloc: Global, values: &[Option<&Value>]) -> Result<Body, AllocE
 {
     let layout = text_tree(alloc);
     let mut body = Body::new(alloc);
-    write_column(alloc, &layout, values, &mut body)?;
+    write_column_from_values(alloc, &layout, values, &mut body)?;
     Ok(body)
 }
 

@@ -5,15 +5,15 @@ ghost use Rattle.values.specs.Datum.{null};
 ghost use Rattle.values.specs.Layouts.{weight};
 ghost use Rattle.values.specs.Limits.{max_cell_weight};
 ghost use Rattle.values.specs.Rose.{kids_of};
-ghost use Rattle.column_writer.specs.Batches.{IsRange, range_rows, ranges_rows};
-ghost use Rattle.column_writer.specs.Picked.{HaveColumns, picked_rows};
+ghost use Rattle.body_writer.specs.RowRanges.{IsRange, range_rows, ranges_rows};
+ghost use Rattle.body_writer.specs.Picked.{HaveColumns, picked_rows};
 ghost use Rattle.stream_writer.specs.BatchRows.{AreLightRows};
 ghost use Rattle.stream_writer.specs.RangeBounds.{BoundsCells, IsHeaviest};
 ghost use Rattle.stream_writer.specs.RangeRows.{HoldRows};
 
 use crate::weighing::MAX_LIGHT_ROW;
 use arrays::Column;
-use column_writer::RowRange;
+use body_writer::RowRange;
 use values::limits::MAX_CELL_WEIGHT;
 use values::{Layout, LayoutTree, slot};
 

@@ -2,11 +2,11 @@
 
 ghost use Rattle.std.specs.Prelude.{◌≡◌, ℕ, ◌<◌, ◌++◌, All, IfOk, OnOk, length, map};
 ghost use Rattle.schema_meta.specs.Rows.{row_at};
-ghost use Rattle.column_writer.specs.Batches.{IsRange, cells_in, range_rows, ranges_rows};
-ghost use Rattle.column_writer.specs.Picked.{HaveColumns, picked, picked_rows};
+ghost use Rattle.body_writer.specs.RowRanges.{IsRange, cells_in, range_rows, ranges_rows};
+ghost use Rattle.body_writer.specs.Picked.{HaveColumns, picked, picked_rows};
 
 use arrays::Column;
-use column_writer::RowRange;
+use body_writer::RowRange;
 use std::alloc::{AllocError, Global};
 use values::Row;
 

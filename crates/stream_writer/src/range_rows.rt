@@ -3,15 +3,15 @@
 ghost use Rattle.std.specs.Prelude.{◌≡◌, ℕ, ◌+◌, ◌-◌, ◌^◌, ◌<◌, ◌≤◌, All, IfOk, [], length, take, drop};
 ghost use Rattle.values.specs.Rose.{kids_of};
 ghost use Rattle.body_writer.specs.Batch.{IsBatch};
-ghost use Rattle.column_writer.specs.Batches.{IsRange, ranges_rows};
-ghost use Rattle.column_writer.specs.Picked.{HaveColumns, picked_rows};
+ghost use Rattle.body_writer.specs.RowRanges.{IsRange, ranges_rows};
+ghost use Rattle.body_writer.specs.Picked.{HaveColumns, picked_rows};
 ghost use Rattle.stream_writer.specs.RangeRows.{FitsRanges, picked_left};
 ghost use Rattle.stream_writer.specs.Stream.{batch_messages};
 
 use crate::encoded::Encoded;
 use crate::messages::record_message;
 use crate::rows::RowSource;
-use column_writer::{RowRange, write_picked};
+use body_writer::{RowRange, write_body_from_picked_columns};
 use std::alloc::{AllocError, Global};
 use values::LayoutTree;
 use values::limits::MAX_BATCH_ROWS;
@@ -116,7 +116,7 @@ fn encode_ranges(
     ensures size { IfOk result (λ bytes. length bytes ≤ 2 ^ 29) }
 {
     let ranges = cut_ranges(alloc, rows.ranges, rows.from, count)?;
-    let body = write_picked(alloc, layouts, rows.columns, &ranges, room)?;
+    let body = write_body_from_picked_columns(alloc, layouts, rows.columns, &ranges, room)?;
     let message = record_message(alloc, count, body, Vec::new(alloc))?;
     Ok(message)
 }

@@ -24,7 +24,7 @@ ghost use Rattle.values.specs.Logical.{NamedType};
 ghost use Rattle.values.specs.Rose.{Rose};
 ghost use Rattle.values.specs.declared.layout.Layout.{Layout};
 ghost use Rattle.schema_meta.specs.SchemaTree.{AreColumns};
-ghost use Rattle.column_writer.specs.Batches.{batch_rows, rows_of};
+ghost use Rattle.body_writer.specs.RowRanges.{batch_rows, rows_of};
 ghost use Rattle.stream_writer.specs.BatchRows.{FitsBatches, HasRows, IsInFirst, rows_left};
 ghost use Rattle.stream_writer.specs.Progress.{StopsIn};
 ghost use Rattle.stream_writer.specs.Sinks.{Sunk, Writes};
@@ -37,7 +37,7 @@ use crate::layouts::layouts_of;
 use crate::progress::{Progress, put_closed, put_rest, put_schema};
 use crate::sink::Sink;
 use crate::weighing::add_weights;
-use column_writer::Batch;
+use body_writer::Batch;
 use std::alloc::{AllocError, Global};
 use values::{LayoutTree, Schema};
 

@@ -6,7 +6,7 @@ ghost use Rattle.stream_writer.specs.Sinks.{Sunk};
 ghost use Rattle.stream_writer.specs.TableWriters.{IsWriting};
 
 use crate::{MemorySink, Sink, TableWriter, WriteFault, write_table};
-use column_writer::Batch;
+use body_writer::Batch;
 use std::alloc::{AllocError, Global};
 use std::test::Fail;
 use values::{Row, Schema};

@@ -6,7 +6,7 @@ ghost use Rattle.values.specs.Rose.{Roses};
 ghost use Rattle.values.specs.declared.layout.Layout.{Layout};
 ghost use Rattle.schema_meta.specs.Rows.{row_at, rows_in};
 ghost use Rattle.body_writer.specs.Batch.{row_weight};
-ghost use Rattle.column_writer.specs.Batches.{batch_rows, cells_in, rows_of};
+ghost use Rattle.body_writer.specs.RowRanges.{batch_rows, cells_in, rows_of};
 ghost use Rattle.stream_writer.specs.BatchRows.{AreWeighed};
 ghost use Rattle.stream_writer.specs.Heavy.{IsHeavy, IsLight};
 ghost use Rattle.stream_writer.specs.Weights.{
@@ -20,7 +20,7 @@ ghost use Rattle.stream_writer.specs.Weights.{
 };
 
 use arrays::Column;
-use column_writer::Batch;
+use body_writer::Batch;
 use std::alloc::{AllocError, Global};
 use values::limits::{MAX_BATCH_ROWS, MAX_BATCH_WEIGHT, MAX_CELL_WEIGHT, MAX_ROW_WEIGHT};
 

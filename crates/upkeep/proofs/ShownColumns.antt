@@ -38,7 +38,7 @@ use Rattle.values.specs.Datum.{Datum, items_of, null}
 use Rattle.values.specs.Layouts.{HoldsEach}
 use Rattle.values.specs.Logical.{NamedType, trees_of}
 use Rattle.values.specs.Rose.{Rose, kids_of}
-use Rattle.column_writer.specs.Picked.{picked, picked_rows}
+use Rattle.body_writer.specs.Picked.{picked, picked_rows}
 use Rattle.view_lang.specs.Config.{Table, View}
 use Rattle.view_lang.specs.Joined.{Side, joined_by, joined_row, looked_up, or_missing}
 use Rattle.view_lang.specs.Outputs.{Output, Outputs, columns, groups}

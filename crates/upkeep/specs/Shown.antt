@@ -1,7 +1,7 @@
 -- What is read of a view: its rows, or where they are stored.
 use Rattle.std.specs.Prelude.{◌≡◌, ℕ, ◌<◌, All, true, List, [], get_or, map}
 use Rattle.values.specs.Datum.{Datum}
-use Rattle.column_writer.specs.Picked.{picked_rows}
+use Rattle.body_writer.specs.Picked.{picked_rows}
 use Rattle.view_lang.specs.Cells.{rows_of}
 use Rattle.view_lang.specs.Config.{View}
 use Rattle.view_lang.specs.Outputs.{Output, columns}

@@ -19,7 +19,7 @@ ghost use Rattle.std.specs.Prelude.{
   slice_set,
   true,
 };
-ghost use Rattle.column_writer.specs.Batches.{IsRange, ranges_rows};
+ghost use Rattle.body_writer.specs.RowRanges.{IsRange, ranges_rows};
 ghost use Rattle.view_lang.specs.Edits.{table_of};
 ghost use Rattle.view_lang.specs.Laws.{Viewed};
 ghost use Rattle.view_lang.specs.ViewColumns.{columns_by, feed_columns, key_column};
@@ -69,7 +69,7 @@ use crate::view_parts::{make_states, take_states};
 use crate::view_state::{Turn, ViewState};
 use crate::viewed::viewed_law;
 use arrays::Column;
-use column_writer::RowRange;
+use body_writer::RowRange;
 use row_keys::{EditFault, RowStore, Visits, numbers_law};
 use std::alloc::{AllocError, Global};
 use std::marker::Model;

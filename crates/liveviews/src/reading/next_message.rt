@@ -7,7 +7,7 @@ ghost use Rattle.stream_writer.specs.Weights.{HasSizes};
 ghost use Rattle.liveviews.specs.Brought.{Brings};
 ghost use Rattle.liveviews.specs.Steps.{IsOpen, Reached, Refuses};
 
-use column_writer::Batch;
+use body_writer::Batch;
 use feed::{Fed, Feed, FeedEvent, cut_law, story_law};
 use messages::first_message_law;
 use values::Cause;

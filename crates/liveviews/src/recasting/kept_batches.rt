@@ -3,7 +3,7 @@
 ghost use Rattle.std.specs.Prelude.{◌≡◌, ◌++◌, All, IfErr, OnOk, [], length};
 ghost use Rattle.schema_meta.specs.Rows.{rows_in};
 ghost use Rattle.feed.specs.Columns.{cells_in, layouts_in};
-ghost use Rattle.column_writer.specs.Batches.{rows_of};
+ghost use Rattle.body_writer.specs.RowRanges.{rows_of};
 ghost use Rattle.stream_writer.specs.Sinks.{Writes};
 ghost use Rattle.stream_writer.specs.Stream.{canon};
 ghost use Rattle.stream_writer.specs.Table.{IsTable};
@@ -13,7 +13,7 @@ ghost use Rattle.liveviews.specs.Refused.{RefusesBatch};
 
 use crate::recasting::batch::{columns_law, heaviest_row};
 use arrays::Column;
-use column_writer::Batch;
+use body_writer::Batch;
 use std::alloc::Global;
 use stream_writer::{
     MAX_LIGHT_ROW, Sink, WriteFault, weights_in, write_batches, write_weighed_batches,

@@ -18,7 +18,7 @@ ghost use Rattle.std.specs.Prelude.{
 };
 ghost use Rattle.values.specs.Datum.{Datum};
 ghost use Rattle.schema_meta.specs.Story.{Story, story_of};
-ghost use Rattle.column_writer.specs.Batches.{batch_rows};
+ghost use Rattle.body_writer.specs.RowRanges.{batch_rows};
 ghost use Rattle.stream_writer.specs.Sinks.{Sunk};
 ghost use Rattle.stream_writer.specs.Weights.{HasSizes};
 ghost use Rattle.liveviews.specs.Brought.{Brings};
@@ -42,7 +42,7 @@ use crate::reading::pieces::{read_piece, room};
 use crate::recasting::batch::{columns_law, heaviest_row};
 use crate::recasting::table::end;
 use crate::recasting::whole::{RecastFault, SourceFault};
-use column_writer::Batch;
+use body_writer::Batch;
 use feed::{Feed, story_law};
 use messages::first_message_law;
 use schema_meta::{fields_law, logical_law};

@@ -22,7 +22,7 @@ use crate::files::FileFault;
 use crate::reading::next_message::{NextMessage, next_message};
 use crate::reading::pieces::{read_piece, room};
 use crate::recasting::kept_batches::KeptBatches;
-use column_writer::Batch;
+use body_writer::Batch;
 use feed::{Feed, story_law};
 use messages::first_message_law;
 use schema_meta::{fields_law, logical_law};

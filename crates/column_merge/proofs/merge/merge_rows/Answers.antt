@@ -1,5 +1,5 @@
 use Rattle.values.specs.Rose.{kids_of}
-use Rattle.column_writer.specs.Batches.{ranges_rows}
+use Rattle.body_writer.specs.RowRanges.{ranges_rows}
 use Rattle.column_merge.proofs.BodyColumns.{columns_long}
 use Rattle.column_merge.proofs.merge.merge_rows.Goals as goal
 

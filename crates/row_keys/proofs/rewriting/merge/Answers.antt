@@ -1,5 +1,5 @@
 use Rattle.std.proofs.Common.{ap, length, refl}
-use Rattle.column_writer.specs.Batches.{ranges_rows}
+use Rattle.body_writer.specs.RowRanges.{ranges_rows}
 use Rattle.row_keys.specs.Chunks.{Chunk}
 use Rattle.row_keys.proofs.MergedChunks.{as_many, held_of, merged_of}
 use Rattle.row_keys.proofs.rewriting.merge.Goals as goal

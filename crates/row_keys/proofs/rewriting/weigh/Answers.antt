@@ -1,7 +1,7 @@
 use Rattle.std.proofs.Common.{◌+◌, drop, refl, arith, subst, sym}
 use Rattle.values.specs.Rose.{kids_of}
 use Rattle.body_writer.specs.Batch.{rows_weight}
-use Rattle.column_writer.specs.Batches.{range_rows, ranges_rows}
+use Rattle.body_writer.specs.RowRanges.{range_rows, ranges_rows}
 use Rattle.row_keys.proofs.Weighed.{WeighedTo, ranges_none, ranges_split, weighed_first, weighed_more}
 use Rattle.row_keys.proofs.rewriting.weigh.Goals as goal
 

@@ -1,7 +1,7 @@
 use Rattle.std.proofs.Common.{drop}
 use Rattle.values.specs.Rose.{kids_of}
 use Rattle.body_writer.specs.Batch.{rows_weight}
-use Rattle.column_writer.specs.Batches.{ranges_rows}
+use Rattle.body_writer.specs.RowRanges.{ranges_rows}
 use Rattle.row_keys.proofs.Weighed.{WeighedTo}
 use Rattle.row_keys.proofs.rewriting.weigh.Given as goal
 

@@ -3,7 +3,7 @@ use Rattle.values.specs.Rose.{kids_of}
 use Rattle.values.specs.Weights.{saturated}
 use Rattle.schema_meta.specs.Rows.{row_at, rows_from}
 use Rattle.body_writer.specs.Batch.{row_weight, rows_weight}
-use Rattle.column_writer.specs.Batches.{cells_in, range_rows}
+use Rattle.body_writer.specs.RowRanges.{cells_in, range_rows}
 use Rattle.row_keys.specs.RowsLeft.{Bounds}
 use Rattle.row_keys.proofs.Weighed.{WeighedTo, bound_saturated, range_is, rows_none, rows_split, weighed_first, weighed_more}
 use Rattle.row_keys.proofs.rewriting.weigh_range.Goals as goal

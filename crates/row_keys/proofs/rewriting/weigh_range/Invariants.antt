@@ -2,7 +2,7 @@ use Rattle.std.proofs.Common.{◌-◌}
 use Rattle.values.specs.Rose.{kids_of}
 use Rattle.schema_meta.specs.Rows.{rows_from}
 use Rattle.body_writer.specs.Batch.{rows_weight}
-use Rattle.column_writer.specs.Batches.{cells_in, range_rows}
+use Rattle.body_writer.specs.RowRanges.{cells_in, range_rows}
 use Rattle.row_keys.proofs.Weighed.{WeighedTo}
 use Rattle.row_keys.proofs.rewriting.weigh_range.Given as goal
 

@@ -1,7 +1,7 @@
 use Rattle.std.proofs.Common.{◌≡◌, ◌∙◌, All, List, ap, length, subst, sym}
 use Rattle.values.specs.Rose.{kids_of}
-use Rattle.column_writer.specs.Batches.{IsRange, ranges_rows}
-use Rattle.column_writer.specs.declared.batch.RowRange.{RowRange}
+use Rattle.body_writer.specs.RowRanges.{IsRange, ranges_rows}
+use Rattle.body_writer.specs.declared.from_columns.batch.RowRange.{RowRange}
 use Rattle.body_writer.specs.Batch.{IsBatch}
 use Rattle.row_keys.specs.Batches.{batch_rows}
 use Rattle.row_keys.proofs.MergedChunks.{few_rows, made_of}

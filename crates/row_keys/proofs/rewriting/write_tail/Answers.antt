@@ -1,5 +1,5 @@
 use Rattle.std.proofs.Common.{◌+◌, ◌-◌, ◌∙◌, ap, arith, length, refl, sym}
-use Rattle.column_writer.specs.Batches.{ranges_rows}
+use Rattle.body_writer.specs.RowRanges.{ranges_rows}
 use Rattle.row_keys.specs.Chunks.{Chunk}
 use Rattle.row_keys.proofs.Tails.{number_inside, tail_held, tail_long, tail_of}
 use Rattle.row_keys.proofs.rewriting.write_tail.Goals as goal

@@ -1,6 +1,6 @@
 use Rattle.std.proofs.Common.{◌≡◌, ◌<◌, ◌+◌, List, Option, [], ap, arith, get_or, length, refl, subst, sym}
 use Rattle.std.specs.Prelude.{MatchOption}
-use Rattle.column_writer.specs.declared.batch.RowRange.{RowRange}
+use Rattle.body_writer.specs.declared.from_columns.batch.RowRange.{RowRange}
 use Rattle.row_keys.specs.Chunks.{LiesAt, row_in}
 use Rattle.row_keys.specs.declared.runs.Run.{Run}
 use Rattle.row_keys.specs.declared.stored_rows.Location.{Location}

@@ -5,20 +5,20 @@ use Rattle.array_layout.specs.declared.array.FieldNode.{FieldNode}
 use Rattle.values.specs.Limits.{max_fields}
 use Rattle.values.specs.Rose.{kids_of}
 use Rattle.body_writer.specs.Batch.{IsBatch, body_bytes, body_nodes, body_ranges}
-use Rattle.column_writer.specs.Batches.{IsRange, ranges_rows, rows_of}
+use Rattle.body_writer.specs.RowRanges.{IsRange, ranges_rows, rows_of}
 use Rattle.stream_writer.specs.Batch.{batch_whole}
 use Rattle.stream_writer.specs.Stream.{message}
 use Rattle.stream_writer.proofs.IndexedBodies.{plain-messages, record-made}
 use Rattle.stream_writer.proofs.Counts.{body_nodes-few, body_ranges-few}
 use Rattle.stream_writer.proofs.batch_rows.encode_rows.Goals as goal
 
-pub write_body-requires-clause-ranges : goal.write_body-requires-clause-ranges
-write_body-requires-clause-ranges c =
+pub write_body_from_columns-requires-clause-ranges : goal.write_body_from_columns-requires-clause-ranges
+write_body_from_columns-requires-clause-ranges c =
     subst (All (IsRange (length c.args.layouts.now))) (sym c.deref.ensures.value)
     (c.in_ok-ranges.ensures.sized (length c.args.layouts.now) c.requires.sized)
 
-pub write_body-requires-clause-batch : goal.write_body-requires-clause-batch
-write_body-requires-clause-batch c =
+pub write_body_from_columns-requires-clause-batch : goal.write_body_from_columns-requires-clause-batch
+write_body_from_columns-requires-clause-batch c =
     let same = ap ranges_rows c.deref.ensures.value ∙ c.in_ok-ranges.ensures.rows in
     subst (IsBatch (kids_of c.args.layouts.now)) (sym same) c.requires.batch
 

@@ -1,5 +1,5 @@
 use Rattle.std.proofs.Common.{◌≡◌, ◌≤◌, drop, length}
-use Rattle.column_writer.specs.Batches.{rows_of}
+use Rattle.body_writer.specs.RowRanges.{rows_of}
 use Rattle.stream_writer.proofs.batch_rows.find_row.Given as goal
 
 abbrev pub invariant-loop-i : goal.invariant-loop-i

@@ -1,5 +1,5 @@
 use Rattle.std.proofs.Common.{◌≡◌, ◌++◌, ◌+◌, ◌≤◌, ℕ, take, drop, All}
-use Rattle.column_writer.specs.Batches.{IsRange, IsSized, ranges_rows, rows_of}
+use Rattle.body_writer.specs.RowRanges.{IsRange, IsSized, ranges_rows, rows_of}
 use Rattle.stream_writer.proofs.batch_rows.ranges_of.Given as goal
 
 abbrev pub invariant-loop-batch : goal.invariant-loop-batch

@@ -13,8 +13,8 @@ loop-j-init c =
     indexing-start c.args.coded.now c.args.layouts.now (cells_in c.args.rows.now) c.in_ok-body.body c.requires.batch
     (record { nodes = c.in_ok-body.ensures.nodes; ranges = c.in_ok-body.ensures.ranges; bytes = c.in_ok-body.ensures.bytes })
 
-pub write_column-requires : goal.write_column-requires
-write_column-requires c =
+pub write_column_from_values-requires : goal.write_column_from_values-requires
+write_column_from_values-requires c =
     let coded = c.args.coded.now in
     let ts = c.args.layouts.now in
     let j = c.loop-j.j in
@@ -38,9 +38,9 @@ loop-j-preserved c =
     let layout_is = c.layout_shown-layout.ensures
     ∙ ap (λ (u : Rose Layout). if is_coded coded j then u else t) c.index_tree-indices.ensures in
     let cells_is = ap cells_of c.deref.ensures.value ∙ c.in_ok-cells.ensures in
-    indexing-next coded j ts (cells_in c.args.rows.now) c.loop-j.body c.write_column.new.body t d
+    indexing-next coded j ts (cells_in c.args.rows.now) c.loop-j.body c.write_column_from_values.new.body t d
     c.layout_shown-layout.result.now (cells_of c.deref.result.now) c.loop-j-test.true refl layout_is cells_is
-    c.loop-j.invariant c.in_ok-write_column.ensures
+    c.loop-j.invariant c.in_ok-write_column_from_values.ensures
 
 pub returns : goal.returns
 returns c =

@@ -10,14 +10,14 @@ use Rattle.stream_writer.proofs.Counts.{body_nodes-few, body_ranges-few}
 use Rattle.stream_writer.proofs.DictionaryBodies.{values-call, values-written}
 use Rattle.stream_writer.proofs.dictionary_batch.write_values.Goals as goal
 
-pub write_column-requires-clause-held : goal.write_column-requires-clause-held
-write_column-requires-clause-held c =
+pub write_column_from_values-requires-clause-held : goal.write_column_from_values-requires-clause-held
+write_column_from_values-requires-clause-held c =
     let new = c.new-body.ensures in
     (values-call (cells_of c.args.values.now) c.new-body.result c.text_tree-layout.result c.text_tree-layout.ensures
     c.requires (record { nodes = new.nodes; ranges = new.ranges; bytes = new.bytes })).1
 
-pub write_column-requires-clause-light : goal.write_column-requires-clause-light
-write_column-requires-clause-light c =
+pub write_column_from_values-requires-clause-light : goal.write_column_from_values-requires-clause-light
+write_column_from_values-requires-clause-light c =
     let new = c.new-body.ensures in
     (values-call (cells_of c.args.values.now) c.new-body.result c.text_tree-layout.result c.text_tree-layout.ensures
     c.requires (record { nodes = new.nodes; ranges = new.ranges; bytes = new.bytes })).2
@@ -26,10 +26,10 @@ pub returns : goal.returns
 returns c =
     let cells = cells_of c.args.values.now in
     let written =
-    values-written cells c.new-body.result c.write_column.new.body c.text_tree-layout.result
+    values-written cells c.new-body.result c.write_column_from_values.new.body c.text_tree-layout.result
     c.text_tree-layout.ensures c.requires
     (record { nodes = c.new-body.ensures.nodes; ranges = c.new-body.ensures.ranges; bytes = c.new-body.ensures.bytes })
-    c.in_ok-write_column.ensures in
+    c.in_ok-write_column_from_values.ensures in
     record {
       nodes = written.nodes;
       ranges = written.ranges;

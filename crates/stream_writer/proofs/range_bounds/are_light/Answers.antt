@@ -5,9 +5,9 @@ use Rattle.values.specs.Datum.{Datum, items_of}
 use Rattle.values.specs.Layouts.{HoldsEach}
 use Rattle.values.specs.Rose.{kids_of}
 use Rattle.body_writer.specs.Batch.{row_weight}
-use Rattle.column_writer.specs.Batches.{range_rows}
-use Rattle.column_writer.specs.Picked.{picked_rows}
-use Rattle.column_writer.specs.declared.batch.RowRange.{RowRange}
+use Rattle.body_writer.specs.RowRanges.{range_rows}
+use Rattle.body_writer.specs.Picked.{picked_rows}
+use Rattle.body_writer.specs.declared.from_columns.batch.RowRange.{RowRange}
 use Rattle.stream_writer.specs.BatchRows.{AreLightRows, max_light_row}
 use Rattle.stream_writer.proofs.RangeLemmas.{all-ranges, each-range}
 use Rattle.stream_writer.proofs.range_bounds.are_light.Goals as goal

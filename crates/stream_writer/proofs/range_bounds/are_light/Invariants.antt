@@ -1,7 +1,7 @@
 use Rattle.std.proofs.Common.{All, take}
 use Rattle.values.specs.Rose.{kids_of}
-use Rattle.column_writer.specs.Batches.{range_rows}
-use Rattle.column_writer.specs.Picked.{picked_rows}
+use Rattle.body_writer.specs.RowRanges.{range_rows}
+use Rattle.body_writer.specs.Picked.{picked_rows}
 use Rattle.stream_writer.specs.BatchRows.{AreLightRows}
 use Rattle.stream_writer.proofs.range_bounds.are_light.Given as goal
 

@@ -1,6 +1,6 @@
 use Rattle.std.proofs.Common.{◌≤◌, drop}
 use Rattle.values.specs.Rose.{kids_of}
-use Rattle.column_writer.specs.Batches.{cells_in}
+use Rattle.body_writer.specs.RowRanges.{cells_in}
 use Rattle.stream_writer.specs.BatchRows.{max_light_row}
 use Rattle.stream_writer.proofs.RangeBoundLemmas.{LightSoFar}
 use Rattle.stream_writer.proofs.range_bounds.is_light.Given as goal

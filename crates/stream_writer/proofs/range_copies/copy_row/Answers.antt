@@ -2,7 +2,7 @@ use Rattle.std.proofs.Common.{◌∙◌, get_or, sym}
 use Rattle.std.proofs.lemmas.Option.{get_or_from_slice_get}
 use Rattle.values.specs.Datum.{null}
 use Rattle.schema_meta.specs.Rows.{row_at}
-use Rattle.column_writer.specs.Batches.{cells_in}
+use Rattle.body_writer.specs.RowRanges.{cells_in}
 use Rattle.stream_writer.proofs.RangeLemmas.{cell-copied, cell-of}
 use Rattle.stream_writer.proofs.range_copies.copy_row.Goals as goal
 

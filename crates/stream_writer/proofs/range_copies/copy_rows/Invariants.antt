@@ -1,7 +1,7 @@
 use Rattle.std.proofs.Common.{◌≡◌, ◌++◌, drop}
 use Rattle.std.specs.Prelude.{map}
-use Rattle.column_writer.specs.Batches.{ranges_rows}
-use Rattle.column_writer.specs.Picked.{picked_rows}
+use Rattle.body_writer.specs.RowRanges.{ranges_rows}
+use Rattle.body_writer.specs.Picked.{picked_rows}
 use Rattle.stream_writer.proofs.range_copies.copy_rows.Given as goal
 
 abbrev pub invariant-loop-range : goal.invariant-loop-range

@@ -5,8 +5,8 @@ use Rattle.std.proofs.lemmas.List.{map-append}
 use Rattle.values.specs.Datum.{Datum}
 use Rattle.arrays.specs.Checked.{CheckedColumn}
 use Rattle.schema_meta.specs.Rows.{row_at}
-use Rattle.column_writer.specs.Batches.{cells_in}
-use Rattle.column_writer.specs.Picked.{picked, picked_rows}
+use Rattle.body_writer.specs.RowRanges.{cells_in}
+use Rattle.body_writer.specs.Picked.{picked, picked_rows}
 use Rattle.stream_writer.proofs.RangeLemmas.{copied-end, copied-more, range-rows}
 use Rattle.stream_writer.proofs.range_copies.push_rows.Goals as goal
 

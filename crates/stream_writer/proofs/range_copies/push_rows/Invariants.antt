@@ -1,8 +1,8 @@
 use Rattle.std.proofs.Common.{◌≡◌, ◌++◌, ◌-◌}
 use Rattle.std.specs.Prelude.{map}
 use Rattle.schema_meta.specs.Rows.{rows_from}
-use Rattle.column_writer.specs.Batches.{cells_in, range_rows}
-use Rattle.column_writer.specs.Picked.{picked_rows}
+use Rattle.body_writer.specs.RowRanges.{cells_in, range_rows}
+use Rattle.body_writer.specs.Picked.{picked_rows}
 use Rattle.stream_writer.proofs.range_copies.push_rows.Given as goal
 
 abbrev pub invariant-loop-index : goal.invariant-loop-index

@@ -1,5 +1,5 @@
 use Rattle.std.proofs.Common.{◌∙◌, arith, refl, subst, sym, ap, All}
-use Rattle.column_writer.specs.Batches.{IsRange, range_rows}
+use Rattle.body_writer.specs.RowRanges.{IsRange, range_rows}
 use Rattle.stream_writer.proofs.BatchRowLemmas.{rows-then, rows-else, all-ranges}
 use Rattle.stream_writer.proofs.RangeLemmas.{part-range, part-rows, range-at, range-long}
 use Rattle.stream_writer.proofs.range_rows.cut_ranges.Goals as goal

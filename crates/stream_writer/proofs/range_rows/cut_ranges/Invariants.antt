@@ -1,5 +1,5 @@
 use Rattle.std.proofs.Common.{◌≡◌, ◌++◌, ◌+◌, ◌≤◌, ℕ, take, drop, All}
-use Rattle.column_writer.specs.Batches.{IsRange, ranges_rows}
+use Rattle.body_writer.specs.RowRanges.{IsRange, ranges_rows}
 use Rattle.stream_writer.proofs.range_rows.cut_ranges.Given as goal
 
 abbrev pub invariant-loop-range : goal.invariant-loop-range

@@ -6,8 +6,8 @@ use Rattle.values.specs.Datum.{Datum}
 use Rattle.values.specs.Limits.{max_fields}
 use Rattle.values.specs.Rose.{kids_of}
 use Rattle.body_writer.specs.Batch.{IsBatch, body_bytes, body_nodes, body_ranges}
-use Rattle.column_writer.specs.Batches.{ranges_rows}
-use Rattle.column_writer.specs.Picked.{picked_rows}
+use Rattle.body_writer.specs.RowRanges.{ranges_rows}
+use Rattle.body_writer.specs.Picked.{picked_rows}
 use Rattle.stream_writer.specs.Batch.{batch_whole}
 use Rattle.stream_writer.specs.RangeRows.{picked_left, whole_left}
 use Rattle.stream_writer.specs.Stream.{message}
@@ -23,8 +23,8 @@ cut_ranges-requires-clause-small c =
 pub cut_ranges-requires-clause-ranges : goal.cut_ranges-requires-clause-ranges
 cut_ranges-requires-clause-ranges c = (c.requires.fits.width, c.requires.fits.have.ranges)
 
-pub write_picked-requires : goal.write_picked-requires
-write_picked-requires c =
+pub write_body_from_picked_columns-requires : goal.write_body_from_picked_columns-requires
+write_body_from_picked_columns-requires c =
     let r = c.args.rows.now in
     let same : picked_rows r.columns.now (ranges_rows c.deref.result.now) ≡ take c.args.count (picked_left r) =
     ap (picked_rows r.columns.now) (ap ranges_rows c.deref.ensures.value ∙ c.in_ok-ranges.ensures.rows)

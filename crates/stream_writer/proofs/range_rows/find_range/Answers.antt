@@ -1,5 +1,5 @@
 use Rattle.std.proofs.Common.{arith, ◌∙◌, sym}
-use Rattle.column_writer.specs.Batches.{range_rows}
+use Rattle.body_writer.specs.RowRanges.{range_rows}
 use Rattle.stream_writer.proofs.BatchRowLemmas.{step-over}
 use Rattle.stream_writer.proofs.RangeLemmas.{range-at, range-long}
 use Rattle.stream_writer.proofs.range_rows.find_range.Goals as goal

@@ -1,5 +1,5 @@
 use Rattle.std.proofs.Common.{◌≡◌, ◌≤◌, drop}
-use Rattle.column_writer.specs.Batches.{ranges_rows}
+use Rattle.body_writer.specs.RowRanges.{ranges_rows}
 use Rattle.stream_writer.proofs.range_rows.find_range.Given as goal
 
 abbrev pub invariant-loop-i : goal.invariant-loop-i

@@ -1,6 +1,6 @@
 use Rattle.std.proofs.Common.{◌≡◌, ◌∙◌, length, arith, ap, refl, inl}
 use Rattle.values.specs.Rose.{kids_of}
-use Rattle.column_writer.specs.Batches.{rows_of}
+use Rattle.body_writer.specs.RowRanges.{rows_of}
 use Rattle.stream_writer.specs.Stream.{trees}
 use Rattle.stream_writer.proofs.BatchRowLemmas.{as-many, light-as, sized-as}
 use Rattle.stream_writer.proofs.table.write_batches.Goals as goal

@@ -1,7 +1,7 @@
 use Rattle.std.proofs.Common.{◌≡◌, ◌∙◌, length, arith, ap, refl, sym}
 use Rattle.values.specs.Rose.{kids_of}
-use Rattle.column_writer.specs.Batches.{ranges_rows}
-use Rattle.column_writer.specs.Picked.{picked_rows}
+use Rattle.body_writer.specs.RowRanges.{ranges_rows}
+use Rattle.body_writer.specs.Picked.{picked_rows}
 use Rattle.stream_writer.specs.Stream.{trees}
 use Rattle.stream_writer.proofs.BatchRowLemmas.{as-many, light-as}
 use Rattle.stream_writer.proofs.RangeLemmas.{picked-long, rows-hold}

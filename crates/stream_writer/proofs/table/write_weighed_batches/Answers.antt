@@ -2,7 +2,7 @@ use Rattle.std.proofs.Common.{◌≡◌, ◌∙◌, length, arith, ap, sym, inr}
 use Rattle.std.proofs.lemmas.List.{length-map}
 use Rattle.values.specs.Rose.{kids_of}
 use Rattle.body_writer.specs.Batch.{row_weight}
-use Rattle.column_writer.specs.Batches.{rows_of}
+use Rattle.body_writer.specs.RowRanges.{rows_of}
 use Rattle.stream_writer.specs.Stream.{trees}
 use Rattle.stream_writer.specs.Weights.{weights_of}
 use Rattle.stream_writer.proofs.BatchRowLemmas.{as-many, sized-as}

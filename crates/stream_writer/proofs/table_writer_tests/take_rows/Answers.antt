@@ -1,6 +1,6 @@
 use Rattle.std.proofs.Common.{◌++◌, [], arith, length-append}
-use Rattle.column_writer.specs.declared.batch.Batch.{Batch}
-use Rattle.column_writer.specs.Batches.{batch_rows}
+use Rattle.body_writer.specs.declared.from_columns.batch.Batch.{Batch}
+use Rattle.body_writer.specs.RowRanges.{batch_rows}
 use Rattle.stream_writer.proofs.BatchRowLemmas.{batch-long}
 use Rattle.stream_writer.proofs.PlainRows.{plain-comes}
 use Rattle.stream_writer.proofs.table_writer_tests.take_rows.Goals as goal

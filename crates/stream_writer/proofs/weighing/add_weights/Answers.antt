@@ -3,7 +3,7 @@ use Rattle.std.proofs.lemmas.List.{length-map}
 use Rattle.arrays.specs.Checked.{CheckedColumn}
 use Rattle.schema_meta.specs.Rows.{rows_in}
 use Rattle.body_writer.specs.Batch.{row_weight}
-use Rattle.column_writer.specs.Batches.{cells_in, rows_of}
+use Rattle.body_writer.specs.RowRanges.{cells_in, rows_of}
 use Rattle.stream_writer.specs.Weights.{layouts_in, weights_of}
 use Rattle.stream_writer.proofs.BatchRowLemmas.{weighed-each, weighed-more}
 use Rattle.stream_writer.proofs.FittingLemmas.{weights-left}

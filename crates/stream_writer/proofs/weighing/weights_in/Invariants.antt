@@ -1,7 +1,7 @@
 use Rattle.std.proofs.Common.{◌≡◌, ◌++◌, All, drop}
 use Rattle.values.specs.Rose.{Roses}
 use Rattle.values.specs.declared.layout.Layout.{Layout}
-use Rattle.column_writer.specs.Batches.{rows_of}
+use Rattle.body_writer.specs.RowRanges.{rows_of}
 use Rattle.stream_writer.specs.Weights.{weights_of}
 use Rattle.stream_writer.specs.Weights.{WeighsAs}
 use Rattle.stream_writer.proofs.weighing.weights_in.Given as goal

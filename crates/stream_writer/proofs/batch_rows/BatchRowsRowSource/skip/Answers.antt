@@ -2,8 +2,8 @@ use Rattle.std.proofs.Common.{All, ◌∙◌, ◌-◌, length, take, drop, arith
 use Rattle.std.proofs.lemmas.List.Elements.{All-drop}
 use Rattle.values.specs.Datum.{Datum}
 use Rattle.values.specs.Rose.{kids_of}
-use Rattle.column_writer.specs.declared.batch.Batch.{Batch}
-use Rattle.column_writer.specs.Batches.{IsSized, rows_of}
+use Rattle.body_writer.specs.declared.from_columns.batch.Batch.{Batch}
+use Rattle.body_writer.specs.RowRanges.{IsSized, rows_of}
 use Rattle.stream_writer.specs.BatchRows.{AreWeighed}
 use Rattle.stream_writer.proofs.BatchRowLemmas.{rest-is, skipped, weighed-left}
 use Rattle.stream_writer.proofs.batch_rows.BatchRowsRowSource.skip.Goals as goal

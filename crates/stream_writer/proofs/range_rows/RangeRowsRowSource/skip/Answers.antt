@@ -2,9 +2,9 @@ use Rattle.std.proofs.Common.{◌≡◌, ◌+◌, ◌-◌, ◌∙◌, All, List,
 use Rattle.std.proofs.lemmas.List.Elements.{All-drop}
 use Rattle.values.specs.Datum.{Datum}
 use Rattle.values.specs.Rose.{kids_of}
-use Rattle.column_writer.specs.declared.batch.RowRange.{RowRange}
-use Rattle.column_writer.specs.Batches.{IsRange, ranges_rows}
-use Rattle.column_writer.specs.Picked.{picked_rows}
+use Rattle.body_writer.specs.declared.from_columns.batch.RowRange.{RowRange}
+use Rattle.body_writer.specs.RowRanges.{IsRange, ranges_rows}
+use Rattle.body_writer.specs.Picked.{picked_rows}
 use Rattle.stream_writer.specs.RangeRows.{picked_left}
 use Rattle.stream_writer.proofs.BatchRowLemmas.{light-left, rest-is, skipped}
 use Rattle.stream_writer.proofs.RangeLemmas.{picked-dropped}

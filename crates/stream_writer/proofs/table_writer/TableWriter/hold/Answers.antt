@@ -1,7 +1,7 @@
 use Rattle.std.proofs.Common.{All, ◌++◌, ◌≤◌, List, arith, drop, length, refl, subst, sym}
 use Rattle.values.specs.Rose.{kids_of}
-use Rattle.column_writer.specs.declared.batch.Batch.{Batch}
-use Rattle.column_writer.specs.Batches.{batch_rows, rows_of}
+use Rattle.body_writer.specs.declared.from_columns.batch.Batch.{Batch}
+use Rattle.body_writer.specs.RowRanges.{batch_rows, rows_of}
 use Rattle.stream_writer.specs.BatchRows.{AreWeighed, HasRows}
 use Rattle.stream_writer.specs.Weights.{HasSizes, IsLightBatch, WeighsAs}
 use Rattle.stream_writer.proofs.TableWriterLemmas.{

@@ -1,5 +1,5 @@
 use Rattle.std.proofs.Common.{ap, drop, refl}
-use Rattle.column_writer.specs.Batches.{rows_of}
+use Rattle.body_writer.specs.RowRanges.{rows_of}
 use Rattle.stream_writer.proofs.TableWriterLemmas.{source-fits}
 use Rattle.stream_writer.proofs.table_writer.TableWriter.source.Goals as goal
 

@@ -2,7 +2,7 @@ use Rattle.std.proofs.Common.{[], ◌++◌, List, ap, arith, length, sym, subst}
 use Rattle.values.specs.Datum.{Datum}
 use Rattle.values.specs.Rose.{Rose}
 use Rattle.values.specs.declared.layout.Layout.{Layout}
-use Rattle.column_writer.specs.Batches.{batch_rows}
+use Rattle.body_writer.specs.RowRanges.{batch_rows}
 use Rattle.stream_writer.specs.BatchRows.{FitsBatches, rows_left}
 use Rattle.stream_writer.specs.Progress.{HasPut, IsHeld, last_rows}
 use Rattle.stream_writer.specs.TableWriters.{rows_held}

@@ -3,7 +3,7 @@ use Rattle.values.specs.declared.causes.Cause.TheVariants as cause
 use Rattle.arrays.specs.Checked.{CheckedColumn}
 use Rattle.feed.specs.Columns.{cells_in, layouts_in}
 use Rattle.row_keys.specs.Batches.{HoldsCells}
-use Rattle.column_writer.specs.declared.batch.Batch.{Batch}
+use Rattle.body_writer.specs.declared.from_columns.batch.Batch.{Batch}
 use Rattle.liveviews.specs.Taken.{HasHeavyRow}
 use Rattle.liveviews.specs.Kept.{AreLightUpTo, taken_rows}
 use Rattle.liveviews.specs.declared.recasting.kept_batches.KeptBatches.{KeptBatches}

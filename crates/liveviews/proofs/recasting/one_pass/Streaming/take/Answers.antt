@@ -6,7 +6,7 @@ use Rattle.schema_meta.specs.FieldLayouts.{layouts_of}
 use Rattle.schema_meta.specs.Logical.{logical_field}
 use Rattle.feed.specs.Columns.{cells_in, layouts_in}
 use Rattle.row_keys.specs.Batches.{HoldsCells}
-use Rattle.column_writer.specs.Batches.{batch_rows}
+use Rattle.body_writer.specs.RowRanges.{batch_rows}
 use Rattle.liveviews.specs.Kept.{AreLightUpTo}
 use Rattle.liveviews.specs.Taken.{HasHeavyRow}
 use Rattle.liveviews.proofs.BatchLemmas.{rows-many, rows-refused}

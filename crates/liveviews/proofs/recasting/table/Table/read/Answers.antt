@@ -1,7 +1,7 @@
 use Rattle.std.proofs.Common.{[], ap}
 use Rattle.std.proofs.lemmas.Result.{err_from_is_err_and, IfErr-weaker, IfOk-weaker}
 use Rattle.schema_meta.specs.Story.{story_of}
-use Rattle.column_writer.specs.Batches.{rows_of}
+use Rattle.body_writer.specs.RowRanges.{rows_of}
 use Rattle.liveviews.proofs.Inputs.{begins, taken-whole}
 use Rattle.liveviews.proofs.recasting.table.Table.read.Goals as goal
 

@@ -1,6 +1,6 @@
 use Rattle.std.proofs.Common.{ap}
 use Rattle.std.proofs.lemmas.Result.{IfOk-weaker}
-use Rattle.column_writer.specs.Batches.{rows_of}
+use Rattle.body_writer.specs.RowRanges.{rows_of}
 use Rattle.liveviews.proofs.Inputs.{begins, source-read, source-story}
 use Rattle.liveviews.proofs.recasting.table.Table.read_from.Goals as goal
 

@@ -1,7 +1,0 @@
-use Rattle.std.proofs.Common.{◌≡◌, ◌++◌, drop}
-use Rattle.std.specs.Prelude.{map}
-use Rattle.body_writer.specs.Slots.{truth_in, cells_of}
-use Rattle.body_writer.proofs.buffers.truths.Given as goal
-
-abbrev pub invariant-loop-cell : goal.invariant-loop-cell
-invariant-loop-cell l = l.bits ++ map truth_in (cells_of (drop l.cell-index l.cells)) ≡ map truth_in (cells_of l.cells)

@@ -1,0 +1,32 @@
+use Rattle.std.proofs.Common.{arith}
+use Rattle.values.specs.Rose.{node, kids_of}
+use Rattle.array_layout.specs.Cells.{cell}
+use Rattle.body_writer.specs.Slots.{cells_of}
+use Rattle.body_writer.proofs.EncodedLemmas.{encoded-step, encoded-over, indexed-cell, indexed-room}
+use Rattle.body_writer.proofs.from_columns.encoded.push_of_width.Goals as goal
+
+pub value_in-requires-clause-room : goal.value_in-requires-clause-room
+value_in-requires-clause-room c =
+    indexed-room c.args.width c.args.values.now c.args.range.now c.buffer-indices.result.now c.loop-i.i c.requires
+    c.buffer-indices.ensures c.loop-i-test.true
+
+pub loop-i-preserved : goal.loop-i-preserved
+loop-i-preserved c =
+    let parts = c.args.range.now.parts in
+    let found = indexed-cell c.args.width c.args.values.now c.args.range.now c.buffer-bits.result.now
+    c.buffer-indices.result.now c.loop-i.i c.value_in.result c.requires c.buffer-bits.ensures c.buffer-indices.ensures
+    c.loop-i.invariant.past c.loop-i-test.true c.value_in.ensures.missing c.value_in.ensures.found in
+    record {
+      past = omega (arith, c.loop-i.invariant.past);
+      cells = encoded-step (cell parts.body.now (node parts.own.now (kids_of parts.children.now))) c.loop-i.i
+          c.args.range.now.to
+          c.value_in.result c.loop-i.cells.items c.push.new.self.items _ c.loop-i-test.true found
+          c.in_ok-push.ensures.items
+          c.loop-i.invariant.cells;
+    }
+
+pub returns : goal.returns
+returns c =
+    let parts = c.args.range.now.parts in
+    encoded-over (cell parts.body.now (node parts.own.now (kids_of parts.children.now))) c.loop-i.i c.args.range.now.to
+    (cells_of c.loop-i.cells.items) _ c.loop-i-test.false c.loop-i.invariant.cells

@@ -1,0 +1,7 @@
+use Rattle.std.proofs.Common.{◌≡◌, ◌++◌, drop}
+use Rattle.std.specs.Prelude.{map}
+use Rattle.body_writer.specs.Slots.{truth_in, cells_of}
+use Rattle.body_writer.proofs.from_values.buffers.truths.Given as goal
+
+abbrev pub invariant-loop-cell : goal.invariant-loop-cell
+invariant-loop-cell l = l.bits ++ map truth_in (cells_of (drop l.cell-index l.cells)) ≡ map truth_in (cells_of l.cells)

@@ -1,0 +1,15 @@
+use Rattle.std.proofs.Common.{◌+◌, ◌*◌, drop}
+use Rattle.values.specs.Rose.{rose_size, roses_size, kids_of}
+use Rattle.body_writer.specs.Slots.{cells_of}
+use Rattle.body_writer.proofs.Ahead.{AheadOf}
+use Rattle.body_writer.proofs.from_values.column.+column.Given as goal
+
+abbrev pub decreases-write_column_from_values : goal.decreases-write_column_from_values
+decreases-write_column_from_values l = 2 * rose_size l.layout.now
+
+abbrev pub decreases-write_children : goal.decreases-write_children
+decreases-write_children l = 2 * roses_size (kids_of l.children.now) + 1
+
+abbrev pub invariant-write_children-loop-j : goal.invariant-write_children-loop-j
+invariant-write_children-loop-j l =
+    AheadOf l.layout l.j (kids_of (drop l.j l.children)) (cells_of l.cells) l.body l.fn.body (kids_of l.children)

@@ -1,0 +1,6 @@
+//! Columns from references to values: an array's buffers are made cell by cell.
+
+pub(crate) mod batch;
+pub(crate) mod buffers;
+pub(crate) mod column;
+pub(crate) mod slots;

@@ -1,9 +1,0 @@
-use Rattle.std.proofs.Common.{◌≡◌, ◌++◌, drop}
-use Rattle.std.specs.Prelude.{map}
-use Rattle.column_writer.specs.Pieces.{pieces_cells}
-use Rattle.column_writer.specs.Texts.{as_bytes, bytes_cells}
-use Rattle.column_writer.proofs.encoded_texts.encoded_texts.Given as goal
-
-abbrev pub invariant-loop-piece : goal.invariant-loop-piece
-invariant-loop-piece l =
-    bytes_cells l.texts.items ++ map as_bytes (pieces_cells (drop l.piece-index l.pieces)) ≡ map as_bytes (pieces_cells l.pieces)

@@ -1,7 +1,0 @@
-use Rattle.std.proofs.Common.{◌≡◌, ◌++◌, ◌-◌, take, drop}
-use Rattle.column_writer.proofs.gather.push_values.Given as goal
-
-abbrev pub invariant-loop-i : goal.invariant-loop-i
-invariant-loop-i l =
-    l.values.items ++ take (l.to - l.i) (drop l.i l.column.cells)
-    ≡ l.fn.values.items ++ take (l.to - l.from) (drop l.from l.column.cells)

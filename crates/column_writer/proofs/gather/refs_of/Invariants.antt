@@ -1,6 +1,0 @@
-use Rattle.std.proofs.Common.{◌≡◌, ◌++◌, drop}
-use Rattle.body_writer.specs.Slots.{cells_of}
-use Rattle.column_writer.proofs.gather.refs_of.Given as goal
-
-abbrev pub invariant-loop-value : goal.invariant-loop-value
-invariant-loop-value l = cells_of l.refs.items ++ drop l.value-index l.values ≡ l.values

@@ -1,7 +1,0 @@
-use Rattle.std.proofs.Common.{◌≡◌, ◌++◌, drop}
-use Rattle.column_writer.specs.Batches.{column_in}
-use Rattle.column_writer.proofs.gather.values_of.Given as goal
-
-abbrev pub invariant-loop-range : goal.invariant-loop-range
-invariant-loop-range l =
-    l.values.items ++ column_in l.j (drop l.range-index l.ranges) ≡ column_in l.j l.ranges

@@ -1,9 +1,0 @@
-use Rattle.std.proofs.Common.{◌≡◌, ◌++◌, drop}
-use Rattle.std.specs.Prelude.{map}
-use Rattle.body_writer.specs.Slots.{is_valid}
-use Rattle.column_writer.specs.Texts.{bytes_cells}
-use Rattle.column_writer.proofs.texts.validity.Given as goal
-
-abbrev pub invariant-loop-text : goal.invariant-loop-text
-invariant-loop-text l =
-    l.bits ++ map is_valid (bytes_cells (drop l.text-index l.texts)) ≡ map is_valid (bytes_cells l.texts)

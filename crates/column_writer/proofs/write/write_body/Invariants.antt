@@ -1,8 +1,0 @@
-use Rattle.std.proofs.Common.{drop}
-use Rattle.values.specs.Rose.{kids_of}
-use Rattle.body_writer.proofs.Rows.{Writing}
-use Rattle.column_writer.specs.Batches.{ranges_rows}
-use Rattle.column_writer.proofs.write.write_body.Given as goal
-
-abbrev pub invariant-loop-j : goal.invariant-loop-j
-invariant-loop-j l = Writing l.j (kids_of (drop l.j l.layouts)) (ranges_rows l.ranges) l.body (kids_of l.layouts)

@@ -1,5 +1,0 @@
-pub mod Runs
-pub mod Pieces
-pub mod Batches
-pub mod Texts
-pub mod Picked
