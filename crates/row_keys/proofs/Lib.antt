@@ -43,6 +43,7 @@ mod MergedChunks
 mod Tails
 mod GatheredRows
 mod Weighed
+mod WeighedCells
 mod Trees
 mod GoneRows
 mod TakenApart
