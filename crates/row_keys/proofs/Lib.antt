@@ -18,6 +18,7 @@ mod LightRows
 mod HeldRows
 mod AppendedBatches
 mod BatchKeys
+mod SingleKeys
 mod Results
 mod LiveNumbers
 mod ListedNumbers
