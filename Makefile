@@ -1,12 +1,12 @@
 # What to make: `make try`, `make run`, `make lib`, `make install`, `make uninstall`, `make dist`, `make test`,
-# `make edits`, `make ci`, `make limits` and `make bench`.
+# `make edits`, `make ci`, `make limits`, `make bench` and `make release`.
 
 PREFIX ?= /usr/local
 LV := crates/lv/out/lv
 LIBRARY := out/lib
 OUT ?= out/orders.canon.arrows
 
-.PHONY: try run lib test edits ci limits bench dist install install-files uninstall lv need-rt need-python
+.PHONY: try run lib test edits ci limits bench dist release install install-files uninstall lv need-rt need-python
 
 # Recasts the sample stream to a file of its own, and inspects that file; then runs the script of the report, which
 # writes three views.
@@ -32,7 +32,7 @@ lib: need-rt
 
 # The merge gate: every proof from nothing, contracts, layout, tests, the program over its runs, and then must-fail edits:
 # of crates whose edits were all refused as they stand (tools/gate/edits-tried.txt) a fifth, and none begun 130 minutes
-# after its beginning or later. `tools/gate/gate.py --all` tries all edits, however long it takes.
+# after its beginning or later. `make release` tries all edits, however long it takes.
 test: need-rt need-python
 	@tools/gate/gate.py
 
@@ -95,6 +95,13 @@ endif
 # as they were proved and built.
 dist: lv lib need-python
 	@tools/makers/dist.py
+
+# What a release needs: the gate with all must-fail edits and with the proofs of the tests' own functions, streams at the
+# limits, and the packages, installed and used in folders of their own.
+release: need-rt need-python
+	@tools/gate/gate.py --all --record
+	@$(MAKE) --no-print-directory limits dist
+	@tools/runs/check-dist.py
 
 # Takes away what `make install` puts there, with the same PREFIX and DESTDIR.
 uninstall:
