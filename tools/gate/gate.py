@@ -45,8 +45,9 @@ ROOT = os.path.abspath(f"{__file__}/../../..")
 PROGRAM, LIBRARY = "lv", "lv_c"
 # The merge has 180 minutes.
 UNTIL = 130
-# How many seconds a crate's tests may take with run-time checks, which make `damage` slow.
-SECONDS_OF_TESTS = 600
+# How many seconds a crate's tests may take with run-time checks; and the tests that take longer so than with their proof.
+SECONDS_OF_TESTS = 300
+PROVED_TESTS = ("damage_tests",)
 # How the program and the library are built, and how what comes of the program is called.
 BACKENDS = {"llvm": "lv", "rattle": "lv.by-rattle"}
 RUNS = (
@@ -211,9 +212,13 @@ class Gate:
         others = sorted(it for it in texts[0] if texts[0][it] != texts[1].get(it))
         return self.note("layout", crate, ran, ran.status == 0 and not others, f"run rt fmt, it lays out anew: {' '.join(others)}")
 
+    def are_proved(self, crate):
+        """Whether the tests of a crate are proved before they are run."""
+        return self.proves_tests or crate in PROVED_TESTS
+
     def tests(self, lane, crate):
         """Runs a crate's tests: as they were proved, or compiled with run-time checks, for which nothing needs to be proved."""
-        words = ["test", "--jobs", "1"] if self.proves_tests else ["try", "--test", "--seconds", str(SECONDS_OF_TESTS)]
+        words = ["test", "--jobs", "1"] if self.are_proved(crate) else ["try", "--test", "--seconds", str(SECONDS_OF_TESTS)]
         ran = lane.rt(crate, *words)
         passed = re.search(r"^test result: ok\. [1-9]", ran.text, re.M) is not None
         return self.note("tests", crate, ran, ran.status == 0 and passed, "" if ran.status else "no test was run" * (not passed))
@@ -296,7 +301,7 @@ class Gate:
             for script in CALLS:
                 yield Task(frozenset([built]), partial(self.call_library, script, it))
         for it in (it for it in high if has_tests(self.tree, it)):
-            yield Task(frozenset([it] if self.proves_tests else []), in_lane(self.tests, it))
+            yield Task(frozenset([it] if self.are_proved(it) else []), in_lane(self.tests, it))
         for it in high:
             yield Task(frozenset([it]), in_lane(self.contracts, it))
             yield Task(frozenset([it]), in_lane(self.layout, it))
