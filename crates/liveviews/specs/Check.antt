@@ -1,8 +1,6 @@
 -- What `check` answers for a file.
-use Rattle.std.specs.Fmt.{decimal}
-use Rattle.std.specs.Prelude.{◌≡◌, ◌⊎◌, ℕ, List, [], ◌∷◌, ◌++◌, Option, None, Some, Ok, codes, length}
+use Rattle.std.specs.Prelude.{◌≡◌, ◌⊎◌, ℕ, List, Option, None, Some, Ok, length}
 use Rattle.std.specs.Str.{IsUtf8}
-use Rattle.stream_writer.specs.Sinks.{Sunk}
 use Rattle.values.specs.declared.causes.Cause.{Cause}
 use Rattle.values.specs.declared.causes.Cause.TheVariants as cause
 use Rattle.view_lang.specs.Config.{Config}
@@ -30,13 +28,3 @@ ChecksFile (Some bytes) feeds views =
 abbrev pub RefusesFile : Option (List ℕ) → Cause → Type 0
 RefusesFile None c = Unit {0}
 RefusesFile (Some bytes) c = RefusesConfig bytes c
-
--- the line of a configuration with these numbers of feeds and views
-abbrev pub counts_of : ℕ → ℕ → List ℕ
-counts_of feeds views = codes "ok: " ++ (decimal feeds ++ (codes " feeds, " ++ (decimal views ++ (codes " views" ++ 10
-    ∷ []))))
-
--- A file has a configuration, and nothing was put. This line says so.
-abbrev pub IsChecked : Option (List ℕ) → Sunk → Sunk → List ℕ → Type 0
-IsChecked held old new text =
-    (new ≡ old) × ((feeds : ℕ) × (views : ℕ) × ChecksFile held feeds views × (text ≡ counts_of feeds views))

@@ -1,6 +1,5 @@
 -- What a command did to the files: what was read of one, and what was put to another.
-use Rattle.std.specs.Fmt.{decimal}
-use Rattle.std.specs.Prelude.{◌≡◌, ◌≢◌, ℕ, List, [], ◌∷◌, ◌++◌, Option, None, Some, Result, Ok, Err, codes}
+use Rattle.std.specs.Prelude.{◌≡◌, ◌≢◌, ℕ, List, Option, None, Some, Result, Ok, Err}
 use Rattle.schema_meta.specs.Story.{story_of}
 use Rattle.stream_writer.specs.Sinks.{Sunk}
 use Rattle.values.specs.declared.causes.Cause.TheVariants as cause
@@ -52,15 +51,3 @@ pub record InspectsFile (held : Option (List ℕ)) (text : List ℕ) (status : �
   pub read : IsContent held input
   pub tells : Tells (account_of input) text status
   pub valid : status ≡ status_where (story_of input).end
-
--- A file was inspected, no fault stands in it, and nothing was put. These are its lines.
-abbrev pub IsInspected : Option (List ℕ) → Sunk → Sunk → List ℕ → Type 0
-IsInspected held old new text = (new ≡ old) × InspectsFile held text 0
-
--- the line that is printed where n bytes were put
-abbrev pub line_of : ℕ → List ℕ
-line_of n = codes "wrote " ++ decimal n ++ 10 ∷ []
-
--- All of the canonical stream of a file's table was put, and this line says so.
-abbrev pub IsRecast : Option (List ℕ) → Sunk → Sunk → List ℕ → Type 0
-IsRecast held old new text = (n : ℕ) × RecastsFile held old new (Ok n) × (text ≡ line_of n)

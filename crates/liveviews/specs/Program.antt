@@ -7,6 +7,7 @@ use Rattle.std.specs.Prelude.{
   List,
   [],
   ◌∷◌,
+  ◌++◌,
   Option,
   Some,
   Result,
@@ -16,16 +17,17 @@ use Rattle.std.specs.Prelude.{
   codes,
   string_bytes,
 }
+use Rattle.std.specs.Fmt.{decimal}
 use Rattle.std.specs.Io.KnownBytes.{Appends}
 use Rattle.clap.specs.declared.error.kind.ErrorKind.{ErrorKind}
 use Rattle.clap.specs.declared.error.kind.ErrorKind.TheVariants as kinds
 use Rattle.stream_writer.specs.Sinks.{Sunk}
 use Rattle.values.specs.declared.causes.Cause.{Cause}
 use Rattle.values.specs.declared.causes.Cause.TheVariants as cause
-use Rattle.liveviews.specs.Files.{IsInspected, IsRecast, RecastsFile, MakesNone}
+use Rattle.liveviews.specs.Files.{InspectsFile, RecastsFile, MakesNone}
 use Rattle.liveviews.specs.declared.files.FileFault.{FileFault}
 use Rattle.liveviews.specs.declared.files.FileFault.TheVariants as file
-use Rattle.liveviews.specs.Check.{IsChecked, RefusesFile}
+use Rattle.liveviews.specs.Check.{ChecksFile, RefusesFile}
 use Rattle.liveviews.specs.Showing.{ShowsFile}
 use Rattle.liveviews.specs.Streams.{Discards}
 use Rattle.liveviews.specs.declared.program.outcome.Refusal.{Refusal}
@@ -113,6 +115,28 @@ status_of refusal.WrongUse = 2
 status_of (refusal.CannotRead path) = 1
 status_of (refusal.CannotWrite path) = 1
 status_of (refusal.Refused c) = 1
+
+-- A file was inspected, no fault stands in it, and nothing was put. These are its lines.
+abbrev pub IsInspected : Option (List ℕ) → Sunk → Sunk → List ℕ → Type 0
+IsInspected held old new text = (new ≡ old) × InspectsFile held text 0
+
+-- the line that is printed where n bytes were put
+abbrev pub line_of : ℕ → List ℕ
+line_of n = codes "wrote " ++ decimal n ++ 10 ∷ []
+
+-- All of the canonical stream of a file's table was put, and this line says so.
+abbrev pub IsRecast : Option (List ℕ) → Sunk → Sunk → List ℕ → Type 0
+IsRecast held old new text = (n : ℕ) × RecastsFile held old new (Ok n) × (text ≡ line_of n)
+
+-- the line of a configuration with these numbers of feeds and views
+abbrev pub counts_of : ℕ → ℕ → List ℕ
+counts_of feeds views = codes "ok: " ++ (decimal feeds ++ (codes " feeds, " ++ (decimal views ++ (codes " views" ++ 10
+    ∷ []))))
+
+-- A file has a configuration, and nothing was put. This line says so.
+abbrev pub IsChecked : Option (List ℕ) → Sunk → Sunk → List ℕ → Type 0
+IsChecked held old new text =
+    (new ≡ old) × ((feeds : ℕ) × (views : ℕ) × ChecksFile held feeds views × (text ≡ counts_of feeds views))
 
 -- What came of a command over a file that holds `held`: no fault stands in it, or all of the canonical stream of its
 -- table was put, or it has a configuration. This text says so.

@@ -10,11 +10,10 @@ pub(crate) mod outcome;
 
 use crate::files::Files;
 use crate::program::commands::run_command;
+pub(crate) use crate::program::opening::open_file;
 use crate::program::outcome::refuse;
 use std::alloc::Global;
 use std::io::Write;
-
-pub(crate) use crate::program::opening::open_file;
 
 /// Runs the command that `words`, the program's arguments without its own name, ask for. It prints to `out`: the lines
 /// of `inspect`, the answers to those of a script or of standard input, or one line.

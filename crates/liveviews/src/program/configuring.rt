@@ -47,13 +47,7 @@ impl fmt::Display for Explained<'_> {
 }
 
 /// Tells where the configuration in the file at `path` is refused, whose bytes these are, and what the cause says.
-fn explain<F: Files>(
-    alloc: Global,
-    path: &str,
-    bytes: &[u8],
-    cause: Cause,
-    files: &mut F,
-)
+fn explain<F: Files>(alloc: Global, path: &str, bytes: &[u8], cause: Cause, files: &mut F)
     ensures sunk { F.sunk files.new ≡ F.sunk files.old }
     ensures content { F.content files.new ≡ F.content files.old }
 {

@@ -22,10 +22,7 @@ pub(crate) fn unreadable<'a>(fault: FileFault, path: &'a str) -> Refusal<'a>
 }
 
 /// All bytes of the file at `path`.
-pub(crate) fn read_file<'a, F: Files>(
-    path: &'a str,
-    files: &mut F,
-) -> Result<Vec<u8>, Refusal<'a>>
+pub(crate) fn read_file<'a, F: Files>(path: &'a str, files: &mut F) -> Result<Vec<u8>, Refusal<'a>>
     ensures sunk { F.sunk files.new ≡ F.sunk files.old }
     ensures content { IfOk result (λ bytes. IsContent (F.content files.old path.now) bytes.items) }
     ensures unread { IfErr result IsUnreadable }

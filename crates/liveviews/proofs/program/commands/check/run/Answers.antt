@@ -1,5 +1,5 @@
 use Rattle.std.proofs.Common.{inl, inr, refl}
-use Rattle.liveviews.specs.Check.{counts_of}
+use Rattle.liveviews.specs.Program.{counts_of}
 use Rattle.liveviews.proofs.program.commands.check.run.Goals as goal
 
 pub returns-in-Ok-clause-done : goal.returns-in-Ok-clause-done

@@ -1,5 +1,5 @@
 use Rattle.std.proofs.Common.{inl, inr, refl}
-use Rattle.liveviews.specs.Files.{line_of}
+use Rattle.liveviews.specs.Program.{line_of}
 use Rattle.liveviews.proofs.program.commands.recast.run.Goals as goal
 
 pub returns-in-Ok-clause-done : goal.returns-in-Ok-clause-done
