@@ -1,5 +1,5 @@
 -- What contracts see of groups that are kept with the order of their rows.
-use Rattle.std.specs.Prelude.{◌≡◌, ◌||◌, ℕ, Bool, cond, false, filter, is_some, length, List, nat_lt, None, Option, Some}
+use Rattle.std.specs.Prelude.{◌||◌, ℕ, Bool, cond, false, filter, is_some, length, List, nat_lt, None, Option, Some}
 use Rattle.std.specs.BTreeMap.{is_at}
 use Rattle.values.specs.Datum.{Datum}
 use Rattle.values.specs.declared.key.Key.{Key}

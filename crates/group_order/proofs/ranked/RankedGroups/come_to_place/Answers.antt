@@ -1,4 +1,4 @@
-use Rattle.std.proofs.Common.{◌≡◌, ap, sym, subst, List}
+use Rattle.std.proofs.Common.{◌≡◌, sym, subst, List}
 use Rattle.std.specs.Prelude.{Some}
 use Rattle.std.specs.Map.{values_of}
 use Rattle.std.specs.Option.{option_map}
