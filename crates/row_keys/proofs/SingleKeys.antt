@@ -1,32 +1,9 @@
 -- A key that stands alone.
-use Rattle.std.proofs.Common.{
-  ◌≡◌,
-  ℕ,
-  All,
-  false,
-  true,
-  List,
-  [],
-  ◌∷◌,
-  Some,
-  length,
-  get_or,
-  refl,
-  ap,
-  sym,
-  subst,
-  ◌∙◌,
-  ◌||◌,
-  arith,
-  Err,
-  None,
-  Ok,
-  true≢false,
-}
+use Rattle.std.proofs.Common.{◌≡◌, All, false, true, List, [], ◌∷◌, Some, length, get_or, refl, ap, sym, subst, ◌||◌, arith, Err, None, Ok, true≢false}
 use Rattle.std.specs.Prelude.{IsSome, OnOk, Option, Result}
 use Rattle.std.proofs.lemmas.List.Elements.{All-head}
 use Rattle.values.specs.Datum.{Datum, is_null, null}
-use Rattle.values.specs.Keys.{datum_of_key, key_of}
+use Rattle.values.specs.Keys.{key_of}
 use Rattle.values.specs.Layouts.{Holds}
 use Rattle.values.specs.Rose.{Rose}
 use Rattle.values.specs.declared.key.Key.{Key}

@@ -1,12 +1,12 @@
 -- What a row weighs as one of other layouts, at most.
 use Rattle.std.proofs.Common.{◌≡◌, ℕ, ℤ, ◌+◌, ◌-◌, ◌^◌, ◌<◌, ◌≤◌, Bool, List, [], ◌∷◌, drop, get_or, length, min, nat_le, refl, true, false, true≢false, ap, ap₂, arith, subst, sym, ◌∙◌}
-use Rattle.std.specs.Prelude.{None, Option, Some, is_some}
+use Rattle.std.specs.Prelude.{None, Some, is_some}
 use Rattle.std.specs.Option.{unwrap_or}
 use Rattle.std.proofs.lemmas.List.{drop_all, drop_more}
 use Rattle.values.specs.CellViews.{shallow}
-use Rattle.values.specs.Datum.{Datum, bytes, items_of, list, null, structure, text, truth, whole}
+use Rattle.values.specs.Datum.{Datum, bytes, list, null, structure, text, truth, whole}
 use Rattle.values.specs.Layouts.{slot, weight}
-use Rattle.values.specs.Rose.{Rose, Roses, kids_of, more, node, none}
+use Rattle.values.specs.Rose.{Rose, kids_of, node}
 use Rattle.values.specs.Weights.{saturated}
 use Rattle.values.specs.declared.layout.Layout.{Layout}
 use Rattle.values.specs.declared.layout.Layout.TheVariants.{

@@ -54,8 +54,8 @@ use arrays::Column;
 use body_writer::{Batch, RowRange};
 use column_merge::merge_rows;
 use std::alloc::{AllocError, Global};
-use values::limits::{MAX_BATCH_ROWS, MAX_BATCH_WEIGHT};
 use values::LayoutTree;
+use values::limits::{MAX_BATCH_ROWS, MAX_BATCH_WEIGHT};
 
 /// The bytes that a chunk takes besides its rows, about.
 const CHUNK_WEIGHT: u64 = 512;

@@ -1,6 +1,6 @@
 use Rattle.std.proofs.Common.{List, subst}
-use Rattle.std.specs.Prelude.{IfErr, OnOk}
-use Rattle.row_keys.specs.KeyColumns.{PushesKeys, RefusesKeys, StandAlone}
+use Rattle.std.specs.Prelude.{IfErr}
+use Rattle.row_keys.specs.KeyColumns.{RefusesKeys}
 use Rattle.row_keys.specs.Numbers.{Numbered}
 use Rattle.row_keys.proofs.SingleKeys.{on_ok_alone}
 use Rattle.row_keys.proofs.key_columns.check_keys.Goals as goal

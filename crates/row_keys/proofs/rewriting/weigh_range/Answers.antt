@@ -1,4 +1,4 @@
-use Rattle.std.proofs.Common.{◌≡◌, ◌+◌, ◌-◌, ◌∙◌, ap, arith, subst, suc, sym}
+use Rattle.std.proofs.Common.{◌≡◌, ◌+◌, ◌-◌, ap, arith, subst, suc, sym}
 use Rattle.values.specs.Rose.{kids_of}
 use Rattle.schema_meta.specs.Rows.{row_at, rows_from}
 use Rattle.body_writer.specs.Batch.{row_weight, rows_weight}

@@ -1,4 +1,4 @@
-use Rattle.std.proofs.Common.{◌≡◌, ◌+◌, drop, refl, arith, subst, sym}
+use Rattle.std.proofs.Common.{◌+◌, drop, refl, arith, subst, sym}
 use Rattle.row_keys.proofs.Weighed.{WeighedTo, weighed_first, weighed_more}
 use Rattle.row_keys.proofs.WeighedCells.{cells_none, cells_split, weight_from}
 use Rattle.row_keys.proofs.weighing.weigh_row.Goals as goal
