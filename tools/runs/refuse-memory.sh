@@ -27,14 +27,14 @@ mkdir "$last" "$whole"
 
 # Runs the command $1 over $2 with request $3 refused, and all after it where $4 is 1.
 run() {
-    local words
-    read -ra words <<< "$1 $2"
+    local asked
+    read -ra asked <<< "$1 $2"
     command=$1
-    [ "$1" != recast ] || words+=("$last/out")
+    [ "$1" != recast ] || asked+=("$last/out")
     rm -f "$last"/* "$work/mark"
     status=0
     LD_PRELOAD="$work/refuse.so" REFUSE_AT=$3 REFUSE_ON=$4 REFUSE_MARK="$work/mark" \
-        "$lv" "${words[@]}" > "$last/line" 2> "$work/error" || status=$?
+        "$lv" "${asked[@]}" > "$last/line" 2> "$work/error" || status=$?
 }
 
 fail() {
@@ -98,10 +98,10 @@ for stream in crates/lv/data/IN examples/*.arrows; do
     each_request inspect "$stream"
     each_request show "$stream"
 done
-while read -r _ command words; do
-    case $command in
+while read -r _ name over; do
+    case $name in
         recast | inspect | show | run | live) ;; # refuse-run.py has those that run lines
-        *) each_request "$command" "$words" ;;
+        *) each_request "$name" "$over" ;;
     esac
 done < <(tools/makers/command_tables.py --examples)
 echo "refused memory: each request refused in turn${counted}; every answer was right"

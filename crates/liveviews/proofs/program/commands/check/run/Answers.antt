@@ -1,4 +1,4 @@
-use Rattle.std.proofs.Common.{inl, inr, refl}
+use Rattle.std.proofs.Common.{inr, refl}
 use Rattle.liveviews.specs.Program.{counts_of}
 use Rattle.liveviews.proofs.program.commands.check.run.Goals as goal
 
