@@ -106,7 +106,10 @@ fn r3_bytes(rt: HostRuntime) {
 #[test]
 fn r3_missing(rt: HostRuntime) {
     let mut feed = Feed::open(rt.alloc(), None);
-    assert_eq!(rt; tells(&rt, &mut feed, &SAMPLE), Ok((232, EventKind::Schema)));
+    assert_eq!(rt;
+        tells(&rt, &mut feed, &SAMPLE),
+        Ok((232, EventKind::Schema))
+    );
     for (from, to, missing) in [(232, 439, 0), (439, 440, 56), (440, 490, 6)] {
         let came = tells(&rt, &mut feed, &SAMPLE[from..to]);
         assert_eq!(rt; came, Ok((to - from, EventKind::Nothing)));

@@ -99,11 +99,7 @@ fn read_behind<R: Read>(
 }
 
 /// Reads the next `most` bytes of a source to the front of `room`, or all that are left, and returns how many.
-fn read_all<R: Read>(
-    source: &mut R,
-    room: &mut Vec<u8>,
-    most: usize,
-) -> Result<usize, FileFault>
+fn read_all<R: Read>(source: &mut R, room: &mut Vec<u8>, most: usize) -> Result<usize, FileFault>
     ensures within { IfOk result (λ n. n ≤ length room.new.items) }
     ensures took { IfOk result
         (λ n. Consumes (R.remaining source.old) (R.remaining source.new) (take n room.new.items)) }
