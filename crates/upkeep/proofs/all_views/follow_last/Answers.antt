@@ -1,4 +1,4 @@
-use Rattle.std.proofs.Common.{[], ◌∷◌, ap, sym, ◌-◌, ◌∙◌, ℕ}
+use Rattle.std.proofs.Common.{ap, ◌-◌, ◌∙◌, ℕ}
 use Rattle.std.specs.List.{range_with_len}
 use Rattle.upkeep.specs.Stores.{rows_in, tables_in}
 use Rattle.upkeep.proofs.FollowedViews.{current_alike, stale_current}
