@@ -1,8 +1,8 @@
 #!/usr/bin/env python3
 """Processor time and memory of edits by `lv run`: rows that come in batches, beside `lv recast` of the same stream, and then edits of one row
 each over 10,000 and over 1,000,000 live rows; and of writing views of these. Rows are of int64, utf8 of 10 bytes, int64 and int64. Where valgrind is
-there, the instructions of an edit and of an undo too, which other work on the machine doesn't change. Then the same of a view of the first ten of
-1,000, of 100,000 and of 1,000,000 groups in an order of theirs."""
+there, the instructions of an edit and of an undo too, which other work on the machine doesn't change, and how often each asks for memory. Then the
+times of a view of the first ten of 1,000, of 100,000 and of 1,000,000 groups in an order of theirs."""
 
 import os
 import re
@@ -106,8 +106,8 @@ class Bench:
     def run(self, feeds, views=()):
         return measured(self.command(feeds, views))
 
-    def instructions(self, feeds, undos=0):
-        return instructions(self.command(feeds, undos=undos))
+    def counted(self, count, feeds, undos=0):
+        return count(self.command(feeds, undos=undos))
 
 
 def measured(words):
@@ -129,12 +129,19 @@ def instructions(words):
     return int(re.search(r"Collected : (\d+)", ran.stderr).group(1))
 
 
-def count_instructions(bench, edits):
-    rows, more = bench.instructions(["rows"]), bench.instructions(["rows", "more0"])
-    gone = bench.instructions(["rows", "more0", "gone0"])
-    undone = (bench.instructions(["rows", "more0"], UNDOS) - more, bench.instructions(["rows", "more0", "gone0"], UNDOS) - gone)
-    each = [(more - rows) / edits, (gone - more) / edits, undone[0] / UNDOS, undone[1] / UNDOS]
-    print("  instructions of an append, a retract, and the undo of either: " + ", ".join(f"{it:,.0f}" for it in each))
+def requests(words):
+    """How often a run asks for memory."""
+    counting = ["valgrind", "--tool=memcheck", "--leak-check=no", "--undef-value-errors=no"]
+    ran = subprocess.run([*counting, *words], stdout=subprocess.DEVNULL, stderr=subprocess.PIPE, text=True)
+    return int(re.search(r"total heap usage: ([\d,]+) allocs", ran.stderr).group(1).replace(",", ""))
+
+
+def count_edits(bench, count, edits):
+    """What an append, a retract and the undo of either take, and what a row that is loaded takes."""
+    none, rows, more = (bench.counted(count, feeds) for feeds in ([], ["rows"], ["rows", "more0"]))
+    gone = bench.counted(count, ["rows", "more0", "gone0"])
+    undone = (bench.counted(count, ["rows", "more0"], UNDOS) - more, bench.counted(count, ["rows", "more0", "gone0"], UNDOS) - gone)
+    return [(more - rows) / edits, (gone - more) / edits, undone[0] / UNDOS, undone[1] / UNDOS], rows - none
 
 
 def time_ordered_groups(folder, groups, edits, writes):
@@ -171,7 +178,10 @@ def main():
                 print(f"  view {view} written: {1e3 * (written[0] - rows[0]) / writes:.2f} ms")
             if live < 100_000 and shutil.which("valgrind"):
                 bench.streams(live, edits // 20)
-                count_instructions(bench, edits // 20)
+                for name, count in (("instructions", instructions), ("requests for memory", requests)):
+                    each, loaded = count_edits(bench, count, edits // 20)
+                    print(f"  {name} of an append, a retract, and the undo of either: " + ", ".join(f"{it:,.1f}" for it in each), end="")
+                    print(f"; of a row that is loaded: {loaded / live:,.1f}")
         for groups in (1_000, 100_000, 1_000_000):
             time_ordered_groups(folder, groups, edits, 20_000)
 

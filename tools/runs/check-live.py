@@ -14,8 +14,9 @@ import sys
 import tempfile
 
 ROOT = os.path.abspath(f"{__file__}/../../..")
-sys.path[1:1] = [f"{ROOT}/examples", f"{ROOT}/tools/models"]
+sys.path[1:1] = [f"{ROOT}/examples", f"{ROOT}/tools/models", f"{ROOT}/tools/makers"]
 sys.dont_write_bytecode = True
+import command_tables
 from live import Live
 from streams import END_MARK, INT64_SCHEMA, batch, field, int64_batch, schema
 
@@ -302,7 +303,9 @@ def explained(lv):
 
 
 def helped(lv):
-    """Help and the version are told on standard error, beside the line that wrong use prints."""
+    """Help and the version are told on standard error, beside the line that wrong use prints. The usage is that of the commands' modules."""
+    commands = command_tables.commands()
+    assert subprocess.run([os.path.join(ROOT, "tools/makers/command_tables.py"), "--check"]).returncode == 0
     version = read(os.path.join(ROOT, "VERSION")).decode().strip()
     assert f'"lv {version}"'.encode() in read(os.path.join(ROOT, "docs", "lv.1")).splitlines()[0]
     for words in (["--version"], ["-V"]):
@@ -310,7 +313,7 @@ def helped(lv):
     for words in (["--help"], ["-h"], ["help"], ["recast", "--help"]):
         status, printed, error = ran([lv] + words)
         assert (status, printed) == (2, b"wrong use\n"), words
-        assert all(f"lv {it} ".encode() in error for it in ("inspect", "recast", "check", "run", "live")), words
+        assert all(f"lv {it.words()} ".encode() in error.replace(b"\n", b" ") for it in commands), words
     for words in ([], ["recast", "none"], ["check", "none", "--", "--help"], ["inspect", "--", "--version", "-h"]):
         assert ran([lv] + words) == (2, b"wrong use\n", b""), words
 

@@ -19,6 +19,7 @@ import time
 
 sys.dont_write_bytecode = True
 sys.path.insert(1, f"{sys.path[0]}/../models")
+from limits import BATCH_ROWS
 from streams import END_MARK, batch, field, schema
 
 ROOT = os.path.abspath(f"{__file__}/../../..")
@@ -87,7 +88,8 @@ def streams():
             yield os.path.relpath(path, ROOT), file.read()
     with open(f"{ROOT}/crates/lv/data/IN", "rb") as file:
         yield "crates/lv/data/IN", file.read()
-    for rows, size in ((0, 1), (1, 1), (1023, 1), (1024, 1024), (1025, 7), (2048, 1025), (3000, 1000), (5000, 5000)):
+    most = BATCH_ROWS
+    for rows, size in ((0, 1), (1, 1), (most - 1, 1), (most, most), (most + 1, 7), (2 * most, most + 1), (3000, 1000), (5000, 5000)):
         yield f"{rows} rows by {size}", parted(rows, size)
     yield "no batch", schema([field(2, 64, 1)]) + END_MARK
     # Batches that are longer than what is read at once, and one that is longer than the room.

@@ -1,7 +1,8 @@
 #!/usr/bin/env bash
 # Runs the built lv, or the program that is named, with each of its requests for memory refused in turn: that one alone, then
-# that one and all after it. Each run may do the whole work, or say `refused 55 Memory` and nothing else, but show behind some
-# of its rows; recast has written nothing then, and left no file. Where not even its words could be held it may say `wrong use` having written nothing.
+# that one and all after it: recast, inspect and show over each example, and the example of each other command that runs no lines.
+# Each run may do the whole work, or say `refused 55 Memory` and nothing else, but show behind some of its rows; recast has written
+# nothing then, and left no file. Where not even its words could be held it may say `wrong use` having written nothing.
 set -euo pipefail
 cd "$(dirname "$0")/../.."
 
@@ -26,13 +27,14 @@ mkdir "$last" "$whole"
 
 # Runs the command $1 over $2 with request $3 refused, and all after it where $4 is 1.
 run() {
-    local words=("$1" "$2")
+    local asked
+    read -ra asked <<< "$1 $2"
     command=$1
-    [ "$1" != recast ] || words+=("$last/out")
+    [ "$1" != recast ] || asked+=("$last/out")
     rm -f "$last"/* "$work/mark"
     status=0
     LD_PRELOAD="$work/refuse.so" REFUSE_AT=$3 REFUSE_ON=$4 REFUSE_MARK="$work/mark" \
-        "$lv" "${words[@]}" > "$last/line" 2> "$work/error" || status=$?
+        "$lv" "${asked[@]}" > "$last/line" 2> "$work/error" || status=$?
 }
 
 fail() {
@@ -96,5 +98,10 @@ for stream in crates/lv/data/IN examples/*.arrows; do
     each_request inspect "$stream"
     each_request show "$stream"
 done
-each_request check examples/report/report.toml
+while read -r _ name over; do
+    case $name in
+        recast | inspect | show | run | live) ;; # refuse-run.py has those that run lines
+        *) each_request "$name" "$over" ;;
+    esac
+done < <(tools/makers/command_tables.py --examples)
 echo "refused memory: each request refused in turn${counted}; every answer was right"

@@ -4,6 +4,7 @@ ghost use Rattle.std.specs.Prelude.{◌≡◌, IfErr, IfOk, IfSome, OnErr, OnOk,
 ghost use Rattle.std.specs.Option.{option_map};
 ghost use Rattle.schema_meta.specs.FieldsLaw.{AreFields};
 ghost use Rattle.values.specs.Reading.{Passes};
+ghost use Rattle.messages.specs.Wanted.{IsMissing};
 ghost use Rattle.feed.specs.States.{FeedState, Finishes, finishing_when, fresh, is_broken};
 ghost use Rattle.feed.specs.Shown.{NothingPrepared, Leads, Shows, answer_seen, breaks, seen};
 ghost use Rattle.feed.specs.Calls.{
@@ -111,6 +112,14 @@ impl Feed {
         ensures shown { ShowsSchema self.now (option_map (λ c. c.now.value.fields.items) result) }
     {
         self.framer.schema()
+    }
+
+    /// How many bytes are missing of an incomplete message whose metadata is held; 0 where it isn't, or no message was
+    /// begun. It takes no memory.
+    pub fn missing(&self) -> usize
+        ensures { IsMissing self.now.framing.current.known self.now.framing.current.held result }
+    {
+        self.framer.missing()
     }
 
     /// Drops the prepared change.

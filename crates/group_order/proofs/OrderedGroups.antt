@@ -3,6 +3,8 @@ use Rattle.std.proofs.Common.{◌≡◌, refl, ap, ap₂, sym, ◌∙◌, subst,
 use Rattle.std.specs.Prelude.{ℕ, ◌+◌, ◌<◌, Bool, true, false, cond, List, Option, None, Some, length}
 use Rattle.std.specs.BTreeMap.{is_at}
 use Rattle.std.specs.Cmp.{Equal-is, eq_by_cmp_equiv}
+use Rattle.std.specs.Ordering.{eq_by_cmp}
+use Rattle.std.specs.declared.cmp.Ordering.TheVariants.{Equal}
 use Rattle.std.specs.List.{list_any}
 use Rattle.std.specs.Option.{option_map}
 use Rattle.values.specs.Datum.{Datum}
@@ -15,6 +17,8 @@ use Rattle.group_state.specs.Aggregates.{seen_row}
 use Rattle.group_state.specs.Touched.{StayBut, group_at, touches}
 use Rattle.group_state.specs.Tuples.{has_tuple, tuple_of}
 use Rattle.group_state.proofs.Members.{tuple_exact}
+use Rattle.top_rows.specs.PlaceOrder.{sort_keys_cmp}
+use Rattle.top_rows.specs.declared.sort_key.SortKey.{SortKey}
 use Rattle.top_rows.specs.Ties.{KeepsBy, has_sort_keys, is_place_by, pick, place_by, stands_by, without}
 use Rattle.top_rows.proofs.Ties.{all-picked, none-there, some-here, some-there, tied_exact, with-more, without-more}
 use Rattle.group_order.specs.GroupPlaces.{GroupPlace, group_place_cmp}
@@ -200,6 +204,14 @@ pub same-place : (q r : GroupPlace) (places : List GroupPlace) → is_at (group_
 same-place q r places h =
     let same : q ≡ r = tied_exact tuple_cmp tuple_total tuple_exact q r ((Equal-is (group_place_cmp q r)).0 h) in
     subst (λ x. Replaces (Some q) (Some x) places places) same (itself q places)
+
+-- sort keys that stay
+pub same-keys : (t : List Key) (q r : List SortKey) (places : List GroupPlace) → eq_by_cmp sort_keys_cmp q r ≡ true
+    → Replaces (Some (q, t)) (Some (r, t)) places places
+same-keys t q r places h =
+    let keys : sort_keys_cmp q r ≡ Equal = (Equal-is (sort_keys_cmp q r)).0 h in
+    let own : tuple_cmp t t ≡ Equal = (Equal-is (tuple_cmp t t)).0 ((eq_by_cmp_equiv tuple_total).refl t) in
+    same-place (q, t) (r, t) places (rw (keys, own) refl)
 
 pub is-placed : (order : List OrderBy) (t : List Key) (o : Option (List Datum)) (q p : GroupPlace)
     (found : Option GroupPlace) → found ≡ Some q → found ≡ option_map (place_by tuple_cmp order t) o

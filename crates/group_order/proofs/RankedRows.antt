@@ -45,10 +45,10 @@ use Rattle.group_state.specs.declared.tally.Tally.TheVariants as tally
 use Rattle.group_state.proofs.GroupLaw.{all-read}
 use Rattle.group_state.proofs.Members.{tuple_exact}
 use Rattle.group_state.proofs.Seen.{seen-read}
-use Rattle.top_rows.specs.Ties.{KeepsBy, has_sort_keys, named, stands_by}
+use Rattle.top_rows.specs.Ties.{has_sort_keys, named, stands_by}
 use Rattle.top_rows.specs.ViewOrder.{OrdersKeys}
 use Rattle.top_rows.proofs.Ties.{first-named, keeps-same}
-use Rattle.group_order.specs.GroupPlaces.{GroupPlace, group_place_cmp}
+use Rattle.group_order.specs.GroupPlaces.{group_place_cmp}
 use Rattle.group_order.specs.Ranked.{Keeps, Ranked, Ranking, has_places, if_passing, placed_at, ranked_rows, ranking_by, shown_at}
 
 -- What is shown of groups is neither a list nor a struct.

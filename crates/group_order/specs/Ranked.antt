@@ -1,5 +1,5 @@
 -- What contracts see of groups that are kept with the order of their rows.
-use Rattle.std.specs.Prelude.{◌≡◌, ◌||◌, ℕ, Bool, cond, false, filter, is_some, length, List, nat_lt, None, Option, Some}
+use Rattle.std.specs.Prelude.{◌||◌, ℕ, Bool, cond, false, filter, is_some, length, List, nat_lt, None, Option, Some}
 use Rattle.std.specs.BTreeMap.{is_at}
 use Rattle.values.specs.Datum.{Datum}
 use Rattle.values.specs.declared.key.Key.{Key}
@@ -15,6 +15,7 @@ use Rattle.group_state.specs.Groups.{Keeps as KeepsGroups}
 use Rattle.group_state.specs.Keys.{tuple_cmp}
 use Rattle.group_state.specs.Aggregates.{seen_at}
 use Rattle.top_rows.specs.Ties.{KeepsBy}
+use Rattle.top_rows.specs.declared.sort_key.SortKey.{SortKey}
 use Rattle.group_order.specs.GroupPlaces.{GroupPlace, group_place_cmp}
 
 -- what is shown of groups, of which of them, and in which order
@@ -47,6 +48,11 @@ has_places r = is_some r.having || nat_lt 0 (length r.order)
 -- the row that a tuple's group has a place by
 abbrev pub placed_at : Ranking → Grouped → List Key → Option (List Datum)
 placed_at r g t = cond (has_places r) (shown_at r g t) None
+
+-- the place of a tuple's row with these sort keys, if there are such
+abbrev pub named : List Key → Option (List SortKey) → Option GroupPlace
+named t None = None
+named t (Some keys) = Some (keys, t)
 
 -- whether there is a place, and it is this one
 abbrev pub is_there : Option GroupPlace → GroupPlace → Bool

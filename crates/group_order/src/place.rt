@@ -1,8 +1,6 @@
 //! Places of group rows in an order.
 
 ghost use Rattle.std.specs.Prelude.{◌≡◌, IfOk};
-ghost use Rattle.group_state.specs.Keys.{tuple_cmp};
-ghost use Rattle.top_rows.specs.Ties.{place_by};
 ghost use Rattle.group_order.specs.RankedParts.{IsPlace, place_with};
 
 use crate::parts::GroupPlaceParts;
@@ -11,7 +9,6 @@ use std::alloc::{AllocError, Global};
 use std::cmp::Ordering;
 use std::marker::Model;
 use top_rows::SortKeyList;
-use view_lang::{OrderBy, RowView};
 
 /// The place of a group row in an order: its sort keys, one for each of the order's columns, and its group's tuple, by
 /// which ties are broken. Contracts see the pair of both.
@@ -84,18 +81,11 @@ impl Ord for GroupPlace {
 }
 
 impl GroupPlace {
-    /// The place of the row of a tuple's group.
-    pub(crate) fn of<R: RowView>(
-        alloc: Global,
-        order: &[OrderBy],
-        tuple: &Tuple,
-        row: &R,
-    ) -> Result<GroupPlace, AllocError>
-        ensures { IfOk result (λ place. place ≡ place_by tuple_cmp order.now tuple.now (R.cells row.now)) }
+    /// The place of a tuple's row with these sort keys.
+    pub(crate) fn new(sort_keys: SortKeyList, tuple: Tuple) -> GroupPlace
+        ensures { result ≡ (sort_keys, tuple) }
     {
-        let sort_keys = SortKeyList::of(alloc, order, row)?;
-        let tuple = tuple.copy(alloc)?;
-        Ok(GroupPlace { sort_keys, tuple })
+        GroupPlace { sort_keys, tuple }
     }
 
     pub(crate) fn from_parts(
@@ -126,5 +116,11 @@ impl GroupPlace {
         ensures { result.now ≡ self.now.1 }
     {
         &self.tuple
+    }
+
+    pub(crate) fn into_tuple(self) -> Tuple
+        ensures { result ≡ self.1 }
+    {
+        self.tuple
     }
 }

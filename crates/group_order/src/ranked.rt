@@ -39,7 +39,7 @@ ghost use Rattle.group_state.specs.Tuples.{tuple_of as tuple_by};
 ghost use Rattle.top_rows.specs.PlaceOrder.{tied_cmp};
 ghost use Rattle.top_rows.specs.Ties.{KeepsBy, is_place_by, pick, place_by, stands_by, without};
 ghost use Rattle.group_order.specs.GroupPlaces.{GroupPlace as PlaceSeen, group_place_cmp};
-ghost use Rattle.group_order.specs.Ranked.{IsRanked, Keeps, has_places, is_there, placed_at, ranked_rows, shown_at};
+ghost use Rattle.group_order.specs.Ranked.{IsRanked, Keeps, has_places, is_there, named, placed_at, ranked_rows, shown_at};
 ghost use Rattle.group_order.specs.RankedParts.{AreRanked, ranked_with};
 
 use crate::parts::RankedParts;
@@ -49,6 +49,7 @@ use group_state::{Group, GroupRow, Groups, KeptColumn, Tuple};
 use std::alloc::{AllocError, Global};
 use std::collections::BTreeSet;
 use std::marker::Model;
+use top_rows::SortKeyList;
 use values::Row;
 use view_lang::{Change, RowView, Upkeep, group_law, passes, passing_rows};
 
@@ -168,9 +169,10 @@ impl RankedGroups {
         }
     }
 
-    /// The place of the row that is shown of a tuple's group, if there is one and places are kept.
-    fn place_of(&self, tuple: &Tuple) -> Result<Option<GroupPlace>, AllocError>
-        ensures { IfOk result (λ place. place ≡ option_map (place_by tuple_cmp self.now.ranking.order tuple.now)
+    /// The sort keys of the row that is shown of a tuple's group, if there is one and places are kept.
+    fn sort_keys_of(&self, tuple: &Tuple) -> Result<Option<SortKeyList>, AllocError>
+        ensures { IfOk result (λ keys. named tuple.now keys ≡ option_map
+            (place_by tuple_cmp self.now.ranking.order tuple.now)
             (placed_at self.now.ranking self.now.groups tuple.now)) }
     {
         if !self.ranking.has_places() {
@@ -180,32 +182,48 @@ impl RankedGroups {
             return Ok(None);
         };
         let order = self.ranking.order();
-        Ok(Some(GroupPlace::of(self.alloc, order, tuple, &row)?))
+        Ok(Some(SortKeyList::of(self.alloc, order, &row)?))
     }
 
-    /// Puts a place in for another, where there are such.
+    /// The place of the row that is shown of a tuple's group, if there is one and places are kept.
+    fn place_of(&self, tuple: &Tuple) -> Result<Option<GroupPlace>, AllocError>
+        ensures { IfOk result (λ place. place ≡ option_map (place_by tuple_cmp self.now.ranking.order tuple.now)
+            (placed_at self.now.ranking self.now.groups tuple.now)) }
+    {
+        let Some(keys) = self.sort_keys_of(tuple)? else {
+            return Ok(None);
+        };
+        let tuple = tuple.copy(self.alloc)?;
+        Ok(Some(GroupPlace::new(keys, tuple)))
+    }
+
+    /// Puts the place of a tuple's row in for that before, where there are such.
     fn replace(
         &mut self,
-        before: Option<GroupPlace>,
-        after: Option<GroupPlace>,
+        tuple: Tuple,
+        before: Option<SortKeyList>,
+        after: Option<SortKeyList>,
     ) -> Result<(), AllocError>
         ensures groups { self.new.groups ≡ self.old.groups }
         ensures ranking { self.new.ranking ≡ self.old.ranking }
-        ensures places { OnOk result (((p : PlaceSeen) → is_there before p ≡ true
+        ensures places { OnOk result (((p : PlaceSeen) → is_there (named tuple before) p ≡ true
             → stands_by tuple_cmp self.old.places p ≡ true) → (p : PlaceSeen) → stands_by tuple_cmp self.new.places p
-            ≡ cond (is_there after p) true (cond (is_there before p) false (stands_by tuple_cmp self.old.places p))) }
+            ≡ cond (is_there (named tuple after) p) true
+            (cond (is_there (named tuple before) p) false (stands_by tuple_cmp self.old.places p))) }
     {
         match (before, after) {
             (Some(before), Some(after)) => {
-                exchange(&mut self.places, &before, after)?;
+                exchange(&mut self.places, tuple, before, after)?;
                 Ok(())
             }
             (Some(before), None) => {
-                let _there = self.places.remove(&before);
+                let shown = GroupPlace::new(before, tuple);
+                let _there = self.places.remove(&shown);
+                drop(shown);
                 Ok(())
             }
             (None, Some(after)) => {
-                self.places.insert(after)?;
+                self.places.insert(GroupPlace::new(after, tuple))?;
                 Ok(())
             }
             (None, None) => Ok(()),
@@ -223,6 +241,7 @@ impl RankedGroups {
     {
         if let Some(place) = self.place_of(tuple)? {
             let _there = self.places.remove(&place);
+            drop(place);
         }
         Ok(())
     }
@@ -336,10 +355,10 @@ impl RankedGroups {
         ensures ranking { self.new.ranking ≡ self.old.ranking }
     {
         let tuple = self.groups.tuple_of(row)?;
-        let before = self.place_of(&tuple)?;
-        self.groups.come(row)?;
-        let after = self.place_of(&tuple)?;
-        self.replace(before, after)?;
+        let before = self.sort_keys_of(&tuple)?;
+        self.groups.come_to(&tuple, row)?;
+        let after = self.sort_keys_of(&tuple)?;
+        self.replace(tuple, before, after)?;
         Ok(())
     }
 
@@ -374,10 +393,10 @@ impl RankedGroups {
         ensures ranking { self.new.ranking ≡ self.old.ranking }
     {
         let tuple = self.groups.tuple_of(row)?;
-        let before = self.place_of(&tuple)?;
-        self.groups.go(row)?;
-        let after = self.place_of(&tuple)?;
-        self.replace(before, after)?;
+        let before = self.sort_keys_of(&tuple)?;
+        self.groups.go_from(&tuple, row)?;
+        let after = self.sort_keys_of(&tuple)?;
+        self.replace(tuple, before, after)?;
         Ok(())
     }
 
@@ -413,10 +432,10 @@ impl RankedGroups {
         ensures columns { OnOk result (self.new.groups.columns ≡ self.old.groups.columns) }
         ensures ranking { self.new.ranking ≡ self.old.ranking }
     {
-        let before = self.place_of(tuple)?;
+        let before = self.sort_keys_of(tuple)?;
         self.groups.take_in(tuple, group)?;
-        let after = self.place_of(tuple)?;
-        self.replace(before, after)?;
+        let after = self.sort_keys_of(tuple)?;
+        self.replace(tuple.copy(self.alloc)?, before, after)?;
         Ok(())
     }
 
@@ -452,10 +471,10 @@ impl RankedGroups {
         ensures columns { OnOk result (self.new.groups.columns ≡ self.old.groups.columns) }
         ensures ranking { self.new.ranking ≡ self.old.ranking }
     {
-        let before = self.place_of(tuple)?;
+        let before = self.sort_keys_of(tuple)?;
         self.groups.give_up(tuple, group);
-        let after = self.place_of(tuple)?;
-        self.replace(before, after)?;
+        let after = self.sort_keys_of(tuple)?;
+        self.replace(tuple.copy(self.alloc)?, before, after)?;
         Ok(())
     }
 
@@ -552,22 +571,24 @@ impl Upkeep for RankedGroups {
     }
 }
 
-/// Puts a place in for another.
+/// Puts the place of a tuple's row in for another.
 fn exchange(
     places: &mut BTreeSet<GroupPlace>,
-    before: &GroupPlace,
-    after: GroupPlace,
+    tuple: Tuple,
+    before: SortKeyList,
+    after: SortKeyList,
 ) -> Result<(), AllocError>
-    ensures { OnOk result (((p : PlaceSeen) → is_at (group_place_cmp before.now) p ≡ true
+    ensures { OnOk result (((p : PlaceSeen) → is_at (group_place_cmp (before, tuple)) p ≡ true
         → stands_by tuple_cmp places.old.keys p ≡ true) → (p : PlaceSeen) → stands_by tuple_cmp places.new.keys p
-        ≡ cond (is_at (group_place_cmp after) p) true
-        (cond (is_at (group_place_cmp before.now) p) false (stands_by tuple_cmp places.old.keys p))) }
+        ≡ cond (is_at (group_place_cmp (after, tuple)) p) true
+        (cond (is_at (group_place_cmp (before, tuple)) p) false (stands_by tuple_cmp places.old.keys p))) }
 {
-    if *before == after {
+    if before == after {
         return Ok(());
     }
-    let _there = places.remove(before);
-    places.insert(after)?;
+    let place = GroupPlace::new(before, tuple);
+    let _there = places.remove(&place);
+    places.insert(GroupPlace::new(after, place.into_tuple()))?;
     Ok(())
 }
 

@@ -1,9 +1,6 @@
 -- The columns that groups keep something of.
-use Rattle.std.specs.Prelude.{◌≡◌, ◌==◌, ◌&&◌, All, ℕ, Bool, true, false, List}
+use Rattle.std.specs.Prelude.{◌==◌, ◌&&◌, ℕ, Bool, true, false, List}
 use Rattle.std.specs.List.{list_any}
-use Rattle.view_lang.specs.Outputs.{GroupOutput}
-use Rattle.view_lang.specs.declared.aggregate.Aggregate.{Aggregate}
-use Rattle.view_lang.specs.declared.aggregate.Aggregate.TheVariants as aggregate
 use Rattle.group_state.specs.declared.kept_columns.KeptColumn.{KeptColumn}
 use Rattle.group_state.specs.declared.kept_columns.KeptForm.{KeptForm}
 use Rattle.group_state.specs.declared.kept_columns.KeptForm.TheVariants as kept

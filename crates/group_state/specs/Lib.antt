@@ -14,6 +14,7 @@ pub mod Reading
 pub mod Sample
 pub mod Seen
 pub mod Touched
+pub mod TupleKeys
 pub mod FewValues
 pub mod Multisets
 pub mod Moves

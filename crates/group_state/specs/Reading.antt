@@ -1,18 +1,14 @@
 -- Reading group rows out of groups that are kept.
-use Rattle.std.specs.Prelude.{◌≡◌, ℕ, List, [], ◌∷◌, map, not, filter, Option, None, Some, FitsSigned, All}
-use mir.Syntax.{w128}
+use Rattle.std.specs.Prelude.{◌≡◌, ℕ, List, [], ◌∷◌, not, filter, Option, None, Some, All}
 use Rattle.std.specs.List.{AllByRecursion}
-use Rattle.values.specs.Datum.{Datum, null, is_null}
-use Rattle.values.specs.Keys.{datum_of_key}
+use Rattle.values.specs.Datum.{Datum, is_null}
 use Rattle.values.specs.declared.key.Key.{Key}
 use Rattle.view_lang.specs.Groups.{group_row}
-use Rattle.view_lang.specs.Folds.{total, values_at}
 use Rattle.view_lang.specs.ViewLaws.{UsesKeys}
 use Rattle.view_lang.specs.Aggregates.{ComparesKeys}
 use Rattle.view_lang.specs.Sums.{AreSummable}
 use Rattle.view_lang.specs.Outputs.{GroupOutput}
 use Rattle.view_lang.specs.declared.aggregate.Aggregate.{Aggregate}
-use Rattle.view_lang.specs.declared.aggregate.Aggregate.TheVariants as aggregate
 use Rattle.group_state.specs.declared.tally.Tally.{Tally}
 use Rattle.group_state.specs.Cells.{KeepsCells}
 use Rattle.group_state.specs.Aggregates.{IsKept, SumFits}

@@ -1,19 +1,10 @@
 -- What is seen of the tallies of a group, whatever the rows are.
 use Rattle.std.specs.Prelude.{ℕ, zero, suc, ℤ, pos, cond, List, [], ◌∷◌, length, Option, None, Some, slice_get}
-use Rattle.std.specs.BTreeMap.{is_at}
-use Rattle.std.specs.Map.{lookup}
-use Rattle.std.specs.Option.{option_and_then, option_map}
+use Rattle.std.specs.Option.{option_and_then}
 use Rattle.values.specs.Datum.{Datum, null, whole}
-use Rattle.values.specs.declared.key.Key.{Key}
-use Rattle.view_lang.specs.Cells.{cell_at}
-use Rattle.view_lang.specs.Outputs.{GroupOutput}
-use Rattle.view_lang.specs.declared.aggregate.Aggregate.{Aggregate}
-use Rattle.view_lang.specs.declared.aggregate.Aggregate.TheVariants as aggregate
 use Rattle.group_state.specs.Folds.{first_of, last_of}
-use Rattle.group_state.specs.GroupCounts.{GroupCounts}
-use Rattle.group_state.specs.Grouped.{Grouped}
-use Rattle.group_state.specs.Keys.{tuple_cmp, data_of, datum_in}
-use Rattle.group_state.specs.KeptColumns.{counted, same_column, valued}
+use Rattle.group_state.specs.Keys.{datum_in}
+use Rattle.group_state.specs.KeptColumns.{same_column}
 use Rattle.group_state.specs.declared.kept_columns.KeptColumn.{KeptColumn}
 use Rattle.group_state.specs.declared.tally.Tally.{Tally}
 use Rattle.group_state.specs.declared.tally.Tally.TheVariants as tally

@@ -285,7 +285,7 @@ impl Groups {
             ≡ (list_any (is_at (tuple_cmp t)) tuples.old.keys
             || (begins_with first.now t && list_any (is_at (tuple_cmp t)) (keys_of self.now.groups)))) }
     {
-        let start = Tuple::one(self.alloc, first.copy(self.alloc)?)?;
+        let start = Tuple::one(first.copy(self.alloc)?);
         for (tuple, _group) in self.groups.range(&start..) {
             if !tuple.begins_with(first) {
                 break;
@@ -394,7 +394,23 @@ impl Groups {
         ensures columns { self.new.columns ≡ self.old.columns }
         ensures others { OnOk result (StayBut (λ t. has_tuple self.old.keys t (R.cells row.now)) self.old self.new) }
     {
-        self.add(row)?;
+        let tuple = self.tuple_of(row)?;
+        self.come_to(&tuple, row)
+    }
+
+    /// A row comes, of which this is the tuple, under a number that no row has. After an error what is kept has no
+    /// meaning.
+    pub fn come_to<R: RowView>(&mut self, tuple: &Tuple, row: &R) -> Result<(), AllocError>
+        requires tuple { tuple.now ≡ tuple_by self.old.keys (R.cells row.now) }
+        requires rows { (rows : NumberedRows) × (Keeps self.old (values_of rows) × (length rows < 2 ^ 62)) }
+        ensures kept { OnOk result ((rows : NumberedRows) (n : ℕ) → IsStrictlySortedBy nat_cmp (keys_of rows)
+            → row_at n rows ≡ None → Keeps self.old (values_of rows)
+            → Keeps self.new (values_of (with_at n (Some (R.cells row.now)) rows))) }
+        ensures keys { self.new.keys ≡ self.old.keys }
+        ensures columns { self.new.columns ≡ self.old.columns }
+        ensures others { OnOk result (StayBut (λ t. has_tuple self.old.keys t (R.cells row.now)) self.old self.new) }
+    {
+        self.add_to(tuple, row)?;
         Ok(())
     }
 
@@ -409,7 +425,23 @@ impl Groups {
         ensures columns { self.new.columns ≡ self.old.columns }
         ensures others { OnOk result (StayBut (λ t. has_tuple self.old.keys t (R.cells row.now)) self.old self.new) }
     {
-        self.remove(row)?;
+        let tuple = self.tuple_of(row)?;
+        self.go_from(&tuple, row)
+    }
+
+    /// The row under a number goes, of which this is the tuple. After an error what is kept has no meaning.
+    pub fn go_from<R: RowView>(&mut self, tuple: &Tuple, row: &R) -> Result<(), AllocError>
+        requires tuple { tuple.now ≡ tuple_by self.old.keys (R.cells row.now) }
+        requires rows { (rows : NumberedRows) × (n : ℕ) × (Keeps self.old (values_of rows)
+            × (IsStrictlySortedBy nat_cmp (keys_of rows) × (row_at n rows ≡ Some (R.cells row.now)))) }
+        ensures kept { OnOk result ((rows : NumberedRows) (n : ℕ) → IsStrictlySortedBy nat_cmp (keys_of rows)
+            → row_at n rows ≡ Some (R.cells row.now) → Keeps self.old (values_of rows)
+            → Keeps self.new (values_of (with_at n None rows))) }
+        ensures keys { self.new.keys ≡ self.old.keys }
+        ensures columns { self.new.columns ≡ self.old.columns }
+        ensures others { OnOk result (StayBut (λ t. has_tuple self.old.keys t (R.cells row.now)) self.old self.new) }
+    {
+        self.remove_from(tuple, row)?;
         Ok(())
     }
 
@@ -422,7 +454,20 @@ impl Groups {
         ensures columns { self.new.columns ≡ self.old.columns }
         ensures others { OnOk result (StayBut (λ t. has_tuple self.old.keys t (R.cells row.now)) self.old self.new) }
     {
-        let tuple = Tuple::of(self.alloc, self.keys.as_slice(), row)?;
+        let tuple = self.tuple_of(row)?;
+        self.add_to(&tuple, row)
+    }
+
+    /// Adds a row of which this is the tuple.
+    fn add_to<R: RowView>(&mut self, tuple: &Tuple, row: &R) -> Result<(), AllocError>
+        requires tuple { tuple.now ≡ tuple_by self.old.keys (R.cells row.now) }
+        requires rows { (rows : List (List Datum)) × (Keeps self.old rows × (length rows < 2 ^ 62)) }
+        ensures kept { OnOk result ((rows : List (List Datum)) → Keeps self.old rows
+            → Keeps self.new (R.cells row.now ∷ rows)) }
+        ensures keys { self.new.keys ≡ self.old.keys }
+        ensures columns { self.new.columns ≡ self.old.columns }
+        ensures others { OnOk result (StayBut (λ t. has_tuple self.old.keys t (R.cells row.now)) self.old self.new) }
+    {
         put_row(
             &mut self.groups,
             self.alloc,
@@ -442,12 +487,25 @@ impl Groups {
         ensures columns { self.new.columns ≡ self.old.columns }
         ensures others { OnOk result (StayBut (λ t. has_tuple self.old.keys t (R.cells row.now)) self.old self.new) }
     {
-        let tuple = Tuple::of(self.alloc, self.keys.as_slice(), row)?;
+        let tuple = self.tuple_of(row)?;
+        self.remove_from(&tuple, row)
+    }
+
+    /// Removes a row of which this is the tuple.
+    fn remove_from<R: RowView>(&mut self, tuple: &Tuple, row: &R) -> Result<(), AllocError>
+        requires tuple { tuple.now ≡ tuple_by self.old.keys (R.cells row.now) }
+        requires rows { (rows : List (List Datum)) × Keeps self.old (R.cells row.now ∷ rows) }
+        ensures kept { OnOk result ((rows : List (List Datum)) → Keeps self.old (R.cells row.now ∷ rows)
+            → Keeps self.new rows) }
+        ensures keys { self.new.keys ≡ self.old.keys }
+        ensures columns { self.new.columns ≡ self.old.columns }
+        ensures others { OnOk result (StayBut (λ t. has_tuple self.old.keys t (R.cells row.now)) self.old self.new) }
+    {
         take_row(
             &mut self.groups,
             self.alloc,
             self.columns.as_slice(),
-            &tuple,
+            tuple,
             row,
         )?;
         Ok(())
@@ -549,23 +607,24 @@ fn put_row<R: RowView>(
     groups: &mut BTreeMap<Tuple, Group>,
     alloc: Global,
     columns: &[KeptColumn],
-    tuple: Tuple,
+    tuple: &Tuple,
     row: &R,
 ) -> Result<(), AllocError>
     requires { (rows : List (List Datum))
-        × (KeepsAt columns.now rows (lookup (is_at (tuple_cmp tuple)) groups.old.entries) × (length rows < 2 ^ 62)) }
+        × (KeepsAt columns.now rows (lookup (is_at (tuple_cmp tuple.now)) groups.old.entries)
+        × (length rows < 2 ^ 62)) }
     ensures here { OnOk result ((rows : List (List Datum))
-        → KeepsAt columns.now rows (lookup (is_at (tuple_cmp tuple)) groups.old.entries)
-        → KeepsAt columns.now (R.cells row.now ∷ rows) (lookup (is_at (tuple_cmp tuple)) groups.new.entries)) }
-    ensures others { OnOk result ((t : List Key) → is_at (tuple_cmp tuple) t ≡ false
+        → KeepsAt columns.now rows (lookup (is_at (tuple_cmp tuple.now)) groups.old.entries)
+        → KeepsAt columns.now (R.cells row.now ∷ rows) (lookup (is_at (tuple_cmp tuple.now)) groups.new.entries)) }
+    ensures others { OnOk result ((t : List Key) → is_at (tuple_cmp tuple.now) t ≡ false
         → lookup (is_at (tuple_cmp t)) groups.new.entries ≡ lookup (is_at (tuple_cmp t)) groups.old.entries) }
 {
-    if let Some(group) = groups.get_mut(&tuple) {
+    if let Some(group) = groups.get_mut(tuple) {
         return group.add(alloc, columns, row);
     }
     let mut group = Group::new(alloc, columns)?;
     group.add(alloc, columns, row)?;
-    groups.insert(tuple, group)?;
+    groups.insert(tuple.copy(alloc)?, group)?;
     Ok(())
 }
 

@@ -80,7 +80,10 @@ impl Ord for KeyCell {
 
     fn cmp(&self, other: &KeyCell) -> Ordering {
         key_law();
-        cmp_values(&self.cell, &other.cell)
+        match (&self.cell.kind, &other.cell.kind) {
+            (Kind::Utf8(text), Kind::Utf8(other)) => text.cmp(other),
+            _ => cmp_values(&self.cell, &other.cell),
+        }
     }
 }
 

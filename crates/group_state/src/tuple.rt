@@ -15,22 +15,32 @@ use crate::row_cells::key_cell_at;
 use std::alloc::{AllocError, Global};
 use std::cmp::Ordering;
 use std::marker::Model;
+use std::slice;
 use values::{CellView, Row, Value};
 use view_lang::RowView;
 
-/// A grouping tuple: what a row has in the grouping columns, in order. Contracts see the list of keys.
+/// One key where it lies, or any number of them in a piece of memory.
+#[derive(Debug, Drop)]
+enum TupleKeys {
+    One(KeyCell),
+    Many(Vec<KeyCell>),
+}
+
+/// A grouping tuple: what a row has in the grouping columns, in order. That of one column takes no memory but what its
+/// key takes. Contracts see the list of keys.
 #[derive(Debug, Drop)]
 pub struct Tuple {
-    keys: Vec<KeyCell>,
+    keys: TupleKeys,
 }
 
 impl Model for Tuple {
+    ghost use Rattle.group_state.specs.TupleKeys.{keys_in};
     ghost use Rattle.std.specs.Prelude.{List};
     ghost use Rattle.values.specs.declared.key.Key.{Key};
 
     ghost Value = { List Key };
 
-    ghost view = { λ t. t.keys.items };
+    ghost view = { λ t. keys_in t.keys };
 }
 
 impl PartialEq for Tuple {
@@ -43,7 +53,7 @@ impl PartialEq for Tuple {
     ghost laws = { partial_equiv_from_equiv (eq_by_cmp_equiv tuple_total) };
 
     fn eq(&self, other: &Tuple) -> bool {
-        matches!(self.keys.cmp(&other.keys), Ordering::Equal)
+        matches!(self.cmp(other), Ordering::Equal)
     }
 }
 
@@ -83,7 +93,10 @@ impl Ord for Tuple {
     ghost matches_eq = { λ x y. refl };
 
     fn cmp(&self, other: &Tuple) -> Ordering {
-        self.keys.cmp(&other.keys)
+        match (&self.keys, &other.keys) {
+            (TupleKeys::One(key), TupleKeys::One(other)) => key.cmp(other),
+            _ => self.keys().cmp(&other.keys()),
+        }
     }
 }
 
@@ -96,22 +109,24 @@ impl Tuple {
     ) -> Result<Tuple, AllocError>
         ensures { IfOk result (λ t. t ≡ tuple_of columns.now (R.cells row.now)) }
     {
-        let mut keys = Vec::with_capacity(alloc, columns.len())?;
-        for column in columns {
-            keys.push(key_at(alloc, row, *column)?)?;
+        let Some((first, others)) = columns.split_first() else {
+            return Ok(Tuple::none(alloc));
+        };
+        if others.is_empty() {
+            return Ok(Tuple::one(key_at(alloc, row, *first)?));
         }
-        Ok(Tuple { keys })
+        let keys = each_key(alloc, columns, row)?;
+        Ok(Tuple::many(keys))
     }
 
     pub fn into_row(self, alloc: Global) -> Result<Row, AllocError>
         ensures value { IfOk result (λ row. map key_in row.items ≡ self) }
         ensures keys { IfOk result (λ row. All IsKeyCell row.items) }
     {
-        let mut row = Vec::with_capacity(alloc, self.keys.len())?;
-        for key in self.keys {
-            row.push(key.into_cell())?;
+        match self.keys {
+            TupleKeys::One(key) => Ok(Vec::from_array(alloc, [key.into_cell()])?),
+            TupleKeys::Many(keys) => cells_of(alloc, keys),
         }
-        Ok(row)
     }
 
     pub fn of_row(alloc: Global, row: Row) -> Result<Tuple, AllocError>
@@ -122,41 +137,69 @@ impl Tuple {
         for cell in row {
             keys.push(KeyCell::of_cell(cell))?;
         }
-        Ok(Tuple { keys })
+        Ok(Tuple::of_keys(keys))
+    }
+
+    /// The tuple of these keys. Their memory is given back where there is one.
+    fn of_keys(keys: Vec<KeyCell>) -> Tuple
+        ensures { result ≡ keys.items }
+    {
+        let mut others = keys;
+        if others.len() != 1 {
+            return Tuple::many(others);
+        }
+        Tuple::one(others.remove(0))
     }
 
     /// A copy of it.
     pub fn copy(&self, alloc: Global) -> Result<Tuple, AllocError>
         ensures { IfOk result (λ t. t ≡ self.now) }
     {
-        let mut keys = Vec::with_capacity(alloc, self.keys.len())?;
-        for key in self.keys.iter() {
-            keys.push(key.copy(alloc)?)?;
+        match &self.keys {
+            TupleKeys::One(key) => Ok(Tuple::one(key.copy(alloc)?)),
+            TupleKeys::Many(keys) => Ok(Tuple::many(copies_of(alloc, keys.as_slice())?)),
         }
-        Ok(Tuple { keys })
+    }
+
+    /// Its keys.
+    fn keys(&self) -> &[KeyCell]
+        ensures { result.now ≡ self.now }
+    {
+        match &self.keys {
+            TupleKeys::One(key) => slice::from_ref(key),
+            TupleKeys::Many(keys) => keys.as_slice(),
+        }
     }
 
     /// How many values it has.
     pub fn len(&self) -> usize
         ensures { result ≡ length self.now }
     {
-        self.keys.len()
+        self.keys().len()
     }
 
     /// The tuple of one column.
-    pub(crate) fn one(alloc: Global, key: KeyCell) -> Result<Tuple, AllocError>
-        ensures { IfOk result (λ t. t ≡ key ∷ []) }
+    pub(crate) fn one(key: KeyCell) -> Tuple
+        ensures { result ≡ key ∷ [] }
     {
-        let mut keys = Vec::with_capacity(alloc, 1)?;
-        keys.push(key)?;
-        Ok(Tuple { keys })
+        Tuple {
+            keys: TupleKeys::One(key),
+        }
+    }
+
+    fn many(keys: Vec<KeyCell>) -> Tuple
+        ensures { result ≡ keys.items }
+    {
+        Tuple {
+            keys: TupleKeys::Many(keys),
+        }
     }
 
     /// Whether its first value is this key.
     pub(crate) fn begins_with(&self, key: &KeyCell) -> bool
         ensures { result ≡ begins_with key.now self.now }
     {
-        match self.keys.first() {
+        match self.keys().first() {
             Some(first) => key == first,
             None => false,
         }
@@ -166,16 +209,14 @@ impl Tuple {
     pub(crate) fn none(alloc: Global) -> Tuple
         ensures { result ≡ [] }
     {
-        Tuple {
-            keys: Vec::new(alloc),
-        }
+        Tuple::many(Vec::new(alloc))
     }
 
     /// The value at place `k` where it lies; null where there is none.
     pub fn view(&self, k: usize) -> CellView<'_>
         ensures { viewed result ≡ shallow (cell_at (data_of self.now) k) }
     {
-        match self.keys.get(k) {
+        match self.keys().get(k) {
             Some(key) => key.view(),
             None => CellView::Null,
         }
@@ -185,11 +226,47 @@ impl Tuple {
     pub fn cell(&self, alloc: Global, k: usize) -> Result<Value, AllocError>
         ensures { IfOk result (λ cell. cell ≡ cell_at (data_of self.now) k) }
     {
-        match self.keys.get(k) {
+        match self.keys().get(k) {
             Some(key) => Ok(key.value(alloc)?),
             None => Ok(no_value()),
         }
     }
+}
+
+/// The keys of a row's cells in some columns.
+fn each_key<R: RowView>(
+    alloc: Global,
+    columns: &[usize],
+    row: &R,
+) -> Result<Vec<KeyCell>, AllocError>
+    ensures { IfOk result (λ keys. keys.items ≡ tuple_of columns.now (R.cells row.now)) }
+{
+    let mut keys = Vec::with_capacity(alloc, columns.len())?;
+    for column in columns {
+        keys.push(key_at(alloc, row, *column)?)?;
+    }
+    Ok(keys)
+}
+
+fn cells_of(alloc: Global, keys: Vec<KeyCell>) -> Result<Row, AllocError>
+    ensures value { IfOk result (λ row. map key_in row.items ≡ keys.items) }
+    ensures keys { IfOk result (λ row. All IsKeyCell row.items) }
+{
+    let mut row = Vec::with_capacity(alloc, keys.len())?;
+    for key in keys {
+        row.push(key.into_cell())?;
+    }
+    Ok(row)
+}
+
+fn copies_of(alloc: Global, keys: &[KeyCell]) -> Result<Vec<KeyCell>, AllocError>
+    ensures { IfOk result (λ copies. copies.items ≡ keys.now) }
+{
+    let mut copies = Vec::with_capacity(alloc, keys.len())?;
+    for key in keys {
+        copies.push(key.copy(alloc)?)?;
+    }
+    Ok(copies)
 }
 
 /// The key of a row's cell.

@@ -10,7 +10,6 @@ pub mod LineTexts
 pub mod SourceLemmas
 pub mod Accounts
 pub mod Alike
-pub mod EndLemmas
 pub mod Counted
 pub mod KeptLemmas
 pub mod Shows

@@ -7,6 +7,8 @@ use Rattle.std.proofs.Common.{
   Some,
   List,
   [],
+  ◌+◌,
+  ◌≤◌,
   ◌++◌,
   take,
   ap,
@@ -16,8 +18,14 @@ use Rattle.std.proofs.Common.{
   refl,
   append_assoc,
   append-nil,
+  arith,
+  length,
 }
+use Rattle.std.proofs.Math.Seq.{take-append-add}
+use Rattle.std.proofs.lemmas.List.{length-take-le, take-take}
+use Rattle.std.proofs.lemmas.Slice.{take-put_mid}
 use Rattle.std.specs.Io.KnownBytes.{Consumes, IsAtEnd, Keeps}
+use borrow.Rule.Slice.PartMut.{put_mid}
 use Rattle.liveviews.specs.Files.{InspectsFile, IsContent}
 use Rattle.liveviews.specs.Source.{HoldsFile, OfRead, OfSource}
 
@@ -87,6 +95,22 @@ kept-consumes None kept new piece same took = tt
 kept-consumes (Some xs) None new piece same took = absurd same
 kept-consumes (Some xs) (Some ys) new piece same took =
     subst (λ (v : List ℕ). Consumes (Some v) new piece) same took
+
+-- Bytes that are read into a part of a room come behind those before it.
+pub consumes-part :
+    (held old new : Option (List ℕ)) (room part : List ℕ) (from k n : ℕ) → from ≤ length room → n ≤ length part
+    → Consumes old new (take n part) → Consumes held old (take from room)
+    → Consumes held new (take (from + n) (put_mid from k room part))
+consumes-part held old new room part from k n h few took before =
+    let whole : take (from + length part) (put_mid from k room part) ≡ take from room ++ part =
+    take-put_mid from k room part (from + length part) refl h in
+    let first : take (from + n) (put_mid from k room part) ≡ take from room ++ take n part =
+    sym (take-take (from + n) (from + length part) (put_mid from k room part) (omega (arith, few)))
+    ∙ ap (λ (xs : List ℕ). take (from + n) xs) whole
+    ∙ ap (λ (j : ℕ). take (j + n) (take from room ++ part)) (sym (length-take-le from room h))
+    ∙ take-append-add (take from room) part n in
+    subst (λ (xs : List ℕ). Consumes held new xs) (sym first)
+    (consumes-more held old new (take from room) (take n part) before took)
 
 -- A read of no bytes came to the source's end.
 pub read-end :

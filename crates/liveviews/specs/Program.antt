@@ -19,9 +19,7 @@ use Rattle.std.specs.Prelude.{
 }
 use Rattle.std.specs.Fmt.{decimal}
 use Rattle.std.specs.Io.KnownBytes.{Appends}
-use Rattle.clap.specs.Matches.{first_value}
 use Rattle.clap.specs.declared.error.kind.ErrorKind.{ErrorKind}
-use Rattle.clap.specs.declared.parser.matches.Found.{Found}
 use Rattle.clap.specs.declared.error.kind.ErrorKind.TheVariants as kinds
 use Rattle.stream_writer.specs.Sinks.{Sunk}
 use Rattle.values.specs.declared.causes.Cause.{Cause}
@@ -30,76 +28,26 @@ use Rattle.liveviews.specs.Files.{InspectsFile, RecastsFile, MakesNone}
 use Rattle.liveviews.specs.declared.files.FileFault.{FileFault}
 use Rattle.liveviews.specs.declared.files.FileFault.TheVariants as file
 use Rattle.liveviews.specs.Check.{ChecksFile, RefusesFile}
+use Rattle.liveviews.specs.Showing.{ShowsFile}
 use Rattle.liveviews.specs.Streams.{Discards}
-use Rattle.liveviews.specs.declared.program.words.FileCommand.{FileCommand}
-use Rattle.liveviews.specs.declared.program.words.FileCommand.TheVariants as command
-use Rattle.liveviews.specs.declared.program.words.Asked.{Asked}
-use Rattle.liveviews.specs.declared.program.words.Asked.TheVariants as asked
-use Rattle.liveviews.specs.declared.program.outcome.Outcome.{Outcome}
-use Rattle.liveviews.specs.declared.program.outcome.Outcome.TheVariants as outcome
 use Rattle.liveviews.specs.declared.program.outcome.Refusal.{Refusal}
 use Rattle.liveviews.specs.declared.program.outcome.Refusal.TheVariants as refusal
 use Rattle.liveviews.specs.declared.recasting.whole.RecastFault.{RecastFault}
 use Rattle.liveviews.specs.declared.recasting.whole.SourceFault.{SourceFault}
 use Rattle.liveviews.specs.declared.recasting.whole.SourceFault.TheVariants as source
 
--- the command is over the file, or the files, that the arguments name
-abbrev pub AsksInspect : Found → FileCommand → Type 0
-AsksInspect words (command.Inspect file) = first_value words (codes "FILE") ≡ Some file.now
-AsksInspect words _ = ⊥
-
-abbrev pub AsksRecast : Found → FileCommand → Type 0
-AsksRecast words (command.Recast from to) =
-    (first_value words (codes "IN") ≡ Some from.now) × (first_value words (codes "OUT") ≡ Some to.now)
-AsksRecast words _ = ⊥
-
-abbrev pub AsksCheck : Found → FileCommand → Type 0
-AsksCheck words (command.Check config) = first_value words (codes "CONFIG") ≡ Some config.now
-AsksCheck words _ = ⊥
-
--- the first argument is `run`
-abbrev pub AsksRun : {Z : Type 0} → List (String Z) → Type 0
-AsksRun [] = ⊥
-AsksRun (w ∷ ws) = string_bytes w ≡ codes "run"
-
--- the first argument is `live`
-abbrev pub AsksLive : {Z : Type 0} → List (String Z) → Type 0
-AsksLive [] = ⊥
-AsksLive (w ∷ ws) = string_bytes w ≡ codes "live"
+-- the first argument is this word
+abbrev pub Begins : {Z : Type 0} → List ℕ → List (String Z) → Type 0
+Begins word [] = ⊥
+Begins word (w ∷ ws) = string_bytes w ≡ word
 
 -- the arguments ask for a session, over the lines of a script or those of standard input
 abbrev pub AsksSession : {Z : Type 0} → List (String Z) → Type 0
-AsksSession words = AsksRun words ⊎ AsksLive words
+AsksSession words = Begins (codes "run") words ⊎ Begins (codes "live") words
 
 -- the arguments ask for the rows of a stream
 abbrev pub AsksShow : {Z : Type 0} → List (String Z) → Type 0
-AsksShow [] = ⊥
-AsksShow (w ∷ ws) = string_bytes w ≡ codes "show"
-
--- Lines are run, and rows shown, only where the arguments ask for it.
-abbrev pub IsAllowed : {Z : Type 0} → List (String Z) → Asked → Type 0
-IsAllowed words (asked.File c) = Unit {0}
-IsAllowed words (asked.Script config script) = AsksSession words
-IsAllowed words (asked.Live config) = AsksSession words
-IsAllowed words (asked.Show show) = AsksShow words
-
--- the command runs lines
-abbrev pub IsSession : Asked → Type 0
-IsSession (asked.Script config script) = Unit {0}
-IsSession (asked.Live config) = Unit {0}
-IsSession _ = ⊥
-
--- the command is `show`
-abbrev pub IsShow : Asked → Type 0
-IsShow (asked.Show show) = Unit {0}
-IsShow _ = ⊥
-
--- arguments that are no command, or memory was refused before a file was read
-abbrev pub IsUnread : Refusal → Type 0
-IsUnread refusal.WrongUse = Unit {0}
-IsUnread (refusal.Refused c) = c ≡ cause.Memory
-IsUnread (refusal.CannotRead path) = ⊥
-IsUnread (refusal.CannotWrite path) = ⊥
+AsksShow words = Begins (codes "show") words
 
 -- a command that is not wrong use was refused
 abbrev pub IsRefused : Refusal → Type 0
@@ -146,20 +94,6 @@ abbrev pub Ends : Option (List ℕ) → Sunk → Sunk → Option FileFault → R
 Ends held old new unmade (Ok n) = RecastsFile held old new (Ok n)
 Ends held old new unmade (Err r) = StopsSo held old new unmade r
 
--- A file was inspected or checked, and nothing was put; or it was recast.
-abbrev pub Comes : Option (List ℕ) → Sunk → Sunk → Outcome → Type 0
-Comes held old new (outcome.Inspected i) = (new ≡ old) × InspectsFile held (string_bytes i.text) i.status
-Comes held old new (outcome.Recast n) = RecastsFile held old new (Ok n)
-Comes held old new (outcome.Checked feeds views) = (new ≡ old) × ChecksFile held feeds views
-
-abbrev pub Does : Option (List ℕ) → Sunk → Sunk → Option FileFault → Result Outcome Refusal → Type 0
-Does held old new unmade (Ok o) = Comes held old new o
-Does held old new unmade (Err r) = StopsSo held old new unmade r
-
--- the same for some file
-abbrev pub DoesSomewhere : (List ℕ → Option (List ℕ)) → Sunk → Sunk → Option FileFault → Result Outcome Refusal → Type 0
-DoesSomewhere content old new unmade answer = (path : List ℕ) × Does (content path) old new unmade answer
-
 -- the refusal where a file can't be read or made: this one, which names the file, or for want of memory
 abbrev pub refusal_for : Refusal → FileFault → Refusal
 refusal_for named file.Unusable = named
@@ -182,43 +116,47 @@ status_of (refusal.CannotRead path) = 1
 status_of (refusal.CannotWrite path) = 1
 status_of (refusal.Refused c) = 1
 
+-- A file was inspected, no fault stands in it, and nothing was put. These are its lines.
+abbrev pub IsInspected : Option (List ℕ) → Sunk → Sunk → List ℕ → Type 0
+IsInspected held old new text = (new ≡ old) × InspectsFile held text 0
+
 -- the line that is printed where n bytes were put
 abbrev pub line_of : ℕ → List ℕ
 line_of n = codes "wrote " ++ decimal n ++ 10 ∷ []
+
+-- All of the canonical stream of a file's table was put, and this line says so.
+abbrev pub IsRecast : Option (List ℕ) → Sunk → Sunk → List ℕ → Type 0
+IsRecast held old new text = (n : ℕ) × RecastsFile held old new (Ok n) × (text ≡ line_of n)
 
 -- the line of a configuration with these numbers of feeds and views
 abbrev pub counts_of : ℕ → ℕ → List ℕ
 counts_of feeds views = codes "ok: " ++ (decimal feeds ++ (codes " feeds, " ++ (decimal views ++ (codes " views" ++ 10
     ∷ []))))
 
-abbrev pub text_of : Outcome → List ℕ
-text_of (outcome.Inspected i) = string_bytes i.text
-text_of (outcome.Recast n) = line_of n
-text_of (outcome.Checked feeds views) = counts_of feeds views
+-- A file has a configuration, and nothing was put. This line says so.
+abbrev pub IsChecked : Option (List ℕ) → Sunk → Sunk → List ℕ → Type 0
+IsChecked held old new text =
+    (new ≡ old) × ((feeds : ℕ) × (views : ℕ) × ChecksFile held feeds views × (text ≡ counts_of feeds views))
 
-abbrev pub status_after : Outcome → ℕ
-status_after (outcome.Inspected i) = i.status
-status_after (outcome.Recast n) = 0
-status_after (outcome.Checked feeds views) = 0
+-- What came of a command over a file that holds `held`: no fault stands in it, or all of the canonical stream of its
+-- table was put, or it has a configuration. This text says so.
+abbrev pub Comes : Option (List ℕ) → Sunk → Sunk → List ℕ → Type 0
+Comes held old new text = IsInspected held old new text ⊎ IsRecast held old new text ⊎ IsChecked held old new text
 
--- the arguments were no command
-abbrev pub IsWrongUse : Result Outcome Refusal → Type 0
-IsWrongUse (Err refusal.WrongUse) = Unit {0}
-IsWrongUse _ = ⊥
-
--- What was done was printed, and no fault stood in it.
-abbrev pub IsPrinted : Result Outcome Refusal → Option (List ℕ) → Option (List ℕ) → Type 0
-IsPrinted (Ok o) before after = (status_after o ≡ 0) × Appends before after (text_of o)
-IsPrinted (Err r) before after = ⊥
-
--- A file was read, and either no fault stands in it and nothing was put, or all of the canonical stream of its table
--- was put, or it has a configuration. What says so was printed.
+-- A file was read, this came of it, and what says so was printed.
 pub record IsDone (content : List ℕ → Option (List ℕ)) (old new : Sunk) (before after : Option (List ℕ)) : Type 0 where
   pub path : List ℕ
-  pub outcome : Outcome
-  pub comes : Comes (content path) old new outcome
-  pub valid : status_after outcome ≡ 0
-  pub printed : Appends before after (text_of outcome)
+  pub text : List ℕ
+  pub comes : Comes (content path) old new text
+  pub printed : Appends before after text
+
+-- What status 0 means: of `run` and `live` nothing, of `show` that no fault stands in a stream that was read, and else
+-- that something came of a file.
+abbrev pub Succeeds :
+    {Z : Type 0} → List (String Z) → (List ℕ → Option (List ℕ)) → Sunk → Sunk → Option (List ℕ) → Option (List ℕ)
+    → Type 0
+Succeeds words content old new before after =
+    AsksSession words ⊎ (AsksShow words × ShowsFile content) ⊎ IsDone content old new before after
 
 -- Nothing was put, or a file was read and recast, however far.
 abbrev pub IsBegun : (List ℕ → Option (List ℕ)) → Sunk → Sunk → Type 0

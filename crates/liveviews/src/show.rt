@@ -8,7 +8,7 @@ ghost use Rattle.liveviews.specs.Steps.{IsOpen};
 
 use crate::files::FileFault;
 use crate::laws::account_law;
-use crate::reading::pieces::{read_piece, room};
+use crate::reading::pieces::{next_piece, room};
 use arrays::Column;
 use feed::{Fed, Feed, FeedEvent, cut_law, pieces_law};
 use schema_meta::Field;
@@ -320,9 +320,8 @@ impl Showing {
             Ok(room) => room,
             Err(_) => return Err(ShowFault::Source(FileFault::Memory)),
         };
-        let room = room.as_mut_slice();
         for _ in 0..u64::MAX {
-            let len = match read_piece(source, room) {
+            let len = match next_piece(source, &mut room, self.feed.missing()) {
                 Ok(len) => len,
                 Err(fault) => return Err(ShowFault::Source(fault)),
             };

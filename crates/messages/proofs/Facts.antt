@@ -384,10 +384,11 @@ header_read known t kind.Dictionary body m e =
     let p = mapped_Ok (brings_dictionary body) (dictionary_batch known body t) m e in
     subst (λ (x : Meta). IsRead x.schema) p.2 tt
 
--- the metadata that is read: its header is
+-- the metadata that is read: its header is, and the length of its body
 pub meta_header :
     (known : Known) (bytes : List ℕ) (m : Meta) → meta_of known bytes ≡ Ok m
     → (t : Table) × (k : MessageKind) × (body : ℕ) × (header_of known t k body ≡ Ok m)
+    × (must fault.BadTable (root_of bytes) ≡ Ok t) × (body_of t ≡ Ok body)
 unfolding meta_of
 meta_header known bytes m e =
     let g : Table → MessageKind → Reading Meta =
@@ -397,7 +398,7 @@ meta_header known bytes m e =
     let b = bind_Ok (kind_of a.0) (g a.0) m a.2 in
     let c = both_Ok second (version_of a.0) (body_of a.0 >>= header_of known a.0 b.0) m b.2 in
     let d = bind_Ok (body_of a.0) (header_of known a.0 b.0) c.1 c.3 in
-    (a.0, b.0, d.0, d.2 ∙ ap (λ x. Ok x) c.4)
+    (a.0, b.0, d.0, d.2 ∙ ap (λ x. Ok x) c.4, a.1, d.1)
 
 pub meta_sound :
     (known : Known) (bytes : List ℕ) (m : Meta) → IsRead known.schema → meta_of known bytes ≡ Ok m

@@ -5,6 +5,7 @@ pub mod Messages
 pub mod WantedLemmas
 pub mod GatherLemmas
 pub mod AcrossLemmas
+pub mod MissingLemmas
 pub mod Facts
 pub mod Sounds
 pub mod Streams

@@ -1,15 +1,16 @@
 //! Parses the message at the front of some bytes: Arrow Columnar Format, "Encapsulated message format".
 
-ghost use Rattle.std.specs.Prelude.{◌≡◌, ◌≤◌, ◌+◌, ◌++◌, Ok, Some, drop, length, slice_range, IfErr, IfOk, IfSome};
+ghost use Rattle.std.specs.Prelude.{◌≡◌, ◌≤◌, ◌+◌, ◌++◌, Ok, None, Some, drop, length, slice_range, IfErr, IfOk, IfSome};
 ghost use Rattle.byteorder.specs.Endian.{little_number};
 ghost use Rattle.values.specs.Limits.{max_metadata_size};
 ghost use Rattle.values.specs.Reading.{Answers, Fails, Yields};
 ghost use Rattle.schema_meta.specs.Framing.{end_mark, first, framed, message_at};
 ghost use Rattle.schema_meta.specs.Message.{meta_of};
+ghost use Rattle.schema_meta.specs.Stage.{Known};
 ghost use Rattle.messages.specs.State.{IsRead, known_of, progress_seen, whole_seen};
-ghost use Rattle.messages.specs.Wanted.{Awaits, followed, followed_at};
+ghost use Rattle.messages.specs.Wanted.{Awaits, HasMetadata, IsMissing, followed, followed_at};
 
-use crate::metadata::{Metadata, read_metadata};
+use crate::metadata::{Metadata, body_length, read_metadata};
 use crate::state::State;
 use byteorder::{ByteOrder, LittleEndian};
 use schema_meta::Header;
@@ -121,6 +122,7 @@ fn metadata_held(bytes: &[u8]) -> Option<usize>
     ensures some { IfSome result (λ n. 1 ≤ n) }
     ensures there { IfSome result (λ n. 8 + n ≤ length bytes.now) }
     ensures size { IfSome result (λ n. framed (little_number 4 bytes.now) (little_number 4 (drop 4 bytes.now)) ≡ Ok n) }
+    ensures none { result ≡ None → HasMetadata bytes.now → ⊥ }
 {
     if bytes.len() < 8 {
         return None;
@@ -132,6 +134,18 @@ fn metadata_held(bytes: &[u8]) -> Option<usize>
         Ok(size) if 0 < size && size <= bytes.len() - 8 => Some(size),
         _ => None,
     }
+}
+
+/// How many bytes are missing of the incomplete message that these bytes begin, where they have all its metadata; 0 where
+/// they don't.
+pub(crate) fn missing(bytes: &[u8]) -> usize
+    ensures { (known : Known) → first known bytes.now ≡ Ok None → IsMissing known bytes.now result }
+{
+    let Some(size) = metadata_held(bytes) else {
+        return 0;
+    };
+    let front = 8 + size;
+    body_length(&bytes[8..front]).saturating_sub(bytes.len() - front)
 }
 
 /// Parses the message whose body begins at `front`, of some bytes that hold its metadata and of `more` bytes that come

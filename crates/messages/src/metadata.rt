@@ -1,6 +1,6 @@
 //! The metadata of a message: Message.fbs, table `Message`.
 
-ghost use Rattle.std.specs.Prelude.{◌≤◌, length, IfOk};
+ghost use Rattle.std.specs.Prelude.{◌≡◌, ◌≤◌, length, IfOk, Ok};
 ghost use Rattle.std.specs.Option.{option_map};
 ghost use Rattle.values.specs.Limits.{max_body_size};
 ghost use Rattle.values.specs.Reading.{Answers, Yields};
@@ -16,6 +16,7 @@ ghost use Rattle.schema_meta.specs.Message.{
   record_batch,
   version_of,
 };
+ghost use Rattle.schema_meta.specs.Stage.{Known, Meta};
 ghost use Rattle.messages.specs.State.{IsRead, known_of, meta_seen};
 
 use crate::batch::read_batch_header;
@@ -182,6 +183,19 @@ fn read_header(
             body,
             schema: None,
         }),
+    }
+}
+
+/// The length of the body, by metadata in which no fault stands.
+pub(crate) fn body_length(bytes: &[u8]) -> usize
+    ensures { (known : Known) (m : Meta) → meta_of known bytes.now ≡ Ok m → result ≡ m.body }
+{
+    let Ok(message) = readable(Buf::root(bytes)) else {
+        return 0;
+    };
+    match body_of(&message) {
+        Ok(length) => length,
+        Err(_) => 0,
     }
 }
 

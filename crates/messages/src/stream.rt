@@ -4,7 +4,9 @@ ghost use Rattle.std.specs.Prelude.{◌≡◌, [], ◌<◌, ◌≤◌, length, I
 ghost use Rattle.std.specs.Option.{option_map};
 ghost use Rattle.values.specs.Reading.{Fails};
 ghost use Rattle.messages.specs.Stream.{FitsSchema, HasSchema, IsNothing, Takes, first_in, opened};
+ghost use Rattle.messages.specs.Wanted.{IsMissing};
 
+use crate::framing::missing;
 use crate::gather::{Step, advance};
 use crate::headers::{Framed, Message};
 use crate::metadata::Metadata;
@@ -85,6 +87,14 @@ impl Framer {
         ensures { result ≡ length self.now.current.held }
     {
         self.len
+    }
+
+    /// How many bytes are missing of an incomplete message whose metadata is held; 0 where it isn't, or no message was
+    /// begun. It takes no memory.
+    pub fn missing(&self) -> usize
+        ensures { IsMissing self.now.current.known self.now.current.held result }
+    {
+        missing(&self.bytes[..self.len])
     }
 
     /// Discards a prepared change.

@@ -143,6 +143,22 @@ fn long_body_in_pieces(rt: HostRuntime) -> Result<(), Fail> {
     Ok(())
 }
 
+/// The metadata of the batch ends at 440, its body at 496.
+#[test]
+fn missing_of_a_message(rt: HostRuntime) {
+    let mut framer = Framer::open(rt.alloc(), None);
+    assert_eq!(rt; push(&mut framer, &SAMPLE), Ok((232, Some(1))));
+    assert_eq!(rt; framer.missing(), 0);
+    assert_eq!(rt; push(&mut framer, &SAMPLE[232..439]), Ok((207, None)));
+    assert_eq!(rt; framer.missing(), 0);
+    assert_eq!(rt; push(&mut framer, &SAMPLE[439..440]), Ok((1, None)));
+    assert_eq!(rt; framer.missing(), 56);
+    assert_eq!(rt; push(&mut framer, &SAMPLE[440..490]), Ok((50, None)));
+    assert_eq!(rt; framer.missing(), 6);
+    assert_eq!(rt; push(&mut framer, &SAMPLE[490..496]), Ok((6, Some(3))));
+    assert_eq!(rt; framer.missing(), 0);
+}
+
 /// A column of 64 bits with a sign.
 fn int64(alloc: Global, name: &str) -> Result<LogicalField, AllocError> {
     let width = IntWidth::Bits64;

@@ -18,6 +18,7 @@ mod LightRows
 mod HeldRows
 mod AppendedBatches
 mod BatchKeys
+mod SingleKeys
 mod Results
 mod LiveNumbers
 mod ListedNumbers
@@ -43,6 +44,7 @@ mod MergedChunks
 mod Tails
 mod GatheredRows
 mod Weighed
+mod WeighedCells
 mod Trees
 mod GoneRows
 mod TakenApart

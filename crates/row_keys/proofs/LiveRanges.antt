@@ -1,12 +1,12 @@
 -- Where the live rows of a store lie.
-use Rattle.std.proofs.Common.{◌≡◌, ℕ, ◌+◌, ◌<◌, All, true, List, [], ◌∷◌, get_or, length, map, refl, ap, ap₂, ◌∙◌, arith}
+use Rattle.std.proofs.Common.{◌≡◌, ℕ, ◌<◌, All, true, List, [], ◌∷◌, get_or, length, map, refl, ap, ap₂, ◌∙◌, arith}
 use Rattle.std.proofs.lemmas.List.Elements.{All-head, All-tail, All-weaker}
 use Rattle.std.proofs.lemmas.Option.{slice_get_within}
 use Rattle.values.specs.Datum.{Datum}
 use Rattle.view_lang.specs.Config.{Table}
 use Rattle.view_lang.specs.Rows.{IsRow}
 use Rattle.row_keys.specs.Numbers.{Numbered}
-use Rattle.row_keys.specs.Slots.{Slot, no_slot, row_of}
+use Rattle.row_keys.specs.Slots.{no_slot, row_of}
 use Rattle.row_keys.specs.Stored.{IsStored, joined}
 use Rattle.row_keys.proofs.HeldRows.{rows_right}
 use Rattle.row_keys.proofs.LiveRows.{held_long, live_row_is, live_within}

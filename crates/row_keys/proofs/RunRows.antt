@@ -1,7 +1,7 @@
 -- Rows that lie one after the other in a chunk.
 use Rattle.std.proofs.Common.{◌≡◌, ℕ, zero, suc, ◌+◌, ◌-◌, ◌<◌, ◌≤◌, All, Bool, true, false, Some, List, [], ◌∷◌, ◌++◌, drop, get_or, length, length-drop, take, refl, ap, ap₂, sym, subst, ◌∙◌, append_assoc, append-nil, arith}
 use Rattle.std.specs.Prelude.{if◌then◌else◌, map, slice_get}
-use Rattle.std.proofs.lemmas.List.{drop_all, get_or-drop, length-map, map-append, take_all, take_more}
+use Rattle.std.proofs.lemmas.List.{get_or-drop, map-append, take_all, take_more}
 use Rattle.std.proofs.lemmas.List.Concat.{flat_map-append}
 use Rattle.std.proofs.lemmas.List.Elements.{All-append, All-cons, All-nil}
 use Rattle.std.proofs.lemmas.Option.{none-some, get_or_from_slice_get}

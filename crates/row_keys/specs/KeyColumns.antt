@@ -52,3 +52,7 @@ RefusesKeys cells old (fault.Unfit unfit.DuplicateKey) =
     (has_null cells ≡ false) × ((has_repeated cells || any_among cells (live_keys old)) ≡ true)
 RefusesKeys cells old fault.Memory = Unit {0}
 RefusesKeys cells old _ = ⊥
+
+-- Keys that can be those of rows, in a table that has no others.
+abbrev pub StandAlone : List Datum → Type 0
+StandAlone cells = (rows : List Numbered) × PushesKeys cells [] rows

@@ -1,7 +1,7 @@
 -- The rows of chunks that are left, with their numbers, and a chunk that is made of them.
-use Rattle.std.specs.Prelude.{◌≡◌, ◌⊎◌, ℕ, ◌+◌, ◌-◌, ◌^◌, ◌<◌, ◌≤◌, Bool, false, if◌then◌else◌, All, List, [], ◌∷◌, ◌++◌, Some, drop, get_or, length, replicate, slice_get, take}
+use Rattle.std.specs.Prelude.{◌≡◌, ◌⊎◌, ℕ, ◌+◌, ◌-◌, ◌^◌, ◌<◌, ◌≤◌, Bool, false, if◌then◌else◌, All, List, [], ◌∷◌, ◌++◌, None, Option, Some, drop, get_or, length, replicate, slice_get, take}
 use Rattle.std.specs.List.{flat_map}
-use Rattle.values.specs.Datum.{Datum, items_of}
+use Rattle.values.specs.Datum.{Datum, bytes, items_of, list, null, structure, text, truth, whole}
 use Rattle.values.specs.Layouts.{HoldsEach}
 use Rattle.values.specs.Rose.{Roses}
 use Rattle.values.specs.declared.layout.Layout.{Layout}
@@ -58,6 +58,16 @@ IsPart cs = (from : ℕ) × (len : ℕ) × AreChunks from cs len × (len < 2 ^ 6
 
 abbrev pub IsWide : ℕ → Chunk → Type 0
 IsWide w c = length c.columns ≡ w
+
+-- how many bytes a cell has beyond its slot: none is told of a list or a struct
+abbrev pub bytes_beyond : Datum → Option ℕ
+bytes_beyond null = Some 0
+bytes_beyond (truth b) = Some 0
+bytes_beyond (whole z) = Some 0
+bytes_beyond (text b) = Some (length b)
+bytes_beyond (bytes b) = Some (length b)
+bytes_beyond (list es) = None
+bytes_beyond (structure es) = None
 
 -- w is at least so much, unless it is the greatest number
 abbrev pub Bounds : ℕ → ℕ → Type 0

@@ -8,7 +8,7 @@ ghost use Rattle.view_lang.specs.Contents.{keys_in};
 ghost use Rattle.view_lang.specs.TableRules.{IsTable};
 ghost use Rattle.row_keys.specs.Batches.{IsBatch, batch_rows};
 ghost use Rattle.row_keys.specs.Found.{FindsAll, MissesKey, known_keys};
-ghost use Rattle.row_keys.specs.KeyColumns.{HoldsKeys, PushesKey, PushesKeys, RefusesKey, RefusesKeys};
+ghost use Rattle.row_keys.specs.KeyColumns.{HoldsKeys, PushesKey, PushesKeys, RefusesKey, RefusesKeys, StandAlone};
 
 use crate::faults::EditFault;
 use crate::numbers::Numbers;
@@ -118,6 +118,35 @@ pub(crate) fn push_keys(
     Ok(())
 }
 
+/// Whether a key that stands alone is null: `NullKey`. It takes no memory.
+#[tactic(auto, using(crate::proofs::KeysOfBatch::nulls))]
+fn check_one(column: &Column) -> Result<(), EditFault>
+    requires one { length column.now.cells ≡ 1 }
+    requires keys { HoldsKeys column.now.layouts }
+    ensures pushed { OnOk result (StandAlone column.now.cells) }
+    ensures refused { IfErr result (RefusesKeys column.now.cells []) }
+{
+    column.law();
+    if column.is_null(0) {
+        return Err(EditFault::Unfit(Unfit::NullKey));
+    }
+    Ok(())
+}
+
+/// Whether the keys of a column can be those of rows: `NullKey` where one is null, `DuplicateKey` where one stands
+/// twice.
+pub(crate) fn check_keys(alloc: Global, column: &Column) -> Result<(), EditFault>
+    requires { HoldsKeys column.now.layouts }
+    ensures pushed { OnOk result (StandAlone column.now.cells) }
+    ensures refused { IfErr result (RefusesKeys column.now.cells []) }
+{
+    if column.len() == 1 {
+        return check_one(column);
+    }
+    let mut seen = Numbers::new(alloc);
+    push_keys(alloc, column, &mut seen)
+}
+
 /// Adds a live row for each row of a batch, by its key, as `push_keys` does.
 pub(crate) fn push_batch(
     alloc: Global,
@@ -177,6 +206,21 @@ fn find_known(alloc: Global, column: &Column, numbers: &Numbers) -> Result<Vec<u
     Ok(found)
 }
 
+/// Whether the keys of a batch's rows can be those of rows, as `check_keys` has it.
+fn check_batch(
+    alloc: Global,
+    table: &Table,
+    columns: &[Column],
+    rows: usize,
+) -> Result<(), EditFault>
+    requires table { IsTable table.now }
+    requires batch { IsBatch table.now rows columns.now }
+    ensures pushed { OnOk result (StandAlone (keys_in table.now (batch_rows rows columns.now))) }
+    ensures refused { IfErr result (RefusesKeys (keys_in table.now (batch_rows rows columns.now)) []) }
+{
+    check_keys(alloc, &columns[table.key])
+}
+
 /// The numbers of the live rows with the keys of a batch's rows: `NullKey` where a key is null, `DuplicateKey` where
 /// one stands twice.
 pub(crate) fn find_batch(
@@ -193,7 +237,6 @@ pub(crate) fn find_batch(
     ensures single { OnOk result (has_repeated (keys_in table.now (batch_rows rows columns.now)) ≡ false) }
     ensures refused { IfErr result (RefusesKeys (keys_in table.now (batch_rows rows columns.now)) []) }
 {
-    let mut seen = Numbers::new(alloc);
-    push_batch(alloc, table, columns, rows, &mut seen)?;
+    check_batch(alloc, table, columns, rows)?;
     Ok(find_known(alloc, &columns[table.key], numbers)?)
 }

@@ -48,14 +48,14 @@ ghost use Rattle.row_keys.specs.RowsLeft.{
   unflagged,
 };
 
-use crate::batches::read_row;
 use crate::stored_chunk::{StoredChunk, flags};
+use crate::weighing::weigh_row;
 use arrays::Column;
 use body_writer::{Batch, RowRange};
 use column_merge::merge_rows;
 use std::alloc::{AllocError, Global};
+use values::LayoutTree;
 use values::limits::{MAX_BATCH_ROWS, MAX_BATCH_WEIGHT};
-use values::{LayoutTree, row_weight};
 
 /// The bytes that a chunk takes besides its rows, about.
 const CHUNK_WEIGHT: u64 = 512;
@@ -218,8 +218,7 @@ fn weigh_range(alloc: Global, layouts: &[LayoutTree], range: &RowRange) -> Resul
 {
     let mut sum = 0u64;
     for index in range.from..range.to {
-        let row = read_row(alloc, &range.batch.columns, index)?;
-        sum = sum.saturating_add(row_weight(layouts, &row));
+        sum = sum.saturating_add(weigh_row(alloc, layouts, &range.batch.columns, index)?);
     }
     Ok(sum)
 }

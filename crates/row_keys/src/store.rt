@@ -76,7 +76,7 @@ ghost use Rattle.row_keys.specs.Store.{
 
 use crate::batches::keep_rows;
 use crate::faults::EditFault;
-use crate::key_columns::{find_batch, find_keys, push_batch, push_keys};
+use crate::key_columns::{check_keys, find_batch, find_keys, push_batch};
 use crate::layouts::table_layouts;
 use crate::numbers::Numbers;
 use crate::parts::{StoreParts, make_numbers, renumbered};
@@ -379,8 +379,7 @@ impl RowStore {
             (Refuses (cause_of self.now.table (contents_of self.now.slots) (retract keys.now.cells))) }
     {
         let _table = &self.table;
-        let mut seen = Numbers::new(self.alloc);
-        match push_keys(self.alloc, keys, &mut seen) {
+        match check_keys(self.alloc, keys) {
             Ok(()) => find_keys(self.alloc, keys, &self.numbers),
             Err(fault) => Err(fault),
         }

@@ -102,6 +102,23 @@ fn r3_bytes(rt: HostRuntime) {
     }
 }
 
+/// How much of a message is missing, once its metadata is there.
+#[test]
+fn r3_missing(rt: HostRuntime) {
+    let mut feed = Feed::open(rt.alloc(), None);
+    assert_eq!(rt;
+        tells(&rt, &mut feed, &SAMPLE),
+        Ok((232, EventKind::Schema))
+    );
+    for (from, to, missing) in [(232, 439, 0), (439, 440, 56), (440, 490, 6)] {
+        let came = tells(&rt, &mut feed, &SAMPLE[from..to]);
+        assert_eq!(rt; came, Ok((to - from, EventKind::Nothing)));
+        assert_eq!(rt; feed.missing(), missing);
+    }
+    assert!(rt; tells(&rt, &mut feed, &SAMPLE[490..]).is_ok());
+    assert_eq!(rt; feed.missing(), 0);
+}
+
 /// The end of the input inside a message.
 #[test]
 fn r3_truncated(rt: HostRuntime) {

@@ -1,6 +1,6 @@
 -- What a cell that is seen where it lies is read as.
 use Rattle.std.specs.Prelude.{ℕ, ◌+◌, ◌-◌, ◌≤◌, List, [], Ok, Err, get_or}
-use Rattle.values.specs.Datum.{Datum, null, truth, whole, text, bytes, list, structure, items_of}
+use Rattle.values.specs.Datum.{Datum, Items, null, truth, whole, text, bytes, list, structure, items_of}
 use Rattle.values.specs.Reading.{Reading, IsValid, each}
 use Rattle.values.specs.Rose.{Rose, Roses, kids_of}
 use Rattle.values.specs.declared.layout.Layout.TheVariants.{Struct as Structs}
@@ -8,6 +8,7 @@ use Rattle.array_layout.specs.declared.array.ArrayData.{ArrayData}
 use Rattle.array_layout.specs.Cells.{cell, len_of, list_of, row, structure_of}
 use Rattle.array_layout.specs.Sound.{AreLong, AreSound, IsSound}
 use Rattle.arrays.specs.Checked.{CheckedColumn}
+use Rattle.showing.specs.declared.cell.Items.{Items as Slots}
 use Rattle.showing.specs.declared.cell.Cell.{Cell}
 use Rattle.showing.specs.declared.cell.Cell.TheVariants.{
   Null,
@@ -51,6 +52,13 @@ values_of (Err fs) = []
 
 abbrev pub seen : Cell → Datum
 seen c = value_of (shown c)
+
+-- the items of a list that lies in an array, and the cells of a struct that lie in arrays
+abbrev pub items_in : Slots → Items
+items_in s = items_of (values_of (each (cell s.body.now s.array.now) s.from (s.to - s.from)))
+
+abbrev pub row_items : List ℕ → Roses ArrayData → ℕ → Items
+row_items body arrays i = items_of (values_of (row body arrays i))
 
 -- the cell of a column at a place
 abbrev pub cell_in : CheckedColumn → ℕ → Datum

@@ -157,6 +157,10 @@ AreNameWidths (f ∷ fs) (w ∷ ws) = IsNameWidth f w × AreNameWidths fs ws
 abbrev pub IsAsWide : Rose Entry → Datum → ℕ → ℕ → Type 0
 IsAsWide f d w v = (w ≤ v) × ((v ≡ w) ⊎ (v ≡ width_of (cell_text f d)))
 
+-- how many rows of a batch are measured
+abbrev pub measured_rows : ℕ
+measured_rows = 1024
+
 -- A column is no narrower than it was, and if it is wider, as wide as one of its first cells.
 abbrev pub IsWider : Rose Entry → CheckedColumn → ℕ → ℕ → ℕ → Type 0
 IsWider f c rows w v = (w ≤ v) × ((v ≡ w) ⊎ ((i : ℕ) × (i < rows) × (v ≡ width_of (cell_text f (cell_in c i)))))

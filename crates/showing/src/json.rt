@@ -6,13 +6,11 @@ ghost use Rattle.std.specs.Prelude.{◌≡◌, ◌++◌, ◌-◌, ◌∷◌, [],
 ghost use Rattle.std.specs.Io.KnownBytes.{Appends};
 ghost use Rattle.std.specs.Str.{chars};
 ghost use Rattle.values.specs.Datum.{items_of};
-ghost use Rattle.values.specs.Reading.{each};
 ghost use Rattle.values.specs.Rose.{kids_of, more, none};
-ghost use Rattle.array_layout.specs.Cells.{cell, row};
 ghost use Rattle.showing.specs.Digits.{hex_text};
 ghost use Rattle.showing.specs.Joined.{joined};
 ghost use Rattle.showing.specs.Json.{four_digits, items_of_first, json, json_char, json_number, json_string, members};
-ghost use Rattle.showing.specs.Shown.{AreItems, AreMembers, IsReadable, seen, values_of};
+ghost use Rattle.showing.specs.Shown.{AreItems, AreMembers, IsReadable, items_in, row_items, seen};
 
 use crate::cell::{Cell, Items, array_cell, value_cell};
 use crate::digits::write_hex;
@@ -133,9 +131,8 @@ pub(crate) fn write_json<W: Write>(
 fn write_list<W: Write>(out: &mut W, quote: &str, fields: &[Field], items: Items) -> io::Result<()>
     requires { AreItems items.body.now items.array.now items.from items.to }
     ensures { OnOk result (Appends (W.contents out.old) (W.contents out.new)
-        (codes "[" ++ (joined (codes ",") (items_of_first quote.now (kids_of fields.now) (items_of
-        (values_of (each (cell items.entry.body.now items.entry.array.now) items.entry.from
-        (items.entry.to - items.entry.from))))) ++ codes "]"))) }
+        (codes "[" ++ (joined (codes ",") (items_of_first quote.now (kids_of fields.now) (items_in items.entry))
+        ++ codes "]"))) }
 {
     let Some(field) = fields.first() else {
         return out.write_all(b"[]");
@@ -150,9 +147,7 @@ fn write_list<W: Write>(out: &mut W, quote: &str, fields: &[Field], items: Items
 fn write_items<W: Write>(out: &mut W, quote: &str, field: &Field, items: Items) -> io::Result<()>
     requires { AreItems items.body.now items.array.now items.from items.to }
     ensures { OnOk result (Appends (W.contents out.old) (W.contents out.new)
-        (joined (codes ",") (items_of_first quote.now (more field.now none) (items_of
-        (values_of (each (cell items.entry.body.now items.entry.array.now) items.entry.from
-        (items.entry.to - items.entry.from))))))) }
+        (joined (codes ",") (items_of_first quote.now (more field.now none) (items_in items.entry)))) }
 {
     let Items {
         body,
@@ -183,7 +178,7 @@ fn write_struct<W: Write>(
     requires { AreMembers body.now (kids_of arrays.now) at }
     ensures { OnOk result (Appends (W.contents out.old) (W.contents out.new)
         (codes "{" ++ (joined (codes ",") (members quote.now (kids_of fields.now)
-        (items_of (values_of (row body.now (kids_of arrays.now) at)))) ++ codes "}"))) }
+        (row_items body.now (kids_of arrays.now) at)) ++ codes "}"))) }
 {
     out.write_all(b"{")?;
     let mut arrays = arrays;

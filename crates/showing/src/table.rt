@@ -33,6 +33,7 @@ ghost use Rattle.showing.specs.Tables.{
   cell_text,
   count_line,
   is_right,
+  measured_rows,
   name_slot,
   rule,
   text_slot,
@@ -62,7 +63,7 @@ const BAR: &str = " | ";
 const CROSS: &str = "-+-";
 
 /// How many rows of a batch are measured.
-const MEASURED: usize = 1024;
+const MEASURED_ROWS: usize = 1024;
 
 /// Writes a cell for a terminal.
 fn write_cell<W: Write>(out: &mut W, field: &Field, cell: Cell) -> io::Result<()>
@@ -242,13 +243,13 @@ impl Table {
     /// Widens the columns for the first `rows` cells of each, but of no more than 1,024.
     pub fn measure(&mut self, fields: &[Field], columns: &[Column], rows: usize)
         requires { All (λ c. rows ≤ length c.cells) columns.now }
-        ensures { AreWider fields.now columns.now (min rows 1024) self.old.widths.items self.new.widths.items }
+        ensures { AreWider fields.now columns.now (min rows measured_rows) self.old.widths.items self.new.widths.items }
     {
         for (place, column) in columns.iter().enumerate() {
             let Some(field) = fields.get(place) else {
                 break;
             };
-            self.widen(place, field, column, rows.min(MEASURED));
+            self.widen(place, field, column, rows.min(MEASURED_ROWS));
         }
     }
 

@@ -1,22 +1,5 @@
 -- A table of which rows are gone that aren't live: views are made of what they were made of.
-use Rattle.std.proofs.Common.{
-  ◌≡◌,
-  ℕ,
-  zero,
-  suc,
-  ◌<◌,
-  List,
-  [],
-  ◌∷◌,
-  arith,
-  length,
-  map,
-  refl,
-  ap,
-  subst,
-  sym,
-  ◌∙◌,
-}
+use Rattle.std.proofs.Common.{◌≡◌, ℕ, zero, suc, ◌<◌, List, [], ◌∷◌, length, refl, ap, subst, sym, ◌∙◌}
 use Rattle.std.specs.Prelude.{get_or, slice_set}
 use Rattle.view_lang.specs.Config.{Table, View}
 use Rattle.view_lang.specs.Shifts.{NumberedRows}

@@ -2,6 +2,8 @@
 use Rattle.std.proofs.Common.{
   ◌≡◌,
   ℕ,
+  [],
+  ◌∷◌,
   ◌+◌,
   ◌*◌,
   ◌-◌,
@@ -32,6 +34,13 @@ pub last_named :
     → numbers ≡ last_numbers count (rows_at (rows_in stores) 0)
 last_named stores s count numbers at main named =
     named ∙ ap (λ (slots : List Slot). last_numbers count slots) (sym (rows_there stores 0 s at main))
+
+-- the last row alone
+pub last_one : (stores : List Store) (s : Store) (count first : ℕ) → s ≡ get_or stores 0 s → 0 < length stores → count ≡ 1
+    → first ≡ length s.slots - count → first ∷ [] ≡ last_numbers count (rows_at (rows_in stores) 0)
+last_one stores s count first at main one is =
+    last_named stores s count (first ∷ []) at main
+    (ap (λ n. n ∷ []) is ∙ sym (ap (λ n. range_with_len (length s.slots - count) n) one))
 
 pub last_many : (count : ℕ) (slots : List Slot) (numbers : List ℕ) → numbers ≡ last_numbers count slots
     → length numbers ≡ count

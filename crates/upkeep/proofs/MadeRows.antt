@@ -31,31 +31,24 @@ use Rattle.std.proofs.Common.{
   ◌∙◌,
   arith,
 }
-use Rattle.std.specs.Prelude.{Vec, filter}
-use Rattle.std.specs.declared.alloc.Global.{Global}
 use Rattle.std.specs.List.{AllByRecursion, cons_option}
 use Rattle.std.specs.Map.{values_of}
 use Rattle.std.specs.Option.{option_and_then, unwrap_or}
-use Rattle.std.proofs.lemmas.List.{length-map, take_all, take_more}
+use Rattle.std.proofs.lemmas.List.{take_all, take_more}
 use Rattle.std.proofs.lemmas.List.Elements.{All-cons, All-nil, All-weaker, filter_map-append}
 use Rattle.values.specs.Datum.{Datum}
 use Rattle.values.specs.Limits.{max_main_rows}
-use Rattle.view_lang.specs.Cells.{rows_of}
 use Rattle.view_lang.specs.Config.{Table, View}
-use Rattle.view_lang.specs.Filter.{Filter}
-use Rattle.view_lang.specs.Groups.{group_rows}
 use Rattle.view_lang.specs.Images.{ImageAt, ImageFits, ImageValues, image}
 use Rattle.view_lang.specs.Joined.{Side}
 use Rattle.view_lang.specs.Laws.{Viewed, ViewsCanSum, ViewsHaveFewRows, ViewsOrderKeys, ViewsUseKeys}
-use Rattle.view_lang.specs.Outputs.{GroupOutput, Outputs, columns, groups}
+use Rattle.view_lang.specs.Outputs.{Outputs, columns, groups}
 use Rattle.view_lang.specs.RowOrder.{row_cmp}
 use Rattle.view_lang.specs.Shifts.{NumberedRows, row_at}
 use Rattle.view_lang.specs.Sorted.{sorted}
 use Rattle.view_lang.specs.Sums.{CanSum}
-use Rattle.view_lang.specs.Truth.{passes}
 use Rattle.view_lang.specs.ViewLaws.{KeptOneByOne, ShownOneByOne}
 use Rattle.view_lang.specs.Views.{first_of, kept_row, output_rows, shown_row, shown_rows, view_input, view_rows}
-use Rattle.view_lang.specs.declared.view.OrderBy.{OrderBy}
 use Rattle.group_order.specs.Ranked.{Keeps as KeepsRanked, Ranked, Ranking, ranked_rows, ranking_by}
 use Rattle.group_state.specs.Reading.{CanReadAll}
 use Rattle.top_rows.specs.Keeping.{Keeps as KeepsOrder}

@@ -1,52 +1,19 @@
 -- Views that show columns of the main table as they are stored.
-use Rattle.std.proofs.Common.{
-  ◌≡◌,
-  ℕ,
-  zero,
-  suc,
-  ◌+◌,
-  ◌<◌,
-  ◌≤◌,
-  All,
-  Bool,
-  true,
-  false,
-  List,
-  [],
-  ◌∷◌,
-  ◌++◌,
-  Option,
-  None,
-  Some,
-  filter_map,
-  get_or,
-  length,
-  map,
-  refl,
-  ap,
-  ap₂,
-  sym,
-  subst,
-  ◌∙◌,
-  arith,
-}
-use Rattle.std.specs.Prelude.{cond, if◌then◌else◌}
+use Rattle.std.proofs.Common.{◌≡◌, ℕ, zero, suc, ◌<◌, All, Bool, true, false, List, [], ◌∷◌, ◌++◌, Option, None, Some, get_or, length, map, refl, ap, ap₂, sym, subst, ◌∙◌, arith}
+use Rattle.std.specs.Prelude.{cond}
 use Rattle.std.specs.List.{cons_option}
 use Rattle.std.specs.Option.{option_and_then, option_map}
-use Rattle.std.proofs.lemmas.List.Elements.{All-cons, All-head, All-map, All-nil, All-tail}
-use Rattle.values.specs.Datum.{Datum, items_of, null}
-use Rattle.values.specs.Layouts.{HoldsEach}
-use Rattle.values.specs.Logical.{NamedType, trees_of}
-use Rattle.values.specs.Rose.{Rose, kids_of}
+use Rattle.std.proofs.lemmas.List.Elements.{All-head, All-map, All-tail}
+use Rattle.values.specs.Datum.{Datum, null}
 use Rattle.body_writer.specs.Picked.{picked, picked_rows}
 use Rattle.view_lang.specs.Config.{Table, View}
-use Rattle.view_lang.specs.Joined.{Side, joined_by, joined_row, looked_up, or_missing}
+use Rattle.view_lang.specs.Joined.{Side, joined_row, looked_up, or_missing}
 use Rattle.view_lang.specs.Outputs.{Output, Outputs, columns, groups}
 use Rattle.view_lang.specs.Rows.{IsRow}
 use Rattle.view_lang.specs.Truth.{passes}
 use Rattle.view_lang.specs.Views.{kept_row, shown_row, view_rows}
 use Rattle.view_lang.specs.declared.view.Lookup.{Lookup}
-use Rattle.row_keys.specs.Slots.{Slot, live, no_slot, row_of}
+use Rattle.row_keys.specs.Slots.{Slot, live, row_of}
 use Rattle.row_keys.proofs.LiveRows.{held_long, live_row_is}
 use Rattle.row_keys.specs.Store.{Store, live_in}
 use Rattle.upkeep.specs.Inputs.{side_by}

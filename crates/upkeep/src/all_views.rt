@@ -22,6 +22,7 @@ ghost use Rattle.std.specs.Prelude.{
   true,
 };
 ghost use Rattle.values.specs.Limits.{max_main_rows};
+ghost use Rattle.row_keys.specs.Slots.{last_numbers};
 ghost use Rattle.view_lang.specs.Config.{Table};
 ghost use Rattle.view_lang.specs.Shifts.{Fits, IsFew, NumberedRows, patched};
 ghost use Rattle.upkeep.specs.Arrivals.{EachTells, last_rows, rows_of_numbers};
@@ -188,6 +189,41 @@ pub(crate) fn numbers_from(
     Ok(numbers)
 }
 
+/// Brings what is kept of the views up to the last rows of the main table, which come or go: these are their numbers.
+/// After an error all are stale.
+fn follow_these(
+    alloc: Global,
+    stores: &mut Vec<RowStore>,
+    views: &[View],
+    states: &mut Vec<ViewState>,
+    turn: Turn,
+    count: usize,
+    numbers: &[usize],
+    arrivals: &[Option<Arrival>],
+) -> Result<(), AllocError>
+    requires these { AreOf stores.old.items views.now }
+    requires last { numbers.now ≡ last_numbers count (rows_at (rows_in stores.old.items) 0) }
+    requires there { count ≤ length (rows_at (rows_in stores.old.items) 0) }
+    requires known { EachTells views.now (last_rows count (rows_at (rows_in stores.old.items) 0)) arrivals.now }
+    requires fits { (rows : NumberedRows)
+        × (EachIsCurrent (tables_in stores.old.items) (rows_in stores.old.items) rows views.now states.old.items
+        × (Fits rows (turned_last turn (rows_at (rows_in stores.old.items) 0) count)
+        × (length rows ≤ max_main_rows))) }
+    ensures kept { OnOk result ((rows : NumberedRows)
+        → Fits rows (turned_last turn (rows_at (rows_in stores.old.items) 0) count)
+        → EachIsCurrent (tables_in stores.old.items) (rows_in stores.old.items) rows views.now states.old.items
+        → EachIsCurrent (tables_in stores.old.items) (rows_in stores.old.items)
+        (patched rows (turned_last turn (rows_at (rows_in stores.old.items) 0) count)) views.now states.new.items) }
+    ensures stale { OnOk result (stale_in states.new.items ≡ stale_in states.old.items) }
+    ensures err { OnErr result ((tables : List Table) → (rows : Rows) → (live : NumberedRows)
+        → EachIsCurrent tables rows live views.now states.new.items) }
+    ensures tables { tables_in stores.new.items ≡ tables_in stores.old.items }
+    ensures rows { rows_in stores.new.items ≡ rows_in stores.old.items }
+    ensures visits { visits_in stores.new.items ≤ visits_in stores.old.items + length views.now * count }
+{
+    follow_all(alloc, stores, views, states, turn, numbers, arrivals)
+}
+
 /// Brings what is kept of the views up to the last rows of the main table, which come or go. After an error all are
 /// stale.
 pub(crate) fn follow_last(
@@ -219,8 +255,23 @@ pub(crate) fn follow_last(
     ensures visits { visits_in stores.new.items ≤ visits_in stores.old.items + length views.now * count }
 {
     let first = stores[0].appended() - count;
+    // One number takes no memory.
+    if count == 1 {
+        return follow_these(
+            alloc,
+            stores,
+            views,
+            states,
+            turn,
+            count,
+            &[first],
+            arrivals,
+        );
+    }
     match numbers_from(alloc, first, count) {
-        Ok(numbers) => follow_all(alloc, stores, views, states, turn, &numbers, arrivals),
+        Ok(numbers) => follow_these(
+            alloc, stores, views, states, turn, count, &numbers, arrivals,
+        ),
         Err(refused) => {
             mark_all_stale(states);
             Err(refused)

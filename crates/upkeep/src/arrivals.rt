@@ -105,7 +105,17 @@ fn arrival_for(
     Ok(Some(Arrival { truths, looked_up }))
 }
 
-/// What the columns of a batch tell each view of its rows.
+/// Whether one of these views has a filter.
+fn have_filter(views: &[View]) -> bool {
+    for view in views {
+        if view.filter.is_some() {
+            return true;
+        }
+    }
+    false
+}
+
+/// What the columns of a batch tell each view of its rows; nothing, where no view has a filter.
 pub(crate) fn arrivals_for(
     alloc: Global,
     views: &[View],
@@ -117,6 +127,9 @@ pub(crate) fn arrivals_for(
     requires long { All (λ c. length c.cells ≡ rows) columns.now }
     ensures { IfOk result (λ arrivals. EachTells views.now (batch_rows rows columns.now) arrivals.items) }
 {
+    if !have_filter(views) {
+        return Ok(Vec::new(alloc));
+    }
     let mut arrivals = Vec::with_capacity(alloc, views.len())?;
     for place in 0..views.len() {
         let arrival = arrival_for(alloc, &views[place], &states[place], columns, rows)?;

@@ -43,6 +43,7 @@ fn place_of(number: usize, numbers: &[usize]) -> Option<usize>
     None
 }
 
+/// The column that the only one of some values names; `Shape` where they aren't one.
 #[tactic(auto, using(crate::proofs::Causes::causes))]
 pub(crate) fn sole_reference<'a>(
     scope: &Scope<'a>,
@@ -53,6 +54,7 @@ pub(crate) fn sole_reference<'a>(
     reference(scope, sole(values).ok_or(ConfigFault::Shape)?)
 }
 
+/// The same, where the column's values have an order; else `OrderType`.
 #[tactic(auto, using(crate::proofs::Causes::causes))]
 fn sole_ordered<'a>(
     scope: &Scope<'a>,
@@ -63,6 +65,7 @@ fn sole_ordered<'a>(
     ordered_reference(scope, sole(values).ok_or(ConfigFault::Shape)?)
 }
 
+/// The column of this number as a key of the groups; `UnknownName` where rows aren't grouped by it.
 fn key_of_group(by: &[usize], number: usize) -> Result<Aggregate, ConfigFault>
     ensures { Yields (λ a. a) result (key_of_group by.now number) }
 {
@@ -72,6 +75,7 @@ fn key_of_group(by: &[usize], number: usize) -> Result<Aggregate, ConfigFault>
     }
 }
 
+/// How many rows a group has, or, where the values name a column, how many of its cells aren't null.
 #[tactic(auto, using(crate::proofs::Causes::causes, crate::proofs::Arrays::counts))]
 fn count_by(scope: &Scope, values: &[Value]) -> Result<Aggregate, ConfigFault>
     ensures { Yields (λ a. a) result (count_by scope.now (items_view values.now)) }
@@ -95,6 +99,7 @@ fn can_be_summed(col_type: &ColType) -> bool
     }
 }
 
+/// The sum of a column; `SumType` where its values can't be summed.
 fn sum_of(number: usize, column: &LogicalField) -> Result<Aggregate, ConfigFault>
     ensures { Yields (λ a. a) result (sum_of_column (number, column.now)) }
 {

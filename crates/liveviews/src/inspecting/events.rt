@@ -13,7 +13,7 @@ ghost use Rattle.liveviews.specs.Lines.{ended_after, given_lines};
 use crate::files::FileFault;
 use crate::inspecting::lines::{is_ended, write_fed};
 use crate::laws::account_law;
-use crate::reading::pieces::{read_piece, room};
+use crate::reading::pieces::{next_piece, room};
 use feed::{Fed, Feed, cut_law, pieces_law};
 use std::alloc::{AllocError, Global};
 use std::io::Read;
@@ -109,9 +109,8 @@ impl Inspection {
         ensures { IfOk result (λ taken. OfSource (R.remaining source.old) (HasTaken self.new taken)) }
     {
         let mut room = room(alloc)?;
-        let room = room.as_mut_slice();
         for _ in 0..u64::MAX {
-            let len = read_piece(source, room)?;
+            let len = next_piece(source, &mut room, self.feed.missing())?;
             if len == 0 {
                 return Ok(Ok(()));
             }

@@ -1,10 +1,14 @@
-//! `check`: reads a configuration.
+//! Reads a configuration, and opens its session.
 
-ghost use Rattle.liveviews.specs.Check.{RefusesConfig, MeansConfig};
-ghost use Rattle.std.specs.Prelude.{◌≡◌, IfErr, IfOk};
+ghost use Rattle.liveviews.specs.Check.{ChecksFile, MeansConfig, RefusesConfig};
+ghost use Rattle.liveviews.specs.Program.{IsNoConfig, IsRefused};
+ghost use Rattle.std.specs.Prelude.{◌≡◌, IfErr, IfOk, length};
 ghost use Rattle.view_lang.specs.ConfigRules.{IsConfig};
 
 use crate::files::Files;
+use crate::program::opening::read_file;
+use crate::program::outcome::Refusal;
+use session::Session;
 use std::alloc::Global;
 use std::fmt;
 use values::Cause;
@@ -13,7 +17,7 @@ use view_lang::Config;
 
 /// Reads a configuration from the bytes of a file. The error is the cause of a fault of the text, `NotToml` also for
 /// bytes that aren't UTF-8, or `Memory`.
-pub(crate) fn parse_config(alloc: Global, bytes: &[u8]) -> Result<Config, Cause>
+fn parse_config(alloc: Global, bytes: &[u8]) -> Result<Config, Cause>
     ensures means { IfOk result (MeansConfig bytes.now) }
     ensures rules { IfOk result IsConfig }
     ensures refused { IfErr result (RefusesConfig bytes.now) }
@@ -43,13 +47,7 @@ impl fmt::Display for Explained<'_> {
 }
 
 /// Tells where the configuration in the file at `path` is refused, whose bytes these are, and what the cause says.
-pub(crate) fn explain<F: Files>(
-    alloc: Global,
-    path: &str,
-    bytes: &[u8],
-    cause: Cause,
-    files: &mut F,
-)
+fn explain<F: Files>(alloc: Global, path: &str, bytes: &[u8], cause: Cause, files: &mut F)
     ensures sunk { F.sunk files.new ≡ F.sunk files.old }
     ensures content { F.content files.new ≡ F.content files.old }
 {
@@ -58,4 +56,38 @@ pub(crate) fn explain<F: Files>(
         Err(_) => None,
     };
     files.remark(Explained { path, place, cause });
+}
+
+/// Reads the configuration at `path`. Where it is refused, the files are told where and why.
+pub(crate) fn read_config_file<'a, F: Files>(
+    alloc: Global,
+    path: &'a str,
+    files: &mut F,
+) -> Result<Config, Refusal<'a>>
+    ensures sunk { F.sunk files.new ≡ F.sunk files.old }
+    ensures means { IfOk result (λ c. ChecksFile (F.content files.old path.now) (length c.feeds) (length c.views)) }
+    ensures rules { IfOk result IsConfig }
+    ensures refused { IfErr result (IsNoConfig (F.content files.old path.now)) }
+{
+    let bytes = read_file(path, files)?;
+    match parse_config(alloc, &bytes) {
+        Ok(config) => Ok(config),
+        Err(cause) => {
+            explain(alloc, path, &bytes, cause, files);
+            Err(Refusal::Refused(cause))
+        }
+    }
+}
+
+/// Opens the session of the configuration at `config`.
+pub(crate) fn open_session<'a, F: Files>(
+    alloc: Global,
+    config: &'a str,
+    files: &mut F,
+) -> Result<Session, Refusal<'a>>
+    ensures sunk { F.sunk files.new ≡ F.sunk files.old }
+    ensures refused { IfErr result IsRefused }
+{
+    let config = read_config_file(alloc, config, files)?;
+    Ok(Session::open(alloc, config)?)
 }

@@ -1,55 +1,16 @@
-//! What comes of a command: what it prints, and its status; or why it is refused.
+//! Why a command is refused, and how the program ends then.
 
-ghost use Rattle.std.specs.Prelude.{◌≡◌};
-ghost use Rattle.liveviews.specs.Program.{refusal_after, refusal_for, status_after, status_of};
-ghost use Rattle.liveviews.specs.declared.program.outcome.Refusal.TheVariants.{CannotRead, CannotWrite};
+ghost use Rattle.std.specs.Prelude.{◌≡◌, ◌≤◌};
+ghost use Rattle.liveviews.specs.Program.{refusal_after, refusal_for, status_of};
+ghost use Rattle.liveviews.specs.declared.program.outcome.Refusal.TheVariants.{CannotRead, CannotWrite, WrongUse};
 
 use crate::files::FileFault;
-use crate::inspecting::events::Inspected;
 use crate::recasting::whole::SourceFault;
-use crate::scripting::lines::number;
 use clap::error::ErrorKind;
 use std::alloc::AllocError;
-use std::fmt;
 use std::io::Write;
 use thiserror::Error;
 use values::Cause;
-
-/// The outcome of a command.
-#[derive(Debug, Drop)]
-pub(crate) enum Outcome {
-    Inspected(Inspected),
-    Recast { written: u64 },
-    Checked { feeds: usize, views: usize },
-}
-
-impl Outcome {
-    /// The status with which the program ends.
-    pub(crate) fn status(&self) -> u8
-        ensures { result ≡ status_after self.now }
-    {
-        match self {
-            Outcome::Inspected(inspected) => inspected.status,
-            Outcome::Recast { .. } | Outcome::Checked { .. } => 0,
-        }
-    }
-}
-
-/// What `lv` prints.
-impl fmt::Display for Outcome {
-    ghost use Rattle.std.specs.Prelude.{Some};
-    ghost use Rattle.liveviews.specs.Program.{text_of};
-
-    ghost output = { λ o. Some (text_of o) };
-
-    fn fmt<W: fmt::Write>(&self, f: &mut fmt::Formatter<W>) -> fmt::Result {
-        match self {
-            Outcome::Inspected(inspected) => f.write_str(inspected.text.as_str()),
-            Outcome::Recast { written } => writeln!(f, "wrote {written}"),
-            Outcome::Checked { feeds, views } => writeln!(f, "ok: {feeds} feeds, {views} views"),
-        }
-    }
-}
 
 /// Why a command failed. Its text is the line that `lv` prints.
 #[derive(Debug, Drop, Error)]
@@ -123,5 +84,18 @@ impl<'a> From<clap::Error> for Refusal<'a> {
             ErrorKind::OutOfMemory => Refusal::Refused(Cause::Memory),
             _ => Refusal::WrongUse,
         }
+    }
+}
+
+/// Prints why a command is refused, and returns the program's exit status.
+pub(crate) fn refuse<W: Write>(refusal: Refusal, out: &mut W) -> u8
+    ensures refused { 1 ≤ result }
+    ensures wrong_use { result ≡ 2 → refusal.entry ≡ WrongUse }
+    ensures bound { result ≤ 2 }
+{
+    let status = refusal.status();
+    match writeln!(out, "{refusal}") {
+        Ok(()) => status,
+        Err(_) => 1,
     }
 }

@@ -38,7 +38,7 @@ ghost use Rattle.liveviews.specs.Streams.{
 use crate::files::FileFault;
 use crate::laws::recast_law;
 use crate::reading::next_message::{NextMessage, next_message};
-use crate::reading::pieces::{read_piece, room};
+use crate::reading::pieces::{next_piece, room};
 use crate::recasting::batch::{columns_law, heaviest_row};
 use crate::recasting::table::end;
 use crate::recasting::whole::{RecastFault, SourceFault};
@@ -236,9 +236,8 @@ fn take_source<R: Read, S: Sink>(
     let Ok(mut room) = room(alloc) else {
         return Err(SourceFault::Refused(streaming.fault(Cause::Memory)));
     };
-    let room = room.as_mut_slice();
     for _ in 0..u64::MAX {
-        let len = match read_piece(source, room) {
+        let len = match next_piece(source, &mut room, feed.missing()) {
             Ok(len) => len,
             Err(fault) => return Err(unread(streaming, fault)),
         };

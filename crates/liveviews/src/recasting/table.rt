@@ -20,7 +20,7 @@ ghost use Rattle.liveviews.specs.Steps.{
 
 use crate::files::FileFault;
 use crate::reading::next_message::{NextMessage, next_message};
-use crate::reading::pieces::{read_piece, room};
+use crate::reading::pieces::{next_piece, room};
 use crate::recasting::kept_batches::KeptBatches;
 use body_writer::Batch;
 use feed::{Feed, story_law};
@@ -100,9 +100,8 @@ fn take_source<R: Read>(
     ensures taken { IfOk result (λ all. OfSource (R.remaining source.old) (HasTakenAll feed.new rows.new all)) }
 {
     let mut room = room(alloc)?;
-    let room = room.as_mut_slice();
     for _ in 0..u64::MAX {
-        let len = read_piece(source, room)?;
+        let len = next_piece(source, &mut room, feed.missing())?;
         if len == 0 {
             return Ok(Ok(()));
         }

@@ -1,7 +1,7 @@
 use Rattle.std.proofs.Common.{◌∙◌, sym}
-use Rattle.group_order.proofs.OrderedGroups.{same-place}
+use Rattle.group_order.proofs.OrderedGroups.{same-keys}
 use Rattle.group_order.proofs.ranked.exchange.Goals as goal
 
 pub returns-then-eq : goal.returns-then-eq
 returns-then-eq c =
-    same-place c.args.before.now c.args.after c.args.places.now.keys (sym c.eq.ensures ∙ c.if-eq.true)
+    same-keys c.args.tuple c.args.before c.args.after c.args.places.now.keys (sym c.eq.ensures ∙ c.if-eq.true)

@@ -30,3 +30,6 @@ returns-clause-found c =
     (keys_of_rows c.args.table.now c.args.columns.now c.args.rows c.index-columns-table.result c.requires.table
     c.requires.batch
     (subst P c.table.view_is c.index-columns-table.is)) c.in_ok-find_known.ensures
+
+pub returns-clause-single : goal.returns-clause-single
+returns-clause-single c = c.in_ok-check_batch.ensures.pushed.1.single

@@ -1,11 +1,10 @@
-use Rattle.std.proofs.Common.{◌≡◌, ◌+◌, ◌-◌, ◌∙◌, ap, arith, subst, suc, sym}
+use Rattle.std.proofs.Common.{◌≡◌, ◌+◌, ◌-◌, ap, arith, subst, suc, sym}
 use Rattle.values.specs.Rose.{kids_of}
-use Rattle.values.specs.Weights.{saturated}
 use Rattle.schema_meta.specs.Rows.{row_at, rows_from}
 use Rattle.body_writer.specs.Batch.{row_weight, rows_weight}
 use Rattle.body_writer.specs.RowRanges.{cells_in, range_rows}
 use Rattle.row_keys.specs.RowsLeft.{Bounds}
-use Rattle.row_keys.proofs.Weighed.{WeighedTo, bound_saturated, range_is, rows_none, rows_split, weighed_first, weighed_more}
+use Rattle.row_keys.proofs.Weighed.{WeighedTo, range_is, rows_none, rows_split, weighed_first, weighed_more}
 use Rattle.row_keys.proofs.rewriting.weigh_range.Goals as goal
 
 pub loop-index-init : goal.loop-index-init
@@ -23,14 +22,11 @@ loop-index-preserved c =
     let below = c.loop-index-test.true in
     let more : left ≡ suc rest = omega (arith, below) in
     let total = rows_weight ls (range_rows c.args.range.now) in
-    let here : c.row_weight.result ≡ saturated (row_weight ls (row_at cells i)) =
-    c.row_weight.ensures
-    ∙ ap (λ row. saturated (row_weight ls row)) (c.deref-in-loop-index.ensures.value ∙ c.in_ok-row.ensures.row
-    ∙ ap (λ ks. row_at (cells_in ks) i) c.deref.ensures.value) in
-    let bound : Bounds c.row_weight.result (row_weight ls (row_at cells i)) =
-    subst (λ w. Bounds w (row_weight ls (row_at cells i))) (sym here) (bound_saturated (row_weight ls (row_at cells i))) in
+    let bound : Bounds c.in_ok-weigh_row.field-0 (row_weight ls (row_at cells i)) =
+    subst (λ ks. Bounds c.in_ok-weigh_row.field-0 (row_weight ls (row_at (cells_in ks) i))) c.deref.ensures.value
+    c.in_ok-weigh_row.ensures in
     subst (λ s. WeighedTo total s (rows_weight ls (rows_from cells (i + 1) rest))) (sym c.saturating_add-sum.ensures)
-    (weighed_more total c.loop-index.sum c.row_weight.result (rows_weight ls (rows_from cells i left))
+    (weighed_more total c.loop-index.sum c.in_ok-weigh_row.field-0 (rows_weight ls (rows_from cells i left))
     (row_weight ls (row_at cells i)) (rows_weight ls (rows_from cells (i + 1) rest)) bound
     (rows_split ls cells i left rest more) c.loop-index.invariant)
 

@@ -1,23 +1,4 @@
-use Rattle.std.proofs.Common.{
-  ◌≡◌,
-  Bool,
-  List,
-  [],
-  ◌∷◌,
-  None,
-  Some,
-  ap,
-  false,
-  get_or,
-  map,
-  not,
-  refl,
-  subst,
-  sym,
-  true,
-  true≢false,
-  ◌∙◌,
-}
+use Rattle.std.proofs.Common.{◌≡◌, Bool, List, [], ◌∷◌, None, ap, false, get_or, map, not, refl, subst, sym, true, true≢false, ◌∙◌}
 use Rattle.std.specs.Prelude.{slice_set}
 use Rattle.std.specs.Option.{option_copied, option_map}
 use Rattle.view_lang.specs.Images.{shift_image}

@@ -1,4 +1,4 @@
-use Rattle.std.proofs.Common.{◌<◌, ◌≤◌, ◌+◌, length, subst}
+use Rattle.std.proofs.Common.{◌≤◌, ◌+◌, subst}
 use Rattle.upkeep.specs.Stores.{visits_in}
 use Rattle.upkeep.proofs.reading.show_numbers.Goals as goal
 

@@ -1,4 +1,4 @@
-use Rattle.std.proofs.Common.{◌<◌, ◌≤◌, All, List, ap, arith, subst}
+use Rattle.std.proofs.Common.{◌<◌, All, List, ap, arith, subst}
 use Rattle.std.proofs.lemmas.List.{take_all}
 use Rattle.std.proofs.lemmas.List.Elements.{All-more}
 use Rattle.view_lang.specs.Outputs.{Output}

@@ -1,4 +1,4 @@
-use Rattle.std.proofs.Common.{◌≡◌, ap, sym, ◌∙◌}
+use Rattle.std.proofs.Common.{ap, sym, ◌∙◌}
 use Rattle.view_lang.specs.Cells.{rows_of}
 use Rattle.group_order.specs.Ranked.{Ranked, has_places}
 use Rattle.group_order.proofs.RankedRows.{first-unranked}

@@ -1,4 +1,3 @@
-use Rattle.std.proofs.Common.{◌≡◌, refl}
 use Rattle.group_order.proofs.RankedRows.{none-ranked}
 use Rattle.group_order.proofs.ranked.RankedGroups.new.Goals as goal
 

@@ -1,4 +1,4 @@
-use Rattle.std.proofs.Common.{ℕ, ◌<◌, List, ◌++◌, length}
+use Rattle.std.proofs.Common.{ℕ, List, ◌++◌}
 use Rattle.schema_meta.specs.Story.{story_of}
 use Rattle.liveviews.specs.Kept.{IsCounted}
 use Rattle.liveviews.specs.Source.{OfRead}
@@ -7,6 +7,6 @@ use Rattle.liveviews.proofs.recasting.table.take_source.Given as goal
 
 abbrev pub invariant-loop : goal.invariant-loop
 invariant-loop g l =
-    (0 < length l.room) × IsOpen l.feed × IsCounted l.rows
+    IsOpen l.feed × IsCounted l.rows
     × OfRead (g.R.Read.remaining l.initial.source) (g.R.Read.remaining l.source)
     (λ bytes. (later : List ℕ) → HasTaken (story_of (bytes ++ later)) l.feed l.rows later)

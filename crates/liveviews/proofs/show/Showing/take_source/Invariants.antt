@@ -1,4 +1,4 @@
-use Rattle.std.proofs.Common.{ℕ, ◌<◌, List, ◌++◌, length}
+use Rattle.std.proofs.Common.{ℕ, List, ◌++◌}
 use Rattle.liveviews.specs.Inspect.{account_of}
 use Rattle.liveviews.specs.Showing.{Remains}
 use Rattle.liveviews.specs.Source.{OfRead}
@@ -7,6 +7,6 @@ use Rattle.liveviews.proofs.show.Showing.take_source.Given as goal
 
 abbrev pub invariant-loop : goal.invariant-loop
 invariant-loop g l =
-    (0 < length l.room) × IsOpen l.self.feed
+    IsOpen l.self.feed
     × OfRead (g.R.Read.remaining l.initial.source) (g.R.Read.remaining l.source)
     (λ bytes. (later : List ℕ) → Remains (account_of (bytes ++ later)) l.self.feed later)

@@ -1,11 +1,9 @@
-use Rattle.std.proofs.Common.{◌≡◌, ℕ, List, [], None, Vec, subst}
+use Rattle.std.proofs.Common.{◌≡◌, ℕ, None, Vec, subst}
 use Rattle.std.specs.Prelude.{IfErr, IfOk, OnOk}
 use Rattle.std.specs.declared.alloc.Global.{Global}
 use Rattle.view_lang.specs.Causes.{cause_of}
 use Rattle.view_lang.specs.Edits.{retract}
 use Rattle.row_keys.specs.Found.{FindsAll, MissesKey}
-use Rattle.row_keys.specs.KeyColumns.{PushesKeys, RefusesKeys}
-use Rattle.row_keys.specs.Numbers.{Numbered}
 use Rattle.row_keys.specs.Slots.{CanRetract, keys_at, contents_of}
 use Rattle.row_keys.specs.Store.{Refuses, Store}
 use Rattle.row_keys.specs.Stored.{joined}
@@ -15,9 +13,7 @@ use Rattle.row_keys.proofs.store.RowStore.find_all.Goals as goal
 
 pub returns-in-Ok-clause-numbers : goal.returns-in-Ok-clause-numbers
 returns-in-Ok-clause-numbers c =
-    let K : List Numbered → Type 0 = λ xs. PushesKeys c.args.keys.now.cells xs c.push_keys.new.numbers in
-    let pushed : PushesKeys c.args.keys.now.cells [] c.push_keys.new.numbers =
-    subst K c.new-seen.ensures c.in-Ok.ensures.pushed in
+    let pushed = c.in-Ok.ensures.pushed.1 in
     let P : Store → Type 0 = λ s. IfOk c.find_keys.result (λ ns. CanRetract ns.items s.slots) in
     subst P c.self.view_is
     (if_ok (λ (ns : Vec ℕ Global). FindsAll c.args.keys.now.cells c.self.inside.numbers ns.items)
@@ -43,9 +39,8 @@ returns-in-Ok-clause-keys c =
 
 pub returns-in-Ok-clause-fits : goal.returns-in-Ok-clause-fits
 returns-in-Ok-clause-fits c =
-    let K : List Numbered → Type 0 = λ xs. PushesKeys c.args.keys.now.cells xs c.push_keys.new.numbers in
-    let pushed : PushesKeys c.args.keys.now.cells [] c.push_keys.new.numbers =
-    subst K c.new-seen.ensures c.in-Ok.ensures.pushed in
+    let rows = c.in-Ok.ensures.pushed.0 in
+    let pushed = c.in-Ok.ensures.pushed.1 in
     let P : Store
     → Type 0 =
     λ s. OnOk c.find_keys.result (cause_of s.table (contents_of s.slots) (retract c.args.keys.now.cells) ≡ None) in
@@ -55,14 +50,13 @@ returns-in-Ok-clause-fits c =
     (contents_of (joined c.self.inside.rows c.self.inside.numbers))
     (retract c.args.keys.now.cells) ≡ None) c.find_keys.result
     (λ ns h. found_fits c.self.inside.table c.self.inside.rows
-    c.self.inside.numbers c.push_keys.new.numbers c.args.keys.now.cells ns.items c.self.invariant pushed h)
+    c.self.inside.numbers rows c.args.keys.now.cells ns.items c.self.invariant pushed h)
     c.find_keys.ensures.found)
 
 pub returns-in-Ok-clause-refused : goal.returns-in-Ok-clause-refused
 returns-in-Ok-clause-refused c =
-    let K : List Numbered → Type 0 = λ xs. PushesKeys c.args.keys.now.cells xs c.push_keys.new.numbers in
-    let pushed : PushesKeys c.args.keys.now.cells [] c.push_keys.new.numbers =
-    subst K c.new-seen.ensures c.in-Ok.ensures.pushed in
+    let rows = c.in-Ok.ensures.pushed.0 in
+    let pushed = c.in-Ok.ensures.pushed.1 in
     let P : Store
     → Type 0 =
     λ s. IfErr c.find_keys.result (Refuses (cause_of s.table (contents_of s.slots) (retract c.args.keys.now.cells))) in
@@ -74,11 +68,10 @@ returns-in-Ok-clause-refused c =
     (retract c.args.keys.now.cells)))
     c.find_keys.result
     (λ e h. keys_unknown c.self.inside.table c.self.inside.rows
-    c.self.inside.numbers c.push_keys.new.numbers c.args.keys.now.cells e c.self.invariant pushed h)
+    c.self.inside.numbers rows c.args.keys.now.cells e c.self.invariant pushed h)
     c.find_keys.ensures.missed)
 
-pub returns-clause-refused : goal.returns-clause-refused
-returns-clause-refused c =
-    let K : List Numbered → Type 0 = λ xs. RefusesKeys c.args.keys.now.cells xs c.in-Err.fault in
+pub returns-in-Err-clause-refused : goal.returns-in-Err-clause-refused
+returns-in-Err-clause-refused c =
     keys_refused c.args.self.now.table (contents_of c.args.self.now.slots) c.args.keys.now.cells c.in-Err.fault
-    (subst K c.new-seen.ensures c.in-Err.ensures.refused)
+    c.in-Err.ensures.refused

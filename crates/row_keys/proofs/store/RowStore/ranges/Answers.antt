@@ -1,7 +1,6 @@
 use Rattle.std.proofs.Common.{◌≡◌, ◌<◌, ◌∙◌, All, List, [], ap, get_or, length, map, subst, sym, true, ℕ}
-use Rattle.std.specs.Prelude.{IfOk}
 use Rattle.std.proofs.lemmas.Result.{IfOk-weaker}
-use Rattle.body_writer.specs.RowRanges.{IsRange, ranges_rows}
+use Rattle.body_writer.specs.RowRanges.{IsRange}
 use Rattle.row_keys.specs.Slots.{no_slot, row_of}
 use Rattle.row_keys.specs.Store.{Store}
 use Rattle.row_keys.proofs.LiveRanges.{live_kept, live_mapped, live_wide}

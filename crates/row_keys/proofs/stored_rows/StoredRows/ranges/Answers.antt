@@ -1,7 +1,6 @@
-use Rattle.std.proofs.Common.{◌≡◌, ◌<◌, ◌∙◌, All, List, [], ap, arith, get_or, length, map, subst, sym, ℕ}
+use Rattle.std.proofs.Common.{◌≡◌, ◌<◌, ◌∙◌, All, List, [], ap, arith, get_or, length, map, subst, sym}
 use Rattle.std.proofs.lemmas.Result.{IfOk-weaker}
 use Rattle.std.proofs.lemmas.List.Elements.{All-weaker}
-use Rattle.body_writer.specs.RowRanges.{IsRange}
 use Rattle.row_keys.specs.Chunks.{AreChunks, Chunk, row_in}
 use Rattle.row_keys.proofs.RunRows.{mapped_as, stored_as}
 use Rattle.row_keys.proofs.stored_rows.StoredRows.ranges.Goals as goal

@@ -1,4 +1,4 @@
-use Rattle.std.proofs.Common.{◌<◌, ℕ, List, ap, arith, length, subst, sym, ◌∙◌}
+use Rattle.std.proofs.Common.{◌<◌, ℕ, List, ap, arith, length, subst, sym}
 use Rattle.std.proofs.lemmas.List.{length-set}
 use Rattle.std.proofs.lemmas.Result.{err_from_is_err_and}
 use Rattle.std.specs.Prelude.{slice_set}

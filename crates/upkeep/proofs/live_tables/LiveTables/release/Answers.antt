@@ -3,7 +3,7 @@ use Rattle.row_keys.specs.Slots.{AllOut}
 use Rattle.upkeep.specs.LiveParts.{LiveParts}
 use Rattle.upkeep.specs.Stores.{rows_at, rows_in, tables_in}
 use Rattle.upkeep.specs.TableChanges.{released_at, restores}
-use Rattle.upkeep.proofs.GoneRows.{live_released, out_there, rows_released, tables_same, visits_released}
+use Rattle.upkeep.proofs.GoneRows.{live_released, out_there, rows_released, tables_same}
 use Rattle.upkeep.proofs.live_tables.LiveTables.release.Goals as goal
 
 pub release-requires : goal.release-requires

@@ -1,4 +1,4 @@
-use Rattle.std.proofs.Common.{ℕ, ◌<◌, List, ◌++◌, length}
+use Rattle.std.proofs.Common.{ℕ, List, ◌++◌}
 use Rattle.liveviews.specs.Inspect.{account_of}
 use Rattle.liveviews.specs.Inspecting.{IsLeft}
 use Rattle.liveviews.specs.Source.{OfRead}
@@ -6,6 +6,5 @@ use Rattle.liveviews.proofs.inspecting.events.Inspection.take_source.Given as go
 
 abbrev pub invariant-loop : goal.invariant-loop
 invariant-loop g l =
-    (0 < length l.room)
-    × OfRead (g.R.Read.remaining l.initial.source) (g.R.Read.remaining l.source)
+    OfRead (g.R.Read.remaining l.initial.source) (g.R.Read.remaining l.source)
     (λ bytes. (later : List ℕ) → IsLeft (account_of (bytes ++ later)) l.self later)
