@@ -176,13 +176,7 @@ class Gate:
         is_proved = ran.status == 0 and re.search("^logic=proved ", ran.text, re.M) is not None
         is_well = self.note("proof", crate, ran, is_proved and not BORROWED.search(ran.text))
         if is_well:
-            for part in ("rlib", "incremental"):
-                source, to = (f"{it}/crates/{crate}/out/{part}" for it in (lane.folder, self.tree))
-                if os.path.isdir(source):
-                    shutil.rmtree(to, ignore_errors=True)
-                    shutil.move(source, to)
-            for it in self.lanes:
-                it.take(crate, "rlib", link)
+            keep(lane, crate, self.tree, self.lanes)
         return is_well
 
     def whole(self):
@@ -317,6 +311,17 @@ class Gate:
         self.failed += trial.failed + [it.split(":")[0] for it in planned.bad]
         self.failed += schedule.broken_off + [f"{len(schedule.left)} tasks were not begun"] * bool(schedule.left)
         return trial
+
+
+def keep(lane, crate, tree, lanes):
+    """Moves what rt kept of its work in a lane to the tree, and gives the crate's library to all lanes."""
+    for part in ("rlib", "incremental"):
+        source, to = (f"{it}/crates/{crate}/out/{part}" for it in (lane.folder, tree))
+        if os.path.isdir(source):
+            shutil.rmtree(to, ignore_errors=True)
+            shutil.move(source, to)
+    for it in lanes:
+        it.take(crate, "rlib", link)
 
 
 def has_tests(root, crate):

@@ -9,7 +9,6 @@ import argparse
 import hashlib
 import os
 import re
-import shutil
 import subprocess
 import sys
 import tempfile
@@ -17,8 +16,8 @@ import time
 from functools import partial
 
 sys.dont_write_bytecode = True
-from gate import ROOT, Schedule, Task, has_tests, told
-from lanes import Lanes, PARTS, below, crates_of, files_below, link, most_lanes, read, run
+from gate import ROOT, Schedule, Task, has_tests, keep, told
+from lanes import Lanes, PARTS, below, crates_of, files_below, most_lanes, read
 
 # The digest of the text that was proved, or of that of which the tests were run too, in a crate's out/.
 KEPT = {"check": "proved.digest", "test": "tested.digest"}
@@ -49,14 +48,8 @@ class Proving:
         return os.path.isfile(path) and read(path) == self.texts[crate]
 
     def keep(self, lane, crate, what):
-        """Moves what rt kept of its work in a lane to the tree, and gives the library to all lanes."""
-        for part in ("rlib", "incremental"):
-            source, to = (f"{it}/crates/{crate}/out/{part}" for it in (lane.folder, self.tree))
-            if os.path.isdir(source):
-                shutil.rmtree(to, ignore_errors=True)
-                shutil.move(source, to)
-        for it in self.all:
-            it.take(crate, "rlib", link)
+        """Takes over what rt kept of its work in a lane, and notes of which text it is."""
+        keep(lane, crate, self.tree, self.all)
         with open(f"{self.tree}/crates/{crate}/out/{KEPT[what]}", "w", encoding="utf-8") as file:
             file.write(self.texts[crate])
 
