@@ -1,10 +1,7 @@
 -- Groups and their order taken apart.
-use Rattle.std.specs.List.{All}
 use Rattle.std.specs.List.Sorted.{IsStrictlySortedBy}
 use Rattle.std.specs.Prelude.{map}
-use Rattle.view_lang.specs.Aggregates.{IsKeyCell}
 use Rattle.group_state.specs.GroupParts.{AreGroups, grouped_with}
-use Rattle.group_state.specs.Keys.{key_in}
 use Rattle.group_order.specs.GroupPlaces.{GroupPlace, group_place_cmp}
 use Rattle.group_order.specs.Ranked.{Ranked}
 use Rattle.group_order.specs.declared.parts.GroupPlaceParts.{GroupPlaceParts}
@@ -12,7 +9,7 @@ use Rattle.group_order.specs.declared.parts.RankedParts.{RankedParts}
 
 -- the place that has these parts
 abbrev pub place_with : GroupPlaceParts → GroupPlace
-place_with p = (p.sort_keys.items, map key_in p.tuple.items)
+place_with p = (p.sort_keys.items, p.tuple.items)
 
 -- what is kept that has these parts
 abbrev pub ranked_with : RankedParts → Ranked
@@ -22,11 +19,7 @@ ranked_with p = record {
   places = map place_with p.places.items;
 }
 
-abbrev pub IsPlace : GroupPlaceParts → Type 0
-IsPlace p = All IsKeyCell p.tuple.items
-
 -- such as are kept of any rows
 pub record AreRanked (p : RankedParts) : Type 0 where
   pub groups : AreGroups p.groups
-  pub places : All IsPlace p.places.items
   pub ascending : IsStrictlySortedBy group_place_cmp (map place_with p.places.items)

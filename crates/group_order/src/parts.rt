@@ -3,7 +3,7 @@
 use crate::ranking::Ranking;
 use group_state::GroupsParts;
 use top_rows::SortKey;
-use values::Row;
+use values::Key;
 
 /// All that `RankedGroups` keep: the groups, what is shown of them in which order, and the places of the rows shown,
 /// ascending.
@@ -14,9 +14,9 @@ pub struct RankedParts {
     pub places: Vec<GroupPlaceParts>,
 }
 
-/// The place of a group's row: its sort key for each of the order's columns, and the cells of the group's tuple.
+/// The place of a group's row: its sort key for each of the order's columns, and the keys of the group's tuple.
 #[derive(Debug, Drop)]
 pub struct GroupPlaceParts {
     pub sort_keys: Vec<SortKey>,
-    pub tuple: Row,
+    pub tuple: Vec<Key>,
 }

@@ -1,7 +1,7 @@
 //! Places of group rows in an order.
 
 ghost use Rattle.std.specs.Prelude.{◌≡◌, IfOk};
-ghost use Rattle.group_order.specs.RankedParts.{IsPlace, place_with};
+ghost use Rattle.group_order.specs.RankedParts.{place_with};
 
 use crate::parts::GroupPlaceParts;
 use group_state::Tuple;
@@ -88,26 +88,21 @@ impl GroupPlace {
         GroupPlace { sort_keys, tuple }
     }
 
-    pub(crate) fn from_parts(
-        alloc: Global,
-        parts: GroupPlaceParts,
-    ) -> Result<GroupPlace, AllocError>
-        requires { IsPlace parts }
-        ensures { IfOk result (λ place. place ≡ place_with parts) }
+    pub(crate) fn from_parts(alloc: Global, parts: GroupPlaceParts) -> GroupPlace
+        ensures { result ≡ place_with parts }
     {
         let GroupPlaceParts { sort_keys, tuple } = parts;
         let sort_keys = SortKeyList::from_list(alloc, sort_keys);
-        let tuple = Tuple::of_row(alloc, tuple)?;
-        Ok(GroupPlace { sort_keys, tuple })
+        let tuple = Tuple::of_keys(tuple);
+        GroupPlace { sort_keys, tuple }
     }
 
     pub(crate) fn into_parts(self, alloc: Global) -> Result<GroupPlaceParts, AllocError>
-        ensures value { IfOk result (λ parts. place_with parts ≡ self) }
-        ensures kept { IfOk result (λ parts. IsPlace parts) }
+        ensures { IfOk result (λ parts. place_with parts ≡ self) }
     {
         let GroupPlace { sort_keys, tuple } = self;
         let sort_keys = sort_keys.into_list()?;
-        let tuple = tuple.into_row(alloc)?;
+        let tuple = tuple.into_keys(alloc)?;
         Ok(GroupPlaceParts { sort_keys, tuple })
     }
 

@@ -134,7 +134,7 @@ impl RankedGroups {
         let groups = Groups::from_parts(alloc, groups)?;
         let mut placed = BTreeSet::new(alloc);
         for place in places {
-            placed.insert(GroupPlace::from_parts(alloc, place)?)?;
+            placed.insert(GroupPlace::from_parts(alloc, place))?;
         }
         Ok(RankedGroups {
             alloc,

@@ -5,7 +5,7 @@ use Rattle.std.specs.Map.{keys_of, values_of}
 use Rattle.std.specs.Prelude.{ℕ, ◌<◌, List, map}
 use Rattle.group_state.specs.GroupCounts.{GroupCounts}
 use Rattle.group_state.specs.Grouped.{Grouped}
-use Rattle.group_state.specs.Keys.{key_cmp, key_in, tuple_cmp}
+use Rattle.group_state.specs.Keys.{key_cmp, tuple_cmp}
 use Rattle.group_state.specs.declared.parts.GroupParts.{GroupParts}
 use Rattle.group_state.specs.declared.parts.GroupsParts.{GroupsParts}
 use Rattle.group_state.specs.declared.parts.MultisetParts.{MultisetParts}
@@ -15,10 +15,9 @@ use Rattle.group_state.specs.declared.parts.ValueCount.{ValueCount}
 use Rattle.group_state.specs.declared.tally.Tally.{Tally}
 use Rattle.group_state.specs.declared.tally.Tally.TheVariants as tally
 use Rattle.values.specs.declared.key.Key.{Key}
-use Rattle.view_lang.specs.Aggregates.{IsKeyCell}
 
 abbrev pub count_with : ValueCount → Key × ℕ
-count_with c = (key_in c.value, c.count)
+count_with c = (c.value, c.count)
 
 abbrev pub counts_with : MultisetParts → List (Key × ℕ)
 counts_with m = map count_with m.counts.items
@@ -28,15 +27,14 @@ tally_with (parts.Total t) = tally.Total t
 tally_with (parts.Values m) = tally.Values (counts_with m)
 
 abbrev pub group_with : GroupParts → List Key × GroupCounts
-group_with g = (map key_in g.tuple.items, record { rows = g.rows; tallies = map tally_with g.tallies.items })
+group_with g = (g.tuple.items, record { rows = g.rows; tallies = map tally_with g.tallies.items })
 
 -- the groups that have these parts
 abbrev pub grouped_with : GroupsParts → Grouped
 grouped_with p = record { keys = p.keys.items; columns = p.columns.items; groups = map group_with p.groups.items }
 
--- Values are neither lists nor structs, they ascend, and none is there 0 times.
+-- Values ascend, and none is there 0 times.
 pub record IsMultiset (m : MultisetParts) : Type 0 where
-  pub keys : All (λ c. IsKeyCell c.value) m.counts.items
   pub ascending : IsStrictlySortedBy key_cmp (keys_of (counts_with m))
   pub present : All (λ n. 0 < n) (values_of (counts_with m))
 
@@ -44,9 +42,8 @@ abbrev pub IsTally : TallyParts → Type 0
 IsTally (parts.Total t) = Unit {0}
 IsTally (parts.Values m) = IsMultiset m
 
-pub record IsGroup (g : GroupParts) : Type 0 where
-  pub keys : All IsKeyCell g.tuple.items
-  pub tallies : All IsTally g.tallies.items
+abbrev pub IsGroup : GroupParts → Type 0
+IsGroup g = All IsTally g.tallies.items
 
 -- what groups keep of any rows
 pub record AreGroups (p : GroupsParts) : Type 0 where

@@ -12,17 +12,17 @@ ghost use Rattle.std.specs.Map.{keys_of, values_of};
 ghost use Rattle.std.specs.Prelude.{◌≡◌, ◌<◌, ◌^◌, ◌+◌, IfOk, MatchResult, OnErr, OnOk, length, slice_index_or, ℕ};
 ghost use Rattle.values.specs.declared.key.Key.{Key};
 
-use crate::key_cell::KeyCell;
 use crate::many_values::ManyValues;
 use crate::parts::{MultisetParts, ValueCount};
 use std::alloc::{AllocError, Global};
 use std::cmp::Ordering;
 use std::marker::Model;
+use values::Key;
 
 /// Values with how often each is there, in ascending order.
 #[derive(Debug, Drop)]
 pub(crate) struct FewValues {
-    counts: Vec<(KeyCell, u64)>,
+    counts: Vec<(Key, u64)>,
 }
 
 impl Model for FewValues {
@@ -57,8 +57,7 @@ impl FewValues {
     {
         let FewValues { counts } = self;
         let mut taken = Vec::with_capacity(alloc, counts.len())?;
-        for (key, count) in counts {
-            let value = key.into_cell();
+        for (value, count) in counts {
             taken.push(ValueCount { value, count })?;
         }
         Ok(MultisetParts { counts: taken })
@@ -71,7 +70,7 @@ impl FewValues {
         let MultisetParts { counts } = parts;
         let mut made = Vec::with_capacity(alloc, counts.len())?;
         for ValueCount { value, count } in counts {
-            made.push((KeyCell::of_cell(value), count))?;
+            made.push((value, count))?;
         }
         Ok(FewValues { counts: made })
     }
@@ -98,7 +97,7 @@ impl FewValues {
     }
 
     /// The least value; `None` where there is no value.
-    pub(crate) fn least(&self) -> Option<&KeyCell>
+    pub(crate) fn least(&self) -> Option<&Key>
         ensures { option_map (λ k. k.now) result ≡ first_of self.now }
     {
         match self.counts.first() {
@@ -108,7 +107,7 @@ impl FewValues {
     }
 
     /// The greatest value; `None` where there is no value.
-    pub(crate) fn greatest(&self) -> Option<&KeyCell>
+    pub(crate) fn greatest(&self) -> Option<&Key>
         ensures { option_map (λ k. k.now) result ≡ last_of self.now }
     {
         match self.counts.last() {
@@ -118,7 +117,7 @@ impl FewValues {
     }
 
     /// Where a value is; or, as an error, where it would be.
-    fn place(&self, key: &KeyCell) -> Result<usize, usize>
+    fn place(&self, key: &Key) -> Result<usize, usize>
         ensures { MatchResult result (λ n. IsThere key.now n self.now) (λ n. IsBefore key.now n self.now) }
     {
         for place in 0..self.counts.len() {
@@ -132,7 +131,7 @@ impl FewValues {
     }
 
     /// The value of a place.
-    pub(crate) fn key(&self, place: usize) -> &KeyCell
+    pub(crate) fn key(&self, place: usize) -> &Key
         requires { place < length self.now }
         ensures { (e : Key × ℕ) → result.now ≡ (slice_index_or self.now place e).0 }
     {
@@ -157,7 +156,7 @@ impl FewValues {
     }
 
     /// Puts a value at its place, where it isn't yet. If memory is refused, nothing has changed.
-    fn insert(&mut self, place: usize, key: KeyCell, times: u64) -> Result<(), AllocError>
+    fn insert(&mut self, place: usize, key: Key, times: u64) -> Result<(), AllocError>
         requires some { 0 < times }
         requires before { IsBefore key place self.old }
         ensures ok { OnOk result (self.new ≡ put_times key times self.old) }
@@ -182,7 +181,7 @@ impl FewValues {
     }
 
     /// Adds a value so many times. If memory is refused, nothing has changed.
-    pub(crate) fn add(&mut self, key: KeyCell, times: u64) -> Result<(), AllocError>
+    pub(crate) fn add(&mut self, key: Key, times: u64) -> Result<(), AllocError>
         requires some { 0 < times }
         requires few { had self.old key + times < 2 ^ 64 }
         ensures ok { OnOk result (self.new ≡ put_times key times self.old) }
@@ -199,7 +198,7 @@ impl FewValues {
     }
 
     /// Removes a value so many times, as far as it is there.
-    pub(crate) fn remove(&mut self, key: &KeyCell, times: u64)
+    pub(crate) fn remove(&mut self, key: &Key, times: u64)
         ensures { self.new ≡ take_times key.now times self.old }
     {
         let _size = self.len();

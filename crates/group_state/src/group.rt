@@ -49,7 +49,7 @@ impl Group {
         ensures kept { IfOk result (λ parts. IsGroup parts) }
     {
         let Group { rows, tallies } = self;
-        let tuple = tuple.into_row(alloc)?;
+        let tuple = tuple.into_keys(alloc)?;
         let mut taken = Vec::with_capacity(alloc, tallies.len())?;
         for tally in tallies {
             taken.push(tally.into_parts(alloc)?)?;
@@ -71,7 +71,7 @@ impl Group {
             rows,
             tallies,
         } = parts;
-        let tuple = Tuple::of_row(alloc, tuple)?;
+        let tuple = Tuple::of_keys(tuple);
         let mut made = Vec::with_capacity(alloc, tallies.len())?;
         for tally in tallies {
             made.push(Tally::from_parts(alloc, tally)?)?;

@@ -59,14 +59,13 @@ use crate::aggregates::kept_columns;
 use crate::group::Group;
 use crate::group_row::GroupRow;
 use crate::kept_columns::KeptColumn;
-use crate::key_cell::KeyCell;
 use crate::parts::GroupsParts;
 use crate::reading::{read_first, read_row, read_rows};
 use crate::tuple::Tuple;
 use std::alloc::{AllocError, Global};
 use std::collections::{BTreeMap, BTreeSet};
 use std::marker::Model;
-use values::{Row, Value};
+use values::{Key, Row, Value};
 use view_lang::{Change, GroupOutput, RowChange, RowView, Upkeep, group_law};
 
 /// The groups of rows that are alike in the grouping columns, each with what is kept of other columns. Without grouping
@@ -280,7 +279,7 @@ impl Groups {
     }
 
     /// Adds the tuples of the groups that begin with a key.
-    fn insert_under(&self, tuples: &mut BTreeSet<Tuple>, first: &KeyCell) -> Result<(), AllocError>
+    fn insert_under(&self, tuples: &mut BTreeSet<Tuple>, first: &Key) -> Result<(), AllocError>
         ensures { OnOk result ((t : List Key) → list_any (is_at (tuple_cmp t)) tuples.new.keys
             ≡ (list_any (is_at (tuple_cmp t)) tuples.old.keys
             || (begins_with first.now t && list_any (is_at (tuple_cmp t)) (keys_of self.now.groups)))) }
@@ -579,13 +578,13 @@ fn insert_tuple(
 }
 
 /// The keys that values are, each once.
-fn keys_among(alloc: Global, values: &[Value]) -> Result<BTreeSet<KeyCell>, AllocError>
+fn keys_among(alloc: Global, values: &[Value]) -> Result<BTreeSet<Key>, AllocError>
     ensures { IfOk result (λ keys. (k : Key) → list_any (is_at (key_cmp k)) keys.keys
         ≡ list_any (λ d. is_at (key_cmp k) (key_in d)) values.now) }
 {
     let mut keys = BTreeSet::new(alloc);
     for value in values {
-        keys.insert(KeyCell::of_value(alloc, value)?)?;
+        keys.insert(Key::of(alloc, value)?.unwrap_or(Key::Null))?;
     }
     Ok(keys)
 }

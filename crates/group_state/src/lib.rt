@@ -14,7 +14,6 @@ mod group;
 mod group_row;
 mod groups;
 mod kept_columns;
-mod key_cell;
 mod many_values;
 mod multiset;
 mod parts;

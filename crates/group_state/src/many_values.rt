@@ -23,17 +23,17 @@ ghost use Rattle.std.specs.Map.{keys_of, values_of};
 ghost use Rattle.std.specs.List.{All};
 ghost use Rattle.group_state.specs.Counts.{put_times, take_times, had, keeps_none};
 
-use crate::key_cell::KeyCell;
 use crate::parts::{MultisetParts, ValueCount};
 use std::alloc::{AllocError, Global};
 use std::collections::BTreeMap;
 use std::collections::btree_map::Iter;
 use std::marker::Model;
+use values::Key;
 
 /// Values with how often each is there, in ascending order. Contracts see the entries; none has the count 0.
 #[derive(Debug, Drop)]
 pub(crate) struct ManyValues {
-    counts: BTreeMap<KeyCell, u64>,
+    counts: BTreeMap<Key, u64>,
 }
 
 impl Model for ManyValues {
@@ -67,8 +67,7 @@ impl ManyValues {
     {
         let ManyValues { counts } = self;
         let mut taken = Vec::with_capacity(alloc, counts.len())?;
-        for (key, count) in counts {
-            let value = key.into_cell();
+        for (value, count) in counts {
             taken.push(ValueCount { value, count })?;
         }
         Ok(MultisetParts { counts: taken })
@@ -81,7 +80,7 @@ impl ManyValues {
         let MultisetParts { counts } = parts;
         let mut made = BTreeMap::new(alloc);
         for ValueCount { value, count } in counts {
-            made.insert(KeyCell::of_cell(value), count)?;
+            made.insert(value, count)?;
         }
         Ok(ManyValues { counts: made })
     }
@@ -96,7 +95,7 @@ impl ManyValues {
     }
 
     /// The least value; `None` where there is no value.
-    pub(crate) fn least(&self) -> Option<&KeyCell>
+    pub(crate) fn least(&self) -> Option<&Key>
         ensures least { option_map (λ k. k.now) result ≡ first_of self.now }
         ensures ordered { IsStrictlySortedBy key_cmp (keys_of self.now) }
         ensures present { All (λ n. 0 < n) (values_of self.now) }
@@ -109,7 +108,7 @@ impl ManyValues {
     }
 
     /// The greatest value; `None` where there is no value.
-    pub(crate) fn greatest(&self) -> Option<&KeyCell>
+    pub(crate) fn greatest(&self) -> Option<&Key>
         ensures greatest { option_map (λ k. k.now) result ≡ last_of self.now }
         ensures ordered { IsStrictlySortedBy key_cmp (keys_of self.now) }
         ensures present { All (λ n. 0 < n) (values_of self.now) }
@@ -122,7 +121,7 @@ impl ManyValues {
     }
 
     /// Puts a value that isn't there, so often. If memory is refused, nothing has changed.
-    pub(crate) fn put(&mut self, key: KeyCell, count: u64) -> Result<(), AllocError>
+    pub(crate) fn put(&mut self, key: Key, count: u64) -> Result<(), AllocError>
         requires { 0 < count }
         ensures ok { OnOk result (self.new ≡ insert_entry key_cmp self.old key count) }
         ensures err { OnErr result (self.new ≡ self.old) }
@@ -132,14 +131,14 @@ impl ManyValues {
     }
 
     /// The values with their counts, in order.
-    pub(crate) fn iter(&self) -> Iter<'_, KeyCell, u64>
+    pub(crate) fn iter(&self) -> Iter<'_, Key, u64>
         ensures { result ≡ self.now }
     {
         self.counts.iter()
     }
 
     /// Adds a value so many times. If memory is refused, nothing has changed.
-    pub(crate) fn add(&mut self, key: KeyCell, times: u64) -> Result<(), AllocError>
+    pub(crate) fn add(&mut self, key: Key, times: u64) -> Result<(), AllocError>
         requires some { 0 < times }
         requires few { had self.old key + times < 2 ^ 64 }
         ensures ok { OnOk result (self.new ≡ put_times key times self.old) }
@@ -150,7 +149,7 @@ impl ManyValues {
     }
 
     /// Removes a value so many times, as far as it is there.
-    pub(crate) fn remove(&mut self, key: &KeyCell, times: u64)
+    pub(crate) fn remove(&mut self, key: &Key, times: u64)
         ensures { self.new ≡ take_times key.now times self.old }
     {
         take_from(&mut self.counts, key, times);
@@ -158,7 +157,7 @@ impl ManyValues {
 }
 
 /// Lowers a value's count, and removes the value when none is left.
-fn take_from(counts: &mut BTreeMap<KeyCell, u64>, key: &KeyCell, times: u64)
+fn take_from(counts: &mut BTreeMap<Key, u64>, key: &Key, times: u64)
     ensures entries { counts.new.entries ≡ take_times key.now times counts.old.entries }
     ensures ordered { IsStrictlySortedBy key_cmp (keys_of counts.old.entries) }
 {

@@ -13,11 +13,11 @@ ghost use Rattle.std.specs.BTreeMap.{is_at};
 ghost use Rattle.values.specs.declared.key.Key.{Key};
 
 use crate::few_values::FewValues;
-use crate::key_cell::KeyCell;
 use crate::many_values::ManyValues;
 use crate::parts::MultisetParts;
 use std::alloc::{AllocError, Global};
 use std::marker::Model;
+use values::Key;
 
 /// More values than this are kept in a tree.
 const MOST_FEW: usize = 8;
@@ -90,7 +90,7 @@ impl Multiset {
     }
 
     /// The least value; `None` where there is no value.
-    pub fn least(&self) -> Option<&KeyCell>
+    pub fn least(&self) -> Option<&Key>
         ensures least { option_map (λ k. k.now) result ≡ first_of self.now }
         ensures ordered { IsStrictlySortedBy key_cmp (keys_of self.now) }
         ensures present { All (λ n. 0 < n) (values_of self.now) }
@@ -103,7 +103,7 @@ impl Multiset {
     }
 
     /// The greatest value; `None` where there is no value.
-    pub fn greatest(&self) -> Option<&KeyCell>
+    pub fn greatest(&self) -> Option<&Key>
         ensures greatest { option_map (λ k. k.now) result ≡ last_of self.now }
         ensures ordered { IsStrictlySortedBy key_cmp (keys_of self.now) }
         ensures present { All (λ n. 0 < n) (values_of self.now) }
@@ -127,7 +127,7 @@ impl Multiset {
         Ok(())
     }
 
-    fn put(&mut self, key: KeyCell, times: u64) -> Result<(), AllocError>
+    fn put(&mut self, key: Key, times: u64) -> Result<(), AllocError>
         requires some { 0 < times }
         requires few { had self.old key + times < 2 ^ 64 }
         ensures ok { OnOk result (self.new ≡ put_times key times self.old) }
@@ -139,7 +139,7 @@ impl Multiset {
         }
     }
 
-    fn take(&mut self, key: &KeyCell, times: u64)
+    fn take(&mut self, key: &Key, times: u64)
         ensures { self.new ≡ take_times key.now times self.old }
     {
         match &mut self.counts {
@@ -149,7 +149,7 @@ impl Multiset {
     }
 
     /// Adds a value. If memory is refused, nothing has changed.
-    pub fn add(&mut self, alloc: Global, key: KeyCell) -> Result<(), AllocError>
+    pub fn add(&mut self, alloc: Global, key: Key) -> Result<(), AllocError>
         requires { had self.old key < 2 ^ 63 }
         ensures ok { OnOk result (self.new ≡ put_one key self.old) }
         ensures counts { OnOk result ((q : Key) → had self.new q ≡ had self.old q + one key q) }
@@ -161,7 +161,7 @@ impl Multiset {
     }
 
     /// Removes one such value, if there is one.
-    pub fn remove(&mut self, key: &KeyCell)
+    pub fn remove(&mut self, key: &Key)
         ensures entries { self.new ≡ take_one key.now self.old }
         ensures counts { (q : Key) → had self.new q ≡ had self.old q - one key.now q }
     {
@@ -170,7 +170,7 @@ impl Multiset {
     }
 
     /// Adds a value so many times.
-    fn add_times(&mut self, alloc: Global, key: &KeyCell, times: u64) -> Result<(), AllocError>
+    fn add_times(&mut self, alloc: Global, key: &Key, times: u64) -> Result<(), AllocError>
         requires some { 0 < times }
         requires few { had self.old key.now + times < 2 ^ 64 }
         ensures { OnOk result ((q : Key) → had self.new q
@@ -182,7 +182,7 @@ impl Multiset {
     }
 
     /// Removes a value so many times, as far as it is there.
-    fn remove_times(&mut self, key: &KeyCell, times: u64)
+    fn remove_times(&mut self, key: &Key, times: u64)
         ensures { (q : Key) → had self.new q ≡ had self.old q - cond (is_at (key_cmp key.now) q) times 0 }
     {
         let _size = self.count_distinct();

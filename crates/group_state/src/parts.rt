@@ -2,7 +2,7 @@
 
 use crate::kept_columns::KeptColumn;
 use crate::total::Total;
-use values::{Row, Value};
+use values::Key;
 
 /// All that `Groups` keep: the numbers of the grouping columns, the columns with tallies, and the groups, ascending by
 /// their tuples.
@@ -13,10 +13,10 @@ pub struct GroupsParts {
     pub groups: Vec<GroupParts>,
 }
 
-/// A group: its cells in the grouping columns, the number of its rows, and a tally of each column that is kept.
+/// A group: its keys in the grouping columns, the number of its rows, and a tally of each column that is kept.
 #[derive(Debug, Drop)]
 pub struct GroupParts {
-    pub tuple: Row,
+    pub tuple: Vec<Key>,
     pub rows: u64,
     pub tallies: Vec<TallyParts>,
 }
@@ -39,6 +39,6 @@ pub struct MultisetParts {
 /// A value, and how often it is there.
 #[derive(Debug, Drop)]
 pub struct ValueCount {
-    pub value: Value,
+    pub value: Key,
     pub count: u64,
 }

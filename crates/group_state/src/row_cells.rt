@@ -7,9 +7,8 @@ ghost use Rattle.values.specs.Keys.{key_of};
 ghost use Rattle.view_lang.specs.Folds.{number_in};
 ghost use Rattle.group_state.specs.Rows.{cell};
 
-use crate::key_cell::KeyCell;
 use std::alloc::{AllocError, Global};
-use values::CellView;
+use values::{CellView, Key};
 use view_lang::RowView;
 
 /// Whether a row has no value in a column.
@@ -40,12 +39,12 @@ fn number_of(cell: CellView<'_>) -> i128
 
 /// What a row has in a column; `None` where that is a list or a struct.
 #[tactic(auto, using(values::proofs::ShallowLemmas::shallow_laws))]
-pub(crate) fn key_cell_at<R: RowView>(
+pub(crate) fn key_at<R: RowView>(
     alloc: Global,
     row: &R,
     column: usize,
-) -> Result<Option<KeyCell>, AllocError>
+) -> Result<Option<Key>, AllocError>
     ensures { IfOk result (λ key. key ≡ key_of (cell column (R.cells row.now))) }
 {
-    KeyCell::of(alloc, row.cell(column))
+    Key::of_cell(alloc, row.cell(column))
 }

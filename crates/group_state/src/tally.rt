@@ -13,13 +13,12 @@ ghost use Rattle.group_state.specs.declared.kept_columns.KeptForm.{KeptForm};
 
 use crate::cells::{count, no_value, whole};
 use crate::kept_columns::KeptForm;
-use crate::key_cell::KeyCell;
 use crate::multiset::Multiset;
 use crate::parts::TallyParts;
-use crate::row_cells::{is_null_at, key_cell_at};
+use crate::row_cells::{is_null_at, key_at};
 use crate::total::Total;
 use std::alloc::{AllocError, Global};
-use values::{CellView, Value};
+use values::{CellView, Key, Value};
 use view_lang::RowView;
 
 /// What is kept of a column of a group, in one form.
@@ -101,7 +100,7 @@ impl Tally {
     {
         match self {
             Tally::Total(_) => Ok(no_value()),
-            Tally::Values(values) => Ok(key_cell(alloc, values.least())?),
+            Tally::Values(values) => Ok(value_of(alloc, values.least())?),
         }
     }
 
@@ -111,7 +110,7 @@ impl Tally {
     {
         match self {
             Tally::Total(_) => Ok(no_value()),
-            Tally::Values(values) => Ok(key_cell(alloc, values.greatest())?),
+            Tally::Values(values) => Ok(value_of(alloc, values.greatest())?),
         }
     }
 
@@ -276,7 +275,7 @@ fn add_value<R: RowView>(
     if is_null_at(row, column) {
         return Ok(());
     }
-    if let Some(key) = key_cell_at(alloc, row, column)? {
+    if let Some(key) = key_at(alloc, row, column)? {
         values.add(alloc, key)?;
         let _size = values.count_distinct();
     }
@@ -296,7 +295,7 @@ fn remove_value<R: RowView>(
     if is_null_at(row, column) {
         return Ok(());
     }
-    if let Some(key) = key_cell_at(alloc, row, column)? {
+    if let Some(key) = key_at(alloc, row, column)? {
         values.remove(&key);
         let _size = values.count_distinct();
     }
@@ -304,7 +303,7 @@ fn remove_value<R: RowView>(
 }
 
 /// The value where it lies; null where there is none.
-fn view_of<'a>(key: Option<&'a KeyCell>) -> CellView<'a>
+fn view_of<'a>(key: Option<&'a Key>) -> CellView<'a>
     ensures { viewed result ≡ shallow (datum_in (option_map (λ k. k.now) key.entry)) }
 {
     match key {
@@ -314,7 +313,7 @@ fn view_of<'a>(key: Option<&'a KeyCell>) -> CellView<'a>
 }
 
 /// A copy of the value; null where there is none.
-fn key_cell(alloc: Global, key: Option<&KeyCell>) -> Result<Value, AllocError>
+fn value_of(alloc: Global, key: Option<&Key>) -> Result<Value, AllocError>
     ensures { IfOk result (λ cell. cell ≡ datum_in (option_map (λ k. k.now) key.entry)) }
 {
     match key {

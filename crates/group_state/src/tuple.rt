@@ -10,20 +10,19 @@ ghost use Rattle.group_state.specs.Rows.{cell};
 ghost use Rattle.group_state.specs.Tuples.{tuple_of};
 
 use crate::cells::no_value;
-use crate::key_cell::KeyCell;
-use crate::row_cells::key_cell_at;
+use crate::row_cells::key_at;
 use std::alloc::{AllocError, Global};
 use std::cmp::Ordering;
 use std::marker::Model;
 use std::slice;
-use values::{CellView, Row, Value};
+use values::{CellView, Key, Value, key_law};
 use view_lang::RowView;
 
 /// One key where it lies, or any number of them in a piece of memory.
 #[derive(Debug, Drop)]
 enum TupleKeys {
-    One(KeyCell),
-    Many(Vec<KeyCell>),
+    One(Key),
+    Many(Vec<Key>),
 }
 
 /// A grouping tuple: what a row has in the grouping columns, in order. That of one column takes no memory but what its
@@ -113,35 +112,24 @@ impl Tuple {
             return Ok(Tuple::none(alloc));
         };
         if others.is_empty() {
-            return Ok(Tuple::one(key_at(alloc, row, *first)?));
+            return Ok(Tuple::one(key_or_null(alloc, row, *first)?));
         }
         let keys = each_key(alloc, columns, row)?;
         Ok(Tuple::many(keys))
     }
 
-    pub fn into_row(self, alloc: Global) -> Result<Row, AllocError>
-        ensures value { IfOk result (λ row. map key_in row.items ≡ self) }
-        ensures keys { IfOk result (λ row. All IsKeyCell row.items) }
+    /// Its keys, with memory of their own.
+    pub fn into_keys(self, alloc: Global) -> Result<Vec<Key>, AllocError>
+        ensures { IfOk result (λ keys. keys.items ≡ self) }
     {
         match self.keys {
-            TupleKeys::One(key) => Ok(Vec::from_array(alloc, [key.into_cell()])?),
-            TupleKeys::Many(keys) => cells_of(alloc, keys),
+            TupleKeys::One(key) => Ok(Vec::from_array(alloc, [key])?),
+            TupleKeys::Many(keys) => Ok(keys),
         }
-    }
-
-    pub fn of_row(alloc: Global, row: Row) -> Result<Tuple, AllocError>
-        requires { All IsKeyCell row.items }
-        ensures { IfOk result (λ t. t ≡ map key_in row.items) }
-    {
-        let mut keys = Vec::with_capacity(alloc, row.len())?;
-        for cell in row {
-            keys.push(KeyCell::of_cell(cell))?;
-        }
-        Ok(Tuple::of_keys(keys))
     }
 
     /// The tuple of these keys. Their memory is given back where there is one.
-    fn of_keys(keys: Vec<KeyCell>) -> Tuple
+    pub fn of_keys(keys: Vec<Key>) -> Tuple
         ensures { result ≡ keys.items }
     {
         let mut others = keys;
@@ -162,7 +150,7 @@ impl Tuple {
     }
 
     /// Its keys.
-    fn keys(&self) -> &[KeyCell]
+    fn keys(&self) -> &[Key]
         ensures { result.now ≡ self.now }
     {
         match &self.keys {
@@ -179,7 +167,7 @@ impl Tuple {
     }
 
     /// The tuple of one column.
-    pub(crate) fn one(key: KeyCell) -> Tuple
+    pub(crate) fn one(key: Key) -> Tuple
         ensures { result ≡ key ∷ [] }
     {
         Tuple {
@@ -187,7 +175,7 @@ impl Tuple {
         }
     }
 
-    fn many(keys: Vec<KeyCell>) -> Tuple
+    fn many(keys: Vec<Key>) -> Tuple
         ensures { result ≡ keys.items }
     {
         Tuple {
@@ -196,11 +184,11 @@ impl Tuple {
     }
 
     /// Whether its first value is this key.
-    pub(crate) fn begins_with(&self, key: &KeyCell) -> bool
+    pub(crate) fn begins_with(&self, key: &Key) -> bool
         ensures { result ≡ begins_with key.now self.now }
     {
         match self.keys().first() {
-            Some(first) => key == first,
+            Some(first) => key.cmp(first).is_eq(),
             None => false,
         }
     }
@@ -238,28 +226,17 @@ fn each_key<R: RowView>(
     alloc: Global,
     columns: &[usize],
     row: &R,
-) -> Result<Vec<KeyCell>, AllocError>
+) -> Result<Vec<Key>, AllocError>
     ensures { IfOk result (λ keys. keys.items ≡ tuple_of columns.now (R.cells row.now)) }
 {
     let mut keys = Vec::with_capacity(alloc, columns.len())?;
     for column in columns {
-        keys.push(key_at(alloc, row, *column)?)?;
+        keys.push(key_or_null(alloc, row, *column)?)?;
     }
     Ok(keys)
 }
 
-fn cells_of(alloc: Global, keys: Vec<KeyCell>) -> Result<Row, AllocError>
-    ensures value { IfOk result (λ row. map key_in row.items ≡ keys.items) }
-    ensures keys { IfOk result (λ row. All IsKeyCell row.items) }
-{
-    let mut row = Vec::with_capacity(alloc, keys.len())?;
-    for key in keys {
-        row.push(key.into_cell())?;
-    }
-    Ok(row)
-}
-
-fn copies_of(alloc: Global, keys: &[KeyCell]) -> Result<Vec<KeyCell>, AllocError>
+fn copies_of(alloc: Global, keys: &[Key]) -> Result<Vec<Key>, AllocError>
     ensures { IfOk result (λ copies. copies.items ≡ keys.now) }
 {
     let mut copies = Vec::with_capacity(alloc, keys.len())?;
@@ -269,9 +246,9 @@ fn copies_of(alloc: Global, keys: &[KeyCell]) -> Result<Vec<KeyCell>, AllocError
     Ok(copies)
 }
 
-/// The key of a row's cell.
-fn key_at<R: RowView>(alloc: Global, row: &R, column: usize) -> Result<KeyCell, AllocError>
+/// The key of a row's cell; that of a null where it is a list or a struct.
+fn key_or_null<R: RowView>(alloc: Global, row: &R, column: usize) -> Result<Key, AllocError>
     ensures { IfOk result (λ k. k ≡ key_in (cell column (R.cells row.now))) }
 {
-    Ok(key_cell_at(alloc, row, column)?.unwrap_or(KeyCell::null()))
+    Ok(key_at(alloc, row, column)?.unwrap_or(Key::Null))
 }

@@ -6,3 +6,4 @@ pub mod Equality
 pub mod WeightLemmas
 pub mod Logicals
 pub mod ShallowLemmas
+pub mod HeadLemmas

@@ -17,3 +17,4 @@ pub mod Logical
 pub mod Coded
 pub mod Weights
 pub mod CellViews
+pub mod SmallBytes

@@ -2,10 +2,10 @@
 
 ghost use Rattle.std.specs.Prelude.{◌≡◌, IfOk};
 ghost use Rattle.values.specs.CellViews.{viewed};
-ghost use Rattle.values.specs.Keys.{key_of};
+ghost use Rattle.values.specs.Keys.{datum_of_key, key_of};
 
 use crate::cell_view::CellView;
-use crate::cells::Value;
+use crate::cells::{Kind, Value};
 use crate::key_parts::{KeyBytes, KeyText};
 use std::alloc::{AllocError, Global};
 
@@ -60,5 +60,32 @@ impl Key {
             Key::Utf8(text) => Key::Utf8(text.copy(alloc)?),
             Key::Binary(bytes) => Key::Binary(bytes.copy(alloc)?),
         })
+    }
+
+    /// The value as a cell.
+    pub fn view(&self) -> CellView<'_>
+        ensures { viewed result ≡ datum_of_key self.now }
+    {
+        match self {
+            Key::Null => CellView::Null,
+            Key::Bool(truth) => CellView::Bool(*truth),
+            Key::Int(number) => CellView::Int(*number),
+            Key::Utf8(text) => CellView::Utf8(text.as_str()),
+            Key::Binary(bytes) => CellView::Binary(bytes.as_slice()),
+        }
+    }
+
+    /// The value, with memory of its own.
+    pub fn value(&self, alloc: Global) -> Result<Value, AllocError>
+        ensures { IfOk result (λ value. value ≡ datum_of_key self.now) }
+    {
+        let kind = match self {
+            Key::Null => Kind::Null,
+            Key::Bool(truth) => Kind::Bool(*truth),
+            Key::Int(number) => Kind::Int(*number),
+            Key::Utf8(text) => Kind::Utf8(String::from_str(alloc, text.as_str())?),
+            Key::Binary(bytes) => Kind::Binary(Vec::from_slice(alloc, bytes.as_slice())?),
+        };
+        Ok(Value { kind })
     }
 }

@@ -41,11 +41,11 @@ fn refill(alloc: Global, key: &mut Key, cell: CellView<'_>) -> Result<bool, Allo
 {
     match (&mut *key, cell) {
         (Key::Utf8(kept), CellView::Utf8(text)) => {
-            kept.refill(text)?;
+            kept.refill(alloc, text)?;
             return Ok(true);
         }
         (Key::Binary(kept), CellView::Binary(bytes)) => {
-            kept.refill(bytes)?;
+            kept.refill(alloc, bytes)?;
             return Ok(true);
         }
         _ => {}

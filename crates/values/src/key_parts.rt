@@ -2,6 +2,7 @@
 
 ghost use Rattle.std.specs.Prelude.{◌≡◌, IfOk, OnOk};
 
+use crate::small_bytes::SmallBytes;
 use std::alloc::{AllocError, Global};
 use std::cmp::Ordering;
 use std::hash::{Hash, Hasher};
@@ -10,15 +11,18 @@ use std::marker::Model;
 /// The text of a key. Contracts see its bytes.
 #[derive(Debug, Drop)]
 pub struct KeyText {
-    text: String,
+    bytes: SmallBytes,
 }
 
 impl Model for KeyText {
-    ghost use Rattle.std.specs.Prelude.{List, string_bytes, ℕ};
+    ghost use Rattle.std.specs.Prelude.{List, ℕ};
+    ghost use Rattle.std.specs.Str.{IsUtf8};
 
     ghost Value = { List ℕ };
 
-    ghost view = { λ t. string_bytes t.text };
+    ghost view = { λ t. t.bytes };
+
+    ghost invariant = { λ t. IsUtf8 t.bytes };
 }
 
 impl KeyText {
@@ -27,24 +31,29 @@ impl KeyText {
         ensures { IfOk result (λ key. key ≡ text.now) }
     {
         Ok(KeyText {
-            text: String::from_str(alloc, text)?,
+            bytes: SmallBytes::new(alloc, text.as_bytes())?,
         })
     }
 
     /// Takes another text, in the memory that is there where it is large enough.
-    pub(crate) fn refill(&mut self, text: &str) -> Result<(), AllocError>
+    pub(crate) fn refill(&mut self, alloc: Global, text: &str) -> Result<(), AllocError>
         ensures { OnOk result (self.new ≡ text.now) }
     {
-        self.text.clear();
-        self.text.push_str(text)?;
-        Ok(())
+        self.bytes.refill(alloc, text.as_bytes())
     }
 
     /// An equal text with memory of its own.
     pub(crate) fn copy(&self, alloc: Global) -> Result<KeyText, AllocError>
         ensures { IfOk result (λ key. key ≡ self.now) }
     {
-        KeyText::new(alloc, &self.text)
+        KeyText::new(alloc, self.as_str())
+    }
+
+    /// The text.
+    pub(crate) fn as_str(&self) -> &str
+        ensures { result.now ≡ self.now }
+    {
+        unsafe { std::str::from_utf8_unchecked(self.bytes.as_slice()) }
     }
 }
 
@@ -59,7 +68,7 @@ impl PartialEq for KeyText {
     ghost laws = { Prim.search (comparing, rules) };
 
     fn eq(&self, other: &KeyText) -> bool {
-        self.text == other.text
+        self.as_str() == other.as_str()
     }
 }
 
@@ -101,7 +110,10 @@ impl Ord for KeyText {
     ghost matches_eq = { Prim.search (comparing, rules) };
 
     fn cmp(&self, other: &KeyText) -> Ordering {
-        self.text.cmp(&other.text)
+        match self.bytes.cmp_heads(&other.bytes) {
+            Some(order) => order,
+            None => self.as_str().cmp(other.as_str()),
+        }
     }
 }
 
@@ -115,14 +127,14 @@ impl Hash for KeyText {
     ghost respects_eq = { Prim.search (hashing, rules) };
 
     fn hash<H: Hasher>(&self, state: &mut H) {
-        self.text.hash(state);
+        self.as_str().hash(state);
     }
 }
 
 /// The bytes of a key of type Binary or FixedSizeBinary. Contracts see them.
 #[derive(Debug, Drop)]
 pub struct KeyBytes {
-    bytes: Vec<u8>,
+    bytes: SmallBytes,
 }
 
 impl Model for KeyBytes {
@@ -130,7 +142,7 @@ impl Model for KeyBytes {
 
     ghost Value = { List ℕ };
 
-    ghost view = { λ b. b.bytes.items };
+    ghost view = { λ b. b.bytes };
 }
 
 impl KeyBytes {
@@ -139,24 +151,29 @@ impl KeyBytes {
         ensures { IfOk result (λ key. key ≡ bytes.now) }
     {
         Ok(KeyBytes {
-            bytes: Vec::from_slice(alloc, bytes)?,
+            bytes: SmallBytes::new(alloc, bytes)?,
         })
     }
 
     /// Takes other bytes, in the memory that is there where it is large enough.
-    pub(crate) fn refill(&mut self, bytes: &[u8]) -> Result<(), AllocError>
+    pub(crate) fn refill(&mut self, alloc: Global, bytes: &[u8]) -> Result<(), AllocError>
         ensures { OnOk result (self.new ≡ bytes.now) }
     {
-        self.bytes.clear();
-        self.bytes.extend_from_slice(bytes)?;
-        Ok(())
+        self.bytes.refill(alloc, bytes)
     }
 
     /// Equal bytes with memory of their own.
     pub(crate) fn copy(&self, alloc: Global) -> Result<KeyBytes, AllocError>
         ensures { IfOk result (λ key. key ≡ self.now) }
     {
-        KeyBytes::new(alloc, &self.bytes)
+        KeyBytes::new(alloc, self.as_slice())
+    }
+
+    /// The bytes.
+    pub(crate) fn as_slice(&self) -> &[u8]
+        ensures { result.now ≡ self.now }
+    {
+        self.bytes.as_slice()
     }
 }
 
@@ -171,7 +188,7 @@ impl PartialEq for KeyBytes {
     ghost laws = { Prim.search (comparing, rules) };
 
     fn eq(&self, other: &KeyBytes) -> bool {
-        self.bytes == other.bytes
+        self.as_slice() == other.as_slice()
     }
 }
 
@@ -213,7 +230,10 @@ impl Ord for KeyBytes {
     ghost matches_eq = { Prim.search (comparing, rules) };
 
     fn cmp(&self, other: &KeyBytes) -> Ordering {
-        self.bytes.cmp(&other.bytes)
+        match self.bytes.cmp_heads(&other.bytes) {
+            Some(order) => order,
+            None => self.as_slice().cmp(other.as_slice()),
+        }
     }
 }
 
@@ -227,6 +247,6 @@ impl Hash for KeyBytes {
     ghost respects_eq = { Prim.search (hashing, rules) };
 
     fn hash<H: Hasher>(&self, state: &mut H) {
-        self.bytes.hash(state);
+        self.as_slice().hash(state);
     }
 }

@@ -21,6 +21,7 @@ mod layout;
 pub mod limits;
 mod order;
 mod schema;
+mod small_bytes;
 #[cfg(test)]
 mod tests;
 mod text;

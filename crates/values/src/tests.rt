@@ -223,3 +223,32 @@ fn finds_keys_of_cells_where_they_lie(rt: HostRuntime) -> Result<(), Fail> {
     assert!(rt; buffer.key_of(nested(rt.alloc())?.view())?.is_none());
     Ok(())
 }
+
+/// Texts of 22 bytes, which lie in their place, and of more, which lie behind a pointer and differ at the first byte, at
+/// the sixteenth or in their length.
+const TEXTS: [&str; 7] = [
+    "",
+    "a",
+    "abcdefghijklmnopqrstuv",
+    "abcdefghijklmnopqrstuvw",
+    "abcdefghijklmnopqrstuvwx",
+    "abcdefghijklmnozz",
+    "bbcdefghijklmnopqrstuvwxyz",
+];
+
+#[test]
+fn keys_of_texts_are_ordered_wherever_they_lie(rt: HostRuntime) -> Result<(), Fail> {
+    let mut buffer = KeyBuffer::new(rt.alloc());
+    for i in 0..TEXTS.len() {
+        let one = text(rt.alloc(), TEXTS[i])?;
+        let key = Key::of(rt.alloc(), &one)?.ok_or("no key")?;
+        assert!(rt; cmp_values(&key.value(rt.alloc())?, &one).is_eq());
+        assert!(rt; cmp_cells(key.view(), one.view()).is_eq());
+        for j in 0..TEXTS.len() {
+            let other = buffer.key_of(CellView::Utf8(TEXTS[j]))?.ok_or("no key")?;
+            assert_eq!(rt; key.cmp(other), i.cmp(&j));
+            assert_eq!(rt; &key == other, i == j);
+        }
+    }
+    Ok(())
+}
