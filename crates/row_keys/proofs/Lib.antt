@@ -52,3 +52,7 @@ pub mod Emptied
 mod RunRows
 pub mod LiveRows
 mod LiveRanges
+mod RetractedKeys
+mod ChangeKinds
+pub mod NumberRanges
+mod NamedRows

@@ -17,3 +17,5 @@ pub mod RefusedRows
 pub mod Found
 pub mod Entries
 pub mod Runs
+pub mod TableChanges
+pub mod HiddenChanges

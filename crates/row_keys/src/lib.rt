@@ -6,8 +6,10 @@
 #![tactic(auto)]
 
 mod batches;
+mod edits;
 mod faults;
 mod first_live;
+mod hidden_changes;
 mod key_columns;
 mod key_table;
 mod laws;
@@ -20,6 +22,7 @@ mod store;
 mod stored_chunk;
 mod stored_row;
 mod stored_rows;
+mod table_change;
 mod turning;
 mod weighing;
 
@@ -29,3 +32,4 @@ pub use parts::{RowParts, StoreParts};
 pub use store::RowStore;
 pub use stored_chunk::StoredChunk;
 pub use stored_row::{StoredRow, Visit, Visits};
+pub use table_change::TableChange;

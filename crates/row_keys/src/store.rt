@@ -199,6 +199,11 @@ impl RowStore {
         self.numbers.distinct_law();
     }
 
+    /// What gives the store its memory.
+    pub(crate) fn alloc(&self) -> Global {
+        self.alloc
+    }
+
     /// The number of live rows, at most 2^24. It takes no memory.
     pub fn len(&self) -> usize
         ensures value { result ≡ length (live_in self.now) }

@@ -37,8 +37,8 @@ use Rattle.values.specs.declared.causes.Cause.TheVariants as cause
 use Rattle.session.specs.Refusals.{refused}
 use Rattle.session.specs.Steps.{Past, UndoBy, Undoes, accepted, undone, undone_by, unfit_in}
 use Rattle.upkeep.specs.Stores.{Rows, rows_at, world_of}
-use Rattle.upkeep.specs.TableChanges.{CanGoBack, IsChangeOf, Makes, back}
-use Rattle.upkeep.specs.declared.table_change.TableChange.{TableChange}
+use Rattle.row_keys.specs.TableChanges.{CanGoBack, IsChangeOf, Makes, back}
+use Rattle.row_keys.specs.declared.table_change.TableChange.{TableChange}
 use Rattle.session.specs.Shows.{AreWorld, CanUndo, HoldsBack, ShowsPast, before}
 use Rattle.session.specs.declared.undo.UndoRecord.{UndoRecord}
 use Rattle.upkeep.specs.StoreLaws.{length_placed, rows_kept, rows_placed, rows_restored, set_mapped}

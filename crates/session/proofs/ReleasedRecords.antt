@@ -37,7 +37,8 @@ use Rattle.row_keys.proofs.Emptied.{
 }
 use Rattle.upkeep.specs.Stores.{Rows, rows_at, world_of}
 use Rattle.upkeep.specs.StoreLaws.{length_placed, rows_kept}
-use Rattle.upkeep.specs.TableChanges.{CanGoBack, back, released_at, restores}
+use Rattle.row_keys.specs.TableChanges.{CanGoBack, back, restores}
+use Rattle.upkeep.specs.Stores.{released_at}
 use Rattle.session.specs.Released.{EvictedGo, NothingIsSeen, OldestIsOut}
 use Rattle.session.specs.Shows.{AreWorld, CanUndo, HoldsBack, before}
 use Rattle.session.specs.declared.undo.UndoRecord.{UndoRecord}

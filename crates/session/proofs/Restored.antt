@@ -29,9 +29,9 @@ use Rattle.row_keys.proofs.Emptied.{
   put_back_emptied,
   taken_emptied,
 }
-use Rattle.upkeep.specs.TableChanges.{CanGoBack, back, restores}
-use Rattle.upkeep.specs.declared.table_change.TableChange.{TableChange}
-use Rattle.upkeep.specs.declared.table_change.TableChange.TheVariants.{Appended, Put, Retracted}
+use Rattle.row_keys.specs.TableChanges.{CanGoBack, back, restores}
+use Rattle.row_keys.specs.declared.table_change.TableChange.{TableChange}
+use Rattle.row_keys.specs.declared.table_change.TableChange.TheVariants.{Appended, Put, Retracted}
 
 -- A change that doesn't bring the row back can go back where the row is gone,
 pub can_go_emptied : (t : Table) (c : TableChange) (slots : List Slot) (n : ℕ) → Spares n (restores c) → IsOff slots n

@@ -44,12 +44,13 @@ use Rattle.row_keys.proofs.Emptied.{
 use Rattle.upkeep.specs.StoreLaws.{length_placed}
 use Rattle.upkeep.specs.LiveParts.{LiveParts}
 use Rattle.upkeep.specs.Stores.{Rows, rows_at, rows_in, tables_in, visits_in}
-use Rattle.upkeep.specs.Swaps.{named_keys}
-use Rattle.upkeep.specs.TableChanges.{CanGoBack, released_at, restores}
+use Rattle.row_keys.specs.HiddenChanges.{named_keys}
+use Rattle.row_keys.specs.TableChanges.{CanGoBack, restores}
+use Rattle.upkeep.specs.Stores.{released_at}
 use Rattle.upkeep.specs.Touched.{OpensOnce, refers, touched}
 use Rattle.upkeep.specs.ViewStates.{width_in}
-use Rattle.upkeep.specs.declared.table_change.TableChange.{TableChange}
-use Rattle.upkeep.specs.declared.table_change.TableChange.TheVariants.{Appended, Put, Retracted}
+use Rattle.row_keys.specs.declared.table_change.TableChange.{TableChange}
+use Rattle.row_keys.specs.declared.table_change.TableChange.TheVariants.{Appended, Put, Retracted}
 use Rattle.session.specs.Released.{NewestTouches}
 use Rattle.session.specs.Shows.{CanUndo, HoldsBack}
 use Rattle.session.specs.Visits.{OpensTouched}

@@ -14,7 +14,7 @@ use Rattle.view_lang.specs.declared.unfit.Unfit.{Unfit}
 use Rattle.row_keys.specs.Store.{Refuses}
 use Rattle.row_keys.specs.declared.faults.EditFault.{EditFault}
 use Rattle.upkeep.specs.Stores.{Rows}
-use Rattle.upkeep.specs.TableChanges.{IsBatch}
+use Rattle.row_keys.specs.TableChanges.{IsBatchOf}
 use Rattle.session.specs.Shows.{ShowsChannel, ShowsPast}
 use Rattle.session.specs.Steps.{Channel, FinishOf, Past, Pushes, accepted, edit_in, kind_of, unfit_in}
 use Rattle.session.specs.declared.calls.Event.{Event}
@@ -45,7 +45,7 @@ Edits tables e old records new next answer =
 
 -- the columns of a batch are those of its feed
 abbrev pub IsBatchEvent : List Table → Role → FeedEvent → Type 0
-IsBatchEvent tables role (feed_event.Batch columns rows body) = IsBatch (feed_columns tables role) columns.items rows
+IsBatchEvent tables role (feed_event.Batch columns rows body) = IsBatchOf (feed_columns tables role) columns.items rows
 IsBatchEvent tables role _ = Unit {0}
 
 abbrev pub unfit_by : List Table → Past → Option Edit → Option Unfit

@@ -5,7 +5,8 @@ use Rattle.view_lang.specs.Edits.{Edit}
 use Rattle.row_keys.specs.Numbered.{numbered}
 use Rattle.row_keys.specs.Slots.{AllOut}
 use Rattle.upkeep.specs.Stores.{Rows, rows_at, world_of}
-use Rattle.upkeep.specs.TableChanges.{released_at, restores}
+use Rattle.upkeep.specs.Stores.{released_at}
+use Rattle.row_keys.specs.TableChanges.{restores}
 use Rattle.upkeep.specs.Touched.{touched}
 use Rattle.session.specs.Shows.{HoldsBack}
 use Rattle.session.specs.declared.undo.UndoRecord.{UndoRecord}

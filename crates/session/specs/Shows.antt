@@ -13,7 +13,7 @@ use Rattle.view_lang.specs.ViewColumns.{feed_columns, view_columns}
 use Rattle.view_lang.specs.World.{table_at, world}
 use Rattle.upkeep.specs.LiveParts.{LiveParts, live_code}
 use Rattle.upkeep.specs.Stores.{Rows, rows_at, rows_in, tables_in, world_of}
-use Rattle.upkeep.specs.TableChanges.{CanGoBack, IsChangeOf, back}
+use Rattle.row_keys.specs.TableChanges.{CanGoBack, IsChangeOf, back}
 use Rattle.session.specs.Steps.{Channel, Past, State}
 use Rattle.session.specs.contracts.link.Link as link_type
 use Rattle.session.specs.contracts.undo.UndoRecord as record_type

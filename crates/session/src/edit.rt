@@ -6,7 +6,7 @@ ghost use Rattle.view_lang.specs.Edits.{table_of};
 ghost use Rattle.view_lang.specs.ViewColumns.{feed_columns};
 ghost use Rattle.upkeep.specs.LiveEdits.{StaleByMemory};
 ghost use Rattle.upkeep.specs.Stores.{rows_in, tables_in};
-ghost use Rattle.upkeep.specs.TableChanges.{IsBatch};
+ghost use Rattle.row_keys.specs.TableChanges.{IsBatchOf};
 ghost use Rattle.session.specs.Changes.{Edits, IsBatchEvent, Takes, edit_by};
 ghost use Rattle.session.specs.Shows.{ShowsPast};
 ghost use Rattle.session.specs.Steps.{Past};
@@ -31,7 +31,7 @@ fn edit(
     rows: usize,
 ) -> Result<(), EditFault>
     requires there { table_of role < length tables.old.stores }
-    requires batch { IsBatch (feed_columns (tables_in tables.old.stores) role) columns.items rows }
+    requires batch { IsBatchOf (feed_columns (tables_in tables.old.stores) role) columns.items rows }
     requires capacity { records.old.capacity ≡ 64 }
     requires past { (past : Past)
         × ShowsPast (tables_in tables.old.stores) (rows_in tables.old.stores) records.old.items past }

@@ -9,7 +9,8 @@ ghost use Rattle.session.specs.Visits.{UndoOpens};
 
 use crate::calls::Fault;
 use circular_buffer::HeapCircularBuffer;
-use upkeep::{LiveTables, TableChange};
+use row_keys::TableChange;
+use upkeep::LiveTables;
 use values::Cause;
 
 /// How an accepted edit is undone: the number of its table, and how the table's rows were changed. It holds no rows,

@@ -13,8 +13,8 @@ use Rattle.row_keys.specs.declared.faults.EditFault.{EditFault}
 use Rattle.upkeep.specs.LiveParts.{AreOf}
 use Rattle.upkeep.specs.Stores.{rows_at, rows_in, tables_in}
 use Rattle.upkeep.specs.StoreLaws.{rows_length, rows_placed, rows_set, rows_there, table_there, tables_length}
-use Rattle.upkeep.specs.TableChanges.{CanGoBack, Makes}
-use Rattle.upkeep.specs.declared.table_change.TableChange.{TableChange}
+use Rattle.row_keys.specs.TableChanges.{CanGoBack, Makes}
+use Rattle.row_keys.specs.declared.table_change.TableChange.{TableChange}
 
 -- its rows afterwards
 pub rows_now : (stores : List Store) (n : ℕ) (t : Store) → n < length stores

@@ -35,7 +35,8 @@ use Rattle.row_keys.specs.Slots.{CanRetract, Slot, contents_of, live, row_of}
 use Rattle.sub_groups.specs.Moved.{is_moved}
 use Rattle.upkeep.specs.Inputs.{side_by}
 use Rattle.upkeep.specs.Stores.{Rows, rows_at, world_of}
-use Rattle.upkeep.specs.Swaps.{named_keys, swapped}
+use Rattle.row_keys.specs.HiddenChanges.{named_keys}
+use Rattle.upkeep.specs.Swaps.{swapped}
 use Rattle.upkeep.specs.Touched.{opened_for, refers_by}
 use Rattle.upkeep.specs.ViewStates.{
   AreLinks,
@@ -52,7 +53,7 @@ use Rattle.upkeep.specs.ViewStates.{
   swapped_at,
   width_in,
 }
-use Rattle.upkeep.specs.declared.table_change.TableChange.{TableChange}
+use Rattle.row_keys.specs.declared.table_change.TableChange.{TableChange}
 use Rattle.upkeep.specs.declared.view_state.Links.{Links}
 use Rattle.upkeep.specs.declared.view_state.Links.TheVariants as links
 use Rattle.upkeep.specs.declared.view_state.Turn.{Turn}

@@ -12,7 +12,7 @@ use Rattle.row_keys.specs.Store.{Store, with_slots}
 use Rattle.upkeep.specs.LiveParts.{AreLive}
 use Rattle.upkeep.specs.Stores.{Rows, rows_at, rows_in, tables_in, visits_in, world_of}
 use Rattle.upkeep.specs.StoreLaws.{rows_set, rows_there, tables_set}
-use Rattle.upkeep.specs.TableChanges.{released_at}
+use Rattle.upkeep.specs.Stores.{released_at}
 use Rattle.upkeep.specs.ViewStates.{AreCurrent, EachIsCurrent, IsCurrent}
 use Rattle.upkeep.specs.declared.view_state.ViewState.{ViewState}
 use Rattle.upkeep.proofs.SideEdits.{Changed, changed_of}

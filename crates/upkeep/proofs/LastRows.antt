@@ -20,8 +20,7 @@ use Rattle.std.proofs.Common.{
   ◌∙◌,
 }
 use Rattle.std.specs.List.{range_with_len}
-use Rattle.std.proofs.lemmas.List.Elements.{All-from_get_or}
-use Rattle.std.proofs.lemmas.List.FromFn.{get_or-range_with_len, length-range_with_len}
+use Rattle.std.proofs.lemmas.List.FromFn.{length-range_with_len}
 use Rattle.row_keys.specs.Slots.{Slot, last_numbers}
 use Rattle.row_keys.specs.Store.{Store}
 use Rattle.upkeep.specs.Stores.{rows_at, rows_in}
@@ -45,19 +44,6 @@ last_one stores s count first at main one is =
 pub last_many : (count : ℕ) (slots : List Slot) (numbers : List ℕ) → numbers ≡ last_numbers count slots
     → length numbers ≡ count
 last_many count slots numbers last = ap length last ∙ length-range_with_len (length slots - count) count
-
-there : (count : ℕ) (slots : List Slot) → count ≤ length slots
-    → All (λ n. n < length slots) (last_numbers count slots)
-there count slots few =
-    All-from_get_or (λ n. n < length slots) (last_numbers count slots) 0 (λ i below.
-    let long = length-range_with_len (length slots - count) count in
-    let at = get_or-range_with_len (length slots - count) count i 0 (omega (arith, below, long)) in
-    omega (arith, below, long, at, few))
-
-pub last_there : (count : ℕ) (slots : List Slot) (numbers : List ℕ) → count ≤ length slots
-    → numbers ≡ last_numbers count slots → All (λ n. n < length slots) numbers
-last_there count slots numbers few last =
-    subst (λ (ns : List ℕ). All (λ n. n < length slots) ns) (sym last) (there count slots few)
 
 pub last_opened : (old new views count many : ℕ) → many ≡ count → new ≤ old + views * many → new ≤ old + views * count
 last_opened old new views count many same opened = subst (λ n. new ≤ old + views * n) same opened

@@ -2,7 +2,6 @@ pub mod InputRows
 pub mod JoinedCells
 pub mod RowByRow
 pub mod FollowedRows
-pub mod Keys
 pub mod ChangedStores
 pub mod TypedRows
 pub mod MadeRows

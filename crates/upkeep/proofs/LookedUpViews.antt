@@ -19,9 +19,9 @@ use Rattle.row_keys.specs.Store.{Store}
 use Rattle.upkeep.specs.Inputs.{side_by}
 use Rattle.upkeep.specs.Stores.{Rows, rows_at, rows_in, tables_in, world_of}
 use Rattle.upkeep.specs.StoreLaws.{set_mapped, tables_length}
-use Rattle.upkeep.specs.Swaps.{named_keys}
+use Rattle.row_keys.specs.HiddenChanges.{named_keys}
 use Rattle.upkeep.specs.Touched.{opened_for, refers}
-use Rattle.upkeep.specs.declared.table_change.TableChange.{TableChange}
+use Rattle.row_keys.specs.declared.table_change.TableChange.{TableChange}
 use Rattle.upkeep.specs.ViewStates.{
   AreCurrent,
   DiffersAt,

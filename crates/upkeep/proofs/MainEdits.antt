@@ -59,10 +59,10 @@ use Rattle.upkeep.specs.LiveEdits.{ChangedIn, Edited, StaleByMemory, VisitsOf, W
 use Rattle.upkeep.specs.LiveParts.{AreLive, AreOf, LiveParts}
 use Rattle.upkeep.specs.Stores.{Rows, rows_at, rows_in, tables_in, visits_in}
 use Rattle.upkeep.specs.StoreLaws.{rows_kept, rows_set, rows_there, table_there, tables_set}
-use Rattle.upkeep.specs.TableChanges.{IsChangeOf, Makes}
+use Rattle.row_keys.specs.TableChanges.{IsChangeOf, Makes}
 use Rattle.upkeep.specs.Touched.{OpensOnce, touched}
 use Rattle.upkeep.specs.ViewStates.{EachIsCurrent, turned, turned_last}
-use Rattle.upkeep.specs.declared.table_change.TableChange.{TableChange}
+use Rattle.row_keys.specs.declared.table_change.TableChange.{TableChange}
 use Rattle.upkeep.specs.declared.view_state.Turn.TheVariants as turn
 use Rattle.upkeep.specs.declared.view_state.ViewState.{ViewState}
 use Rattle.upkeep.proofs.ChangedStores.{others_same, rows_now, still_of, store_makes}

@@ -48,11 +48,12 @@ use Rattle.upkeep.specs.StoreLaws.{
   tables_length,
   tables_set,
 }
-use Rattle.upkeep.specs.Swaps.{CanSwap, forgotten, hidden, named_keys, shown, swapped}
-use Rattle.upkeep.specs.TableChanges.{CanGoBack, IsChangeOf, Makes, back}
+use Rattle.upkeep.specs.Swaps.{CanSwap, swapped}
+use Rattle.row_keys.specs.HiddenChanges.{forgotten, hidden, named_keys, shown}
+use Rattle.row_keys.specs.TableChanges.{CanGoBack, IsChangeOf, Makes, back}
 use Rattle.upkeep.specs.Touched.{OpensOnce, refers, touched}
 use Rattle.upkeep.specs.ViewStates.{AreCurrent, DiffersAt, EachIsCurrent, IsBefore, stale_in, width_in}
-use Rattle.upkeep.specs.declared.table_change.TableChange.{TableChange}
+use Rattle.row_keys.specs.declared.table_change.TableChange.{TableChange}
 use Rattle.upkeep.specs.declared.view_state.Turn.{Turn}
 use Rattle.upkeep.specs.declared.view_state.Turn.TheVariants as turn
 use Rattle.upkeep.specs.declared.view_state.ViewState.{ViewState}
@@ -498,15 +499,3 @@ can_restore ss ss' n s t v change changed opened is can =
     (subst P (sym (found_table ss ss' n s t v changed opened is)) can)
 
 -- the kinds of changes that edits make
-
-pub kind_of_put : (r : Result TableChange EditFault) (side : ℕ) → IfOk r (λ c. (n : ℕ) → IsChangeOf (suc n) c)
-    → IfOk r (IsChangeOf (suc side))
-kind_of_put (Ok c) side kind = kind side
-kind_of_put (Err f) side kind = tt
-
-pub kind_of_retract :
-    (r : Result TableChange EditFault) (n : ℕ) → IfOk r (λ c. IsChangeOf 0 c × ((m : ℕ) → IsChangeOf (suc m) c))
-    → IfOk r (IsChangeOf n)
-kind_of_retract (Ok c) zero kind = kind.0
-kind_of_retract (Ok c) (suc n) kind = kind.1 n
-kind_of_retract (Err f) n kind = tt

@@ -66,7 +66,7 @@ use Rattle.upkeep.specs.Stores.{Rows, rows_at, rows_in, tables_in, world_of}
 use Rattle.upkeep.specs.Swaps.{swapped}
 use Rattle.upkeep.specs.Touched.{refers_by}
 use Rattle.upkeep.specs.ViewStates.{made_by, made_row, remade_by, remade_change, swapped_at}
-use Rattle.upkeep.specs.declared.table_change.TableChange.{TableChange}
+use Rattle.row_keys.specs.declared.table_change.TableChange.{TableChange}
 use Rattle.upkeep.specs.declared.view_state.Turn.{Turn}
 use Rattle.upkeep.proofs.FollowedLookups.{world_here, world_placed}
 use Rattle.upkeep.proofs.ReferringRows.{is_key_same, key_datum, keyless, made_alike}

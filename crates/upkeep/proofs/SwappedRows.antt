@@ -11,13 +11,14 @@ use Rattle.view_lang.specs.Contents.{is_among, key_in, same_key}
 use Rattle.view_lang.specs.Joined.{side_of}
 use Rattle.row_keys.specs.Slots.{CanTakeBack, Slot, contents_of, keys_at, last_numbers, live, marked, put_back, put_hidden, retracted, row_of, taken_back}
 use Rattle.row_keys.specs.NumberLaws.{HiddenIsUndone}
-use Rattle.upkeep.specs.Swaps.{CanSwap, hidden, named_keys, named_numbers, swapped}
-use Rattle.upkeep.specs.TableChanges.{CanGoBack, IsChangeOf, back}
-use Rattle.upkeep.specs.declared.table_change.TableChange.{TableChange}
-use Rattle.upkeep.specs.declared.table_change.TableChange.TheVariants.{Appended, Put, Retracted}
+use Rattle.upkeep.specs.Swaps.{CanSwap, swapped}
+use Rattle.row_keys.specs.HiddenChanges.{NamesRows, hidden, named_keys}
+use Rattle.row_keys.specs.TableChanges.{CanGoBack, IsChangeOf, back}
+use Rattle.row_keys.specs.declared.table_change.TableChange.{TableChange}
+use Rattle.row_keys.specs.declared.table_change.TableChange.TheVariants.{Appended, Put, Retracted}
 use Rattle.upkeep.specs.declared.view_state.Turn.{Turn}
 use Rattle.upkeep.specs.declared.view_state.Turn.TheVariants as turn
-use Rattle.upkeep.proofs.LastRows.{last_there}
+use Rattle.row_keys.proofs.NumberRanges.{last_there}
 use Rattle.upkeep.proofs.MainTable.{put_back_there, retracted_there}
 
 -- the row with a key that isn't named
@@ -163,39 +164,18 @@ shorter n slots = let long = length-take (length slots - n) slots in omega (arit
 still_below : (m : ℕ) (ns : List ℕ) (n : ℕ) → m ≤ n → All (λ k. k < m) ns → All (λ k. k < n) ns
 still_below m ns n few below = λ k d at. let here = below k d at in omega (arith, here, few)
 
-pub named_there : (u : Turn) (t : Table) (c : TableChange) (slots : List Slot) → CanSwap u t c slots
-    → All (λ n. n < length slots) (named_numbers c slots)
-named_there turn.Come t (Appended n) slots can = absurd can.0
-named_there turn.Come t (Retracted ns) slots can = put_back_there t ns.items slots can.1
-named_there turn.Come t (Put n replaced) slots can =
-    All-append (λ k. k < length slots) (last_numbers n slots) replaced.items
-    (retracted_there (last_numbers n slots) slots can.1.2)
-    (still_below (length (taken_back n slots)) replaced.items (length slots) (shorter n slots)
-    (put_back_there t replaced.items (taken_back n slots) can.1.1))
-named_there turn.Go t (Appended n) slots can = absurd can.0
-named_there turn.Go t (Retracted ns) slots can = retracted_there ns.items slots can.1.can_show
-named_there turn.Go t (Put n replaced) slots can =
-    All-append (λ k. k < length slots) (last_numbers n slots) replaced.items
-    (last_there n slots (last_numbers n slots) (few_last n slots can.1.can_show.0) refl)
-    (retracted_there replaced.items slots can.1.can_show.1)
-
-put_few : (u : Turn) (t : Table) (n : ℕ) (replaced : Vec ℕ Global) (slots : List Slot)
-    → CanSwap u t (Put n replaced) slots → n ≤ length slots
-put_few turn.Come t n replaced slots can = few_last n slots can.1.0
-put_few turn.Go t n replaced slots can = few_last n slots can.1.can_show.0
-
-pub change_few :
-    (u : Turn) (t : Table) (c : TableChange) (n : ℕ) (replaced : Vec ℕ Global) (slots : List Slot)
-    → c ≡ Put n replaced → CanSwap u t c slots → n ≤ length slots
-change_few u t c n replaced slots is can =
-    put_few u t n replaced slots (subst (λ (x : TableChange). CanSwap u t x slots) is can)
-
--- the rows of a change whose numbers are listed
-pub listed_there :
-    (u : Turn) (t : Table) (c : TableChange) (slots : List Slot) (ns : List ℕ) → CanSwap u t c slots
-    → ns ≡ named_numbers c slots → All (λ n. n < length slots) ns
-listed_there u t c slots ns can is =
-    subst (λ (ms : List ℕ). All (λ n. n < length slots) ms) (sym is) (named_there u t c slots can)
+pub names_rows : (u : Turn) (t : Table) (c : TableChange) (slots : List Slot) → CanSwap u t c slots → NamesRows c slots
+names_rows turn.Come t (Appended n) slots can = absurd can.0
+names_rows turn.Come t (Retracted ns) slots can = put_back_there t ns.items slots can.1
+names_rows turn.Come t (Put n replaced) slots can = (
+      few_last n slots can.1.0,
+      still_below (length (taken_back n slots)) replaced.items (length slots) (shorter n slots)
+          (put_back_there t replaced.items (taken_back n slots) can.1.1),
+    )
+names_rows turn.Go t (Appended n) slots can = absurd can.0
+names_rows turn.Go t (Retracted ns) slots can = retracted_there ns.items slots can.1.can_show
+names_rows turn.Go t (Put n replaced) slots can =
+    (few_last n slots can.1.can_show.0, retracted_there replaced.items slots can.1.can_show.1)
 
 -- The keys that a change names are those before it is taken back.
 

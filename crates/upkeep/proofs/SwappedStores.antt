@@ -9,7 +9,7 @@ use Rattle.upkeep.specs.Stores.{Rows, rows_at, rows_in, tables_in}
 use Rattle.upkeep.specs.StoreLaws.{rows_restored, rows_set, rows_there, tables_length, tables_set}
 use Rattle.upkeep.specs.Swaps.{opposite, swapped}
 use Rattle.upkeep.specs.ViewStates.{swapped_at}
-use Rattle.upkeep.specs.declared.table_change.TableChange.{TableChange}
+use Rattle.row_keys.specs.declared.table_change.TableChange.{TableChange}
 use Rattle.upkeep.specs.declared.view_state.Turn.{Turn}
 
 -- store n of these, s, is turned to t

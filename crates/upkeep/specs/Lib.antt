@@ -3,7 +3,6 @@ pub mod StoreLaws
 pub mod Inputs
 pub mod JoinedRows
 pub mod SideRows
-pub mod TableChanges
 pub mod Swaps
 pub mod ViewStates
 pub mod AlikeRows

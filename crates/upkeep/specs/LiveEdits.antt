@@ -7,9 +7,9 @@ use Rattle.row_keys.specs.declared.faults.EditFault.{EditFault}
 use Rattle.row_keys.specs.declared.faults.EditFault.TheVariants as fault
 use Rattle.upkeep.specs.LiveParts.{LiveParts}
 use Rattle.upkeep.specs.Stores.{rows_at, rows_in, tables_in, visits_in}
-use Rattle.upkeep.specs.TableChanges.{IsChangeOf, Makes}
+use Rattle.row_keys.specs.TableChanges.{IsChangeOf, Makes}
 use Rattle.upkeep.specs.Touched.{OpensOnce, touched}
-use Rattle.upkeep.specs.declared.table_change.TableChange.{TableChange}
+use Rattle.row_keys.specs.declared.table_change.TableChange.{TableChange}
 
 -- Views become stale only where memory is refused.
 abbrev pub StaleByMemory : {X : Type 0} → List Bool → Result X EditFault → List Bool → Type 0

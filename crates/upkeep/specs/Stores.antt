@@ -25,3 +25,7 @@ rows_in stores = map (λ s. s.slots) stores
 -- how often a row of the main table was opened
 abbrev pub visits_in : List Store → ℕ
 visits_in stores = (get_or stores 0 (no_rows no_table)).visits
+
+-- the rows of all tables, when some of table k are gone
+abbrev pub released_at : ℕ → List ℕ → Rows → Rows
+released_at k ns rows = slice_set rows k (released ns (rows_at rows k))

@@ -1,65 +1,12 @@
--- Changes of side tables that are taken back for a while, and come again. Of a put of b', which replaces b, with what
--- is retracted in parentheses:
---
---     before       a    b
---     put          a   (b)   b'     the change is there
---     hidden       a    b   (b')    it is taken back, and the numbers stay
---     shown        a   (b)   b'     it comes again
---     forgotten    a    b           of the hidden ones: the rows that it brought are removed
-use Rattle.std.specs.Prelude.{◌≡◌, ℕ, ◌++◌, List, []}
-use Rattle.values.specs.Datum.{Datum}
+-- Changes of side tables that are taken back for a while, and come again.
+use Rattle.std.specs.Prelude.{List}
 use Rattle.view_lang.specs.Config.{Table}
-use Rattle.row_keys.specs.Slots.{
-  CanRetract,
-  CanShowPut,
-  Slot,
-  keys_at,
-  last_numbers,
-  live,
-  put_back,
-  put_hidden,
-  put_shown,
-  retracted,
-  taken_back,
-}
-use Rattle.upkeep.specs.TableChanges.{CanGoBack, IsChangeOf, back}
-use Rattle.upkeep.specs.declared.table_change.TableChange.{TableChange}
-use Rattle.upkeep.specs.declared.table_change.TableChange.TheVariants.{Appended, Put, Retracted}
+use Rattle.row_keys.specs.HiddenChanges.{IsHidden, hidden, shown}
+use Rattle.row_keys.specs.Slots.{Slot}
+use Rattle.row_keys.specs.TableChanges.{CanGoBack, IsChangeOf}
+use Rattle.row_keys.specs.declared.table_change.TableChange.{TableChange}
 use Rattle.upkeep.specs.declared.view_state.Turn.{Turn}
 use Rattle.upkeep.specs.declared.view_state.Turn.TheVariants as turn
-
--- the rows without a change, which keep their numbers
-abbrev pub hidden : TableChange → List Slot → List Slot
-hidden (Appended n) slots = slots
-hidden (Retracted ns) slots = put_back ns.items slots
-hidden (Put n replaced) slots = put_hidden n replaced.items slots
-
--- the rows with the change again
-abbrev pub shown : TableChange → List Slot → List Slot
-shown (Appended n) slots = slots
-shown (Retracted ns) slots = retracted ns.items slots
-shown (Put n replaced) slots = put_shown n replaced.items slots
-
--- the rows that are left when the hidden ones are removed
-abbrev pub forgotten : TableChange → List Slot → List Slot
-forgotten (Appended n) slots = slots
-forgotten (Retracted ns) slots = slots
-forgotten (Put n replaced) slots = taken_back n slots
-
-abbrev pub CanShow : Table → TableChange → List Slot → Type 0
-CanShow t (Appended n) slots = ⊥
-CanShow t (Retracted ns) slots = CanRetract ns.items slots
-CanShow t (Put n replaced) slots = CanShowPut t n replaced.items slots
-
--- The change of a side table was taken back, and can come again.
-pub record IsHidden (t : Table) (c : TableChange) (slots : List Slot) : Type 0 where
-  pub before : List Slot
-  pub can_go_back : CanGoBack t c before
-  pub is : slots ≡ hidden c before
-  pub can_show : CanShow t c slots
-  pub again : shown c slots ≡ before
-  pub live_same : live slots ≡ live (back c before)
-  pub forgets : forgotten c slots ≡ back c before
 
 -- The change of a side table is there, or it is taken back; either can be turned into the other.
 abbrev pub CanSwap : Turn → Table → TableChange → List Slot → Type 0
@@ -73,13 +20,3 @@ swapped turn.Go c slots = shown c slots
 abbrev pub opposite : Turn → Turn
 opposite turn.Come = turn.Go
 opposite turn.Go = turn.Come
-
--- the numbers of the rows that a change names
-abbrev pub named_numbers : TableChange → List Slot → List ℕ
-named_numbers (Appended n) slots = []
-named_numbers (Retracted ns) slots = ns.items
-named_numbers (Put n replaced) slots = last_numbers n slots ++ replaced.items
-
--- the keys of the rows that a change names
-abbrev pub named_keys : Table → TableChange → List Slot → List Datum
-named_keys t c slots = keys_at t (named_numbers c slots) slots

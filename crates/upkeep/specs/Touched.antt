@@ -15,10 +15,10 @@ use Rattle.sub_groups.specs.Moved.{is_moved}
 use Rattle.upkeep.specs.Inputs.{side_by}
 use Rattle.upkeep.specs.LiveParts.{LiveParts, view_at}
 use Rattle.upkeep.specs.Stores.{Rows, rows_at, rows_in, tables_in, visits_in}
-use Rattle.upkeep.specs.Swaps.{named_keys}
+use Rattle.row_keys.specs.HiddenChanges.{named_keys}
 use Rattle.upkeep.specs.ViewStates.{width_in}
-use Rattle.upkeep.specs.declared.table_change.TableChange.{TableChange}
-use Rattle.upkeep.specs.declared.table_change.TableChange.TheVariants.{Appended, Put, Retracted}
+use Rattle.row_keys.specs.declared.table_change.TableChange.{TableChange}
+use Rattle.row_keys.specs.declared.table_change.TableChange.TheVariants.{Appended, Put, Retracted}
 
 -- whether a row of the main table looks up one of these keys in a table
 abbrev pub refers_by : Option Lookup → ℕ → List Datum → List Datum → Bool

@@ -47,7 +47,7 @@ use Rattle.row_keys.specs.Slots.{Slot, last_numbers, live, row_of}
 use Rattle.upkeep.specs.Inputs.{side_by}
 use Rattle.upkeep.specs.Stores.{Rows, rows_at}
 use Rattle.upkeep.specs.Swaps.{swapped}
-use Rattle.upkeep.specs.declared.table_change.TableChange.{TableChange}
+use Rattle.row_keys.specs.declared.table_change.TableChange.{TableChange}
 use Rattle.upkeep.specs.declared.view_state.Kept.{Kept}
 use Rattle.upkeep.specs.declared.view_state.Kept.TheVariants as kept
 use Rattle.upkeep.specs.declared.view_state.Links.{Links}

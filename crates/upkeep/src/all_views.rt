@@ -173,22 +173,6 @@ pub(crate) fn follow_all(
     }
 }
 
-/// The `count` numbers from `first` on.
-pub(crate) fn numbers_from(
-    alloc: Global,
-    first: usize,
-    count: usize,
-) -> Result<Vec<usize>, AllocError>
-    requires { first + count < 2 ^ 64 }
-    ensures { IfOk result (λ numbers. numbers.items ≡ range_with_len first count) }
-{
-    let mut numbers = Vec::with_capacity(alloc, count)?;
-    for index in 0..count {
-        numbers.push(first + index)?;
-    }
-    Ok(numbers)
-}
-
 /// Brings what is kept of the views up to the last rows of the main table, which come or go: these are their numbers.
 /// After an error all are stale.
 fn follow_these(
@@ -254,9 +238,9 @@ pub(crate) fn follow_last(
     ensures rows { rows_in stores.new.items ≡ rows_in stores.old.items }
     ensures visits { visits_in stores.new.items ≤ visits_in stores.old.items + length views.now * count }
 {
-    let first = stores[0].appended() - count;
     // One number takes no memory.
     if count == 1 {
+        let first = stores[0].appended() - count;
         return follow_these(
             alloc,
             stores,
@@ -268,7 +252,7 @@ pub(crate) fn follow_last(
             arrivals,
         );
     }
-    match numbers_from(alloc, first, count) {
+    match stores[0].last_numbers(count) {
         Ok(numbers) => follow_these(
             alloc, stores, views, states, turn, count, &numbers, arrivals,
         ),

@@ -1,7 +1,7 @@
 //! Tables, and views of them that are kept current by changes: edits of the tables' rows change what is kept of each
 //! view, and the rows of a view are read out of that.
 //!
-//! `specs/Stores.antt` says which tables and rows stores hold, `specs/TableChanges.antt` what edits do to them,
+//! `specs/Stores.antt` says which tables and rows stores hold, `TableChanges` of `row_keys` what edits do to them,
 //! `specs/Inputs.antt` what a view keeps of a row, `specs/ViewStates.antt` what is kept of a view, `specs/Reading.antt`
 //! and `specs/Shown.antt` what is read out of it, `specs/LiveEdits.antt` what edits do to tables and views together,
 //! and `specs/ViewParts.antt` and `specs/TablesParts.antt` of which parts all of it is made.
@@ -10,7 +10,6 @@
 mod alike;
 mod all_views;
 mod arrivals;
-mod edits;
 mod follow;
 mod inputs;
 mod joined_row;
@@ -18,14 +17,12 @@ mod live_tables;
 mod lookup_views;
 mod parts;
 mod reading;
-mod release;
 mod remaking;
 mod shown;
 mod side_rows;
 mod sided_row;
 mod sub_group_moves;
 mod swaps;
-mod table_change;
 mod turning;
 mod view_parts;
 mod view_state;
@@ -34,4 +31,3 @@ mod viewed;
 pub use live_tables::LiveTables;
 pub use parts::{KeptParts, LinksParts, LiveTablesParts, ViewParts};
 pub use shown::{Shown, StoredColumns};
-pub use table_change::TableChange;

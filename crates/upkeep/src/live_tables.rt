@@ -41,36 +41,26 @@ ghost use Rattle.upkeep.specs.LiveParts.{AreOf, store_at, view_at};
 ghost use Rattle.upkeep.specs.LiveEdits.{Edited, NoneBecomesStale, WentBack};
 ghost use Rattle.upkeep.specs.Shown.{IsLiveAt, Shows};
 ghost use Rattle.upkeep.specs.Stores.{rows_at, rows_in, tables_in, visits_in};
-ghost use Rattle.upkeep.specs.TableChanges.{
-  CanGoBack,
-  IsBatch,
-  IsChangeOf,
-  back,
-  change_by,
-  released_at,
-  restores,
-};
+ghost use Rattle.row_keys.specs.TableChanges.{CanGoBack, IsBatchOf, IsChangeOf, back, change_by, restores};
+ghost use Rattle.upkeep.specs.Stores.{released_at};
 ghost use Rattle.upkeep.specs.TablesParts.{AreLiveParts, live_with};
 ghost use Rattle.upkeep.specs.Touched.{OpensShown, built_of, touched};
 ghost use Rattle.upkeep.specs.ViewStates.{width_in};
 
 use crate::all_views::{count_stale, follow_all, follow_last, fresh_states, replace_state};
 use crate::arrivals::arrivals_for;
-use crate::edits::{append_batch, find_rows, make_edit, restore};
 use crate::follow::rebuild;
 use crate::lookup_views::follow_lookups;
 use crate::parts::LiveTablesParts;
 use crate::reading::show_kept;
-use crate::release::release;
 use crate::shown::Shown;
-use crate::swaps::{forget, swap};
-use crate::table_change::TableChange;
+use crate::swaps::swap;
 use crate::view_parts::{make_states, take_states};
 use crate::view_state::{Turn, ViewState};
 use crate::viewed::viewed_law;
 use arrays::Column;
 use body_writer::RowRange;
-use row_keys::{EditFault, RowStore, Visits, numbers_law};
+use row_keys::{EditFault, RowStore, TableChange, Visits, numbers_law};
 use std::alloc::{AllocError, Global};
 use std::marker::Model;
 use view_lang::{Role, View};
@@ -216,13 +206,13 @@ impl LiveTables {
 
     /// Appends the rows of a batch to the main table.
     fn append(&mut self, columns: Vec<Column>, rows: usize) -> Result<TableChange, EditFault>
-        requires { IsBatch (table_at (tables_in self.old.stores) 0).columns columns.items rows }
+        requires { IsBatchOf (table_at (tables_in self.old.stores) 0).columns columns.items rows }
         ensures { Edited 0 (change_by Append columns.items rows) self.old self.new result }
     {
         // It does nothing: the proof takes from it which rows come.
         numbers_law();
         let arrivals = arrivals_for(self.alloc, &self.views, &self.states, &columns, rows)?;
-        let change = append_batch(&mut self.stores[0], columns, rows)?;
+        let change = self.stores[0].append_batch(columns, rows)?;
         self.stores[0].rows_law();
         match follow_last(
             self.alloc,
@@ -235,7 +225,7 @@ impl LiveTables {
         ) {
             Ok(()) => Ok(change),
             Err(_refused) => {
-                restore(&mut self.stores[0], &change);
+                self.stores[0].restore(&change);
                 Err(EditFault::Memory)
             }
         }
@@ -243,11 +233,11 @@ impl LiveTables {
 
     /// Retracts the rows of the main table whose keys a batch names.
     fn retract(&mut self, columns: &[Column], rows: usize) -> Result<TableChange, EditFault>
-        requires { IsBatch (key_column (table_at (tables_in self.old.stores) 0)) columns.now rows }
+        requires { IsBatchOf (key_column (table_at (tables_in self.old.stores) 0)) columns.now rows }
         ensures { Edited 0 (change_by Retract columns.now rows) self.old self.new result }
     {
         numbers_law();
-        let numbers = find_rows(&self.stores[0], columns, rows)?;
+        let numbers = self.stores[0].find_rows(columns, rows)?;
         self.stores[0].rows_law();
         follow_all(
             self.alloc,
@@ -273,11 +263,11 @@ impl LiveTables {
         requires side { 0 < table }
         requires there { table < length self.old.stores }
         requires role { table ≡ table_of role }
-        requires batch { IsBatch (columns_by role (table_at (tables_in self.old.stores) table)) columns.items rows }
+        requires batch { IsBatchOf (columns_by role (table_at (tables_in self.old.stores) table)) columns.items rows }
         ensures { Edited table (change_by role columns.items rows) self.old self.new result }
     {
         numbers_law();
-        let change = make_edit(role, &mut self.stores[table], columns, rows)?;
+        let change = self.stores[table].edit(role, columns, rows)?;
         match follow_lookups(
             self.alloc,
             &mut self.stores,
@@ -289,7 +279,7 @@ impl LiveTables {
         ) {
             Ok(()) => Ok(change),
             Err(_refused) => {
-                restore(&mut self.stores[table], &change);
+                self.stores[table].restore(&change);
                 Err(EditFault::Memory)
             }
         }
@@ -305,7 +295,7 @@ impl LiveTables {
         rows: usize,
     ) -> Result<TableChange, EditFault>
         requires there { table_of role < length self.old.stores }
-        requires batch { IsBatch (feed_columns (tables_in self.old.stores) role) columns.items rows }
+        requires batch { IsBatchOf (feed_columns (tables_in self.old.stores) role) columns.items rows }
         ensures { Edited (table_of role) (change_by role columns.items rows) self.old self.new result }
     {
         let table = self.table_of(role);
@@ -397,7 +387,7 @@ impl LiveTables {
             Turn::Go,
         ) {
             Ok(()) => {
-                forget(&mut self.stores[table], change);
+                self.stores[table].forget(change);
                 Ok(())
             }
             Err(refused) => {
@@ -437,7 +427,7 @@ impl LiveTables {
         ensures visits { visits_in self.new.stores ≡ visits_in self.old.stores }
     {
         numbers_law();
-        release(&mut self.stores[table], change);
+        self.stores[table].release_replaced(change);
     }
 
     /// Builds a view anew if it is stale.

@@ -9,7 +9,8 @@ ghost use Rattle.view_lang.specs.World.{table_at};
 ghost use Rattle.row_keys.specs.Slots.{live, row_of};
 ghost use Rattle.upkeep.specs.LiveParts.{AreOf};
 ghost use Rattle.upkeep.specs.Stores.{Rows, rows_at, rows_in, tables_in, visits_in};
-ghost use Rattle.upkeep.specs.Swaps.{CanSwap, named_keys, swapped};
+ghost use Rattle.upkeep.specs.Swaps.{CanSwap, swapped};
+ghost use Rattle.row_keys.specs.HiddenChanges.{named_keys};
 ghost use Rattle.upkeep.specs.Touched.{opened_for, refers, refers_by};
 ghost use Rattle.upkeep.specs.ViewStates.{
   AreCurrent,
@@ -26,8 +27,6 @@ ghost use Rattle.upkeep.specs.ViewStates.{
 use crate::remaking::remake_numbers;
 use crate::side_rows::side_rows;
 use crate::sub_group_moves::move_sub_groups;
-use crate::swaps::named_keys;
-use crate::table_change::TableChange;
 use crate::view_state::{Kept, Links, Turn, ViewState};
 use row_keys::{RowStore, numbers_law};
 use std::alloc::{AllocError, Global};
@@ -268,7 +267,7 @@ pub(crate) fn follow_lookups(
         (rows_at (rows_in stores.old.items) table)))
         (live (rows_at (rows_in stores.old.items) 0)) }
 {
-    let keys = match named_keys(alloc, &stores[table], change, turn) {
+    let keys = match stores[table].named_keys(change) {
         Ok(keys) => keys,
         Err(refused) => {
             mark_lookups_stale(views, states, table);

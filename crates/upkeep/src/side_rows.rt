@@ -10,7 +10,6 @@ ghost use Rattle.upkeep.specs.SideRows.{AreOfKeys, side_of_rows};
 ghost use Rattle.upkeep.specs.Swaps.{CanSwap, swapped};
 
 use crate::swaps::swap;
-use crate::table_change::TableChange;
 use crate::view_state::Turn;
 use row_keys::{RowStore, StoredRow};
 use std::alloc::{AllocError, Global};

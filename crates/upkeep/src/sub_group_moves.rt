@@ -32,8 +32,7 @@ ghost use Rattle.upkeep.specs.ViewStates.{
 ghost use Rattle.upkeep.specs.declared.view_state.Links.TheVariants as links;
 
 use crate::inputs::look_up;
-use crate::swaps::{named_cells, swap};
-use crate::table_change::TableChange;
+use crate::swaps::swap;
 use crate::view_state::{Kept, Turn};
 use group_order::RankedGroups;
 use group_state::Tuple;
@@ -265,7 +264,7 @@ pub(crate) fn move_sub_groups(
     let Kept::Groups(groups) = kept else {
         unreachable!()
     };
-    let cells = named_cells(alloc, &stores[table], change, turn)?;
+    let cells = stores[table].named_cells(change)?;
     let tuples = sub_groups.tuples_under(&cells)?;
     swap(&mut stores[table], change, turn);
     let gone = turn_sub_groups(alloc, stores, view, groups, sub_groups, Turn::Go, &tuples);

@@ -1,7 +1,8 @@
 use Rattle.std.proofs.Common.{List, length, subst, sym, ℕ}
 use Rattle.upkeep.specs.Arrivals.{EachTells, rows_of_numbers}
 use Rattle.upkeep.specs.Stores.{rows_at, rows_in, visits_in}
-use Rattle.upkeep.proofs.LastRows.{last_many, last_opened, last_there}
+use Rattle.row_keys.proofs.NumberRanges.{last_there}
+use Rattle.upkeep.proofs.LastRows.{last_many, last_opened}
 use Rattle.upkeep.proofs.all_views.follow_these.Goals as goal
 
 pub follow_all-requires-clause-there : goal.follow_all-requires-clause-there

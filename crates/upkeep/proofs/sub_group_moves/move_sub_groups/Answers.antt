@@ -35,7 +35,7 @@ use Rattle.upkeep.specs.Inputs.{side_by}
 use Rattle.upkeep.specs.Moves.{AreGrouped, CanMove, made_but, out_at}
 use Rattle.upkeep.specs.StoreLaws.{rows_length, rows_there, table_there}
 use Rattle.upkeep.specs.Stores.{Rows, rows_at, rows_in, tables_in}
-use Rattle.upkeep.specs.Swaps.{named_keys}
+use Rattle.row_keys.specs.HiddenChanges.{named_keys}
 use Rattle.upkeep.specs.ViewStates.{swapped_at}
 use Rattle.upkeep.specs.declared.view_state.Turn.TheVariants as turn
 use Rattle.upkeep.proofs.FollowedLookups.{sides_swapped}

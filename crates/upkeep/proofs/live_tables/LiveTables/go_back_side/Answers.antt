@@ -7,8 +7,9 @@ use Rattle.row_keys.specs.Slots.{live}
 use Rattle.row_keys.specs.Store.{Store}
 use Rattle.upkeep.specs.LiveParts.{AreOf, LiveParts}
 use Rattle.upkeep.specs.Stores.{rows_at, rows_in, tables_in}
-use Rattle.upkeep.specs.Swaps.{CanSwap, forgotten, shown}
-use Rattle.upkeep.specs.TableChanges.{CanGoBack, back}
+use Rattle.upkeep.specs.Swaps.{CanSwap}
+use Rattle.row_keys.specs.HiddenChanges.{forgotten, shown}
+use Rattle.row_keys.specs.TableChanges.{CanGoBack, back}
 use Rattle.upkeep.specs.Touched.{touched}
 use Rattle.upkeep.specs.ViewStates.{AreCurrent}
 use Rattle.upkeep.specs.declared.view_state.Turn.TheVariants as turn
@@ -134,7 +135,7 @@ invariant_of-self c =
     found_slots ss c.follow_lookups.new.stores.items c.args.table c.index_mut.result.now c.swap.new.store
     c.index_mut-in-Ok.result.now changed opened c.index_mut-in-Ok.ensures.value in
     shrunk_live c.follow_lookups.new.stores.items c.self.inside.views.items c.follow_lookups.new.states.items
-    c.args.table c.index_mut-in-Ok.result.now c.forget.new.store c.requires.side
+    c.args.table c.index_mut-in-Ok.result.now c.forget.new.self c.requires.side
     (record {
       is = c.index_mut-in-Ok.ensures.value;
       below = opened_below ss c.follow_lookups.new.stores.items c.args.table c.index_mut.result.now c.swap.new.store
@@ -198,21 +199,21 @@ returns-in-Ok c =
     subst (λ (t : Table). CanSwap turn.Go t c.args.change.now c.swap.new.store.slots) (sym changed.same)
     c.swap.ensures.again in
     rw (← c.self.view_is)
-    (went_back tt ss (slice_set c.follow_lookups.new.stores.items c.args.table c.forget.new.store)
+    (went_back tt ss (slice_set c.follow_lookups.new.stores.items c.args.table c.forget.new.self)
     c.self.inside.views.items c.self.inside.states.items c.follow_lookups.new.states.items c.args.table
     (back c.args.change.now (rows_at (rows_in ss) c.args.table))
     (touched (tables_in ss) c.self.inside.views.items (rows_in ss) c.args.table c.args.change.now)
     (shrunk_rows ss c.follow_lookups.new.stores.items c.args.table c.index_mut.result.now c.swap.new.store
-    c.index_mut-in-Ok.result.now c.forget.new.store (forgotten c.args.change.now) (back c.args.change.now) changed
+    c.index_mut-in-Ok.result.now c.forget.new.self (forgotten c.args.change.now) (back c.args.change.now) changed
     opened c.index_mut-in-Ok.ensures.value c.forget.ensures
     (forgotten_is c.index_mut.result.now c.swap.new.store c.args.change.now can c.swap.ensures.back))
     (restored_tables ss c.follow_lookups.new.stores.items c.args.table c.index_mut.result.now c.swap.new.store
-    c.index_mut-in-Ok.result.now c.forget.new.store (forgotten c.args.change.now) changed opened
+    c.index_mut-in-Ok.result.now c.forget.new.self (forgotten c.args.change.now) changed opened
     c.index_mut-in-Ok.ensures.value c.forget.ensures)
     c.in-Ok.ensures.stale
     (opened_before ss c.follow_lookups.new.stores.items c.self.inside.views.items c.self.inside.states.items
     c.follow_lookups.new.states.items c.args.table c.index_mut.result.now c.swap.new.store
-    c.index_mut-in-Ok.result.now c.forget.new.store c.args.change.now c.requires.side changed
+    c.index_mut-in-Ok.result.now c.forget.new.self c.args.change.now c.requires.side changed
     (ap (λ (s : Store). s.slots) c.swap.ensures.slots) (rw c.deref.ensures.value at c.in-Ok.ensures.visits)))
 
 pub returns-in-Err : goal.returns-in-Err

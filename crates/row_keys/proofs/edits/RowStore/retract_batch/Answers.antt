@@ -3,7 +3,7 @@ use Rattle.std.proofs.lemmas.Result.{err_from_is_err_and}
 use Rattle.view_lang.specs.Contents.{applied}
 use Rattle.view_lang.specs.Edits.{TableEdit}
 use Rattle.row_keys.specs.Slots.{contents_of}
-use Rattle.upkeep.proofs.edits.retract_batch.Goals as goal
+use Rattle.row_keys.proofs.edits.RowStore.retract_batch.Goals as goal
 
 pub returns-in_err-numbers-clause-makes : goal.returns-in_err-numbers-clause-makes
 returns-in_err-numbers-clause-makes c =
@@ -17,7 +17,7 @@ returns-clause-makes c =
     let back = rw c.deref.ensures.value at c.retract.ensures.back in (
       c.in_ok-numbers.ensures.fits,
       there
-          ∙ ap (λ (e : TableEdit). applied c.args.store.now.table e (contents_of c.args.store.now.slots))
+          ∙ ap (λ (e : TableEdit). applied c.args.self.now.table e (contents_of c.args.self.now.slots))
           c.in_ok-numbers.ensures.keys,
       can,
       back,

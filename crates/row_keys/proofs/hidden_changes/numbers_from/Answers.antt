@@ -1,5 +1,5 @@
-use Rattle.upkeep.proofs.StaleViews.{range_more}
-use Rattle.upkeep.proofs.all_views.numbers_from.Goals as goal
+use Rattle.row_keys.proofs.NumberRanges.{range_more}
+use Rattle.row_keys.proofs.hidden_changes.numbers_from.Goals as goal
 
 pub loop-index-preserved : goal.loop-index-preserved
 loop-index-preserved c =

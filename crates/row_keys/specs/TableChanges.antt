@@ -1,5 +1,5 @@
 -- How edits change the rows of their tables, and how that is taken back.
-use Rattle.std.specs.Prelude.{◌≡◌, ℕ, zero, suc, All, List, [], None, Result, Ok, Err, length, slice_set}
+use Rattle.std.specs.Prelude.{◌≡◌, ℕ, zero, suc, All, List, [], None, Result, Ok, Err, length}
 use Rattle.values.specs.Logical.{NamedType, trees_of}
 use Rattle.values.specs.Rose.{Rose, kids_of}
 use Rattle.arrays.specs.Checked.{CheckedColumn}
@@ -17,14 +17,12 @@ use Rattle.row_keys.specs.Slots.{
   contents_of,
   put_back,
   put_undone,
-  released,
   taken_back,
 }
 use Rattle.row_keys.specs.Store.{Refuses}
 use Rattle.row_keys.specs.declared.faults.EditFault.{EditFault}
-use Rattle.upkeep.specs.Stores.{Rows, rows_at}
-use Rattle.upkeep.specs.declared.table_change.TableChange.{TableChange}
-use Rattle.upkeep.specs.declared.table_change.TableChange.TheVariants.{Appended, Put, Retracted}
+use Rattle.row_keys.specs.declared.table_change.TableChange.{TableChange}
+use Rattle.row_keys.specs.declared.table_change.TableChange.TheVariants.{Appended, Put, Retracted}
 
 -- a table's rows once a change of it is taken back
 abbrev pub back : TableChange → List Slot → List Slot
@@ -37,10 +35,6 @@ abbrev pub restores : TableChange → List ℕ
 restores (Appended n) = []
 restores (Retracted ns) = ns.items
 restores (Put n replaced) = replaced.items
-
--- the rows of all tables, when some of table k are gone
-abbrev pub released_at : ℕ → List ℕ → Rows → Rows
-released_at k ns rows = slice_set rows k (released ns (rows_at rows k))
 
 -- A change of a table's rows can be taken back.
 abbrev pub CanGoBack : Table → TableChange → List Slot → Type 0
@@ -58,7 +52,7 @@ IsChangeOf (suc table) (Retracted ns) = Unit {0}
 IsChangeOf (suc table) (Put n replaced) = Unit {0}
 
 -- The columns of a batch: they hold what is declared, and have a cell a row.
-pub record IsBatch (fields : List (Rose NamedType)) (columns : List CheckedColumn) (rows : ℕ) : Type 0 where
+pub record IsBatchOf (fields : List (Rose NamedType)) (columns : List CheckedColumn) (rows : ℕ) : Type 0 where
   pub alike : AreAlike (trees_of (kids_of fields)) (layouts_in columns)
   pub lengths : All (λ c. length c.cells ≡ rows) columns
 

@@ -33,7 +33,7 @@ use Rattle.view_lang.specs.Edits.{first_cell, retract}
 use Rattle.view_lang.specs.ViewColumns.{key_column}
 use Rattle.view_lang.specs.declared.config.Role.TheVariants as role
 use Rattle.row_keys.specs.Batches.{AreAlike, AreKeys, IsAlike, key_layout, layouts_in}
-use Rattle.upkeep.specs.TableChanges.{IsBatch, change_by}
+use Rattle.row_keys.specs.TableChanges.{IsBatchOf, change_by}
 
 rows_keys : (cells : List Datum) (i n : ℕ) → i + n ≡ length cells
     → map first_cell (rows_from (cells ∷ []) i n) ≡ drop i cells
@@ -57,14 +57,14 @@ one_column t (x ∷ y ∷ ys) c alike is = absurd alike.1
 
 pub are_keys :
     (t : Table) (columns : List CheckedColumn) (c : CheckedColumn) (rows : ℕ)
-    → IsBatch (key_column t) columns rows → c ≡ get_or columns 0 c
+    → IsBatchOf (key_column t) columns rows → c ≡ get_or columns 0 c
     → AreKeys t c
 are_keys t columns c rows batch is = (one_column (key_layout t) columns c batch.alike is).1
 
 -- the edit that it is
 pub keys_edit :
     (t : Table) (columns : List CheckedColumn) (c : CheckedColumn) (rows : ℕ)
-    → IsBatch (key_column t) columns rows → c ≡ get_or columns 0 c
+    → IsBatchOf (key_column t) columns rows → c ≡ get_or columns 0 c
     → retract c.cells ≡ change_by role.Retract columns rows
 keys_edit t columns c rows batch is =
     let one : columns ≡ c ∷ [] = (one_column (key_layout t) columns c batch.alike is).0 in
