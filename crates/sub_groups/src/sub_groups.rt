@@ -4,7 +4,6 @@ ghost use Rattle.std.specs.Prelude.{
   ◌≡◌,
   ◌&&◌,
   ◌<◌,
-  ◌^◌,
   [],
   IfOk,
   IfSome,
@@ -24,6 +23,7 @@ ghost use Rattle.std.specs.Map.{keys_of, lookup, values_of};
 ghost use Rattle.std.specs.Option.{option_map};
 ghost use Rattle.std.specs.Ordering.{nat_cmp};
 ghost use Rattle.values.specs.declared.key.Key.{Key};
+ghost use Rattle.view_lang.specs.Limits.{max_appended_rows};
 ghost use Rattle.view_lang.specs.Shifts.{NumberedRows, row_at, with_at};
 ghost use Rattle.group_state.specs.GroupParts.{AreGroups};
 ghost use Rattle.group_state.specs.Groups.{Keeps};
@@ -153,7 +153,8 @@ impl SubGroups {
     /// kept has no meaning.
     #[tactic(auto, using(crate::proofs::Absent::absent_laws))]
     pub fn come<R: RowView>(&mut self, view: &View, width: usize, row: &R) -> Result<(), AllocError>
-        requires { (rows : NumberedRows) × (Keeps self.old.groups (values_of rows) × (length rows < 2 ^ 62)) }
+        requires { (rows : NumberedRows)
+            × (Keeps self.old.groups (values_of rows) × (length rows < max_appended_rows)) }
         ensures kept { OnOk result ((rows : NumberedRows) (n : ℕ) → IsStrictlySortedBy nat_cmp (keys_of rows)
             → row_at n rows ≡ None → Keeps self.old.groups (values_of rows)
             → Keeps self.new.groups (values_of (with_at n (sub_row width view.now (R.cells row.now)) rows))) }
