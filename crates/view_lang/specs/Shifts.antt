@@ -53,6 +53,13 @@ pub record Fits (rows : NumberedRows) (change : List Shift) : Type 0 where
   pub ascending : IsStrictlySortedBy nat_cmp (keys_of rows)
   pub in_turn : FitsInTurn rows change
 
+-- A state that is kept for rows follows the change at one number: what was kept for these rows is kept for the rows
+-- after it.
+abbrev pub FollowsShift : (NumberedRows → Type 0) → (NumberedRows → Type 0) → Shift → NumberedRows → Type 0
+FollowsShift was is s rows =
+    IsStrictlySortedBy nat_cmp (keys_of rows) → row_at s.number rows ≡ s.before → was rows
+    → is (with_at s.number s.after rows)
+
 -- rows and changes so few that they can be counted: fewer than may come to a table in all
 abbrev pub IsFew : NumberedRows → List Shift → Type 0
 IsFew rows change = length rows + length change < max_appended_rows
