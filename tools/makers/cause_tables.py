@@ -1,7 +1,8 @@
 #!/usr/bin/env python3
 """Writes all tables of causes. Their numbers, names and texts are those of `Cause` in crates/values/src/causes.rt, the one table that is
 made by hand: of it are made the tables of include/lv.h, of python/lv/causes.py and of docs/CAUSES.md, the names there and in specs/Causes,
-the faults of streams, of edits and of configurations with the causes of the same names, and where a comment says which numbers are whose.
+the faults of streams, of edits and of configurations with the causes of the same names, what proofs say of each of them, and where a
+comment says which numbers are whose.
 With --check it writes nothing, and says which file isn't as it would be written."""
 import os
 import re
@@ -30,6 +31,11 @@ TABLES = (
     ("crates/view_config/src/faults.rt", [CONFIGURATION], True, "    {0},"),
     ("crates/view_config/src/faults.rt", [CONFIGURATION], True, "            ConfigFault::{0} => Cause::{0},"),
     ("crates/view_config/specs/ConfigCauses.antt", [CONFIGURATION], True, "cause_of fault.{0} = cause.{0}"),
+    ("crates/session/specs/Cuts.antt", [EDIT], False, "is_unfit cause.{0} = true"),
+    ("crates/session/proofs/ReplayedFeeds.antt", [EDIT], False, "unfit-told unfit.{0} = refl"),
+    ("crates/session/proofs/ReplayedFeeds.antt", [EDIT], False, "unfit-heard unfit.{0} = refl"),
+    ("crates/session/proofs/ReplayedFeeds.antt", [STREAM], False, "fault_named cause.{0} = fault.{0}"),
+    ("crates/session/proofs/ReplayedFeeds.antt", [STREAM], True, "facts fault.{0} = (refl, refl, refl)"),
 )
 # Where it is said which numbers are whose.
 TOLD = SOURCE, "crates/values/specs/Causes.antt", "crates/view_lang/src/unfit.rt", "python/lv/session.py", HEADER

@@ -116,7 +116,7 @@ class Runs:
         self.run("metadata of 2^24 + 8 bytes", "inspect", [padded_schema(MOST_METADATA + 8), END_MARK], "refused 2 BadSize")
 
     def most_undos(self):
-        """Of 65 batches of 100,000 rows the last 64 are undone: what is left is what the first brought."""
+        """Of batches of 100,000 rows, one more than can be undone, the last ones are undone: what is left is what the first brought."""
         lines = ["feed add in", *writes("before"), *["undo"] * (UNDOS + 1), *writes("after"), "write all all"]
         batches = [int64_batch(EDIT, it * EDIT) for it in range(UNDOS + 1)]
         held = {"config": CONFIG.encode(), "script": "\n".join(lines).encode(), "in": INT64_SCHEMA + b"".join(batches) + END_MARK}
@@ -125,7 +125,7 @@ class Runs:
                 file.write(it)
         ran = subprocess.run([self.lv, "run", "config", "script"], cwd=self.folder, stdout=subprocess.PIPE, text=True)
         answers = re.findall("undone|refused.*", ran.stdout)
-        self.note("64 undos of 100,000 rows each", answers == ["undone"] * UNDOS + ["refused 51 NothingToUndo"], ran.stdout[-200:])
+        self.note(f"{UNDOS} undos of 100,000 rows each", answers == ["undone"] * UNDOS + ["refused 51 NothingToUndo"], ran.stdout[-200:])
         rows = stream_of_rows([("k", LONG)], [[it] for it in range(EDIT)])
         for name, it in (shown("before", EDIT * (UNDOS + 1)) | shown("after", EDIT) | {"all": rows}).items():
             with open(f"{self.folder}/{name}", "rb") as file:

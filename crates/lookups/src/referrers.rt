@@ -38,7 +38,7 @@ ghost use Rattle.values.specs.CellViews.{shallow, viewed};
 ghost use Rattle.values.specs.Datum.{Datum};
 ghost use Rattle.values.specs.Keys.{key_of};
 ghost use Rattle.values.specs.declared.key.Key.{Key};
-ghost use Rattle.view_lang.specs.Shifts.{NumberedRows, row_at, with_at};
+ghost use Rattle.view_lang.specs.Shifts.{FollowsShift, NumberedRows, shift};
 
 use crate::numbers::NumberSet;
 use crate::parts::{KeyNumbers, ReferrersParts};
@@ -136,8 +136,7 @@ impl Referrers {
     /// A row of one cell comes under a number that no row has. If memory is refused, nothing has changed.
     pub fn come(&mut self, number: usize, cell: CellView<'_>) -> Result<(), AllocError>
         ensures kept { OnOk result ((rows : NumberedRows) (held : Datum) → viewed cell.entry ≡ shallow held
-            → IsStrictlySortedBy nat_cmp (keys_of rows) → row_at number rows ≡ None → Keeps self.old rows
-            → Keeps self.new (with_at number (Some (held ∷ [])) rows)) }
+            → FollowsShift (Keeps self.old) (Keeps self.new) (shift number None (Some (held ∷ []))) rows) }
         ensures err { OnErr result (self.new ≡ self.old) }
     {
         self.put(number, cell)?;
@@ -147,8 +146,7 @@ impl Referrers {
     /// The row of one cell under a number goes. If memory is refused, nothing has changed.
     pub fn go(&mut self, number: usize, cell: CellView<'_>) -> Result<(), AllocError>
         ensures kept { OnOk result ((rows : NumberedRows) (held : Datum) → viewed cell.entry ≡ shallow held
-            → IsStrictlySortedBy nat_cmp (keys_of rows) → row_at number rows ≡ Some (held ∷ []) → Keeps self.old rows
-            → Keeps self.new (with_at number None rows)) }
+            → FollowsShift (Keeps self.old) (Keeps self.new) (shift number (Some (held ∷ [])) None) rows) }
         ensures err { OnErr result (self.new ≡ self.old) }
     {
         self.take(number, cell)?;
@@ -249,9 +247,8 @@ impl Referrers {
     /// Applies the change of one row. It is removed before it is added, so that a row that keeps its key is there in
     /// the end.
     fn change_row(&mut self, changed: &RowChange) -> Result<(), AllocError>
-        ensures { OnOk result ((rows : NumberedRows) → IsStrictlySortedBy nat_cmp (keys_of rows)
-            → row_at changed.now.number rows ≡ changed.now.before → Keeps self.old rows
-            → Keeps self.new (with_at changed.now.number changed.now.after rows)) }
+        ensures { OnOk result ((rows : NumberedRows)
+            → FollowsShift (Keeps self.old) (Keeps self.new) changed.now rows) }
     {
         self.remove_before(changed)?;
         self.add_after(changed)?;

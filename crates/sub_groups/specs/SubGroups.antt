@@ -24,6 +24,7 @@ use Rattle.std.specs.Prelude.{
 }
 use Rattle.std.specs.List.{filter_map, list_any}
 use Rattle.std.specs.BTreeMap.{is_at}
+use Rattle.std.specs.Map.{values_of}
 use Rattle.values.specs.Datum.{Datum}
 use Rattle.values.specs.declared.key.Key.{Key}
 use Rattle.view_lang.specs.Cells.{cell_at}
@@ -32,10 +33,12 @@ use Rattle.view_lang.specs.Filter.{Filter}
 use Rattle.view_lang.specs.Joined.{Side}
 use Rattle.view_lang.specs.Outputs.{GroupOutput, groups}
 use Rattle.view_lang.specs.Aggregates.{IsKeyCell}
+use Rattle.view_lang.specs.Shifts.{NumberedRows}
 use Rattle.view_lang.specs.Views.{kept_row}
 use Rattle.view_lang.specs.declared.view.Lookup.{Lookup}
 use Rattle.group_state.specs.GroupCounts.{GroupCounts}
 use Rattle.group_state.specs.GroupParts.{grouped_with}
+use Rattle.group_state.specs.Groups.{Keeps}
 use Rattle.group_state.specs.Keys.{tuple_cmp}
 use Rattle.group_state.specs.Moves.{AreTogether}
 use Rattle.group_state.specs.Rows.{KeepsRows}
@@ -73,6 +76,10 @@ pub record AreSubGroups (n : ℕ) (v : View) (s : SubGroups) : Type 0 where
   pub grouped : v.outputs ≡ groups by outputs having
   pub can : CanSubGroup n v look by s.groups.columns
   pub keyed : s.groups.keys ≡ sub_keys n look by
+
+-- They are the sub-groups of these rows.
+abbrev pub KeepsSubGroups : SubGroups → NumberedRows → Type 0
+KeepsSubGroups s rows = Keeps s.groups (values_of rows)
 
 -- Of what and by what they are made is the same.
 pub record IsSame (old new : SubGroups) : Type 0 where

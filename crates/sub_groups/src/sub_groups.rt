@@ -4,7 +4,6 @@ ghost use Rattle.std.specs.Prelude.{
   ◌≡◌,
   ◌&&◌,
   ◌<◌,
-  ◌^◌,
   [],
   IfOk,
   IfSome,
@@ -20,11 +19,12 @@ ghost use Rattle.std.specs.Prelude.{
 ghost use Rattle.std.specs.BTreeMap.{is_at};
 ghost use Rattle.std.specs.List.{list_any};
 ghost use Rattle.std.specs.List.Sorted.{IsStrictlySortedBy};
-ghost use Rattle.std.specs.Map.{keys_of, lookup, values_of};
+ghost use Rattle.std.specs.Map.{keys_of, lookup};
 ghost use Rattle.std.specs.Option.{option_map};
 ghost use Rattle.std.specs.Ordering.{nat_cmp};
 ghost use Rattle.values.specs.declared.key.Key.{Key};
-ghost use Rattle.view_lang.specs.Shifts.{NumberedRows, row_at, with_at};
+ghost use Rattle.view_lang.specs.Limits.{max_appended_rows};
+ghost use Rattle.view_lang.specs.Shifts.{FollowsShift, NumberedRows, row_at, shift};
 ghost use Rattle.group_state.specs.GroupParts.{AreGroups};
 ghost use Rattle.group_state.specs.Groups.{Keeps};
 ghost use Rattle.group_state.specs.Keys.{tuple_cmp};
@@ -35,6 +35,7 @@ ghost use Rattle.sub_groups.specs.Moved.{KeepRead, is_moved};
 ghost use Rattle.sub_groups.specs.SubGroups.{
   AreSubGroups,
   IsSame,
+  KeepsSubGroups,
   are_main,
   sub_groups_with,
   sub_keys,
@@ -153,10 +154,11 @@ impl SubGroups {
     /// kept has no meaning.
     #[tactic(auto, using(crate::proofs::Absent::absent_laws))]
     pub fn come<R: RowView>(&mut self, view: &View, width: usize, row: &R) -> Result<(), AllocError>
-        requires { (rows : NumberedRows) × (Keeps self.old.groups (values_of rows) × (length rows < 2 ^ 62)) }
-        ensures kept { OnOk result ((rows : NumberedRows) (n : ℕ) → IsStrictlySortedBy nat_cmp (keys_of rows)
-            → row_at n rows ≡ None → Keeps self.old.groups (values_of rows)
-            → Keeps self.new.groups (values_of (with_at n (sub_row width view.now (R.cells row.now)) rows))) }
+        requires { (rows : NumberedRows)
+            × (KeepsSubGroups self.old rows × (length rows < max_appended_rows)) }
+        ensures kept { OnOk result ((rows : NumberedRows) (n : ℕ)
+            → FollowsShift (KeepsSubGroups self.old) (KeepsSubGroups self.new)
+            (shift n None (sub_row width view.now (R.cells row.now))) rows) }
         ensures same { IsSame self.old self.new }
     {
         if passes_main(&view.filter, width, row) {
@@ -169,12 +171,12 @@ impl SubGroups {
     /// meaning.
     #[tactic(auto, using(crate::proofs::Absent::absent_laws))]
     pub fn go<R: RowView>(&mut self, view: &View, width: usize, row: &R) -> Result<(), AllocError>
-        requires { (rows : NumberedRows) × (n : ℕ) × (Keeps self.old.groups (values_of rows)
+        requires { (rows : NumberedRows) × (n : ℕ) × (KeepsSubGroups self.old rows
             × (IsStrictlySortedBy nat_cmp (keys_of rows)
             × (row_at n rows ≡ sub_row width view.now (R.cells row.now)))) }
-        ensures kept { OnOk result ((rows : NumberedRows) (n : ℕ) → IsStrictlySortedBy nat_cmp (keys_of rows)
-            → row_at n rows ≡ sub_row width view.now (R.cells row.now) → Keeps self.old.groups (values_of rows)
-            → Keeps self.new.groups (values_of (with_at n None rows))) }
+        ensures kept { OnOk result ((rows : NumberedRows) (n : ℕ)
+            → FollowsShift (KeepsSubGroups self.old) (KeepsSubGroups self.new)
+            (shift n (sub_row width view.now (R.cells row.now)) None) rows) }
         ensures same { IsSame self.old self.new }
     {
         if passes_main(&view.filter, width, row) {

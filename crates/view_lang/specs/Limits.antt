@@ -25,6 +25,10 @@ max_sides = 4
 abbrev pub max_side_rows : ℕ
 max_side_rows = 2 ^ 20
 
+-- accepted edits that can be undone
+abbrev pub max_undo_depth : ℕ
+max_undo_depth = 64
+
 -- digits of a decimal that is summed
 abbrev pub max_sum_precision : ℕ
 max_sum_precision = 28

@@ -1,5 +1,5 @@
 -- Changes of numbered rows.
-use Rattle.std.specs.Prelude.{◌≡◌, ℕ, ◌+◌, ◌<◌, ◌^◌, List, [], ◌∷◌, Option, None, Some, length, refl}
+use Rattle.std.specs.Prelude.{◌≡◌, ℕ, ◌+◌, ◌<◌, List, [], ◌∷◌, Option, None, Some, length, refl}
 use Rattle.std.specs.BTreeMap.{insert_entry, is_at}
 use Rattle.std.specs.Coded.{Coded, code_by, coded×, coded_ℕ, coded_option, coded_list}
 use Rattle.std.specs.List.{fold}
@@ -7,6 +7,7 @@ use Rattle.std.specs.List.Sorted.{IsStrictlySortedBy}
 use Rattle.std.specs.Map.{keys_of, lookup, remove_entry}
 use Rattle.std.specs.Ordering.{nat_cmp}
 use Rattle.values.specs.Datum.{Datum, datum_code}
+use Rattle.view_lang.specs.Limits.{max_appended_rows}
 
 -- rows by their numbers, which ascend
 abbrev pub NumberedRows : Type 0
@@ -52,9 +53,16 @@ pub record Fits (rows : NumberedRows) (change : List Shift) : Type 0 where
   pub ascending : IsStrictlySortedBy nat_cmp (keys_of rows)
   pub in_turn : FitsInTurn rows change
 
--- rows and changes so few that they can be counted
+-- A state that is kept for rows follows the change at one number: what was kept for these rows is kept for the rows
+-- after it.
+abbrev pub FollowsShift : (NumberedRows → Type 0) → (NumberedRows → Type 0) → Shift → NumberedRows → Type 0
+FollowsShift was is s rows =
+    IsStrictlySortedBy nat_cmp (keys_of rows) → row_at s.number rows ≡ s.before → was rows
+    → is (with_at s.number s.after rows)
+
+-- rows and changes so few that they can be counted: fewer than may come to a table in all
 abbrev pub IsFew : NumberedRows → List Shift → Type 0
-IsFew rows change = length rows + length change < 2 ^ 62
+IsFew rows change = length rows + length change < max_appended_rows
 
 -- the rows with this one at the end, if there is one
 abbrev pub push_some : Option (List Datum) → List (List Datum) → List (List Datum)

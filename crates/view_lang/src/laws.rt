@@ -19,6 +19,7 @@ ghost use Rattle.view_lang.specs.Limits.{
   max_feeds,
   max_side_rows,
   max_sides,
+  max_undo_depth,
   max_views,
 };
 ghost use Rattle.view_lang.specs.Rows.{RowsAreLight};
@@ -45,7 +46,8 @@ ghost use Rattle.view_lang.specs.declared.unfit.Unfit.TheVariants as unfit;
 
 use crate::limits::MAX_COLUMN_NAME_LEN;
 use values::limits::{
-    MAX_APPENDED_ROWS, MAX_COLUMNS, MAX_FEEDS, MAX_SIDE_ROWS, MAX_SIDE_TABLES, MAX_VIEWS,
+    MAX_APPENDED_ROWS, MAX_COLUMNS, MAX_FEEDS, MAX_SIDE_ROWS, MAX_SIDE_TABLES, MAX_UNDO_DEPTH,
+    MAX_VIEWS,
 };
 
 /// The columns of a view that keeps the rules of `specs/ConfigRules.antt` keep those of a table's columns.
@@ -80,6 +82,7 @@ pub fn limits_law()
     ensures feeds { MAX_FEEDS ≡ max_feeds }
     ensures views { MAX_VIEWS ≡ max_views }
     ensures appended_rows { MAX_APPENDED_ROWS ≡ max_appended_rows }
+    ensures undo_depth { MAX_UNDO_DEPTH ≡ max_undo_depth }
 {}
 
 /// What some edits leave of two tables, what a view shows of them, and for each cause an edit that is refused for it.

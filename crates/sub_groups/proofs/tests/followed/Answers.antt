@@ -1,9 +1,10 @@
 use Rattle.std.proofs.Common.{◌≡◌, ◌∙◌, ◌∷◌, List, [], Option, None, Some, ap, arith, refl, subst, sym}
-use Rattle.std.specs.Prelude.{◌<◌, ◌^◌, IfSome, length}
+use Rattle.std.specs.Prelude.{◌<◌, IfSome, length}
 use Rattle.std.specs.List.Sorted.{IsStrictlySortedBy}
 use Rattle.std.specs.Map.{keys_of, values_of}
 use Rattle.std.specs.Ordering.{nat_cmp}
 use Rattle.values.specs.Datum.{Datum}
+use Rattle.view_lang.specs.Limits.{max_appended_rows}
 use Rattle.view_lang.specs.Shifts.{NumberedRows, row_at, with_at}
 use Rattle.group_state.specs.Groups.{Keeps}
 use Rattle.sub_groups.specs.SubGroups.{sub_row}
@@ -68,11 +69,11 @@ first-there (Some x) None (Some z) = refl
 first-there (Some x) (Some y) None = refl
 first-there (Some x) (Some y) (Some z) = refl
 
-one-few : (a : Option (List Datum)) → length (one a) < 2 ^ 62
+one-few : (a : Option (List Datum)) → length (one a) < max_appended_rows
 one-few None = omega arith
 one-few (Some x) = omega arith
 
-two-few : (a b : Option (List Datum)) → length (two a b) < 2 ^ 62
+two-few : (a b : Option (List Datum)) → length (two a b) < max_appended_rows
 two-few None None = omega arith
 two-few None (Some y) = omega arith
 two-few (Some x) None = omega arith
