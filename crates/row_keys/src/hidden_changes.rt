@@ -1,6 +1,6 @@
 //! Takes changes of a side table back for a while, and makes them again; forgets what they retracted.
 
-ghost use Rattle.std.specs.Prelude.{◌≡◌, ◌<◌, ◌≤◌, All, IfOk, length, map};
+ghost use Rattle.std.specs.Prelude.{◌≡◌, ◌<◌, ◌≤◌, ◌+◌, ◌^◌, All, IfOk, length, map};
 ghost use Rattle.std.specs.List.{range_with_len};
 ghost use Rattle.values.specs.Keys.{datum_of_key};
 ghost use Rattle.view_lang.specs.TableRules.{IsSideTable};
@@ -76,8 +76,7 @@ impl RowStore {
 
     /// Removes the rows of a change of a side table that was taken back by `hide`, and frees their numbers.
     pub fn forget(&mut self, change: &TableChange)
-        requires side { IsChangeOf 1 change.now }
-        requires can { CanShow self.old.table change.now self.old.slots }
+        requires { IsChangeOf 1 change.now × CanShow self.old.table change.now self.old.slots }
         ensures { self.new ≡ with_slots self.old (forgotten change.now self.old.slots) }
     {
         match change {

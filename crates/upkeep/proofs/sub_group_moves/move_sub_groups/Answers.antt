@@ -35,7 +35,7 @@ use Rattle.upkeep.specs.Inputs.{side_by}
 use Rattle.upkeep.specs.Moves.{AreGrouped, CanMove, made_but, out_at}
 use Rattle.upkeep.specs.StoreLaws.{rows_length, rows_there, table_there}
 use Rattle.upkeep.specs.Stores.{Rows, rows_at, rows_in, tables_in}
-use Rattle.row_keys.specs.HiddenChanges.{named_keys}
+use Rattle.row_keys.specs.HiddenChanges.{NamesRows, named_keys}
 use Rattle.upkeep.specs.ViewStates.{swapped_at}
 use Rattle.upkeep.specs.declared.view_state.Turn.TheVariants as turn
 use Rattle.upkeep.proofs.FollowedLookups.{sides_swapped}
@@ -61,7 +61,14 @@ use Rattle.upkeep.proofs.SwappedStores.{
   turned_rows,
   turned_tables,
 }
+use Rattle.upkeep.proofs.SwappedRows.{names_rows}
 use Rattle.upkeep.proofs.sub_group_moves.move_sub_groups.Goals as goal
+
+pub named_cells-requires-clause-names : goal.named_cells-requires-clause-names
+named_cells-requires-clause-names c =
+    subst (NamesRows c.args.change.now)
+    (rows_there c.args.stores.now.items c.args.table c.index-2.result.now c.index-2.ensures c.requires.there)
+    (names_rows c.args.turn _ c.args.change.now _ c.requires.swaps)
 
 pub turn_sub_groups-gone-requires-clause-view : goal.turn_sub_groups-gone-requires-clause-view
 turn_sub_groups-gone-requires-clause-view c =

@@ -114,8 +114,10 @@ forget-requires c =
     let can : CanSwap turn.Go c.swap.new.store.table c.args.change.now c.swap.new.store.slots =
     subst (λ (t : Table). CanSwap turn.Go t c.args.change.now c.swap.new.store.slots) (sym changed.same)
     c.swap.ensures.again in
+    let found =
     swaps_found ss c.follow_lookups.new.stores.items c.args.table c.index_mut.result.now c.swap.new.store
-    c.index_mut-in-Ok.result.now turn.Go c.args.change.now changed opened c.index_mut-in-Ok.ensures.value can
+    c.index_mut-in-Ok.result.now turn.Go c.args.change.now changed opened c.index_mut-in-Ok.ensures.value can in
+    (found.0, found.1.can_show)
 
 pub invariant_of-self : goal.invariant_of-self
 invariant_of-self c =
