@@ -14,6 +14,7 @@ mod LastRows
 mod KeyedRows
 mod KeysOfBatch
 mod HeavyRows
+mod BoundedRows
 mod LightRows
 mod HeldRows
 mod AppendedBatches

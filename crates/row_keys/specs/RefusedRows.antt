@@ -1,5 +1,5 @@
 -- Why the rows of a batch are refused once their keys are numbered: too many rows, or too heavy ones.
-use Rattle.std.specs.Prelude.{◌≡◌, ℕ, ◌+◌, Bool, true, false, ◌||◌, nat_lt, List}
+use Rattle.std.specs.Prelude.{◌≡◌, ℕ, ◌+◌, All, Bool, true, false, ◌||◌, nat_lt, List, length}
 use Rattle.arrays.specs.Checked.{CheckedColumn}
 use Rattle.view_lang.specs.Causes.{any_heavy}
 use Rattle.view_lang.specs.Limits.{max_appended_rows}
@@ -18,3 +18,8 @@ RefusesRows most live appended rows columns (fault.Unfit unfit.CellTooHeavy) =
     (are_many most live appended rows ≡ false) × (any_heavy (layouts_in columns) (batch_rows rows columns) ≡ true)
 RefusesRows most live appended rows columns fault.Memory = Unit {0}
 RefusesRows most live appended rows columns _ = ⊥
+
+-- However many rows these columns have, none is too heavy.
+abbrev pub IsBounded : List CheckedColumn → Type 0
+IsBounded columns = (rows : ℕ) → All (λ (c : CheckedColumn). length c.cells ≡ rows) columns
+    → any_heavy (layouts_in columns) (batch_rows rows columns) ≡ false

@@ -1,8 +1,10 @@
 //! Stores of rows: the rows of a table by number, and the numbers of the live rows by key.
 //!
 //! `specs/Slots.antt` says what the rows of a store are and what each call does to them, `specs/Numbered.antt` which
-//! live rows have which numbers, `specs/NumberLaws.antt` how these change, `specs/Store.antt` what contracts see, and
-//! `specs/Batches.antt` which batches may come. What an edit means, and why it is refused, is said in `view_lang`.
+//! live rows have which numbers, `specs/NumberLaws.antt` how these change, `specs/Store.antt` what contracts see,
+//! `specs/Batches.antt` which batches may come, and `specs/TableChanges.antt` and `specs/HiddenChanges.antt` how a change
+//! of a table is made, taken back, hidden and shown again. What an edit means, and why it is refused, is said in
+//! `view_lang`.
 #![tactic(auto)]
 
 mod batches;
