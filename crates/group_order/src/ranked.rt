@@ -36,7 +36,6 @@ ghost use Rattle.group_state.specs.Keys.{tuple_cmp};
 ghost use Rattle.group_state.specs.Aggregates.{AreReadBy, IsKept};
 ghost use Rattle.group_state.specs.Moves.{IsPartOf};
 ghost use Rattle.group_state.specs.Tuples.{tuple_of as tuple_by};
-ghost use Rattle.top_rows.specs.PlaceOrder.{tied_cmp};
 ghost use Rattle.top_rows.specs.Ties.{KeepsBy, is_place_by, pick, place_by, stands_by, without};
 ghost use Rattle.group_order.specs.GroupPlaces.{GroupPlace as PlaceSeen, group_place_cmp};
 ghost use Rattle.group_order.specs.Ranked.{IsRanked, Keeps, has_places, is_there, named, placed_at, ranked_rows, shown_at};

@@ -1,7 +1,6 @@
 //! Grouping tuples.
 
-ghost use Rattle.std.specs.Prelude.{◌≡◌, ◌∷◌, All, IfOk, [], length, map};
-ghost use Rattle.view_lang.specs.Aggregates.{IsKeyCell};
+ghost use Rattle.std.specs.Prelude.{◌≡◌, ◌∷◌, All, IfOk, [], length};
 ghost use Rattle.values.specs.CellViews.{shallow, viewed};
 ghost use Rattle.view_lang.specs.Cells.{cell_at};
 ghost use Rattle.group_state.specs.Moves.{begins_with};
@@ -15,7 +14,7 @@ use std::alloc::{AllocError, Global};
 use std::cmp::Ordering;
 use std::marker::Model;
 use std::slice;
-use values::{CellView, Key, Value, key_law};
+use values::{CellView, Key, Value};
 use view_lang::RowView;
 
 /// One key where it lies, or any number of them in a piece of memory.
@@ -79,8 +78,6 @@ impl PartialOrd for Tuple {
 
 impl Ord for Tuple {
     ghost use Rattle.std.specs.Prelude.{refl};
-    ghost use Rattle.std.proofs.Common.{rules};
-    ghost use Rattle.std.specs.Cmp.Rules.{comparing};
     ghost use Rattle.group_state.specs.Keys.{tuple_cmp, tuple_total};
 
     ghost cmp = { tuple_cmp };
@@ -222,11 +219,7 @@ impl Tuple {
 }
 
 /// The keys of a row's cells in some columns.
-fn each_key<R: RowView>(
-    alloc: Global,
-    columns: &[usize],
-    row: &R,
-) -> Result<Vec<Key>, AllocError>
+fn each_key<R: RowView>(alloc: Global, columns: &[usize], row: &R) -> Result<Vec<Key>, AllocError>
     ensures { IfOk result (λ keys. keys.items ≡ tuple_of columns.now (R.cells row.now)) }
 {
     let mut keys = Vec::with_capacity(alloc, columns.len())?;

@@ -67,9 +67,11 @@ bound_more sum i w columns c is below within light before k there =
     let at = before k there in
     let few = at.1.0 in (
       at.0 + own,
-      (omega (arith, few, small),
+      (
+        omega (arith, few, small),
         judged_more columns i k at.0 own c _ is below there (says_itself c k inside (omega (arith, small, light)))
-          (omega (arith, small, light)) at.1.1),
+            (omega (arith, small, light)) at.1.1,
+      ),
     )
 
 none_heavy : (ls : Roses Layout) (cs : List (List Datum)) (i n : ℕ)

@@ -1,6 +1,6 @@
 //! Laws of the definitions: functions that do nothing, whose contracts are theorems.
 
-ghost use Rattle.std.specs.Prelude.{◌≡◌, Err, None, Ok, Some};
+ghost use Rattle.std.specs.Prelude.{◌≡◌, Err, Ok, Some};
 ghost use Rattle.values.specs.declared.causes.Cause.TheVariants as cause;
 ghost use Rattle.feed.specs.Events.{given};
 ghost use Rattle.view_lang.specs.ConfigRules.{IsConfig};

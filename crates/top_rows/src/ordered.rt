@@ -1,6 +1,6 @@
 //! The order of some rows, kept current by changes of the rows.
 
-ghost use Rattle.std.specs.Prelude.{◌≡◌, [], None, Some, cond, false, IfOk, List, map, OnErr, OnOk, take, true, ℕ};
+ghost use Rattle.std.specs.Prelude.{◌≡◌, [], None, Some, cond, false, IfOk, List, map, OnErr, OnOk, take, true};
 ghost use Rattle.std.specs.List.Sorted.{IsStrictlySortedBy};
 ghost use Rattle.std.specs.Map.{keys_of};
 ghost use Rattle.std.specs.Ordering.{nat_cmp};

@@ -168,10 +168,10 @@ pub names_rows : (u : Turn) (t : Table) (c : TableChange) (slots : List Slot) â†
 names_rows turn.Come t (Appended n) slots can = absurd can.0
 names_rows turn.Come t (Retracted ns) slots can = put_back_there t ns.items slots can.1
 names_rows turn.Come t (Put n replaced) slots can = (
-      few_last n slots can.1.0,
-      still_below (length (taken_back n slots)) replaced.items (length slots) (shorter n slots)
-          (put_back_there t replaced.items (taken_back n slots) can.1.1),
-    )
+  few_last n slots can.1.0,
+  still_below (length (taken_back n slots)) replaced.items (length slots) (shorter n slots)
+      (put_back_there t replaced.items (taken_back n slots) can.1.1),
+)
 names_rows turn.Go t (Appended n) slots can = absurd can.0
 names_rows turn.Go t (Retracted ns) slots can = retracted_there ns.items slots can.1.can_show
 names_rows turn.Go t (Put n replaced) slots can =

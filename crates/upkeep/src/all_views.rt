@@ -1,26 +1,6 @@
 //! Brings what is kept of all views up to rows of the main table that come or go.
 
-ghost use Rattle.std.specs.List.{range_with_len};
-ghost use Rattle.std.specs.Prelude.{
-  ◌≡◌,
-  ◌<◌,
-  ◌≤◌,
-  ◌+◌,
-  ◌*◌,
-  ◌^◌,
-  [],
-  All,
-  count_by,
-  false,
-  IfOk,
-  List,
-  OnErr,
-  OnOk,
-  length,
-  map,
-  slice_set,
-  true,
-};
+ghost use Rattle.std.specs.Prelude.{◌≡◌, ◌<◌, ◌≤◌, ◌+◌, ◌*◌, [], All, count_by, false, IfOk, List, OnErr, OnOk, length, map, slice_set, true};
 ghost use Rattle.values.specs.Limits.{max_main_rows};
 ghost use Rattle.row_keys.specs.Slots.{last_numbers};
 ghost use Rattle.view_lang.specs.Config.{Table};

@@ -1,24 +1,6 @@
 //! Tables, and views of them that are kept current.
 
-ghost use Rattle.std.specs.Prelude.{
-  ◌≡◌,
-  ℕ,
-  ◌<◌,
-  ◌≤◌,
-  ◌+◌,
-  [],
-  All,
-  false,
-  count_by,
-  get_or,
-  IfOk,
-  OnErr,
-  OnOk,
-  length,
-  map,
-  slice_set,
-  true,
-};
+ghost use Rattle.std.specs.Prelude.{◌≡◌, ◌<◌, ◌≤◌, ◌+◌, [], All, false, count_by, get_or, IfOk, OnErr, OnOk, length, map, slice_set, true};
 ghost use Rattle.body_writer.specs.RowRanges.{IsRange, ranges_rows};
 ghost use Rattle.view_lang.specs.Edits.{table_of};
 ghost use Rattle.view_lang.specs.Laws.{Viewed};

@@ -9,7 +9,7 @@ ghost use Rattle.view_lang.specs.World.{table_at};
 ghost use Rattle.row_keys.specs.Slots.{live, row_of};
 ghost use Rattle.upkeep.specs.LiveParts.{AreOf};
 ghost use Rattle.upkeep.specs.Stores.{Rows, rows_at, rows_in, tables_in, visits_in};
-ghost use Rattle.upkeep.specs.Swaps.{CanSwap, swapped};
+ghost use Rattle.upkeep.specs.Swaps.{CanSwap};
 ghost use Rattle.row_keys.specs.HiddenChanges.{named_keys};
 ghost use Rattle.upkeep.specs.Touched.{opened_for, refers, refers_by};
 ghost use Rattle.upkeep.specs.ViewStates.{

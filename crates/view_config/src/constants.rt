@@ -4,7 +4,7 @@ ghost use Rattle.std.specs.Prelude.{◌≡◌, ◌<◌, ◌≤◌, ◌^◌, IfSo
 ghost use Rattle.toml.specs.View.{view};
 ghost use Rattle.values.specs.Limits.{max_precision};
 ghost use Rattle.values.specs.Reading.{must};
-ghost use Rattle.view_config.specs.Constants.{and_then, binary_in, byte_of, bytes_in_pairs, constant_of, decimal};
+ghost use Rattle.view_config.specs.Constants.{binary_in, byte_of, bytes_in_pairs, constant_of, decimal};
 ghost use Rattle.view_config.specs.Constants.{
   decimal_in,
   digits_after,
@@ -15,7 +15,7 @@ ghost use Rattle.view_config.specs.Constants.{
   magnitude,
 };
 ghost use Rattle.view_config.specs.Constants.{nibble, pairs, pointed, some_digits, text_constant, truth_in, unscaled};
-ghost use Rattle.view_config.specs.Constants.{whole_in, within};
+ghost use Rattle.view_config.specs.Constants.{whole_in};
 ghost use Rattle.view_config.specs.Reading.{Answers};
 
 use crate::faults::ConfigFault;

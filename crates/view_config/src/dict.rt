@@ -1,6 +1,6 @@
 //! Reads which outputs of a view are written with dictionaries.
 
-ghost use Rattle.std.specs.Prelude.{◌≡◌, IfOk, length};
+ghost use Rattle.std.specs.Prelude.{◌≡◌, IfOk};
 ghost use Rattle.toml.specs.View.{items_view as items, view};
 ghost use Rattle.values.specs.Reading.{Yields};
 ghost use Rattle.view_lang.specs.ConfigRules.{AreOutputs};

@@ -1,6 +1,5 @@
 //! Reads feeds, each with its role.
 
-ghost use Rattle.std.specs.Prelude.{◌≡◌};
 ghost use Rattle.toml.specs.View.{table_view, view};
 ghost use Rattle.values.specs.Reading.{Yields};
 ghost use Rattle.view_config.specs.Feeds.{feed_of, feeds_of, role_by, role_of, side_number, sideless};

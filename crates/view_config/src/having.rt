@@ -1,6 +1,5 @@
 //! Reads the filter of the rows of groups.
 
-ghost use Rattle.std.specs.Prelude.{◌≡◌};
 ghost use Rattle.toml.specs.View.{view};
 ghost use Rattle.view_lang.specs.ConfigRules.{AreOutputs};
 ghost use Rattle.view_lang.specs.OutputsSeen.{outputs_of as seen};

@@ -1,6 +1,6 @@
 //! The limits of columns: of their names, of how many fields they have at all levels, and of what their slots weigh.
 
-ghost use Rattle.std.specs.Prelude.{◌≡◌, ◌≤◌, ◌*◌, IfSome, map};
+ghost use Rattle.std.specs.Prelude.{◌≤◌, ◌*◌, IfSome, map};
 ghost use Rattle.values.specs.Limits.{max_fields, max_slot};
 ghost use Rattle.values.specs.Logical.{tree_of, trees_of};
 ghost use Rattle.values.specs.Reading.{Yields};

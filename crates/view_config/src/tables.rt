@@ -1,6 +1,5 @@
 //! Reads tables: their columns, and which of them is the key.
 
-ghost use Rattle.std.specs.Prelude.{◌≡◌};
 ghost use Rattle.toml.specs.View.{items_view, table_view, view};
 ghost use Rattle.values.specs.Reading.{Yields};
 ghost use Rattle.view_config.specs.Reading.{Answers};

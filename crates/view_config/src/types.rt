@@ -1,6 +1,6 @@
 //! Reads the types of columns. What is no type is `TypeText`.
 
-ghost use Rattle.std.specs.Prelude.{◌≡◌, ◌≤◌, ◌<◌, ◌^◌, pos, IfOk};
+ghost use Rattle.std.specs.Prelude.{◌≡◌, ◌≤◌, ◌<◌, IfOk};
 ghost use Rattle.values.specs.Reading.{Yields};
 ghost use Rattle.toml.specs.View.{items_view, view};
 ghost use Rattle.view_config.specs.Reading.{Answers};

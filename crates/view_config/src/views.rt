@@ -1,6 +1,6 @@
 //! Reads views.
 
-ghost use Rattle.std.specs.Prelude.{◌≡◌, option_map};
+ghost use Rattle.std.specs.Prelude.{option_map};
 ghost use Rattle.toml.specs.View.{table_view, view};
 ghost use Rattle.values.specs.Reading.{Yields};
 ghost use Rattle.view_config.specs.Filters.{whole_filter};

@@ -9,5 +9,5 @@ loop-value-preserved c =
     let x = c.in-Some.field-0 in
     let left : c.loop-value.value-iterator.rest.items ≡ x ∷ c.next.new.self.rest.items = search rules in
     made-next key_cmp key_total count_with c.loop-value.made.entries c.insert.new.self.entries x.value x.count x
-        c.loop-value.value-iterator.rest.items c.next.new.self.rest.items c.args.parts.counts.items left refl
-        c.in_ok-insert.ensures.entries c.loop-value.invariant c.requires.ascending
+    c.loop-value.value-iterator.rest.items c.next.new.self.rest.items c.args.parts.counts.items left refl
+    c.in_ok-insert.ensures.entries c.loop-value.invariant c.requires.ascending
