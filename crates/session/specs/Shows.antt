@@ -8,6 +8,7 @@ use Rattle.values.specs.declared.schema.Schema.{Schema}
 use Rattle.view_lang.specs.Config.{Config, FeedConfig, SideTable, Table, View, feed_code}
 use Rattle.view_lang.specs.ConfigRules.{IsView}
 use Rattle.view_lang.specs.Edits.{Edit, table_of}
+use Rattle.view_lang.specs.Limits.{max_undo_depth}
 use Rattle.view_lang.specs.TableRules.{IsTable}
 use Rattle.view_lang.specs.ViewColumns.{feed_columns, view_columns}
 use Rattle.view_lang.specs.World.{table_at, world}
@@ -115,7 +116,7 @@ AreShown tables views columns =
 -- What holds of each session: some state is shown, so each feed has its link, and the views are of its tables and have
 -- these columns.
 pub record IsSession (p : SessionParts) (capacity : ℕ) (columns : List (List (Rose NamedType))) : Type 0 where
-  pub capacity_is : capacity ≡ 64
+  pub capacity_is : capacity ≡ max_undo_depth
   pub views : AreShown (tables_in p.tables.stores) p.tables.views columns
   pub some : (s : State) × Shows p s
 
