@@ -43,6 +43,12 @@ HoldsBack tables rows (r ∷ rs) [] = ⊥
 HoldsBack tables rows (r ∷ rs) (e ∷ es) =
     AreWorld tables rows (e ∷ es) × CanUndo tables r rows × HoldsBack tables (before r rows) rs es
 
+-- Whatever edits are held going back from the old rows along the records are held going back from the new ones along
+-- those that are left.
+abbrev pub StillHolds : List Table → Rows → List UndoRecord → Rows → List UndoRecord → Type 0
+StillHolds tables old records new left =
+    (edits : List Edit) → HoldsBack tables old records edits → HoldsBack tables new left edits
+
 -- The newest record comes first.
 pub record ShowsPast (tables : List Table) (rows : Rows) (records : List UndoRecord) (past : Past) : Type 0 where
   pub holds : HoldsBack tables rows records past.edits

@@ -5,8 +5,8 @@ ghost use Rattle.circular_buffer.specs.Buffer.{buffer};
 ghost use Rattle.view_lang.specs.Edits.{Edit};
 ghost use Rattle.view_lang.specs.Limits.{max_undo_depth};
 ghost use Rattle.upkeep.specs.Stores.{rows_in, tables_in, visits_in};
-ghost use Rattle.upkeep.specs.Touched.{touched};
-ghost use Rattle.session.specs.Shows.{HoldsBack};
+ghost use Rattle.session.specs.Released.{TouchesAlike};
+ghost use Rattle.session.specs.Shows.{HoldsBack, StillHolds};
 
 use crate::releases::release_law;
 use crate::undo::UndoRecord;
@@ -73,16 +73,14 @@ pub(crate) fn record_change(
         (newest ∷ records.old.items) edits }
     ensures records { records.new.items ≡ take max_undo_depth (newest ∷ records.old.items) }
     ensures capacity { records.new.capacity ≡ max_undo_depth }
-    ensures holds { (edits : List Edit)
-        → HoldsBack (tables_in tables.old.stores) (rows_in tables.old.stores) (newest ∷ records.old.items) edits
-        → HoldsBack (tables_in tables.old.stores) (rows_in tables.new.stores) records.new.items edits }
+    ensures holds { StillHolds (tables_in tables.old.stores) (rows_in tables.old.stores)
+        (newest ∷ records.old.items) (rows_in tables.new.stores) records.new.items }
     ensures tables { tables_in tables.new.stores ≡ tables_in tables.old.stores }
     ensures views { tables.new.views ≡ tables.old.views }
     ensures stale { tables.new.stale ≡ tables.old.stale }
     ensures visits { visits_in tables.new.stores ≡ visits_in tables.old.stores }
-    ensures touched { touched (tables_in tables.old.stores) tables.old.views (rows_in tables.new.stores) newest.table
-        newest.change ≡ touched (tables_in tables.old.stores) tables.old.views (rows_in tables.old.stores)
-        newest.table newest.change }
+    ensures touched { TouchesAlike (tables_in tables.old.stores) tables.old.views newest
+        (rows_in tables.new.stores) (rows_in tables.old.stores) }
 {
     // It does nothing: the proof takes from it which rows can go.
     release_law();
