@@ -1,5 +1,6 @@
 -- What a command did to the files: what was read of one, and what was put to another.
 use Rattle.std.specs.Prelude.{◌≡◌, ◌≢◌, ℕ, List, Option, None, Some, Result, Ok, Err}
+use Rattle.std.specs.Io.KnownBytes.{Appends}
 use Rattle.schema_meta.specs.Story.{story_of}
 use Rattle.stream_writer.specs.Sinks.{Sunk}
 use Rattle.values.specs.declared.causes.Cause.TheVariants as cause
@@ -20,6 +21,11 @@ IsContent (Some held) bytes = bytes ≡ held
 pub record Replaces (before after : List ℕ → Option (List ℕ)) (path bytes : List ℕ) : Type 0 where
   pub whole : IsContent (after path) bytes
   pub others : (other : List ℕ) → other ≢ path → after other ≡ before other
+
+-- The file at this path holds now what a new file took behind what a sink took, and each other one what it held.
+abbrev pub ReplacesBy : Sunk → Sunk → (List ℕ → Option (List ℕ)) → (List ℕ → Option (List ℕ)) → List ℕ → Type 0
+ReplacesBy old new before after path =
+    (bytes : List ℕ) → Appends old.taken new.taken bytes → Replaces before after path bytes
 
 -- These bytes were read of a file that holds `held`, and this came of recasting them.
 pub record RecastsFile (held : Option (List ℕ)) (old new : Sunk) (answer : Result ℕ RecastFault) : Type 0 where

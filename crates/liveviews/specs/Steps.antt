@@ -71,6 +71,11 @@ pub record Ended (s : Story) (f : FeedParts) (rows : List (List Datum)) (rest : 
 abbrev pub Reached : Story → FeedParts → List (List Datum) → List ℕ → Type 0
 Reached s f rows rest = GoesOn s f rows rest ⊎ Ended s f rows rest
 
+-- This holds of each stream whose feed got to this piece, whatever bytes come after it.
+abbrev pub OfEachReached : FeedParts → List ℕ → (Story → List (List Datum) → List ℕ → Type 0) → Type 0
+OfEachReached f piece holds =
+    (s : Story) (rows : List (List Datum)) (later : List ℕ) → Reached s f rows (piece ++ later) → holds s rows later
+
 -- The same of what was taken, and what is kept beside its rows is so.
 abbrev pub HasTaken : Story → FeedParts → KeptBatches → List ℕ → Type 0
 HasTaken s f t rest = Reached s f (taken_rows t) rest × IsKeptSo s.schema t

@@ -9,6 +9,7 @@ use Rattle.schema_meta.specs.Logical.{logical_field}
 use Rattle.schema_meta.specs.Story.{Story, story_of}
 use Rattle.feed.specs.Shown.{FeedParts, Shows}
 use Rattle.feed.specs.States.{FeedState, retained_in}
+use Rattle.body_writer.specs.declared.from_columns.batch.Batch.{Batch}
 use Rattle.stream_writer.specs.Sinks.{Sunk, Writes}
 use Rattle.stream_writer.specs.Stream.{canon}
 use Rattle.stream_writer.specs.Table.{IsTable}
@@ -16,6 +17,7 @@ use Rattle.stream_writer.specs.TableWriters.{IsWriting}
 use Rattle.stream_writer.specs.declared.faults.WriteFault.{WriteFault}
 use Rattle.stream_writer.specs.declared.table_writer.TableWriter.{TableWriter}
 use Rattle.stream_writer.specs.declared.faults.WriteFault.TheVariants as write
+use Rattle.liveviews.specs.Brought.{Brings}
 use Rattle.liveviews.specs.Recast.{IsUntouched, WritesTable}
 use Rattle.liveviews.specs.Source.{OfSource}
 use Rattle.liveviews.specs.Steps.{Reached, Refuses}
@@ -94,6 +96,30 @@ pub record KnowsSchema (s : Story) (f : FeedParts) : Type 0 where
   pub shows : Shows f state
   pub same : s.schema ≡ (retained_in state).known.schema
   pub lacks : s.schema ≡ None → Refuses s cause.NoSchema
+
+-- This holds of each stream of which rows came to this writer, and whose schema the feed has.
+abbrev pub OfEachWritten : Sunk → FeedParts → Option TableWriter → (Sunk → Story → List (List Datum) → Type 0)
+    → Type 0
+OfEachWritten now f w holds =
+    (start : Sunk) (s : Story) (rows : List (List Datum)) → HasWritten start now s w rows → KnowsSchema s f
+    → holds start s rows
+
+-- This is the next batch of a stream whose rows before it came to the writer.
+abbrev pub IsBrought : Sunk → FeedParts → Streaming → Batch → Type 0
+IsBrought now f r b =
+    (start : Sunk) × (s : Story) × (rows : List (List Datum)) × (rest : List ℕ) × HasWritten start now s r.writer rows
+    × (r.rows ≡ length rows) × Brings s f rows b rest
+
+-- This holds of each stream of which this is the next batch.
+abbrev pub OfEachBrought : Sunk → FeedParts → Streaming → Batch → (Sunk → Story → List ℕ → Type 0) → Type 0
+OfEachBrought now f r b holds =
+    (start : Sunk) (s : Story) (rows : List (List Datum)) (rest : List ℕ) → HasWritten start now s r.writer rows
+    → r.rows ≡ length rows → Brings s f rows b rest → holds start s rest
+
+-- This holds of each stream that was taken and written up to this piece, whatever bytes come after it.
+abbrev pub OfEachStreamed : Sunk → FeedParts → Streaming → List ℕ → (Sunk → Story → List ℕ → Type 0) → Type 0
+OfEachStreamed now f r piece holds =
+    (start : Sunk) (s : Story) (later : List ℕ) → HasStreamed start now s f r (piece ++ later) → holds start s later
 
 -- a source that can't be read further, after so many bytes were put
 abbrev pub unread_after : ℕ → FileFault → SourceFault

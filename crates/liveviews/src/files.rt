@@ -52,9 +52,8 @@ impl From<AllocError> for FileFault {
 /// says why.
 pub trait Files: Sink {
     ghost use Rattle.std.specs.Prelude.{◌≡◌, ℕ, List, Option};
-    ghost use Rattle.std.specs.Io.KnownBytes.{Appends};
     ghost use Rattle.stream_writer.specs.Sinks.{Puts};
-    ghost use Rattle.liveviews.specs.Files.{IsContent, Replaces};
+    ghost use Rattle.liveviews.specs.Files.{IsContent, ReplacesBy};
     ghost use Rattle.liveviews.specs.Source.{HoldsFile};
     ghost use Rattle.liveviews.specs.declared.files.FileFault.{FileFault as Fault};
 
@@ -105,8 +104,7 @@ pub trait Files: Sink {
         ensures placed { OnOk result (Self.sunk self.new ≡ Self.New.sunk file) }
         ensures failed { IfErr result (λ fault. Puts (Self.sunk self.old) (Self.sunk self.new) (Err fault) []) }
         ensures content { MatchResult result
-            (λ _. (bytes : List ℕ) → Appends (Self.sunk self.old).taken (Self.New.sunk file).taken bytes
-            → Replaces (content self.old) (content self.new) path.now bytes)
+            (λ _. ReplacesBy (Self.sunk self.old) (Self.New.sunk file) (content self.old) (content self.new) path.now)
             (λ _. content self.new ≡ content self.old) };
 
     /// Throws a new file away.

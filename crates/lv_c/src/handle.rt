@@ -37,7 +37,8 @@ fn full(held: Box<Held>) -> Handle
 /// Takes what stands behind a handle. The handle is empty until it is put back.
 pub fn take(alloc: Global, handle: &mut Handle) -> Option<Box<Held>>
     ensures left { handle.new.slot.value ≡ None }
-    ensures taken { MatchOption result (handle.old.slot.value ≡ None) (λ held. handle.old.slot.value ≡ Some held.value) }
+    ensures taken { MatchOption result (handle.old.slot.value ≡ None)
+        (λ held. handle.old.slot.value ≡ Some held.value) }
 {
     if !handle.is_open {
         return None;

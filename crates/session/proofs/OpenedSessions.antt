@@ -35,6 +35,7 @@ use Rattle.view_lang.specs.Config.{Config, FeedConfig, SideTable, Table, View, t
 use Rattle.view_lang.specs.ConfigRules.{IsConfig, IsFeed, IsView}
 use Rattle.view_lang.specs.Contents.{no_contents}
 use Rattle.view_lang.specs.Edits.{table_of}
+use Rattle.view_lang.specs.Limits.{max_undo_depth}
 use Rattle.view_lang.specs.TableRules.{IsSideTable, IsTable}
 use Rattle.view_lang.specs.ViewColumns.{feed_columns, view_columns}
 use Rattle.view_lang.specs.World.{world}
@@ -212,7 +213,7 @@ tables_right conf right =
 
 pub opened_session :
     (conf : Config) (names : List (List ℕ)) (links : List Link) (tables : LiveParts) (records : List UndoRecord)
-    (capacity : ℕ) (columns : List (List (Rose NamedType))) → IsConfig conf → capacity ≡ 64
+    (capacity : ℕ) (columns : List (List (Rose NamedType))) → IsConfig conf → capacity ≡ max_undo_depth
     → names ≡ map (λ s. s.name) conf.sides → tables.stores ≡ empty_stores conf → tables.views ≡ conf.views
     → records ≡ []
     → ShowsEach (tables_of conf) links (map (opened (tables_of conf)) conf.feeds)

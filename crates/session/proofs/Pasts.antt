@@ -29,6 +29,7 @@ use Rattle.view_lang.specs.Causes.{cause_in, cause_of}
 use Rattle.view_lang.specs.Config.{Table}
 use Rattle.view_lang.specs.Contents.{applied}
 use Rattle.view_lang.specs.Edits.{Edit}
+use Rattle.view_lang.specs.Limits.{max_undo_depth}
 use Rattle.view_lang.specs.World.{contents_at, edited, table_at, world}
 use Rattle.row_keys.specs.Slots.{Slot, contents_of}
 use Rattle.row_keys.specs.Store.{Refuses}
@@ -82,14 +83,14 @@ edit_held tables old new rs past r e shown world can is =
     subst (λ (rows : Rows). HoldsBack tables rows rs past.edits) (sym is) shown.holds in
     (world, can, below)
 
--- of which the latest 64 can be undone
+-- of which the latest can be undone, as many as the limit allows
 pub edit_shown :
     (tables : List Table) (rows : Rows) (rs kept : List UndoRecord) (past : Past) (r : UndoRecord) (e : Edit)
-    → past.depth ≡ length rs → kept ≡ take 64 (r ∷ rs) → HoldsBack tables rows kept (e ∷ past.edits)
+    → past.depth ≡ length rs → kept ≡ take max_undo_depth (r ∷ rs) → HoldsBack tables rows kept (e ∷ past.edits)
     → ShowsPast tables rows kept (accepted past e)
 edit_shown tables rows rs kept past r e deep first holds = record {
   holds = holds;
-  depth = ap (λ n. min 64 (suc n)) deep ∙ sym (length-take 64 (r ∷ rs)) ∙ ap length (sym first);
+  depth = ap (λ n. min max_undo_depth (suc n)) deep ∙ sym (length-take max_undo_depth (r ∷ rs)) ∙ ap length (sym first);
 }
 
 -- the record that is in front

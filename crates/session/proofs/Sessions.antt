@@ -37,6 +37,7 @@ use Rattle.stream_writer.specs.Sinks.{Sunk}
 use Rattle.values.specs.Logical.{NamedType}
 use Rattle.values.specs.Rose.{Rose}
 use Rattle.view_lang.specs.Config.{FeedConfig, Table, View, tables_of}
+use Rattle.view_lang.specs.Limits.{max_undo_depth}
 use Rattle.view_lang.specs.World.{World, contents_at, table_at, world}
 use Rattle.values.specs.declared.schema.Schema.{Schema}
 use Rattle.view_lang.specs.ConfigRules.{IsView}
@@ -433,7 +434,7 @@ pub session_kept :
     (p q : SessionParts) (step : State → State → Type 0) (m n : ℕ) (columns : List (List (Rose NamedType)))
     → IsSession p m columns → IsStep p step q
     → (tables_in q.tables.stores) ≡ (tables_in p.tables.stores)
-    → q.tables.views ≡ p.tables.views → n ≡ 64 → IsSession q n columns
+    → q.tables.views ≡ p.tables.views → n ≡ max_undo_depth → IsSession q n columns
 session_kept p q step m n columns was goes table views capacity =
     let made = goes was.some.0 was.some.1 in
     let placed : AreShown (tables_in p.tables.stores) q.tables.views columns =

@@ -30,6 +30,7 @@ use Rattle.std.proofs.lemmas.List.{map-append}
 use Rattle.values.specs.Datum.{Datum}
 use Rattle.view_lang.specs.Config.{Table, View}
 use Rattle.view_lang.specs.Contents.{key_in}
+use Rattle.view_lang.specs.Limits.{max_undo_depth}
 use Rattle.view_lang.specs.World.{table_at}
 use Rattle.row_keys.specs.Slots.{CanRetract, Slot, emptied, keys_at, last_numbers, live, marked, row_of}
 use Rattle.row_keys.proofs.Emptied.{
@@ -164,7 +165,7 @@ newest_touches tables views rows r rs oldest es holds =
 -- An edit opened what it touches, and nothing was opened since.
 pub opens_after :
     (old mid new : LiveParts) (records : List UndoRecord) (r : UndoRecord) (rs : List UndoRecord)
-    → records ≡ take 64 (r ∷ rs)
+    → records ≡ take max_undo_depth (r ∷ rs)
     → OpensOnce old (touched (tables_in old.stores) old.views (rows_in mid.stores) r.table r.change) mid
     → visits_in new.stores ≡ visits_in mid.stores
     → touched (tables_in old.stores) old.views (rows_in new.stores) r.table r.change

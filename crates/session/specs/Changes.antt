@@ -1,4 +1,4 @@
--- What the functions that a push is made of do to the rows and the undo records.
+-- What the functions that a push or an undo is made of do to the rows and the undo records.
 use Rattle.std.specs.Prelude.{◌≡◌, ℕ, List, Option, None, Some, Result, Ok, Err}
 use Rattle.arrays.specs.Checked.{CheckedColumn}
 use Rattle.feed.specs.Columns.{cells_in}
@@ -16,7 +16,7 @@ use Rattle.row_keys.specs.declared.faults.EditFault.{EditFault}
 use Rattle.upkeep.specs.Stores.{Rows}
 use Rattle.row_keys.specs.TableChanges.{IsBatchOf}
 use Rattle.session.specs.Shows.{ShowsChannel, ShowsPast}
-use Rattle.session.specs.Steps.{Channel, FinishOf, Past, Pushes, accepted, edit_in, kind_of, unfit_in}
+use Rattle.session.specs.Steps.{Channel, FinishOf, Past, Pushes, Undoes, accepted, edit_in, kind_of, unfit_in}
 use Rattle.session.specs.declared.calls.Event.{Event}
 use Rattle.session.specs.declared.calls.Fault.{Fault}
 use Rattle.session.specs.declared.calls.Pushed.{Pushed as Came}
@@ -42,6 +42,12 @@ abbrev pub Edits : List Table → Edit → Rows → List UndoRecord → Rows →
 Edits tables e old records new next answer =
     (past : Past) → ShowsPast tables old records past
     → Answers (unfit_in tables past e) answer × ShowsPast tables new next (past_after past e answer)
+
+-- What the rows and the records show before an undo, and after it.
+abbrev pub UndoesTo : List Table → Rows → List UndoRecord → Result (Unit {0}) Fault → Rows → List UndoRecord → Type 0
+UndoesTo tables old records answer new left =
+    (past : Past) → ShowsPast tables old records past
+    → (next : Past) × Undoes past answer next × ShowsPast tables new left next
 
 -- the columns of a batch are those of its feed
 abbrev pub IsBatchEvent : List Table → Role → FeedEvent → Type 0

@@ -12,3 +12,4 @@ pub mod Visits
 pub mod Parts
 pub mod Bounds
 pub mod Released
+pub mod WrittenViews

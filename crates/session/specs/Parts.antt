@@ -1,5 +1,6 @@
 -- A session, taken apart.
 use Rattle.std.specs.Prelude.{◌≤◌, length, map, string_bytes}
+use Rattle.view_lang.specs.Limits.{max_undo_depth}
 use Rattle.upkeep.specs.TablesParts.{AreLiveParts, live_with}
 use Rattle.session.specs.Shows.{IsSession, SessionParts, columns_of}
 use Rattle.session.specs.declared.parts.SessionParts.{SessionParts as Taken}
@@ -19,5 +20,5 @@ session_with p =
 -- that are live in the stores.
 pub record AreParts (p : Taken) : Type 0 where
   pub tables : AreLiveParts p.tables
-  pub few : length p.records.items ≤ 64
-  pub session : IsSession (session_with p) 64 (columns_of p.schemas.items)
+  pub few : length p.records.items ≤ max_undo_depth
+  pub session : IsSession (session_with p) max_undo_depth (columns_of p.schemas.items)

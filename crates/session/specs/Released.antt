@@ -34,11 +34,15 @@ OldestIsOut =
     → HoldsBack tables rows (records ++ oldest ∷ []) edits
     → (oldest.table < length rows) × AllOut (restores oldest.change) (rows_at rows oldest.table)
 
+-- a record's change touches as much of some rows as of others
+abbrev pub TouchesAlike : List Table → List View → UndoRecord → Rows → Rows → Type 0
+TouchesAlike tables views r rows others =
+    touched tables views rows r.table r.change ≡ touched tables views others r.table r.change
+
 -- The newest record's change touches as many rows as before.
 abbrev pub NewestTouches : Type 0
 NewestTouches =
     (tables : List Table) (views : List View) (rows : Rows) (newest : UndoRecord) (records : List UndoRecord)
     (oldest : UndoRecord) (edits : List Edit)
     → HoldsBack tables rows (newest ∷ records ++ oldest ∷ []) edits
-    → touched tables views (released_at oldest.table (restores oldest.change) rows) newest.table newest.change
-    ≡ touched tables views rows newest.table newest.change
+    → TouchesAlike tables views newest (released_at oldest.table (restores oldest.change) rows) rows

@@ -8,6 +8,7 @@ use Rattle.values.specs.declared.schema.Schema.{Schema}
 use Rattle.view_lang.specs.Config.{Config, FeedConfig, SideTable, Table, View, feed_code}
 use Rattle.view_lang.specs.ConfigRules.{IsView}
 use Rattle.view_lang.specs.Edits.{Edit, table_of}
+use Rattle.view_lang.specs.Limits.{max_undo_depth}
 use Rattle.view_lang.specs.TableRules.{IsTable}
 use Rattle.view_lang.specs.ViewColumns.{feed_columns, view_columns}
 use Rattle.view_lang.specs.World.{table_at, world}
@@ -41,6 +42,12 @@ HoldsBack tables rows [] edits = AreWorld tables rows edits
 HoldsBack tables rows (r ∷ rs) [] = ⊥
 HoldsBack tables rows (r ∷ rs) (e ∷ es) =
     AreWorld tables rows (e ∷ es) × CanUndo tables r rows × HoldsBack tables (before r rows) rs es
+
+-- Whatever edits are held going back from the old rows along the records are held going back from the new ones along
+-- those that are left.
+abbrev pub StillHolds : List Table → Rows → List UndoRecord → Rows → List UndoRecord → Type 0
+StillHolds tables old records new left =
+    (edits : List Edit) → HoldsBack tables old records edits → HoldsBack tables new left edits
 
 -- The newest record comes first.
 pub record ShowsPast (tables : List Table) (rows : Rows) (records : List UndoRecord) (past : Past) : Type 0 where
@@ -115,7 +122,7 @@ AreShown tables views columns =
 -- What holds of each session: some state is shown, so each feed has its link, and the views are of its tables and have
 -- these columns.
 pub record IsSession (p : SessionParts) (capacity : ℕ) (columns : List (List (Rose NamedType))) : Type 0 where
-  pub capacity_is : capacity ≡ 64
+  pub capacity_is : capacity ≡ max_undo_depth
   pub views : AreShown (tables_in p.tables.stores) p.tables.views columns
   pub some : (s : State) × Shows p s
 

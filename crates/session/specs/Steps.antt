@@ -35,6 +35,7 @@ use Rattle.feed.specs.States.{FeedState, Finishes, Gives, after_finish, after_pu
 use Rattle.view_lang.specs.Causes.{cause_in}
 use Rattle.view_lang.specs.Config.{Config, FeedConfig, Table, View, tables_of}
 use Rattle.view_lang.specs.Edits.{Edit, edit_of}
+use Rattle.view_lang.specs.Limits.{max_undo_depth}
 use Rattle.view_lang.specs.UnfitCauses.{named}
 use Rattle.view_lang.specs.ViewColumns.{feed_columns, view_columns}
 use Rattle.view_lang.specs.Views.{view_of}
@@ -84,9 +85,9 @@ pushed used e = record { used = used; event = e }
 
 -- Edits
 
--- An accepted edit can be undone, as can the last 64.
+-- An accepted edit can be undone, and of those before it as many as the limit leaves.
 abbrev pub accepted : Past → Edit → Past
-accepted past e = record { edits = e ∷ past.edits; depth = min 64 (suc past.depth) }
+accepted past e = record { edits = e ∷ past.edits; depth = min max_undo_depth (suc past.depth) }
 
 -- what an edit makes of the past: it is accepted where no cause stands
 abbrev pub edited : Past → Edit → Option Unfit → Past

@@ -3,6 +3,7 @@
 ghost use Rattle.std.specs.Prelude.{◌≡◌, ◌<◌, length};
 ghost use Rattle.feed.specs.Shown.{event_seen};
 ghost use Rattle.view_lang.specs.Edits.{table_of};
+ghost use Rattle.view_lang.specs.Limits.{max_undo_depth};
 ghost use Rattle.view_lang.specs.ViewColumns.{feed_columns};
 ghost use Rattle.upkeep.specs.LiveEdits.{StaleByMemory};
 ghost use Rattle.upkeep.specs.Stores.{rows_in, tables_in};
@@ -32,14 +33,14 @@ fn edit(
 ) -> Result<(), EditFault>
     requires there { table_of role < length tables.old.stores }
     requires batch { IsBatchOf (feed_columns (tables_in tables.old.stores) role) columns.items rows }
-    requires capacity { records.old.capacity ≡ 64 }
+    requires capacity { records.old.capacity ≡ max_undo_depth }
     requires past { (past : Past)
         × ShowsPast (tables_in tables.old.stores) (rows_in tables.old.stores) records.old.items past }
     ensures edits { Edits (tables_in tables.old.stores) (edit_by role columns.items rows)
         (rows_in tables.old.stores) records.old.items (rows_in tables.new.stores) records.new.items result }
     ensures tables { tables_in tables.new.stores ≡ tables_in tables.old.stores }
     ensures views { tables.new.views ≡ tables.old.views }
-    ensures capacity { records.new.capacity ≡ 64 }
+    ensures capacity { records.new.capacity ≡ max_undo_depth }
     ensures stale { StaleByMemory tables.old.stale result tables.new.stale }
     ensures visits { EditOpens tables.old result records.new.items tables.new }
 {
@@ -58,14 +59,14 @@ pub(crate) fn respond(
 ) -> Result<Event, EditFault>
     requires there { table_of role < length tables.old.stores }
     requires batch { IsBatchEvent (tables_in tables.old.stores) role event }
-    requires capacity { records.old.capacity ≡ 64 }
+    requires capacity { records.old.capacity ≡ max_undo_depth }
     requires past { (past : Past)
         × ShowsPast (tables_in tables.old.stores) (rows_in tables.old.stores) records.old.items past }
     ensures takes { Takes (tables_in tables.old.stores) role (event_seen event) (rows_in tables.old.stores)
         records.old.items (rows_in tables.new.stores) records.new.items result }
     ensures tables { tables_in tables.new.stores ≡ tables_in tables.old.stores }
     ensures views { tables.new.views ≡ tables.old.views }
-    ensures capacity { records.new.capacity ≡ 64 }
+    ensures capacity { records.new.capacity ≡ max_undo_depth }
     ensures stale { StaleByMemory tables.old.stale result tables.new.stale }
     ensures visits { MessageOpens tables.old result records.new.items tables.new }
 {

@@ -19,6 +19,6 @@ pub struct SessionParts {
     /// The feeds, in the order of their declarations.
     pub links: Vec<Link>,
     pub tables: LiveTablesParts,
-    /// How the latest edits are undone, the newest first: at most 64.
+    /// How the latest edits are undone, the newest first: at most `MAX_UNDO_DEPTH`.
     pub records: Vec<UndoRecord>,
 }

@@ -1,6 +1,7 @@
 //! Pushes pieces to a feed of a session.
 
 ghost use Rattle.std.specs.Prelude.{◌≡◌};
+ghost use Rattle.view_lang.specs.Limits.{max_undo_depth};
 ghost use Rattle.upkeep.specs.Stores.{rows_in, tables_in};
 ghost use Rattle.session.specs.Shows.{ShowsChannel, ShowsPast};
 ghost use Rattle.session.specs.Changes.{PushesTo};
@@ -28,14 +29,14 @@ pub(crate) fn push_to(
     piece: &[u8],
 ) -> Result<Pushed, Fault>
     requires link { (c : Channel) × ShowsChannel (tables_in tables.old.stores) link.old c }
-    requires capacity { records.old.capacity ≡ 64 }
+    requires capacity { records.old.capacity ≡ max_undo_depth }
     requires past { (past : Past)
         × ShowsPast (tables_in tables.old.stores) (rows_in tables.old.stores) records.old.items past }
     ensures pushes { PushesTo (tables_in tables.old.stores) link.old (rows_in tables.old.stores) records.old.items
         piece.now result link.new (rows_in tables.new.stores) records.new.items }
     ensures tables { tables_in tables.new.stores ≡ tables_in tables.old.stores }
     ensures views { tables.new.views ≡ tables.old.views }
-    ensures capacity { records.new.capacity ≡ 64 }
+    ensures capacity { records.new.capacity ≡ max_undo_depth }
     ensures stale { StaleByMemory tables.old.stale result tables.new.stale }
     ensures visits { PushOpens tables.old result records.new.items tables.new }
 {

@@ -3,9 +3,10 @@
 ghost use Rattle.std.specs.Prelude.{◌≡◌, ◌≤◌, ◌++◌, [], ◌∷◌, None, IfOk, IfSome, List, length, take};
 ghost use Rattle.circular_buffer.specs.Buffer.{buffer};
 ghost use Rattle.view_lang.specs.Edits.{Edit};
+ghost use Rattle.view_lang.specs.Limits.{max_undo_depth};
 ghost use Rattle.upkeep.specs.Stores.{rows_in, tables_in, visits_in};
-ghost use Rattle.upkeep.specs.Touched.{touched};
-ghost use Rattle.session.specs.Shows.{HoldsBack};
+ghost use Rattle.session.specs.Released.{TouchesAlike};
+ghost use Rattle.session.specs.Shows.{HoldsBack, StillHolds};
 
 use crate::releases::release_law;
 use crate::undo::UndoRecord;
@@ -34,8 +35,8 @@ pub(crate) fn make_records(
     alloc: Global,
     records: Vec<UndoRecord>,
 ) -> Result<HeapCircularBuffer<UndoRecord>, AllocError>
-    requires { length records.items ≤ 64 }
-    ensures { IfOk result (λ made. made ≡ buffer records.items 64) }
+    requires { length records.items ≤ max_undo_depth }
+    ensures { IfOk result (λ made. made ≡ buffer records.items max_undo_depth) }
 {
     let mut made = HeapCircularBuffer::with_capacity(alloc, MAX_UNDO_DEPTH)?;
     for record in records {
@@ -44,14 +45,14 @@ pub(crate) fn make_records(
     Ok(made)
 }
 
-/// Puts a record before the others, and returns the oldest if it is given up: where there were 64.
+/// Puts a record before the others, and returns the oldest if it is given up: where there were as many as can be undone.
 fn push_record(
     records: &mut HeapCircularBuffer<UndoRecord>,
     newest: UndoRecord,
 ) -> Option<UndoRecord>
-    requires { records.old.capacity ≡ 64 }
-    ensures records { records.new.items ≡ take 64 (newest ∷ records.old.items) }
-    ensures capacity { records.new.capacity ≡ 64 }
+    requires { records.old.capacity ≡ max_undo_depth }
+    ensures records { records.new.items ≡ take max_undo_depth (newest ∷ records.old.items) }
+    ensures capacity { records.new.capacity ≡ max_undo_depth }
     ensures oldest { IfSome result (λ oldest. newest ∷ records.old.items ≡ records.new.items ++ oldest ∷ []) }
     ensures all { result ≡ None → records.new.items ≡ newest ∷ records.old.items }
 {
@@ -67,21 +68,19 @@ pub(crate) fn record_change(
     records: &mut HeapCircularBuffer<UndoRecord>,
     newest: UndoRecord,
 )
-    requires capacity { records.old.capacity ≡ 64 }
+    requires capacity { records.old.capacity ≡ max_undo_depth }
     requires holds { (edits : List Edit) × HoldsBack (tables_in tables.old.stores) (rows_in tables.old.stores)
         (newest ∷ records.old.items) edits }
-    ensures records { records.new.items ≡ take 64 (newest ∷ records.old.items) }
-    ensures capacity { records.new.capacity ≡ 64 }
-    ensures holds { (edits : List Edit)
-        → HoldsBack (tables_in tables.old.stores) (rows_in tables.old.stores) (newest ∷ records.old.items) edits
-        → HoldsBack (tables_in tables.old.stores) (rows_in tables.new.stores) records.new.items edits }
+    ensures records { records.new.items ≡ take max_undo_depth (newest ∷ records.old.items) }
+    ensures capacity { records.new.capacity ≡ max_undo_depth }
+    ensures holds { StillHolds (tables_in tables.old.stores) (rows_in tables.old.stores)
+        (newest ∷ records.old.items) (rows_in tables.new.stores) records.new.items }
     ensures tables { tables_in tables.new.stores ≡ tables_in tables.old.stores }
     ensures views { tables.new.views ≡ tables.old.views }
     ensures stale { tables.new.stale ≡ tables.old.stale }
     ensures visits { visits_in tables.new.stores ≡ visits_in tables.old.stores }
-    ensures touched { touched (tables_in tables.old.stores) tables.old.views (rows_in tables.new.stores) newest.table
-        newest.change ≡ touched (tables_in tables.old.stores) tables.old.views (rows_in tables.old.stores)
-        newest.table newest.change }
+    ensures touched { TouchesAlike (tables_in tables.old.stores) tables.old.views newest
+        (rows_in tables.new.stores) (rows_in tables.old.stores) }
 {
     // It does nothing: the proof takes from it which rows can go.
     release_law();

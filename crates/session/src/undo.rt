@@ -2,9 +2,10 @@
 
 ghost use Rattle.std.specs.Prelude.{◌≡◌};
 ghost use Rattle.upkeep.specs.Stores.{rows_in, tables_in};
+ghost use Rattle.session.specs.Changes.{UndoesTo};
 ghost use Rattle.session.specs.Shows.{ShowsPast};
 ghost use Rattle.session.specs.Stale.{StaleByMemory};
-ghost use Rattle.session.specs.Steps.{Past, Undoes};
+ghost use Rattle.session.specs.Steps.{Past};
 ghost use Rattle.session.specs.Visits.{UndoOpens};
 
 use crate::calls::Fault;
@@ -28,10 +29,8 @@ pub(crate) fn go_back(
 ) -> Result<(), Fault>
     requires { (past : Past)
         × ShowsPast (tables_in tables.old.stores) (rows_in tables.old.stores) records.old.items past }
-    ensures undoes { (past : Past)
-        → ShowsPast (tables_in tables.old.stores) (rows_in tables.old.stores) records.old.items past
-        → (next : Past) × Undoes past result next
-        × ShowsPast (tables_in tables.old.stores) (rows_in tables.new.stores) records.new.items next }
+    ensures undoes { UndoesTo (tables_in tables.old.stores) (rows_in tables.old.stores) records.old.items result
+        (rows_in tables.new.stores) records.new.items }
     ensures tables { tables_in tables.new.stores ≡ tables_in tables.old.stores }
     ensures views { tables.new.views ≡ tables.old.views }
     ensures capacity { records.new.capacity ≡ records.old.capacity }

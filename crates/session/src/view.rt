@@ -5,18 +5,15 @@ ghost use Rattle.body_writer.specs.Picked.{picked_rows};
 ghost use Rattle.stream_writer.specs.Sinks.{Writes};
 ghost use Rattle.stream_writer.specs.Stream.{canon};
 ghost use Rattle.stream_writer.specs.Table.{IsTable};
-ghost use Rattle.view_lang.specs.Laws.{Viewed};
 ghost use Rattle.view_lang.specs.ViewColumns.{view_columns};
-ghost use Rattle.view_lang.specs.Views.{view_rows};
-ghost use Rattle.row_keys.specs.Slots.{live, row_of};
-ghost use Rattle.upkeep.specs.Inputs.{side_by};
+ghost use Rattle.row_keys.specs.Slots.{row_of};
 ghost use Rattle.upkeep.specs.LiveEdits.{NoneBecomesStale};
 ghost use Rattle.upkeep.specs.LiveParts.{view_at};
-ghost use Rattle.upkeep.specs.Shown.{IsLiveAt, Shows};
-ghost use Rattle.upkeep.specs.Stores.{rows_at, rows_in, tables_in, world_of};
+ghost use Rattle.upkeep.specs.Shown.{IsLiveAt};
+ghost use Rattle.upkeep.specs.Stores.{rows_at, rows_in, tables_in};
 ghost use Rattle.upkeep.specs.Touched.{OpensShown};
 ghost use Rattle.upkeep.specs.ViewStates.{width_in};
-ghost use Rattle.session.specs.Steps.{IsReadAsView, stream_of};
+ghost use Rattle.session.specs.WrittenViews.{IsReadBack, IsViewed, ShowsView, stream_at};
 
 use std::alloc::Global;
 use stream_writer::{Sink, WriteFault, coded_law, write_coded, write_ranges};
@@ -61,16 +58,9 @@ fn write_shown<S: Sink>(
     requires there { place < length tables.now.views }
     requires schema { schema.now.fields.items
         ≡ view_columns (tables_in tables.now.stores) (view_at tables.now.views place) }
-    requires viewed { Viewed (tables_in tables.now.stores) (view_at tables.now.views place)
-        (side_by (tables_in tables.now.stores) (rows_in tables.now.stores) (view_at tables.now.views place))
-        (live (rows_at (rows_in tables.now.stores) 0)) }
-    requires shown { Shows (view_at tables.now.views place) (width_in (tables_in tables.now.stores))
-        (rows_at (rows_in tables.now.stores) 0) shown (view_rows (view_at tables.now.views place)
-        (side_by (tables_in tables.now.stores) (rows_in tables.now.stores) (view_at tables.now.views place))
-        (live (rows_at (rows_in tables.now.stores) 0))) }
-    ensures { Writes (S.sunk sink.old) (S.sunk sink.new) result
-        (stream_of (tables_in tables.now.stores) (view_at tables.now.views place)
-        (world_of (rows_in tables.now.stores))) }
+    requires viewed { IsViewed tables.now place }
+    requires shown { ShowsView tables.now place shown }
+    ensures { Writes (S.sunk sink.old) (S.sunk sink.new) result (stream_at tables.now place) }
 {
     // They do nothing: the proof takes from them that the rows of a view can be written.
     config_law();
@@ -94,13 +84,8 @@ pub(crate) fn write_rows<S: Sink>(
     requires there { place < length tables.old.views }
     requires schema { schema.now.fields.items
         ≡ view_columns (tables_in tables.old.stores) (view_at tables.old.views place) }
-    ensures writes { Writes (S.sunk sink.old) (S.sunk sink.new) result
-        (stream_of (tables_in tables.old.stores) (view_at tables.old.views place)
-        (world_of (rows_in tables.old.stores))) }
-    ensures read { OnOk result (IsReadAsView (tables_in tables.old.stores) (view_at tables.old.views place)
-        (world_of (rows_in tables.old.stores))
-        (stream_of (tables_in tables.old.stores) (view_at tables.old.views place)
-        (world_of (rows_in tables.old.stores)))) }
+    ensures writes { Writes (S.sunk sink.old) (S.sunk sink.new) result (stream_at tables.old place) }
+    ensures read { OnOk result (IsReadBack tables.old place) }
     ensures tables { tables_in tables.new.stores ≡ tables_in tables.old.stores }
     ensures rows { rows_in tables.new.stores ≡ rows_in tables.old.stores }
     ensures views { tables.new.views ≡ tables.old.views }

@@ -10,6 +10,7 @@ use std::process::Abort;
 use std::test::Fail;
 use stream_writer::MemorySink;
 use upkeep::LiveTablesParts;
+use values::limits::MAX_UNDO_DEPTH;
 use values::{Key, Value};
 use view_config::read_config;
 
@@ -190,7 +191,7 @@ fn count_kept(session: Session) -> Result<Kept, AllocError> {
 }
 
 /// Rows go that no undo brings back, and their batches with them: of a hundred that came and were retracted those are
-/// left that the last 64 edits retracted. All of these come back.
+/// left that edits retracted which can be undone. All of these come back.
 #[test]
 fn rows_that_went(rt: HostRuntime) -> Result<(), Fail> {
     let mut session = open(&rt, rt.alloc())?;
@@ -203,7 +204,7 @@ fn rows_that_went(rt: HostRuntime) -> Result<(), Fail> {
         retract(&rt, &mut session, 9);
     }
     let mut again = make_again(&rt, rt.alloc(), session)?;
-    for _ in 0..64 {
+    for _ in 0..MAX_UNDO_DEPTH {
         undo(&rt, &mut again);
     }
     assert!(rt; again.undo().is_err());
@@ -228,7 +229,7 @@ fn rows_that_came_one_by_one(rt: HostRuntime) -> Result<(), Fail> {
     let mut again = make_again(&rt, rt.alloc(), session)?;
     assert_eq!(rt; again.live_rows(), 1000);
     let before = show(&rt, rt.alloc(), &mut again)?;
-    for _ in 0..64 {
+    for _ in 0..MAX_UNDO_DEPTH {
         undo(&rt, &mut again);
     }
     for id in 937..1001u16 {
@@ -259,17 +260,17 @@ fn few_rows_that_stayed(rt: HostRuntime) -> Result<(), Fail> {
     let before = show(&rt, rt.alloc(), &mut session)?;
     let wanted = show(&rt, rt.alloc(), &mut few)?;
     assert_eq!(rt; before.sink.bytes(), wanted.sink.bytes());
-    for _ in 0..64 {
+    for _ in 0..MAX_UNDO_DEPTH {
         undo(&rt, &mut session);
     }
     assert!(rt; session.undo().is_err());
-    assert_eq!(rt; session.live_rows(), 31 + 64);
-    for _ in 0..64 {
+    assert_eq!(rt; session.live_rows(), 31 + MAX_UNDO_DEPTH);
+    for _ in 0..MAX_UNDO_DEPTH {
         add(&rt, &mut session, 255, b'p', 1);
         retract(&rt, &mut session, 255);
     }
-    assert_eq!(rt; session.live_rows(), 31 + 64);
-    assert!(rt; count_kept(session)?.batches <= 64);
+    assert_eq!(rt; session.live_rows(), 31 + MAX_UNDO_DEPTH);
+    assert!(rt; count_kept(session)?.batches <= MAX_UNDO_DEPTH);
     Ok(())
 }
 
@@ -296,7 +297,7 @@ fn keys_that_went(rt: HostRuntime) -> Result<(), Fail> {
         retract(&rt, &mut session, id);
     }
     let mut again = make_again(&rt, rt.alloc(), session)?;
-    for _ in 0..64 {
+    for _ in 0..MAX_UNDO_DEPTH {
         undo(&rt, &mut again);
     }
     assert!(rt; again.undo().is_err());

@@ -1,11 +1,9 @@
 //! Takes a stream message by message.
 
-ghost use Rattle.std.specs.Prelude.{◌≡◌, ◌≤◌, ◌<◌, ◌++◌, ℕ, List, IfErr, IfOk, IfSome, OnOk, None, drop, length};
-ghost use Rattle.values.specs.Datum.{Datum};
-ghost use Rattle.schema_meta.specs.Story.{Story};
+ghost use Rattle.std.specs.Prelude.{◌≡◌, ◌≤◌, ◌<◌, ◌++◌, IfErr, IfOk, IfSome, OnOk, None, drop, length};
 ghost use Rattle.stream_writer.specs.Weights.{HasSizes};
 ghost use Rattle.liveviews.specs.Brought.{Brings};
-ghost use Rattle.liveviews.specs.Steps.{IsOpen, Reached, Refuses};
+ghost use Rattle.liveviews.specs.Steps.{IsOpen, OfEachReached, Reached, Refuses};
 
 use body_writer::Batch;
 use feed::{Fed, Feed, FeedEvent, cut_law, story_law};
@@ -29,13 +27,11 @@ pub(crate) fn next_message(feed: &mut Feed, piece: &[u8]) -> Result<NextMessage,
     ensures open { OnOk result (IsOpen feed.new) }
     ensures used { IfOk result (λ m. (0 < m.used) × (m.used ≤ length piece.now)) }
     ensures sized { IfOk result (λ m. IfSome m.batch HasSizes) }
-    ensures passed { IfOk result (λ m. m.batch ≡ None → (s : Story) (rows : List (List Datum)) (later : List ℕ)
-        → Reached s feed.old rows (piece.now ++ later) → Reached s feed.new rows (drop m.used piece.now ++ later)) }
-    ensures brought { IfOk result (λ m. IfSome m.batch (λ b. (s : Story) (rows : List (List Datum)) (later : List ℕ)
-        → Reached s feed.old rows (piece.now ++ later)
-        → Brings s feed.new rows b (drop m.used piece.now ++ later))) }
-    ensures refused { IfErr result (λ c. (s : Story) (rows : List (List Datum)) (later : List ℕ)
-        → Reached s feed.old rows (piece.now ++ later) → Refuses s c) }
+    ensures passed { IfOk result (λ m. m.batch ≡ None → OfEachReached feed.old piece.now
+        (λ s rows later. Reached s feed.new rows (drop m.used piece.now ++ later))) }
+    ensures brought { IfOk result (λ m. IfSome m.batch (λ b. OfEachReached feed.old piece.now
+        (λ s rows later. Brings s feed.new rows b (drop m.used piece.now ++ later)))) }
+    ensures refused { IfErr result (λ c. OfEachReached feed.old piece.now (λ s rows later. Refuses s c)) }
 {
     // They do nothing: the proof takes from them what an event says of the stream, and that it uses some bytes.
     first_message_law();

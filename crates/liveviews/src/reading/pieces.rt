@@ -66,7 +66,8 @@ fn read_between<R: Read>(
     requires order { from < end }
     requires long { end ≤ length room.old }
     ensures within { IfOk result (λ n. from + n ≤ end) }
-    ensures took { IfOk result (λ n. (held : Option (List ℕ)) → Consumes held (R.remaining source.old) (take from room.old)
+    ensures took { IfOk result (λ n. (held : Option (List ℕ))
+        → Consumes held (R.remaining source.old) (take from room.old)
         → Consumes held (R.remaining source.new) (take (from + n) room.new)) }
     ensures end { IfOk result (λ n. n ≡ 0 → IsAtEnd (R.remaining source.new)) }
 {

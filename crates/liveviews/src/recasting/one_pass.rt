@@ -16,18 +16,20 @@ ghost use Rattle.std.specs.Prelude.{
   drop,
   length,
 };
-ghost use Rattle.values.specs.Datum.{Datum};
 ghost use Rattle.schema_meta.specs.Story.{Story, story_of};
 ghost use Rattle.body_writer.specs.RowRanges.{batch_rows};
 ghost use Rattle.stream_writer.specs.Sinks.{Sunk};
 ghost use Rattle.stream_writer.specs.Weights.{HasSizes};
-ghost use Rattle.liveviews.specs.Brought.{Brings};
 ghost use Rattle.liveviews.specs.Source.{OfSource};
 ghost use Rattle.liveviews.specs.Steps.{AreTakenSo, IsOpen};
 ghost use Rattle.liveviews.specs.Streams.{
   HasStreamed,
   HasWritten,
+  IsBrought,
   KnowsSchema,
+  OfEachBrought,
+  OfEachStreamed,
+  OfEachWritten,
   StopsWithin,
   Streams,
   StreamsSource,
@@ -103,12 +105,10 @@ impl Streaming {
         sink: &mut S,
     ) -> Result<TableWriter, RecastFault>
         ensures rows { self.new.rows ≡ self.old.rows }
-        ensures written { IfOk result (λ w. (start : Sunk) (s : Story) (rows : List (List Datum))
-            → HasWritten start (S.sunk sink.old) s self.old.writer rows → KnowsSchema s feed.now
-            → HasWritten start (S.sunk sink.new) s (Some w) rows) }
-        ensures stops { IfErr result (λ f. (start : Sunk) (s : Story) (rows : List (List Datum))
-            → HasWritten start (S.sunk sink.old) s self.old.writer rows → KnowsSchema s feed.now
-            → StopsWithin start (S.sunk sink.new) f.cause f.written s) }
+        ensures written { IfOk result (λ w. OfEachWritten (S.sunk sink.old) feed.now self.old.writer
+            (λ start s rows. HasWritten start (S.sunk sink.new) s (Some w) rows)) }
+        ensures stops { IfErr result (λ f. OfEachWritten (S.sunk sink.old) feed.now self.old.writer
+            (λ start s rows. StopsWithin start (S.sunk sink.new) f.cause f.written s)) }
     {
         match self.writer.take() {
             Some(writer) => Ok(writer),
@@ -125,17 +125,11 @@ impl Streaming {
         batch: Batch,
     ) -> Result<(), RecastFault>
         requires sized { HasSizes batch }
-        requires brought { (start : Sunk) × (s : Story) × (rows : List (List Datum)) × (rest : List ℕ)
-            × HasWritten start (S.sunk sink.old) s self.old.writer rows × (self.old.rows ≡ length rows)
-            × Brings s feed.now rows batch rest }
-        ensures streamed { OnOk result ((start : Sunk) (s : Story) (rows : List (List Datum)) (rest : List ℕ)
-            → HasWritten start (S.sunk sink.old) s self.old.writer rows → self.old.rows ≡ length rows
-            → Brings s feed.now rows batch rest
-            → HasStreamed start (S.sunk sink.new) s feed.now self.new rest) }
-        ensures stops { IfErr result (λ f. (start : Sunk) (s : Story) (rows : List (List Datum)) (rest : List ℕ)
-            → HasWritten start (S.sunk sink.old) s self.old.writer rows → self.old.rows ≡ length rows
-            → Brings s feed.now rows batch rest
-            → StopsWithin start (S.sunk sink.new) f.cause f.written s) }
+        requires brought { IsBrought (S.sunk sink.old) feed.now self.old batch }
+        ensures streamed { OnOk result (OfEachBrought (S.sunk sink.old) feed.now self.old batch
+            (λ start s rest. HasStreamed start (S.sunk sink.new) s feed.now self.new rest)) }
+        ensures stops { IfErr result (λ f. OfEachBrought (S.sunk sink.old) feed.now self.old batch
+            (λ start s rest. StopsWithin start (S.sunk sink.new) f.cause f.written s)) }
     {
         // It does nothing: the proof takes from it that the written columns hold what the stored ones do.
         logical_law();
@@ -170,12 +164,10 @@ fn take_message<S: Sink>(
         × HasStreamed start (S.sunk sink.old) s feed.old streaming.old (piece.now ++ later) }
     ensures open { OnOk result (IsOpen feed.new) }
     ensures used { IfOk result (λ n. (0 < n) × (n ≤ length piece.now)) }
-    ensures streamed { IfOk result (λ n. (start : Sunk) (s : Story) (later : List ℕ)
-        → HasStreamed start (S.sunk sink.old) s feed.old streaming.old (piece.now ++ later)
-        → HasStreamed start (S.sunk sink.new) s feed.new streaming.new (drop n piece.now ++ later)) }
-    ensures stops { IfErr result (λ f. (start : Sunk) (s : Story) (later : List ℕ)
-        → HasStreamed start (S.sunk sink.old) s feed.old streaming.old (piece.now ++ later)
-        → StopsWithin start (S.sunk sink.new) f.cause f.written s) }
+    ensures streamed { IfOk result (λ n. OfEachStreamed (S.sunk sink.old) feed.old streaming.old piece.now
+        (λ start s later. HasStreamed start (S.sunk sink.new) s feed.new streaming.new (drop n piece.now ++ later))) }
+    ensures stops { IfErr result (λ f. OfEachStreamed (S.sunk sink.old) feed.old streaming.old piece.now
+        (λ start s later. StopsWithin start (S.sunk sink.new) f.cause f.written s)) }
 {
     let next = match next_message(feed, piece) {
         Ok(next) => next,
@@ -201,12 +193,10 @@ fn take_messages<S: Sink>(
     requires streamed { (start : Sunk) × (s : Story) × (later : List ℕ)
         × HasStreamed start (S.sunk sink.old) s feed.old streaming.old (piece.now ++ later) }
     ensures open { OnOk result (IsOpen feed.new) }
-    ensures streamed { OnOk result ((start : Sunk) (s : Story) (later : List ℕ)
-        → HasStreamed start (S.sunk sink.old) s feed.old streaming.old (piece.now ++ later)
-        → HasStreamed start (S.sunk sink.new) s feed.new streaming.new later) }
-    ensures stops { IfErr result (λ f. (start : Sunk) (s : Story) (later : List ℕ)
-        → HasStreamed start (S.sunk sink.old) s feed.old streaming.old (piece.now ++ later)
-        → StopsWithin start (S.sunk sink.new) f.cause f.written s) }
+    ensures streamed { OnOk result (OfEachStreamed (S.sunk sink.old) feed.old streaming.old piece.now
+        (λ start s later. HasStreamed start (S.sunk sink.new) s feed.new streaming.new later)) }
+    ensures stops { IfErr result (λ f. OfEachStreamed (S.sunk sink.old) feed.old streaming.old piece.now
+        (λ start s later. StopsWithin start (S.sunk sink.new) f.cause f.written s)) }
 {
     let mut rest = piece;
     while !rest.is_empty() {

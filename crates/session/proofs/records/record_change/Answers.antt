@@ -1,4 +1,5 @@
-use Rattle.std.proofs.Common.{◌≡◌, ◌<◌, ◌∙◌, ◌∷◌, ◌++◌, [], List, ap, arith, length, subst, sym, take}
+use Rattle.std.proofs.Common.{◌≡◌, ◌<◌, ◌∙◌, ◌∷◌, ◌++◌, ◌-◌, [], List, ap, arith, length, subst, sym, take}
+use Rattle.view_lang.specs.Limits.{max_undo_depth}
 use Rattle.upkeep.specs.Stores.{Rows, rows_in, tables_in}
 use Rattle.upkeep.specs.StoreLaws.{rows_length}
 use Rattle.upkeep.specs.Touched.{touched}
@@ -40,14 +41,14 @@ pub returns-in-Some-clause-touched : goal.returns-in-Some-clause-touched
 returns-in-Some-clause-touched c =
     let P : List UndoRecord → Type 0 = λ rs.
     HoldsBack (tables_in c.args.tables.now.stores) (rows_in c.args.tables.now.stores) rs c.requires.holds.0 in
-    let all : c.args.newest ∷ c.args.records.now.items ≡ c.args.newest ∷ take 63 c.args.records.now.items
+    let all : c.args.newest ∷ c.args.records.now.items ≡ c.args.newest ∷ take (max_undo_depth - 1) c.args.records.now.items
     ++ c.in-Some.oldest ∷ [] =
     c.in-Some.ensures.oldest
     ∙ ap (λ (rs : List UndoRecord). rs ++ c.in-Some.oldest ∷ []) c.push_record.ensures.records in
     ap (λ (rows : Rows). touched (tables_in c.args.tables.now.stores) c.args.tables.now.views rows
     c.args.newest.table c.args.newest.change) c.release.ensures.rows
     ∙ c.release_law.ensures.touches (tables_in c.args.tables.now.stores) c.args.tables.now.views
-    (rows_in c.args.tables.now.stores) c.args.newest (take 63 c.args.records.now.items) c.in-Some.oldest
+    (rows_in c.args.tables.now.stores) c.args.newest (take (max_undo_depth - 1) c.args.records.now.items) c.in-Some.oldest
     c.requires.holds.0 (subst P all c.requires.holds.1)
 
 pub returns-in_default-clause-holds : goal.returns-in_default-clause-holds
