@@ -76,7 +76,7 @@ weight_said c k w below says =
     let P = λ (o : _). IfSome o (λ d. Says w (weight c.layouts d)) in
     subst P (slice_get-get_or c.cells k null below) says
 
-cell_there :
+pub cell_there :
     (columns : List CheckedColumn) (i k : ℕ) (c : CheckedColumn) → c ≡ get_or columns i c → i < length columns
     → All (λ x. k < length x.cells) columns → k < length c.cells
 cell_there columns i k c is below all =

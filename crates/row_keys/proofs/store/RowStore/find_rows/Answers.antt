@@ -5,7 +5,7 @@ use Rattle.view_lang.specs.Edits.{TableEdit, retract}
 use Rattle.row_keys.specs.Slots.{contents_of}
 use Rattle.row_keys.specs.Store.{Refuses}
 use Rattle.row_keys.proofs.RetractedKeys.{are_keys, keys_edit}
-use Rattle.row_keys.proofs.edits.RowStore.find_rows.Goals as goal
+use Rattle.row_keys.proofs.store.RowStore.find_rows.Goals as goal
 
 pub find_all-requires : goal.find_all-requires
 find_all-requires c =

@@ -4,7 +4,7 @@ use Rattle.row_keys.specs.HiddenChanges.{NamesRows, named_numbers}
 use Rattle.row_keys.specs.Slots.{last_numbers}
 use Rattle.row_keys.specs.declared.table_change.TableChange.{TableChange}
 use Rattle.row_keys.proofs.NamedRows.{listed_there}
-use Rattle.row_keys.proofs.hidden_changes.RowStore.named_numbers.Goals as goal
+use Rattle.row_keys.proofs.store.RowStore.named_numbers.Goals as goal
 
 pub returns-in-Retracted-clause-there : goal.returns-in-Retracted-clause-there
 returns-in-Retracted-clause-there c =

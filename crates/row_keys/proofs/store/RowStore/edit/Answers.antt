@@ -2,7 +2,7 @@ use Rattle.std.proofs.Common.{ℕ, IfOk, ap, subst, sym}
 use Rattle.view_lang.specs.Edits.{table_of}
 use Rattle.row_keys.specs.TableChanges.{IsChangeOf}
 use Rattle.row_keys.proofs.ChangeKinds.{kind_of_put, kind_of_retract}
-use Rattle.row_keys.proofs.edits.RowStore.edit.Goals as goal
+use Rattle.row_keys.proofs.store.RowStore.edit.Goals as goal
 
 pub returns-in-Put-clause-kind : goal.returns-in-Put-clause-kind
 returns-in-Put-clause-kind c =

@@ -3,7 +3,7 @@ use Rattle.std.proofs.lemmas.Result.{err_from_is_err_and}
 use Rattle.view_lang.specs.Contents.{applied}
 use Rattle.view_lang.specs.Edits.{TableEdit}
 use Rattle.row_keys.specs.Slots.{contents_of}
-use Rattle.row_keys.proofs.edits.RowStore.retract_batch.Goals as goal
+use Rattle.row_keys.proofs.store.RowStore.retract_batch.Goals as goal
 
 pub returns-in_err-numbers-clause-makes : goal.returns-in_err-numbers-clause-makes
 returns-in_err-numbers-clause-makes c =
