@@ -1,5 +1,5 @@
 -- Where the arrays of a batch lie: Arrow Columnar Format, "RecordBatch message". Nodes and buffers stand in preorder
--- over the fields, so the place of each is a count of those before it.
+-- over the fields, so the place of each is a count of those before it. docs/ARCHITECTURE.md has a picture of it.
 use Rattle.std.specs.Prelude.{ℕ, pos, ◌+◌, List, Option, None, Some, slice_get, slice_range, unwrap_or}
 use Rattle.values.specs.Rose.{Rose, node, Roses, none, more, rose_size}
 use Rattle.values.specs.declared.layout.Layout.{Layout}

@@ -79,6 +79,18 @@ abbrev mutual
   weight_beside body none i = 0
   weight_beside body (more t ts) i = weight_at body t i + weight_beside body ts i
 
+-- a valid slot of an array of values that has these children
+abbrev pub value_weight : List ℕ → ArrayData → Roses ArrayData → ℕ → ℕ
+value_weight body p kids i =
+    weight_by p.layout body p (slot (node p.layout (layouts_of kids))) (λ j. first_weight body kids j)
+    (λ j. weight_beside body kids j) i
+
+-- a valid list, by its items, which are slots of the first child
+abbrev pub list_weight : OffsetWidth → List ℕ → ArrayData → Roses ArrayData → ℕ → ℕ
+list_weight o body p kids i =
+    5 + sum_from (λ j. first_weight body kids j) (offset_at o (bytes_of body p.offsets) i)
+    (extent o (bytes_of body p.offsets) i)
+
 -- a weight, exact up to the limit of a cell and 1 more where it is above
 unfoldable pub capped : ℕ → ℕ
 capped n = if nat_lt n (max_cell_weight + 1) then n else max_cell_weight + 1

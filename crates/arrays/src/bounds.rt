@@ -15,13 +15,12 @@ ghost use Rattle.array_layout.specs.Cells.{coded_by, len_of};
 ghost use Rattle.arrays.specs.Encoded.{HasIndex};
 ghost use Rattle.arrays.specs.Bounds.{IsBound};
 ghost use Rattle.arrays.specs.Weights.{
+  encoded_weight,
   extent,
-  first_weight,
-  sum_from,
+  list_weight,
+  value_weight,
   weight_at,
   weight_beside,
-  weight_by,
-  encoded_weight,
 };
 
 use crate::uniform::is_fixed;
@@ -150,8 +149,7 @@ fn own_bound(body: &[u8], own: &ArrayData, children: &[Array]) -> u64
 fn value_bound(body: &[u8], own: &ArrayData, children: &[Array]) -> u64
     requires { IsSound body.now (node own.now (kids_of children.now)) }
     ensures value { IsBound result (slot (node own.now.layout (layouts_of (kids_of children.now)))) own.now.len
-        (weight_by own.now.layout body.now own.now (slot (node own.now.layout (layouts_of (kids_of children.now))))
-        (λ j. first_weight body.now (kids_of children.now) j) (λ j. weight_beside body.now (kids_of children.now) j)) }
+        (λ i. value_weight body.now own.now (kids_of children.now) i) }
     ensures bound { result ≤ max_cell_weight + 1 }
 {
     match own.layout {
@@ -173,10 +171,7 @@ fn value_bound(body: &[u8], own: &ArrayData, children: &[Array]) -> u64
 fn list_bound(body: &[u8], own: &ArrayData, children: &[Array], width: OffsetWidth) -> u64
     requires sound { IsSound body.now (node own.now (kids_of children.now)) }
     requires listed { own.now.layout ≡ Listed width }
-    ensures value { IsBound result 5 own.now.len
-        (λ i. 5 + sum_from (λ j. first_weight body.now (kids_of children.now) j)
-        (offset_at width (bytes_of body.now own.now.offsets) i)
-        (extent width (bytes_of body.now own.now.offsets) i)) }
+    ensures value { IsBound result 5 own.now.len (λ i. list_weight width body.now own.now (kids_of children.now) i) }
     ensures bound { result ≤ max_cell_weight + 1 }
 {
     let items = items_array(children);

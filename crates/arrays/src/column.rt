@@ -66,7 +66,8 @@ impl Model for Column {
 
     ghost view = { λ c. record { layouts = layout_of c.root; cells = valid_of (cells c.body.value.items c.root) } };
 
-    ghost invariant = { λ c. IsSound c.body.value.items c.root × IsValid (cells c.body.value.items c.root) × IsTyped c.root };
+    ghost invariant = { λ c. IsSound c.body.value.items c.root × IsValid (cells c.body.value.items c.root)
+        × IsTyped c.root };
 }
 
 /// Where the cells of a column lie: its array, and the body that the array's buffers lie in.

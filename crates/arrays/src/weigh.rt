@@ -7,18 +7,17 @@ ghost use Rattle.values.specs.declared.layout.Layout.TheVariants.{List as Listed
 ghost use Rattle.values.specs.Layouts.{slot, slots, weight};
 ghost use Rattle.array_layout.specs.Placing.{bytes_of, layout_by, layout_of, layouts_of};
 ghost use Rattle.array_layout.specs.Sound.{LiesIn, AreFit, IsSound, AreSound, AreLong};
-ghost use Rattle.array_layout.specs.Buffers.{offset_at};
 ghost use Rattle.array_layout.specs.Cells.{coded_by, len_of};
 ghost use Rattle.arrays.specs.Encoded.{HasIndex};
 ghost use Rattle.arrays.specs.Weights.{
   capped,
+  encoded_weight,
   extent,
-  first_weight,
+  list_weight,
   sum_from,
+  value_weight,
   weight_at,
   weight_beside,
-  weight_by,
-  encoded_weight,
 };
 
 use crate::dictionary::find_value;
@@ -143,10 +142,7 @@ fn weigh_slot(body: &[u8], own: &ArrayData, children: &[Array], i: usize) -> u64
 fn weigh_value(body: &[u8], own: &ArrayData, children: &[Array], i: usize) -> u64
     requires sound { IsSound body.now (node own.now (kids_of children.now)) }
     requires below { i < own.now.len }
-    ensures value { result ≡ capped
-        (weight_by own.now.layout body.now own.now (slot (node own.now.layout (layouts_of (kids_of children.now))))
-        (λ j. first_weight body.now (kids_of children.now) j) (λ j. weight_beside body.now (kids_of children.now) j)
-        i) }
+    ensures value { result ≡ capped (value_weight body.now own.now (kids_of children.now) i) }
     ensures bound { result ≤ max_cell_weight + 1 }
 {
     match own.layout {
@@ -179,10 +175,7 @@ fn weigh_list(body: &[u8], own: &ArrayData, children: &[Array], width: OffsetWid
     requires sound { IsSound body.now (node own.now (kids_of children.now)) }
     requires listed { own.now.layout ≡ Listed width }
     requires below { i < own.now.len }
-    ensures value { result ≡ capped
-        (5 + sum_from (λ j. first_weight body.now (kids_of children.now) j)
-        (offset_at width (bytes_of body.now own.now.offsets) i)
-        (extent width (bytes_of body.now own.now.offsets) i)) }
+    ensures value { result ≡ capped (list_weight width body.now own.now (kids_of children.now) i) }
     ensures bound { result ≤ max_cell_weight + 1 }
 {
     let offsets = buffer(body, &own.offsets);

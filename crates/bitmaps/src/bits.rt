@@ -1,6 +1,21 @@
 //! Borrowed views of bitmaps.
 
-ghost use Rattle.std.specs.Prelude.{◌≡◌, ℕ, ◌+◌, ◌<◌, ◌≤◌, ◌^◌, [], ◌∷◌, if◌then◌else◌, length, false, get_or, nat_eq, slice_get};
+ghost use Rattle.std.specs.Prelude.{
+  ◌≡◌,
+  ℕ,
+  ◌+◌,
+  ◌<◌,
+  ◌≤◌,
+  ◌^◌,
+  [],
+  ◌∷◌,
+  if◌then◌else◌,
+  length,
+  false,
+  get_or,
+  nat_eq,
+  slice_get,
+};
 ghost use Rattle.bitmaps.specs.Bits.{HasBits, bit_at, bits_at, ones};
 ghost use Rattle.bitmaps.specs.Blocks.{AreBits};
 

@@ -1,6 +1,20 @@
 //! Bits that are read and joined 256 at a time, as vectors of 32 bytes, and eight at a time, as bytes.
 
-ghost use Rattle.std.specs.Prelude.{◌≡◌, ℕ, ◌+◌, ◌<◌, ◌≤◌, ◌&&◌, ◌||◌, [], ◌∷◌, if◌then◌else◌, not, length, slice_index};
+ghost use Rattle.std.specs.Prelude.{
+  ◌≡◌,
+  ℕ,
+  ◌+◌,
+  ◌<◌,
+  ◌≤◌,
+  ◌&&◌,
+  ◌||◌,
+  [],
+  ◌∷◌,
+  if◌then◌else◌,
+  not,
+  length,
+  slice_index,
+};
 ghost use Rattle.bitmaps.specs.Bits.{HasBits, bit_at, bits_at, ones};
 ghost use Rattle.bitmaps.specs.Blocks.{AreBits, joined_byte};
 
@@ -23,7 +37,8 @@ fn join_lanes(low: u8x32, high: u8x32, place: u8) -> u8x32
     requires some { 0 < place }
     requires inside { place < 8 }
     ensures long { length result ≡ 32 }
-    ensures each { (k : ℕ) → k < 32 → slice_index result k ≡ joined_byte place (slice_index low k) (slice_index high k) }
+    ensures each { (k : ℕ) → k < 32
+        → slice_index result k ≡ joined_byte place (slice_index low k) (slice_index high k) }
 {
     (low >> place) | (high << (8 - place))
 }

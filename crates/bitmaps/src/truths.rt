@@ -2,7 +2,15 @@
 
 ghost use Rattle.std.specs.Prelude.{◌≡◌, ◌<◌, ◌&&◌, ◌||◌, not, get_or, length, map, None, IfOk};
 ghost use Rattle.bitmaps.specs.Bits.{pairwise};
-ghost use Rattle.bitmaps.specs.Truths.{both as both_by, either as either_by, is_true, is_unknown, negated, paired, truths_by};
+ghost use Rattle.bitmaps.specs.Truths.{
+  both as both_by,
+  either as either_by,
+  is_true,
+  is_unknown,
+  negated,
+  paired,
+  truths_by,
+};
 
 use crate::bitmap::Bitmap;
 use crate::bits::Bits;

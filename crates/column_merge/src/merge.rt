@@ -42,7 +42,8 @@ fn read_columns(
 ) -> Result<Vec<Column>, AllocError>
     requires nodes { roses_size (kids_of layouts.now) ≤ length body.nodes.items }
     requires ranges { ranges_below (kids_of layouts.now) ≤ length body.ranges.items }
-    requires placed { ArePlaced body.bytes.items (placed_all body.nodes.items body.ranges.items 0 0 (kids_of layouts.now)) }
+    requires placed { ArePlaced body.bytes.items
+        (placed_all body.nodes.items body.ranges.items 0 0 (kids_of layouts.now)) }
     ensures reading { IfOk result
         (λ cs. columns_in body.bytes.items (placed_all body.nodes.items body.ranges.items 0 0 (kids_of layouts.now))
         ≡ Ok (cells_in cs.items)) }
@@ -78,7 +79,8 @@ pub fn merge_rows(
 ) -> Result<Vec<Column>, AllocError>
     requires ranges { All (IsRange (length layouts.now)) ranges.now }
     requires batch { IsBatch (kids_of layouts.now) (ranges_rows ranges.now) }
-    ensures rows { IfOk result (λ cs. rows_in (length (ranges_rows ranges.now)) (cells_in cs.items) ≡ ranges_rows ranges.now) }
+    ensures rows { IfOk result (λ cs.
+        rows_in (length (ranges_rows ranges.now)) (cells_in cs.items) ≡ ranges_rows ranges.now) }
     ensures long { IfOk result (λ cs. All (λ c. length c.cells ≡ length (ranges_rows ranges.now)) cs.items) }
     ensures typed { IfOk result (λ cs. map (λ c. c.layouts) cs.items ≡ layouts.now) }
 {

@@ -5,7 +5,15 @@ ghost use Rattle.std.specs.Ordering.{int_cmp};
 ghost use Rattle.values.specs.Layouts.{bytes_in};
 ghost use Rattle.array_layout.specs.Buffers.{number_by};
 ghost use Rattle.view_lang.specs.Truth.{holds};
-ghost use Rattle.column_truths.specs.Spans.{AreBitsOfNumber, in_span, is_between, is_taken, greatest_of, least_of, numbers_in};
+ghost use Rattle.column_truths.specs.Spans.{
+  AreBitsOfNumber,
+  in_span,
+  is_between,
+  is_taken,
+  greatest_of,
+  least_of,
+  numbers_in,
+};
 
 use values::IntWidth;
 use view_lang::Comparison;

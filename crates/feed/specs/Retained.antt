@@ -1,4 +1,4 @@
--- What is kept of the bytes that a feed consumed.
+-- What is kept of the bytes that a feed consumed. docs/ARCHITECTURE.md has a picture of it.
 use Rattle.std.specs.Prelude.{ℕ, zero, suc, List, [], ◌∷◌, ◌++◌, Option, None, Some, Ok, Err, length, drop, slice_range}
 use Rattle.values.specs.Datum.{Datum}
 use Rattle.values.specs.Reading.{Reading}

@@ -5,6 +5,7 @@
 -- next multiple of 8 after it; a field stands at the next multiple of its width from the table's
 -- start; the count of a vector or string stands at the next place that is 4 modulo 8. All fill is
 -- zero. `at` is the place from which an object has room, counted from the start of the bytes.
+-- docs/ARCHITECTURE.md has a picture of it.
 use Rattle.std.specs.Prelude.{◌≡◌, ℕ, ◌+◌, ◌*◌, ◌-◌, ◌/◌, ◌%◌, ◌^◌, ◌<◌, ◌≤◌, List, [], ◌∷◌, ◌++◌, length, replicate, ⊤}
 use Rattle.byteorder.specs.Endian.{little_bytes}
 use Rattle.flatbuf.specs.Tree.{Node, absent, number, text, structs, table, references, Nodes, no_nodes, node, count}

@@ -1,5 +1,6 @@
 -- What a run leaves doesn't depend on how feeds are cut: it is a function of the order in which messages complete, with
 -- the undos and writes between, and of what the joined bytes of each feed tell. Feeds are named by their places here.
+-- docs/ARCHITECTURE.md has a picture of it.
 use Rattle.std.specs.Prelude.{
   ◌≡◌,
   ◌⊎◌,

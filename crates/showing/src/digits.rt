@@ -2,7 +2,15 @@
 
 ghost use Rattle.std.specs.Prelude.{◌≡◌, ◌++◌, ◌/◌, ◌%◌, ◌^◌, ◌<◌, OnOk, unsigned_abs};
 ghost use Rattle.std.specs.Io.KnownBytes.{Appends};
-ghost use Rattle.showing.specs.Digits.{at_least, decimal_text, fixed_digits, fraction_text, hex_text, scaled_text, sign_text};
+ghost use Rattle.showing.specs.Digits.{
+  at_least,
+  decimal_text,
+  fixed_digits,
+  fraction_text,
+  hex_text,
+  scaled_text,
+  sign_text,
+};
 
 use std::io;
 use std::io::Write;
