@@ -59,28 +59,23 @@ use Rattle.feed.proofs.GatherLemmas.{columns-whole}
 
 pub batch-columns :
     (law : PlaceLaw) (values : ℤ → List Datum) (body : List ℕ) (fields : List (Rose Entry)) (head : BatchHead)
-    (ts : Roses ArrayData)
     (columns : List CheckedColumn) → Fits (slot_layouts_of fields) (length body) head
-    → ts ≡ arrays_of values fields head
-    → columns_in body ts ≡ Ok (cells_in columns) → layouts_in columns ≡ layouts_of_arrays ts
+    → columns_in body (arrays_of values fields head) ≡ Ok (cells_in columns)
+    → layouts_in columns ≡ layouts_of_arrays (arrays_of values fields head)
     → HasColumns fields columns head.rows
-batch-columns law values body fields head ts columns fits is read typed =
-    let placed = law values fields body head fits in (
-      typed ∙ ap layouts_of_arrays is ∙ placed.2,
-      columns-whole head.rows body ts columns (subst (HaveLength head.rows) (sym is) placed.1) read,
-    )
+batch-columns law values body fields head columns fits read typed =
+    let placed = law values fields body head fits in
+    (typed ∙ placed.2, columns-whole head.rows body (arrays_of values fields head) columns placed.1 read)
 
 pub checked-columns :
     (law : PlaceLaw) (values : ℤ → List Datum) (body : List ℕ) (fields : List (Rose Entry)) (head : BatchHead)
-    (ts : Roses ArrayData)
     (result : Result (Vec CheckedColumn Global) StreamFault) → Fits (slot_layouts_of fields) (length body) head
-    → ts ≡ arrays_of values fields head
-    → Answers (λ cs. cells_in cs.items) result (columns_in body ts)
-    → IfOk result (λ cs. layouts_in cs.items ≡ layouts_of_arrays ts)
+    → Answers (λ cs. cells_in cs.items) result (columns_in body (arrays_of values fields head))
+    → IfOk result (λ cs. layouts_in cs.items ≡ layouts_of_arrays (arrays_of values fields head))
     → IfOk result (λ cs. HasColumns fields cs.items head.rows)
-checked-columns law values body fields head ts (Ok cs) fits is read typed =
-    batch-columns law values body fields head ts cs.items fits is read typed
-checked-columns law values body fields head ts (Err c) fits is read typed = tt
+checked-columns law values body fields head (Ok cs) fits read typed =
+    batch-columns law values body fields head cs.items fits read typed
+checked-columns law values body fields head (Err c) fits read typed = tt
 
 some-same : (m : Option ColType) (a b : ColType) → m ≡ Some a → m ≡ Some b → a ≡ b
 some-same (Some x) a b p q = cc

@@ -33,7 +33,7 @@ use Rattle.std.proofs.lemmas.List.Elements.{All-append, All-cons}
 use Rattle.values.specs.Datum.{Datum}
 use Rattle.values.specs.Layouts.{Holds}
 use Rattle.values.specs.Reading.{Reading, both, cons, Stands, Fails, with_front}
-use Rattle.values.specs.Rose.{Rose, Roses, none, more, kids_of, join}
+use Rattle.values.specs.Rose.{Rose, Roses, none, more, join}
 use Rattle.values.specs.declared.faults.StreamFault.{StreamFault}
 use Rattle.values.specs.declared.layout.Layout.{Layout}
 use Rattle.values.proofs.Readings.{both_left, both_Ok, bind_Ok, each_length, fails_along, front_none}
@@ -58,79 +58,79 @@ front-fault xs (Ok ys) c h = h
 front-fault xs (Err fs) c h = h
 
 pub columns-more :
-    (body : List ℕ) (left rest : List (Rose ArrayData)) (a : Rose ArrayData) (made : List CheckedColumn)
+    (body : List ℕ) (left rest : Roses ArrayData) (a : Rose ArrayData) (made : List CheckedColumn)
     (c : CheckedColumn) (whole : Reading (List (List Datum)))
-    → left ≡ a ∷ rest → column_of body a ≡ Ok c.cells
-    → with_front (cells_in made) (columns_in body (kids_of left)) ≡ whole
-    → with_front (cells_in (made ++ c ∷ [])) (columns_in body (kids_of rest)) ≡ whole
+    → left ≡ more a rest → column_of body a ≡ Ok c.cells
+    → with_front (cells_in made) (columns_in body left) ≡ whole
+    → with_front (cells_in (made ++ c ∷ [])) (columns_in body rest) ≡ whole
 unfolding columns_in
 columns-more body left rest a made c whole split valid all =
-    let later : Reading (List (List Datum)) = columns_in body (kids_of rest) in
+    let later : Reading (List (List Datum)) = columns_in body rest in
     let P : Reading (List Datum) → Type 0 = λ m. with_front (cells_in made) (both cons m later) ≡ whole in
-    let Q : List (Rose ArrayData) → Type 0 = λ ts. with_front (cells_in made) (columns_in body (kids_of ts)) ≡ whole in
+    let Q : Roses ArrayData → Type 0 = λ ts. with_front (cells_in made) (columns_in body ts) ≡ whole in
     let R : List (List Datum) → Type 0 = λ xs. with_front xs later ≡ whole in
     let joined : cells_in (made ++ c ∷ []) ≡ cells_in made ++ c.cells ∷ [] = map-append (λ x. x.cells) made (c ∷ []) in
     subst R (sym joined) (front-one (cells_in made) c.cells later ∙ subst P valid (subst Q split all))
 
 columns-fault :
-    (body : List ℕ) (left rest : List (Rose ArrayData)) (a : Rose ArrayData) (made : List CheckedColumn)
+    (body : List ℕ) (left rest : Roses ArrayData) (a : Rose ArrayData) (made : List CheckedColumn)
     (c : StreamFault) (whole : Reading (List (List Datum)))
-    → left ≡ a ∷ rest → Stands (column_of body a) c
-    → with_front (cells_in made) (columns_in body (kids_of left)) ≡ whole → Stands whole c
+    → left ≡ more a rest → Stands (column_of body a) c
+    → with_front (cells_in made) (columns_in body left) ≡ whole → Stands whole c
 unfolding columns_in
 columns-fault body left rest a made c whole split stands all =
-    let later : Reading (List (List Datum)) = columns_in body (kids_of rest) in
-    let Q : List (Rose ArrayData) → Type 0 = λ ts. with_front (cells_in made) (columns_in body (kids_of ts)) ≡ whole in
+    let later : Reading (List (List Datum)) = columns_in body rest in
+    let Q : Roses ArrayData → Type 0 = λ ts. with_front (cells_in made) (columns_in body ts) ≡ whole in
     let P : Reading (List (List Datum)) → Type 0 = λ m. Stands m c in
     subst P (subst Q split all)
     (front-fault (cells_in made) (both cons (column_of body a) later) c
     (both_left cons (column_of body a) later c stands))
 
 pub columns-fails :
-    (body : List ℕ) (left rest : List (Rose ArrayData)) (a : Rose ArrayData) (made : List CheckedColumn)
+    (body : List ℕ) (left rest : Roses ArrayData) (a : Rose ArrayData) (made : List CheckedColumn)
     (c : StreamFault) (whole : Reading (List (List Datum)))
-    → left ≡ a ∷ rest → Fails c (column_of body a) → with_front (cells_in made) (columns_in body (kids_of left)) ≡ whole
+    → left ≡ more a rest → Fails c (column_of body a) → with_front (cells_in made) (columns_in body left) ≡ whole
     → Fails c whole
 columns-fails body left rest a made c whole split fails all =
     fails_along c (column_of body a) whole (λ e stands. columns-fault body left rest a made e whole split stands all)
     fails
 
 pub columns-none :
-    (body : List ℕ) (arrays : List (Rose ArrayData)) (made : List CheckedColumn) → made ≡ []
-    → with_front (cells_in made) (columns_in body (kids_of arrays)) ≡ columns_in body (kids_of arrays)
+    (body : List ℕ) (arrays : Roses ArrayData) (made : List CheckedColumn) → made ≡ []
+    → with_front (cells_in made) (columns_in body arrays) ≡ columns_in body arrays
 columns-none body arrays made empty =
     let P : List CheckedColumn → Type 0 =
-    λ cs. with_front (cells_in cs) (columns_in body (kids_of arrays)) ≡ columns_in body (kids_of arrays) in
-    subst P (sym empty) (front_none (columns_in body (kids_of arrays)))
+    λ cs. with_front (cells_in cs) (columns_in body arrays) ≡ columns_in body arrays in
+    subst P (sym empty) (front_none (columns_in body arrays))
 
 pub columns-end :
-    (body : List ℕ) (left : List (Rose ArrayData)) (made : List CheckedColumn) (whole : Reading (List (List Datum)))
-    → left ≡ []
-    → with_front (cells_in made) (columns_in body (kids_of left)) ≡ whole → whole ≡ Ok (cells_in made)
+    (body : List ℕ) (left : Roses ArrayData) (made : List CheckedColumn) (whole : Reading (List (List Datum)))
+    → left ≡ none
+    → with_front (cells_in made) (columns_in body left) ≡ whole → whole ≡ Ok (cells_in made)
 unfolding columns_in
 columns-end body left made whole empty is =
-    let P : List (Rose ArrayData) → Type 0 = λ ts. with_front (cells_in made) (columns_in body (kids_of ts)) ≡ whole in
+    let P : Roses ArrayData → Type 0 = λ ts. with_front (cells_in made) (columns_in body ts) ≡ whole in
     sym (subst P empty is) ∙ ap (λ zs. Ok zs) (append-nil (cells_in made))
 
 -- the arrays that are left are placed
-pub placed-first : (body : List ℕ) (left rest : List (Rose ArrayData)) (a : Rose ArrayData) → left ≡ a ∷ rest
-    → ArePlaced body (kids_of left) → IsPlaced body a
+pub placed-first : (body : List ℕ) (left rest : Roses ArrayData) (a : Rose ArrayData) → left ≡ more a rest
+    → ArePlaced body left → IsPlaced body a
 placed-first body left rest a split all =
-    (subst (λ (ts : List (Rose ArrayData)). ArePlaced body (kids_of ts)) split all).0
+    (subst (ArePlaced body) split all).0
 
 pub placed-rest :
-    (body : List ℕ) (left rest : List (Rose ArrayData)) (a : Rose ArrayData) → left ≡ a ∷ rest
-    → ArePlaced body (kids_of left) → ArePlaced body (kids_of rest)
+    (body : List ℕ) (left rest : Roses ArrayData) (a : Rose ArrayData) → left ≡ more a rest
+    → ArePlaced body left → ArePlaced body rest
 placed-rest body left rest a split all =
-    (subst (λ (ts : List (Rose ArrayData)). ArePlaced body (kids_of ts)) split all).1
+    (subst (ArePlaced body) split all).1
 
-pub typed-first : (left rest : List (Rose ArrayData)) (a : Rose ArrayData) → left ≡ a ∷ rest → AreTyped (kids_of left)
+pub typed-first : (left rest : Roses ArrayData) (a : Rose ArrayData) → left ≡ more a rest → AreTyped left
     → IsTyped a
-typed-first left rest a split all = (subst (λ (ts : List (Rose ArrayData)). AreTyped (kids_of ts)) split all).0
+typed-first left rest a split all = (subst AreTyped split all).0
 
-pub typed-rest : (left rest : List (Rose ArrayData)) (a : Rose ArrayData) → left ≡ a ∷ rest → AreTyped (kids_of left)
-    → AreTyped (kids_of rest)
-typed-rest left rest a split all = (subst (λ (ts : List (Rose ArrayData)). AreTyped (kids_of ts)) split all).1
+pub typed-rest : (left rest : Roses ArrayData) (a : Rose ArrayData) → left ≡ more a rest → AreTyped left
+    → AreTyped rest
+typed-rest left rest a split all = (subst AreTyped split all).1
 
 -- the layouts of the columns, one after another
 abbrev pub layouts_before : List CheckedColumn → Roses Layout → Roses Layout
@@ -146,34 +146,30 @@ join-one [] c rest = refl
 join-one (d ∷ ds) c rest = ap (more d.layouts) (join-one ds c rest)
 
 pub layouts-none :
-    (arrays : List (Rose ArrayData)) (made : List CheckedColumn) → made ≡ []
-    → layouts_before made (layouts_of (kids_of arrays)) ≡ layouts_of (kids_of arrays)
+    (arrays : Roses ArrayData) (made : List CheckedColumn) → made ≡ []
+    → layouts_before made (layouts_of arrays) ≡ layouts_of arrays
 layouts-none arrays made empty =
     let P : List CheckedColumn → Type 0 =
-    λ cs. layouts_before cs (layouts_of (kids_of arrays)) ≡ layouts_of (kids_of arrays) in
+    λ cs. layouts_before cs (layouts_of arrays) ≡ layouts_of arrays in
     subst P (sym empty) refl
 
 pub layouts-more :
-    (left rest : List (Rose ArrayData)) (a : Rose ArrayData) (made : List CheckedColumn) (c : CheckedColumn)
-    (whole : Roses Layout) → left ≡ a ∷ rest
-    → c.layouts ≡ layout_of a → layouts_before made (layouts_of (kids_of left)) ≡ whole
-    → layouts_before (made ++ c ∷ []) (layouts_of (kids_of rest)) ≡ whole
+    (left rest : Roses ArrayData) (a : Rose ArrayData) (made : List CheckedColumn) (c : CheckedColumn)
+    (whole : Roses Layout) → left ≡ more a rest
+    → c.layouts ≡ layout_of a → layouts_before made (layouts_of left) ≡ whole
+    → layouts_before (made ++ c ∷ []) (layouts_of rest) ≡ whole
 layouts-more left rest a made c whole split typed all =
-    let later : Roses Layout = layouts_of (kids_of rest) in
-    let P : List (Rose ArrayData) → Type 0 = λ ts. layouts_before made (layouts_of (kids_of ts)) ≡ whole in
+    let later : Roses Layout = layouts_of rest in
+    let P : Roses ArrayData → Type 0 = λ ts. layouts_before made (layouts_of ts) ≡ whole in
     let Q : Rose Layout → Type 0 = λ t. layouts_before made (more t later) ≡ whole in
     join-one made c later ∙ subst Q (sym typed) (subst P split all)
 
 pub layouts-end :
-    (left : List (Rose ArrayData)) (made : List CheckedColumn) (whole : Roses Layout) → left ≡ []
-    → layouts_before made (layouts_of (kids_of left)) ≡ whole → layouts_in made ≡ whole
+    (left : Roses ArrayData) (made : List CheckedColumn) (whole : Roses Layout) → left ≡ none
+    → layouts_before made (layouts_of left) ≡ whole → layouts_in made ≡ whole
 layouts-end left made whole empty is =
-    let P : List (Rose ArrayData) → Type 0 = λ ts. layouts_before made (layouts_of (kids_of ts)) ≡ whole in
+    let P : Roses ArrayData → Type 0 = λ ts. layouts_before made (layouts_of ts) ≡ whole in
     sym (join-end made) ∙ subst P empty is
-
-pub nothing_left : {X : Type 0} (l : List X) → length l ≡ 0 → l ≡ []
-nothing_left [] h = refl
-nothing_left (x ∷ xs) h = absurd (cc)
 
 -- the columns that are read have a cell for each slot
 column-length : (body : List ℕ) (t : Rose ArrayData) (ds : List Datum) → column_of body t ≡ Ok ds → length ds ≡ len_of t

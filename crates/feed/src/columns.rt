@@ -1,15 +1,16 @@
 //! Validates the columns of a record batch.
 
-ghost use Rattle.std.specs.Prelude.{◌≡◌, IfOk, length};
+ghost use Rattle.std.specs.Prelude.{◌≡◌, ◌≤◌, IfOk, length};
 ghost use Rattle.values.specs.Reading.{Answers};
-ghost use Rattle.values.specs.Rose.{kids_of};
+ghost use Rattle.values.specs.Rose.{roses_size};
 ghost use Rattle.array_layout.specs.Cells.{column_of};
-ghost use Rattle.array_layout.specs.Placing.{layout_of, layouts_of as layouts_of_arrays};
+ghost use Rattle.array_layout.specs.Placing.{layout_of, layouts_of as layouts_of_arrays, ranges_below};
 ghost use Rattle.array_layout.specs.Sound.{ArePlaced, IsPlaced};
 ghost use Rattle.array_layout.specs.Typed.{AreTyped, IsTyped};
 ghost use Rattle.dictionaries.specs.Table.{values_in};
 ghost use Rattle.schema_meta.specs.FieldLayouts.{slot_layouts_of};
 ghost use Rattle.schema_meta.specs.FieldsLaw.{AreFields};
+ghost use Rattle.schema_meta.specs.Parts.{arrays_of};
 ghost use Rattle.schema_meta.specs.PlaceLaw.{AreValues};
 ghost use Rattle.schema_meta.specs.Rows.{columns_in};
 ghost use Rattle.schema_meta.specs.Sound.{Fits};
@@ -20,7 +21,7 @@ ghost use Rattle.feed.specs.Calls.{batch_columns};
 use array_layout::Array;
 use arrays::Column;
 use dictionaries::Dicts;
-use schema_meta::{BatchHeader, StreamSchema, place_arrays, place_law};
+use schema_meta::{ArrayCursor, BatchHeader, Field, StreamSchema, place_array, place_law};
 use std::alloc::Global;
 use std::rc::Rc;
 use values::StreamFault;
@@ -36,22 +37,28 @@ fn check_column(body: &Rc<Vec<u8>>, array: Array) -> Result<Column, StreamFault>
     Column::check(body.clone()?, array)
 }
 
-/// Validates the columns of a batch, each by itself: `BufferShort` to `DecimalRange`.
+/// Places and validates the columns of a batch, each by itself: `BufferShort` to `DecimalRange`.
 #[tactic(auto, using(crate::proofs::GatherLemmas::columns))]
 fn check_columns(
     alloc: Global,
     body: &Rc<Vec<u8>>,
-    arrays: Vec<Array>,
+    fields: &[Field],
+    header: &BatchHeader,
+    dicts: &Dicts,
 ) -> Result<Vec<Column>, StreamFault>
-    requires placed { ArePlaced body.now.value.items (kids_of arrays.items) }
-    requires dictionary { AreTyped (kids_of arrays.items) }
+    requires nodes { roses_size (slot_layouts_of fields.now) ≤ length header.now.nodes }
+    requires ranges { ranges_below (slot_layouts_of fields.now) ≤ length header.now.ranges }
+    requires placed { ArePlaced body.now.value.items (arrays_of (values_in dicts.now) fields.now header.now) }
+    requires dictionary { AreTyped (arrays_of (values_in dicts.now) fields.now header.now) }
     ensures reading { Answers (λ cs. cells_in cs.items) result
-        (columns_in body.now.value.items (kids_of arrays.items)) }
+        (columns_in body.now.value.items (arrays_of (values_in dicts.now) fields.now header.now)) }
     ensures typed { IfOk result
-        (λ cs. layouts_in cs.items ≡ layouts_of_arrays (kids_of arrays.items)) }
+        (λ cs. layouts_in cs.items ≡ layouts_of_arrays (arrays_of (values_in dicts.now) fields.now header.now)) }
 {
-    let mut columns = Vec::with_capacity(alloc, arrays.len())?;
-    for array in arrays {
+    let mut columns = Vec::with_capacity(alloc, fields.len())?;
+    let mut at = ArrayCursor { node: 0, range: 0 };
+    for field in fields {
+        let array = place_array(alloc, field, header, dicts, &mut at)?;
         columns.push(check_column(body, array)?)?;
     }
     Ok(columns)
@@ -74,7 +81,6 @@ pub(crate) fn take_columns(
 {
     // It does nothing: the proof takes from it that the arrays are as the check requires.
     place_law();
-    let arrays = place_arrays(alloc, schema, header, dicts)?;
     let body = Rc::new(alloc, body)?;
-    check_columns(alloc, &body, arrays)
+    check_columns(alloc, &body, &schema.fields, header, dicts)
 }

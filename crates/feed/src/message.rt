@@ -7,8 +7,8 @@ ghost use Rattle.dictionaries.specs.Table.{HasRoom, change_of, values_in};
 ghost use Rattle.schema_meta.specs.FieldLayouts.{slot_layouts_of};
 ghost use Rattle.schema_meta.specs.Rows.{values_of};
 ghost use Rattle.schema_meta.specs.Sound.{Fits, FitsValues, IsFitting};
-ghost use Rattle.feed.specs.Retained.{taken};
-ghost use Rattle.feed.specs.Events.{batch_event, dictionary_event};
+ghost use Rattle.feed.specs.Retained.{brought_by, taken};
+ghost use Rattle.feed.specs.Events.{batch_event, dictionary_event, event_in};
 ghost use Rattle.feed.specs.Shown.{HasRoomFor, HasValues, IsTypedEvent, event_seen, values_next};
 ghost use Rattle.feed.specs.Calls.{Adds, IsFollowed, coming_seen, message_brings, message_event};
 
@@ -17,9 +17,10 @@ use crate::columns::take_columns;
 use crate::condition::Condition;
 use crate::event::FeedEvent;
 use dictionaries::{Dicts, Ready, ValueRuns, batches_law};
-use messages::Message;
+use messages::{Framer, Message};
 use schema_meta::{BatchHeader, DictionaryHeader, Header, StreamSchema};
 use std::alloc::{AllocError, Global};
+use std::rc::Rc;
 use values::StreamFault;
 
 /// The effect of a message: its event, its change of a dictionary, and the condition after it.
@@ -119,15 +120,49 @@ fn nothing_prepared(event: FeedEvent, next: Condition) -> Coming
     }
 }
 
-/// Reads a complete message and prepares its effect.
+/// Reads the header and the body of a message, and prepares its effect.
+fn take_parts(
+    alloc: Global,
+    dicts: &mut Dicts,
+    schema: Rc<StreamSchema>,
+    header: &Header,
+    body: Vec<u8>,
+) -> Result<Coming, StreamFault>
+    requires fits { IsFitting (Some schema.value.fields.items) header.now (length body.items) }
+    requires has { HasValues (Some schema.value.fields.items) (values_in dicts.old) }
+    ensures seen { Answers coming_seen result
+        (event_in schema.value.fields.items (values_in dicts.old) body.items header.now) }
+    ensures same { dicts.new.entries ≡ dicts.old.entries }
+    ensures change { IfOk result (λ c. Adds dicts.old dicts.new c.change
+        (brought_by schema.value.fields.items body.items header.now)) }
+    ensures has { IfOk result
+        (λ c. HasValues (Some schema.value.fields.items) (values_next dicts.new c.change)) }
+    ensures room { IfOk result (λ c. HasRoomFor dicts.new c.change) }
+    ensures next { IfOk result IsFollowed }
+    ensures typed { IfOk result (λ c. IsTypedEvent (Some schema.value.fields.items) c.event) }
+{
+    match header {
+        Header::Schema => Ok(nothing_prepared(FeedEvent::Schema(schema), Condition::Opened)),
+        Header::Dictionary(header) => take_dictionary(alloc, &schema, header, body, dicts),
+        Header::Batch(header) => Ok(nothing_prepared(
+            take_batch(alloc, &schema, header, body, dicts)?,
+            Condition::Opened,
+        )),
+        Header::End => Ok(nothing_prepared(FeedEvent::End, Condition::Ended)),
+    }
+}
+
+/// Reads a complete message and prepares its effect. The framer takes its header back.
 pub(crate) fn take_message(
     alloc: Global,
+    framer: &mut Framer,
     dicts: &mut Dicts,
     message: Message,
 ) -> Result<Coming, StreamFault>
     requires fits { IsFitting (Some message.schema) message.header (length message.body) }
     requires has { HasValues (Some message.schema) (values_in dicts.old) }
     ensures seen { Answers coming_seen result (message_event message (values_in dicts.old)) }
+    ensures framing { framer.new ≡ framer.old }
     ensures same { dicts.new.entries ≡ dicts.old.entries }
     ensures change { IfOk result (λ c. Adds dicts.old dicts.new c.change (message_brings message)) }
     ensures has { IfOk result
@@ -141,13 +176,7 @@ pub(crate) fn take_message(
         header,
         body,
     } = message;
-    match header {
-        Header::Schema => Ok(nothing_prepared(FeedEvent::Schema(schema), Condition::Opened)),
-        Header::Dictionary(header) => take_dictionary(alloc, &schema, &header, body, dicts),
-        Header::Batch(header) => Ok(nothing_prepared(
-            take_batch(alloc, &schema, &header, body, dicts)?,
-            Condition::Opened,
-        )),
-        Header::End => Ok(nothing_prepared(FeedEvent::End, Condition::Ended)),
-    }
+    let coming = take_parts(alloc, dicts, schema, &header, body);
+    framer.take_back(header);
+    coming
 }

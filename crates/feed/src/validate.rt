@@ -52,7 +52,7 @@ pub(crate) fn validate(
     let Some(message) = message else {
         return Ok(Validated { used, coming: None });
     };
-    let coming = take_message(alloc, dicts, message)?;
+    let coming = take_message(alloc, framer, dicts, message)?;
     Ok(Validated {
         used,
         coming: Some(coming),

@@ -1,6 +1,6 @@
 //! The header of a record batch: Message.fbs, `RecordBatch`, `FieldNode` and `Buffer`.
 
-ghost use Rattle.std.specs.Prelude.{◌≡◌, ◌+◌, ◌*◌, ◌<◌, ◌≤◌, length};
+ghost use Rattle.std.specs.Prelude.{◌≡◌, ◌+◌, ◌*◌, ◌<◌, ◌≤◌, [], length};
 ghost use Rattle.values.specs.Limits.{max_body_size};
 ghost use Rattle.values.specs.Reading.{Answers, Yields};
 ghost use Rattle.messages.specs.Columns.{AreRead, layouts_wanted};
@@ -20,13 +20,13 @@ ghost use Rattle.schema_meta.specs.Batch.{
 
 use crate::columns::Columns;
 use crate::fields::checked;
+use crate::lists::HeaderLists;
 use array_layout::{BufferRange, FieldNode};
 use byteorder::{ByteOrder, LittleEndian};
 use field_types::{read_long, readable};
 use flatbuf::{BadTable, TableRef};
 use schema_meta::BatchHeader;
 use schema_meta::message_fbs::{BATCH_BUFFERS, BATCH_COMPRESSION, BATCH_LENGTH, BATCH_NODES};
-use std::alloc::Global;
 use values::StreamFault;
 use values::limits::{MAX_BATCH_LENGTH, MAX_NODE_LENGTH};
 
@@ -74,32 +74,38 @@ fn range_at(bytes: &[u8], index: usize, body: usize) -> Result<BufferRange, Stre
     })
 }
 
-/// Reads `count` nodes.
+/// Reads `count` nodes into an empty list.
 #[tactic(auto, using(values::proofs::Readings::gathering), unfolding(schema_meta::specs::Batch::nodes_in))]
-fn nodes_in(alloc: Global, bytes: &[u8], count: usize) -> Result<Vec<FieldNode>, StreamFault>
-    requires { length bytes.now ≡ 16 * count }
+fn nodes_in(
+    mut nodes: Vec<FieldNode>,
+    bytes: &[u8],
+    count: usize,
+) -> Result<Vec<FieldNode>, StreamFault>
+    requires empty { nodes.items ≡ [] }
+    requires counted { length bytes.now ≡ 16 * count }
     ensures { Answers (λ v. v.items) result (nodes_in count bytes.now) }
 {
-    let mut nodes = Vec::with_capacity(alloc, count)?;
+    nodes.reserve_exact(count)?;
     for i in 0..count {
         nodes.push(node_at(bytes, i)?)?;
     }
     Ok(nodes)
 }
 
-/// Reads the ranges of `count` buffers.
+/// Reads the ranges of `count` buffers into an empty list.
 #[tactic(auto, using(values::proofs::Readings::gathering), unfolding(schema_meta::specs::Batch::ranges_in))]
 fn ranges_in(
-    alloc: Global,
+    mut ranges: Vec<BufferRange>,
     bytes: &[u8],
     count: usize,
     body: usize,
 ) -> Result<Vec<BufferRange>, StreamFault>
+    requires empty { ranges.items ≡ [] }
     requires counted { length bytes.now ≡ 16 * count }
     requires in_range { body ≤ max_body_size }
     ensures { Answers (λ v. v.items) result (ranges_in count body bytes.now) }
 {
-    let mut ranges = Vec::with_capacity(alloc, count)?;
+    ranges.reserve_exact(count)?;
     for i in 0..count {
         ranges.push(range_at(bytes, i, body)?)?;
     }
@@ -130,7 +136,7 @@ fn structs<'a>(
 /// The nodes of a batch of these columns with `rows` rows.
 #[tactic(auto, using(crate::proofs::LongEnough::counted), unfolding(schema_meta::specs::Batch::nodes_of))]
 fn nodes_of(
-    alloc: Global,
+    lists: &mut HeaderLists,
     table: &TableRef,
     columns: Columns,
     rows: usize,
@@ -140,7 +146,7 @@ fn nodes_of(
 {
     let count = columns.nodes();
     let bytes = structs(table, BATCH_NODES, count, StreamFault::NodeCount)?;
-    let nodes = nodes_in(alloc, bytes, count)?;
+    let nodes = nodes_in(lists.take_nodes(), bytes, count)?;
     if columns.fit(&nodes, rows) {
         Ok(nodes)
     } else {
@@ -149,7 +155,7 @@ fn nodes_of(
 }
 
 fn ranges_of(
-    alloc: Global,
+    lists: &mut HeaderLists,
     table: &TableRef,
     count: usize,
     body: usize,
@@ -158,7 +164,7 @@ fn ranges_of(
     ensures { Answers (λ v. v.items) result (ranges_of count body table.now) }
 {
     let bytes = structs(table, BATCH_BUFFERS, count, StreamFault::BufferCount)?;
-    ranges_in(alloc, bytes, count, body)
+    ranges_in(lists.take_ranges(), bytes, count, body)
 }
 
 fn rows_of(table: &TableRef) -> Result<usize, StreamFault>
@@ -180,7 +186,7 @@ fn check_uncompressed(table: &TableRef) -> Result<(), StreamFault>
 /// Reads the table `RecordBatch` of a batch of these columns, in a message with a body of `body` bytes.
 #[tactic(auto, using(values::proofs::Readings::failing), unfolding(schema_meta::specs::Batch::batch_of))]
 pub(crate) fn read_batch_header(
-    alloc: Global,
+    lists: &mut HeaderLists,
     table: &TableRef,
     columns: Columns,
     body: usize,
@@ -191,8 +197,8 @@ pub(crate) fn read_batch_header(
 {
     check_uncompressed(table)?;
     let rows = rows_of(table)?;
-    let nodes = nodes_of(alloc, table, columns, rows)?;
-    let ranges = ranges_of(alloc, table, columns.ranges(), body)?;
+    let nodes = nodes_of(lists, table, columns, rows)?;
+    let ranges = ranges_of(lists, table, columns.ranges(), body)?;
     Ok(BatchHeader {
         rows,
         nodes,

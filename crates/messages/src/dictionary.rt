@@ -8,6 +8,7 @@ ghost use Rattle.schema_meta.specs.DictionaryBatch.{data_of, dictionary_of, id_o
 use crate::batch::read_batch_header;
 use crate::columns::Columns;
 use crate::counts::count_before;
+use crate::lists::HeaderLists;
 use field_types::{read_bool, read_long, readable};
 use flatbuf::TableRef;
 use indexmap::IndexMap;
@@ -15,7 +16,6 @@ use schema_meta::message_fbs::{
     DICTIONARY_BATCH_DATA, DICTIONARY_BATCH_ID, DICTIONARY_BATCH_IS_DELTA,
 };
 use schema_meta::{DictionaryHeader, StreamSchema};
-use std::alloc::Global;
 use values::limits::MAX_DICTIONARY_VALUES;
 use values::{ColType, StreamFault};
 
@@ -38,7 +38,7 @@ fn data_of<'a>(table: &TableRef<'a>) -> Result<TableRef<'a>, StreamFault>
 /// Reads the header of a batch of values of this type for the dictionary `id`.
 #[tactic(auto, using(values::proofs::Readings::failing), unfolding(schema_meta::specs::DictionaryBatch::values_batch))]
 fn values_batch(
-    alloc: Global,
+    lists: &mut HeaderLists,
     table: &TableRef,
     id: i64,
     stored: &ColType,
@@ -49,7 +49,7 @@ fn values_batch(
 {
     let is_delta = read_bool(table, DICTIONARY_BATCH_IS_DELTA)?;
     let data = data_of(table)?;
-    let batch = read_batch_header(alloc, &data, Columns::Values(stored.layout()), body)?;
+    let batch = read_batch_header(lists, &data, Columns::Values(stored.layout()), body)?;
     Ok(DictionaryHeader {
         id,
         is_delta,
@@ -73,7 +73,7 @@ fn check_count(counts: &IndexMap<i64, usize>, header: &DictionaryHeader) -> Resu
 /// values each dictionary has.
 #[tactic(auto, using(values::proofs::Readings::failing), unfolding(schema_meta::specs::DictionaryBatch::dictionary_of))]
 pub(crate) fn read_dictionary_header(
-    alloc: Global,
+    lists: &mut HeaderLists,
     table: &TableRef,
     schema: &StreamSchema,
     counts: &IndexMap<i64, usize>,
@@ -87,7 +87,7 @@ pub(crate) fn read_dictionary_header(
     let Some(stored) = schema.value_type(id) else {
         return Err(StreamFault::UnknownDictionary);
     };
-    let header = values_batch(alloc, table, id, stored, body)?;
+    let header = values_batch(lists, table, id, stored, body)?;
     check_count(counts, &header)?;
     Ok(header)
 }

@@ -10,11 +10,11 @@ ghost use Rattle.schema_meta.specs.Stage.{Known};
 ghost use Rattle.messages.specs.State.{IsRead, known_of, progress_seen, whole_seen};
 ghost use Rattle.messages.specs.Wanted.{Awaits, HasMetadata, IsMissing, followed, followed_at};
 
+use crate::lists::HeaderLists;
 use crate::metadata::{Metadata, body_length, read_metadata};
 use crate::state::State;
 use byteorder::{ByteOrder, LittleEndian};
 use schema_meta::Header;
-use std::alloc::Global;
 use values::StreamFault;
 use values::limits::MAX_METADATA_SIZE;
 
@@ -68,7 +68,7 @@ fn end_mark(state: &State) -> Result<Found, StreamFault>
 /// Parses the message whose body begins at `front`, or `Partial` if bytes are missing.
 #[tactic(auto, using(values::proofs::Readings::failing, crate::proofs::WantedLemmas::message_wanting), unfolding(schema_meta::specs::Framing::message_at))]
 fn message_at(
-    alloc: Global,
+    lists: &mut HeaderLists,
     state: &State,
     bytes: &[u8],
     front: usize,
@@ -84,12 +84,12 @@ fn message_at(
             wanted: front - bytes.len(),
         });
     }
-    let metadata = read_metadata(alloc, state, &bytes[8..front])?;
+    let metadata = read_metadata(lists, state, &bytes[8..front])?;
     let there = bytes.len() - front;
     if there < metadata.body {
-        return Ok(Progress::Partial {
-            wanted: metadata.body - there,
-        });
+        let wanted = metadata.body - there;
+        lists.give(metadata.header);
+        return Ok(Progress::Partial { wanted });
     }
     Ok(Progress::Whole(Found { front, metadata }))
 }
@@ -97,7 +97,11 @@ fn message_at(
 /// Parses the first message, or `Partial` if bytes are missing. A fault is reported once the bytes that show it have
 /// arrived.
 #[tactic(auto, using(values::proofs::Readings::failing, crate::proofs::WantedLemmas::first_wanting), unfolding(schema_meta::specs::Framing::first, schema_meta::specs::Framing::staged))]
-pub(crate) fn first(alloc: Global, state: &State, bytes: &[u8]) -> Result<Progress, StreamFault>
+pub(crate) fn first(
+    lists: &mut HeaderLists,
+    state: &State,
+    bytes: &[u8],
+) -> Result<Progress, StreamFault>
     requires { IsRead (known_of state.now).schema }
     ensures value { Answers progress_seen result (first (known_of state.now) bytes.now) }
     ensures wanted { IfOk result (λ p. Awaits (followed (known_of state.now) bytes.now) p) }
@@ -114,7 +118,7 @@ pub(crate) fn first(alloc: Global, state: &State, bytes: &[u8]) -> Result<Progre
     if size == 0 {
         return Ok(Progress::Whole(end_mark(state)?));
     }
-    message_at(alloc, state, bytes, 8 + size)
+    message_at(lists, state, bytes, 8 + size)
 }
 
 /// How long the metadata of the first message is, if it is all there.
@@ -152,7 +156,7 @@ pub(crate) fn missing(bytes: &[u8]) -> usize
 /// after them. `None` where they don't complete it.
 #[tactic(auto, using(values::proofs::Readings::failing, crate::proofs::AcrossLemmas::across), unfolding(schema_meta::specs::Framing::message_at))]
 fn message_across(
-    alloc: Global,
+    lists: &mut HeaderLists,
     state: &State,
     bytes: &[u8],
     more: &[u8],
@@ -166,8 +170,9 @@ fn message_across(
     ensures fault { IfErr result (λ e. Fails e (followed_at (known_of state.now) bytes.now front more.now)) }
     ensures front { IfOk result (λ o. IfSome o (λ f. f.front ≡ front)) }
 {
-    let metadata = read_metadata(alloc, state, &bytes[8..front])?;
+    let metadata = read_metadata(lists, state, &bytes[8..front])?;
     if bytes.len() - front + more.len() < metadata.body {
+        lists.give(metadata.header);
         return Ok(None);
     }
     Ok(Some(Found { front, metadata }))
@@ -176,7 +181,7 @@ fn message_across(
 /// Parses the first message of some bytes that hold its metadata and of `more` bytes that come after them. `None` where
 /// the metadata isn't held, or the message isn't complete.
 pub(crate) fn first_across(
-    alloc: Global,
+    lists: &mut HeaderLists,
     state: &State,
     bytes: &[u8],
     more: &[u8],
@@ -188,7 +193,7 @@ pub(crate) fn first_across(
     ensures front { IfOk result (λ o. IfSome o (λ f. f.front ≤ length bytes.now)) }
 {
     match metadata_held(bytes) {
-        Some(size) => message_across(alloc, state, bytes, more, 8 + size),
+        Some(size) => message_across(lists, state, bytes, more, 8 + size),
         None => Ok(None),
     }
 }

@@ -25,6 +25,7 @@ ghost use Rattle.messages.specs.State.{IsRead, known_of, progress_seen, whole_se
 ghost use Rattle.messages.specs.Wanted.{Awaits, Wants, followed};
 
 use crate::framing::{Found, Progress, first, first_across};
+use crate::lists::HeaderLists;
 use crate::state::State;
 use std::alloc::Global;
 use values::StreamFault;
@@ -33,7 +34,7 @@ use values::StreamFault;
 /// is parsed.
 #[tactic(auto, using(crate::proofs::WantedLemmas::growing))]
 fn grow(
-    alloc: Global,
+    lists: &mut HeaderLists,
     state: &State,
     held: &mut Vec<u8>,
     bytes: &[u8],
@@ -52,14 +53,14 @@ fn grow(
             wanted: wanted - bytes.len(),
         });
     }
-    first(alloc, state, held)
+    first(lists, state, held)
 }
 
 /// Appends the piece to the held bytes, up to the end of the first message or all of it. No more is copied than the
 /// message is known to want; `wanted` is what it was known to want before.
 #[tactic(auto, using(crate::proofs::GatherLemmas::gathers))]
 fn gather(
-    alloc: Global,
+    lists: &mut HeaderLists,
     state: &State,
     held: &mut Vec<u8>,
     piece: &[u8],
@@ -79,7 +80,7 @@ fn gather(
     let mut used = 0;
     while used < piece.len() {
         let step = wanted.min(piece.len() - used);
-        match grow(alloc, state, held, &piece[used..used + step], wanted) {
+        match grow(lists, state, held, &piece[used..used + step], wanted) {
             Err(fault) => {
                 held.truncate(before);
                 return Err(fault);
@@ -149,7 +150,7 @@ fn take_across(
 
 /// Looks for a message in the held bytes and the piece, which is copied after them.
 fn advance_held(
-    alloc: Global,
+    lists: &mut HeaderLists,
     state: &State,
     held: &mut Vec<u8>,
     piece: &[u8],
@@ -164,11 +165,11 @@ fn advance_held(
     ensures empty { piece.now ≡ [] → IsOkAnd result IsWaiting }
 {
     let had = held.len();
-    match gather(alloc, state, held, piece, wanted)? {
+    match gather(lists, state, held, piece, wanted)? {
         Progress::Partial { wanted } => Ok(Step::Partial { wanted }),
         Progress::Whole(found) => {
             let end = found.front + found.metadata.body;
-            let copied = Vec::from_slice(alloc, &held[found.front..end]);
+            let copied = Vec::from_slice(lists.alloc, &held[found.front..end]);
             held.truncate(had);
             let body = copied?;
             Ok(Step::Whole {
@@ -185,7 +186,7 @@ fn advance_held(
 /// held, and the piece completes it, the rest of its body is.
 #[tactic(auto, using(crate::proofs::Messages::first_within))]
 pub(crate) fn advance(
-    alloc: Global,
+    lists: &mut HeaderLists,
     state: &State,
     held: &mut Vec<u8>,
     piece: &[u8],
@@ -200,14 +201,14 @@ pub(crate) fn advance(
     ensures empty { piece.now ≡ [] → IsOkAnd result IsWaiting }
 {
     if held.is_empty() && !piece.is_empty() {
-        if let Progress::Whole(found) = first(alloc, state, piece)? {
-            return take_whole(alloc, state, found, piece);
+        if let Progress::Whole(found) = first(lists, state, piece)? {
+            return take_whole(lists.alloc, state, found, piece);
         }
     }
     if piece.len() >= wanted {
-        if let Some(found) = first_across(alloc, state, held, piece)? {
-            return take_across(alloc, state, held, found, piece);
+        if let Some(found) = first_across(lists, state, held, piece)? {
+            return take_across(lists.alloc, state, held, found, piece);
         }
     }
-    advance_held(alloc, state, held, piece, wanted)
+    advance_held(lists, state, held, piece, wanted)
 }

@@ -20,6 +20,7 @@ mod gather;
 mod headers;
 mod laws;
 mod lengths;
+mod lists;
 mod metadata;
 mod pending;
 mod state;

@@ -24,6 +24,7 @@ use crate::columns::Columns;
 use crate::declared::are_same;
 use crate::dictionary::read_dictionary_header;
 use crate::fields::checked;
+use crate::lists::HeaderLists;
 use crate::state::State;
 use field_types::schema_fbs::{V4, V5};
 use field_types::{read_byte, read_long, read_short, readable};
@@ -119,7 +120,7 @@ fn new_schema(alloc: Global, state: &State, header: &TableRef) -> Result<StreamS
 }
 
 fn dictionary_batch(
-    alloc: Global,
+    lists: &mut HeaderLists,
     state: &State,
     body: usize,
     message: &TableRef,
@@ -131,11 +132,11 @@ fn dictionary_batch(
         return Err(StreamFault::NoSchema);
     };
     let header = header_table(message)?;
-    read_dictionary_header(alloc, &header, schema, &state.counts, body)
+    read_dictionary_header(lists, &header, schema, &state.counts, body)
 }
 
 fn record_batch(
-    alloc: Global,
+    lists: &mut HeaderLists,
     state: &State,
     body: usize,
     message: &TableRef,
@@ -148,12 +149,12 @@ fn record_batch(
         return Err(StreamFault::NoSchema);
     };
     let header = header_table(message)?;
-    read_batch_header(alloc, &header, Columns::Fields(schema), body)
+    read_batch_header(lists, &header, Columns::Fields(schema), body)
 }
 
 #[tactic(auto, using(values::proofs::Readings::failing), unfolding(schema_meta::specs::Message::header_of))]
 fn read_header(
-    alloc: Global,
+    lists: &mut HeaderLists,
     state: &State,
     message: &TableRef,
     kind: MessageKind,
@@ -166,20 +167,20 @@ fn read_header(
     match kind {
         MessageKind::Schema => {
             let header = header_table(message)?;
-            let schema = new_schema(alloc, state, &header)?;
+            let schema = new_schema(lists.alloc, state, &header)?;
             Ok(Metadata {
                 header: Header::Schema,
                 body,
-                schema: Some(Rc::new(alloc, schema)?),
+                schema: Some(Rc::new(lists.alloc, schema)?),
             })
         }
         MessageKind::Dictionary => Ok(Metadata {
-            header: Header::Dictionary(dictionary_batch(alloc, state, body, message)?),
+            header: Header::Dictionary(dictionary_batch(lists, state, body, message)?),
             body,
             schema: None,
         }),
         MessageKind::Batch => Ok(Metadata {
-            header: Header::Batch(record_batch(alloc, state, body, message)?),
+            header: Header::Batch(record_batch(lists, state, body, message)?),
             body,
             schema: None,
         }),
@@ -202,7 +203,7 @@ pub(crate) fn body_length(bytes: &[u8]) -> usize
 /// Reads the metadata of the message that comes after those by which `state` is what it is.
 #[tactic(auto, using(values::proofs::Readings::failing), unfolding(schema_meta::specs::Message::meta_of))]
 pub(crate) fn read_metadata(
-    alloc: Global,
+    lists: &mut HeaderLists,
     state: &State,
     bytes: &[u8],
 ) -> Result<Metadata, StreamFault>
@@ -213,6 +214,6 @@ pub(crate) fn read_metadata(
     let kind = kind_of(&message)?;
     check_version(&message)?;
     let body = body_of(&message)?;
-    let metadata = read_header(alloc, state, &message, kind, body)?;
+    let metadata = read_header(lists, state, &message, kind, body)?;
     Ok(metadata)
 }

@@ -9,11 +9,12 @@ ghost use Rattle.messages.specs.Wanted.{IsMissing};
 use crate::framing::missing;
 use crate::gather::{Step, advance};
 use crate::headers::{Framed, Message};
+use crate::lists::HeaderLists;
 use crate::metadata::Metadata;
 use crate::pending::Pending;
 use crate::state::State;
 use indexmap::IndexMap;
-use schema_meta::StreamSchema;
+use schema_meta::{Header, StreamSchema};
 use std::alloc::Global;
 use std::marker::Model;
 use std::mem::replace;
@@ -26,7 +27,7 @@ use values::{Schema, StreamFault};
 /// bytes of an incomplete message: the one now, and the one after `commit`, if a piece was prepared.
 #[derive(Drop)]
 pub struct Framer {
-    alloc: Global,
+    lists: HeaderLists,
     state: State,
     // The first `len` are those of an incomplete message. What comes after them is of a prepared piece.
     bytes: Vec<u8>,
@@ -62,7 +63,7 @@ impl Framer {
         ensures nothing_prepared { result.prepared ≡ result.current }
     {
         Framer {
-            alloc,
+            lists: HeaderLists::new(alloc),
             state: State {
                 declared,
                 schema: None,
@@ -124,7 +125,13 @@ impl Framer {
     {
         self.bytes.truncate(self.len);
         self.pending = Pending::Nothing;
-        match advance(self.alloc, &self.state, &mut self.bytes, piece, self.wanted)? {
+        match advance(
+            &mut self.lists,
+            &self.state,
+            &mut self.bytes,
+            piece,
+            self.wanted,
+        )? {
             Step::Partial { wanted } => {
                 self.pending = Pending::Piece { wanted };
                 Ok(Framed {
@@ -173,6 +180,15 @@ impl Framer {
                 self.wanted = 8;
             }
         }
+    }
+
+    /// Takes back a header that is no longer needed: the next one is read into its lists, and asks for no memory for them
+    /// where they are long enough.
+    pub fn take_back(&mut self, header: Header)
+        ensures same { self.new.current ≡ self.old.current }
+        ensures prepared { self.new.prepared ≡ self.old.prepared }
+    {
+        self.lists.give(header);
     }
 
     /// Takes the piece up to the end of the first message that it completes, or all of it: `prepare`, and then

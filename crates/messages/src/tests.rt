@@ -107,6 +107,19 @@ fn whole(rt: HostRuntime) -> Result<(), Fail> {
     Ok(())
 }
 
+/// The header of the batch is read into the lists of the one before, which was taken back.
+#[test]
+fn takes_a_header_back(rt: HostRuntime) -> Result<(), Fail> {
+    let mut framer = Framer::open(rt.alloc(), None);
+    assert_eq!(rt; push(&mut framer, &SAMPLE), Ok((232, Some(1))));
+    for _ in 0..3 {
+        let message = framer.push(&SAMPLE[232..496])?.message;
+        framer.take_back(message.ok_or("no batch")?.header);
+    }
+    assert_eq!(rt; batch(framer.push(&SAMPLE[232..])?), Some([56, 3, 2, 4]));
+    Ok(())
+}
+
 #[test]
 fn in_pieces_of_one_byte(rt: HostRuntime) {
     let mut framer = Framer::open(rt.alloc(), None);

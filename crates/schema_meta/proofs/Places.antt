@@ -1,6 +1,6 @@
 -- The arrays of a batch, one after another.
-use Rattle.std.proofs.Common.{◌≡◌, ℕ, ℤ, List, [], ◌∷◌, ◌++◌, ◌∙◌, ◌+◌, ◌<◌, length, drop, get_or, subst}
-use Rattle.values.specs.Rose.{Rose, Roses, more, join, kids_of, rose_size}
+use Rattle.std.proofs.Common.{◌≡◌, ℕ, ℤ, List, [], ◌∷◌, ◌++◌, ◌∙◌, ◌+◌, ◌<◌, ◌≤◌, length, drop, get_or, ap}
+use Rattle.values.specs.Rose.{Rose, Roses, none, more, join, kids_of, rose_size}
 use Rattle.values.proofs.Roses.{kids_step, kids_end, join_more, join_none, kid_smaller}
 use Rattle.array_layout.specs.declared.array.FieldNode.{FieldNode}
 use Rattle.array_layout.specs.declared.array.BufferRange.{BufferRange}
@@ -16,6 +16,22 @@ use Rattle.values.specs.Datum.{Datum}
 abbrev pub arrays_from : (ℤ → List Datum) → List FieldNode → List BufferRange → ℕ → ℕ → Roses Entry → Roses ArrayData
 arrays_from values nodes ranges n b fs = decoded_all values fs (placed_all nodes ranges n b (slot_layouts_below fs))
 
+-- the next of them, where its array is this, and the arrays after it begin there
+pub arrays_next :
+    (values : ℤ → List Datum) (nodes : List FieldNode) (ranges : List BufferRange) (fs : List (Rose Entry)) (k : ℕ)
+    (e d : Rose Entry) (n b m c : ℕ) (a : Rose ArrayData) → e ≡ get_or fs k d → k < length fs
+    → a ≡ decoded values e (placed nodes ranges n b (slot_layout_of e))
+    → m ≡ n + rose_size (slot_layout_of e) → c ≡ b + ranges_in (slot_layout_of e)
+    → arrays_from values nodes ranges n b (kids_of (drop k fs))
+    ≡ more a (arrays_from values nodes ranges m c (kids_of (drop (k + 1) fs)))
+arrays_next values nodes ranges fs k e d n b m c a is below here next more_ranges =
+    rw (here, next, more_ranges) (ap (arrays_from values nodes ranges n b) (kids_step fs k e d is below))
+
+pub arrays_end :
+    (values : ℤ → List Datum) (nodes : List FieldNode) (ranges : List BufferRange) (fs : List (Rose Entry))
+    (k n b : ℕ) → length fs ≤ k → arrays_from values nodes ranges n b (kids_of (drop k fs)) ≡ none
+arrays_end values nodes ranges fs k n b all = ap (arrays_from values nodes ranges n b) (kids_end fs k all)
+
 pub placed_step :
     (values : ℤ → List Datum) (nodes : List FieldNode) (ranges : List BufferRange) (fs : List (Rose Entry)) (k : ℕ)
     (e d : Rose Entry) (n b m c : ℕ) (made : List (Rose ArrayData))
@@ -25,12 +41,8 @@ pub placed_step :
     → join made (arrays_from values nodes ranges n b (kids_of (drop k fs))) ≡ whole
     → join (made ++ a ∷ []) (arrays_from values nodes ranges m c (kids_of (drop (k + 1) fs))) ≡ whole
 placed_step values nodes ranges fs k e d n b m c made a whole is below here next more_ranges all =
-    let rest : Roses Entry = kids_of (drop (k + 1) fs) in
-    let first : Rose ArrayData = decoded values e (placed nodes ranges n b (slot_layout_of e)) in
-    let others : Roses ArrayData =
-    arrays_from values nodes ranges (n + rose_size (slot_layout_of e)) (b + ranges_in (slot_layout_of e)) rest in
-    let P : Roses Entry → Type 0 = λ ts. join made (arrays_from values nodes ranges n b ts) ≡ whole in
-    let split : join made (more first others) ≡ whole = subst P (kids_step fs k e d is below) all in
-    rw (here, next, more_ranges) (join_more made first others ∙ split)
+    let rest : Roses ArrayData = arrays_from values nodes ranges m c (kids_of (drop (k + 1) fs)) in
+    let split = arrays_next values nodes ranges fs k e d n b m c a is below here next more_ranges in
+    join_more made a rest ∙ (rw (← split) all)
 
 pub ruleset placing = (kids_step, kids_end, join_more, join_none, kid_smaller, nodes_step, ranges_step)

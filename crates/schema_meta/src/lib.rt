@@ -6,7 +6,7 @@
 //! name and the type of its values.
 //!
 //! The headers of messages are here too, with their slots and numbers (`message_fbs`), the placing of a batch's arrays
-//! (`place_arrays`), the definitions that the crates above read messages and whole streams by, and what is written of a
+//! (`place_array`), the definitions that the crates above read messages and whole streams by, and what is written of a
 //! schema.
 #![tactic(auto, unfolding(field_types::specs::Reads::bool_of, field_types::specs::Kinds::kind_of, field_types::specs::Types::type_of, field_types::specs::Reads::short_of, crate::specs::Encoding::id_of, crate::specs::Encoding::index_type_of, crate::specs::Encoding::dense_of, crate::specs::Encoding::encoding_of, crate::specs::Encoding::field_encoding_of, crate::specs::Dictionaries::value_type, crate::specs::Dictionaries::are_consistent, crate::specs::Fields::name_of, crate::specs::Fields::children_of, crate::specs::Fields::label_of, crate::specs::Fields::content_of, crate::specs::Fields::field_of, crate::specs::Fields::entry_by, crate::specs::Totals::total_at, crate::specs::Schema::endianness_of, crate::specs::Schema::columns_of, crate::specs::Schema::schema_of))]
 
@@ -32,6 +32,6 @@ pub use laws::{
     clash_law, fields_law, logical_law, path_law, place_law, plain_law, schema_law, sign_law,
 };
 pub use layouts::layout_trees;
-pub use parts::{place_arrays, place_values};
+pub use parts::{ArrayCursor, place_array, place_values};
 pub use schema::{StreamSchema, read_schema};
 pub use write::{write_message, write_schema};

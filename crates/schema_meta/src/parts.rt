@@ -16,7 +16,6 @@ ghost use Rattle.array_layout.specs.Placing.{
 };
 ghost use Rattle.schema_meta.specs.FieldLayouts.{slot_layout_of, slot_layouts_of};
 ghost use Rattle.schema_meta.specs.Parts.{
-  arrays_of,
   decoded,
   decoded_all,
   values_array,
@@ -27,17 +26,16 @@ ghost use Rattle.schema_meta.specs.Parts.{
 use crate::encoding::DictionaryEncoding;
 use crate::field::Field;
 use crate::header::BatchHeader;
-use crate::schema::StreamSchema;
 use array_layout::{Array, ArrayData, BufferRange, DictionaryValues, FieldNode, own_ranges};
 use dictionaries::Dicts;
 use std::alloc::{AllocError, Global};
 use values::{ColType, Layout};
 
-/// The index of the next array's node, and that of its first buffer.
+/// Where the next array of a batch begins: the index of its node, and that of its first buffer.
 #[derive(Drop)]
-struct Cursor {
-    node: usize,
-    range: usize,
+pub struct ArrayCursor {
+    pub node: usize,
+    pub range: usize,
 }
 
 const NOWHERE: BufferRange = BufferRange { from: 0, len: 0 };
@@ -93,7 +91,7 @@ fn values_at(layout: Layout, ranges: &[BufferRange], first: usize) -> BufferRang
 fn data_at(
     nodes: &[FieldNode],
     ranges: &[BufferRange],
-    at: &Cursor,
+    at: &ArrayCursor,
     layout: Layout,
     dictionary: Option<DictionaryValues>,
 ) -> ArrayData
@@ -137,7 +135,7 @@ fn place(
     nodes: &[FieldNode],
     ranges: &[BufferRange],
     dicts: &Dicts,
-    at: &mut Cursor,
+    at: &mut ArrayCursor,
 ) -> Result<Array, AllocError>
     requires nodes { at.old.node + rose_size (slot_layout_of field.now) ≤ length nodes.now }
     requires ranges { at.old.range + ranges_in (slot_layout_of field.now) ≤ length ranges.now }
@@ -165,7 +163,7 @@ fn place_all(
     nodes: &[FieldNode],
     ranges: &[BufferRange],
     dicts: &Dicts,
-    at: &mut Cursor,
+    at: &mut ArrayCursor,
 ) -> Result<Vec<Array>, AllocError>
     requires nodes { at.old.node + roses_size (slot_layouts_of fields.now) ≤ length nodes.now }
     requires ranges { at.old.range + ranges_below (slot_layouts_of fields.now) ≤ length ranges.now }
@@ -182,27 +180,24 @@ fn place_all(
     Ok(arrays)
 }
 
-/// The arrays of a batch, one a column, with the values that their dictionaries have now.
-#[tactic(auto, unfolding(crate::specs::Parts::arrays_of))]
-pub fn place_arrays(
+/// The array of a column of a batch, with all below it, and with the values that their dictionaries have now. The cursor
+/// moves past their nodes and buffers.
+pub fn place_array(
     alloc: Global,
-    schema: &StreamSchema,
+    field: &Field,
     header: &BatchHeader,
     dicts: &Dicts,
-) -> Result<Vec<Array>, AllocError>
-    requires nodes { roses_size (slot_layouts_of schema.now.fields.items) ≤ length header.now.nodes }
-    requires ranges { ranges_below (slot_layouts_of schema.now.fields.items) ≤ length header.now.ranges }
-    ensures { IfOk result (λ a. kids_of a.items ≡ arrays_of (values_in dicts.now) schema.now.fields.items header.now) }
+    at: &mut ArrayCursor,
+) -> Result<Array, AllocError>
+    requires nodes { at.old.node + rose_size (slot_layout_of field.now) ≤ length header.now.nodes }
+    requires ranges { at.old.range + ranges_in (slot_layout_of field.now) ≤ length header.now.ranges }
+    ensures array { IfOk result
+        (λ a. a ≡ decoded (values_in dicts.now) field.now
+        (placed header.now.nodes header.now.ranges at.old.node at.old.range (slot_layout_of field.now))) }
+    ensures node { IfOk result (λ _. at.new.node ≡ at.old.node + rose_size (slot_layout_of field.now)) }
+    ensures range { IfOk result (λ _. at.new.range ≡ at.old.range + ranges_in (slot_layout_of field.now)) }
 {
-    let mut at = Cursor { node: 0, range: 0 };
-    place_all(
-        alloc,
-        &schema.fields,
-        &header.nodes,
-        &header.ranges,
-        dicts,
-        &mut at,
-    )
+    place(alloc, field, &header.nodes, &header.ranges, dicts, at)
 }
 
 /// The one array of a dictionary batch, with values of this type.
@@ -210,7 +205,7 @@ pub fn place_arrays(
 pub fn place_values(alloc: Global, stored: &ColType, header: &BatchHeader) -> Array
     ensures { result ≡ values_array stored.now header.now }
 {
-    let at = Cursor { node: 0, range: 0 };
+    let at = ArrayCursor { node: 0, range: 0 };
     let own = data_at(&header.nodes, &header.ranges, &at, stored.layout(), None);
     Array {
         own,

@@ -55,7 +55,7 @@ returns-in_err-coming-clause-answer c =
 pub returns-in_err-coming-clause-has_none : goal.returns-in_err-coming-clause-has_none
 returns-in_err-coming-clause-has_none c =
     let failed = err_from_is_err_and c.from_residual-in_err-coming.result c.from_residual-in_err-coming.ensures.1 in
-    rw failed.1
+    rw (failed.1, c.take_message.ensures.framing)
     (has-same c.prepare.new.self.prepared.known.schema c.args.dicts.now c.take_message.new.dicts
     c.take_message.ensures.same
     (has-after c.first_message_law.ensures.message c.args.framer.now.current c.prepare.new.self.prepared
@@ -72,10 +72,10 @@ returns-clause-answer c = λ k at.
     c.in_ok-used.ensures.ok c.in-Some.is) c.in_ok-coming.ensures.seen
 
 pub returns-clause-leads : goal.returns-clause-leads
-returns-clause-leads c = λ declared bytes at.
+returns-clause-leads c = rw c.take_message.ensures.framing (λ declared bytes at.
     leads-whole c.first_message_law.ensures declared bytes c.args.framer.now.current c.prepare.new.self.prepared
     c.args.dicts.now c.take_message.new.dicts c.args.piece.now
     c.in_ok-used.field-0.used c.in-Some.message c.in_ok-coming.coming.change at
     (came _ c.args.framer.now.current c.prepare.new.self.prepared c.args.dicts.now c.args.piece.now c.in_ok-used.field-0
     c.in-Some.message at
-    c.in_ok-used.ensures.ok c.in-Some.is) c.in_ok-coming.ensures.change
+    c.in_ok-used.ensures.ok c.in-Some.is) c.in_ok-coming.ensures.change)

@@ -8,7 +8,7 @@ invariant_of-result c =
     record {
       within = omega arith;
       stream =
-          fresh_stream (known_of (record { declared = c.args.declared; schema = None; counts = c.new.result }))
-          (take 0 c.new-2.result.items) refl tt;
+          fresh_stream (known_of (record { declared = c.args.declared; schema = None; counts = c.new-2.result }))
+          (take 0 c.new-3.result.items) refl tt;
       ready = tt;
     }

@@ -1,6 +1,0 @@
-use Rattle.std.proofs.Common.{sym}
-use Rattle.feed.proofs.message.take_message.Goals as goal
-
-pub returns-in-Dictionary-clause-seen : goal.returns-in-Dictionary-clause-seen
-returns-in-Dictionary-clause-seen c =
-    rw (sym c.message.view_is, c.in-Dictionary.is, sym c.deref.ensures) c.take_dictionary.ensures.seen
