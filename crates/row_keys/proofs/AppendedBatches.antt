@@ -212,7 +212,7 @@ slots_appended t stored xs new columns n is p =
     ∙ joined_added t stored (batch_rows n columns) xs p.keys is.keyed
     (keyed_new t (batch_rows n columns) p.keys p.are)
 
-count_added : (xs : List Numbered) (ks : List Key) → live_count (xs ++ map fresh ks) ≡ live_count xs + length ks
+pub count_added : (xs : List Numbered) (ks : List Key) → live_count (xs ++ map fresh ks) ≡ live_count xs + length ks
 count_added [] [] = refl
 count_added [] (k ∷ ks) = let c = count_added [] ks in omega (arith, c)
 count_added (x ∷ xs) ks = by x.live (count_added xs ks)

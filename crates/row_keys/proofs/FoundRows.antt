@@ -30,13 +30,17 @@ use Rattle.std.proofs.Common.{
   ◌∙◌,
   arith,
   true≢false,
+  map,
 }
 use Rattle.std.specs.Prelude.{slice_get}
+use Rattle.std.specs.List.{AllByRecursion, IsDistinct}
+use Rattle.std.specs.Ordering.{eq_by_cmp, is_eq, nat_cmp}
+use Rattle.std.proofs.lemmas.Cmp.{nat_cmp_total, tied_itself}
 use Rattle.std.proofs.Math.Seq.{take-suc}
-use Rattle.values.specs.Datum.{Datum, null}
+use Rattle.values.specs.Datum.{Datum, is_null, null}
 use Rattle.values.specs.Keys.{datum_of_key}
 use Rattle.values.specs.declared.key.Key.{Key}
-use Rattle.view_lang.specs.Causes.{all_among, any_among, cause_of, has_repeated}
+use Rattle.view_lang.specs.Causes.{all_among, any_among, cause_of, has_null, has_repeated}
 use Rattle.view_lang.specs.Config.{Table}
 use Rattle.view_lang.specs.Contents.{Contents, is_among, keys_in, same_key}
 use Rattle.view_lang.specs.Edits.{retract}
@@ -44,14 +48,14 @@ use Rattle.view_lang.specs.declared.unfit.Unfit.TheVariants as unfit
 use Rattle.row_keys.specs.declared.faults.EditFault.{EditFault}
 use Rattle.row_keys.specs.declared.faults.EditFault.TheVariants as fault
 use Rattle.row_keys.specs.Found.{FindsAll, MissesKey}
-use Rattle.row_keys.specs.KeyColumns.{PushesKeys, RefusesKeys}
-use Rattle.row_keys.specs.Numbers.{IsAt, IsUnused, Numbered, numbered, turned}
+use Rattle.row_keys.specs.KeyColumns.{PushesKeys, RefusesKeys, StandAlone, fresh}
+use Rattle.row_keys.specs.Numbers.{AreDistinct, IsAt, IsUnused, Numbered, numbered, turned}
 use Rattle.row_keys.specs.Slots.{CanRetract, Slot, keys_at, live, contents_of}
 use Rattle.row_keys.specs.Store.{Refuses}
-use Rattle.row_keys.specs.Stored.{AreKeyed, IsStored, joined, live_keys}
+use Rattle.row_keys.specs.Stored.{AreGiven, AreKeyed, IsStored, joined, live_keys}
 use Rattle.row_keys.proofs.AppendedBatches.{live_keys_are}
 use Rattle.row_keys.proofs.JoinedNumbers.{joined_at, joined_turned, keyed_turned, unused_among, used_among}
-use Rattle.row_keys.proofs.KeyFacts.{either, neither, same_refl}
+use Rattle.row_keys.proofs.KeyFacts.{either, neither, or_none, same_exact, same_refl}
 use Rattle.row_keys.proofs.Places.{some_same}
 
 -- one key after another
@@ -111,7 +115,7 @@ found_among (d ∷ ds) xs (n ∷ ns) all =
     ap (λ b. cond b (all_among ds (live_keys xs)) false) (ap (λ x. is_among x (live_keys xs)) (sym all.0.1)
     ∙ used_among xs n all.0.0 all.0.2) ∙ found_among ds xs ns all.1
 
-at_turned : (xs : List Numbered) (n m : ℕ) (x : Numbered) → (m ≡ n → ⊥) → slice_get xs m ≡ Some x
+pub at_turned : (xs : List Numbered) (n m : ℕ) (x : Numbered) → (m ≡ n → ⊥) → slice_get xs m ≡ Some x
     → slice_get (turned false xs n) m ≡ Some x
 at_turned [] n m x other h = h
 at_turned (y ∷ xs) zero zero x other h = absurd (other refl)
@@ -163,12 +167,81 @@ found_keys t rows (d ∷ ds) xs (n ∷ ns) keyed all =
     ap (λ k. k ∷ keys_at t ns (joined rows xs)) ((joined_at t rows xs n all.0.0 true keyed all.0.2).1 ∙ all.0.1)
     ∙ ap (λ ks. d ∷ ks) (found_keys t rows ds xs ns keyed all.1)
 
--- the causes
-
 none_among : (cells : List Datum) → any_among cells [] ≡ false
 unfolding any_among is_among
 none_among [] = refl
 none_among (d ∷ ds) = none_among ds
+
+-- Keys of different live rows stand alone.
+
+found_named : (cells : List Datum) (xs : List Numbered) (ns : List ℕ) → FindsAll cells xs ns
+    → (ks : List Key) × (map datum_of_key ks ≡ cells)
+found_named [] xs [] all = ([], refl)
+found_named [] xs (n ∷ ns) all = absurd all
+found_named (d ∷ ds) xs [] all = absurd all
+found_named (d ∷ ds) xs (n ∷ ns) all =
+    let rest = found_named ds xs ns all.1 in
+    (all.0.0 ∷ rest.0, ap (λ c. c ∷ map datum_of_key rest.0) all.0.1 ∙ ap (λ cs. d ∷ cs) rest.1)
+
+found_given : (cells : List Datum) (xs : List Numbered) (ns : List ℕ) → FindsAll cells xs ns → AreGiven xs
+    → has_null cells ≡ false
+unfolding has_null
+found_given [] xs [] all given = refl
+found_given [] xs (n ∷ ns) all given = absurd all
+found_given (d ∷ ds) xs [] all given = absurd all
+found_given (d ∷ ds) xs (n ∷ ns) all given =
+    or_none (is_null d) (has_null ds) (ap is_null (sym all.0.1) ∙ given n all.0.0 all.0.2)
+    (found_given ds xs ns all.1 given)
+
+-- A key of a row that isn't among these isn't one of theirs.
+other_found :
+    (ds : List Datum) (xs : List Numbered) (ns : List ℕ) (n : ℕ) (k : Key) → FindsAll ds xs ns → AreDistinct xs
+    → IsAt xs n k true → AllByRecursion (λ m. eq_by_cmp nat_cmp n m ≡ false) ns
+    → is_among (datum_of_key k) ds ≡ false
+unfolding is_among
+other_found [] xs [] n k all distinct at other = refl
+other_found [] xs (m ∷ ms) n k all distinct at other = absurd all
+other_found (d ∷ ds) xs [] n k all distinct at other = absurd all
+other_found (d ∷ ds) xs (m ∷ ms) n k all distinct at other =
+    or_none (same_key (datum_of_key k) d) (is_among (datum_of_key k) ds)
+    (by (same_key (datum_of_key k) d) refl) (other_found ds xs ms n k all.1 distinct at other.1)
+  where
+    by : (b : Bool) → same_key (datum_of_key k) d ≡ b → b ≡ false
+    by false e = refl
+    by true e =
+        let same : k ≡ all.0.0 = same_exact k all.0.0 (ap (λ x. same_key (datum_of_key k) x) all.0.1 ∙ e) in
+        let P : Key → Type 0 = λ j. IsAt xs m j true in
+        let here : n ≡ m = distinct n m k at (subst P (sym same) all.0.2) in
+        let Q : ℕ → Type 0 = λ j. eq_by_cmp nat_cmp n j ≡ false in
+        absurd (true≢false (sym (ap is_eq (tied_itself nat_cmp_total n)) ∙ subst Q (sym here) other.0))
+
+found_single : (cells : List Datum) (xs : List Numbered) (ns : List ℕ) → FindsAll cells xs ns → AreDistinct xs
+    → IsDistinct (eq_by_cmp nat_cmp) ns → has_repeated cells ≡ false
+unfolding has_repeated IsDistinct
+found_single [] xs [] all distinct apart = refl
+found_single [] xs (n ∷ ns) all distinct apart = absurd all
+found_single (d ∷ ds) xs [] all distinct apart = absurd all
+found_single (d ∷ ds) xs (n ∷ ns) all distinct apart =
+    or_none (is_among d ds) (has_repeated ds)
+    (ap (λ x. is_among x ds) (sym all.0.1) ∙ other_found ds xs ns n all.0.0 all.1 distinct all.0.2 apart.0)
+    (found_single ds xs ns all.1 distinct apart.1)
+
+pub stands_found : (cells : List Datum) (xs : List Numbered) (ns : List ℕ) → FindsAll cells xs ns → AreGiven xs
+    → AreDistinct xs → IsDistinct (eq_by_cmp nat_cmp) ns → StandAlone cells
+stands_found cells xs ns all given distinct apart =
+    let named = found_named cells xs ns all in (
+      map fresh named.0,
+      record {
+        keys = named.0;
+        are = named.1;
+        given = found_given cells xs ns all given;
+        single = found_single cells xs ns all distinct apart;
+        unused = none_among cells;
+        pushed = refl;
+      },
+    )
+
+-- the causes
 
 -- where no rows are live, a key can only be one that stands twice
 pub twice_named : (cells : List Datum) → (has_repeated cells || any_among cells []) ≡ true → has_repeated cells ≡ true

@@ -36,7 +36,7 @@ use Rattle.std.proofs.Common.{
 }
 use Rattle.std.specs.Prelude.{slice_get, if◌then◌else◌}
 use Rattle.std.proofs.lemmas.List.{length-map, length-set, length-take, map-append}
-use Rattle.std.proofs.lemmas.Option.{none-some, slice_get_within, get_or_from_slice_get}
+use Rattle.std.proofs.lemmas.Option.{none-some, slice_get-get_or, slice_get_within, get_or_from_slice_get}
 use Rattle.values.specs.declared.key.Key.{Key}
 use Rattle.values.specs.declared.key.Key.TheVariants as key
 use Rattle.row_keys.specs.KeyTable.{AreApart, Inserts}
@@ -394,6 +394,71 @@ index_revived keys hs es live n k e is read at unused =
     }
 
 -- what the last row counted was counted
+-- A row is retracted, and another comes that holds its key.
+
+flagged_long : (b : Bool) (es : List Entry) (n : ℕ) → length (flagged b es n) ≡ length es
+flagged_long b [] n = refl
+flagged_long b (e ∷ es) zero = refl
+flagged_long b (e ∷ es) (suc n) = ap suc (flagged_long b es n)
+
+pub flagged_front : (b : Bool) (es fs : List Entry) (n : ℕ) → n < length es
+    → flagged b (es ++ fs) n ≡ flagged b es n ++ fs
+flagged_front b [] fs n below = absurd (omega (arith, below))
+flagged_front b (e ∷ es) fs zero below = refl
+flagged_front b (e ∷ es) fs (suc n) below = ap (λ xs. e ∷ xs) (flagged_front b es fs n (omega (arith, below)))
+
+-- the key of a live row has no holder once the row is retracted
+free_retracted :
+    (keys : List Key) (hs : List ℕ) (es : List Entry) (live n : ℕ) (k : Key) (e : Entry) → IsIndex keys hs es live
+    → slice_get es n ≡ Some e → e.is_live ≡ true → IsAt (seen_all keys es) n k true
+    → IsFree hs (flagged false es n) e.key
+free_retracted keys hs es live n k e is there lives at = λ m holder holds.
+    let w = was false es n m holds.0 holds.1 in
+    let P : ℕ → Type 0 = λ p. slice_get hs p ≡ Some m in
+    let mine : slice_get hs e.key ≡ Some m =
+    subst P holds.2 ((index_retracted keys hs es live n k is at).held m holds.0 holds.1 holds.3) in
+    let same : m ≡ n = some_same m n (sym mine ∙ is.held n e there lives) in
+    elim w.lives [
+      | inl p ↦ absurd (true≢false (sym holds.3 ∙ p.1))
+      | inr p ↦ absurd (p.0 same)
+    ]
+
+pub record Replaced (keys : List Key) (hs : List ℕ) (es : List Entry) (live n : ℕ) (k : Key) (e : Entry) : Type 0 where
+  pub index : IsIndex keys (set hs e.key (length es)) (flagged false es n ++ new_entry e.key false ∷ []) live
+  pub rows : seen_all keys (flagged false es n ++ new_entry e.key false ∷ [])
+      ≡ turned false (seen_all keys es) n ++ numbered k true ∷ []
+
+pub index_replaced :
+    (keys : List Key) (hs : List ℕ) (es : List Entry) (live n : ℕ) (k : Key) (e : Entry) → IsIndex keys hs es live
+    → e ≡ get_or es n e → IsAt (seen_all keys es) n k true → Replaced keys hs es live n k e
+index_replaced keys hs es live n k e is read at =
+    let found = entry_at keys es n (numbered k true) at in
+    let same : found.0 ≡ e = sym (read ∙ get_or_from_slice_get es n found.0 e found.1) in
+    let there : slice_get es n ≡ Some e = found.1 ∙ ap (λ x. Some x) same in
+    let lives : e.is_live ≡ true =
+    ap (λ (x : Entry). x.is_live) (sym same) ∙ sym (ap (λ (x : Numbered). x.live) found.2) in
+    let known : get_or keys e.key key.Null ≡ k =
+    ap (λ x. get_or keys x.key key.Null) (sym same) ∙ sym (ap (λ (x : Numbered). x.key) found.2) in
+    let keyed = is.keyed n e there in
+    let inside : slice_get keys e.key ≡ Some k =
+    slice_get-get_or keys e.key key.Null keyed ∙ ap (λ x. Some x) known in
+    let off : List Entry = flagged false es n in
+    let rest : IsIndex keys hs off (live - 1) = index_retracted keys hs es live n k is at in
+    let long : length off ≡ length es = flagged_long false es n in
+    let puts : Puts hs e.key (length off) (set hs e.key (length es)) =
+    inr (omega (arith, keyed, is.as_many), ap (λ m. set hs e.key m) (sym long)) in
+    let ins : Inserts keys k e.key keys = inl (inside, refl) in
+    let some = live_some keys hs es live n k is at in
+    let P : ℕ → Type 0 = λ m. IsIndex keys (set hs e.key (length es)) (off ++ new_entry e.key false ∷ []) m in
+    let count : (live - 1) + 1 ≡ live = omega (arith, some) in
+    record {
+      index = subst P count
+          (index_pushed keys keys hs (set hs e.key (length es)) off (live - 1) e.key k false rest (omega (arith, keyed)) ins
+          (free_retracted keys hs es live n k e is there lives at) puts (λ x. absurd (true≢false (sym x))));
+      rows = rows_pushed keys keys hs (set hs e.key (length es)) off (live - 1) e.key k false rest ins puts
+          ∙ ap (λ xs. xs ++ numbered k true ∷ []) (rows_flagged keys es false n);
+    }
+
 pub live_covers :
     (keys : List Key) (hs : List ℕ) (es : List Entry) (e : Entry) (live : ℕ) → IsIndex keys hs (es ++ e ∷ []) live
     → (if e.is_live then 1 else 0) ≤ live

@@ -1,5 +1,5 @@
 -- What holds of the index of rows by number, where what is kept of a row is its entry.
-use Rattle.std.proofs.Common.{◌≡◌, ℕ, ◌<◌, ◌+◌, Bool, true, false, List, Option, None, Some, get_or, length, ap, sym, subst, ◌∙◌, arith, true≢false}
+use Rattle.std.proofs.Common.{◌≡◌, ℕ, ◌<◌, ◌+◌, ◌++◌, Bool, true, false, List, [], ◌∷◌, Option, None, Some, get_or, length, ap, sym, subst, ◌∙◌, arith, true≢false}
 use Rattle.std.specs.Prelude.{◌-◌, ◌^◌, ◌≤◌, slice_get, slice_set}
 use Rattle.std.proofs.lemmas.List.{length-map}
 use Rattle.std.proofs.lemmas.Option.{get_or_from_slice_get, none-some, slice_get-get_or, slice_get_within}
@@ -16,8 +16,17 @@ use Rattle.row_keys.specs.declared.numbers.Entry.{Entry}
 use Rattle.row_keys.specs.declared.numbers.KeptEntry.{KeptEntry}
 use Rattle.row_keys.proofs.GoneRows.{index_gone, null_there, seen_gone}
 use Rattle.row_keys.proofs.Indexes.{seen_at}
-use Rattle.row_keys.proofs.IndexChanges.{index_retracted, index_revived, live_some, live_within, rows_flagged}
-use Rattle.row_keys.proofs.KeptEntries.{entries_at, entries_get, entries_long, entry_there}
+use Rattle.row_keys.proofs.IndexChanges.{
+  flagged_front,
+  index_replaced,
+  index_retracted,
+  index_revived,
+  live_some,
+  live_within,
+  new_entry,
+  rows_flagged,
+}
+use Rattle.row_keys.proofs.KeptEntries.{entries_at, entries_get, entries_long, entries_pushed, entry_there, order_more}
 use Rattle.row_keys.proofs.Places.{some_same}
 
 -- a number of a row is below how many there are
@@ -173,6 +182,51 @@ index_on keys hs ks js new len live n k e xs is view read same at unused order f
       order = order;
       bound = is.bound;
     }
+
+pub order_pushed :
+    (ks mid : List KeptEntry) (len more : ℕ) (e : Entry) → AreInOrder 0 ks len
+    → mid ≡ ks ++ record { number = len; entry = e } ∷ [] → more ≡ len + 1 → AreInOrder 0 mid more
+order_pushed ks mid len more e order is next =
+    let P : List KeptEntry → Type 0 = λ zs. AreInOrder 0 zs more in
+    subst P (sym is)
+    (order_more 0 len more ks (record { number = len; entry = e }) order (omega arith) (omega (arith, next)))
+
+pub all_pushed :
+    (ks mid : List KeptEntry) (len more : ℕ) (e : Entry) → AreInOrder 0 ks len
+    → mid ≡ ks ++ record { number = len; entry = e } ∷ [] → more ≡ len + 1
+    → all_entries mid more ≡ all_entries ks len ++ e ∷ []
+all_pushed ks mid len more e order is next =
+    ap (λ zs. all_entries zs more) is
+    ∙ ap (λ n. all_entries (ks ++ record { number = len; entry = e } ∷ []) n) next ∙ entries_pushed ks len e order
+
+pub kept_replaced :
+    (keys : List Key) (hs : List ℕ) (ks mid new : List KeptEntry) (len more live n : ℕ) (k : Key) (e : Entry)
+    (xs : List Numbered) → IsKeptIndex keys hs ks len live → seen_all keys (all_entries ks len) ≡ xs
+    → e ≡ entry_in ks n → IsAt xs n k true
+    → all_entries mid more ≡ all_entries ks len ++ new_entry e.key false ∷ []
+    → all_entries new more ≡ flagged false (all_entries mid more) n → AreInOrder 0 new more → more < 2 ^ 63
+    → IsKeptIndex keys (slice_set hs e.key len) new more live
+    × (seen_all keys (all_entries new more) ≡ turned false xs n ++ numbered k true ∷ [])
+kept_replaced keys hs ks mid new len more live n k e xs is view read at pushed flag order bound =
+    let es : List Entry = all_entries ks len in
+    let below = kept_below keys ks len n xs view (at_below xs n k true at) in
+    let long = entries_long ks len in
+    let P : List Numbered → Type 0 = λ ys. IsAt ys n k true in
+    let made =
+    index_replaced keys hs es live n k e is.index (read ∙ sym (entries_at ks len n e below)) (subst P (sym view) at) in
+    let whole : all_entries new more ≡ flagged false es n ++ new_entry e.key false ∷ [] =
+    flag ∙ ap (λ fs. flagged false fs n) pushed
+    ∙ flagged_front false es (new_entry e.key false ∷ []) n (omega (arith, below, long)) in
+    let Q : List Entry → Type 0 = λ fs. IsIndex keys (slice_set hs e.key len) fs live in
+    let R : ℕ → Type 0 = λ m. IsIndex keys (slice_set hs e.key m) (flagged false es n ++ new_entry e.key false ∷ []) live
+    in (
+      record {
+        index = subst Q (sym whole) (subst R long made.index);
+        order = order;
+        bound = bound;
+      },
+      ap (λ fs. seen_all keys fs) whole ∙ made.rows ∙ ap (λ ys. turned false ys n ++ numbered k true ∷ []) view,
+    )
 
 -- there are no more live rows than numbers
 pub live_fits :

@@ -50,8 +50,8 @@ use Rattle.view_lang.specs.Contents.{is_among}
 use Rattle.view_lang.specs.declared.unfit.Unfit.TheVariants as unfit
 use Rattle.row_keys.specs.declared.faults.EditFault.{EditFault}
 use Rattle.row_keys.specs.declared.faults.EditFault.TheVariants as fault
-use Rattle.row_keys.specs.KeyColumns.{HoldsKeys, PushesKey, PushesKeys, RefusesKey, RefusesKeys, fresh}
-use Rattle.row_keys.specs.Numbers.{Numbered}
+use Rattle.row_keys.specs.KeyColumns.{HoldsKeys, PushesKey, PushesKeys, RefusesKey, RefusesKeys, fresh, used_key}
+use Rattle.row_keys.specs.Numbers.{IsAt, Numbered}
 use Rattle.row_keys.specs.Stored.{live_keys}
 use Rattle.row_keys.proofs.JoinedNumbers.{unused_among, used_among}
 use Rattle.row_keys.proofs.KeyFacts.{
@@ -87,7 +87,7 @@ key_some t cells i s o keys held below same is =
 
 pub ruleset reading = (key_read, key_some)
 
-split_at : (cells : List Datum) (i : ℕ) → i < length cells → drop i cells ≡ get_or cells i null ∷ drop (i + 1) cells
+pub split_at : (cells : List Datum) (i : ℕ) → i < length cells → drop i cells ≡ get_or cells i null ∷ drop (i + 1) cells
 split_at cells i below = drop_more cells i null below
 
 -- a null key from there on is found
@@ -124,7 +124,7 @@ one_more : (cells : List Datum) (i : ℕ) → i < length cells
     → take (i + 1) cells ≡ take i cells ++ get_or cells i null ∷ []
 one_more cells i below = let e : i + 1 ≡ suc i = omega arith in ap (λ n. take n cells) e ∙ take-suc cells i null below
 
-both_parts : (cells : List Datum) (i : ℕ) → take i cells ++ drop i cells ≡ cells
+pub both_parts : (cells : List Datum) (i : ℕ) → take i cells ++ drop i cells ≡ cells
 both_parts [] zero = refl
 both_parts [] (suc i) = refl
 both_parts (c ∷ cells) zero = refl
@@ -147,7 +147,7 @@ keys_none xs =
     record { keys = []; are = refl; given = refl; single = refl; unused = refl; pushed = sym (append-nil xs) }
 
 -- which keys the live rows have now
-keys_now : (cells : List Datum) (i : ℕ) (old mid : List Numbered) → (p : PushesKeys (take i cells) old mid)
+pub keys_now : (cells : List Datum) (i : ℕ) (old mid : List Numbered) → (p : PushesKeys (take i cells) old mid)
     → live_keys mid ≡ live_keys old ++ take i cells
 keys_now cells i old mid p = ap live_keys p.pushed ∙ live_added old p.keys ∙ ap (λ ds. live_keys old ++ ds) p.are
 
@@ -241,4 +241,14 @@ keys_dropped cells i old mid p = ap (λ xs. take (length old) xs) p.pushed ∙ t
 
 pub ruleset pushing = (keys_none, keys_more, keys_end, keys_refused, keys_dropped)
 
-pub ruleset numbering = (null_told)
+-- a key is refused that a live row has
+pub used_refuses : (cells : List Datum) (i n : ℕ) (old : List Numbered) (k : Key) (e : EditFault)
+    → e ≡ used_key (has_null (drop i cells)) → datum_of_key k ≡ get_or cells i null → IsAt old n k true
+    → RefusesKey cells i old e
+used_refuses cells i n old k e is read at = by (has_null (drop i cells)) refl is
+  where
+    by : (b : Bool) → has_null (drop i cells) ≡ b → e ≡ used_key b → RefusesKey cells i old e
+    by true h same = subst (RefusesKey cells i old) (sym same) h
+    by false h same = subst (RefusesKey cells i old) (sym same) (h, k, read, n, at)
+
+pub ruleset numbering = (null_told, used_refuses)

@@ -27,6 +27,8 @@ mod FirstLive
 mod LookedUpRows
 mod FoundRows
 mod ReplacedRows
+mod PutKeys
+mod PutRows
 mod BatchLaw
 mod NumberedChanges
 mod RowsByNumber

@@ -1,34 +1,5 @@
 -- Rows that take the places of those with their keys.
-use Rattle.std.proofs.Common.{
-  ◌≡◌,
-  ℕ,
-  suc,
-  ◌+◌,
-  ◌<◌,
-  ◌≤◌,
-  ◌||◌,
-  Bool,
-  true,
-  false,
-  not,
-  cond,
-  List,
-  [],
-  ◌∷◌,
-  ◌++◌,
-  filter,
-  length,
-  take,
-  get_or,
-  refl,
-  ap,
-  sym,
-  subst,
-  ◌∙◌,
-  arith,
-  append-nil,
-  true≢false,
-}
+use Rattle.std.proofs.Common.{◌≡◌, ℕ, suc, ◌+◌, ◌<◌, ◌||◌, Bool, true, false, not, cond, List, [], ◌∷◌, ◌++◌, filter, length, take, get_or, refl, ap, sym, subst, ◌∙◌, arith, append-nil, true≢false}
 use Rattle.std.proofs.Math.Seq.{take-suc}
 use Rattle.std.proofs.lemmas.List.Elements.{filter-append}
 use Rattle.values.specs.Datum.{Datum, null}
@@ -48,7 +19,7 @@ use Rattle.row_keys.specs.Slots.{CanRetract, contents_of, keys_at, live, retract
 use Rattle.row_keys.specs.Store.{Refuses, Store, with_slots}
 use Rattle.row_keys.specs.Stored.{IsStored, joined, live_keys}
 use Rattle.row_keys.proofs.AppendedBatches.{live_keys_are}
-use Rattle.row_keys.proofs.FoundRows.{all_taken, finds_pushed, found_can, found_keys, twice_named}
+use Rattle.row_keys.proofs.FoundRows.{finds_pushed, found_can, found_keys, twice_named}
 use Rattle.row_keys.proofs.JoinedNumbers.{unused_among, used_among}
 use Rattle.row_keys.proofs.KeyFacts.{neither, or_left, or_none, or_right, same_sym}
 
@@ -89,16 +60,9 @@ known_passed cells i xs found k below all is unused =
     ∙ append-nil (known_keys (take i cells) xs)))
     all
 
-pub known_all : (cells : List Datum) (i : ℕ) (xs : List Numbered) (found : List ℕ) → length cells ≤ i
-    → FindsAll (known_keys (take i cells) xs) xs found → FindsAll (known_keys cells xs) xs found
-known_all cells i xs found end all = let P : List Datum
-    → Type 0 = λ ds. FindsAll (known_keys ds xs) xs found in subst P (all_taken cells i end) all
-
-pub ruleset knowing = (known_found, known_passed, known_all)
-
 -- some of the keys
 
-among_some : (p : Datum → Bool) (d : Datum) (ks : List Datum) → is_among d ks ≡ false → is_among d (filter p ks) ≡ false
+pub among_some : (p : Datum → Bool) (d : Datum) (ks : List Datum) → is_among d ks ≡ false → is_among d (filter p ks) ≡ false
 unfolding is_among
 among_some p d [] h = refl
 among_some p d (k ∷ ks) h =

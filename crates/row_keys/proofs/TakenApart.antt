@@ -1,6 +1,6 @@
 -- Stores taken apart and made again: rows are numbered as retracted ones first, and then those come back that are live.
 use Rattle.std.proofs.Common.{◌≡◌, inl, inr, ℕ, zero, suc, ◌+◌, ◌-◌, ◌<◌, ◌≤◌, Bool, true, false, List, [], ◌∷◌, ◌++◌, Some, All, get_or, length, map, take, refl, ap, subst, sym, ◌∙◌, add-one, arith, true≢false}
-use Rattle.std.specs.Prelude.{if◌then◌else◌, nat_eq, replicate, slice_get}
+use Rattle.std.specs.Prelude.{Option, None, if◌then◌else◌, nat_eq, replicate, slice_get}
 use Rattle.std.proofs.Math.Seq.{take-suc}
 use Rattle.std.proofs.lemmas.Bool.{ne_eqb}
 use Rattle.std.proofs.lemmas.Bool.Decides.{eqb_tells}
@@ -245,11 +245,11 @@ none_live : (rows : List RowParts) (len n : ℕ) (k : Key) → IsAt (retracted_i
 none_live rows len n k there = part_dead rows n k (at_listed (numbered_at (map retracted_part rows)) len n k true there)
 
 -- As no row is live, a row that is pushed is added.
-added_last : (rows : List RowParts) (len : ℕ) (old new : List Numbered) (k : Key) (added : Bool)
+added_last : (rows : List RowParts) (len : ℕ) (old new : List Numbered) (k : Key) (added : Option ℕ)
     → old ≡ retracted_in rows len → Pushes old k added new → new ≡ old ++ numbered k true ∷ []
-added_last rows len old new k true is pushes = pushes.1
-added_last rows len old new k false is pushes =
-    absurd (none_live rows len pushes.0.0 k (subst (λ xs. IsAt xs pushes.0.0 k true) is pushes.0.1))
+added_last rows len old new k None is pushes = pushes.1
+added_last rows len old new k (Some n) is pushes =
+    absurd (none_live rows len n k (subst (λ xs. IsAt xs n k true) is pushes.0))
 
 -- what has come before row i, and the numbers up to it
 pub numbered_before :
@@ -273,7 +273,7 @@ skipped_before rows len i r old skip are so_far below is more =
     (order_taken 0 len i rows are) (end_before 0 len i rows r are at) so_far more
 
 pub pushed_there :
-    (rows : List RowParts) (len i : ℕ) (r : RowParts) (old skip new : List Numbered) (k : Key) (added : Bool)
+    (rows : List RowParts) (len i : ℕ) (r : RowParts) (old skip new : List Numbered) (k : Key) (added : Option ℕ)
     → AreNumbered 0 rows len → old ≡ retracted_in (take i rows) (end_of 0 (take i rows)) → i < length rows
     → r ≡ get_or rows i r → skip ≡ old ++ replicate (r.number - length old) no_row → Pushes skip k added new
     → (key : Key) × IsAt new r.number key true
@@ -288,7 +288,7 @@ pushed_there rows len i r old skip new k added are so_far below is more pushes =
     (k, subst P long at)
 
 pub numbered_more :
-    (rows : List RowParts) (len i : ℕ) (r : RowParts) (old skip pushed new : List Numbered) (k : Key) (added : Bool)
+    (rows : List RowParts) (len i : ℕ) (r : RowParts) (old skip pushed new : List Numbered) (k : Key) (added : Option ℕ)
     → AreNumbered 0 rows len → old ≡ retracted_in (take i rows) (end_of 0 (take i rows)) → i < length rows
     → r ≡ get_or rows i r → skip ≡ old ++ replicate (r.number - length old) no_row → k ≡ r.key → Pushes skip k added pushed
     → new ≡ turned false pushed r.number → new ≡ retracted_in (take (i + 1) rows) (end_of 0 (take (i + 1) rows))

@@ -199,7 +199,7 @@ proper_joined t rows xs keyed distinct given = record {
 
 -- The keys of live rows stay what they were.
 
-off_before : (xs : List Numbered) (m n : ℕ) (k : Key) → IsAt (turned false xs m) n k true → IsAt xs n k true
+pub off_before : (xs : List Numbered) (m n : ℕ) (k : Key) → IsAt (turned false xs m) n k true → IsAt xs n k true
 off_before [] m n k at = at
 off_before (x ∷ xs) zero zero k at =
     absurd (true≢false (sym (ap (λ y. y.live) (some_same (numbered x.key false) (numbered k true) at))))

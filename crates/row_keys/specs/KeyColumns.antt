@@ -1,5 +1,5 @@
 -- How the keys of a batch are numbered, or why they aren't.
-use Rattle.std.specs.Prelude.{◌≡◌, ℕ, true, false, ◌||◌, IsSome, List, [], ◌∷◌, ◌++◌, drop, get_or, map}
+use Rattle.std.specs.Prelude.{◌≡◌, ℕ, Bool, true, false, ◌||◌, IsSome, List, [], ◌∷◌, ◌++◌, drop, get_or, map}
 use Rattle.values.specs.Datum.{Datum, null, is_null}
 use Rattle.values.specs.Keys.{datum_of_key, key_of}
 use Rattle.values.specs.Layouts.{Holds}
@@ -36,6 +36,11 @@ RefusesKey cells i old (fault.Unfit unfit.DuplicateKey) =
     × IsAt old n key true
 RefusesKey cells i old fault.Memory = Unit {0}
 RefusesKey cells i old _ = ⊥
+
+-- why a key is refused that a live row has, by whether it or a later one is null
+abbrev pub used_key : Bool → EditFault
+used_key true = fault.Unfit unfit.NullKey
+used_key false = fault.Unfit unfit.DuplicateKey
 
 -- Rows with all these keys come last.
 pub record PushesKeys (cells : List Datum) (old new : List Numbered) : Type 0 where

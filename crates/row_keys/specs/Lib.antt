@@ -15,6 +15,7 @@ pub mod Stored
 pub mod KeyColumns
 pub mod RefusedRows
 pub mod Found
+pub mod PutKeys
 pub mod Entries
 pub mod Runs
 pub mod TableChanges

@@ -12,6 +12,8 @@ use Rattle.std.specs.Prelude.{
   [],
   ◌∷◌,
   ◌++◌,
+  Option,
+  None,
   Some,
   refl,
   slice_get,
@@ -61,10 +63,14 @@ abbrev pub live_count : List Numbered → ℕ
 live_count [] = 0
 live_count (x ∷ xs) = if x.live then suc (live_count xs) else live_count xs
 
--- A row with this key comes last, unless a live row has it.
-abbrev pub Pushes : List Numbered → Key → Bool → List Numbered → Type 0
-Pushes old k true new = IsUnused old k × (new ≡ old ++ numbered k true ∷ [])
-Pushes old k false new = ((n : ℕ) × IsAt old n k true) × (new ≡ old)
+-- A row with this key comes last, unless a live row has it: then that one's number is found.
+abbrev pub Pushes : List Numbered → Key → Option ℕ → List Numbered → Type 0
+Pushes old k None new = IsUnused old k × (new ≡ old ++ numbered k true ∷ [])
+Pushes old k (Some n) new = IsAt old n k true × (new ≡ old)
+
+-- Row n is retracted, and one with its key comes last.
+abbrev pub Replaces : List Numbered → ℕ → List Numbered → Type 0
+Replaces old n new = (k : Key) → IsAt old n k true → new ≡ turned false old n ++ numbered k true ∷ []
 
 -- These rows are live, each in its turn, and are retracted.
 

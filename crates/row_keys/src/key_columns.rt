@@ -1,17 +1,51 @@
 //! Numbers the rows of a batch by their keys, and finds live rows by them.
 
-ghost use Rattle.std.specs.Prelude.{◌≡◌, ◌<◌, ◌≤◌, [], IfErr, IfOk, OnErr, OnOk, drop, false, get_or, length};
+ghost use Rattle.std.specs.Prelude.{
+  ◌≡◌,
+  ◌<◌,
+  ◌≤◌,
+  ◌++◌,
+  ◌∷◌,
+  [],
+  IfErr,
+  IfOk,
+  IfSome,
+  IsSome,
+  OnErr,
+  OnOk,
+  drop,
+  get_or,
+  length,
+  take,
+  true,
+};
+ghost use Rattle.std.specs.List.{IsDistinct};
+ghost use Rattle.std.specs.List.Sorted.{IsStrictlyIncreasing};
+ghost use Rattle.std.specs.Ordering.{eq_by_cmp, nat_cmp};
 ghost use Rattle.values.specs.Datum.{null, is_null as is_null_by};
 ghost use Rattle.values.specs.Keys.{datum_of_key};
-ghost use Rattle.view_lang.specs.Causes.{has_null, has_repeated};
+ghost use Rattle.values.specs.declared.key.Key.{Key};
+ghost use Rattle.view_lang.specs.Causes.{has_null};
 ghost use Rattle.view_lang.specs.Contents.{keys_in};
 ghost use Rattle.view_lang.specs.TableRules.{IsTable};
 ghost use Rattle.row_keys.specs.Batches.{IsBatch, batch_rows};
-ghost use Rattle.row_keys.specs.Found.{FindsAll, MissesKey, known_keys};
-ghost use Rattle.row_keys.specs.KeyColumns.{HoldsKeys, PushesKey, PushesKeys, RefusesKey, RefusesKeys, StandAlone};
+ghost use Rattle.row_keys.specs.Found.{FindsAll, MissesKey};
+ghost use Rattle.row_keys.specs.KeyColumns.{
+  HoldsKeys,
+  PushesKey,
+  PushesKeys,
+  RefusesKey,
+  RefusesKeys,
+  StandAlone,
+  used_key,
+};
+ghost use Rattle.row_keys.specs.Numbers.{CanRevive, IsAt, Replaces, revived};
+ghost use Rattle.row_keys.specs.PutKeys.{PutsKey, PutsKeys, RefusesPut};
+ghost use Rattle.row_keys.specs.Stored.{AreGiven};
 
 use crate::faults::EditFault;
 use crate::numbers::Numbers;
+use crate::turning::revive_all;
 use arrays::Column;
 use std::alloc::{AllocError, Global};
 use values::{Key, KeyBuffer};
@@ -66,6 +100,18 @@ fn has_null_from(column: &Column, from: usize) -> bool
     false
 }
 
+/// Why a key is refused that a live row has: `NullKey` where it or a later one is null, else `DuplicateKey`.
+fn used_key(column: &Column, index: usize) -> EditFault
+    requires { index ≤ length column.now.cells }
+    ensures { result ≡ used_key (has_null (drop index column.now.cells)) }
+{
+    if has_null_from(column, index) {
+        EditFault::Unfit(Unfit::NullKey)
+    } else {
+        EditFault::Unfit(Unfit::DuplicateKey)
+    }
+}
+
 /// Adds a live row with the key of cell `index`: `NullKey` where it or a later one is null, else `DuplicateKey` where a
 /// live row has it.
 #[tactic(auto, using(crate::proofs::KeysOfBatch::numbering))]
@@ -85,13 +131,9 @@ fn push_key(
     if is_null_key(&key) {
         return Err(EditFault::Unfit(Unfit::NullKey));
     }
-    if numbers.push(key)? {
-        return Ok(());
-    }
-    if has_null_from(column, index) {
-        Err(EditFault::Unfit(Unfit::NullKey))
-    } else {
-        Err(EditFault::Unfit(Unfit::DuplicateKey))
+    match numbers.push(key)? {
+        None => Ok(()),
+        Some(_) => Err(used_key(column, index)),
     }
 }
 
@@ -116,6 +158,108 @@ pub(crate) fn push_keys(
         }
     }
     Ok(())
+}
+
+/// Adds a live row in the place of the live row of this number, which is put to those that were replaced.
+fn replace(
+    numbers: &mut Numbers,
+    number: usize,
+    replaced: &mut Vec<usize>,
+) -> Result<(), AllocError>
+    requires { (key : Key) × IsAt numbers.old number key true }
+    ensures rows { OnOk result (Replaces numbers.old number numbers.new) }
+    ensures replaced { OnOk result (replaced.new.items ≡ replaced.old.items ++ number ∷ []) }
+    ensures err { OnErr result (numbers.new ≡ numbers.old) }
+    ensures same { OnErr result (replaced.new.items ≡ replaced.old.items) }
+{
+    replaced.reserve(1)?;
+    numbers.replace(number)?;
+    replaced.push(number).unwrap();
+    Ok(())
+}
+
+/// Adds a live row with the key of cell `index`, in the place of the live row below `first` that has it, if there is
+/// one: `NullKey` where the key or a later one is null, else `DuplicateKey` where another live row has it.
+fn put_key(
+    alloc: Global,
+    column: &Column,
+    index: usize,
+    first: usize,
+    numbers: &mut Numbers,
+    replaced: &mut Vec<usize>,
+) -> Result<(), EditFault>
+    requires below { index < length column.now.cells }
+    requires keys { HoldsKeys column.now.layouts }
+    ensures put { OnOk result
+        (PutsKey column.now.cells index first numbers.old replaced.old.items numbers.new replaced.new.items) }
+    ensures refused { IfErr result (RefusesPut column.now.cells index first numbers.old) }
+    ensures err { OnErr result (numbers.new ≡ numbers.old) }
+    ensures same { OnErr result (replaced.new.items ≡ replaced.old.items) }
+{
+    numbers.distinct_law();
+    let key = read_key(alloc, column, index)?;
+    if is_null_key(&key) {
+        return Err(EditFault::Unfit(Unfit::NullKey));
+    }
+    let Some(number) = numbers.push(key)? else {
+        return Ok(());
+    };
+    if number >= first {
+        return Err(used_key(column, index));
+    }
+    replace(numbers, number, replaced)?;
+    Ok(())
+}
+
+/// Removes the rows from this one on, and makes those live again that they replaced. It takes no memory.
+pub(crate) fn take_back_put(numbers: &mut Numbers, first: usize, replaced: &[usize])
+    requires { CanRevive replaced.now (take first numbers.old) }
+    ensures { numbers.new ≡ revived replaced.now (take first numbers.old) }
+{
+    numbers.truncate(first);
+    revive_all(numbers, replaced);
+}
+
+/// Adds a live row for each key of a column, in order, each in the place of the live row that had its key, and returns
+/// the numbers of those: `NullKey` where a key is null, `DuplicateKey` where one stands twice. On an error the numbers
+/// are as they were. Each key is looked up once.
+#[tactic(auto, using(crate::proofs::PutKeys::putting))]
+fn put_keys(alloc: Global, column: &Column, numbers: &mut Numbers) -> Result<Vec<usize>, EditFault>
+    requires keys { HoldsKeys column.now.layouts }
+    requires given { AreGiven numbers.old }
+    ensures put { IfOk result (λ replaced. PutsKeys column.now.cells numbers.old replaced.items numbers.new) }
+    ensures refused { IfErr result (RefusesKeys column.now.cells []) }
+    ensures err { OnErr result (numbers.new ≡ numbers.old) }
+{
+    numbers.distinct_law();
+    let first = numbers.len();
+    let mut replaced = Vec::new(alloc);
+    for index in 0..column.len() {
+        if let Err(fault) = put_key(alloc, column, index, first, numbers, &mut replaced) {
+            take_back_put(numbers, first, &replaced);
+            return Err(fault);
+        }
+    }
+    Ok(replaced)
+}
+
+/// Adds a live row for each row of a batch, by its key, as `put_keys` does.
+pub(crate) fn put_batch(
+    alloc: Global,
+    table: &Table,
+    columns: &[Column],
+    rows: usize,
+    numbers: &mut Numbers,
+) -> Result<Vec<usize>, EditFault>
+    requires table { IsTable table.now }
+    requires batch { IsBatch table.now rows columns.now }
+    requires given { AreGiven numbers.old }
+    ensures put { IfOk result (λ replaced.
+        PutsKeys (keys_in table.now (batch_rows rows columns.now)) numbers.old replaced.items numbers.new) }
+    ensures refused { IfErr result (RefusesKeys (keys_in table.now (batch_rows rows columns.now)) []) }
+    ensures err { OnErr result (numbers.new ≡ numbers.old) }
+{
+    put_keys(alloc, &columns[table.key], numbers)
 }
 
 /// Whether a key that stands alone is null: `NullKey`. It takes no memory.
@@ -188,55 +332,72 @@ pub(crate) fn find_keys(
     Ok(found)
 }
 
-/// The numbers of the live rows whose keys are in a column, in its order. Keys that no live row has are skipped.
-#[tactic(auto, using(crate::proofs::ReplacedRows::knowing))]
-fn find_known(alloc: Global, column: &Column, numbers: &Numbers) -> Result<Vec<usize>, AllocError>
-    requires { HoldsKeys column.now.layouts }
-    ensures { IfOk result (λ found.
-        FindsAll (known_keys column.now.cells numbers.now) numbers.now found.items) }
+/// Whether these numbers ascend.
+fn are_ascending(numbers: &[usize]) -> bool
+    ensures { result ≡ true → IsStrictlyIncreasing numbers.now }
 {
-    let mut keys = KeyBuffer::new(alloc);
-    let mut found = Vec::new(alloc);
-    for index in 0..column.len() {
-        let key = buffer_key(&mut keys, column, index)?;
-        if let Some(number) = numbers.find(key) {
-            found.push(number)?;
+    for index in 1..numbers.len() {
+        if numbers[index - 1] >= numbers[index] {
+            return false;
         }
     }
-    Ok(found)
+    true
 }
 
-/// Whether the keys of a batch's rows can be those of rows, as `check_keys` has it.
-fn check_batch(
-    alloc: Global,
-    table: &Table,
-    columns: &[Column],
-    rows: usize,
-) -> Result<(), EditFault>
-    requires table { IsTable table.now }
-    requires batch { IsBatch table.now rows columns.now }
-    ensures pushed { OnOk result (StandAlone (keys_in table.now (batch_rows rows columns.now))) }
-    ensures refused { IfErr result (RefusesKeys (keys_in table.now (batch_rows rows columns.now)) []) }
+/// Whether none of these numbers stands twice. It takes memory where they don't ascend.
+fn are_distinct(alloc: Global, numbers: &[usize]) -> Result<bool, AllocError>
+    ensures { IfOk result (λ distinct. distinct ≡ true → IsDistinct (eq_by_cmp nat_cmp) numbers.now) }
 {
-    check_keys(alloc, &columns[table.key])
+    if are_ascending(numbers) {
+        return Ok(true);
+    }
+    let mut sorted = Vec::from_slice(alloc, numbers)?;
+    sorted.sort_unstable();
+    Ok(are_ascending(&sorted))
 }
 
-/// The numbers of the live rows with the keys of a batch's rows: `NullKey` where a key is null, `DuplicateKey` where
-/// one stands twice.
-pub(crate) fn find_batch(
+/// The numbers of the live rows with the keys of a column, in order, where each key is given and is that of a live row.
+/// `None` where one isn't.
+#[tactic(auto, using(crate::proofs::FoundRows::finding))]
+fn find_live(
     alloc: Global,
-    table: &Table,
-    columns: &[Column],
-    rows: usize,
+    column: &Column,
     numbers: &Numbers,
-) -> Result<Vec<usize>, EditFault>
-    requires table { IsTable table.now }
-    requires batch { IsBatch table.now rows columns.now }
-    ensures found { IfOk result (λ found. FindsAll
-        (known_keys (keys_in table.now (batch_rows rows columns.now)) numbers.now) numbers.now found.items) }
-    ensures single { OnOk result (has_repeated (keys_in table.now (batch_rows rows columns.now)) ≡ false) }
-    ensures refused { IfErr result (RefusesKeys (keys_in table.now (batch_rows rows columns.now)) []) }
+) -> Result<Option<Vec<usize>>, AllocError>
+    requires { HoldsKeys column.now.layouts }
+    ensures found { IfOk result (λ o. IfSome o (λ found. FindsAll column.now.cells numbers.now found.items)) }
 {
-    check_batch(alloc, table, columns, rows)?;
-    Ok(find_known(alloc, &columns[table.key], numbers)?)
+    let mut keys = KeyBuffer::new(alloc);
+    let mut found = Vec::with_capacity(alloc, column.len())?;
+    for index in 0..column.len() {
+        let key = buffer_key(&mut keys, column, index)?;
+        match numbers.find(key) {
+            Some(number) => found.push(number)?,
+            None => return Ok(None),
+        }
+    }
+    Ok(Some(found))
+}
+
+/// The numbers of the live rows with the keys of a column, in order, where each is that of a live row and none stands
+/// twice; `None` where that isn't so. Each key is looked up once.
+pub(crate) fn find_distinct(
+    alloc: Global,
+    column: &Column,
+    numbers: &Numbers,
+) -> Result<Option<Vec<usize>>, AllocError>
+    requires keys { HoldsKeys column.now.layouts }
+    requires given { AreGiven numbers.now }
+    ensures found { IfOk result (λ o. IfSome o (λ found. FindsAll column.now.cells numbers.now found.items)) }
+    ensures alone { IfOk result (λ o. IsSome o → StandAlone column.now.cells) }
+{
+    numbers.distinct_law();
+    let Some(found) = find_live(alloc, column, numbers)? else {
+        return Ok(None);
+    };
+    if are_distinct(alloc, &found)? {
+        Ok(Some(found))
+    } else {
+        Ok(None)
+    }
 }

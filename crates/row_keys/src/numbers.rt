@@ -33,7 +33,17 @@ ghost use Rattle.std.specs.Vec.{vec_capacity, vec_len};
 ghost use Rattle.values.specs.declared.key.Key.{Key};
 ghost use Rattle.row_keys.specs.Entries.{AreInOrder, Changes, EndsAt, IsKeptAt, all_entries, entry_in, gone_entry, is_kept};
 ghost use Rattle.row_keys.specs.Index.{HoldsPlace, IsFree, Puts, StartsWithNull, flagged};
-ghost use Rattle.row_keys.specs.Numbers.{AreDistinct, CanTurnOn, IsAt, IsUnused, Pushes, live_count, no_row, turned};
+ghost use Rattle.row_keys.specs.Numbers.{
+  AreDistinct,
+  CanTurnOn,
+  IsAt,
+  IsUnused,
+  Pushes,
+  Replaces,
+  live_count,
+  no_row,
+  turned,
+};
 ghost use Rattle.row_keys.specs.Parts.{AreNumbered, numbers_in, part_of};
 
 use crate::key_table::KeyTable;
@@ -442,9 +452,9 @@ impl Numbers {
         }
     }
 
-    /// Adds a live row with this key, unless there is one, and returns whether it was added.
-    pub(crate) fn push(&mut self, key: Key) -> Result<bool, AllocError>
-        ensures pushed { IfOk result (λ added. Pushes self.old key added self.new) }
+    /// Adds a live row with this key, unless there is one, and returns the number of that one.
+    pub(crate) fn push(&mut self, key: Key) -> Result<Option<usize>, AllocError>
+        ensures pushed { IfOk result (λ found. Pushes self.old key found self.new) }
         ensures err { OnErr result (self.new ≡ self.old) }
     {
         let len = one_more(self.len)?;
@@ -455,7 +465,7 @@ impl Numbers {
         let place = self.keys.insert(key)?;
         let is_new = place == self.holders.len();
         match holder(&self.holders, &self.kept, place) {
-            Some(_) => return Ok(false),
+            Some(number) => return Ok(Some(number)),
             None => {}
         }
         hold(&mut self.holders, place, self.len);
@@ -472,7 +482,30 @@ impl Numbers {
             .unwrap();
         self.len = len;
         self.live += 1;
-        Ok(true)
+        Ok(None)
+    }
+
+    /// Retracts a live row, and adds a live one with its key.
+    pub(crate) fn replace(&mut self, replaced: usize) -> Result<(), AllocError>
+        requires { (key : Key) × IsAt self.old replaced key true }
+        ensures ok { OnOk result (Replaces self.old replaced self.new) }
+        ensures err { OnErr result (self.new ≡ self.old) }
+    {
+        let len = one_more(self.len)?;
+        let place = entry_at(&self.kept, replaced).key;
+        let entry = Entry {
+            key: place,
+            is_live: true,
+            is_new: false,
+        };
+        self.kept.push(KeptEntry {
+            number: self.len,
+            entry,
+        })?;
+        set_live(&mut self.kept, replaced, false);
+        self.holders[place] = self.len;
+        self.len = len;
+        Ok(())
     }
 
     /// Adds rows that are gone, up to this number.

@@ -76,7 +76,9 @@ ghost use Rattle.row_keys.specs.Store.{
 
 use crate::batches::keep_rows;
 use crate::faults::EditFault;
-use crate::key_columns::{check_keys, find_batch, find_keys, push_batch};
+use crate::key_columns::{
+    check_keys, find_distinct, find_keys, push_batch, put_batch, take_back_put,
+};
 use crate::layouts::table_layouts;
 use crate::numbers::Numbers;
 use crate::parts::{StoreParts, make_numbers, renumbered};
@@ -372,9 +374,9 @@ impl RowStore {
         self.tidy_keys();
     }
 
-    /// The numbers of the live rows with these keys, in order. The error is the first cause for which the keys can't be
-    /// retracted: a null key, a key that stands twice, a key that no live row has; or it is `Memory`.
-    pub fn find_all(&self, keys: &Column) -> Result<Vec<usize>, EditFault>
+    /// The numbers of the live rows with these keys as `find_all` answers them: each key is compared with the others, and
+    /// then looked up.
+    fn find_each(&self, keys: &Column) -> Result<Vec<usize>, EditFault>
         requires { AreKeys self.now.table keys.now }
         ensures numbers { IfOk result (λ ns. CanRetract ns.items self.now.slots) }
         ensures keys { IfOk result (λ ns. keys_at self.now.table ns.items self.now.slots ≡ keys.now.cells) }
@@ -390,18 +392,56 @@ impl RowStore {
         }
     }
 
-    /// The numbers of the live rows that the rows of a batch replace: those with the same keys; or why the keys don't
-    /// fit.
-    fn find_replaced(&self, columns: &[Column], rows: usize) -> Result<Vec<usize>, EditFault>
-        requires { IsBatch self.now.table rows columns.now }
+    /// The numbers of the live rows with these keys, in order. The error is the first cause for which the keys can't be
+    /// retracted: a null key, a key that stands twice, a key that no live row has; or it is `Memory`.
+    pub fn find_all(&self, keys: &Column) -> Result<Vec<usize>, EditFault>
+        requires { AreKeys self.now.table keys.now }
         ensures numbers { IfOk result (λ ns. CanRetract ns.items self.now.slots) }
-        ensures rest { IfOk result (λ ns.
-            without self.now.table (keys_at self.now.table ns.items self.now.slots) (live_in self.now) ≡ without
-            self.now.table (keys_in self.now.table (batch_rows rows columns.now)) (live_in self.now)) }
+        ensures keys { IfOk result (λ ns. keys_at self.now.table ns.items self.now.slots ≡ keys.now.cells) }
+        ensures fits { OnOk result
+            (cause_of self.now.table (contents_of self.now.slots) (retract keys.now.cells) ≡ None) }
         ensures refused { IfErr result
-            (Refuses (cause_of self.now.table (contents_of self.now.slots) (put (batch_rows rows columns.now)))) }
+            (Refuses (cause_of self.now.table (contents_of self.now.slots) (retract keys.now.cells))) }
     {
-        find_batch(self.alloc, &self.table, columns, rows, &self.numbers)
+        let _table = &self.table;
+        match find_distinct(self.alloc, keys, &self.numbers)? {
+            Some(found) => Ok(found),
+            None => self.find_each(keys),
+        }
+    }
+
+    /// Puts the rows of a batch as `put` does, in a chunk of their own.
+    fn put_rows(&mut self, columns: Vec<Column>, rows: usize) -> Result<Vec<usize>, EditFault>
+        requires { IsBatch self.old.table rows columns.items }
+        ensures contents { OnOk result
+            (contents_of self.new.slots ≡ applied self.old.table (put (batch_rows rows columns.items))
+            (contents_of self.old.slots)) }
+        ensures fits { OnOk result
+            (cause_of self.old.table (contents_of self.old.slots) (put (batch_rows rows columns.items)) ≡ None) }
+        ensures refused { IfErr result
+            (Refuses (cause_of self.old.table (contents_of self.old.slots) (put (batch_rows rows columns.items)))) }
+        ensures can_go_back { IfOk result (λ replaced.
+            CanUndoPut self.old.table rows replaced.items self.new.slots) }
+        ensures back { IfOk result (λ replaced. put_undone rows replaced.items self.new.slots ≡ self.old.slots) }
+        ensures can_retract { IfOk result (λ replaced. CanRetract replaced.items self.old.slots) }
+        ensures slots { IfOk result (λ replaced.
+            self.new.slots ≡ retracted replaced.items self.old.slots
+            ++ map new_slot (batch_rows rows columns.items)) }
+        ensures rest { self.new ≡ with_slots self.old self.new.slots }
+        ensures unchanged { OnErr result (self.new.slots ≡ self.old.slots) }
+    {
+        self.numbers.distinct_law();
+        let before = self.numbers.len();
+        let replaced = put_batch(self.alloc, &self.table, &columns, rows, &mut self.numbers)?;
+        let all = self.numbers.live();
+        let live = all - rows;
+        match keep_rows(&self.table, &mut self.rows, columns, rows, live, before) {
+            Ok(()) => Ok(replaced),
+            Err(fault) => {
+                take_back_put(&mut self.numbers, before, &replaced);
+                Err(fault)
+            }
+        }
     }
 
     /// Retracts the live rows with the keys of a batch, adds the batch's `rows` rows after all rows, and returns the
@@ -427,15 +467,9 @@ impl RowStore {
         ensures rest { self.new ≡ with_slots self.old self.new.slots }
         ensures unchanged { OnErr result (self.new.slots ≡ self.old.slots) }
     {
-        let replaced = self.find_replaced(&columns, rows)?;
-        self.retract(&replaced);
-        match self.append(columns, rows) {
-            Ok(()) => Ok(replaced),
-            Err(fault) => {
-                self.put_back(&replaced);
-                Err(fault)
-            }
-        }
+        let replaced = self.put_rows(columns, rows)?;
+        self.merge_last();
+        Ok(replaced)
     }
 
     /// Undoes a put: removes the last `rows` rows, and puts back those that they replaced. It takes no memory.

@@ -117,12 +117,12 @@ started_there c =
     started c.self.inside.keys c.place_null.new.keys c.self.inside.holders.items c.place_null.new.holders.items
     (before_there c) c.self.inside.live c.self.invariant.index c.in_ok-place_null.ensures.ok
 
-holds : (c : goal.In-Some) → HoldsPlace (before_there c) c.in_ok-place.place c.in-Some.field-0
+holds : (c : goal.In-Some) → HoldsPlace (before_there c) c.in_ok-place.place c.in-Some.number
 holds c =
     let Q : List KeptEntry
     → Type 0 =
     λ ks. AreInOrder 0 ks c.self.inside.len
-    → HoldsPlace (all_entries ks c.self.inside.len) c.in_ok-place.place c.in-Some.field-0 in
+    → HoldsPlace (all_entries ks c.self.inside.len) c.in_ok-place.place c.in-Some.number in
     subst Q (c.deref-2.ensures.value ∙ c.reserve.ensures.items) (c.in-Some.ensures c.self.inside.len)
     c.self.invariant.order
 
@@ -131,7 +131,7 @@ there : (c : goal.In-Some)
     × (slice_get c.place_null.new.keys c.in_ok-place.place ≡ Some c.args.key)
 there c =
     key_there c.place_null.new.keys c.insert.new.self c.place_null.new.holders.items (before_there c)
-    c.self.inside.live c.in_ok-place.place c.in-Some.field-0 c.args.key (started_there c).index
+    c.self.inside.live c.in_ok-place.place c.in-Some.number c.args.key (started_there c).index
     c.in_ok-place.ensures.place (holds c)
 
 pub invariant_of-self-in-Some : goal.invariant_of-self-in-Some
@@ -144,14 +144,11 @@ invariant_of-self-in-Some c =
 
 pub returns-in-Some-clause-pushed : goal.returns-in-Some-clause-pushed
 returns-in-Some-clause-pushed c =
-    let P : List Numbered → Type 0 = λ xs. IsAt xs c.in-Some.field-0 c.args.key true in (
-      (
-        c.in-Some.field-0,
-        subst P ((started_there c).same ∙ c.self.view_is)
-            (found_row c.place_null.new.keys c.place_null.new.holders.items (before_there c)
-            c.self.inside.live c.in_ok-place.place c.args.key (Some c.in-Some.field-0) (started_there c).index
-            c.distinct_law.ensures (there c).1 (holds c)),
-      ),
+    let P : List Numbered → Type 0 = λ xs. IsAt xs c.in-Some.number c.args.key true in (
+      subst P ((started_there c).same ∙ c.self.view_is)
+          (found_row c.place_null.new.keys c.place_null.new.holders.items (before_there c)
+          c.self.inside.live c.in_ok-place.place c.args.key (Some c.in-Some.number) (started_there c).index
+          c.distinct_law.ensures (there c).1 (holds c)),
       ap (λ ks. seen_all ks (all_entries c.reserve.new.self.items c.self.inside.len)) (there c).0
           ∙ ap (λ ks. seen_all c.place_null.new.keys (all_entries ks c.self.inside.len)) c.reserve.ensures.items
           ∙ (started_there c).same ∙ c.self.view_is,
