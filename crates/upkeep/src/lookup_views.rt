@@ -28,7 +28,7 @@ use crate::remaking::remake_numbers;
 use crate::side_rows::side_rows;
 use crate::sub_group_moves::move_sub_groups;
 use crate::view_state::{Kept, Links, Turn, ViewState};
-use row_keys::{RowStore, numbers_law};
+use row_keys::{RowStore, TableChange, numbers_law};
 use std::alloc::{AllocError, Global};
 use values::{Key, key_law};
 use view_lang::{View, image_law};

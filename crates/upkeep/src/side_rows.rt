@@ -11,7 +11,7 @@ ghost use Rattle.upkeep.specs.Swaps.{CanSwap, swapped};
 
 use crate::swaps::swap;
 use crate::view_state::Turn;
-use row_keys::{RowStore, StoredRow};
+use row_keys::{RowStore, StoredRow, TableChange};
 use std::alloc::{AllocError, Global};
 use std::collections::BTreeMap;
 use values::{Key, KeyBuffer, Row, Value, key_law};

@@ -36,7 +36,7 @@ use crate::swaps::swap;
 use crate::view_state::{Kept, Turn};
 use group_order::RankedGroups;
 use group_state::Tuple;
-use row_keys::{RowStore, StoredRow, numbers_law};
+use row_keys::{RowStore, StoredRow, TableChange, numbers_law};
 use std::alloc::{AllocError, Global};
 use sub_groups::{SubGroups, passes_others, sub_group_law};
 use values::{KeyBuffer, Kind, Row, Value};
