@@ -1,8 +1,8 @@
 -- The tables of stores, and the rows that they hold.
-use Rattle.std.specs.Prelude.{ℕ, List, [], get_or, map}
+use Rattle.std.specs.Prelude.{ℕ, List, [], get_or, map, slice_set}
 use Rattle.view_lang.specs.Config.{Table}
 use Rattle.view_lang.specs.World.{World, no_table}
-use Rattle.row_keys.specs.Slots.{Slot, contents_of}
+use Rattle.row_keys.specs.Slots.{Slot, contents_of, released}
 use Rattle.row_keys.specs.Store.{Store, no_rows}
 
 -- the rows of each table, by number

@@ -1,5 +1,4 @@
 use Rattle.std.proofs.Common.{ap, ◌-◌, ◌∙◌, ℕ}
-use Rattle.std.specs.List.{range_with_len}
 use Rattle.upkeep.specs.Stores.{rows_in, tables_in}
 use Rattle.upkeep.proofs.FollowedViews.{current_alike, stale_current}
 use Rattle.upkeep.proofs.LastRows.{last_named, last_one}
@@ -13,9 +12,8 @@ follow_these-requires-clause-last c =
 pub follow_these-requires-in-Ok-clause-last : goal.follow_these-requires-in-Ok-clause-last
 follow_these-requires-in-Ok-clause-last c =
     c.deref.ensures.value
-    ∙ last_named c.args.stores.now.items c.index.result.now c.args.count c.in-Ok.numbers.items c.index.ensures
-    c.requires.these.main
-    (c.in-Ok.ensures ∙ ap (λ n. range_with_len (n - c.args.count) c.args.count) c.appended.ensures)
+    ∙ last_named c.args.stores.now.items c.index-2.result.now c.args.count c.in-Ok.numbers.items c.index-2.ensures
+    c.requires.these.main c.in-Ok.ensures
 
 pub returns-in-Err-clause-err : goal.returns-in-Err-clause-err
 returns-in-Err-clause-err c = λ tables rows live.

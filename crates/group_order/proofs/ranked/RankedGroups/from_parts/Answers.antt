@@ -11,6 +11,6 @@ loop-place-preserved c =
     let whole = ap (λ (l : List GroupPlaceParts). c.loop-place.placed.keys ++ map place_with l) (sym left)
     ∙ c.loop-place.invariant in
     ap (λ (l : List GroupPlace). l ++ map place_with c.next.new.self.rest.items) c.in_ok-insert.ensures.keys
-    ∙ insert-next group_place_cmp group_place_total place_with c.loop-place.placed.keys c.from_parts-2.result
-    c.in-Some.place c.next.new.self.rest.items c.args.parts.places.items c.from_parts-2.ensures whole
+    ∙ insert-next group_place_cmp group_place_total place_with c.loop-place.placed.keys c.from_parts-in-loop-place.result
+    c.in-Some.place c.next.new.self.rest.items c.args.parts.places.items c.from_parts-in-loop-place.ensures whole
     c.requires.ascending
