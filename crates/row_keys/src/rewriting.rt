@@ -183,8 +183,8 @@ fn gather(alloc: Global, part: &[StoredChunk]) -> Result<RowsLeft<'_>, AllocErro
     ensures numbers { IfOk result (λ left. left.numbers.items ≡ all_numbers part.now) }
     ensures ranges { IfOk result (λ left. (n : ℕ) → All (IsWide n) part.now → All (IsRange n) left.ranges.items) }
 {
-    let mut ranges = Vec::new(alloc);
-    let mut numbers = Vec::new(alloc);
+    let mut ranges = Vec::with_capacity(alloc, part.len())?;
+    let mut numbers = Vec::with_capacity(alloc, part.len())?;
     for chunk in part {
         push_ranges(&chunk.batch, &chunk.gone, 0, &mut ranges)?;
         push_numbers(chunk, 0, &mut numbers)?;

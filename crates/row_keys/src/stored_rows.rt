@@ -56,12 +56,16 @@ use std::marker::Model;
 use values::LayoutTree;
 use values::limits::MAX_BATCH_ROWS;
 
-/// How many chunks are merged at once.
-const MERGED_CHUNKS: usize = 16;
+/// How many small chunks are merged at once. They have fewer rows together than are written at once.
+const SMALL_CHUNKS: usize = 32;
 
-/// Chunks with fewer rows are merged with others of as few, and those that come of it once more.
-const SMALL_CHUNK: usize = 16;
+/// Chunks with fewer rows are small.
+const SMALL_CHUNK: usize = 32;
 
+/// How many chunks are merged at once of which the last is of medium size, and the others are or are small.
+const MEDIUM_CHUNKS: usize = 16;
+
+/// Chunks with fewer rows that aren't small are of medium size.
 const MEDIUM_CHUNK: usize = 64;
 
 /// A chunk of which few rows are left is written anew with the one beside it, where both have no more than this many.
@@ -180,19 +184,40 @@ fn replace(chunks: &mut Vec<StoredChunk>, from: usize, to: usize, chunk: StoredC
     put_chunk(&mut chunks[from], chunk);
 }
 
-/// Whether the last chunks, as many as are merged at once, have few rows each.
-fn end_small(chunks: &[StoredChunk], rows: usize) -> bool
-    ensures { result ≡ true → 16 ≤ length chunks.now }
+/// Whether the last `count` chunks have fewer than so many rows each.
+fn end_small(chunks: &[StoredChunk], count: usize, rows: usize) -> bool
+    ensures { result ≡ true → count ≤ length chunks.now }
 {
-    if chunks.len() < MERGED_CHUNKS {
+    if chunks.len() < count {
         return false;
     }
-    for chunk in &chunks[chunks.len() - MERGED_CHUNKS..] {
+    for chunk in &chunks[chunks.len() - count..] {
         if chunk.gone.len() >= rows {
             return false;
         }
     }
     true
+}
+
+/// Whether the last chunk isn't small.
+fn ends_medium(chunks: &[StoredChunk]) -> bool {
+    match chunks.last() {
+        Some(chunk) => chunk.gone.len() >= SMALL_CHUNK,
+        None => false,
+    }
+}
+
+/// How many of the last chunks have so few rows that they are merged; 0 where they haven't.
+fn count_small(chunks: &[StoredChunk]) -> usize
+    ensures { result ≤ length chunks.now }
+{
+    if end_small(chunks, SMALL_CHUNKS, SMALL_CHUNK) {
+        return SMALL_CHUNKS;
+    }
+    if ends_medium(chunks) && end_small(chunks, MEDIUM_CHUNKS, MEDIUM_CHUNK) {
+        return MEDIUM_CHUNKS;
+    }
+    0
 }
 
 /// Whether fewer rows of this chunk are left than are worth its memory.
@@ -462,31 +487,33 @@ impl StoredRows {
 
     /// Whether the last chunks are so small that they are merged.
     pub(crate) fn is_scattered(&self) -> bool {
-        end_small(&self.chunks, MEDIUM_CHUNK)
+        count_small(&self.chunks) > 0
     }
 
-    /// Merges the last chunks where each has fewer than so many rows.
-    fn merge_small(&mut self, layouts: &[LayoutTree], rows: usize)
+    /// Merges the last chunks where they are small, once.
+    fn merge_small(&mut self, layouts: &[LayoutTree])
         requires held { All (IsHeld (kids_of layouts.now)) self.old }
         requires narrow { roses_size (kids_of layouts.now) ≤ max_fields }
         requires layouts { AreLayouts (kids_of layouts.now) }
         ensures { self.new ≡ self.old }
     {
-        if end_small(&self.chunks, rows) {
-            let len = self.chunks.len();
-            self.rewrite(layouts, len - MERGED_CHUNKS, len);
-        }
+        let count = count_small(&self.chunks);
+        let len = self.chunks.len();
+        self.rewrite(layouts, len - count, len);
     }
 
-    /// Merges the last chunks where they are small.
+    /// Merges the last chunks where they are small, and what comes of it once more.
     pub(crate) fn merge_last(&mut self, layouts: &[LayoutTree])
         requires held { All (IsHeld (kids_of layouts.now)) self.old }
         requires narrow { roses_size (kids_of layouts.now) ≤ max_fields }
         requires layouts { AreLayouts (kids_of layouts.now) }
         ensures { self.new ≡ self.old }
     {
-        self.merge_small(layouts, SMALL_CHUNK);
-        self.merge_small(layouts, MEDIUM_CHUNK);
+        let before = self.chunks.len();
+        self.merge_small(layouts);
+        if self.chunks.len() < before {
+            self.merge_small(layouts);
+        }
     }
 
     /// Whether few rows are left of the chunk in which this number lies.
