@@ -145,7 +145,7 @@ fn push_number(
     ensures left { get_or chunk.now.gone index true ≡ false
         → OnOk result (numbers.new.items ≡ numbers.old.items ++ get_or chunk.now.numbers index 0 ∷ []) }
 {
-    if !chunk.gone[index] {
+    if !chunk.gone.as_slice()[index] {
         numbers.push(number_at(chunk, index))?;
     }
     Ok(())
@@ -186,7 +186,7 @@ fn gather(alloc: Global, part: &[StoredChunk]) -> Result<RowsLeft<'_>, AllocErro
     let mut ranges = Vec::with_capacity(alloc, part.len())?;
     let mut numbers = Vec::with_capacity(alloc, part.len())?;
     for chunk in part {
-        push_ranges(&chunk.batch, &chunk.gone, 0, &mut ranges)?;
+        push_ranges(&chunk.batch, chunk.gone.as_slice(), 0, &mut ranges)?;
         push_numbers(chunk, 0, &mut numbers)?;
     }
     Ok(RowsLeft { ranges, numbers })
@@ -416,7 +416,7 @@ fn gather_tail(alloc: Global, chunk: &StoredChunk, from: usize) -> Result<RowsLe
 {
     let mut ranges = Vec::new(alloc);
     let mut numbers = Vec::new(alloc);
-    push_ranges(&chunk.batch, &chunk.gone, from, &mut ranges)?;
+    push_ranges(&chunk.batch, chunk.gone.as_slice(), from, &mut ranges)?;
     push_numbers(chunk, from, &mut numbers)?;
     Ok(RowsLeft { ranges, numbers })
 }

@@ -30,8 +30,12 @@ ghost use Rattle.row_keys.specs.Chunks.{
 
 use crate::stored_row::StoredRow;
 use body_writer::Batch;
+use smallvec::SmallVec;
 use std::alloc::{AllocError, Global};
 use std::marker::Model;
+
+/// The flags of so many rows take no memory of their own.
+const FEW_ROWS: usize = 16;
 
 /// Some rows in the order of their numbers: the checked columns in which they lie, and which of them are gone. Where
 /// all are gone there are no columns.
@@ -47,7 +51,8 @@ pub struct StoredChunk {
     pub numbers: Vec<usize>,
     /// A row more may lie in the columns than there are flags: those that were taken back.
     pub batch: Batch,
-    pub gone: Vec<bool>,
+    /// The flags of a few rows lie in the chunk itself.
+    pub gone: SmallVec<bool, FEW_ROWS>,
     /// How many rows aren't gone, at most.
     pub left: usize,
     /// With fewer rows left, the chunk is written anew.
@@ -67,12 +72,10 @@ impl Model for StoredChunk {
 }
 
 /// Flags of `rows` rows of which none is gone.
-pub(crate) fn flags(alloc: Global, rows: usize) -> Result<Vec<bool>, AllocError>
+pub(crate) fn flags(alloc: Global, rows: usize) -> Result<SmallVec<bool, FEW_ROWS>, AllocError>
     ensures { IfOk result (λ flags. flags.items ≡ replicate rows false) }
 {
-    let mut flags = Vec::new(alloc);
-    flags.resize(rows, false)?;
-    Ok(flags)
+    SmallVec::from_elem(alloc, false, rows)
 }
 
 /// How many of these numbers are below this one.
@@ -126,7 +129,7 @@ pub(crate) fn row_of(chunk: &StoredChunk, index: usize) -> StoredRow<'_>
     requires long { IsLong chunk.now }
     ensures { result ≡ chunk_row chunk.now index }
 {
-    if chunk.gone[index] {
+    if chunk.gone.as_slice()[index] {
         return StoredRow::new(&[], 0);
     }
     StoredRow::new(&chunk.batch.columns, index)
@@ -149,11 +152,11 @@ pub(crate) fn release_in(alloc: Global, chunk: &mut StoredChunk, index: usize) -
     requires { index < length chunk.old.gone }
     ensures { Releases chunk.old index chunk.new }
 {
-    if !chunk.gone[index] {
+    if !chunk.gone.as_slice()[index] {
         chunk.left = chunk.left.saturating_sub(1);
     }
-    chunk.gone[index] = true;
-    if chunk.left > 0 || !are_gone(&chunk.gone) {
+    chunk.gone.as_mut_slice()[index] = true;
+    if chunk.left > 0 || !are_gone(chunk.gone.as_slice()) {
         return false;
     }
     chunk.batch.columns = Vec::new(alloc);

@@ -329,7 +329,7 @@ fn cut(chunks: &mut Vec<StoredChunk>, len: usize)
     ensures { IsCut chunks.old.items len chunks.new.items }
 {
     while ends_above(chunks, len) {
-        chunks.pop();
+        drop(chunks.pop());
     }
     if !chunks.is_empty() {
         let last = chunks.len() - 1;
@@ -460,7 +460,7 @@ impl StoredRows {
             return false;
         }
         let chunk = &self.chunks[place];
-        let from = tail_start(&chunk.gone);
+        let from = tail_start(chunk.gone.as_slice());
         if from == 0 || from >= chunk.gone.len() {
             return false;
         }

@@ -237,7 +237,7 @@ fn rows_that_came_one_by_one(rt: HostRuntime) -> Result<(), Fail> {
     }
     let after = show(&rt, rt.alloc(), &mut again)?;
     assert_eq!(rt; after.sink.bytes(), before.sink.bytes());
-    assert!(rt; count_kept(again)?.batches <= 3 + 15 + 15);
+    assert!(rt; count_kept(again)?.batches <= 2 + 15 + 31);
     Ok(())
 }
 

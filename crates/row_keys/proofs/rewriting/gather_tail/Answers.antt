@@ -5,10 +5,10 @@ use Rattle.row_keys.proofs.rewriting.gather_tail.Goals as goal
 
 pub returns-clause-rows : goal.returns-clause-rows
 returns-clause-rows c =
-    tail_gathered c.args.chunk.now c.chunk.inside.batch c.deref.result.now c.args.from c.new-ranges.result.items
+    tail_gathered c.args.chunk.now c.chunk.inside.batch c.as_slice.result.now c.args.from c.new-ranges.result.items
     c.push_ranges.new.ranges.items (ap (λ (x : Chunk). x.rows) c.chunk.view_is)
     (ap (λ (x : Chunk). x.columns) c.chunk.view_is)
-    (c.deref.ensures.value ∙ ap (λ (x : Chunk). x.gone) c.chunk.view_is) c.new-ranges.ensures.items
+    (c.as_slice.ensures ∙ ap (λ (x : Chunk). x.gone) c.chunk.view_is) c.new-ranges.ensures.items
     c.in_ok-push_ranges.ensures.rows
 
 pub returns-clause-numbers : goal.returns-clause-numbers

@@ -4,8 +4,8 @@ use Rattle.row_keys.specs.Chunks.{Chunk, EndsAbove}
 use Rattle.row_keys.proofs.ChunkedRows.{cut_end, cut_more, last_is, popped}
 use Rattle.row_keys.proofs.stored_rows.cut.Goals as goal
 
-pub loop-chunks-preserved-in-loop-chunks : goal.loop-chunks-preserved-in-loop-chunks
-loop-chunks-preserved-in-loop-chunks c =
+pub loop-chunks-preserved : goal.loop-chunks-preserved
+loop-chunks-preserved c =
     let P : List Chunk → Type 0 = λ cs. EndsAbove cs c.args.len true in
     let last = subst P c.deref.ensures.value c.loop-chunks-test.ensures in
     cut_more c.args.chunks.now.items c.loop-chunks.chunks.items c.pop.new.self.items c.args.len last.1
