@@ -52,3 +52,4 @@ pub mod Emptied
 mod RunRows
 pub mod LiveRows
 mod LiveRanges
+mod PlacedRows

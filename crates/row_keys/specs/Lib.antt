@@ -17,3 +17,4 @@ pub mod RefusedRows
 pub mod Found
 pub mod Entries
 pub mod Runs
+pub mod Places
