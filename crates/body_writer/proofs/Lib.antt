@@ -28,3 +28,6 @@ pub mod RowRangeLemmas
 pub mod EncodedLemmas
 pub mod TextLemmas
 pub mod PickedLemmas
+pub mod GatheredCells
+pub mod PlacedColumns
+pub mod LeafColumns

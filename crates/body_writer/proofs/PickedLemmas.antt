@@ -19,7 +19,7 @@ picked-part columns row j k h e =
     ap (λ ds. get_or ds k null) (listed-items_of row) ∙ ap at e ∙ sym (get_or-map at columns j 0 null h)
     ∙ sym (ap (λ ds. get_or ds j null) (listed-items_of (picked columns row)))
 
-parts-picked : (columns : List ℕ) (rows : List (List Datum)) (j k : ℕ) → j < length columns → k ≡ get_or columns j 0
+pub parts-picked : (columns : List ℕ) (rows : List (List Datum)) (j k : ℕ) → j < length columns → k ≡ get_or columns j 0
     → map (part k) (row_cells rows) ≡ map (part j) (row_cells (picked_rows columns rows))
 parts-picked columns [] j k h e = refl
 parts-picked columns (row ∷ rows) j k h e =

@@ -9,3 +9,4 @@ pub mod Pieces
 pub mod RowRanges
 pub mod Texts
 pub mod Picked
+pub mod Places

@@ -4,12 +4,14 @@
 //! `specs/Columns.antt` says what the nodes and buffers of a column are, `specs/Body.antt` how buffers are laid out,
 //! `specs/Batch.antt` what the body of a batch is and which rows make one, `specs/Law.antt` that a column that is
 //! written is read back. The laws are carried by [`column_law`] and its neighbours. What is written has its source in its
-//! name: [`write_column_from_values`], [`write_body_from_columns`] and [`write_body_from_picked_columns`].
+//! name: [`write_column_from_values`], [`write_body_from_columns`], [`write_body_from_picked_columns`] and
+//! [`write_body_from_places`].
 #![tactic(auto)]
 
 mod body;
 mod bytes;
 mod from_columns;
+mod from_places;
 mod from_values;
 mod laws;
 
@@ -17,6 +19,10 @@ pub use body::Body;
 pub use from_columns::batch::{Batch, RowRange};
 pub use from_columns::picked::write_body_from_picked_columns;
 pub use from_columns::write::write_body_from_columns;
+pub use from_places::place::RowPlace;
+pub use from_places::plain::BatchArrays;
+pub use from_places::ranges::ranges_at;
+pub use from_places::write::write_body_from_places;
 pub use from_values::batch::column_cells;
 pub use from_values::column::write_column_from_values;
 pub use laws::{column_law, count_law, size_law, standing_law};

@@ -59,3 +59,4 @@ mod RetractedKeys
 mod ChangeKinds
 pub mod NumberRanges
 mod NamedRows
+mod PlacedRows

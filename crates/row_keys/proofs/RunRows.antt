@@ -33,7 +33,7 @@ pub record IsLying (cs : List Chunk) (n p i : ℕ) : Type 0 where
   pub below : i < length (rows_at cs p)
   pub wide : (w : ℕ) → length (row_in cs n) ≡ w → IsWideAt cs p w
 
-cells_many : (columns : List CheckedColumn) (i : ℕ) → length (row_at (cells_in columns) i) ≡ length columns
+pub cells_many : (columns : List CheckedColumn) (i : ℕ) → length (row_at (cells_in columns) i) ≡ length columns
 cells_many [] i = refl
 cells_many (c ∷ cs) i = ap suc (cells_many cs i)
 

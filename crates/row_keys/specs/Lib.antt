@@ -20,3 +20,4 @@ pub mod Entries
 pub mod Runs
 pub mod TableChanges
 pub mod HiddenChanges
+pub mod Places

@@ -1,5 +1,5 @@
 -- Rows of a chunk that lie one after the other.
-use Rattle.std.specs.Prelude.{◌≡◌, ℕ, zero, suc, ◌-◌, ◌≤◌, List, [], ◌∷◌, Some, drop, length, slice_get, take}
+use Rattle.std.specs.Prelude.{◌≡◌, ℕ, zero, suc, ◌+◌, ◌-◌, ◌≤◌, if◌then◌else◌, nat_eq, List, [], ◌∷◌, Some, drop, length, slice_get, take}
 use Rattle.values.specs.Datum.{Datum}
 use Rattle.row_keys.specs.Batches.{batch_rows}
 use Rattle.row_keys.specs.Chunks.{Chunk, IsLong}
@@ -24,3 +24,13 @@ pub record HasRun (cs : List Chunk) (p to : ℕ) : Type 0 where
 -- It has w columns.
 abbrev pub IsWideAt : List Chunk → ℕ → ℕ → Type 0
 IsWideAt cs p w = (c : Chunk) → slice_get cs p ≡ Some c → length c.columns ≡ w
+
+-- how many numbers of these aren't one above the one before them, of which the last is n
+abbrev pub turns_from : ℕ → List ℕ → ℕ
+turns_from n [] = 0
+turns_from n (m ∷ ms) = (if nat_eq m (n + 1) then 0 else 1) + turns_from m ms
+
+-- how many runs of numbers there are that follow one another
+abbrev pub runs_in : List ℕ → ℕ
+runs_in [] = 0
+runs_in (n ∷ ns) = 1 + turns_from n ns

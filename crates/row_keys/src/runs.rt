@@ -33,7 +33,7 @@ fn chunk_near(chunks: &[StoredChunk], near: usize, number: usize) -> Option<usiz
 }
 
 /// Where the row of this number lies, if it is kept.
-fn locate_near(chunks: &[StoredChunk], near: usize, number: usize) -> Option<Location>
+pub(crate) fn locate_near(chunks: &[StoredChunk], near: usize, number: usize) -> Option<Location>
     requires { (len : ℕ) × AreChunks 0 chunks.now len }
     ensures { MatchOption result (row_in chunks.now number ≡ []) (λ at. LiesAt chunks.now number at.chunk at.index) }
 {

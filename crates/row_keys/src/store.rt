@@ -26,6 +26,7 @@ ghost use Rattle.values.specs.CellViews.{shallow, viewed};
 ghost use Rattle.values.specs.Datum.{Datum};
 ghost use Rattle.values.specs.Keys.{datum_of_key};
 ghost use Rattle.values.specs.Limits.{max_main_rows};
+ghost use Rattle.body_writer.specs.Places.{IsPlaced, placed_rows};
 ghost use Rattle.body_writer.specs.RowRanges.{IsRange, ranges_rows};
 ghost use Rattle.view_lang.specs.Causes.{cause_of};
 ghost use Rattle.view_lang.specs.Contents.{applied, key_in, keys_in, without};
@@ -82,6 +83,7 @@ use crate::key_columns::{
 use crate::layouts::table_layouts;
 use crate::numbers::Numbers;
 use crate::parts::{StoreParts, make_numbers, renumbered};
+use crate::places::StoredPlaces;
 use crate::stored_row::{StoredRow, Visit, Visits};
 use crate::stored_rows::StoredRows;
 use crate::turning::{retract_all, retract_from, revive_all, revive_from};
@@ -598,6 +600,18 @@ impl RowStore {
     {
         let _table = &self.table;
         self.rows.ranges(self.alloc, visits.numbers())
+    }
+
+    /// Where the visited rows lie, which are live: each by itself. Each lies in as many columns as the table has.
+    pub fn places(&self, visits: Visits) -> Result<StoredPlaces<'_>, AllocError>
+        requires { All (λ n. (get_or self.now.slots n no_slot).live ≡ true) visits }
+        ensures rows { IfOk result (λ found.
+            placed_rows found.batches.items found.places.items ≡ map (row_of self.now.slots) visits) }
+        ensures placed { IfOk result (λ found.
+            All (IsPlaced (length self.now.table.columns) found.batches.items) found.places.items) }
+    {
+        let _table = &self.table;
+        self.rows.places(self.alloc, visits.numbers())
     }
 
     /// A copy of the row of this number, live or retracted; one that is gone has no cells. It is counted as a visit.

@@ -5,6 +5,7 @@ ghost use Rattle.schema_meta.specs.Rows.{row_at};
 ghost use Rattle.values.specs.CellViews.{shallow, viewed};
 ghost use Rattle.view_lang.specs.Cells.{cell_at as cell_by};
 ghost use Rattle.row_keys.specs.Batches.{cells_in};
+ghost use Rattle.row_keys.specs.Runs.{runs_in};
 
 use crate::batches::read_row;
 use arrays::Column;
@@ -132,6 +133,24 @@ impl Visit {
     }
 }
 
+/// How many runs of numbers there are that follow one another.
+fn count_runs(numbers: &[usize]) -> usize
+    ensures { result ≡ runs_in numbers.now }
+{
+    let [first, rest @ ..] = numbers else {
+        return 0;
+    };
+    let mut runs = 1;
+    let mut last = *first;
+    for number in rest {
+        if *number == 0 || *number - 1 != last {
+            runs += 1;
+        }
+        last = *number;
+    }
+    runs
+}
+
 /// The right to read some stored rows of the main table: a visit of each, which is counted. Contracts see the rows'
 /// numbers, in order.
 #[derive(Debug, Drop)]
@@ -162,6 +181,13 @@ impl Visits {
         ensures { result ≡ length self.now }
     {
         self.numbers.len()
+    }
+
+    /// How many runs of rows there are whose numbers follow one another.
+    pub fn count_runs(&self) -> usize
+        ensures { result ≡ runs_in self.now }
+    {
+        count_runs(&self.numbers)
     }
 
     /// The numbers of the rows.

@@ -28,6 +28,7 @@ ghost use Rattle.std.specs.List.Sorted.{IsPartitionPoint};
 ghost use Rattle.values.specs.Layouts.{AreLayouts};
 ghost use Rattle.values.specs.Limits.{max_fields};
 ghost use Rattle.values.specs.Rose.{kids_of, roses_size};
+ghost use Rattle.body_writer.specs.Places.{IsPlaced, placed_rows};
 ghost use Rattle.body_writer.specs.RowRanges.{IsRange, ranges_rows};
 ghost use Rattle.row_keys.specs.Batches.{batch_rows};
 ghost use Rattle.row_keys.specs.Chunks.{
@@ -45,6 +46,7 @@ ghost use Rattle.row_keys.specs.Chunks.{
 };
 ghost use Rattle.row_keys.specs.RowsLeft.{IsHeld, IsSplit};
 
+use crate::places::{StoredPlaces, place_rows};
 use crate::rewriting::{merge, write_tail};
 use crate::runs::find_ranges;
 use crate::stored_chunk::{StoredChunk, flags, index_of, release_in, row_of, shorten};
@@ -579,5 +581,22 @@ impl StoredRows {
     {
         let _len = self.len;
         find_ranges(alloc, &self.chunks, numbers)
+    }
+
+    /// Where the rows of these numbers lie, which are kept: each by itself.
+    pub(crate) fn places(
+        &self,
+        alloc: Global,
+        numbers: &[usize],
+    ) -> Result<StoredPlaces<'_>, AllocError>
+        requires { All (λ n. 0 < length (get_or self.now n [])) numbers.now }
+        ensures rows { IfOk result (λ found.
+            placed_rows found.batches.items found.places.items ≡ map (λ n. get_or self.now n []) numbers.now) }
+        ensures placed { IfOk result (λ found. (w : ℕ)
+            → All (λ n. length (get_or self.now n []) ≡ w) numbers.now
+            → All (IsPlaced w found.batches.items) found.places.items) }
+    {
+        let _len = self.len;
+        place_rows(alloc, &self.chunks, numbers)
     }
 }

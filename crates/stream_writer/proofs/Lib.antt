@@ -31,3 +31,5 @@ pub mod WeightLemmas
 pub mod RowWeights
 mod RangeLemmas
 mod RangeBoundLemmas
+mod PlaceBoundLemmas
+mod PlaceRowLemmas

@@ -21,3 +21,4 @@ pub mod BatchRows
 pub mod Weights
 pub mod RangeRows
 pub mod RangeBounds
+pub mod PlaceRows

@@ -16,6 +16,8 @@ mod laws;
 mod layouts;
 mod memory;
 mod messages;
+mod place_bounds;
+mod place_rows;
 mod progress;
 mod range_bounds;
 mod range_copies;
@@ -34,7 +36,9 @@ pub use laws::{
 pub use layouts::layouts_of;
 pub use memory::MemorySink;
 pub use sink::{DeviceFault, Sink, put_all};
-pub use table::{write_batches, write_coded, write_ranges, write_table, write_weighed_batches};
+pub use table::{
+    write_batches, write_coded, write_places, write_ranges, write_table, write_weighed_batches,
+};
 pub use table_writer::TableWriter;
 pub use weighing::{MAX_LIGHT_ROW, weigh_row, weights_in};
 

@@ -49,7 +49,12 @@ fn bound_cells(column: &Column, from: usize, to: usize) -> u64
 
 /// A weight that none of these cells is above as a value of this layout, or `None` where nothing is known: of lists and
 /// structs, whose items may lie in other layouts, and above the limit of a cell.
-fn bound_values(layout: &LayoutTree, column: &Column, from: usize, to: usize) -> Option<u64>
+pub(crate) fn bound_values(
+    layout: &LayoutTree,
+    column: &Column,
+    from: usize,
+    to: usize,
+) -> Option<u64>
     requires { to ≤ length column.now.cells }
     ensures { IfSome result (BoundsCells layout.now column.now from to) }
 {

@@ -1,6 +1,25 @@
 //! Tables, and views of them that are kept current.
 
-ghost use Rattle.std.specs.Prelude.{◌≡◌, ◌<◌, ◌≤◌, ◌+◌, [], All, false, count_by, get_or, IfOk, OnErr, OnOk, length, map, slice_set, true};
+ghost use Rattle.std.specs.Prelude.{
+  ◌≡◌,
+  ℕ,
+  ◌<◌,
+  ◌≤◌,
+  ◌+◌,
+  [],
+  All,
+  false,
+  count_by,
+  get_or,
+  IfOk,
+  OnErr,
+  OnOk,
+  length,
+  map,
+  slice_set,
+  true,
+};
+ghost use Rattle.body_writer.specs.Places.{IsPlaced, placed_rows};
 ghost use Rattle.body_writer.specs.RowRanges.{IsRange, ranges_rows};
 ghost use Rattle.view_lang.specs.Edits.{table_of};
 ghost use Rattle.view_lang.specs.Laws.{Viewed};
@@ -42,7 +61,7 @@ use crate::view_state::{Turn, ViewState};
 use crate::viewed::viewed_law;
 use arrays::Column;
 use body_writer::RowRange;
-use row_keys::{EditFault, RowStore, TableChange, Visits, numbers_law};
+use row_keys::{EditFault, RowStore, StoredPlaces, TableChange, Visits, numbers_law};
 use std::alloc::{AllocError, Global};
 use std::marker::Model;
 use view_lang::{Role, View};
@@ -461,5 +480,16 @@ impl LiveTables {
         ensures ranges { IfOk result (λ ranges. All (IsRange (width_in (tables_in self.now.stores))) ranges.items) }
     {
         self.stores[0].ranges(visits)
+    }
+
+    /// Where the visited rows of the main table lie, which are live: each by itself.
+    pub fn places(&self, visits: Visits) -> Result<StoredPlaces<'_>, AllocError>
+        requires { All (IsLiveAt (rows_at (rows_in self.now.stores) 0)) visits }
+        ensures rows { IfOk result (λ found. placed_rows found.batches.items found.places.items
+            ≡ map (row_of (rows_at (rows_in self.now.stores) 0)) visits) }
+        ensures placed { IfOk result (λ found.
+            All (IsPlaced (width_in (tables_in self.now.stores)) found.batches.items) found.places.items) }
+    {
+        self.stores[0].places(visits)
     }
 }

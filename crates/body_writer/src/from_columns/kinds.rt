@@ -25,7 +25,7 @@ fn with_offsets(layout: Layout, offsets: OffsetWidth) -> Layout
 }
 
 /// Whether two layouts are the same, but for the width of offsets.
-fn is_alike(layout: Layout, other: Layout) -> bool
+pub(crate) fn is_alike(layout: Layout, other: Layout) -> bool
     ensures { result ≡ true → IsAlike layout other }
 {
     other == with_offsets(layout, offset_width(other))

@@ -1,0 +1,128 @@
+-- Rows that lie each at a place of its own in batches of checked columns, and the arrays in which their cells lie.
+use Rattle.std.specs.Prelude.{◌≡◌, ℕ, ◌<◌, List, [], None, Ok, Option, Some, map, slice_get, slice_index, true}
+use denote.Ref.{Bor}
+use Rattle.values.specs.Datum.{Datum, null}
+use Rattle.values.specs.Rose.{Rose, node}
+use Rattle.values.specs.declared.layout.Layout.{Layout}
+use Rattle.values.specs.declared.layout.Layout.TheVariants.{Utf8, Binary, List as Listed, Struct}
+use Rattle.array_layout.specs.Placing.{bytes_of}
+use Rattle.array_layout.specs.Cells.{cell, cells}
+use Rattle.arrays.specs.Checked.{CheckedColumn}
+use Rattle.schema_meta.specs.Rows.{row_at}
+use Rattle.body_writer.specs.Batch.{row_cells}
+use Rattle.body_writer.specs.Slots.{part}
+use Rattle.body_writer.specs.Runs.{cell_in}
+use Rattle.body_writer.specs.Pieces.{HasLayout, array_of}
+use Rattle.body_writer.specs.RowRanges.{IsSized, cells_in}
+use Rattle.body_writer.specs.declared.from_columns.batch.Batch.{Batch}
+use Rattle.body_writer.specs.declared.from_places.plain.BatchArrays.{BatchArrays}
+use Rattle.body_writer.specs.declared.from_places.plain.PlainArray.{PlainArray}
+use Rattle.body_writer.specs.declared.from_places.place.RowPlace.{RowPlace}
+
+-- row i of a batch; no cells where there is no batch
+abbrev pub row_in : Option (Bor Batch) → ℕ → List Datum
+row_in None i = []
+row_in (Some b) i = row_at (cells_in b.now.columns.items) i
+
+abbrev pub place_row : List (Bor Batch) → RowPlace → List Datum
+place_row bs p = row_in (slice_get bs p.batch) p.row
+
+abbrev pub placed_rows : List (Bor Batch) → List RowPlace → List (List Datum)
+placed_rows bs ps = map (place_row bs) ps
+
+-- There is such a row, in a batch of n columns.
+pub record IsPlaced (n : ℕ) (bs : List (Bor Batch)) (p : RowPlace) : Type 0 where
+  pub batch : Bor Batch
+  pub there : slice_get bs p.batch ≡ Some batch
+  pub sized : IsSized n batch.now
+  pub within : p.row < batch.now.rows
+
+-- the cells of column j in all of them
+abbrev pub column_at : ℕ → List (Bor Batch) → List RowPlace → List Datum
+column_at j bs ps = map (part j) (row_cells (placed_rows bs ps))
+
+-- what slot i of an array without a dictionary holds
+abbrev pub array_cell : PlainArray → ℕ → Datum
+array_cell a i = cell_in (cell a.slots.parts.body.now (array_of a.slots.parts) i)
+
+-- the same; null where there is no array
+abbrev pub cell_there : Option (Option PlainArray) → ℕ → Datum
+cell_there (Some (Some a)) i = array_cell a i
+cell_there _ i = null
+
+abbrev pub place_cell : List (Option PlainArray) → RowPlace → Datum
+place_cell xs p = cell_there (slice_get xs p.batch) p.row
+
+abbrev pub place_cells : List (Option PlainArray) → List RowPlace → List Datum
+place_cells xs ps = map (place_cell xs) ps
+
+-- All slots of an array without a dictionary, which is of this layout but for the width of offsets; with its buffers.
+pub record IsPlain (l : Layout) (a : PlainArray) : Type 0 where
+  pub own : HasLayout l a.slots
+  pub whole : a.slots.from ≡ 0
+  pub bits : a.bits.now ≡ bytes_of a.slots.parts.body.now a.slots.parts.own.now.validity
+  pub offsets : a.offsets.now ≡ bytes_of a.slots.parts.body.now a.slots.parts.own.now.offsets
+  pub values : a.values.now ≡ bytes_of a.slots.parts.body.now a.slots.parts.own.now.values
+  pub small : (n : ℕ) → slice_index a.values.now n < 256
+
+-- slot i of such an array
+pub record IsSlot (l : Layout) (a : PlainArray) (i : ℕ) : Type 0 where
+  pub plain : IsPlain l a
+  pub below : i < a.slots.to
+
+-- slot i of such an array holds this
+pub record IsSlotAt (l : Layout) (a : PlainArray) (i : ℕ) (d : Datum) : Type 0 where
+  pub slot : IsSlot l a i
+  pub holds : array_cell a i ≡ d
+
+-- the layout of an array itself
+abbrev pub layout_of : Rose Layout → Layout
+layout_of (node l kids) = l
+
+-- a layout without children
+abbrev pub IsLeaf : Layout → Type 0
+IsLeaf (Listed o) = ⊥
+IsLeaf Struct = ⊥
+IsLeaf l = Unit {0}
+
+-- a layout of texts or of bytes
+abbrev pub IsTexts : Layout → Type 0
+IsTexts (Utf8 o) = Unit {0}
+IsTexts (Binary o) = Unit {0}
+IsTexts l = ⊥
+
+pub record HasText (l : Layout) (a : PlainArray) (i : ℕ) : Type 0 where
+  pub slot : IsSlot l a i
+  pub texts : IsTexts l
+
+-- The slot at this place is one of such an array, if there is an array.
+abbrev pub Fits : Layout → List (Option PlainArray) → RowPlace → Type 0
+Fits l xs p = (a : PlainArray) → slice_get xs p.batch ≡ Some (Some a) → IsSlot l a p.row
+
+-- Such an array has these cells.
+pub record HasCells (l : Layout) (ds : List Datum) (a : PlainArray) : Type 0 where
+  pub plain : IsPlain l a
+  pub all : a.slots.to ≡ a.slots.parts.own.now.len
+  pub cells_are : cells a.slots.parts.body.now (array_of a.slots.parts) ≡ Ok ds
+
+abbrev pub HasCellsAt : Layout → List Datum → Option (Option PlainArray) → Type 0
+HasCellsAt l ds (Some (Some a)) = HasCells l ds a
+HasCellsAt l ds _ = ⊥
+
+-- The arrays are those of column j of the batches, for each batch that has it.
+abbrev pub ArePlain : Layout → ℕ → List (Bor Batch) → List (Option PlainArray) → Type 0
+ArePlain l j bs xs = (k : ℕ) (b : Bor Batch) (c : CheckedColumn) → slice_get bs k ≡ Some b
+    → slice_get b.now.columns.items j ≡ Some c → HasCellsAt l c.cells (slice_get xs k)
+
+abbrev pub column_of : BatchArrays → ℕ
+column_of s = s.column
+
+-- They are said to be plain, and have this layout, which has no children.
+pub record IsReady (t : Rose Layout) (s : BatchArrays) : Type 0 where
+  pub plain : s.is_plain ≡ true
+  pub layout : s.layout ≡ layout_of t
+  pub leaf : IsLeaf s.layout
+
+-- They are if they are said to be plain.
+abbrev pub AreFound : List (Bor Batch) → BatchArrays → Type 0
+AreFound bs s = s.is_plain ≡ true → ArePlain s.layout s.column bs s.arrays.items

@@ -1,0 +1,129 @@
+-- Rows of chunks by their places.
+use Rattle.std.proofs.Common.{◌≡◌, ℕ, zero, suc, ◌+◌, ◌<◌, ◌≤◌, All, Bool, true, false, Some, List, [], ◌∷◌, ◌++◌, get_or, length, take, refl, ap, ap₂, sym, subst, ◌∙◌, arith}
+use Rattle.std.specs.Prelude.{if◌then◌else◌, map, slice_get}
+use Rattle.std.proofs.lemmas.List.Elements.{All-cons, All-head, All-nil, All-tail}
+use Rattle.std.proofs.lemmas.List.{take_all, take_more}
+use Rattle.std.proofs.lemmas.Option.{none-some}
+use denote.Ref.{Bor}
+use Rattle.values.specs.Datum.{Datum}
+use Rattle.schema_meta.specs.Rows.{row_at}
+use Rattle.body_writer.specs.Places.{IsPlaced, place_row as row_at_place, placed_rows, row_in as batch_row}
+use Rattle.body_writer.specs.RowRanges.{IsSized}
+use Rattle.body_writer.specs.declared.from_columns.batch.Batch.{Batch}
+use Rattle.body_writer.specs.declared.from_places.place.RowPlace.{RowPlace}
+use Rattle.row_keys.specs.Batches.{cells_in}
+use Rattle.row_keys.specs.Chunks.{Chunk, IsLong, LiesAt, chunk_row, row_in}
+use Rattle.row_keys.specs.Places.{AreAtPlaces, AreBatches, IsBatchOf}
+use Rattle.row_keys.proofs.Places.{some_same}
+use Rattle.row_keys.proofs.RunRows.{cells_many}
+
+-- the batch of a chunk
+record BatchAt (bs : List (Bor Batch)) (p : ℕ) (c : Chunk) : Type 0 where
+  batch : Bor Batch
+  there : slice_get bs p ≡ Some batch
+  is : IsBatchOf c batch
+
+batch_at : (cs : List Chunk) (bs : List (Bor Batch)) (p : ℕ) (c : Chunk) → AreBatches cs bs → slice_get cs p ≡ Some c
+    → BatchAt bs p c
+batch_at [] [] p c are there = absurd (none-some c there)
+batch_at [] (b ∷ bs) p c are there = absurd are
+batch_at (d ∷ cs) [] p c are there = absurd are
+batch_at (d ∷ cs) (b ∷ bs) zero c are there =
+    record { batch = b; there = refl; is = subst (λ x. IsBatchOf x b) (some_same d c there) are.0 }
+batch_at (d ∷ cs) (b ∷ bs) (suc p) c are there =
+    let at = batch_at cs bs p c are.1 there in
+    record { batch = at.batch; there = at.there; is = at.is }
+
+-- a row that is kept
+kept_row : (cs : List Chunk) (n p i : ℕ) (at : LiesAt cs n p i) → 0 < length (row_in cs n)
+    → row_in cs n ≡ row_at (cells_in at.lies.chunk.columns) i
+kept_row cs n p i at kept = by (get_or c.gone i true) (at.lies.row ∙ ap (chunk_row c) at.place) where
+  c : Chunk
+  c = at.lies.chunk
+
+  by : (b : Bool) → row_in cs n ≡ (if b then [] else row_at (cells_in c.columns) i)
+      → row_in cs n ≡ row_at (cells_in c.columns) i
+  by true row = let none = ap length row in absurd (omega (arith, none, kept))
+  by false row = row
+
+pub placed_row : (cs : List Chunk) (bs : List (Bor Batch)) (n : ℕ) (p : RowPlace) → AreBatches cs bs
+    → LiesAt cs n p.batch p.row → 0 < length (row_in cs n) → row_at_place bs p ≡ row_in cs n
+placed_row cs bs n p are at kept =
+    let c : Chunk = at.lies.chunk in
+    let b = batch_at cs bs p.batch c are at.lies.there in
+    ap (λ o. batch_row o p.row) b.there ∙ ap (λ ks. row_at (cells_in ks) p.row) (sym b.is.columns)
+    ∙ sym (kept_row cs n p.batch p.row at kept)
+
+pub placed_there : (cs : List Chunk) (bs : List (Bor Batch)) (n w : ℕ) (p : RowPlace) → AreBatches cs bs
+    → LiesAt cs n p.batch p.row → 0 < length (row_in cs n) → length (row_in cs n) ≡ w → IsPlaced w bs p
+placed_there cs bs n w p are at kept wide =
+    let c : Chunk = at.lies.chunk in
+    let b = batch_at cs bs p.batch c are at.lies.there in
+    let long : IsLong c = at.lies.long in
+    let few = long.few in
+    let many = cells_many c.columns p.row in
+    let row = ap length (kept_row cs n p.batch p.row at kept) in
+    let columns = ap length b.is.columns in
+    record {
+      batch = b.batch;
+      there = b.there;
+      sized = record {
+        columns = omega (arith, columns, many, row, wide);
+        cells = subst (λ ks. All (λ k. length k.cells ≡ b.batch.now.rows) ks) b.is.columns
+            (subst (λ m. All (λ k. length k.cells ≡ m) c.columns) b.is.rows long.long);
+      };
+      within = omega (arith, at.within, few, b.is.rows);
+    }
+
+-- all of them
+
+pub rows_placed : (cs : List Chunk) (bs : List (Bor Batch)) (ns : List ℕ) (ps : List RowPlace) → AreBatches cs bs
+    → AreAtPlaces cs ns ps → All (λ n. 0 < length (row_in cs n)) ns → placed_rows bs ps ≡ map (row_in cs) ns
+rows_placed cs bs [] [] are at kept = refl
+rows_placed cs bs [] (p ∷ ps) are at kept = absurd at
+rows_placed cs bs (n ∷ ns) [] are at kept = absurd at
+rows_placed cs bs (n ∷ ns) (p ∷ ps) are at kept =
+    let K : ℕ → Type 0 = λ m. 0 < length (row_in cs m) in
+    ap₂ (λ r rs. r ∷ rs) (placed_row cs bs n p are at.0 (All-head K n ns kept))
+    (rows_placed cs bs ns ps are at.1 (All-tail K n ns kept))
+
+pub all_placed : (cs : List Chunk) (bs : List (Bor Batch)) (ns : List ℕ) (ps : List RowPlace) (w : ℕ)
+    → AreBatches cs bs → AreAtPlaces cs ns ps → All (λ n. 0 < length (row_in cs n)) ns
+    → All (λ n. length (row_in cs n) ≡ w) ns → All (IsPlaced w bs) ps
+all_placed cs bs [] [] w are at kept wide = All-nil (IsPlaced w bs)
+all_placed cs bs [] (p ∷ ps) w are at kept wide = absurd at
+all_placed cs bs (n ∷ ns) [] w are at kept wide = absurd at
+all_placed cs bs (n ∷ ns) (p ∷ ps) w are at kept wide =
+    let K : ℕ → Type 0 = λ m. 0 < length (row_in cs m) in
+    let W : ℕ → Type 0 = λ m. length (row_in cs m) ≡ w in
+    All-cons (IsPlaced w bs) p ps
+    (placed_there cs bs n w p are at.0 (All-head K n ns kept) (All-head W n ns wide))
+    (all_placed cs bs ns ps w are at.1 (All-tail K n ns kept) (All-tail W n ns wide))
+
+-- one more
+
+pub places_more : (cs : List Chunk) (ns : List ℕ) (ps : List RowPlace) (n : ℕ) (p : RowPlace) → AreAtPlaces cs ns ps
+    → LiesAt cs n p.batch p.row → AreAtPlaces cs (ns ++ n ∷ []) (ps ++ p ∷ [])
+places_more cs [] [] n p at here = (here, tt)
+places_more cs [] (q ∷ ps) n p at here = absurd at
+places_more cs (m ∷ ns) [] n p at here = absurd at
+places_more cs (m ∷ ns) (q ∷ ps) n p at here = (at.0, places_more cs ns ps n p at.1 here)
+
+pub batches_more : (cs : List Chunk) (bs : List (Bor Batch)) (c : Chunk) (b : Bor Batch) → AreBatches cs bs
+    → IsBatchOf c b → AreBatches (cs ++ c ∷ []) (bs ++ b ∷ [])
+batches_more [] [] c b are here = (here, tt)
+batches_more [] (d ∷ bs) c b are here = absurd are
+batches_more (d ∷ cs) [] c b are here = absurd are
+batches_more (d ∷ cs) (e ∷ bs) c b are here = (are.0, batches_more cs bs c b are.1 here)
+
+pub places_next : (cs : List Chunk) (numbers : List ℕ) (i : ℕ) (made next : List RowPlace) (p : RowPlace)
+    → i < length numbers → next ≡ made ++ p ∷ [] → LiesAt cs (get_or numbers i 0) p.batch p.row
+    → AreAtPlaces cs (take i numbers) made → AreAtPlaces cs (take (i + 1) numbers) next
+places_next cs numbers i made next p h n here at =
+    subst (AreAtPlaces cs (take (i + 1) numbers)) (sym n)
+    (subst (λ ns. AreAtPlaces cs ns (made ++ p ∷ [])) (sym (take_more numbers i 0 h))
+    (places_more cs (take i numbers) made (get_or numbers i 0) p at here))
+
+pub places_all : (cs : List Chunk) (numbers : List ℕ) (i : ℕ) (made : List RowPlace) → length numbers ≤ i
+    → AreAtPlaces cs (take i numbers) made → AreAtPlaces cs numbers made
+places_all cs numbers i made h at = subst (λ ns. AreAtPlaces cs ns made) (take_all numbers i h) at
