@@ -5,10 +5,8 @@ use Rattle.std.proofs.lemmas.List.Elements.{All-cons, All-head, All-nil, All-tai
 use Rattle.std.proofs.lemmas.List.{take_all, take_more}
 use Rattle.std.proofs.lemmas.Option.{none-some}
 use denote.Ref.{Bor}
-use Rattle.values.specs.Datum.{Datum}
 use Rattle.schema_meta.specs.Rows.{row_at}
 use Rattle.body_writer.specs.Places.{IsPlaced, place_row as row_at_place, placed_rows, row_in as batch_row}
-use Rattle.body_writer.specs.RowRanges.{IsSized}
 use Rattle.body_writer.specs.declared.from_columns.batch.Batch.{Batch}
 use Rattle.body_writer.specs.declared.from_places.place.RowPlace.{RowPlace}
 use Rattle.row_keys.specs.Batches.{cells_in}
@@ -126,4 +124,16 @@ places_next cs numbers i made next p h n here at =
 
 pub places_all : (cs : List Chunk) (numbers : List ℕ) (i : ℕ) (made : List RowPlace) → length numbers ≤ i
     → AreAtPlaces cs (take i numbers) made → AreAtPlaces cs numbers made
-places_all cs numbers i made h at = subst (λ ns. AreAtPlaces cs ns made) (take_all numbers i h) at
+places_all cs numbers i made h at = subst (λ ns. AreAtPlaces cs ns made) (take_all i numbers h) at
+
+pub batches_next : (cs : List Chunk) (i : ℕ) (c : Chunk) (made next : List (Bor Batch)) (b : Bor Batch)
+    → next ≡ made ++ b ∷ [] → c ≡ get_or cs i c → i < length cs → IsBatchOf c b → AreBatches (take i cs) made
+    → AreBatches (take (i + 1) cs) next
+batches_next cs i c made next b n at h is are =
+    subst (AreBatches (take (i + 1) cs)) (sym n)
+    (subst (λ xs. AreBatches xs (made ++ b ∷ [])) (sym (take_more cs i c h))
+    (batches_more (take i cs) made (get_or cs i c) b are (subst (λ x. IsBatchOf x b) at is)))
+
+pub batches_all : (cs : List Chunk) (i : ℕ) (made : List (Bor Batch)) → length cs ≤ i
+    → AreBatches (take i cs) made → AreBatches cs made
+batches_all cs i made h are = subst (λ xs. AreBatches xs made) (take_all i cs h) are

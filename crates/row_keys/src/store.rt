@@ -83,7 +83,7 @@ use crate::key_columns::{
 use crate::layouts::table_layouts;
 use crate::numbers::Numbers;
 use crate::parts::{StoreParts, make_numbers, renumbered};
-use crate::places::StoredPlaces;
+use crate::placing::StoredPlaces;
 use crate::stored_row::{StoredRow, Visit, Visits};
 use crate::stored_rows::StoredRows;
 use crate::turning::{retract_all, retract_from, revive_all, revive_from};

@@ -1,6 +1,6 @@
 //! Borrowed views of stored rows.
 
-ghost use Rattle.std.specs.Prelude.{◌≡◌, ◌<◌, All, IfOk, length};
+ghost use Rattle.std.specs.Prelude.{◌≡◌, ◌+◌, ◌<◌, All, IfOk, length, nat_eq};
 ghost use Rattle.schema_meta.specs.Rows.{row_at};
 ghost use Rattle.values.specs.CellViews.{shallow, viewed};
 ghost use Rattle.view_lang.specs.Cells.{cell_at as cell_by};
@@ -133,6 +133,13 @@ impl Visit {
     }
 }
 
+/// Whether a number is one above another.
+fn follows(last: usize, number: usize) -> bool
+    ensures { result ≡ nat_eq number (last + 1) }
+{
+    number > 0 && number - 1 == last
+}
+
 /// How many runs of numbers there are that follow one another.
 fn count_runs(numbers: &[usize]) -> usize
     ensures { result ≡ runs_in numbers.now }
@@ -143,7 +150,7 @@ fn count_runs(numbers: &[usize]) -> usize
     let mut runs = 1;
     let mut last = *first;
     for number in rest {
-        if *number == 0 || *number - 1 != last {
+        if !follows(last, *number) {
             runs += 1;
         }
         last = *number;

@@ -46,7 +46,7 @@ ghost use Rattle.row_keys.specs.Chunks.{
 };
 ghost use Rattle.row_keys.specs.RowsLeft.{IsHeld, IsSplit};
 
-use crate::places::{StoredPlaces, place_rows};
+use crate::placing::{StoredPlaces, place_rows};
 use crate::rewriting::{merge, write_tail};
 use crate::runs::find_ranges;
 use crate::stored_chunk::{StoredChunk, flags, index_of, release_in, row_of, shorten};

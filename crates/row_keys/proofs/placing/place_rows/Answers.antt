@@ -1,5 +1,5 @@
 use Rattle.row_keys.proofs.PlacedRows.{all_placed, rows_placed}
-use Rattle.row_keys.proofs.places.place_rows.Goals as goal
+use Rattle.row_keys.proofs.placing.place_rows.Goals as goal
 
 pub returns-clause-rows : goal.returns-clause-rows
 returns-clause-rows c =

@@ -1,9 +1,9 @@
-use Rattle.std.proofs.Common.{◌≡◌, List, Option, [], get_or, subst}
+use Rattle.std.proofs.Common.{◌≡◌, Option, [], get_or, subst}
 use Rattle.std.specs.Prelude.{MatchOption}
 use Rattle.row_keys.specs.Chunks.{LiesAt, row_in}
 use Rattle.row_keys.specs.declared.stored_rows.Location.{Location}
 use Rattle.row_keys.proofs.PlacedRows.{places_all, places_next}
-use Rattle.row_keys.proofs.places.find_places.Goals as goal
+use Rattle.row_keys.proofs.placing.find_places.Goals as goal
 
 pub loop-number-preserved : goal.loop-number-preserved
 loop-number-preserved c =
