@@ -16,13 +16,10 @@ ghost use Rattle.upkeep.specs.ViewStates.{width_in};
 ghost use Rattle.session.specs.WrittenViews.{IsReadBack, IsViewed, ShowsView, stream_at};
 
 use std::alloc::Global;
-use stream_writer::{Sink, WriteFault, coded_law, write_coded, write_places, write_ranges};
+use stream_writer::{Sink, WriteFault, coded_law, write_coded, write_ranges};
 use upkeep::{LiveTables, Shown, StoredColumns};
 use values::Schema;
 use view_lang::{config_law, rows_law};
-
-/// Where no more rows than this lie one after the other in the mean, each is written by itself.
-const SHORT_RUNS: usize = 4;
 
 /// Writes the canonical stream of columns of the main table from where they are stored, and returns its length in
 /// bytes.
@@ -44,10 +41,6 @@ fn write_stored<S: Sink>(
 {
     let StoredColumns { columns, visits } = stored;
     let count = visits.len();
-    if visits.count_runs() > count / SHORT_RUNS {
-        let found = tables.places(visits)?;
-        return write_places(alloc, sink, schema, &columns, &found.batches, &found.places);
-    }
     let ranges = tables.ranges(visits)?;
     write_ranges(alloc, sink, schema, &columns, &ranges, count)
 }

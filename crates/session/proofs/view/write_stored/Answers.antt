@@ -1,8 +1,5 @@
-use Rattle.std.proofs.Common.{◌≡◌, ℕ, ◌<◌, ◌∙◌, All, List, ap, length, map, subst, sym}
+use Rattle.std.proofs.Common.{◌≡◌, ℕ, ◌<◌, ◌∙◌, All, ap, length, map, subst, sym}
 use Rattle.std.proofs.lemmas.List.{length-map}
-use denote.Ref.{Bor}
-use Rattle.body_writer.specs.declared.from_columns.batch.Batch.{Batch}
-use Rattle.body_writer.specs.Places.{IsPlaced, placed_rows}
 use Rattle.body_writer.specs.RowRanges.{IsRange, ranges_rows}
 use Rattle.body_writer.specs.Picked.{picked_rows}
 use Rattle.stream_writer.specs.Sinks.{Writes}
@@ -13,70 +10,25 @@ use Rattle.upkeep.specs.Stores.{rows_at, rows_in, tables_in}
 use Rattle.upkeep.specs.ViewStates.{width_in}
 use Rattle.session.proofs.view.write_stored.Goals as goal
 
-pub write_places-requires : goal.write_places-requires
-write_places-requires g c =
-    let fs = c.args.schema.now.fields.items in
-    let slots = rows_at (rows_in c.args.tables.now.stores) 0 in
-    let stored = c.args.stored in
-    let width : ℕ = width_in (tables_in c.args.tables.now.stores) in
-    let found = c.in_ok-found.found in
-    let lent = c.deref-then-count_runs-count in
-    let each = c.deref-then-count_runs-count-2 in
-    let lie = ap (λ (bs : List (Bor Batch)). placed_rows bs each.result.now) lent.ensures.value
-    ∙ ap (placed_rows found.batches.items) each.ensures.value ∙ c.in_ok-found.ensures.rows in
-    let same : picked_rows c.deref.result.now (placed_rows lent.result.now each.result.now)
-    ≡ picked_rows stored.columns.items (map (row_of slots) stored.visits) =
-    ap (λ cs. picked_rows cs (placed_rows lent.result.now each.result.now)) c.deref.ensures.value
-    ∙ ap (picked_rows stored.columns.items) lie in
-    record {
-      table = subst (IsTable fs) (sym same) c.requires.table;
-      many = ap length c.deref.ensures.value ∙ c.requires.many;
-      places = (
-        width,
-        record {
-          places = subst (λ (bs : List (Bor Batch)). All (IsPlaced width bs) each.result.now) (sym lent.ensures.value)
-              (subst (All (IsPlaced width found.batches.items)) (sym each.ensures.value) c.in_ok-found.ensures.placed);
-          below = subst (All (λ j. j < width)) (sym c.deref.ensures.value) c.requires.below;
-        },
-      );
-    }
-
-pub returns-then-count_runs-count : goal.returns-then-count_runs-count
-returns-then-count_runs-count g c =
-    let fs = c.args.schema.now.fields.items in
-    let slots = rows_at (rows_in c.args.tables.now.stores) 0 in
-    let stored = c.args.stored in
-    let found = c.in_ok-found.found in
-    let lent = c.deref-then-count_runs-count in
-    let each = c.deref-then-count_runs-count-2 in
-    let lie = ap (λ (bs : List (Bor Batch)). placed_rows bs each.result.now) lent.ensures.value
-    ∙ ap (placed_rows found.batches.items) each.ensures.value ∙ c.in_ok-found.ensures.rows in
-    let same : picked_rows c.deref.result.now (placed_rows lent.result.now each.result.now)
-    ≡ picked_rows stored.columns.items (map (row_of slots) stored.visits) =
-    ap (λ cs. picked_rows cs (placed_rows lent.result.now each.result.now)) c.deref.ensures.value
-    ∙ ap (picked_rows stored.columns.items) lie in
-    subst (Writes (g.S.Sink.sunk c.args.sink.now) (g.S.Sink.sunk c.write_places.new.sink) c.write_places.result)
-    (ap (canon fs) same) c.write_places.ensures
-
 pub write_ranges-requires : goal.write_ranges-requires
 write_ranges-requires g c =
     let fs = c.args.schema.now.fields.items in
     let slots = rows_at (rows_in c.args.tables.now.stores) 0 in
     let stored = c.args.stored in
     let width : ℕ = width_in (tables_in c.args.tables.now.stores) in
-    let lie = ap ranges_rows c.deref-3.ensures.value ∙ c.in_ok-ranges.ensures.rows in
-    let same : picked_rows c.deref-2.result.now (ranges_rows c.deref-3.result.now)
+    let lie = ap ranges_rows c.deref-2.ensures.value ∙ c.in_ok-ranges.ensures.rows in
+    let same : picked_rows c.deref.result.now (ranges_rows c.deref-2.result.now)
     ≡ picked_rows stored.columns.items (map (row_of slots) stored.visits) =
-    ap (λ cs. picked_rows cs (ranges_rows c.deref-3.result.now)) c.deref-2.ensures.value
+    ap (λ cs. picked_rows cs (ranges_rows c.deref-2.result.now)) c.deref.ensures.value
     ∙ ap (picked_rows stored.columns.items) lie in
     record {
       table = subst (IsTable fs) (sym same) c.requires.table;
-      many = ap length c.deref-2.ensures.value ∙ c.requires.many;
+      many = ap length c.deref.ensures.value ∙ c.requires.many;
       ranges = (
         width,
         record {
-          ranges = subst (All (IsRange width)) (sym c.deref-3.ensures.value) c.in_ok-ranges.ensures.ranges;
-          below = subst (All (λ j. j < width)) (sym c.deref-2.ensures.value) c.requires.below;
+          ranges = subst (All (IsRange width)) (sym c.deref-2.ensures.value) c.in_ok-ranges.ensures.ranges;
+          below = subst (All (λ j. j < width)) (sym c.deref.ensures.value) c.requires.below;
         },
       );
       rows = c.len-count.ensures ∙ sym (ap length lie ∙ length-map stored.visits (row_of slots));
@@ -87,10 +39,10 @@ returns g c =
     let fs = c.args.schema.now.fields.items in
     let slots = rows_at (rows_in c.args.tables.now.stores) 0 in
     let stored = c.args.stored in
-    let lie = ap ranges_rows c.deref-3.ensures.value ∙ c.in_ok-ranges.ensures.rows in
-    let same : picked_rows c.deref-2.result.now (ranges_rows c.deref-3.result.now)
+    let lie = ap ranges_rows c.deref-2.ensures.value ∙ c.in_ok-ranges.ensures.rows in
+    let same : picked_rows c.deref.result.now (ranges_rows c.deref-2.result.now)
     ≡ picked_rows stored.columns.items (map (row_of slots) stored.visits) =
-    ap (λ cs. picked_rows cs (ranges_rows c.deref-3.result.now)) c.deref-2.ensures.value
+    ap (λ cs. picked_rows cs (ranges_rows c.deref-2.result.now)) c.deref.ensures.value
     ∙ ap (picked_rows stored.columns.items) lie in
     subst (Writes (g.S.Sink.sunk c.args.sink.now) (g.S.Sink.sunk c.write_ranges.new.sink) c.write_ranges.result)
     (ap (canon fs) same) c.write_ranges.ensures
