@@ -10,7 +10,7 @@ ghost use Rattle.row_keys.specs.Slots.{row_of};
 ghost use Rattle.upkeep.specs.LiveEdits.{NoneBecomesStale};
 ghost use Rattle.upkeep.specs.LiveParts.{view_at};
 ghost use Rattle.upkeep.specs.Shown.{IsLiveAt};
-ghost use Rattle.upkeep.specs.Stores.{rows_at, rows_in, tables_in};
+ghost use Rattle.upkeep.specs.Stores.{HaveSameRows, rows_at, rows_in, tables_in};
 ghost use Rattle.upkeep.specs.Touched.{OpensShown};
 ghost use Rattle.upkeep.specs.ViewStates.{width_in};
 ghost use Rattle.session.specs.WrittenViews.{IsReadBack, IsViewed, ShowsView, stream_at};
@@ -86,8 +86,7 @@ pub(crate) fn write_rows<S: Sink>(
         ≡ view_columns (tables_in tables.old.stores) (view_at tables.old.views place) }
     ensures writes { Writes (S.sunk sink.old) (S.sunk sink.new) result (stream_at tables.old place) }
     ensures read { OnOk result (IsReadBack tables.old place) }
-    ensures tables { tables_in tables.new.stores ≡ tables_in tables.old.stores }
-    ensures rows { rows_in tables.new.stores ≡ rows_in tables.old.stores }
+    ensures same_rows { HaveSameRows tables.old.stores tables.new.stores }
     ensures views { tables.new.views ≡ tables.old.views }
     ensures stale { OnOk result (tables.new.stale ≡ slice_set tables.old.stale place false) }
     ensures none_stale { NoneBecomesStale tables.old.stale tables.new.stale }

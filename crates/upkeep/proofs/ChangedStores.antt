@@ -11,7 +11,7 @@ use Rattle.row_keys.specs.Slots.{Slot}
 use Rattle.row_keys.specs.Store.{Store}
 use Rattle.row_keys.specs.declared.faults.EditFault.{EditFault}
 use Rattle.upkeep.specs.LiveParts.{AreOf}
-use Rattle.upkeep.specs.Stores.{rows_at, rows_in, tables_in}
+use Rattle.upkeep.specs.Stores.{HaveSameRows, rows_at, rows_in, tables_in}
 use Rattle.upkeep.specs.StoreLaws.{rows_length, rows_placed, rows_set, rows_there, table_there, tables_length}
 use Rattle.row_keys.specs.TableChanges.{CanGoBack, Makes}
 use Rattle.row_keys.specs.declared.table_change.TableChange.{TableChange}
@@ -63,6 +63,10 @@ still_of old new views same was =
       sides = subst (λ (ts : List Table). All IsSideTable (drop 1 ts)) (sym same) was.sides;
       of_these = subst (λ (ts : List Table). All (IsView ts) views) (sym same) was.of_these;
     }
+
+-- what stays twice
+pub still_same : {a b c : List Store} → HaveSameRows a b → HaveSameRows b c → HaveSameRows a c
+still_same first then = record { tables = then.tables ∙ first.tables; rows = then.rows ∙ first.rows }
 
 -- a view by its number
 pub view_there : (stores : List Store) (views : List View) (k : ℕ) (v : View) → AreOf stores views → k < length views

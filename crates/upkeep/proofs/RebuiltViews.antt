@@ -27,14 +27,13 @@ use Rattle.row_keys.specs.Store.{Store}
 use Rattle.upkeep.specs.Inputs.{side_by}
 use Rattle.upkeep.specs.LiveParts.{AreLive}
 use Rattle.upkeep.specs.StoreLaws.{set_mapped}
-use Rattle.upkeep.specs.Stores.{Rows, rows_at, rows_in, tables_in}
+use Rattle.upkeep.specs.Stores.{HaveSameRows, Rows, rows_at, rows_in, tables_in}
 use Rattle.upkeep.specs.ViewStates.{AreCurrent, EachIsCurrent, IsCurrent, stale_in}
 use Rattle.upkeep.specs.declared.view_state.ViewState.{ViewState}
 use Rattle.upkeep.proofs.ChangedStores.{still_of}
-use Rattle.upkeep.proofs.SideEdits.{Opened}
 
 pub opened_stays :
-    (ss ss' : List Store) (views : List View) (states : List ViewState) → Opened ss ss' → AreLive ss views states
+    (ss ss' : List Store) (views : List View) (states : List ViewState) → HaveSameRows ss ss' → AreLive ss views states
     → AreLive ss' views states
 opened_stays ss ss' views states opened was = record {
   these = still_of ss ss' views opened.tables was.these;
@@ -56,7 +55,7 @@ each_set tables rows main (w ∷ ws) (x ∷ xs) (suc k) v s is below here curren
 
 pub refreshed :
     (ss ss' : List Store) (views : List View) (states : List ViewState) (k : ℕ) (v : View) (s : ViewState)
-    → Opened ss ss' → v ≡ get_or views k v → k < length views
+    → HaveSameRows ss ss' → v ≡ get_or views k v → k < length views
     → IsCurrent (tables_in ss) v (side_by (tables_in ss) (rows_in ss) v) s (numbered (rows_at (rows_in ss) 0))
     → AreLive ss views states → AreLive ss' views (slice_set states k s)
 refreshed ss ss' views states k v s opened is below here was =

@@ -38,7 +38,7 @@ use Rattle.row_keys.specs.declared.faults.EditFault.{EditFault}
 use Rattle.row_keys.specs.declared.faults.EditFault.TheVariants as fault
 use Rattle.upkeep.specs.LiveEdits.{Edited, StaleByMemory, VisitsOf, WentBack}
 use Rattle.upkeep.specs.LiveParts.{AreLive, AreOf, LiveParts}
-use Rattle.upkeep.specs.Stores.{Rows, rows_at, rows_in, tables_in, visits_in}
+use Rattle.upkeep.specs.Stores.{HaveSameRows, Rows, rows_at, rows_in, tables_in, visits_in}
 use Rattle.upkeep.specs.StoreLaws.{
   rows_kept,
   rows_restored,
@@ -69,11 +69,6 @@ pub record Changed (ss : List Store) (n : ℕ) (s t : Store) : Type 0 where
   pub is : s ≡ get_or ss n s
   pub below : n < length ss
   pub same : t.table ≡ s.table
-
--- rows of these stores were opened
-pub record Opened (old new : List Store) : Type 0 where
-  pub tables : tables_in new ≡ tables_in old
-  pub rows : rows_in new ≡ rows_in old
 
 -- views that were current before a change was turned are so after it
 abbrev pub MadeCurrent : ℕ → Turn → TableChange → List Store → List View → List ViewState → List ViewState → Type 0
@@ -146,7 +141,7 @@ current_before ss views states n s t changed was =
 -- views that followed
 pub opened_live :
     (ss ss' : List Store) (views : List View) (states states' : List ViewState) (n : ℕ) (s t : Store)
-    (u : Turn) (c : TableChange) → Changed ss n s t → Opened (slice_set ss n t) ss'
+    (u : Turn) (c : TableChange) → Changed ss n s t → HaveSameRows (slice_set ss n t) ss'
     → live s.slots ≡ live (swapped u c t.slots) → MadeCurrent n u c (slice_set ss n t) views states states'
     → AreLive ss views states → AreLive ss' views states'
 opened_live ss ss' views states states' n s t u c changed opened same made was =
@@ -164,14 +159,14 @@ opened_live ss ss' views states states' n s t u c changed opened same made was =
     }
 
 pub opened_tables :
-    (ss ss' : List Store) (n : ℕ) (s t : Store) → Changed ss n s t → Opened (slice_set ss n t) ss'
+    (ss ss' : List Store) (n : ℕ) (s t : Store) → Changed ss n s t → HaveSameRows (slice_set ss n t) ss'
     → tables_in ss' ≡ tables_in ss
 opened_tables ss ss' n s t changed opened = opened.tables ∙ changed_tables ss n s t changed
 
 -- the changed store, as it is afterwards
 
 pub opened_below :
-    (ss ss' : List Store) (n : ℕ) (s t : Store) → Changed ss n s t → Opened (slice_set ss n t) ss' → n < length ss'
+    (ss ss' : List Store) (n : ℕ) (s t : Store) → Changed ss n s t → HaveSameRows (slice_set ss n t) ss' → n < length ss'
 opened_below ss ss' n s t changed opened =
     let below = changed.below in
     let one = tables_length ss in
@@ -180,14 +175,14 @@ opened_below ss ss' n s t changed opened =
     omega (arith, below, one, two, equal)
 
 pub found_slots :
-    (ss ss' : List Store) (n : ℕ) (s t v : Store) → Changed ss n s t → Opened (slice_set ss n t) ss'
+    (ss ss' : List Store) (n : ℕ) (s t v : Store) → Changed ss n s t → HaveSameRows (slice_set ss n t) ss'
     → v ≡ get_or ss' n v → v.slots ≡ t.slots
 found_slots ss ss' n s t v changed opened is =
     sym (rows_there ss' n v is (opened_below ss ss' n s t changed opened))
     ∙ ap (λ (rs : Rows). rows_at rs n) opened.rows ∙ rows_now ss n t changed.below
 
 pub found_table :
-    (ss ss' : List Store) (n : ℕ) (s t v : Store) → Changed ss n s t → Opened (slice_set ss n t) ss'
+    (ss ss' : List Store) (n : ℕ) (s t v : Store) → Changed ss n s t → HaveSameRows (slice_set ss n t) ss'
     → v ≡ get_or ss' n v → v.table ≡ s.table
 found_table ss ss' n s t v changed opened is =
     sym (table_there ss' n v is (opened_below ss ss' n s t changed opened))
@@ -196,7 +191,7 @@ found_table ss ss' n s t v changed opened is =
 
 -- its change can be turned again
 pub swaps_found : (ss ss' : List Store) (n : ℕ) (s t v : Store) (u : Turn) (c : TableChange) → Changed ss n s t
-    → Opened (slice_set ss n t) ss' → v ≡ get_or ss' n v → CanSwap u t.table c t.slots → CanSwap u v.table c v.slots
+    → HaveSameRows (slice_set ss n t) ss' → v ≡ get_or ss' n v → CanSwap u t.table c t.slots → CanSwap u v.table c v.slots
 swaps_found ss ss' n s t v u c changed opened is can =
     subst (λ (slots : List Slot). CanSwap u v.table c slots) (sym (found_slots ss ss' n s t v changed opened is))
     (subst (λ (x : Table). CanSwap u x c t.slots) (changed.same
@@ -221,14 +216,14 @@ forgotten_live t c can = ap live can.1.forgets ∙ sym can.1.live_same
 
 pub restored_tables :
     (ss ss' : List Store) (n : ℕ) (s t v u : Store) (g : List Slot → List Slot) → Changed ss n s t
-    → Opened (slice_set ss n t) ss' → v ≡ get_or ss' n v → u ≡ with_slots v (g v.slots)
+    → HaveSameRows (slice_set ss n t) ss' → v ≡ get_or ss' n v → u ≡ with_slots v (g v.slots)
     → tables_in (slice_set ss' n u) ≡ tables_in ss
 restored_tables ss ss' n s t v u g changed opened is done =
     tables_set ss' n v u is (ap (λ (x : Store). x.table) done) ∙ opened_tables ss ss' n s t changed opened
 
 pub restored_rows :
     (ss ss' : List Store) (n : ℕ) (s t v u : Store) (g : List Slot → List Slot) → Changed ss n s t
-    → Opened (slice_set ss n t) ss' → v ≡ get_or ss' n v → u ≡ with_slots v (g v.slots) → g t.slots ≡ s.slots
+    → HaveSameRows (slice_set ss n t) ss' → v ≡ get_or ss' n v → u ≡ with_slots v (g v.slots) → g t.slots ≡ s.slots
     → rows_in (slice_set ss' n u) ≡ rows_in ss
 restored_rows ss ss' n s t v u g changed opened is done undone =
     let was : List Slot = rows_at (rows_in ss) n in
@@ -242,7 +237,7 @@ restored_rows ss ss' n s t v u g changed opened is done undone =
 
 pub restored_live :
     (ss ss' : List Store) (views : List View) (states states' : List ViewState) (n : ℕ) (s t v u : Store)
-    (g : List Slot → List Slot) (w : Turn) (c : TableChange) → Changed ss n s t → Opened (slice_set ss n t) ss'
+    (g : List Slot → List Slot) (w : Turn) (c : TableChange) → Changed ss n s t → HaveSameRows (slice_set ss n t) ss'
     → live s.slots ≡ live (swapped w c t.slots) → LeftCurrent n w c (slice_set ss n t) views states states'
     → v ≡ get_or ss' n v → u ≡ with_slots v (g v.slots)
     → g t.slots ≡ s.slots → AreLive ss views states → AreLive (slice_set ss' n u) views states'
@@ -286,7 +281,7 @@ set_twice (r ∷ rs) (suc n) a b = ap (λ xs. r ∷ xs) (set_twice rs n a b)
 
 pub shrunk_rows :
     (ss ss' : List Store) (n : ℕ) (s t v u : Store) (g f : List Slot → List Slot) → Changed ss n s t
-    → Opened (slice_set ss n t) ss' → v ≡ get_or ss' n v → u ≡ with_slots v (g v.slots) → g t.slots ≡ f s.slots
+    → HaveSameRows (slice_set ss n t) ss' → v ≡ get_or ss' n v → u ≡ with_slots v (g v.slots) → g t.slots ≡ f s.slots
     → rows_in (slice_set ss' n u) ≡ slice_set (rows_in ss) n (f (rows_at (rows_in ss) n))
 shrunk_rows ss ss' n s t v u g f changed opened is done taken =
     rows_set ss' n u
@@ -313,7 +308,7 @@ touched_side tables views rows (suc n) c side = refl
 -- those that refer to keys of a table whose change was made
 pub opened_after :
     (ss ss' : List Store) (views : List View) (states states' : List ViewState) (n : ℕ) (s t : Store) (c : TableChange)
-    → 0 < n → Changed ss n s t → Opened (slice_set ss n t) ss'
+    → 0 < n → Changed ss n s t → HaveSameRows (slice_set ss n t) ss'
     → visits_in ss' ≤ visits_in (slice_set ss n t) + length views
     * count_by (refers (width_in (tables_in (slice_set ss n t))) views n
     (named_keys (table_at (tables_in (slice_set ss n t)) n) c
@@ -446,7 +441,7 @@ edit_refused ss views states n s t e f side changed makes = record {
 
 pub edit_made :
     (ss ss' : List Store) (views : List View) (states states' : List ViewState) (n : ℕ) (s t : Store) (e : TableEdit)
-    (change : TableChange) → Changed ss n s t → Opened (slice_set ss n t) ss'
+    (change : TableChange) → Changed ss n s t → HaveSameRows (slice_set ss n t) ss'
     → Makes s.table e s.slots t.slots (Ok change) → IsChangeOf n change → stale_in states' ≡ stale_in states
     → OpensOnce (parts ss views states) (touched (tables_in ss) views (rows_in ss') n change) (parts ss' views states')
     → Edited n e (parts ss views states) (parts ss' views states') (Ok change)
@@ -490,7 +485,7 @@ edit_restored ss ss' views states states' n e rows tables =
 
 pub can_restore :
     (ss ss' : List Store) (n : ℕ) (s t v : Store) (change : TableChange) → Changed ss n s t
-    → Opened (slice_set ss n t) ss' → v ≡ get_or ss' n v → CanGoBack s.table change t.slots
+    → HaveSameRows (slice_set ss n t) ss' → v ≡ get_or ss' n v → CanGoBack s.table change t.slots
     → CanGoBack v.table change v.slots
 can_restore ss ss' n s t v change changed opened is can =
     let P : Table → Type 0 = λ x. CanGoBack x change t.slots in

@@ -5,7 +5,7 @@ use Rattle.view_lang.specs.Config.{Table, View}
 use Rattle.view_lang.specs.ConfigRules.{IsView}
 use Rattle.row_keys.specs.Slots.{Slot}
 use Rattle.row_keys.specs.Store.{Store, with_slots}
-use Rattle.upkeep.specs.Stores.{Rows, rows_at, rows_in, tables_in}
+use Rattle.upkeep.specs.Stores.{HaveSameRows, Rows, rows_at, rows_in, tables_in}
 use Rattle.upkeep.specs.StoreLaws.{rows_restored, rows_set, rows_there, tables_length, tables_set}
 use Rattle.upkeep.specs.Swaps.{opposite, swapped}
 use Rattle.upkeep.specs.ViewStates.{swapped_at}
@@ -36,11 +36,6 @@ kept_store [] n s t is same = refl
 kept_store (x ∷ xs) zero s t is same = ap (λ (y : Store). y ∷ xs) (same ∙ is)
 kept_store (x ∷ xs) (suc n) s t is same = ap (λ (ys : List Store). x ∷ ys) (kept_store xs n s t is same)
 
--- stores that were opened since then
-pub record Since (ss ss' : List Store) (n : ℕ) (t : Store) : Type 0 where
-  pub tables : tables_in ss' ≡ tables_in (slice_set ss n t)
-  pub rows : rows_in ss' ≡ rows_in (slice_set ss n t)
-
 pub still_below : (ss ss' : List Store) (n : ℕ) → tables_in ss' ≡ tables_in ss → n < length ss → n < length ss'
 still_below ss ss' n same below =
     let a = tables_length ss in
@@ -51,7 +46,7 @@ still_below ss ss' n same below =
 -- Where the store is turned back, its rows are those that were there.
 pub back_tables :
     (ss ss' : List Store) (n : ℕ) (u w : Turn) (c : TableChange) (s t s' t' : Store) → Turned ss n u c s t
-    → Since ss ss' n t → s' ≡ get_or ss' n s' → t' ≡ with_slots s' (swapped w c s'.slots)
+    → HaveSameRows (slice_set ss n t) ss' → s' ≡ get_or ss' n s' → t' ≡ with_slots s' (swapped w c s'.slots)
     → tables_in (slice_set ss' n t') ≡ tables_in ss
 back_tables ss ss' n u w c s t s' t' turned since is slots =
     tables_set ss' n s' t' is (ap (λ (x : Store). x.table) slots)
@@ -59,7 +54,7 @@ back_tables ss ss' n u w c s t s' t' turned since is slots =
 
 pub back_rows :
     (ss ss' : List Store) (n : ℕ) (u w : Turn) (c : TableChange) (s t s' t' : Store) → Turned ss n u c s t
-    → Since ss ss' n t → s' ≡ get_or ss' n s' → t' ≡ with_slots s' (swapped w c s'.slots)
+    → HaveSameRows (slice_set ss n t) ss' → s' ≡ get_or ss' n s' → t' ≡ with_slots s' (swapped w c s'.slots)
     → w ≡ opposite u → swapped (opposite u) c t.slots ≡ s.slots → rows_in (slice_set ss' n t') ≡ rows_in ss
 back_rows ss ss' n u w c s t s' t' turned since is slots other back =
     let same = since.tables ∙ turned_tables ss n u c s t turned in

@@ -1,5 +1,5 @@
 -- The tables of stores, and the rows that they hold.
-use Rattle.std.specs.Prelude.{ℕ, List, [], get_or, map, slice_set}
+use Rattle.std.specs.Prelude.{◌≡◌, ℕ, List, [], get_or, map, slice_set}
 use Rattle.view_lang.specs.Config.{Table}
 use Rattle.view_lang.specs.World.{World, no_table}
 use Rattle.row_keys.specs.Slots.{Slot, contents_of, released}
@@ -25,6 +25,11 @@ rows_in stores = map (λ s. s.slots) stores
 -- how often a row of the main table was opened
 abbrev pub visits_in : List Store → ℕ
 visits_in stores = (get_or stores 0 (no_rows no_table)).visits
+
+-- Stores have the tables and the rows that they had. How often rows were opened may differ.
+pub record HaveSameRows (before after : List Store) : Type 0 where
+  pub tables : tables_in after ≡ tables_in before
+  pub rows : rows_in after ≡ rows_in before
 
 -- the rows of all tables, when some of table k are gone
 abbrev pub released_at : ℕ → List ℕ → Rows → Rows

@@ -7,7 +7,7 @@ ghost use Rattle.view_lang.specs.Config.{Table};
 ghost use Rattle.view_lang.specs.Shifts.{Fits, IsFew, NumberedRows, patched};
 ghost use Rattle.upkeep.specs.Arrivals.{EachTells, last_rows, rows_of_numbers};
 ghost use Rattle.upkeep.specs.LiveParts.{AreOf};
-ghost use Rattle.upkeep.specs.Stores.{Rows, rows_at, rows_in, tables_in, visits_in};
+ghost use Rattle.upkeep.specs.Stores.{HaveSameRows, Rows, rows_at, rows_in, tables_in, visits_in};
 ghost use Rattle.upkeep.specs.ViewStates.{EachIsCurrent, stale_in, turned, turned_last, width_in};
 
 use crate::arrivals::{Arrival, arrival_at};
@@ -94,8 +94,7 @@ fn follow_each(
         (patched rows (turned turn (rows_at (rows_in stores.old.items) 0) numbers.now)) views.now states.new.items) }
     ensures stale { OnOk result (stale_in states.new.items ≡ stale_in states.old.items) }
     ensures many { length states.new.items ≡ length states.old.items }
-    ensures tables { tables_in stores.new.items ≡ tables_in stores.old.items }
-    ensures rows { rows_in stores.new.items ≡ rows_in stores.old.items }
+    ensures same_rows { HaveSameRows stores.old.items stores.new.items }
     ensures visits { visits_in stores.new.items
         ≤ visits_in stores.old.items + length views.now * length numbers.now }
 {
@@ -139,8 +138,7 @@ pub(crate) fn follow_all(
     ensures stale { OnOk result (stale_in states.new.items ≡ stale_in states.old.items) }
     ensures err { OnErr result ((tables : List Table) → (rows : Rows) → (live : NumberedRows)
         → EachIsCurrent tables rows live views.now states.new.items) }
-    ensures tables { tables_in stores.new.items ≡ tables_in stores.old.items }
-    ensures rows { rows_in stores.new.items ≡ rows_in stores.old.items }
+    ensures same_rows { HaveSameRows stores.old.items stores.new.items }
     ensures visits { visits_in stores.new.items
         ≤ visits_in stores.old.items + length views.now * length numbers.now }
 {
@@ -181,8 +179,7 @@ fn follow_these(
     ensures stale { OnOk result (stale_in states.new.items ≡ stale_in states.old.items) }
     ensures err { OnErr result ((tables : List Table) → (rows : Rows) → (live : NumberedRows)
         → EachIsCurrent tables rows live views.now states.new.items) }
-    ensures tables { tables_in stores.new.items ≡ tables_in stores.old.items }
-    ensures rows { rows_in stores.new.items ≡ rows_in stores.old.items }
+    ensures same_rows { HaveSameRows stores.old.items stores.new.items }
     ensures visits { visits_in stores.new.items ≤ visits_in stores.old.items + length views.now * count }
 {
     follow_all(alloc, stores, views, states, turn, numbers, arrivals)
@@ -214,8 +211,7 @@ pub(crate) fn follow_last(
     ensures stale { OnOk result (stale_in states.new.items ≡ stale_in states.old.items) }
     ensures err { OnErr result ((tables : List Table) → (rows : Rows) → (live : NumberedRows)
         → EachIsCurrent tables rows live views.now states.new.items) }
-    ensures tables { tables_in stores.new.items ≡ tables_in stores.old.items }
-    ensures rows { rows_in stores.new.items ≡ rows_in stores.old.items }
+    ensures same_rows { HaveSameRows stores.old.items stores.new.items }
     ensures visits { visits_in stores.new.items ≤ visits_in stores.old.items + length views.now * count }
 {
     // One number takes no memory.

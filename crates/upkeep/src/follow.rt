@@ -27,7 +27,7 @@ ghost use Rattle.row_keys.specs.Numbered.{numbered};
 ghost use Rattle.row_keys.specs.Slots.{live, no_slot, row_of};
 ghost use Rattle.upkeep.specs.Arrivals.{Tells, TellsOf, opened_at, opened_first, rows_of_numbers};
 ghost use Rattle.upkeep.specs.Inputs.{side_by};
-ghost use Rattle.upkeep.specs.Stores.{rows_at, rows_in, tables_in, visits_in};
+ghost use Rattle.upkeep.specs.Stores.{HaveSameRows, rows_at, rows_in, tables_in, visits_in};
 ghost use Rattle.upkeep.specs.ViewStates.{
   IsCurrent,
   IsDroppedLink,
@@ -158,8 +158,7 @@ fn follow_number(
         (link_change (rows_at (rows_in stores.old.items) 0) state.old.links view.now turn (number ∷ [])))) }
     ensures form { OnOk result (form_of state.new.links ≡ form_of state.old.links) }
     ensures stale { state.new.stale ≡ state.old.stale }
-    ensures tables { tables_in stores.new.items ≡ tables_in stores.old.items }
-    ensures rows { rows_in stores.new.items ≡ rows_in stores.old.items }
+    ensures same_rows { HaveSameRows stores.old.items stores.new.items }
     ensures visits { visits_in stores.new.items ≤ visits_in stores.old.items + opened_at arrival.now index }
 {
     if is_gone(stores, turn, number) {
@@ -210,8 +209,7 @@ fn follow_numbers(
         (link_change (rows_at (rows_in stores.old.items) 0) state.old.links view.now turn numbers.now))) }
     ensures form { OnOk result (form_of state.new.links ≡ form_of state.old.links) }
     ensures stale { state.new.stale ≡ state.old.stale }
-    ensures tables { tables_in stores.new.items ≡ tables_in stores.old.items }
-    ensures rows { rows_in stores.new.items ≡ rows_in stores.old.items }
+    ensures same_rows { HaveSameRows stores.old.items stores.new.items }
     ensures visits { visits_in stores.new.items
         ≤ visits_in stores.old.items + opened_first arrival.now (length numbers.now) }
 {
@@ -262,8 +260,7 @@ pub(crate) fn follow(
     ensures stale { OnOk result (state.new.stale ≡ state.old.stale) }
     ensures left { state.old.stale ≡ true → state.new ≡ state.old }
     ensures err { OnErr result (state.new.stale ≡ true) }
-    ensures tables { tables_in stores.new.items ≡ tables_in stores.old.items }
-    ensures rows { rows_in stores.new.items ≡ rows_in stores.old.items }
+    ensures same_rows { HaveSameRows stores.old.items stores.new.items }
     ensures visits { visits_in stores.new.items ≤ visits_in stores.old.items + length numbers.now }
     ensures opened { visits_in stores.new.items
         ≤ visits_in stores.old.items + opened_first arrival.now (length numbers.now) }
@@ -296,8 +293,7 @@ pub(crate) fn rebuild(
         IsCurrent (tables_in stores.old.items) view.now
         (side_by (tables_in stores.old.items) (rows_in stores.old.items) view.now) state
         (numbered (rows_at (rows_in stores.old.items) 0))) }
-    ensures tables { tables_in stores.new.items ≡ tables_in stores.old.items }
-    ensures rows { rows_in stores.new.items ≡ rows_in stores.old.items }
+    ensures same_rows { HaveSameRows stores.old.items stores.new.items }
     ensures visits { visits_in stores.new.items
         ≤ visits_in stores.old.items + length (live (rows_at (rows_in stores.old.items) 0)) }
 {

@@ -41,7 +41,7 @@ ghost use Rattle.upkeep.specs.Inputs.{side_by};
 ghost use Rattle.upkeep.specs.LiveParts.{AreOf, store_at, view_at};
 ghost use Rattle.upkeep.specs.LiveEdits.{Edited, NoneBecomesStale, WentBack};
 ghost use Rattle.upkeep.specs.Shown.{IsLiveAt, Shows};
-ghost use Rattle.upkeep.specs.Stores.{rows_at, rows_in, tables_in, visits_in};
+ghost use Rattle.upkeep.specs.Stores.{HaveSameRows, rows_at, rows_in, tables_in, visits_in};
 ghost use Rattle.row_keys.specs.TableChanges.{CanGoBack, IsBatchOf, IsChangeOf, back, change_by, restores};
 ghost use Rattle.upkeep.specs.Stores.{released_at};
 ghost use Rattle.upkeep.specs.TablesParts.{AreLiveParts, live_with};
@@ -434,8 +434,7 @@ impl LiveTables {
     /// Builds a view anew if it is stale.
     fn refresh(&mut self, place: usize) -> Result<(), AllocError>
         requires { place < length self.old.views }
-        ensures tables { tables_in self.new.stores ≡ tables_in self.old.stores }
-        ensures rows { rows_in self.new.stores ≡ rows_in self.old.stores }
+        ensures same_rows { HaveSameRows self.old.stores self.new.stores }
         ensures views { self.new.views ≡ self.old.views }
         ensures stale { OnOk result (self.new.stale ≡ slice_set self.old.stale place false) }
         ensures err { OnErr result (self.new.stale ≡ self.old.stale) }
@@ -459,8 +458,7 @@ impl LiveTables {
         ensures viewed { IfOk result (λ shown. Viewed (tables_in self.old.stores) (view_at self.old.views place)
             (side_by (tables_in self.old.stores) (rows_in self.old.stores) (view_at self.old.views place))
             (live (rows_at (rows_in self.old.stores) 0))) }
-        ensures tables { tables_in self.new.stores ≡ tables_in self.old.stores }
-        ensures same_rows { rows_in self.new.stores ≡ rows_in self.old.stores }
+        ensures same_rows { HaveSameRows self.old.stores self.new.stores }
         ensures views { self.new.views ≡ self.old.views }
         ensures stale { OnOk result (self.new.stale ≡ slice_set self.old.stale place false) }
         ensures none_stale { NoneBecomesStale self.old.stale self.new.stale }

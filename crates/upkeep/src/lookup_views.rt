@@ -8,7 +8,7 @@ ghost use Rattle.view_lang.specs.TableRules.{IsSideTable};
 ghost use Rattle.view_lang.specs.World.{table_at};
 ghost use Rattle.row_keys.specs.Slots.{live, row_of};
 ghost use Rattle.upkeep.specs.LiveParts.{AreOf};
-ghost use Rattle.upkeep.specs.Stores.{Rows, rows_at, rows_in, tables_in, visits_in};
+ghost use Rattle.upkeep.specs.Stores.{HaveSameRows, Rows, rows_at, rows_in, tables_in, visits_in};
 ghost use Rattle.upkeep.specs.Swaps.{CanSwap};
 ghost use Rattle.row_keys.specs.HiddenChanges.{named_keys};
 ghost use Rattle.upkeep.specs.Touched.{opened_for, refers, refers_by};
@@ -87,8 +87,7 @@ fn remake_rows(
         → IsKept view.now kept.new (patched rows
         (remade_change (tables_in stores.old.items) (rows_in stores.old.items) view.now table turn change.now
         numbers.now))) }
-    ensures tables { tables_in stores.new.items ≡ tables_in stores.old.items }
-    ensures rows { rows_in stores.new.items ≡ rows_in stores.old.items }
+    ensures same_rows { HaveSameRows stores.old.items stores.new.items }
     ensures visits { visits_in stores.new.items ≤ visits_in stores.old.items + length numbers.now }
 {
     if let Kept::Live = kept {
@@ -129,8 +128,7 @@ fn follow_lookup(
         → IsCurrentWith (tables_in stores.old.items) (rows_in stores.old.items) view.now state.new) }
     ensures stale { OnOk result (state.new.stale ≡ state.old.stale) }
     ensures err { OnErr result (looks_up view.now.lookup table ≡ true) }
-    ensures tables { tables_in stores.new.items ≡ tables_in stores.old.items }
-    ensures rows { rows_in stores.new.items ≡ rows_in stores.old.items }
+    ensures same_rows { HaveSameRows stores.old.items stores.new.items }
     ensures visits { visits_in stores.new.items ≤ visits_in stores.old.items
         + count_by (opened_for (width_in (tables_in stores.old.items)) view.now table
         (named_keys (table_at (tables_in stores.old.items) table) change.now
@@ -204,8 +202,7 @@ fn follow_lookups_of(
     ensures err_stale { OnErr result (stale_in states.new.items
         ≡ stale_in (lookups_stale table views.now states.old.items)) }
     ensures many { length states.new.items ≡ length states.old.items }
-    ensures tables { tables_in stores.new.items ≡ tables_in stores.old.items }
-    ensures rows { rows_in stores.new.items ≡ rows_in stores.old.items }
+    ensures same_rows { HaveSameRows stores.old.items stores.new.items }
     ensures visits { visits_in stores.new.items ≤ visits_in stores.old.items + length views.now
         * count_by (refers (width_in (tables_in stores.old.items)) views.now table
         (named_keys (table_at (tables_in stores.old.items) table) change.now
@@ -259,8 +256,7 @@ pub(crate) fn follow_lookups(
     ensures err_stale { OnErr result (stale_in states.new.items
         ≡ stale_in (lookups_stale table views.now states.old.items)) }
     ensures many { length states.new.items ≡ length states.old.items }
-    ensures tables { tables_in stores.new.items ≡ tables_in stores.old.items }
-    ensures rows { rows_in stores.new.items ≡ rows_in stores.old.items }
+    ensures same_rows { HaveSameRows stores.old.items stores.new.items }
     ensures visits { visits_in stores.new.items ≤ visits_in stores.old.items + length views.now
         * count_by (refers (width_in (tables_in stores.old.items)) views.now table
         (named_keys (table_at (tables_in stores.old.items) table) change.now

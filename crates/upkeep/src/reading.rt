@@ -22,7 +22,7 @@ ghost use Rattle.upkeep.specs.Reading.{
   LiveAreShown,
   made_at,
 };
-ghost use Rattle.upkeep.specs.Stores.{rows_at, rows_in, tables_in, visits_in};
+ghost use Rattle.upkeep.specs.Stores.{HaveSameRows, rows_at, rows_in, tables_in, visits_in};
 ghost use Rattle.upkeep.specs.Touched.{opened_of};
 ghost use Rattle.upkeep.specs.Shown.{Shows};
 ghost use Rattle.upkeep.specs.ViewStates.{IsCurrent, is_plain, made_row, width_in};
@@ -68,8 +68,7 @@ fn make_row(
     ensures row { IfOk result (λ made. option_map (λ r. r.items) made
         ≡ made_row view.now (side_by (tables_in stores.old.items) (rows_in stores.old.items) view.now)
         (row_of (rows_at (rows_in stores.old.items) 0) number)) }
-    ensures tables { tables_in stores.new.items ≡ tables_in stores.old.items }
-    ensures rows { rows_in stores.new.items ≡ rows_in stores.old.items }
+    ensures same_rows { HaveSameRows stores.old.items stores.new.items }
     ensures visits { visits_in stores.new.items ≤ visits_in stores.old.items + 1 }
 {
     let visit = stores[0].visit(number);
@@ -108,8 +107,7 @@ fn make_rows(
     ensures rows { IfOk result (λ made. rows_of made.items
         ≡ made_at view.now (side_by (tables_in stores.old.items) (rows_in stores.old.items) view.now)
         (rows_at (rows_in stores.old.items) 0) numbers.now) }
-    ensures tables { tables_in stores.new.items ≡ tables_in stores.old.items }
-    ensures same_rows { rows_in stores.new.items ≡ rows_in stores.old.items }
+    ensures same_rows { HaveSameRows stores.old.items stores.new.items }
     ensures visits { visits_in stores.new.items ≤ visits_in stores.old.items + length numbers.now }
 {
     let mut keys = KeyBuffer::new(alloc);
@@ -174,8 +172,7 @@ fn show_columns(
         (rows_at (rows_in stores.old.items) 0) shown
         (view_rows view.now (side_by (tables_in stores.old.items) (rows_in stores.old.items) view.now)
         (live (rows_at (rows_in stores.old.items) 0)))) }
-    ensures tables { tables_in stores.new.items ≡ tables_in stores.old.items }
-    ensures same_rows { rows_in stores.new.items ≡ rows_in stores.old.items }
+    ensures same_rows { HaveSameRows stores.old.items stores.new.items }
     ensures visits { visits_in stores.new.items ≤ visits_in stores.old.items + length numbers.items }
 {
     if !shows_stored(view, outputs, stores[0].table().columns.len()) {
@@ -206,8 +203,7 @@ fn show_numbers(
         (rows_at (rows_in stores.old.items) 0) shown
         (view_rows view.now (side_by (tables_in stores.old.items) (rows_in stores.old.items) view.now)
         (live (rows_at (rows_in stores.old.items) 0)))) }
-    ensures tables { tables_in stores.new.items ≡ tables_in stores.old.items }
-    ensures same_rows { rows_in stores.new.items ≡ rows_in stores.old.items }
+    ensures same_rows { HaveSameRows stores.old.items stores.new.items }
     ensures visits { visits_in stores.new.items ≤ visits_in stores.old.items + length (view_rows view.now
         (side_by (tables_in stores.old.items) (rows_in stores.old.items) view.now)
         (live (rows_at (rows_in stores.old.items) 0))) }
@@ -233,8 +229,7 @@ fn show_first(
         (rows_at (rows_in stores.old.items) 0) shown
         (view_rows view.now (side_by (tables_in stores.old.items) (rows_in stores.old.items) view.now)
         (live (rows_at (rows_in stores.old.items) 0)))) }
-    ensures tables { tables_in stores.new.items ≡ tables_in stores.old.items }
-    ensures same_rows { rows_in stores.new.items ≡ rows_in stores.old.items }
+    ensures same_rows { HaveSameRows stores.old.items stores.new.items }
     ensures visits { visits_in stores.new.items ≤ visits_in stores.old.items + length (view_rows view.now
         (side_by (tables_in stores.old.items) (rows_in stores.old.items) view.now)
         (live (rows_at (rows_in stores.old.items) 0))) }
@@ -253,8 +248,7 @@ fn show_live(alloc: Global, stores: &mut Vec<RowStore>, view: &View) -> Result<S
         (rows_at (rows_in stores.old.items) 0) shown
         (view_rows view.now (side_by (tables_in stores.old.items) (rows_in stores.old.items) view.now)
         (live (rows_at (rows_in stores.old.items) 0)))) }
-    ensures tables { tables_in stores.new.items ≡ tables_in stores.old.items }
-    ensures same_rows { rows_in stores.new.items ≡ rows_in stores.old.items }
+    ensures same_rows { HaveSameRows stores.old.items stores.new.items }
     ensures visits { visits_in stores.new.items ≤ visits_in stores.old.items + length (view_rows view.now
         (side_by (tables_in stores.old.items) (rows_in stores.old.items) view.now)
         (live (rows_at (rows_in stores.old.items) 0))) }
@@ -294,8 +288,7 @@ pub(crate) fn show_kept(
         (rows_at (rows_in stores.old.items) 0) shown
         (view_rows view.now (side_by (tables_in stores.old.items) (rows_in stores.old.items) view.now)
         (live (rows_at (rows_in stores.old.items) 0)))) }
-    ensures tables { tables_in stores.new.items ≡ tables_in stores.old.items }
-    ensures same_rows { rows_in stores.new.items ≡ rows_in stores.old.items }
+    ensures same_rows { HaveSameRows stores.old.items stores.new.items }
     ensures visits { visits_in stores.new.items ≤ visits_in stores.old.items + opened_of view.now
         (side_by (tables_in stores.old.items) (rows_in stores.old.items) view.now)
         (rows_at (rows_in stores.old.items) 0) }

@@ -5,7 +5,7 @@ ghost use Rattle.std.specs.Option.{option_map};
 ghost use Rattle.view_lang.specs.Shifts.{Fits, IsFew, NumberedRows, patched, shift};
 ghost use Rattle.upkeep.specs.AlikeRows.{are_kept_alike};
 ghost use Rattle.upkeep.specs.SideRows.{side_of_rows, sided_cells};
-ghost use Rattle.upkeep.specs.Stores.{rows_at, rows_in, tables_in, visits_in};
+ghost use Rattle.upkeep.specs.Stores.{HaveSameRows, rows_at, rows_in, visits_in};
 ghost use Rattle.upkeep.specs.ViewStates.{IsKept, made_by, made_row, remade_by};
 
 use crate::alike::is_kept_alike;
@@ -91,8 +91,7 @@ fn remake_number(
         (remade_by (made_row view.now (side_of_rows sides.now.before.entries))
         (made_row view.now (side_of_rows sides.now.after.entries)) (rows_at (rows_in stores.old.items) 0)
         (number ∷ [])))) }
-    ensures tables { tables_in stores.new.items ≡ tables_in stores.old.items }
-    ensures rows { rows_in stores.new.items ≡ rows_in stores.old.items }
+    ensures same_rows { HaveSameRows stores.old.items stores.new.items }
     ensures visits { visits_in stores.new.items ≤ visits_in stores.old.items + 1 }
 {
     let visit = stores[0].visit(number);
@@ -130,8 +129,7 @@ pub(crate) fn remake_numbers(
         (remade_by (made_row view.now (side_of_rows sides.now.before.entries))
         (made_row view.now (side_of_rows sides.now.after.entries)) (rows_at (rows_in stores.old.items) 0)
         numbers.now))) }
-    ensures tables { tables_in stores.new.items ≡ tables_in stores.old.items }
-    ensures rows { rows_in stores.new.items ≡ rows_in stores.old.items }
+    ensures same_rows { HaveSameRows stores.old.items stores.new.items }
     ensures visits { visits_in stores.new.items ≤ visits_in stores.old.items + length numbers.now }
 {
     let mut keys = KeyBuffer::new(alloc);

@@ -16,7 +16,7 @@ ghost use Rattle.row_keys.specs.Numbered.{numbered};
 ghost use Rattle.sub_groups.specs.Places.{stand_row};
 ghost use Rattle.upkeep.specs.Inputs.{side_by};
 ghost use Rattle.upkeep.specs.Moves.{AreGrouped, AreParted, CanMove, after_move, before_move, made_but, out_at};
-ghost use Rattle.upkeep.specs.Stores.{rows_at, rows_in, tables_in, visits_in, world_of};
+ghost use Rattle.upkeep.specs.Stores.{HaveSameRows, rows_at, rows_in, tables_in, visits_in, world_of};
 ghost use Rattle.upkeep.specs.Swaps.{CanSwap};
 ghost use Rattle.upkeep.specs.ViewStates.{
   AreLinks,
@@ -252,8 +252,7 @@ pub(crate) fn move_sub_groups(
     ensures kept { OnOk result (IsKept view.now kept.new (image (made_row view.now (side_by (tables_in stores.old.items)
         (rows_in stores.old.items) view.now)) (numbered (rows_at (rows_in stores.old.items) 0)))) }
     ensures columns { OnOk result (columns_in kept.new ≡ columns_in kept.old) }
-    ensures tables { tables_in stores.new.items ≡ tables_in stores.old.items }
-    ensures rows { rows_in stores.new.items ≡ rows_in stores.old.items }
+    ensures same_rows { HaveSameRows stores.old.items stores.new.items }
     ensures visits { visits_in stores.new.items ≡ visits_in stores.old.items }
 {
     // They do nothing: the proof takes from them what the rows of the main table are.

@@ -1,6 +1,6 @@
 use Rattle.std.proofs.Common.{◌≡◌, ◌≤◌, ◌+◌, ◌*◌, length}
 use Rattle.view_lang.specs.Shifts.{Fits, NumberedRows, patched}
-use Rattle.upkeep.specs.Stores.{rows_at, rows_in, tables_in, visits_in}
+use Rattle.upkeep.specs.Stores.{HaveSameRows, rows_at, rows_in, tables_in, visits_in}
 use Rattle.upkeep.specs.ViewStates.{EachIsCurrent, stale_in, turned}
 use Rattle.upkeep.proofs.FollowedViews.{AreFollowed}
 use Rattle.upkeep.proofs.all_views.follow_each.Given as goal
@@ -14,7 +14,6 @@ invariant-loop-place l = record {
       (patched rows (turned l.turn (rows_at (rows_in l.fn.stores.items) 0) l.numbers)) l.place l.views l.states.items;
   stale : stale_in l.states.items ≡ stale_in l.fn.states.items;
   many : length l.states.items ≡ length l.fn.states.items;
-  tables : tables_in l.stores.items ≡ tables_in l.fn.stores.items;
-  rows : rows_in l.stores.items ≡ rows_in l.fn.stores.items;
+  same_rows : HaveSameRows l.fn.stores.items l.stores.items;
   visits : visits_in l.stores.items ≤ visits_in l.fn.stores.items + l.place * length l.numbers;
 }

@@ -10,6 +10,7 @@ use Rattle.upkeep.specs.Stores.{Rows, rows_at, rows_in, tables_in}
 use Rattle.upkeep.specs.ViewStates.{IsKept, KeepsLinks, link_change, link_row, made_change, made_row, turned}
 use Rattle.upkeep.specs.declared.view_state.Links.{Links}
 use Rattle.upkeep.proofs.ArrivalRows.{opened_grows, opened_next, tells_one}
+use Rattle.upkeep.proofs.ChangedStores.{still_same}
 use Rattle.upkeep.proofs.FollowedRows.{links_same}
 use Rattle.upkeep.proofs.RowByRow.{at_stores, kept_all, kept_more, next_needs}
 use Rattle.upkeep.proofs.follow.follow_numbers.Goals as goal
@@ -17,7 +18,7 @@ use Rattle.upkeep.proofs.follow.follow_numbers.Goals as goal
 pub follow_number-requires-clause-known : goal.follow_number-requires-clause-known
 follow_number-requires-clause-known c =
     subst (λ (rs : Rows). TellsOf c.args.view.now c.args.arrival.now c.loop-index.index
-    (row_of (rows_at rs 0) (get_or c.args.numbers.now c.loop-index.index 0))) (sym c.loop-index.invariant.rows)
+    (row_of (rows_at rs 0) (get_or c.args.numbers.now c.loop-index.index 0))) (sym c.loop-index.invariant.same_rows.rows)
     (tells_one c.args.view.now c.args.arrival.now (rows_at (rows_in c.args.stores.now.items) 0) c.args.numbers.now
     c.loop-index.index c.loop-index-test.true c.requires.known)
 
@@ -32,8 +33,8 @@ follow_number-requires-clause-fits c =
     at_stores (λ (ts : List Table) (rs : Rows). (rows : NumberedRows)
     × (IsKept v c.loop-index.state.kept rows
     × (Fits rows (made_change ts rs v c.args.turn (n ∷ [])) × (length rows < 2 ^ 62))))
-    (tables_in stores) (tables_in now) (rows_in stores) (rows_in now) (sym c.loop-index.invariant.tables)
-    (sym c.loop-index.invariant.rows)
+    (tables_in stores) (tables_in now) (rows_in stores) (rows_in now) (sym c.loop-index.invariant.same_rows.tables)
+    (sym c.loop-index.invariant.same_rows.rows)
     (next_needs (IsKept v c.args.state.now.kept) (IsKept v c.loop-index.state.kept) make
     c.args.turn slots c.args.numbers.now c.loop-index.index c.requires.fits.0 (omega (arith, c.loop-index-test.true))
     c.loop-index.invariant.kept c.requires.fits.1.0 c.requires.fits.1.1.0 c.requires.fits.1.1.1)
@@ -49,8 +50,8 @@ follow_number-requires-clause-links c =
     at_stores (λ (ts : List Table) (rs : Rows). (rows : NumberedRows)
     × (KeepsLinks c.loop-index.state.links rows
     × (Fits rows (link_change (rows_at rs 0) c.loop-index.state.links v c.args.turn (n ∷ [])) × (length rows < 2 ^ 62))))
-    (tables_in stores) (tables_in now) (rows_in stores) (rows_in now) (sym c.loop-index.invariant.tables)
-    (sym c.loop-index.invariant.rows)
+    (tables_in stores) (tables_in now) (rows_in stores) (rows_in now) (sym c.loop-index.invariant.same_rows.tables)
+    (sym c.loop-index.invariant.same_rows.rows)
     (subst (λ (h : List Datum → Option (List Datum)). (rows : NumberedRows)
     × (KeepsLinks c.loop-index.state.links rows
     × (Fits rows (map (shift_image h) (turned c.args.turn slots (n ∷ []))) × (length rows < 2 ^ 62))))
@@ -77,8 +78,8 @@ loop-index-preserved c =
           → Fits rows (made_change ts rs v c.args.turn (n ∷ [])) → IsKept v c.loop-index.state.kept rows
           → IsKept v c.follow_number.new.state.kept
           (patched rows (made_change ts rs v c.args.turn (n ∷ []))))
-          (tables_in now) (tables_in stores) (rows_in now) (rows_in stores) c.loop-index.invariant.tables
-          c.loop-index.invariant.rows c.in_ok-follow_number.ensures.kept);
+          (tables_in now) (tables_in stores) (rows_in now) (rows_in stores) c.loop-index.invariant.same_rows.tables
+          c.loop-index.invariant.same_rows.rows c.in_ok-follow_number.ensures.kept);
       columns = c.in_ok-follow_number.ensures.columns ∙ c.loop-index.invariant.columns;
       links = kept_more (KeepsLinks l) (KeepsLinks c.loop-index.state.links)
           (KeepsLinks c.follow_number.new.state.links) (link_row l v) c.args.turn slots c.args.numbers.now
@@ -94,12 +95,11 @@ loop-index-preserved c =
           → KeepsLinks c.loop-index.state.links rows
           → KeepsLinks c.follow_number.new.state.links
           (patched rows (link_change (rows_at rs 0) c.loop-index.state.links v c.args.turn (n ∷ []))))
-          (tables_in now) (tables_in stores) (rows_in now) (rows_in stores) c.loop-index.invariant.tables
-          c.loop-index.invariant.rows c.in_ok-follow_number.ensures.links));
+          (tables_in now) (tables_in stores) (rows_in now) (rows_in stores) c.loop-index.invariant.same_rows.tables
+          c.loop-index.invariant.same_rows.rows c.in_ok-follow_number.ensures.links));
       form = c.in_ok-follow_number.ensures.form ∙ c.loop-index.invariant.form;
       stale = c.follow_number.ensures.stale ∙ c.loop-index.invariant.stale;
-      tables = c.follow_number.ensures.tables ∙ c.loop-index.invariant.tables;
-      rows = c.follow_number.ensures.rows ∙ c.loop-index.invariant.rows;
+      same_rows = still_same c.loop-index.invariant.same_rows c.follow_number.ensures.same_rows;
       visits = omega (
         arith,
         c.follow_number.ensures.visits,

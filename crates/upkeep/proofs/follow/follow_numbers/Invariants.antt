@@ -1,7 +1,7 @@
 use Rattle.std.proofs.Common.{◌≡◌, ◌≤◌, ◌+◌, take}
 use Rattle.view_lang.specs.Shifts.{Fits, NumberedRows, patched}
 use Rattle.upkeep.specs.Arrivals.{opened_first}
-use Rattle.upkeep.specs.Stores.{rows_at, rows_in, tables_in, visits_in}
+use Rattle.upkeep.specs.Stores.{HaveSameRows, rows_at, rows_in, tables_in, visits_in}
 use Rattle.upkeep.specs.ViewStates.{IsKept, KeepsLinks, columns_in, form_of, link_change, made_change}
 use Rattle.upkeep.proofs.follow.follow_numbers.Given as goal
 
@@ -22,7 +22,6 @@ invariant-loop-index l = record {
       (link_change (rows_at (rows_in l.fn.stores.items) 0) l.fn.state.links l.view l.turn l.numbers)));
   form : form_of l.state.links ≡ form_of l.fn.state.links;
   stale : l.state.stale ≡ l.fn.state.stale;
-  tables : tables_in l.stores.items ≡ tables_in l.fn.stores.items;
-  rows : rows_in l.stores.items ≡ rows_in l.fn.stores.items;
+  same_rows : HaveSameRows l.fn.stores.items l.stores.items;
   visits : visits_in l.stores.items ≤ visits_in l.fn.stores.items + opened_first l.arrival l.index;
 }

@@ -13,7 +13,7 @@ use Rattle.upkeep.specs.Swaps.{CanSwap}
 use Rattle.upkeep.specs.Touched.{opened_for, refers}
 use Rattle.upkeep.specs.ViewStates.{AreCurrent, IsBefore, IsCurrentWith, stale_in, width_in}
 use Rattle.upkeep.specs.declared.view_state.ViewState.{ViewState}
-use Rattle.upkeep.proofs.ChangedStores.{view_there}
+use Rattle.upkeep.proofs.ChangedStores.{still_same, view_there}
 use Rattle.upkeep.proofs.FollowedViews.{current_alike}
 use Rattle.upkeep.proofs.LookedUpViews.{
   all_following,
@@ -51,44 +51,44 @@ mark_lookups_stale-requires c = record {
 pub follow_lookup-requires-clause-view : goal.follow_lookup-requires-clause-view
 follow_lookup-requires-clause-view c =
     moved (λ (ts : List Table) (rs : Rows). IsView ts c.index-views-place.result) c.args.stores.now.items
-    c.loop-place.stores.items c.loop-place.invariant.tables c.loop-place.invariant.rows
+    c.loop-place.stores.items c.loop-place.invariant.same_rows.tables c.loop-place.invariant.same_rows.rows
     (view_there c.args.stores.now.items c.args.views.now c.loop-place.place c.index-views-place.result c.requires.of
     c.loop-place-test.true c.index-views-place.is)
 
 pub follow_lookup-requires-clause-main : goal.follow_lookup-requires-clause-main
 follow_lookup-requires-clause-main c =
-    let many = many_stores c.args.stores.now.items c.loop-place.stores.items c.loop-place.invariant.tables in
+    let many = many_stores c.args.stores.now.items c.loop-place.stores.items c.loop-place.invariant.same_rows.tables in
     let main = c.requires.of.main in
     omega (arith, many, main)
 
 pub follow_lookup-requires-clause-there : goal.follow_lookup-requires-clause-there
 follow_lookup-requires-clause-there c =
-    let many = many_stores c.args.stores.now.items c.loop-place.stores.items c.loop-place.invariant.tables in
+    let many = many_stores c.args.stores.now.items c.loop-place.stores.items c.loop-place.invariant.same_rows.tables in
     let there = c.requires.there in
     omega (arith, many, there)
 
 pub follow_lookup-requires-clause-swaps : goal.follow_lookup-requires-clause-swaps
 follow_lookup-requires-clause-swaps c =
     moved (λ (ts : List Table) (rs : Rows). CanSwap c.args.turn (table_at ts c.args.table) c.args.change.now
-    (rows_at rs c.args.table)) c.args.stores.now.items c.loop-place.stores.items c.loop-place.invariant.tables
-    c.loop-place.invariant.rows c.requires.swaps
+    (rows_at rs c.args.table)) c.args.stores.now.items c.loop-place.stores.items c.loop-place.invariant.same_rows.tables
+    c.loop-place.invariant.same_rows.rows c.requires.swaps
 
 pub follow_lookup-requires-clause-keys : goal.follow_lookup-requires-clause-keys
 follow_lookup-requires-clause-keys c =
     moved (λ (ts : List Table) (rs : Rows). map datum_of_key c.args.keys.now
     ≡ named_at c.args.table c.args.change.now ts rs) c.args.stores.now.items c.loop-place.stores.items
-    c.loop-place.invariant.tables c.loop-place.invariant.rows c.requires.keys
+    c.loop-place.invariant.same_rows.tables c.loop-place.invariant.same_rows.rows c.requires.keys
 
 pub follow_lookup-requires-clause-current : goal.follow_lookup-requires-clause-current
 follow_lookup-requires-clause-current c =
     let given = c.requires.current in (
       given.0,
       moved (λ (ts : List Table) (rs : Rows). IsBefore c.args.table c.args.turn c.args.change.now given.0 rs)
-          c.args.stores.now.items c.loop-place.stores.items c.loop-place.invariant.tables c.loop-place.invariant.rows
+          c.args.stores.now.items c.loop-place.stores.items c.loop-place.invariant.same_rows.tables c.loop-place.invariant.same_rows.rows
           given.1,
       moved (λ (ts : List Table) (rs : Rows). IsCurrentWith ts given.0 c.index-views-place.result
           c.index_mut.result.now)
-          c.args.stores.now.items c.loop-place.stores.items c.loop-place.invariant.tables c.loop-place.invariant.rows
+          c.args.stores.now.items c.loop-place.stores.items c.loop-place.invariant.same_rows.tables c.loop-place.invariant.same_rows.rows
           (next_following (tables_in c.args.stores.now.items) given.0 (rows_in c.args.stores.now.items)
           c.loop-place.place c.args.views.now c.loop-place.states.items c.index-views-place.result
           c.index_mut.result.now c.loop-place-test.true c.index-views-place.is c.index_mut.ensures.value
@@ -107,14 +107,14 @@ loop-place-preserved c = record {
       c.loop-place-test.true c.index-views-place.is
       (moved (λ (ts : List Table) (rs : Rows). IsCurrentWith ts rs c.index-views-place.result
       c.follow_lookup.new.state)
-      c.loop-place.stores.items c.args.stores.now.items (sym c.loop-place.invariant.tables)
-      (sym c.loop-place.invariant.rows)
+      c.loop-place.stores.items c.args.stores.now.items (sym c.loop-place.invariant.same_rows.tables)
+      (sym c.loop-place.invariant.same_rows.rows)
       (c.in_default.ensures.kept old
       (moved (λ (ts : List Table) (rs : Rows). IsBefore c.args.table c.args.turn c.args.change.now old rs)
-      c.args.stores.now.items c.loop-place.stores.items c.loop-place.invariant.tables c.loop-place.invariant.rows
+      c.args.stores.now.items c.loop-place.stores.items c.loop-place.invariant.same_rows.tables c.loop-place.invariant.same_rows.rows
       before)
       (moved (λ (ts : List Table) (rs : Rows). IsCurrentWith ts old c.index-views-place.result c.index_mut.result.now)
-      c.args.stores.now.items c.loop-place.stores.items c.loop-place.invariant.tables c.loop-place.invariant.rows
+      c.args.stores.now.items c.loop-place.stores.items c.loop-place.invariant.same_rows.tables c.loop-place.invariant.same_rows.rows
       was)))
       so_far;
   stale =
@@ -124,8 +124,7 @@ loop-place-preserved c = record {
   many =
       length-set c.loop-place.states.items c.loop-place.place c.follow_lookup.new.state
       ∙ c.loop-place.invariant.many;
-  tables = c.follow_lookup.ensures.tables ∙ c.loop-place.invariant.tables;
-  rows = c.follow_lookup.ensures.rows ∙ c.loop-place.invariant.rows;
+  same_rows = still_same c.loop-place.invariant.same_rows c.follow_lookup.ensures.same_rows;
   visits =
       opened_more (visits_in c.args.stores.now.items) (visits_in c.loop-place.stores.items)
       (visits_in c.follow_lookup.new.stores.items) c.loop-place.place
@@ -138,8 +137,8 @@ loop-place-preserved c = record {
       ≤ visits_in c.loop-place.stores.items
       + referring_at (opened_for (width_in ts) c.index-views-place.result c.args.table) c.args.table c.args.change.now ts
       rs)
-      c.loop-place.stores.items c.args.stores.now.items (sym c.loop-place.invariant.tables)
-      (sym c.loop-place.invariant.rows) c.follow_lookup.ensures.visits)
+      c.loop-place.stores.items c.args.stores.now.items (sym c.loop-place.invariant.same_rows.tables)
+      (sym c.loop-place.invariant.same_rows.rows) c.follow_lookup.ensures.visits)
       (view_counted (width_in (tables_in c.args.stores.now.items)) c.args.views.now c.loop-place.place c.index-views-place.result c.args.table
       (named_at c.args.table c.args.change.now (tables_in c.args.stores.now.items) (rows_in c.args.stores.now.items))
       (live (rows_at (rows_in c.args.stores.now.items) 0)) c.index-views-place.is c.loop-place-test.true);
@@ -189,8 +188,8 @@ returns-in-Err-clause-visits c =
     (moved (λ (ts : List Table) (rs : Rows). visits_in c.follow_lookup.new.stores.items
     ≤ visits_in c.loop-place.stores.items
     + referring_at (opened_for (width_in ts) c.index-views-place.result c.args.table) c.args.table c.args.change.now ts rs)
-    c.loop-place.stores.items c.args.stores.now.items (sym c.loop-place.invariant.tables)
-    (sym c.loop-place.invariant.rows) c.follow_lookup.ensures.visits)
+    c.loop-place.stores.items c.args.stores.now.items (sym c.loop-place.invariant.same_rows.tables)
+    (sym c.loop-place.invariant.same_rows.rows) c.follow_lookup.ensures.visits)
     (view_counted (width_in (tables_in c.args.stores.now.items)) c.args.views.now c.loop-place.place c.index-views-place.result c.args.table
     (named_at c.args.table c.args.change.now (tables_in c.args.stores.now.items) (rows_in c.args.stores.now.items))
     (live (rows_at (rows_in c.args.stores.now.items) 0)) c.index-views-place.is c.loop-place-test.true) in

@@ -1,5 +1,5 @@
 use Rattle.std.proofs.Common.{◌≡◌, ◌≤◌, ◌+◌, ◌*◌, length}
-use Rattle.upkeep.specs.Stores.{Rows, rows_in, tables_in, visits_in}
+use Rattle.upkeep.specs.Stores.{HaveSameRows, Rows, rows_in, tables_in, visits_in}
 use Rattle.upkeep.specs.Touched.{refers}
 use Rattle.upkeep.specs.ViewStates.{AreCurrent, IsBefore, stale_in, width_in}
 use Rattle.upkeep.proofs.LookedUpViews.{AreFollowing, referring_at}
@@ -13,8 +13,7 @@ invariant-loop-place l = record {
       → AreFollowing (tables_in l.fn.stores.items) old (rows_in l.fn.stores.items) l.place l.views l.states.items;
   stale : stale_in l.states.items ≡ stale_in l.fn.states.items;
   many : length l.states.items ≡ length l.fn.states.items;
-  tables : tables_in l.stores.items ≡ tables_in l.fn.stores.items;
-  rows : rows_in l.stores.items ≡ rows_in l.fn.stores.items;
+  same_rows : HaveSameRows l.fn.stores.items l.stores.items;
   visits :
       visits_in l.stores.items
       ≤ visits_in l.fn.stores.items

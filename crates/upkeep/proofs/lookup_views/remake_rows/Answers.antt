@@ -11,6 +11,7 @@ use Rattle.upkeep.specs.StoreLaws.{rows_there, table_there}
 use Rattle.upkeep.specs.Stores.{rows_at, rows_in, tables_in, visits_in}
 use Rattle.upkeep.specs.Swaps.{CanSwap}
 use Rattle.upkeep.specs.ViewStates.{IsKept}
+use Rattle.upkeep.proofs.ChangedStores.{still_same}
 use Rattle.upkeep.proofs.FollowedLookups.{on_ok}
 use Rattle.upkeep.proofs.RowByRow.{same_change}
 use Rattle.upkeep.proofs.SidesByKey.{changes_in}
@@ -74,19 +75,12 @@ returns-clause-kept c =
     (sym same) made)
     c.remake_numbers.ensures.kept
 
-pub returns-clause-tables : goal.returns-clause-tables
-returns-clause-tables c =
+pub returns-clause-same_rows : goal.returns-clause-same_rows
+returns-clause-same_rows c =
     let stores = c.args.stores.now.items in
     let kept = kept_store stores c.args.table c.index_mut.result.now c.side_rows.new.store c.index_mut.ensures.value
     c.side_rows.ensures.same in
-    c.remake_numbers.ensures.tables ∙ ap tables_in kept
-
-pub returns-clause-rows : goal.returns-clause-rows
-returns-clause-rows c =
-    let stores = c.args.stores.now.items in
-    let kept = kept_store stores c.args.table c.index_mut.result.now c.side_rows.new.store c.index_mut.ensures.value
-    c.side_rows.ensures.same in
-    c.remake_numbers.ensures.rows ∙ ap rows_in kept
+    still_same (record { tables = ap tables_in kept; rows = ap rows_in kept }) c.remake_numbers.ensures.same_rows
 
 pub returns-clause-visits : goal.returns-clause-visits
 returns-clause-visits c =
@@ -96,19 +90,12 @@ returns-clause-visits c =
     subst (λ (ss : List Store). visits_in c.remake_numbers.new.stores.items
     ≤ visits_in ss + length c.args.numbers.now) kept c.remake_numbers.ensures.visits
 
-pub returns-in_err-sides-clause-tables : goal.returns-in_err-sides-clause-tables
-returns-in_err-sides-clause-tables c =
+pub returns-in_err-sides-clause-same_rows : goal.returns-in_err-sides-clause-same_rows
+returns-in_err-sides-clause-same_rows c =
     let stores = c.args.stores.now.items in
     let kept = kept_store stores c.args.table c.index_mut.result.now c.side_rows.new.store c.index_mut.ensures.value
     c.side_rows.ensures.same in
-    ap tables_in kept
-
-pub returns-in_err-sides-clause-rows : goal.returns-in_err-sides-clause-rows
-returns-in_err-sides-clause-rows c =
-    let stores = c.args.stores.now.items in
-    let kept = kept_store stores c.args.table c.index_mut.result.now c.side_rows.new.store c.index_mut.ensures.value
-    c.side_rows.ensures.same in
-    ap rows_in kept
+    record { tables = ap tables_in kept; rows = ap rows_in kept }
 
 pub returns-in_err-sides-clause-visits : goal.returns-in_err-sides-clause-visits
 returns-in_err-sides-clause-visits c =

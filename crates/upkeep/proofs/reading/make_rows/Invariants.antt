@@ -2,7 +2,7 @@ use Rattle.std.proofs.Common.{◌≡◌, ◌≤◌, ◌+◌, take}
 use Rattle.view_lang.specs.Cells.{rows_of}
 use Rattle.upkeep.specs.Inputs.{side_by}
 use Rattle.upkeep.specs.Reading.{made_at}
-use Rattle.upkeep.specs.Stores.{rows_at, rows_in, tables_in, visits_in}
+use Rattle.upkeep.specs.Stores.{HaveSameRows, rows_at, rows_in, tables_in, visits_in}
 use Rattle.upkeep.proofs.reading.make_rows.Given as goal
 
 abbrev pub invariant-loop-number : goal.invariant-loop-number
@@ -11,7 +11,6 @@ invariant-loop-number l = record {
       rows_of l.made.items
       ≡ made_at l.view (side_by (tables_in l.fn.stores.items) (rows_in l.fn.stores.items) l.view)
       (rows_at (rows_in l.fn.stores.items) 0) (take l.number-index l.numbers);
-  tables : tables_in l.stores.items ≡ tables_in l.fn.stores.items;
-  rows : rows_in l.stores.items ≡ rows_in l.fn.stores.items;
+  same_rows : HaveSameRows l.fn.stores.items l.stores.items;
   visits : visits_in l.stores.items ≤ visits_in l.fn.stores.items + l.number-index;
 }

@@ -4,6 +4,7 @@ use Rattle.row_keys.specs.Slots.{row_of}
 use Rattle.upkeep.specs.SideRows.{side_of_rows}
 use Rattle.upkeep.specs.Stores.{Rows, rows_at, rows_in}
 use Rattle.upkeep.specs.ViewStates.{IsKept, made_row, remade_by}
+use Rattle.upkeep.proofs.ChangedStores.{still_same}
 use Rattle.upkeep.proofs.Remade.{kept_all, kept_more, next_needs}
 use Rattle.upkeep.proofs.remaking.remake_numbers.Goals as goal
 
@@ -17,7 +18,7 @@ remake_number-requires-clause-fits c =
     let n : ℕ = get_or c.args.numbers.now c.loop-index.index 0 in
     subst (λ (rs : Rows). (rows : NumberedRows) × (IsKept v c.loop-index.kept rows
     × (Fits rows (remade_by f g (rows_at rs 0) (n ∷ [])) × (length rows < 2 ^ 62))))
-    (sym c.loop-index.invariant.rows)
+    (sym c.loop-index.invariant.same_rows.rows)
     (next_needs s (IsKept v c.args.kept.now) (IsKept v c.loop-index.kept) c.args.numbers.now c.loop-index.index
     c.loop-index.invariant.kept c.requires.fits.0 c.loop-index-test.true c.requires.fits.1.0 c.requires.fits.1.1.0
     c.requires.fits.1.1.1)
@@ -36,9 +37,8 @@ loop-index-preserved c =
           (subst (λ (rs : Rows). (rows : NumberedRows)
           → Fits rows (remade_by f g (rows_at rs 0) (n ∷ [])) → IsKept v c.loop-index.kept rows
           → IsKept v c.remake_number.new.kept (patched rows (remade_by f g (rows_at rs 0) (n ∷ []))))
-          c.loop-index.invariant.rows c.in_ok-remake_number.ensures.kept);
-      tables = c.remake_number.ensures.tables ∙ c.loop-index.invariant.tables;
-      rows = c.remake_number.ensures.rows ∙ c.loop-index.invariant.rows;
+          c.loop-index.invariant.same_rows.rows c.in_ok-remake_number.ensures.kept);
+      same_rows = still_same c.loop-index.invariant.same_rows c.remake_number.ensures.same_rows;
       visits = omega (arith, c.remake_number.ensures.visits, c.loop-index.invariant.visits);
     }
 

@@ -1,7 +1,7 @@
 use Rattle.std.proofs.Common.{◌≡◌, ◌≤◌, ◌+◌, take}
 use Rattle.view_lang.specs.Shifts.{Fits, NumberedRows, patched}
 use Rattle.upkeep.specs.SideRows.{side_of_rows}
-use Rattle.upkeep.specs.Stores.{rows_at, rows_in, tables_in, visits_in}
+use Rattle.upkeep.specs.Stores.{HaveSameRows, rows_at, rows_in, visits_in}
 use Rattle.upkeep.specs.ViewStates.{IsKept, made_row, remade_by}
 use Rattle.upkeep.proofs.remaking.remake_numbers.Given as goal
 
@@ -15,7 +15,6 @@ invariant-loop-index l = record {
       → IsKept l.view l.kept (patched rows (take l.index
       (remade_by (made_row l.view (side_of_rows l.sides.before.entries))
       (made_row l.view (side_of_rows l.sides.after.entries)) (rows_at (rows_in l.fn.stores.items) 0) l.numbers)));
-  tables : tables_in l.stores.items ≡ tables_in l.fn.stores.items;
-  rows : rows_in l.stores.items ≡ rows_in l.fn.stores.items;
+  same_rows : HaveSameRows l.fn.stores.items l.stores.items;
   visits : visits_in l.stores.items ≤ visits_in l.fn.stores.items + l.index;
 }

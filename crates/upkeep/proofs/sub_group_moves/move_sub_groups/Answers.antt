@@ -34,7 +34,7 @@ use Rattle.row_keys.specs.Store.{Store}
 use Rattle.upkeep.specs.Inputs.{side_by}
 use Rattle.upkeep.specs.Moves.{AreGrouped, CanMove, made_but, out_at}
 use Rattle.upkeep.specs.StoreLaws.{rows_length, rows_there, table_there}
-use Rattle.upkeep.specs.Stores.{Rows, rows_at, rows_in, tables_in}
+use Rattle.upkeep.specs.Stores.{HaveSameRows, Rows, rows_at, rows_in, tables_in}
 use Rattle.row_keys.specs.HiddenChanges.{NamesRows, named_keys}
 use Rattle.upkeep.specs.ViewStates.{swapped_at}
 use Rattle.upkeep.specs.declared.view_state.Turn.TheVariants as turn
@@ -53,7 +53,6 @@ use Rattle.upkeep.proofs.MovedRows.{
 use Rattle.upkeep.proofs.MovedSubGroups.{still_can}
 use Rattle.upkeep.proofs.RowByRow.{at_stores}
 use Rattle.upkeep.proofs.SwappedStores.{
-  Since,
   Turned,
   back_rows,
   back_tables,
@@ -169,8 +168,8 @@ turn_sub_groups-gone-requires-clause-kept c =
           ),
     )
 
-pub returns-in_err-gone-clause-tables : goal.returns-in_err-gone-clause-tables
-returns-in_err-gone-clause-tables c =
+pub returns-in_err-gone-clause-same_rows : goal.returns-in_err-gone-clause-same_rows
+returns-in_err-gone-clause-same_rows c =
     let turned : Turned c.args.stores.now.items c.args.table c.args.turn c.args.change.now c.index_mut.result.now
     c.swap.new.store = record {
       is = c.index_mut.ensures.value;
@@ -185,7 +184,7 @@ returns-in_err-gone-clause-tables c =
     c.index_mut.result.now c.swap.new.store turned in
     let to_rows : rows_in went ≡ hidden = turned_rows stores c.args.table c.args.turn c.args.change.now
     c.index_mut.result.now c.swap.new.store turned in
-    let since : Since stores went c.args.table c.swap.new.store = record { tables = refl; rows = refl } in
+    let since : HaveSameRows went went = record { tables = refl; rows = refl } in
     let back = slice_set went c.args.table c.swap-2.new.store in
     let back_to_tables : tables_in back ≡ tables_in stores = back_tables stores went c.args.table c.args.turn
     c.opposite.result c.args.change.now c.index_mut.result.now c.swap.new.store c.index_mut-2.result.now
@@ -193,10 +192,10 @@ returns-in_err-gone-clause-tables c =
     let back_to_rows : rows_in back ≡ rows_in stores = back_rows stores went c.args.table c.args.turn c.opposite.result
     c.args.change.now c.index_mut.result.now c.swap.new.store c.index_mut-2.result.now c.swap-2.new.store turned since
     c.index_mut-2.ensures.value c.swap-2.ensures.slots c.opposite.ensures c.swap.ensures.back in
-    back_to_tables
+    record { tables = back_to_tables; rows = back_to_rows }
 
-pub returns-clause-tables : goal.returns-clause-tables
-returns-clause-tables c =
+pub returns-clause-same_rows : goal.returns-clause-same_rows
+returns-clause-same_rows c =
     let turned : Turned c.args.stores.now.items c.args.table c.args.turn c.args.change.now c.index_mut.result.now
     c.swap.new.store = record {
       is = c.index_mut.ensures.value;
@@ -211,7 +210,7 @@ returns-clause-tables c =
     c.index_mut.result.now c.swap.new.store turned in
     let to_rows : rows_in went ≡ hidden = turned_rows stores c.args.table c.args.turn c.args.change.now
     c.index_mut.result.now c.swap.new.store turned in
-    let since : Since stores went c.args.table c.swap.new.store = record { tables = refl; rows = refl } in
+    let since : HaveSameRows went went = record { tables = refl; rows = refl } in
     let back = slice_set went c.args.table c.swap-2.new.store in
     let back_to_tables : tables_in back ≡ tables_in stores = back_tables stores went c.args.table c.args.turn
     c.opposite.result c.args.change.now c.index_mut.result.now c.swap.new.store c.index_mut-2.result.now
@@ -219,59 +218,7 @@ returns-clause-tables c =
     let back_to_rows : rows_in back ≡ rows_in stores = back_rows stores went c.args.table c.args.turn c.opposite.result
     c.args.change.now c.index_mut.result.now c.swap.new.store c.index_mut-2.result.now c.swap-2.new.store turned since
     c.index_mut-2.ensures.value c.swap-2.ensures.slots c.opposite.ensures c.swap.ensures.back in
-    back_to_tables
-
-pub returns-in_err-gone-clause-rows : goal.returns-in_err-gone-clause-rows
-returns-in_err-gone-clause-rows c =
-    let turned : Turned c.args.stores.now.items c.args.table c.args.turn c.args.change.now c.index_mut.result.now
-    c.swap.new.store = record {
-      is = c.index_mut.ensures.value;
-      below = c.requires.there;
-      slots = c.swap.ensures.slots;
-    } in
-    let v = c.args.view.now in
-    let stores = c.args.stores.now.items in
-    let went = slice_set stores c.args.table c.swap.new.store in
-    let hidden = swapped_at c.args.table c.args.turn c.args.change.now (rows_in stores) in
-    let to_tables : tables_in went ≡ tables_in stores = turned_tables stores c.args.table c.args.turn c.args.change.now
-    c.index_mut.result.now c.swap.new.store turned in
-    let to_rows : rows_in went ≡ hidden = turned_rows stores c.args.table c.args.turn c.args.change.now
-    c.index_mut.result.now c.swap.new.store turned in
-    let since : Since stores went c.args.table c.swap.new.store = record { tables = refl; rows = refl } in
-    let back = slice_set went c.args.table c.swap-2.new.store in
-    let back_to_tables : tables_in back ≡ tables_in stores = back_tables stores went c.args.table c.args.turn
-    c.opposite.result c.args.change.now c.index_mut.result.now c.swap.new.store c.index_mut-2.result.now
-    c.swap-2.new.store turned since c.index_mut-2.ensures.value c.swap-2.ensures.slots in
-    let back_to_rows : rows_in back ≡ rows_in stores = back_rows stores went c.args.table c.args.turn c.opposite.result
-    c.args.change.now c.index_mut.result.now c.swap.new.store c.index_mut-2.result.now c.swap-2.new.store turned since
-    c.index_mut-2.ensures.value c.swap-2.ensures.slots c.opposite.ensures c.swap.ensures.back in
-    back_to_rows
-
-pub returns-clause-rows : goal.returns-clause-rows
-returns-clause-rows c =
-    let turned : Turned c.args.stores.now.items c.args.table c.args.turn c.args.change.now c.index_mut.result.now
-    c.swap.new.store = record {
-      is = c.index_mut.ensures.value;
-      below = c.requires.there;
-      slots = c.swap.ensures.slots;
-    } in
-    let v = c.args.view.now in
-    let stores = c.args.stores.now.items in
-    let went = slice_set stores c.args.table c.swap.new.store in
-    let hidden = swapped_at c.args.table c.args.turn c.args.change.now (rows_in stores) in
-    let to_tables : tables_in went ≡ tables_in stores = turned_tables stores c.args.table c.args.turn c.args.change.now
-    c.index_mut.result.now c.swap.new.store turned in
-    let to_rows : rows_in went ≡ hidden = turned_rows stores c.args.table c.args.turn c.args.change.now
-    c.index_mut.result.now c.swap.new.store turned in
-    let since : Since stores went c.args.table c.swap.new.store = record { tables = refl; rows = refl } in
-    let back = slice_set went c.args.table c.swap-2.new.store in
-    let back_to_tables : tables_in back ≡ tables_in stores = back_tables stores went c.args.table c.args.turn
-    c.opposite.result c.args.change.now c.index_mut.result.now c.swap.new.store c.index_mut-2.result.now
-    c.swap-2.new.store turned since c.index_mut-2.ensures.value c.swap-2.ensures.slots in
-    let back_to_rows : rows_in back ≡ rows_in stores = back_rows stores went c.args.table c.args.turn c.opposite.result
-    c.args.change.now c.index_mut.result.now c.swap.new.store c.index_mut-2.result.now c.swap-2.new.store turned since
-    c.index_mut-2.ensures.value c.swap-2.ensures.slots c.opposite.ensures c.swap.ensures.back in
-    back_to_rows
+    record { tables = back_to_tables; rows = back_to_rows }
 
 pub turn_sub_groups-requires-clause-view : goal.turn_sub_groups-requires-clause-view
 turn_sub_groups-requires-clause-view c =
@@ -289,7 +236,7 @@ turn_sub_groups-requires-clause-view c =
     c.index_mut.result.now c.swap.new.store turned in
     let to_rows : rows_in went ≡ hidden = turned_rows stores c.args.table c.args.turn c.args.change.now
     c.index_mut.result.now c.swap.new.store turned in
-    let since : Since stores went c.args.table c.swap.new.store = record { tables = refl; rows = refl } in
+    let since : HaveSameRows went went = record { tables = refl; rows = refl } in
     let back = slice_set went c.args.table c.swap-2.new.store in
     let back_to_tables : tables_in back ≡ tables_in stores = back_tables stores went c.args.table c.args.turn
     c.opposite.result c.args.change.now c.index_mut.result.now c.swap.new.store c.index_mut-2.result.now
@@ -316,7 +263,7 @@ turn_sub_groups-requires-clause-can c =
     c.index_mut.result.now c.swap.new.store turned in
     let to_rows : rows_in went ≡ hidden = turned_rows stores c.args.table c.args.turn c.args.change.now
     c.index_mut.result.now c.swap.new.store turned in
-    let since : Since stores went c.args.table c.swap.new.store = record { tables = refl; rows = refl } in
+    let since : HaveSameRows went went = record { tables = refl; rows = refl } in
     let back = slice_set went c.args.table c.swap-2.new.store in
     let back_to_tables : tables_in back ≡ tables_in stores = back_tables stores went c.args.table c.args.turn
     c.opposite.result c.args.change.now c.index_mut.result.now c.swap.new.store c.index_mut-2.result.now
@@ -359,7 +306,7 @@ turn_sub_groups-requires-clause-kept c =
     c.index_mut.result.now c.swap.new.store turned in
     let to_rows : rows_in went ≡ hidden = turned_rows stores c.args.table c.args.turn c.args.change.now
     c.index_mut.result.now c.swap.new.store turned in
-    let since : Since stores went c.args.table c.swap.new.store = record { tables = refl; rows = refl } in
+    let since : HaveSameRows went went = record { tables = refl; rows = refl } in
     let back = slice_set went c.args.table c.swap-2.new.store in
     let back_to_tables : tables_in back ≡ tables_in stores = back_tables stores went c.args.table c.args.turn
     c.opposite.result c.args.change.now c.index_mut.result.now c.swap.new.store c.index_mut-2.result.now
@@ -453,7 +400,7 @@ returns-clause-kept c =
     c.index_mut.result.now c.swap.new.store turned in
     let to_rows : rows_in went ≡ hidden = turned_rows stores c.args.table c.args.turn c.args.change.now
     c.index_mut.result.now c.swap.new.store turned in
-    let since : Since stores went c.args.table c.swap.new.store = record { tables = refl; rows = refl } in
+    let since : HaveSameRows went went = record { tables = refl; rows = refl } in
     let back = slice_set went c.args.table c.swap-2.new.store in
     let back_to_tables : tables_in back ≡ tables_in stores = back_tables stores went c.args.table c.args.turn
     c.opposite.result c.args.change.now c.index_mut.result.now c.swap.new.store c.index_mut-2.result.now

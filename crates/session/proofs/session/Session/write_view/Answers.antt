@@ -56,8 +56,8 @@ invariant_of-self g c =
     (write_known p q c.args.view.now c.view_place-place.result (view_at c.self.inside.tables.views
     c.view_place-place.result) old new
     c.from_residual.result at below (view_is c.self.inside.tables.views c.view_place-place.result below) writes read
-    c.write_rows.ensures.tables c.write_rows.ensures.rows refl refl (refl, refl))
-    c.write_rows.ensures.tables c.write_rows.ensures.views c.self.invariant.capacity_is
+    c.write_rows.ensures.same_rows.tables c.write_rows.ensures.same_rows.rows refl refl (refl, refl))
+    c.write_rows.ensures.same_rows.tables c.write_rows.ensures.views c.self.invariant.capacity_is
 
 pub invariant_of-self-2 : goal.invariant_of-self-2
 invariant_of-self-2 g c =
@@ -80,9 +80,9 @@ invariant_of-self-2 g c =
     (write_known p q c.args.view.now c.view_place-place.result (view_at c.self.inside.tables.views
     c.view_place-place.result) old new
     (Ok c.in_ok-written.written) at below (view_is c.self.inside.tables.views c.view_place-place.result below)
-    c.in_ok-written.ensures.writes c.in_ok-written.ensures.read c.write_rows.ensures.tables
-    c.write_rows.ensures.rows refl refl (refl, refl))
-    c.write_rows.ensures.tables c.write_rows.ensures.views c.self.invariant.capacity_is
+    c.in_ok-written.ensures.writes c.in_ok-written.ensures.read c.write_rows.ensures.same_rows.tables
+    c.write_rows.ensures.same_rows.rows refl refl (refl, refl))
+    c.write_rows.ensures.same_rows.tables c.write_rows.ensures.views c.self.invariant.capacity_is
 
 pub returns-in_err-written-clause-step : goal.returns-in_err-written-clause-step
 returns-in_err-written-clause-step g c =
@@ -117,7 +117,7 @@ returns-in_err-written-clause-step g c =
     (write_known p q c.args.view.now c.view_place-place.result (view_at c.self.inside.tables.views
     c.view_place-place.result) old new
     c.from_residual.result at below (view_is c.self.inside.tables.views c.view_place-place.result below) writes read
-    c.write_rows.ensures.tables c.write_rows.ensures.rows refl refl (refl, refl))
+    c.write_rows.ensures.same_rows.tables c.write_rows.ensures.same_rows.rows refl refl (refl, refl))
 
 pub returns-clause-step : goal.returns-clause-step
 returns-clause-step g c =
@@ -138,5 +138,5 @@ returns-clause-step g c =
     (write_known p q c.args.view.now c.view_place-place.result (view_at c.self.inside.tables.views
     c.view_place-place.result) old new
     (Ok c.in_ok-written.written) at below (view_is c.self.inside.tables.views c.view_place-place.result below)
-    c.in_ok-written.ensures.writes c.in_ok-written.ensures.read c.write_rows.ensures.tables
-    c.write_rows.ensures.rows refl refl (refl, refl))
+    c.in_ok-written.ensures.writes c.in_ok-written.ensures.read c.write_rows.ensures.same_rows.tables
+    c.write_rows.ensures.same_rows.rows refl refl (refl, refl))

@@ -35,7 +35,7 @@ invariant_of-self-in-Ok c =
     c.index_mut.result.now c.append_batch.new.self (batch_rows c.args.rows c.args.columns.items) c.args.rows
     c.deref-4.ensures.value c.self.invariant c.index_mut.ensures.value c.append_batch.ensures.table
     c.in_ok-change.ensures.slots.1 (batch_length (cells_in c.args.columns.items) c.args.rows)
-    c.follow_last.ensures.tables c.follow_last.ensures.rows c.in-Ok.ensures.kept
+    c.follow_last.ensures.same_rows.tables c.follow_last.ensures.same_rows.rows c.in-Ok.ensures.kept
 
 pub follow_last-requires-clause-there : goal.follow_last-requires-clause-there
 follow_last-requires-clause-there c =
@@ -49,7 +49,7 @@ invariant_of-self-in-Err c =
     c.self.inside.views.items c.deref-4.result.now c.follow_last.new.states.items c.index_mut-in-Err.result.now
     c.restore.new.self c.deref-4.ensures.value
     (of_set c.self.inside.stores.items c.index_mut.result.now c.append_batch.new.self c.self.inside.views.items
-    c.index_mut.ensures.value c.append_batch.ensures.table c.self.invariant.these) c.follow_last.ensures.tables
+    c.index_mut.ensures.value c.append_batch.ensures.table c.self.invariant.these) c.follow_last.ensures.same_rows.tables
     c.index_mut-in-Err.ensures.value (ap (λ (s : Store). s.table) c.restore.ensures) c.in-Err.ensures.err
 
 pub arrivals_for-requires-clause-alike : goal.arrivals_for-requires-clause-alike

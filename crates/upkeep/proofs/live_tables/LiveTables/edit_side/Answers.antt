@@ -12,7 +12,6 @@ use Rattle.view_lang.specs.Config.{View}
 use Rattle.upkeep.proofs.SwappedRows.{side_change}
 use Rattle.upkeep.proofs.SideEdits.{
   Changed,
-  Opened,
   can_restore,
   changed_of,
   edit_made,
@@ -127,8 +126,7 @@ invariant_of-self-in-Ok c =
           subst (λ n. c.args.table < n) (ap (λ p. length p.stores) (sym c.self.view_is)) c.requires.there;
       same = c.edit.ensures.table;
     } in
-    let opened : Opened (slice_set ss c.args.table c.edit.new.self) c.follow_lookups.new.stores.items =
-    record { tables = c.in-Ok.ensures.tables; rows = c.in-Ok.ensures.rows } in
+    let opened = c.in-Ok.ensures.same_rows in
     opened_live ss c.follow_lookups.new.stores.items c.self.inside.views.items c.self.inside.states.items
     c.follow_lookups.new.states.items c.args.table c.index_mut.result.now c.edit.new.self turn.Come
     c.in_ok-change.change changed opened
@@ -147,8 +145,7 @@ restore-requires c =
           subst (λ n. c.args.table < n) (ap (λ p. length p.stores) (sym c.self.view_is)) c.requires.there;
       same = c.edit.ensures.table;
     } in
-    let opened : Opened (slice_set ss c.args.table c.edit.new.self) c.follow_lookups.new.stores.items =
-    record { tables = c.in-Err.ensures.tables; rows = c.in-Err.ensures.rows } in
+    let opened = c.in-Err.ensures.same_rows in
     can_restore ss c.follow_lookups.new.stores.items c.args.table c.index_mut.result.now c.edit.new.self
     c.index_mut-in-Err.result.now c.in_ok-change.change changed opened c.index_mut-in-Err.ensures.value
     c.in_ok-change.ensures.makes.2
@@ -162,8 +159,7 @@ invariant_of-self-in-Err c =
           subst (λ n. c.args.table < n) (ap (λ p. length p.stores) (sym c.self.view_is)) c.requires.there;
       same = c.edit.ensures.table;
     } in
-    let opened : Opened (slice_set ss c.args.table c.edit.new.self) c.follow_lookups.new.stores.items =
-    record { tables = c.in-Err.ensures.tables; rows = c.in-Err.ensures.rows } in
+    let opened = c.in-Err.ensures.same_rows in
     restored_live ss c.follow_lookups.new.stores.items c.self.inside.views.items c.self.inside.states.items
     c.follow_lookups.new.states.items c.args.table c.index_mut.result.now c.edit.new.self
     c.index_mut-in-Err.result.now c.restore.new.self (back c.in_ok-change.change) turn.Come c.in_ok-change.change
@@ -184,8 +180,7 @@ invariant_of-self-in-Err-2 c =
           subst (λ n. c.args.table < n) (ap (λ p. length p.stores) (sym c.self.view_is)) c.requires.there;
       same = c.edit.ensures.table;
     } in
-    let opened : Opened (slice_set ss c.args.table c.edit.new.self) c.follow_lookups.new.stores.items =
-    record { tables = c.in-Err.ensures.tables; rows = c.in-Err.ensures.rows } in
+    let opened = c.in-Err.ensures.same_rows in
     restored_live ss c.follow_lookups.new.stores.items c.self.inside.views.items c.self.inside.states.items
     c.follow_lookups.new.states.items c.args.table c.index_mut.result.now c.edit.new.self
     c.index_mut-in-Err.result.now c.restore.new.self (back c.in_ok-change.change) turn.Come c.in_ok-change.change
@@ -206,8 +201,7 @@ invariant_of-self-in-Err-3 c =
           subst (λ n. c.args.table < n) (ap (λ p. length p.stores) (sym c.self.view_is)) c.requires.there;
       same = c.edit.ensures.table;
     } in
-    let opened : Opened (slice_set ss c.args.table c.edit.new.self) c.follow_lookups.new.stores.items =
-    record { tables = c.in-Err.ensures.tables; rows = c.in-Err.ensures.rows } in
+    let opened = c.in-Err.ensures.same_rows in
     restored_live ss c.follow_lookups.new.stores.items c.self.inside.views.items c.self.inside.states.items
     c.follow_lookups.new.states.items c.args.table c.index_mut.result.now c.edit.new.self
     c.index_mut-in-Err.result.now c.restore.new.self (back c.in_ok-change.change) turn.Come c.in_ok-change.change
@@ -228,8 +222,7 @@ returns-in-Ok c =
           subst (λ n. c.args.table < n) (ap (λ p. length p.stores) (sym c.self.view_is)) c.requires.there;
       same = c.edit.ensures.table;
     } in
-    let opened : Opened (slice_set ss c.args.table c.edit.new.self) c.follow_lookups.new.stores.items =
-    record { tables = c.in-Ok.ensures.tables; rows = c.in-Ok.ensures.rows } in
+    let opened = c.in-Ok.ensures.same_rows in
     let P : ℕ → Type 0 = λ n. IsChangeOf n c.in_ok-change.change in
     rw (← c.self.view_is)
     (edit_made ss c.follow_lookups.new.stores.items c.self.inside.views.items c.self.inside.states.items
@@ -249,8 +242,7 @@ returns-in-Err c =
           subst (λ n. c.args.table < n) (ap (λ p. length p.stores) (sym c.self.view_is)) c.requires.there;
       same = c.edit.ensures.table;
     } in
-    let opened : Opened (slice_set ss c.args.table c.edit.new.self) c.follow_lookups.new.stores.items =
-    record { tables = c.in-Err.ensures.tables; rows = c.in-Err.ensures.rows } in
+    let opened = c.in-Err.ensures.same_rows in
     let made = edit_restored ss (slice_set c.follow_lookups.new.stores.items c.args.table c.restore.new.self)
     c.self.inside.views.items c.self.inside.states.items
     c.follow_lookups.new.states.items c.args.table (change_by c.args.role c.args.columns.items c.args.rows)

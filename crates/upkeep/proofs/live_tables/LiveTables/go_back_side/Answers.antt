@@ -17,7 +17,6 @@ use Rattle.upkeep.proofs.ChangedStores.{store_can_go_back}
 use Rattle.upkeep.proofs.SwappedRows.{side_change}
 use Rattle.upkeep.proofs.SideEdits.{
   Changed,
-  Opened,
   changed_of,
   current_before,
   forgotten_is,
@@ -109,8 +108,7 @@ forget-requires c =
           subst (λ n. c.args.table < n) (ap (λ p. length p.stores) (sym c.self.view_is)) c.requires.there;
       same = ap (λ (s : Store). s.table) c.swap.ensures.slots;
     } in
-    let opened : Opened (slice_set ss c.args.table c.swap.new.store) c.follow_lookups.new.stores.items =
-    record { tables = c.in-Ok.ensures.tables; rows = c.in-Ok.ensures.rows } in
+    let opened = c.in-Ok.ensures.same_rows in
     let can : CanSwap turn.Go c.swap.new.store.table c.args.change.now c.swap.new.store.slots =
     subst (λ (t : Table). CanSwap turn.Go t c.args.change.now c.swap.new.store.slots) (sym changed.same)
     c.swap.ensures.again in
@@ -128,8 +126,7 @@ invariant_of-self c =
           subst (λ n. c.args.table < n) (ap (λ p. length p.stores) (sym c.self.view_is)) c.requires.there;
       same = ap (λ (s : Store). s.table) c.swap.ensures.slots;
     } in
-    let opened : Opened (slice_set ss c.args.table c.swap.new.store) c.follow_lookups.new.stores.items =
-    record { tables = c.in-Ok.ensures.tables; rows = c.in-Ok.ensures.rows } in
+    let opened = c.in-Ok.ensures.same_rows in
     let can : CanSwap turn.Go c.swap.new.store.table c.args.change.now c.swap.new.store.slots =
     subst (λ (t : Table). CanSwap turn.Go t c.args.change.now c.swap.new.store.slots) (sym changed.same)
     c.swap.ensures.again in
@@ -160,8 +157,7 @@ swap-requires-in-Err c =
           subst (λ n. c.args.table < n) (ap (λ p. length p.stores) (sym c.self.view_is)) c.requires.there;
       same = ap (λ (s : Store). s.table) c.swap.ensures.slots;
     } in
-    let opened : Opened (slice_set ss c.args.table c.swap.new.store) c.follow_lookups.new.stores.items =
-    record { tables = c.in-Err.ensures.tables; rows = c.in-Err.ensures.rows } in
+    let opened = c.in-Err.ensures.same_rows in
     let can : CanSwap turn.Go c.swap.new.store.table c.args.change.now c.swap.new.store.slots =
     subst (λ (t : Table). CanSwap turn.Go t c.args.change.now c.swap.new.store.slots) (sym changed.same)
     c.swap.ensures.again in
@@ -177,8 +173,7 @@ invariant_of-self-in-Err c =
           subst (λ n. c.args.table < n) (ap (λ p. length p.stores) (sym c.self.view_is)) c.requires.there;
       same = ap (λ (s : Store). s.table) c.swap.ensures.slots;
     } in
-    let opened : Opened (slice_set ss c.args.table c.swap.new.store) c.follow_lookups.new.stores.items =
-    record { tables = c.in-Err.ensures.tables; rows = c.in-Err.ensures.rows } in
+    let opened = c.in-Err.ensures.same_rows in
     restored_live ss c.follow_lookups.new.stores.items c.self.inside.views.items c.self.inside.states.items
     c.follow_lookups.new.states.items c.args.table c.index_mut.result.now c.swap.new.store
     c.index_mut-in-Err.result.now c.swap-in-Err.new.store (shown c.args.change.now) turn.Go c.args.change.now changed
@@ -195,8 +190,7 @@ returns-in-Ok c =
           subst (λ n. c.args.table < n) (ap (λ p. length p.stores) (sym c.self.view_is)) c.requires.there;
       same = ap (λ (s : Store). s.table) c.swap.ensures.slots;
     } in
-    let opened : Opened (slice_set ss c.args.table c.swap.new.store) c.follow_lookups.new.stores.items =
-    record { tables = c.in-Ok.ensures.tables; rows = c.in-Ok.ensures.rows } in
+    let opened = c.in-Ok.ensures.same_rows in
     let can : CanSwap turn.Go c.swap.new.store.table c.args.change.now c.swap.new.store.slots =
     subst (λ (t : Table). CanSwap turn.Go t c.args.change.now c.swap.new.store.slots) (sym changed.same)
     c.swap.ensures.again in
@@ -227,8 +221,7 @@ returns-in-Err c =
           subst (λ n. c.args.table < n) (ap (λ p. length p.stores) (sym c.self.view_is)) c.requires.there;
       same = ap (λ (s : Store). s.table) c.swap.ensures.slots;
     } in
-    let opened : Opened (slice_set ss c.args.table c.swap.new.store) c.follow_lookups.new.stores.items =
-    record { tables = c.in-Err.ensures.tables; rows = c.in-Err.ensures.rows } in
+    let opened = c.in-Err.ensures.same_rows in
     rw (← c.self.view_is)
     (stayed c.in-Err.refused ss (slice_set c.follow_lookups.new.stores.items c.args.table c.swap-in-Err.new.store)
     c.self.inside.views.items c.self.inside.states.items c.follow_lookups.new.states.items c.args.table

@@ -31,4 +31,4 @@ invariant_of-self-2 c =
     c.self.invariant c.index.ensures (subst
     (λ (p : LiveParts). CanPutBack (table_at (tables_in p.stores) 0) c.args.numbers.now
     (rows_at (rows_in p.stores) 0)) (sym c.self.view_is) c.requires) c.in_ok-follow_all.ensures.kept
-    c.follow_all.ensures.tables c.follow_all.ensures.rows c.index_mut.ensures.value c.put_back.ensures.slots
+    c.follow_all.ensures.same_rows.tables c.follow_all.ensures.same_rows.rows c.index_mut.ensures.value c.put_back.ensures.slots

@@ -19,7 +19,7 @@ pub invariant_of-self : goal.invariant_of-self
 invariant_of-self c =
     opened_stays c.self.inside.stores.items c.rebuild.new.stores.items c.self.inside.views.items
     c.self.inside.states.items
-    (record { tables = c.in_err-state.ensures.tables; rows = c.in_err-state.ensures.rows }) c.self.invariant
+    c.in_err-state.ensures.same_rows c.self.invariant
 
 pub replace_state-requires : goal.replace_state-requires
 replace_state-requires c =
@@ -36,7 +36,7 @@ invariant_of-self-then-index c =
     subst (AreLive c.rebuild.new.stores.items c.self.inside.views.items) (sym c.replace_state.ensures)
     (refreshed c.self.inside.stores.items c.rebuild.new.stores.items c.self.inside.views.items
     c.self.inside.states.items c.args.place c.index-then-index.result.now c.in_ok-state.state
-    (record { tables = c.in_ok-state.ensures.tables; rows = c.in_ok-state.ensures.rows })
+    c.in_ok-state.ensures.same_rows
     c.index-then-index.ensures below c.in_ok-state.ensures.current c.self.invariant)
 
 pub returns-in_ok-state-clause-stale : goal.returns-in_ok-state-clause-stale

@@ -21,4 +21,4 @@ invariant_of-self-2 c =
     c.index.result.now c.index_mut.result.now c.retract.new.self c.in_ok-numbers.numbers.items c.deref-2.result.now
     c.deref-3.result.now c.deref.ensures.value c.self.invariant c.index.ensures c.deref-2.ensures.value
     c.deref-3.ensures.value c.in_ok-numbers.ensures.numbers c.in_ok-follow_all.ensures.kept
-    c.follow_all.ensures.tables c.follow_all.ensures.rows c.index_mut.ensures.value c.retract.ensures.slots
+    c.follow_all.ensures.same_rows.tables c.follow_all.ensures.same_rows.rows c.index_mut.ensures.value c.retract.ensures.slots

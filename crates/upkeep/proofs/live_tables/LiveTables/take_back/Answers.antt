@@ -28,4 +28,4 @@ invariant_of-self-2 c =
     c.self.invariant c.index.ensures (subst
     (λ (p : LiveParts). CanTakeBack c.args.count (rows_at (rows_in p.stores) 0)) (sym c.self.view_is) c.requires)
     c.in_ok-follow_last.ensures.kept
-    c.follow_last.ensures.tables c.follow_last.ensures.rows c.index_mut.ensures.value c.take_back.ensures
+    c.follow_last.ensures.same_rows.tables c.follow_last.ensures.same_rows.rows c.index_mut.ensures.value c.take_back.ensures

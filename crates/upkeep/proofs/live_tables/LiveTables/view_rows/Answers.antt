@@ -49,4 +49,4 @@ pub invariant_of-self : goal.invariant_of-self
 invariant_of-self c =
     opened_stays c.self.inside.stores.items c.show_kept.new.stores.items c.self.inside.views.items
     c.self.inside.states.items
-    (record { tables = c.show_kept.ensures.tables; rows = c.show_kept.ensures.same_rows }) c.self.invariant
+    c.show_kept.ensures.same_rows c.self.invariant
