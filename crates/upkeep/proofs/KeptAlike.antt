@@ -38,7 +38,7 @@ use Rattle.top_rows.specs.PlaceOrder.{sort_key_cmp}
 use Rattle.top_rows.specs.SortKeys.{sort_key_of, sort_keys_of}
 use Rattle.top_rows.specs.Ties.{has_sort_keys}
 use Rattle.top_rows.specs.declared.sort_key.SortKey.{SortKey}
-use Rattle.upkeep.specs.AlikeRows.{are_alike_by, are_kept_alike, are_same, differ_in}
+use Rattle.upkeep.specs.AlikeRows.{are_kept_alike_by, are_remade_alike, are_same, differ_in}
 use Rattle.upkeep.specs.ViewStates.{IsKept, IsKeptBy, ShowsEach, made_by}
 use Rattle.upkeep.specs.declared.view_state.Kept.{Kept}
 use Rattle.upkeep.specs.declared.view_state.Kept.TheVariants as kept
@@ -244,7 +244,7 @@ both_not false true h = absurd (true≢false (sym h))
 both_not false false h = (refl, refl)
 
 alike_by : (Shows : Type 0) (os : Outputs) (order : List OrderBy) (k : Kept) (n : ℕ) (a b : List Datum)
-    (rows : NumberedRows) → are_alike_by os order k a b ≡ true → AreUp rows → row_at n rows ≡ made_by os (Some a)
+    (rows : NumberedRows) → are_kept_alike_by os order k a b ≡ true → AreUp rows → row_at n rows ≡ made_by os (Some a)
     → IsKeptBy Shows k os order rows → IsKeptBy Shows k os order (with_at n (made_by os (Some b)) rows)
 alike_by Shows (columns outs) order kept.Live n a b rows alike up here keeps = absurd (true≢false (sym alike))
 alike_by Shows (columns outs) order (kept.Order o) n a b rows alike up here keeps =
@@ -268,7 +268,7 @@ alike_by Shows (groups by outputs having) order (kept.Groups g) n a b rows alike
 
 -- Where the same is kept of what a view made of a row and of what it makes of it, what is kept stays as it is.
 pub alike_kept : (v : View) (k : Kept) (n : ℕ) (x y : Option (List Datum)) (rows : NumberedRows)
-    → are_kept_alike v k x y ≡ true → Fits rows (shift n (made_by v.outputs x) (made_by v.outputs y) ∷ [])
+    → are_remade_alike v k x y ≡ true → Fits rows (shift n (made_by v.outputs x) (made_by v.outputs y) ∷ [])
     → IsKept v k rows → IsKept v k (with_at n (made_by v.outputs y) rows)
 alike_kept v k n None None rows alike fits keeps =
     subst (IsKept v k) (sym (set_same n (made_by v.outputs None) rows fits.ascending fits.in_turn.0)) keeps

@@ -1,5 +1,5 @@
 -- Rows of a side table by their keys, as they are where a change is there, and where it isn't.
-use Rattle.std.specs.Prelude.{◌≡◌, ◌++◌, true, cond, List, Option, None, Some, Vec}
+use Rattle.std.specs.Prelude.{◌≡◌, ℕ, ◌++◌, true, cond, List, Option, None, Some, Vec}
 use Rattle.std.specs.BTreeMap.{is_at}
 use Rattle.std.specs.Map.{lookup}
 use Rattle.std.specs.Option.{option_and_then, option_map}
@@ -10,9 +10,13 @@ use Rattle.values.specs.declared.key.Key.{Key}
 use Rattle.view_lang.specs.Config.{View}
 use Rattle.view_lang.specs.Contents.{is_among}
 use Rattle.view_lang.specs.Joined.{Side, joined_by}
+use Rattle.view_lang.specs.Shifts.{Shift}
 use Rattle.view_lang.specs.Truth.{passes}
 use Rattle.lookups.specs.Refers.{key_cmp}
+use Rattle.row_keys.specs.Slots.{Slot}
 use Rattle.upkeep.specs.JoinedRows.{side_cells}
+use Rattle.upkeep.specs.ViewStates.{made_row, remade_by}
+use Rattle.upkeep.specs.declared.side_rows.SideRows.{SideRows}
 use Rattle.upkeep.specs.declared.sided_row.SidedRow.{SidedRow}
 
 -- the row under each of some keys, or that there is none
@@ -35,6 +39,12 @@ side_of_rows rows d = row_in (known_at rows (key_of d))
 -- Under each of these keys stands what a side table has.
 abbrev pub AreOfKeys : List Datum → Side → RowsByKey → Type 0
 AreOfKeys keys side rows = (d : Datum) → is_among d keys ≡ true → side_of_rows rows d ≡ side d
+
+-- the change of what a view makes of the rows of these numbers, where it looks up the rows after a change of the side
+-- table in the place of those before it
+abbrev pub sided_change : List Slot → View → SideRows → List ℕ → List Shift
+sided_change slots v sides ns =
+    remade_by (made_row v (side_of_rows sides.before.entries)) (made_row v (side_of_rows sides.after.entries)) slots ns
 
 -- what a view makes of a row with this row of a side table, joined and filtered
 abbrev pub kept_with : View → List Datum → Option (List Datum) → Option (List Datum)

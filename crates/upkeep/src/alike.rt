@@ -3,7 +3,7 @@
 ghost use Rattle.std.specs.Prelude.{◌≡◌};
 ghost use Rattle.std.specs.List.{list_any};
 ghost use Rattle.values.specs.CellViews.{viewed};
-ghost use Rattle.upkeep.specs.AlikeRows.{are_alike, are_same, differ_in};
+ghost use Rattle.upkeep.specs.AlikeRows.{are_kept_alike, are_same, differ_in};
 
 use crate::view_state::Kept;
 use group_state::KeptColumn;
@@ -67,7 +67,7 @@ fn differs_in_kept<R: RowView>(columns: &[KeptColumn], a: &R, b: &R) -> bool
 /// Whether the same is kept of two joined rows that a view's filter keeps: they have the same cells in the columns by
 /// which the view orders its rows, or in those by which its groups are made and of which they keep something.
 pub(crate) fn is_kept_alike<R: RowView>(view: &View, kept: &Kept, a: &R, b: &R) -> bool
-    ensures { result ≡ are_alike view.now kept.now (R.cells a.now) (R.cells b.now) }
+    ensures { result ≡ are_kept_alike view.now kept.now (R.cells a.now) (R.cells b.now) }
 {
     match (&view.outputs, kept) {
         (Outputs::Columns(outputs), Kept::Order(_)) => {

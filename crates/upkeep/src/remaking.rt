@@ -3,10 +3,10 @@
 ghost use Rattle.std.specs.Prelude.{◌≡◌, ◌<◌, ◌≤◌, ◌+◌, ◌^◌, [], ◌∷◌, All, OnOk, length, true};
 ghost use Rattle.std.specs.Option.{option_map};
 ghost use Rattle.view_lang.specs.Shifts.{Fits, IsFew, NumberedRows, patched, shift};
-ghost use Rattle.upkeep.specs.AlikeRows.{are_kept_alike};
-ghost use Rattle.upkeep.specs.SideRows.{side_of_rows, sided_cells};
+ghost use Rattle.upkeep.specs.AlikeRows.{are_remade_alike};
+ghost use Rattle.upkeep.specs.SideRows.{sided_cells, sided_change};
 ghost use Rattle.upkeep.specs.Stores.{HaveSameRows, rows_at, rows_in, visits_in};
-ghost use Rattle.upkeep.specs.ViewStates.{IsKept, made_by, made_row, remade_by};
+ghost use Rattle.upkeep.specs.ViewStates.{IsKept, made_by};
 
 use crate::alike::is_kept_alike;
 use crate::side_rows::{SideRows, row_for};
@@ -26,7 +26,7 @@ fn is_remade_alike(
     before: &Option<SidedRow<'_>>,
     after: &Option<SidedRow<'_>>,
 ) -> bool
-    ensures { result ≡ are_kept_alike view.now kept.now (option_map sided_cells before.now)
+    ensures { result ≡ are_remade_alike view.now kept.now (option_map sided_cells before.now)
         (option_map sided_cells after.now) }
 {
     match (before, after) {
@@ -56,7 +56,7 @@ fn remake_row(
         → IsKept view.now kept.new
         (patched rows (shift number (made_by view.now.outputs (option_map sided_cells before.now))
         (made_by view.now.outputs (option_map sided_cells after.now)) ∷ []))) }
-    ensures left { are_kept_alike view.now kept.old (option_map sided_cells before.now)
+    ensures left { are_remade_alike view.now kept.old (option_map sided_cells before.now)
         (option_map sided_cells after.now) ≡ true → kept.new ≡ kept.old }
 {
     if is_remade_alike(view, kept, before, after) {
@@ -79,18 +79,13 @@ fn remake_number(
     requires main { 0 < length stores.old.items }
     requires there { number < length (rows_at (rows_in stores.old.items) 0) }
     requires fits { (rows : NumberedRows) × (IsKept view.now kept.old rows
-        × (Fits rows (remade_by (made_row view.now (side_of_rows sides.now.before.entries))
-        (made_row view.now (side_of_rows sides.now.after.entries)) (rows_at (rows_in stores.old.items) 0)
-        (number ∷ [])) × (length rows < 2 ^ 62))) }
+        × (Fits rows (sided_change (rows_at (rows_in stores.old.items) 0) view.now sides.now (number ∷ []))
+        × (length rows < 2 ^ 62))) }
     ensures kept { OnOk result ((rows : NumberedRows)
-        → Fits rows (remade_by (made_row view.now (side_of_rows sides.now.before.entries))
-        (made_row view.now (side_of_rows sides.now.after.entries)) (rows_at (rows_in stores.old.items) 0)
-        (number ∷ []))
+        → Fits rows (sided_change (rows_at (rows_in stores.old.items) 0) view.now sides.now (number ∷ []))
         → IsKept view.now kept.old rows
         → IsKept view.now kept.new (patched rows
-        (remade_by (made_row view.now (side_of_rows sides.now.before.entries))
-        (made_row view.now (side_of_rows sides.now.after.entries)) (rows_at (rows_in stores.old.items) 0)
-        (number ∷ [])))) }
+        (sided_change (rows_at (rows_in stores.old.items) 0) view.now sides.now (number ∷ [])))) }
     ensures same_rows { HaveSameRows stores.old.items stores.new.items }
     ensures visits { visits_in stores.new.items ≤ visits_in stores.old.items + 1 }
 {
@@ -116,19 +111,13 @@ pub(crate) fn remake_numbers(
     requires main { 0 < length stores.old.items }
     requires there { All (λ n. n < length (rows_at (rows_in stores.old.items) 0)) numbers.now }
     requires fits { (rows : NumberedRows) × (IsKept view.now kept.old rows
-        × (Fits rows (remade_by (made_row view.now (side_of_rows sides.now.before.entries))
-        (made_row view.now (side_of_rows sides.now.after.entries)) (rows_at (rows_in stores.old.items) 0) numbers.now)
-        × IsFew rows (remade_by (made_row view.now (side_of_rows sides.now.before.entries))
-        (made_row view.now (side_of_rows sides.now.after.entries)) (rows_at (rows_in stores.old.items) 0)
-        numbers.now))) }
+        × (Fits rows (sided_change (rows_at (rows_in stores.old.items) 0) view.now sides.now numbers.now)
+        × IsFew rows (sided_change (rows_at (rows_in stores.old.items) 0) view.now sides.now numbers.now))) }
     ensures kept { OnOk result ((rows : NumberedRows)
-        → Fits rows (remade_by (made_row view.now (side_of_rows sides.now.before.entries))
-        (made_row view.now (side_of_rows sides.now.after.entries)) (rows_at (rows_in stores.old.items) 0) numbers.now)
+        → Fits rows (sided_change (rows_at (rows_in stores.old.items) 0) view.now sides.now numbers.now)
         → IsKept view.now kept.old rows
         → IsKept view.now kept.new (patched rows
-        (remade_by (made_row view.now (side_of_rows sides.now.before.entries))
-        (made_row view.now (side_of_rows sides.now.after.entries)) (rows_at (rows_in stores.old.items) 0)
-        numbers.now))) }
+        (sided_change (rows_at (rows_in stores.old.items) 0) view.now sides.now numbers.now))) }
     ensures same_rows { HaveSameRows stores.old.items stores.new.items }
     ensures visits { visits_in stores.new.items ≤ visits_in stores.old.items + length numbers.now }
 {
