@@ -13,7 +13,8 @@ ghost use Rattle.upkeep.specs.Shown.{IsLiveAt};
 ghost use Rattle.upkeep.specs.Stores.{HaveSameRows, rows_at, rows_in, tables_in};
 ghost use Rattle.upkeep.specs.Touched.{OpensShown};
 ghost use Rattle.upkeep.specs.ViewStates.{width_in};
-ghost use Rattle.session.specs.WrittenViews.{IsReadBack, IsViewed, ShowsView, stream_at};
+ghost use Rattle.upkeep.specs.ViewedRows.{IsViewed, ShowsView};
+ghost use Rattle.session.specs.WrittenViews.{IsReadBack, stream_at};
 
 use std::alloc::Global;
 use stream_writer::{Sink, WriteFault, coded_law, write_coded, write_ranges};
@@ -58,8 +59,8 @@ fn write_shown<S: Sink>(
     requires there { place < length tables.now.views }
     requires schema { schema.now.fields.items
         ≡ view_columns (tables_in tables.now.stores) (view_at tables.now.views place) }
-    requires viewed { IsViewed tables.now place }
-    requires shown { ShowsView tables.now place shown }
+    requires viewed { IsViewed tables.now.stores (view_at tables.now.views place) }
+    requires shown { ShowsView tables.now.stores (view_at tables.now.views place) shown }
     ensures { Writes (S.sunk sink.old) (S.sunk sink.new) result (stream_at tables.now place) }
 {
     // They do nothing: the proof takes from them that the rows of a view can be written.

@@ -15,3 +15,4 @@ pub mod LiveEdits
 pub mod Reading
 pub mod Moves
 pub mod Shown
+pub mod ViewedRows

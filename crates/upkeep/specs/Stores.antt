@@ -22,6 +22,10 @@ tables_in stores = map (λ s. s.table) stores
 abbrev pub rows_in : List Store → Rows
 rows_in stores = map (λ s. s.slots) stores
 
+-- the rows of the main table
+abbrev pub main_slots : List Store → List Slot
+main_slots stores = rows_at (rows_in stores) 0
+
 -- how often a row of the main table was opened
 abbrev pub visits_in : List Store → ℕ
 visits_in stores = (get_or stores 0 (no_rows no_table)).visits

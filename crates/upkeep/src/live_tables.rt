@@ -2,7 +2,6 @@
 
 ghost use Rattle.std.specs.Prelude.{
   ◌≡◌,
-  ℕ,
   ◌<◌,
   ◌≤◌,
   ◌+◌,
@@ -22,7 +21,6 @@ ghost use Rattle.std.specs.Prelude.{
 ghost use Rattle.body_writer.specs.Places.{IsPlaced, placed_rows};
 ghost use Rattle.body_writer.specs.RowRanges.{IsRange, ranges_rows};
 ghost use Rattle.view_lang.specs.Edits.{table_of};
-ghost use Rattle.view_lang.specs.Laws.{Viewed};
 ghost use Rattle.view_lang.specs.ViewColumns.{columns_by, feed_columns, key_column};
 ghost use Rattle.view_lang.specs.Views.{view_rows};
 ghost use Rattle.view_lang.specs.World.{table_at};
@@ -37,16 +35,16 @@ ghost use Rattle.row_keys.specs.Slots.{
   taken_back,
 };
 ghost use Rattle.row_keys.specs.Store.{live_in};
-ghost use Rattle.upkeep.specs.Inputs.{side_by};
 ghost use Rattle.upkeep.specs.LiveParts.{AreOf, store_at, view_at};
 ghost use Rattle.upkeep.specs.LiveEdits.{Edited, NoneBecomesStale, WentBack};
-ghost use Rattle.upkeep.specs.Shown.{IsLiveAt, Shows};
+ghost use Rattle.upkeep.specs.Shown.{IsLiveAt};
 ghost use Rattle.upkeep.specs.Stores.{HaveSameRows, rows_at, rows_in, tables_in, visits_in};
 ghost use Rattle.row_keys.specs.TableChanges.{CanGoBack, IsBatchOf, IsChangeOf, back, change_by, restores};
 ghost use Rattle.upkeep.specs.Stores.{released_at};
 ghost use Rattle.upkeep.specs.TablesParts.{AreLiveParts, live_with};
 ghost use Rattle.upkeep.specs.Touched.{OpensShown, built_of, touched};
 ghost use Rattle.upkeep.specs.ViewStates.{width_in};
+ghost use Rattle.upkeep.specs.ViewedRows.{IsViewed, ShowsView};
 
 use crate::all_views::{count_stale, follow_all, follow_last, fresh_states, replace_state};
 use crate::arrivals::arrivals_for;
@@ -451,13 +449,8 @@ impl LiveTables {
     /// What the view at this place shows, read out of what is kept of it. A stale view is built anew first.
     pub fn view_rows(&mut self, place: usize) -> Result<Shown, AllocError>
         requires { place < length self.old.views }
-        ensures rows { IfOk result (λ shown. Shows (view_at self.old.views place) (width_in (tables_in self.old.stores))
-            (rows_at (rows_in self.old.stores) 0) shown (view_rows (view_at self.old.views place)
-            (side_by (tables_in self.old.stores) (rows_in self.old.stores) (view_at self.old.views place))
-            (live (rows_at (rows_in self.old.stores) 0)))) }
-        ensures viewed { IfOk result (λ shown. Viewed (tables_in self.old.stores) (view_at self.old.views place)
-            (side_by (tables_in self.old.stores) (rows_in self.old.stores) (view_at self.old.views place))
-            (live (rows_at (rows_in self.old.stores) 0))) }
+        ensures rows { IfOk result (ShowsView self.old.stores (view_at self.old.views place)) }
+        ensures viewed { IfOk result (λ shown. IsViewed self.old.stores (view_at self.old.views place)) }
         ensures same_rows { HaveSameRows self.old.stores self.new.stores }
         ensures views { self.new.views ≡ self.old.views }
         ensures stale { OnOk result (self.new.stale ≡ slice_set self.old.stale place false) }

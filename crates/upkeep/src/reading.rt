@@ -6,7 +6,6 @@ ghost use Rattle.view_lang.specs.Cells.{rows_of};
 ghost use Rattle.view_lang.specs.Config.{Table};
 ghost use Rattle.view_lang.specs.ConfigRules.{IsView};
 ghost use Rattle.view_lang.specs.Joined.{Side};
-ghost use Rattle.view_lang.specs.Laws.{Viewed};
 ghost use Rattle.view_lang.specs.TableRules.{IsTable};
 ghost use Rattle.view_lang.specs.Outputs.{columns};
 ghost use Rattle.view_lang.specs.Views.{shown_row, view_rows};
@@ -24,8 +23,8 @@ ghost use Rattle.upkeep.specs.Reading.{
 };
 ghost use Rattle.upkeep.specs.Stores.{HaveSameRows, rows_at, rows_in, tables_in, visits_in};
 ghost use Rattle.upkeep.specs.Touched.{opened_of};
-ghost use Rattle.upkeep.specs.Shown.{Shows};
-ghost use Rattle.upkeep.specs.ViewStates.{IsCurrent, is_plain, made_row, width_in};
+ghost use Rattle.upkeep.specs.ViewStates.{IsCurrent, is_plain, made_row};
+ghost use Rattle.upkeep.specs.ViewedRows.{IsViewed, ShowsView, rows_shown};
 ghost use Rattle.upkeep.specs.declared.view_state.Kept.TheVariants as kept;
 
 use crate::inputs::join_row;
@@ -168,10 +167,7 @@ fn show_columns(
     requires shown { AreShown view.now
         (side_by (tables_in stores.old.items) (rows_in stores.old.items) view.now)
         (rows_at (rows_in stores.old.items) 0) numbers.items }
-    ensures rows { IfOk result (λ shown. Shows view.now (width_in (tables_in stores.old.items))
-        (rows_at (rows_in stores.old.items) 0) shown
-        (view_rows view.now (side_by (tables_in stores.old.items) (rows_in stores.old.items) view.now)
-        (live (rows_at (rows_in stores.old.items) 0)))) }
+    ensures rows { IfOk result (ShowsView stores.old.items view.now) }
     ensures same_rows { HaveSameRows stores.old.items stores.new.items }
     ensures visits { visits_in stores.new.items ≤ visits_in stores.old.items + length numbers.items }
 {
@@ -199,14 +195,10 @@ fn show_numbers(
     requires shown { AreShown view.now
         (side_by (tables_in stores.old.items) (rows_in stores.old.items) view.now)
         (rows_at (rows_in stores.old.items) 0) numbers.items }
-    ensures rows { IfOk result (λ shown. Shows view.now (width_in (tables_in stores.old.items))
-        (rows_at (rows_in stores.old.items) 0) shown
-        (view_rows view.now (side_by (tables_in stores.old.items) (rows_in stores.old.items) view.now)
-        (live (rows_at (rows_in stores.old.items) 0)))) }
+    ensures rows { IfOk result (ShowsView stores.old.items view.now) }
     ensures same_rows { HaveSameRows stores.old.items stores.new.items }
-    ensures visits { visits_in stores.new.items ≤ visits_in stores.old.items + length (view_rows view.now
-        (side_by (tables_in stores.old.items) (rows_in stores.old.items) view.now)
-        (live (rows_at (rows_in stores.old.items) 0))) }
+    ensures visits { visits_in stores.new.items
+        ≤ visits_in stores.old.items + length (rows_shown stores.old.items view.now) }
 {
     match &view.outputs {
         Outputs::Columns(outputs) => show_columns(alloc, stores, view, outputs, numbers),
@@ -225,14 +217,10 @@ fn show_first(
     requires kept { IsReadable (tables_in stores.old.items) view.now
         (side_by (tables_in stores.old.items) (rows_in stores.old.items) view.now)
         (rows_at (rows_in stores.old.items) 0) (kept.Order order.now) }
-    ensures rows { IfOk result (λ shown. Shows view.now (width_in (tables_in stores.old.items))
-        (rows_at (rows_in stores.old.items) 0) shown
-        (view_rows view.now (side_by (tables_in stores.old.items) (rows_in stores.old.items) view.now)
-        (live (rows_at (rows_in stores.old.items) 0)))) }
+    ensures rows { IfOk result (ShowsView stores.old.items view.now) }
     ensures same_rows { HaveSameRows stores.old.items stores.new.items }
-    ensures visits { visits_in stores.new.items ≤ visits_in stores.old.items + length (view_rows view.now
-        (side_by (tables_in stores.old.items) (rows_in stores.old.items) view.now)
-        (live (rows_at (rows_in stores.old.items) 0))) }
+    ensures visits { visits_in stores.new.items
+        ≤ visits_in stores.old.items + length (rows_shown stores.old.items view.now) }
 {
     let numbers = first_numbers(alloc, view, order)?;
     show_numbers(alloc, stores, view, numbers)
@@ -244,14 +232,10 @@ fn show_live(alloc: Global, stores: &mut Vec<RowStore>, view: &View) -> Result<S
     requires kept { IsReadable (tables_in stores.old.items) view.now
         (side_by (tables_in stores.old.items) (rows_in stores.old.items) view.now)
         (rows_at (rows_in stores.old.items) 0) kept.Live }
-    ensures rows { IfOk result (λ shown. Shows view.now (width_in (tables_in stores.old.items))
-        (rows_at (rows_in stores.old.items) 0) shown
-        (view_rows view.now (side_by (tables_in stores.old.items) (rows_in stores.old.items) view.now)
-        (live (rows_at (rows_in stores.old.items) 0)))) }
+    ensures rows { IfOk result (ShowsView stores.old.items view.now) }
     ensures same_rows { HaveSameRows stores.old.items stores.new.items }
-    ensures visits { visits_in stores.new.items ≤ visits_in stores.old.items + length (view_rows view.now
-        (side_by (tables_in stores.old.items) (rows_in stores.old.items) view.now)
-        (live (rows_at (rows_in stores.old.items) 0))) }
+    ensures visits { visits_in stores.new.items
+        ≤ visits_in stores.old.items + length (rows_shown stores.old.items view.now) }
 {
     let numbers = first_live(alloc, stores, view)?;
     show_numbers(alloc, stores, view, numbers)
@@ -277,17 +261,12 @@ pub(crate) fn show_kept(
     requires right { All IsTable (tables_in stores.old.items) }
     requires view { IsView (tables_in stores.old.items) view.now }
     requires main { 0 < length stores.old.items }
-    requires viewed { Viewed (tables_in stores.old.items) view.now
-        (side_by (tables_in stores.old.items) (rows_in stores.old.items) view.now)
-        (live (rows_at (rows_in stores.old.items) 0)) }
+    requires viewed { IsViewed stores.old.items view.now }
     requires fresh { state.now.stale ≡ false }
     requires current { IsCurrent (tables_in stores.old.items) view.now
         (side_by (tables_in stores.old.items) (rows_in stores.old.items) view.now) state.now
         (numbered (rows_at (rows_in stores.old.items) 0)) }
-    ensures rows { IfOk result (λ shown. Shows view.now (width_in (tables_in stores.old.items))
-        (rows_at (rows_in stores.old.items) 0) shown
-        (view_rows view.now (side_by (tables_in stores.old.items) (rows_in stores.old.items) view.now)
-        (live (rows_at (rows_in stores.old.items) 0)))) }
+    ensures rows { IfOk result (ShowsView stores.old.items view.now) }
     ensures same_rows { HaveSameRows stores.old.items stores.new.items }
     ensures visits { visits_in stores.new.items ≤ visits_in stores.old.items + opened_of view.now
         (side_by (tables_in stores.old.items) (rows_in stores.old.items) view.now)
