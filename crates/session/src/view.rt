@@ -10,7 +10,7 @@ ghost use Rattle.row_keys.specs.Slots.{row_of};
 ghost use Rattle.upkeep.specs.LiveEdits.{NoneBecomesStale};
 ghost use Rattle.upkeep.specs.LiveParts.{view_at};
 ghost use Rattle.upkeep.specs.Shown.{IsLiveAt};
-ghost use Rattle.upkeep.specs.Stores.{HaveSameRows, rows_at, rows_in, tables_in};
+ghost use Rattle.upkeep.specs.Stores.{HaveSameRows, main_slots, tables_in};
 ghost use Rattle.upkeep.specs.Touched.{OpensShown};
 ghost use Rattle.upkeep.specs.ViewStates.{width_in};
 ghost use Rattle.upkeep.specs.ViewedRows.{IsViewed, ShowsView};
@@ -31,14 +31,14 @@ fn write_stored<S: Sink>(
     stored: StoredColumns,
     sink: &mut S,
 ) -> Result<u64, WriteFault>
-    requires live { All (IsLiveAt (rows_at (rows_in tables.now.stores) 0)) stored.visits }
+    requires live { All (IsLiveAt (main_slots tables.now.stores)) stored.visits }
     requires below { All (λ j. j < width_in (tables_in tables.now.stores)) stored.columns.items }
     requires many { length stored.columns.items ≡ length schema.now.fields.items }
     requires table { IsTable schema.now.fields.items (picked_rows stored.columns.items
-        (map (row_of (rows_at (rows_in tables.now.stores) 0)) stored.visits)) }
-    ensures { Writes (S.sunk sink.old) (S.sunk sink.new) result (canon schema.now.fields.items
-        (picked_rows stored.columns.items
-        (map (row_of (rows_at (rows_in tables.now.stores) 0)) stored.visits))) }
+        (map (row_of (main_slots tables.now.stores)) stored.visits)) }
+    ensures { Writes (S.sunk sink.old) (S.sunk sink.new) result
+        (canon schema.now.fields.items (picked_rows stored.columns.items
+        (map (row_of (main_slots tables.now.stores)) stored.visits))) }
 {
     let StoredColumns { columns, visits } = stored;
     let count = visits.len();

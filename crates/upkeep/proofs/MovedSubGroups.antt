@@ -44,10 +44,11 @@ use Rattle.std.specs.Ordering.{is_eq}
 use Rattle.std.specs.declared.cmp.Ordering.TheVariants.{Less}
 use Rattle.std.specs.Map.{lookup}
 use Rattle.std.specs.Option.{option_map}
-use Rattle.std.specs.Prelude.{◌^◌, is_some}
+use Rattle.std.specs.Prelude.{is_some}
 use Rattle.values.specs.Datum.{Datum}
 use Rattle.values.specs.declared.key.Key.{Key}
 use Rattle.view_lang.specs.Config.{Table, View}
+use Rattle.view_lang.specs.Limits.{max_appended_rows}
 use Rattle.view_lang.specs.Views.{kept_row}
 use Rattle.group_order.specs.Ranked.{Keeps as KeepsRanked, Ranked}
 use Rattle.group_state.specs.GroupCounts.{GroupCounts}
@@ -282,14 +283,14 @@ some_left p (r ∷ rs) = go (p r) (some_left p rs)
     go false h = omega (arith, h)
 
 made_but_few : (v : View) (side : Side) (keys : List ℕ) (out : List (List Key)) (rows : List (List Datum))
-    → length rows < 2 ^ 62 → length (made_but v side keys out rows) < 2 ^ 62
+    → length rows < max_appended_rows → length (made_but v side keys out rows) < max_appended_rows
 made_but_few v side keys out rows few =
     let one = made_few (kept_row v side) (rows_but keys out rows) in
     let two = some_left (λ row. not (list_any (is_at (tuple_cmp (tuple_of keys row))) out)) rows in
     omega (arith, few, one, two)
 
 module _ (law : SubGroupsPart) (v : View) (side : Side) (keys : List ℕ) (rows : List (List Datum))
-    (few : length rows < 2 ^ 62) (ts : List (List Key)) (ascending : IsStrictlySortedBy tuple_cmp ts) (i : ℕ)
+    (few : length rows < max_appended_rows) (ts : List (List Key)) (ascending : IsStrictlySortedBy tuple_cmp ts) (i : ℕ)
     (t : List Key) (is : t ≡ get_or ts i t) (below : i < length ts) where
   pub next_parted : (u : Turn)
       → AreParted v side keys t rows (made_but v side keys (all_out u i ts) rows)

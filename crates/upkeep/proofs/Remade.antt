@@ -15,6 +15,7 @@ use Rattle.std.proofs.lemmas.Map.Views.{exact_unsigned_eq}
 use Rattle.values.specs.Datum.{Datum}
 use Rattle.view_lang.specs.Counted.{fits-at, lookup-with_at, patched-more}
 use Rattle.view_lang.specs.Images.{ImageAt, ImageFits, image}
+use Rattle.view_lang.specs.Limits.{max_appended_rows}
 use Rattle.view_lang.specs.Shifts.{Fits, FitsInTurn, IsFew, NumberedRows, Shift, patched, row_at, shift, with_at}
 use Rattle.lookups.proofs.SameEntries.{same-entries}
 use Rattle.lookups.specs.Refers.{is_among as is_numbered}
@@ -202,7 +203,7 @@ module _ (s : ℕ → Shift) where
       (so_far : (rows : NumberedRows) → Fits rows (map s ns) → P rows → Q (patched rows (take i (map s ns)))) where
     -- what is asked for the next change
     pub next_needs : (rows : NumberedRows) → i < length ns → P rows → Fits rows (map s ns) → IsFew rows (map s ns)
-        → (now : NumberedRows) × (Q now × (Fits now (s (get_or ns i 0) ∷ []) × (length now < 2 ^ 62)))
+        → (now : NumberedRows) × (Q now × (Fits now (s (get_or ns i 0) ∷ []) × (length now < max_appended_rows)))
     next_needs rows below before fits few =
         let next = next_shift ns i rows below fits in
         (patched rows (take i (map s ns)), (so_far rows fits before, (next.fits, few_next rows (map s ns) i few)))

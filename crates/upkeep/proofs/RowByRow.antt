@@ -1,6 +1,6 @@
 -- Rows that come or go one by one.
 use Rattle.std.proofs.Common.{◌≡◌, ℕ, zero, suc, ◌+◌, ◌<◌, ◌≤◌, Bool, true, false, cond, List, [], ◌∷◌, Option, None, Some, get_or, length, map, take, refl, ap, sym, subst, ◌∙◌, arith, true≢false}
-use Rattle.std.specs.Prelude.{◌^◌, if◌then◌else◌, is_some, slice_set}
+use Rattle.std.specs.Prelude.{if◌then◌else◌, is_some, slice_set}
 use Rattle.std.specs.BTreeMap.{insert_entry, is_at}
 use Rattle.std.specs.List.Sorted.{IsStrictlySortedBy}
 use Rattle.std.specs.Map.{keys_of, lookup, remove_entry}
@@ -13,6 +13,7 @@ use Rattle.values.specs.Datum.{Datum}
 use Rattle.view_lang.specs.Counted.{fits-at, patched-more}
 use Rattle.view_lang.specs.Config.{Table, View}
 use Rattle.view_lang.specs.Images.{shift_image}
+use Rattle.view_lang.specs.Limits.{max_appended_rows}
 use Rattle.view_lang.specs.Outputs.{Output, Outputs, columns}
 use Rattle.view_lang.specs.Shifts.{Fits, IsFew, NumberedRows, Shift, patched, row_at, shift, with_at}
 use Rattle.view_lang.specs.SortedEntries.{sorted-insert_entry, sorted-remove_entry}
@@ -192,7 +193,7 @@ next_of make t slots ns i rows below fits =
     }
 
 pub few_next : (rows : NumberedRows) (es : List Shift) (i : ℕ) → IsFew rows es
-    → length (patched rows (take i es)) < 2 ^ 62
+    → length (patched rows (take i es)) < max_appended_rows
 few_next rows es i few =
     let a = patched_few rows (take i es) in
     let b = taken_few es i in omega (arith, few, a, b)
@@ -308,7 +309,7 @@ pub next_needs :
     → P rows → Fits rows (map (shift_image make) (turned t slots ns))
     → IsFew rows (map (shift_image make) (turned t slots ns))
     → (now : NumberedRows) × (Q now × (Fits now (map (shift_image make) (turned t slots (get_or ns i 0 ∷ [])))
-    × (length now < 2 ^ 62)))
+    × (length now < max_appended_rows)))
 next_needs P Q make t slots ns i rows below so_far before fits few =
     let es : List Shift = map (shift_image make) (turned t slots ns) in
     let next = next_of make t slots ns i rows below fits in (

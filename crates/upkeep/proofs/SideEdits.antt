@@ -52,7 +52,7 @@ use Rattle.upkeep.specs.Swaps.{CanSwap, swapped}
 use Rattle.row_keys.specs.HiddenChanges.{forgotten, hidden, named_keys, shown}
 use Rattle.row_keys.specs.TableChanges.{CanGoBack, IsChangeOf, Makes, back}
 use Rattle.upkeep.specs.Touched.{OpensOnce, refers, touched}
-use Rattle.upkeep.specs.ViewStates.{AreCurrent, DiffersAt, EachIsCurrent, IsBefore, stale_in, width_in}
+use Rattle.upkeep.specs.ViewStates.{AreCurrent, AreLeftCurrent, AreMadeCurrent, DiffersAt, EachIsCurrent, IsBefore, stale_in, width_in}
 use Rattle.row_keys.specs.declared.table_change.TableChange.{TableChange}
 use Rattle.upkeep.specs.declared.view_state.Turn.{Turn}
 use Rattle.upkeep.specs.declared.view_state.Turn.TheVariants as turn
@@ -69,18 +69,6 @@ pub record Changed (ss : List Store) (n : ℕ) (s t : Store) : Type 0 where
   pub is : s ≡ get_or ss n s
   pub below : n < length ss
   pub same : t.table ≡ s.table
-
--- views that were current before a change was turned are so after it
-abbrev pub MadeCurrent : ℕ → Turn → TableChange → List Store → List View → List ViewState → List ViewState → Type 0
-MadeCurrent n u c ss views old new =
-    (rows : Rows) → IsBefore n u c rows (rows_in ss) → AreCurrent (tables_in ss) rows views old
-    → AreCurrent (tables_in ss) (rows_in ss) views new
-
--- they are so still
-abbrev pub LeftCurrent : ℕ → Turn → TableChange → List Store → List View → List ViewState → List ViewState → Type 0
-LeftCurrent n u c ss views old new =
-    (rows : Rows) → IsBefore n u c rows (rows_in ss) → AreCurrent (tables_in ss) rows views old
-    → AreCurrent (tables_in ss) rows views new
 
 pub states_many :
     (tables : List Table) (rows : Rows) (main : NumberedRows) (views : List View) (states : List ViewState)
@@ -142,7 +130,7 @@ current_before ss views states n s t changed was =
 pub opened_live :
     (ss ss' : List Store) (views : List View) (states states' : List ViewState) (n : ℕ) (s t : Store)
     (u : Turn) (c : TableChange) → Changed ss n s t → HaveSameRows (slice_set ss n t) ss'
-    → live s.slots ≡ live (swapped u c t.slots) → MadeCurrent n u c (slice_set ss n t) views states states'
+    → live s.slots ≡ live (swapped u c t.slots) → AreMadeCurrent n u c (slice_set ss n t) views states states'
     → AreLive ss views states → AreLive ss' views states'
 opened_live ss ss' views states states' n s t u c changed opened same made was =
     let ts = changed_tables ss n s t changed in
@@ -238,7 +226,7 @@ restored_rows ss ss' n s t v u g changed opened is done undone =
 pub restored_live :
     (ss ss' : List Store) (views : List View) (states states' : List ViewState) (n : ℕ) (s t v u : Store)
     (g : List Slot → List Slot) (w : Turn) (c : TableChange) → Changed ss n s t → HaveSameRows (slice_set ss n t) ss'
-    → live s.slots ≡ live (swapped w c t.slots) → LeftCurrent n w c (slice_set ss n t) views states states'
+    → live s.slots ≡ live (swapped w c t.slots) → AreLeftCurrent n w c (slice_set ss n t) views states states'
     → v ≡ get_or ss' n v → u ≡ with_slots v (g v.slots)
     → g t.slots ≡ s.slots → AreLive ss views states → AreLive (slice_set ss' n u) views states'
 restored_live ss ss' views states states' n s t v u g w c changed opened same left is done undone was =

@@ -5,6 +5,7 @@ pub mod JoinedRows
 pub mod SideRows
 pub mod Swaps
 pub mod ViewStates
+pub mod Following
 pub mod AlikeRows
 pub mod LiveParts
 pub mod Arrivals

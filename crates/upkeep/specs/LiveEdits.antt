@@ -7,7 +7,7 @@ use Rattle.row_keys.specs.declared.faults.EditFault.{EditFault}
 use Rattle.row_keys.specs.declared.faults.EditFault.TheVariants as fault
 use Rattle.upkeep.specs.LiveParts.{LiveParts}
 use Rattle.upkeep.specs.Stores.{rows_at, rows_in, tables_in, visits_in}
-use Rattle.row_keys.specs.TableChanges.{IsChangeOf, Makes}
+use Rattle.row_keys.specs.TableChanges.{IsChangeOf, Makes, back}
 use Rattle.upkeep.specs.Touched.{OpensOnce, touched}
 use Rattle.row_keys.specs.declared.table_change.TableChange.{TableChange}
 
@@ -55,3 +55,9 @@ pub record WentBack {X E : Type 0} (n : ℕ) (slots : List Slot) (rows_touched :
   pub views : new.views ≡ old.views
   pub stale : OnOk answer (new.stale ≡ old.stale)
   pub visits : OnOk answer (OpensOnce old rows_touched new)
+
+-- This change of table n is taken back, or memory is refused.
+abbrev pub TakesBack : {X E : Type 0} → ℕ → TableChange → LiveParts → LiveParts → Result X E → Type 0
+TakesBack n change old new answer =
+    WentBack n (back change (rows_at (rows_in old.stores) n))
+    (touched (tables_in old.stores) old.views (rows_in old.stores) n change) old new answer

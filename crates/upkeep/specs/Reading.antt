@@ -17,7 +17,7 @@ use Rattle.top_rows.specs.ViewOrder.{AreFirst, IsKeptFor}
 use Rattle.row_keys.specs.Numbered.{numbered}
 use Rattle.row_keys.specs.Slots.{Slot, live, row_of}
 use Rattle.upkeep.specs.Shown.{IsLiveAt}
-use Rattle.upkeep.specs.ViewStates.{IsKept, made_row}
+use Rattle.upkeep.specs.ViewStates.{IsKeptLive, made_row}
 use Rattle.upkeep.specs.declared.view_state.Kept.{Kept}
 use Rattle.upkeep.specs.declared.view_state.Kept.TheVariants as kept
 
@@ -28,7 +28,12 @@ made_at v side slots numbers = filter_map (λ n. made_row v side (row_of slots n
 -- What is kept of a view is made of the live rows of the main table, which can be viewed.
 pub record IsReadable (tables : List Table) (v : View) (side : Side) (slots : List Slot) (k : Kept) : Type 0 where
   pub viewed : Viewed tables v side (live slots)
-  pub kept : IsKept v k (image (made_row v side) (numbered slots))
+  pub kept : IsKeptLive v k side slots
+
+-- This holds of the side table and of the rows wherever that is so.
+abbrev pub WhereReadable : View → Kept → (Side → List Slot → Type 0) → Type 0
+WhereReadable v k P =
+    (tables : List Table) (side : Side) (slots : List Slot) → IsReadable tables v side slots k → P side slots
 
 -- The first rows of groups that are kept of a view, as many as it asks for, are those that it shows.
 abbrev pub GroupsAreShown : Type 0

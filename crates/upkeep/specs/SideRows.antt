@@ -10,12 +10,12 @@ use Rattle.values.specs.declared.key.Key.{Key}
 use Rattle.view_lang.specs.Config.{View}
 use Rattle.view_lang.specs.Contents.{is_among}
 use Rattle.view_lang.specs.Joined.{Side, joined_by}
-use Rattle.view_lang.specs.Shifts.{Shift}
+use Rattle.view_lang.specs.Shifts.{Shift, shift}
 use Rattle.view_lang.specs.Truth.{passes}
 use Rattle.lookups.specs.Refers.{key_cmp}
 use Rattle.row_keys.specs.Slots.{Slot}
 use Rattle.upkeep.specs.JoinedRows.{side_cells}
-use Rattle.upkeep.specs.ViewStates.{made_row, remade_by}
+use Rattle.upkeep.specs.ViewStates.{made_by, made_row, remade_by}
 use Rattle.upkeep.specs.declared.side_rows.SideRows.{SideRows}
 use Rattle.upkeep.specs.declared.sided_row.SidedRow.{SidedRow}
 
@@ -52,3 +52,8 @@ kept_with v row found = option_and_then (λ r. cond (passes v.filter r) (Some r)
 
 abbrev pub sided_cells : SidedRow → List Datum
 sided_cells s = s.main.now ++ side_cells (option_map (λ cells. cells.now) s.side) s.nulls
+
+-- the change at a number where a view made one thing of a row of the main table, and makes another of it now
+abbrev pub sided_shift : View → ℕ → Option SidedRow → Option SidedRow → Shift
+sided_shift v n before after =
+    shift n (made_by v.outputs (option_map sided_cells before)) (made_by v.outputs (option_map sided_cells after))

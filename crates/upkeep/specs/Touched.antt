@@ -14,7 +14,8 @@ use Rattle.row_keys.specs.Slots.{Slot, live}
 use Rattle.sub_groups.specs.Moved.{is_moved}
 use Rattle.upkeep.specs.Inputs.{side_by}
 use Rattle.upkeep.specs.LiveParts.{LiveParts, view_at}
-use Rattle.upkeep.specs.Stores.{Rows, rows_at, rows_in, tables_in, visits_in}
+use Rattle.row_keys.specs.Store.{Store}
+use Rattle.upkeep.specs.Stores.{Rows, main_slots, rows_at, rows_in, tables_in, visits_in}
 use Rattle.row_keys.specs.HiddenChanges.{named_keys}
 use Rattle.upkeep.specs.ViewStates.{width_in}
 use Rattle.row_keys.specs.declared.table_change.TableChange.{TableChange}
@@ -33,6 +34,18 @@ opened_for n v table keys row = not (is_moved n v) && refers_by v.lookup table k
 -- whether it is for one of the views
 abbrev pub refers : ℕ → List View → ℕ → List Datum → List Datum → Bool
 refers n views table keys row = list_any (λ v. opened_for n v table keys row) views
+
+-- how many rows of the main table are opened for a view where this change of table n is made, or taken back
+abbrev pub count_opened : List Store → View → ℕ → TableChange → ℕ
+count_opened stores v n change =
+    count_by (opened_for (width_in (tables_in stores)) v n
+    (named_keys (table_at (tables_in stores) n) change (rows_at (rows_in stores) n))) (live (main_slots stores))
+
+-- how many refer to a row that it names, for one of these views that doesn't move rows together
+abbrev pub count_referring : List Store → List View → ℕ → TableChange → ℕ
+count_referring stores views n change =
+    count_by (refers (width_in (tables_in stores)) views n
+    (named_keys (table_at (tables_in stores) n) change (rows_at (rows_in stores) n))) (live (main_slots stores))
 
 -- How many rows of the main table a change touches: those that it names, or those that refer to a row that it names,
 -- for a view that doesn't move rows together.

@@ -35,17 +35,17 @@ use Rattle.view_lang.specs.declared.view.Missing.{Missing}
 use Rattle.view_lang.specs.declared.view.Missing.TheVariants as missing
 use Rattle.view_lang.specs.declared.view.OrderBy.{OrderBy}
 use Rattle.group_order.specs.Ranked.{Keeps as KeepsRanked, ranking_by}
-use Rattle.group_state.specs.Groups.{Keeps as KeepsGroups}
 use Rattle.group_state.specs.Aggregates.{IsKept as IsKeptColumn}
 use Rattle.group_state.specs.declared.kept_columns.KeptColumn.{KeptColumn}
 use Rattle.lookups.specs.Keeping.{Keeps as KeepsReferrers}
 use Rattle.sub_groups.specs.Moved.{is_moved}
-use Rattle.sub_groups.specs.SubGroups.{AreSubGroups, sub_row}
+use Rattle.sub_groups.specs.SubGroups.{AreSubGroups, KeepsSubGroups, sub_row}
 use Rattle.top_rows.specs.Keeping.{Keeps as KeepsOrder}
 use Rattle.row_keys.specs.Numbered.{come, gone, numbered}
 use Rattle.row_keys.specs.Slots.{Slot, last_numbers, live, row_of}
-use Rattle.upkeep.specs.Inputs.{side_by}
-use Rattle.upkeep.specs.Stores.{Rows, rows_at}
+use Rattle.row_keys.specs.Store.{Store}
+use Rattle.upkeep.specs.Inputs.{side_by, side_from}
+use Rattle.upkeep.specs.Stores.{Rows, main_slots, rows_at, rows_in, tables_in}
 use Rattle.upkeep.specs.Swaps.{swapped}
 use Rattle.row_keys.specs.declared.table_change.TableChange.{TableChange}
 use Rattle.upkeep.specs.declared.view_state.Kept.{Kept}
@@ -103,6 +103,10 @@ IsKeptBy Each (kept.Groups g) (groups by outputs having) order rows =
 abbrev pub IsKept : View → Kept → NumberedRows → Type 0
 IsKept v k rows = IsKeptBy (ShowsEach v) k v.outputs v.order rows
 
+-- What is kept of a view is made of those of these rows of the main table that are live.
+abbrev pub IsKeptLive : View → Kept → Side → List Slot → Type 0
+IsKeptLive v k side slots = IsKept v k (image (made_row v side) (numbered slots))
+
 -- the cell of a row of the main table that is looked up, if the view looks up a table
 abbrev pub referring_by : Option Lookup → List Datum → Option (List Datum)
 referring_by None row = None
@@ -124,7 +128,7 @@ link_row (links.SubGroups s) v row = sub_row_of v row
 -- Links keep these.
 abbrev pub KeepsLinks : Links → NumberedRows → Type 0
 KeepsLinks (links.Rows r) rows = KeepsReferrers r rows
-KeepsLinks (links.SubGroups s) rows = KeepsGroups s.groups (values_of rows)
+KeepsLinks (links.SubGroups s) rows = KeepsSubGroups s rows
 
 -- What links keep of a row that is dropped, of which this is the cell that it looks up: a row in no sub-group.
 abbrev pub IsDroppedLink : Links → Option Datum → Option (List Datum) → Type 0
@@ -170,6 +174,14 @@ EachIsCurrent tables rows live (v ∷ vs) (s ∷ ss) =
 -- Each view is stale, or kept current with the live rows of the tables.
 abbrev pub AreCurrent : List Table → Rows → List View → List ViewState → Type 0
 AreCurrent tables rows views states = EachIsCurrent tables rows (numbered (rows_at rows 0)) views states
+
+-- The same of a view of the tables in stores, and of views of them: they are stale, or current with these rows of the
+-- main table.
+abbrev pub IsCurrentFor : List Store → View → ViewState → NumberedRows → Type 0
+IsCurrentFor stores v s rows = IsCurrent (tables_in stores) v (side_from stores v) s rows
+
+abbrev pub AreCurrentFor : List Store → List View → List ViewState → NumberedRows → Type 0
+AreCurrentFor stores views states rows = EachIsCurrent (tables_in stores) (rows_in stores) rows views states
 
 -- the change at a number where a row comes, or goes
 abbrev pub turned_by : Turn → ℕ → Option (List Datum) → Shift
@@ -223,6 +235,24 @@ remade_change tables rows v n t c ns =
 pub record IsBefore (n : ℕ) (t : Turn) (c : TableChange) (old new : Rows) : Type 0 where
   pub differs : DiffersAt n old new
   pub live_same : live (rows_at old n) ≡ live (swapped t c (rows_at new n))
+
+-- A view that was current before the change of a table was turned is so after it.
+abbrev pub IsMadeCurrent : ℕ → Turn → TableChange → List Store → View → ViewState → ViewState → Type 0
+IsMadeCurrent n t c stores v old new =
+    (rows : Rows) → IsBefore n t c rows (rows_in stores) → IsCurrentWith (tables_in stores) rows v old
+    → IsCurrentWith (tables_in stores) (rows_in stores) v new
+
+-- views that were
+abbrev pub AreMadeCurrent : ℕ → Turn → TableChange → List Store → List View → List ViewState → List ViewState → Type 0
+AreMadeCurrent n t c stores views old new =
+    (rows : Rows) → IsBefore n t c rows (rows_in stores) → AreCurrent (tables_in stores) rows views old
+    → AreCurrent (tables_in stores) (rows_in stores) views new
+
+-- They are current with the rows before it still.
+abbrev pub AreLeftCurrent : ℕ → Turn → TableChange → List Store → List View → List ViewState → List ViewState → Type 0
+AreLeftCurrent n t c stores views old new =
+    (rows : Rows) → IsBefore n t c rows (rows_in stores) → AreCurrent (tables_in stores) rows views old
+    → AreCurrent (tables_in stores) rows views new
 
 -- whether the table of this number is looked up
 abbrev pub looks_up : Option Lookup → ℕ → Bool

@@ -1,14 +1,14 @@
 //! Brings what is kept of all views up to rows of the main table that come or go.
 
 ghost use Rattle.std.specs.Prelude.{◌≡◌, ◌<◌, ◌≤◌, ◌+◌, ◌*◌, [], All, count_by, false, IfOk, List, OnErr, OnOk, length, map, slice_set, true};
-ghost use Rattle.values.specs.Limits.{max_main_rows};
 ghost use Rattle.row_keys.specs.Slots.{last_numbers};
 ghost use Rattle.view_lang.specs.Config.{Table};
-ghost use Rattle.view_lang.specs.Shifts.{Fits, IsFew, NumberedRows, patched};
+ghost use Rattle.view_lang.specs.Shifts.{NumberedRows};
 ghost use Rattle.upkeep.specs.Arrivals.{EachTells, last_rows, rows_of_numbers};
+ghost use Rattle.upkeep.specs.Following.{CanFollow, CanFollowMain, ViewsFollow};
 ghost use Rattle.upkeep.specs.LiveParts.{AreOf};
-ghost use Rattle.upkeep.specs.Stores.{HaveSameRows, Rows, rows_at, rows_in, tables_in, visits_in};
-ghost use Rattle.upkeep.specs.ViewStates.{EachIsCurrent, stale_in, turned, turned_last, width_in};
+ghost use Rattle.upkeep.specs.Stores.{HaveSameRows, Rows, main_slots, visits_in};
+ghost use Rattle.upkeep.specs.ViewStates.{AreCurrentFor, EachIsCurrent, stale_in, turned, turned_last, width_in};
 
 use crate::arrivals::{Arrival, arrival_at};
 use crate::follow::follow;
@@ -80,18 +80,12 @@ fn follow_each(
 ) -> Result<(), AllocError>
     requires these { AreOf stores.old.items views.now }
     requires alike { length states.old.items ≡ length views.now }
-    requires there { All (λ n. n < length (rows_at (rows_in stores.old.items) 0)) numbers.now }
-    requires known { EachTells views.now (rows_of_numbers (rows_at (rows_in stores.old.items) 0) numbers.now)
-        arrivals.now }
-    requires fits { (rows : NumberedRows)
-        × (EachIsCurrent (tables_in stores.old.items) (rows_in stores.old.items) rows views.now states.old.items
-        × (Fits rows (turned turn (rows_at (rows_in stores.old.items) 0) numbers.now)
-        × IsFew rows (turned turn (rows_at (rows_in stores.old.items) 0) numbers.now))) }
-    ensures kept { OnOk result ((rows : NumberedRows)
-        → Fits rows (turned turn (rows_at (rows_in stores.old.items) 0) numbers.now)
-        → EachIsCurrent (tables_in stores.old.items) (rows_in stores.old.items) rows views.now states.old.items
-        → EachIsCurrent (tables_in stores.old.items) (rows_in stores.old.items)
-        (patched rows (turned turn (rows_at (rows_in stores.old.items) 0) numbers.now)) views.now states.new.items) }
+    requires there { All (λ n. n < length (main_slots stores.old.items)) numbers.now }
+    requires known { EachTells views.now (rows_of_numbers (main_slots stores.old.items) numbers.now) arrivals.now }
+    requires fits { CanFollow (AreCurrentFor stores.old.items views.now states.old.items)
+        (turned turn (main_slots stores.old.items) numbers.now) }
+    ensures kept { OnOk result (ViewsFollow stores.old.items views.now states.old.items states.new.items
+        (turned turn (main_slots stores.old.items) numbers.now)) }
     ensures stale { OnOk result (stale_in states.new.items ≡ stale_in states.old.items) }
     ensures many { length states.new.items ≡ length states.old.items }
     ensures same_rows { HaveSameRows stores.old.items stores.new.items }
@@ -123,18 +117,12 @@ pub(crate) fn follow_all(
     arrivals: &[Option<Arrival>],
 ) -> Result<(), AllocError>
     requires these { AreOf stores.old.items views.now }
-    requires there { All (λ n. n < length (rows_at (rows_in stores.old.items) 0)) numbers.now }
-    requires known { EachTells views.now (rows_of_numbers (rows_at (rows_in stores.old.items) 0) numbers.now)
-        arrivals.now }
-    requires fits { (rows : NumberedRows)
-        × (EachIsCurrent (tables_in stores.old.items) (rows_in stores.old.items) rows views.now states.old.items
-        × (Fits rows (turned turn (rows_at (rows_in stores.old.items) 0) numbers.now)
-        × IsFew rows (turned turn (rows_at (rows_in stores.old.items) 0) numbers.now))) }
-    ensures kept { OnOk result ((rows : NumberedRows)
-        → Fits rows (turned turn (rows_at (rows_in stores.old.items) 0) numbers.now)
-        → EachIsCurrent (tables_in stores.old.items) (rows_in stores.old.items) rows views.now states.old.items
-        → EachIsCurrent (tables_in stores.old.items) (rows_in stores.old.items)
-        (patched rows (turned turn (rows_at (rows_in stores.old.items) 0) numbers.now)) views.now states.new.items) }
+    requires there { All (λ n. n < length (main_slots stores.old.items)) numbers.now }
+    requires known { EachTells views.now (rows_of_numbers (main_slots stores.old.items) numbers.now) arrivals.now }
+    requires fits { CanFollow (AreCurrentFor stores.old.items views.now states.old.items)
+        (turned turn (main_slots stores.old.items) numbers.now) }
+    ensures kept { OnOk result (ViewsFollow stores.old.items views.now states.old.items states.new.items
+        (turned turn (main_slots stores.old.items) numbers.now)) }
     ensures stale { OnOk result (stale_in states.new.items ≡ stale_in states.old.items) }
     ensures err { OnErr result ((tables : List Table) → (rows : Rows) → (live : NumberedRows)
         → EachIsCurrent tables rows live views.now states.new.items) }
@@ -164,18 +152,13 @@ fn follow_these(
     arrivals: &[Option<Arrival>],
 ) -> Result<(), AllocError>
     requires these { AreOf stores.old.items views.now }
-    requires last { numbers.now ≡ last_numbers count (rows_at (rows_in stores.old.items) 0) }
-    requires there { count ≤ length (rows_at (rows_in stores.old.items) 0) }
-    requires known { EachTells views.now (last_rows count (rows_at (rows_in stores.old.items) 0)) arrivals.now }
-    requires fits { (rows : NumberedRows)
-        × (EachIsCurrent (tables_in stores.old.items) (rows_in stores.old.items) rows views.now states.old.items
-        × (Fits rows (turned_last turn (rows_at (rows_in stores.old.items) 0) count)
-        × (length rows ≤ max_main_rows))) }
-    ensures kept { OnOk result ((rows : NumberedRows)
-        → Fits rows (turned_last turn (rows_at (rows_in stores.old.items) 0) count)
-        → EachIsCurrent (tables_in stores.old.items) (rows_in stores.old.items) rows views.now states.old.items
-        → EachIsCurrent (tables_in stores.old.items) (rows_in stores.old.items)
-        (patched rows (turned_last turn (rows_at (rows_in stores.old.items) 0) count)) views.now states.new.items) }
+    requires last { numbers.now ≡ last_numbers count (main_slots stores.old.items) }
+    requires there { count ≤ length (main_slots stores.old.items) }
+    requires known { EachTells views.now (last_rows count (main_slots stores.old.items)) arrivals.now }
+    requires fits { CanFollowMain (AreCurrentFor stores.old.items views.now states.old.items)
+        (turned_last turn (main_slots stores.old.items) count) }
+    ensures kept { OnOk result (ViewsFollow stores.old.items views.now states.old.items states.new.items
+        (turned_last turn (main_slots stores.old.items) count)) }
     ensures stale { OnOk result (stale_in states.new.items ≡ stale_in states.old.items) }
     ensures err { OnErr result ((tables : List Table) → (rows : Rows) → (live : NumberedRows)
         → EachIsCurrent tables rows live views.now states.new.items) }
@@ -197,17 +180,12 @@ pub(crate) fn follow_last(
     arrivals: &[Option<Arrival>],
 ) -> Result<(), AllocError>
     requires these { AreOf stores.old.items views.now }
-    requires there { count ≤ length (rows_at (rows_in stores.old.items) 0) }
-    requires known { EachTells views.now (last_rows count (rows_at (rows_in stores.old.items) 0)) arrivals.now }
-    requires fits { (rows : NumberedRows)
-        × (EachIsCurrent (tables_in stores.old.items) (rows_in stores.old.items) rows views.now states.old.items
-        × (Fits rows (turned_last turn (rows_at (rows_in stores.old.items) 0) count)
-        × (length rows ≤ max_main_rows))) }
-    ensures kept { OnOk result ((rows : NumberedRows)
-        → Fits rows (turned_last turn (rows_at (rows_in stores.old.items) 0) count)
-        → EachIsCurrent (tables_in stores.old.items) (rows_in stores.old.items) rows views.now states.old.items
-        → EachIsCurrent (tables_in stores.old.items) (rows_in stores.old.items)
-        (patched rows (turned_last turn (rows_at (rows_in stores.old.items) 0) count)) views.now states.new.items) }
+    requires there { count ≤ length (main_slots stores.old.items) }
+    requires known { EachTells views.now (last_rows count (main_slots stores.old.items)) arrivals.now }
+    requires fits { CanFollowMain (AreCurrentFor stores.old.items views.now states.old.items)
+        (turned_last turn (main_slots stores.old.items) count) }
+    ensures kept { OnOk result (ViewsFollow stores.old.items views.now states.old.items states.new.items
+        (turned_last turn (main_slots stores.old.items) count)) }
     ensures stale { OnOk result (stale_in states.new.items ≡ stale_in states.old.items) }
     ensures err { OnErr result ((tables : List Table) → (rows : Rows) → (live : NumberedRows)
         → EachIsCurrent tables rows live views.now states.new.items) }

@@ -5,7 +5,6 @@ ghost use Rattle.std.specs.Prelude.{
   ◌<◌,
   ◌≤◌,
   ◌+◌,
-  ◌^◌,
   [],
   ◌∷◌,
   All,
@@ -22,14 +21,14 @@ ghost use Rattle.std.specs.Prelude.{
 ghost use Rattle.std.specs.Option.{option_copied};
 ghost use Rattle.values.specs.Datum.{Datum};
 ghost use Rattle.view_lang.specs.ConfigRules.{IsView};
-ghost use Rattle.view_lang.specs.Shifts.{Fits, IsFew, NumberedRows, patched};
 ghost use Rattle.row_keys.specs.Numbered.{numbered};
 ghost use Rattle.row_keys.specs.Slots.{live, no_slot, row_of};
 ghost use Rattle.upkeep.specs.Arrivals.{Tells, TellsOf, opened_at, opened_first, rows_of_numbers};
-ghost use Rattle.upkeep.specs.Inputs.{side_by};
-ghost use Rattle.upkeep.specs.Stores.{HaveSameRows, rows_at, rows_in, tables_in, visits_in};
+ghost use Rattle.upkeep.specs.Following.{CanFollow, CanTurn, KeptFollows, LinksFollow, ViewFollows};
+ghost use Rattle.upkeep.specs.Inputs.{side_from};
+ghost use Rattle.upkeep.specs.Stores.{HaveSameRows, main_slots, rows_in, tables_in, visits_in};
 ghost use Rattle.upkeep.specs.ViewStates.{
-  IsCurrent,
+  IsCurrentFor,
   IsDroppedLink,
   IsKept,
   KeepsLinks,
@@ -64,17 +63,11 @@ fn turn_main_row(
     keys: &mut KeyBuffer,
 ) -> Result<(), AllocError>
     requires view { IsView (tables_in stores.now) view.now }
-    requires fits { (rows : NumberedRows) × (IsKept view.now kept.old rows
-        × (Fits rows (turned_by turn number
-        (made_row view.now (side_by (tables_in stores.now) (rows_in stores.now) view.now) row) ∷ [])
-        × (length rows < 2 ^ 62))) }
+    requires fits { CanTurn (IsKept view.now kept.old) (turned_by turn number
+        (made_row view.now (side_from stores.now view.now) row) ∷ []) }
     ensures columns { OnOk result (columns_in kept.new ≡ columns_in kept.old) }
-    ensures kept { OnOk result ((rows : NumberedRows)
-        → Fits rows (turned_by turn number
-        (made_row view.now (side_by (tables_in stores.now) (rows_in stores.now) view.now) row.entry) ∷ [])
-        → IsKept view.now kept.old rows
-        → IsKept view.now kept.new (patched rows (turned_by turn number
-        (made_row view.now (side_by (tables_in stores.now) (rows_in stores.now) view.now) row.entry) ∷ []))) }
+    ensures kept { OnOk result (KeptFollows view.now kept.old kept.new
+        (turned_by turn number (made_row view.now (side_from stores.now view.now) row.entry) ∷ [])) }
 {
     if let Kept::Live = kept {
         return Ok(());
@@ -86,11 +79,10 @@ fn turn_main_row(
 /// Whether the row of this number, which comes or goes, was gone before: a row that isn't live doesn't go.
 fn is_gone(stores: &[RowStore], turn: Turn, number: usize) -> bool
     requires main { 0 < length stores.now }
-    requires there { number < length (rows_at (rows_in stores.now) 0) }
-    ensures gone { result ≡ true
-        → (turn ≡ turn_is.Go) × ((get_or (rows_at (rows_in stores.now) 0) number no_slot).live ≡ false) }
-    ensures there { result ≡ false → turn ≡ turn_is.Go
-        → (get_or (rows_at (rows_in stores.now) 0) number no_slot).live ≡ true }
+    requires there { number < length (main_slots stores.now) }
+    ensures gone { result ≡ true → (turn ≡ turn_is.Go) × ((get_or (main_slots stores.now) number no_slot).live
+        ≡ false) }
+    ensures there { result ≡ false → turn ≡ turn_is.Go → (get_or (main_slots stores.now) number no_slot).live ≡ true }
 {
     match turn {
         Turn::Come => false,
@@ -106,9 +98,9 @@ fn turn_dropped(
     number: usize,
     looked_up: Option<&Value>,
 ) -> Result<(), AllocError>
-    ensures kept { OnOk result ((rows : NumberedRows) (row : Option (List Datum))
-        → IsDroppedLink links.old (option_copied looked_up.entry) row → Fits rows (turned_by turn number row ∷ [])
-        → KeepsLinks links.old rows → KeepsLinks links.new (patched rows (turned_by turn number row ∷ []))) }
+    ensures kept { OnOk result ((row : Option (List Datum))
+        → IsDroppedLink links.old (option_copied looked_up.entry) row
+        → LinksFollow links.old links.new (turned_by turn number row ∷ [])) }
     ensures form { OnOk result (form_of links.new ≡ form_of links.old) }
 {
     match links {
@@ -137,25 +129,17 @@ fn follow_number(
 ) -> Result<(), AllocError>
     requires view { IsView (tables_in stores.old.items) view.now }
     requires main { 0 < length stores.old.items }
-    requires there { number < length (rows_at (rows_in stores.old.items) 0) }
-    requires known { TellsOf view.now arrival.now index (row_of (rows_at (rows_in stores.old.items) 0) number) }
-    requires fits { (rows : NumberedRows) × (IsKept view.now state.old.kept rows
-        × (Fits rows (made_change (tables_in stores.old.items) (rows_in stores.old.items) view.now turn (number ∷ []))
-        × (length rows < 2 ^ 62))) }
-    requires links { (rows : NumberedRows) × (KeepsLinks state.old.links rows
-        × (Fits rows (link_change (rows_at (rows_in stores.old.items) 0) state.old.links view.now turn (number ∷ []))
-        × (length rows < 2 ^ 62))) }
-    ensures kept { OnOk result ((rows : NumberedRows)
-        → Fits rows (made_change (tables_in stores.old.items) (rows_in stores.old.items) view.now turn (number ∷ []))
-        → IsKept view.now state.old.kept rows
-        → IsKept view.now state.new.kept (patched rows
-        (made_change (tables_in stores.old.items) (rows_in stores.old.items) view.now turn (number ∷ [])))) }
+    requires there { number < length (main_slots stores.old.items) }
+    requires known { TellsOf view.now arrival.now index (row_of (main_slots stores.old.items) number) }
+    requires fits { CanTurn (IsKept view.now state.old.kept)
+        (made_change (tables_in stores.old.items) (rows_in stores.old.items) view.now turn (number ∷ [])) }
+    requires links { CanTurn (KeepsLinks state.old.links)
+        (link_change (main_slots stores.old.items) state.old.links view.now turn (number ∷ [])) }
+    ensures kept { OnOk result (KeptFollows view.now state.old.kept state.new.kept
+        (made_change (tables_in stores.old.items) (rows_in stores.old.items) view.now turn (number ∷ []))) }
     ensures columns { OnOk result (columns_in state.new.kept ≡ columns_in state.old.kept) }
-    ensures links { OnOk result ((rows : NumberedRows)
-        → Fits rows (link_change (rows_at (rows_in stores.old.items) 0) state.old.links view.now turn (number ∷ []))
-        → KeepsLinks state.old.links rows
-        → KeepsLinks state.new.links (patched rows
-        (link_change (rows_at (rows_in stores.old.items) 0) state.old.links view.now turn (number ∷ [])))) }
+    ensures links { OnOk result (LinksFollow state.old.links state.new.links
+        (link_change (main_slots stores.old.items) state.old.links view.now turn (number ∷ []))) }
     ensures form { OnOk result (form_of state.new.links ≡ form_of state.old.links) }
     ensures stale { state.new.stale ≡ state.old.stale }
     ensures same_rows { HaveSameRows stores.old.items stores.new.items }
@@ -188,25 +172,17 @@ fn follow_numbers(
 ) -> Result<(), AllocError>
     requires view { IsView (tables_in stores.old.items) view.now }
     requires main { 0 < length stores.old.items }
-    requires there { All (λ n. n < length (rows_at (rows_in stores.old.items) 0)) numbers.now }
-    requires known { Tells view.now (rows_of_numbers (rows_at (rows_in stores.old.items) 0) numbers.now) arrival.now }
-    requires fits { (rows : NumberedRows) × (IsKept view.now state.old.kept rows
-        × (Fits rows (made_change (tables_in stores.old.items) (rows_in stores.old.items) view.now turn numbers.now)
-        × IsFew rows (made_change (tables_in stores.old.items) (rows_in stores.old.items) view.now turn numbers.now))) }
-    requires links { (rows : NumberedRows) × (KeepsLinks state.old.links rows
-        × (Fits rows (link_change (rows_at (rows_in stores.old.items) 0) state.old.links view.now turn numbers.now)
-        × IsFew rows (link_change (rows_at (rows_in stores.old.items) 0) state.old.links view.now turn numbers.now))) }
-    ensures kept { OnOk result ((rows : NumberedRows)
-        → Fits rows (made_change (tables_in stores.old.items) (rows_in stores.old.items) view.now turn numbers.now)
-        → IsKept view.now state.old.kept rows
-        → IsKept view.now state.new.kept (patched rows
-        (made_change (tables_in stores.old.items) (rows_in stores.old.items) view.now turn numbers.now))) }
+    requires there { All (λ n. n < length (main_slots stores.old.items)) numbers.now }
+    requires known { Tells view.now (rows_of_numbers (main_slots stores.old.items) numbers.now) arrival.now }
+    requires fits { CanFollow (IsKept view.now state.old.kept)
+        (made_change (tables_in stores.old.items) (rows_in stores.old.items) view.now turn numbers.now) }
+    requires links { CanFollow (KeepsLinks state.old.links)
+        (link_change (main_slots stores.old.items) state.old.links view.now turn numbers.now) }
+    ensures kept { OnOk result (KeptFollows view.now state.old.kept state.new.kept
+        (made_change (tables_in stores.old.items) (rows_in stores.old.items) view.now turn numbers.now)) }
     ensures columns { OnOk result (columns_in state.new.kept ≡ columns_in state.old.kept) }
-    ensures links { OnOk result ((rows : NumberedRows)
-        → Fits rows (link_change (rows_at (rows_in stores.old.items) 0) state.old.links view.now turn numbers.now)
-        → KeepsLinks state.old.links rows
-        → KeepsLinks state.new.links (patched rows
-        (link_change (rows_at (rows_in stores.old.items) 0) state.old.links view.now turn numbers.now))) }
+    ensures links { OnOk result (LinksFollow state.old.links state.new.links
+        (link_change (main_slots stores.old.items) state.old.links view.now turn numbers.now)) }
     ensures form { OnOk result (form_of state.new.links ≡ form_of state.old.links) }
     ensures stale { state.new.stale ≡ state.old.stale }
     ensures same_rows { HaveSameRows stores.old.items stores.new.items }
@@ -243,20 +219,12 @@ pub(crate) fn follow(
 ) -> Result<(), AllocError>
     requires view { IsView (tables_in stores.old.items) view.now }
     requires main { 0 < length stores.old.items }
-    requires there { All (λ n. n < length (rows_at (rows_in stores.old.items) 0)) numbers.now }
-    requires known { Tells view.now (rows_of_numbers (rows_at (rows_in stores.old.items) 0) numbers.now) arrival.now }
-    requires fits { (rows : NumberedRows)
-        × (IsCurrent (tables_in stores.old.items) view.now
-        (side_by (tables_in stores.old.items) (rows_in stores.old.items) view.now) state.old rows
-        × (Fits rows (turned turn (rows_at (rows_in stores.old.items) 0) numbers.now)
-        × IsFew rows (turned turn (rows_at (rows_in stores.old.items) 0) numbers.now))) }
-    ensures kept { OnOk result ((rows : NumberedRows)
-        → Fits rows (turned turn (rows_at (rows_in stores.old.items) 0) numbers.now)
-        → IsCurrent (tables_in stores.old.items) view.now
-        (side_by (tables_in stores.old.items) (rows_in stores.old.items) view.now) state.old rows
-        → IsCurrent (tables_in stores.old.items) view.now
-        (side_by (tables_in stores.old.items) (rows_in stores.old.items) view.now) state.new
-        (patched rows (turned turn (rows_at (rows_in stores.old.items) 0) numbers.now))) }
+    requires there { All (λ n. n < length (main_slots stores.old.items)) numbers.now }
+    requires known { Tells view.now (rows_of_numbers (main_slots stores.old.items) numbers.now) arrival.now }
+    requires fits { CanFollow (IsCurrentFor stores.old.items view.now state.old)
+        (turned turn (main_slots stores.old.items) numbers.now) }
+    ensures kept { OnOk result (ViewFollows stores.old.items view.now state.old state.new
+        (turned turn (main_slots stores.old.items) numbers.now)) }
     ensures stale { OnOk result (state.new.stale ≡ state.old.stale) }
     ensures left { state.old.stale ≡ true → state.new ≡ state.old }
     ensures err { OnErr result (state.new.stale ≡ true) }
@@ -289,13 +257,11 @@ pub(crate) fn rebuild(
     requires view { IsView (tables_in stores.old.items) view.now }
     requires main { 0 < length stores.old.items }
     ensures fresh { IfOk result (λ state. state.stale ≡ false) }
-    ensures current { IfOk result (λ state.
-        IsCurrent (tables_in stores.old.items) view.now
-        (side_by (tables_in stores.old.items) (rows_in stores.old.items) view.now) state
-        (numbered (rows_at (rows_in stores.old.items) 0))) }
+    ensures current { IfOk result (λ state. IsCurrentFor stores.old.items view.now state
+        (numbered (main_slots stores.old.items))) }
     ensures same_rows { HaveSameRows stores.old.items stores.new.items }
-    ensures visits { visits_in stores.new.items
-        ≤ visits_in stores.old.items + length (live (rows_at (rows_in stores.old.items) 0)) }
+    ensures visits { visits_in stores.new.items ≤ visits_in stores.old.items
+        + length (live (main_slots stores.old.items)) }
 {
     numbers_law();
     let numbers = stores[0].live_numbers()?;

@@ -36,13 +36,13 @@ ghost use Rattle.row_keys.specs.Slots.{
 };
 ghost use Rattle.row_keys.specs.Store.{live_in};
 ghost use Rattle.upkeep.specs.LiveParts.{AreOf, store_at, view_at};
-ghost use Rattle.upkeep.specs.LiveEdits.{Edited, NoneBecomesStale, WentBack};
+ghost use Rattle.upkeep.specs.LiveEdits.{Edited, NoneBecomesStale, TakesBack, WentBack};
 ghost use Rattle.upkeep.specs.Shown.{IsLiveAt};
-ghost use Rattle.upkeep.specs.Stores.{HaveSameRows, rows_at, rows_in, tables_in, visits_in};
-ghost use Rattle.row_keys.specs.TableChanges.{CanGoBack, IsBatchOf, IsChangeOf, back, change_by, restores};
+ghost use Rattle.upkeep.specs.Stores.{HaveSameRows, main_slots, rows_at, rows_in, tables_in, visits_in};
+ghost use Rattle.row_keys.specs.TableChanges.{CanGoBack, IsBatchOf, IsChangeOf, change_by, restores};
 ghost use Rattle.upkeep.specs.Stores.{released_at};
 ghost use Rattle.upkeep.specs.TablesParts.{AreLiveParts, live_with};
-ghost use Rattle.upkeep.specs.Touched.{OpensShown, built_of, touched};
+ghost use Rattle.upkeep.specs.Touched.{OpensShown, built_of};
 ghost use Rattle.upkeep.specs.ViewStates.{width_in};
 ghost use Rattle.upkeep.specs.ViewedRows.{IsViewed, ShowsView};
 
@@ -307,8 +307,8 @@ impl LiveTables {
 
     /// Undoes an append of `count` rows to the main table.
     fn take_back(&mut self, count: usize) -> Result<(), AllocError>
-        requires { CanTakeBack count (rows_at (rows_in self.old.stores) 0) }
-        ensures { WentBack 0 (taken_back count (rows_at (rows_in self.old.stores) 0)) count self.old self.new result }
+        requires { CanTakeBack count (main_slots self.old.stores) }
+        ensures { WentBack 0 (taken_back count (main_slots self.old.stores)) count self.old self.new result }
     {
         numbers_law();
         self.stores[0].rows_law();
@@ -327,10 +327,9 @@ impl LiveTables {
 
     /// Puts retracted rows of the main table back.
     fn put_back(&mut self, numbers: &[usize]) -> Result<(), AllocError>
-        requires { CanPutBack (table_at (tables_in self.old.stores) 0) numbers.now
-            (rows_at (rows_in self.old.stores) 0) }
-        ensures { WentBack 0 (put_back numbers.now (rows_at (rows_in self.old.stores) 0)) (length numbers.now) self.old
-            self.new result }
+        requires { CanPutBack (table_at (tables_in self.old.stores) 0) numbers.now (main_slots self.old.stores) }
+        ensures { WentBack 0 (put_back numbers.now (main_slots self.old.stores)) (length numbers.now) self.old self.new
+            result }
     {
         numbers_law();
         self.stores[0].rows_law();
@@ -350,11 +349,8 @@ impl LiveTables {
     /// Takes back a change of the main table.
     fn go_back_main(&mut self, change: &TableChange) -> Result<(), AllocError>
         requires kind { IsChangeOf 0 change.now }
-        requires can { CanGoBack (table_at (tables_in self.old.stores) 0) change.now
-            (rows_at (rows_in self.old.stores) 0) }
-        ensures { WentBack 0 (back change.now (rows_at (rows_in self.old.stores) 0))
-            (touched (tables_in self.old.stores) self.old.views (rows_in self.old.stores) 0 change.now) self.old
-            self.new result }
+        requires can { CanGoBack (table_at (tables_in self.old.stores) 0) change.now (main_slots self.old.stores) }
+        ensures { TakesBack 0 change.now self.old self.new result }
     {
         match change {
             TableChange::Appended(count) => self.take_back(*count),
@@ -371,9 +367,7 @@ impl LiveTables {
         requires kind { IsChangeOf table change.now }
         requires can { CanGoBack (table_at (tables_in self.old.stores) table) change.now
             (rows_at (rows_in self.old.stores) table) }
-        ensures { WentBack table (back change.now (rows_at (rows_in self.old.stores) table))
-            (touched (tables_in self.old.stores) self.old.views (rows_in self.old.stores) table change.now) self.old
-            self.new result }
+        ensures { TakesBack table change.now self.old self.new result }
     {
         swap(&mut self.stores[table], change, Turn::Come);
         match follow_lookups(
@@ -403,9 +397,7 @@ impl LiveTables {
         requires kind { IsChangeOf table change.now }
         requires can { CanGoBack (table_at (tables_in self.old.stores) table) change.now
             (rows_at (rows_in self.old.stores) table) }
-        ensures { WentBack table (back change.now (rows_at (rows_in self.old.stores) table))
-            (touched (tables_in self.old.stores) self.old.views (rows_in self.old.stores) table change.now) self.old
-            self.new result }
+        ensures { TakesBack table change.now self.old self.new result }
     {
         if table == 0 {
             self.go_back_main(change)
@@ -437,7 +429,7 @@ impl LiveTables {
         ensures stale { OnOk result (self.new.stale ≡ slice_set self.old.stale place false) }
         ensures err { OnErr result (self.new.stale ≡ self.old.stale) }
         ensures visits { visits_in self.new.stores ≤ visits_in self.old.stores
-            + built_of (get_or self.old.stale place true) (rows_at (rows_in self.old.stores) 0) }
+            + built_of (get_or self.old.stale place true) (main_slots self.old.stores) }
     {
         if self.states[place].stale {
             let state = rebuild(self.alloc, &mut self.stores, &self.views[place])?;
@@ -465,9 +457,9 @@ impl LiveTables {
 
     /// Where the visited rows of the main table lie, which are live: as many as lie one after the other at once.
     pub fn ranges(&self, visits: Visits) -> Result<Vec<RowRange<'_>>, AllocError>
-        requires { All (IsLiveAt (rows_at (rows_in self.now.stores) 0)) visits }
-        ensures rows { IfOk result (λ ranges.
-            ranges_rows ranges.items ≡ map (row_of (rows_at (rows_in self.now.stores) 0)) visits) }
+        requires { All (IsLiveAt (main_slots self.now.stores)) visits }
+        ensures rows { IfOk result (λ ranges. ranges_rows ranges.items
+            ≡ map (row_of (main_slots self.now.stores)) visits) }
         ensures ranges { IfOk result (λ ranges. All (IsRange (width_in (tables_in self.now.stores))) ranges.items) }
     {
         self.stores[0].ranges(visits)
@@ -475,9 +467,9 @@ impl LiveTables {
 
     /// Where the visited rows of the main table lie, which are live: each by itself.
     pub fn places(&self, visits: Visits) -> Result<StoredPlaces<'_>, AllocError>
-        requires { All (IsLiveAt (rows_at (rows_in self.now.stores) 0)) visits }
+        requires { All (IsLiveAt (main_slots self.now.stores)) visits }
         ensures rows { IfOk result (λ found. placed_rows found.batches.items found.places.items
-            ≡ map (row_of (rows_at (rows_in self.now.stores) 0)) visits) }
+            ≡ map (row_of (main_slots self.now.stores)) visits) }
         ensures placed { IfOk result (λ found.
             All (IsPlaced (width_in (tables_in self.now.stores)) found.batches.items) found.places.items) }
     {

@@ -1,27 +1,29 @@
 //! Brings what is kept of views up to changes of a side table that they look up.
 
-ghost use Rattle.std.specs.Prelude.{◌≡◌, ◌<◌, ◌≤◌, ◌+◌, ◌*◌, All, count_by, length, map, true, OnErr, OnOk};
+ghost use Rattle.std.specs.Prelude.{◌≡◌, ◌<◌, ◌≤◌, ◌+◌, ◌*◌, All, length, map, true, OnErr, OnOk};
 ghost use Rattle.values.specs.Keys.{datum_of_key};
 ghost use Rattle.view_lang.specs.ConfigRules.{IsView};
-ghost use Rattle.view_lang.specs.Shifts.{Fits, IsFew, NumberedRows, patched};
 ghost use Rattle.view_lang.specs.TableRules.{IsSideTable};
 ghost use Rattle.view_lang.specs.World.{table_at};
-ghost use Rattle.row_keys.specs.Slots.{live, row_of};
+ghost use Rattle.row_keys.specs.Slots.{row_of};
+ghost use Rattle.upkeep.specs.Following.{CanFollow, KeptFollows};
 ghost use Rattle.upkeep.specs.LiveParts.{AreOf};
-ghost use Rattle.upkeep.specs.Stores.{HaveSameRows, Rows, rows_at, rows_in, tables_in, visits_in};
+ghost use Rattle.upkeep.specs.Stores.{HaveSameRows, Rows, main_slots, rows_at, rows_in, tables_in, visits_in};
 ghost use Rattle.upkeep.specs.Swaps.{CanSwap};
 ghost use Rattle.row_keys.specs.HiddenChanges.{named_keys};
-ghost use Rattle.upkeep.specs.Touched.{opened_for, refers, refers_by};
+ghost use Rattle.upkeep.specs.Touched.{count_opened, count_referring, refers_by};
 ghost use Rattle.upkeep.specs.ViewStates.{
   AreCurrent,
+  AreLeftCurrent,
+  AreMadeCurrent,
   IsBefore,
   IsCurrentWith,
   IsKept,
+  IsMadeCurrent,
   looks_up,
   lookups_stale,
   remade_change,
   stale_in,
-  width_in,
 };
 
 use crate::remaking::remake_numbers;
@@ -72,21 +74,14 @@ fn remake_rows(
     requires side { IsSideTable (table_at (tables_in stores.old.items) table) }
     requires swaps { CanSwap turn (table_at (tables_in stores.old.items) table) change.now
         (rows_at (rows_in stores.old.items) table) }
-    requires numbers { All (λ n. n < length (rows_at (rows_in stores.old.items) 0)) numbers.now }
+    requires numbers { All (λ n. n < length (main_slots stores.old.items)) numbers.now }
     requires refer { All (λ n. refers_by view.now.lookup table (map datum_of_key keys.now)
-        (row_of (rows_at (rows_in stores.old.items) 0) n) ≡ true) numbers.now }
-    requires fits { (rows : NumberedRows) × (IsKept view.now kept.old rows
-        × (Fits rows (remade_change (tables_in stores.old.items) (rows_in stores.old.items) view.now table turn
-        change.now numbers.now)
-        × IsFew rows (remade_change (tables_in stores.old.items) (rows_in stores.old.items) view.now table turn
-        change.now numbers.now))) }
-    ensures kept { OnOk result ((rows : NumberedRows)
-        → Fits rows (remade_change (tables_in stores.old.items) (rows_in stores.old.items) view.now table turn
-        change.now numbers.now)
-        → IsKept view.now kept.old rows
-        → IsKept view.now kept.new (patched rows
+        (row_of (main_slots stores.old.items) n) ≡ true) numbers.now }
+    requires fits { CanFollow (IsKept view.now kept.old) (remade_change (tables_in stores.old.items)
+        (rows_in stores.old.items) view.now table turn change.now numbers.now) }
+    ensures kept { OnOk result (KeptFollows view.now kept.old kept.new
         (remade_change (tables_in stores.old.items) (rows_in stores.old.items) view.now table turn change.now
-        numbers.now))) }
+        numbers.now)) }
     ensures same_rows { HaveSameRows stores.old.items stores.new.items }
     ensures visits { visits_in stores.new.items ≤ visits_in stores.old.items + length numbers.now }
 {
@@ -123,17 +118,12 @@ fn follow_lookup(
         (rows_at (rows_in stores.old.items) table) }
     requires current { (old : Rows) × IsBefore table turn change.now old (rows_in stores.old.items)
         × IsCurrentWith (tables_in stores.old.items) old view.now state.old }
-    ensures kept { OnOk result ((old : Rows) → IsBefore table turn change.now old (rows_in stores.old.items)
-        → IsCurrentWith (tables_in stores.old.items) old view.now state.old
-        → IsCurrentWith (tables_in stores.old.items) (rows_in stores.old.items) view.now state.new) }
+    ensures kept { OnOk result (IsMadeCurrent table turn change.now stores.old.items view.now state.old state.new) }
     ensures stale { OnOk result (state.new.stale ≡ state.old.stale) }
     ensures err { OnErr result (looks_up view.now.lookup table ≡ true) }
     ensures same_rows { HaveSameRows stores.old.items stores.new.items }
     ensures visits { visits_in stores.new.items ≤ visits_in stores.old.items
-        + count_by (opened_for (width_in (tables_in stores.old.items)) view.now table
-        (named_keys (table_at (tables_in stores.old.items) table) change.now
-        (rows_at (rows_in stores.old.items) table)))
-        (live (rows_at (rows_in stores.old.items) 0)) }
+        + count_opened stores.old.items view.now table change.now }
 {
     // They do nothing: the proof takes from them what a view makes of the rows that refer to the keys.
     image_law();
@@ -192,22 +182,17 @@ fn follow_lookups_of(
         (rows_at (rows_in stores.old.items) table) }
     requires current { (old : Rows) × IsBefore table turn change.now old (rows_in stores.old.items)
         × AreCurrent (tables_in stores.old.items) old views.now states.old.items }
-    ensures kept { OnOk result ((old : Rows) → IsBefore table turn change.now old (rows_in stores.old.items)
-        → AreCurrent (tables_in stores.old.items) old views.now states.old.items
-        → AreCurrent (tables_in stores.old.items) (rows_in stores.old.items) views.now states.new.items) }
+    ensures kept { OnOk result (AreMadeCurrent table turn change.now stores.old.items views.now states.old.items
+        states.new.items) }
     ensures stale { OnOk result (stale_in states.new.items ≡ stale_in states.old.items) }
-    ensures err { OnErr result ((old : Rows) → IsBefore table turn change.now old (rows_in stores.old.items)
-        → AreCurrent (tables_in stores.old.items) old views.now states.old.items
-        → AreCurrent (tables_in stores.old.items) old views.now states.new.items) }
+    ensures err { OnErr result (AreLeftCurrent table turn change.now stores.old.items views.now states.old.items
+        states.new.items) }
     ensures err_stale { OnErr result (stale_in states.new.items
         ≡ stale_in (lookups_stale table views.now states.old.items)) }
     ensures many { length states.new.items ≡ length states.old.items }
     ensures same_rows { HaveSameRows stores.old.items stores.new.items }
     ensures visits { visits_in stores.new.items ≤ visits_in stores.old.items + length views.now
-        * count_by (refers (width_in (tables_in stores.old.items)) views.now table
-        (named_keys (table_at (tables_in stores.old.items) table) change.now
-        (rows_at (rows_in stores.old.items) table)))
-        (live (rows_at (rows_in stores.old.items) 0)) }
+        * count_referring stores.old.items views.now table change.now }
 {
     for place in 0..views.len() {
         let view = &views[place];
@@ -246,22 +231,17 @@ pub(crate) fn follow_lookups(
         (rows_at (rows_in stores.old.items) table) }
     requires current { (old : Rows) × IsBefore table turn change.now old (rows_in stores.old.items)
         × AreCurrent (tables_in stores.old.items) old views.now states.old.items }
-    ensures kept { OnOk result ((old : Rows) → IsBefore table turn change.now old (rows_in stores.old.items)
-        → AreCurrent (tables_in stores.old.items) old views.now states.old.items
-        → AreCurrent (tables_in stores.old.items) (rows_in stores.old.items) views.now states.new.items) }
+    ensures kept { OnOk result (AreMadeCurrent table turn change.now stores.old.items views.now states.old.items
+        states.new.items) }
     ensures stale { OnOk result (stale_in states.new.items ≡ stale_in states.old.items) }
-    ensures err { OnErr result ((old : Rows) → IsBefore table turn change.now old (rows_in stores.old.items)
-        → AreCurrent (tables_in stores.old.items) old views.now states.old.items
-        → AreCurrent (tables_in stores.old.items) old views.now states.new.items) }
+    ensures err { OnErr result (AreLeftCurrent table turn change.now stores.old.items views.now states.old.items
+        states.new.items) }
     ensures err_stale { OnErr result (stale_in states.new.items
         ≡ stale_in (lookups_stale table views.now states.old.items)) }
     ensures many { length states.new.items ≡ length states.old.items }
     ensures same_rows { HaveSameRows stores.old.items stores.new.items }
     ensures visits { visits_in stores.new.items ≤ visits_in stores.old.items + length views.now
-        * count_by (refers (width_in (tables_in stores.old.items)) views.now table
-        (named_keys (table_at (tables_in stores.old.items) table) change.now
-        (rows_at (rows_in stores.old.items) table)))
-        (live (rows_at (rows_in stores.old.items) 0)) }
+        * count_referring stores.old.items views.now table change.now }
 {
     let keys = match stores[table].named_keys(change) {
         Ok(keys) => keys,

@@ -10,8 +10,8 @@ ghost use Rattle.view_lang.specs.TableRules.{IsTable};
 ghost use Rattle.view_lang.specs.Outputs.{columns};
 ghost use Rattle.view_lang.specs.Views.{shown_row, view_rows};
 ghost use Rattle.row_keys.specs.Numbered.{numbered};
-ghost use Rattle.row_keys.specs.Slots.{Slot, live, row_of};
-ghost use Rattle.upkeep.specs.Inputs.{listed, side_by};
+ghost use Rattle.row_keys.specs.Slots.{live, row_of};
+ghost use Rattle.upkeep.specs.Inputs.{listed, side_from};
 ghost use Rattle.upkeep.specs.JoinedRows.{joined_cells};
 ghost use Rattle.upkeep.specs.Reading.{
   AreShown,
@@ -19,11 +19,12 @@ ghost use Rattle.upkeep.specs.Reading.{
   GroupsAreShown,
   IsReadable,
   LiveAreShown,
+  WhereReadable,
   made_at,
 };
-ghost use Rattle.upkeep.specs.Stores.{HaveSameRows, rows_at, rows_in, tables_in, visits_in};
+ghost use Rattle.upkeep.specs.Stores.{HaveSameRows, main_slots, tables_in, visits_in};
 ghost use Rattle.upkeep.specs.Touched.{opened_of};
-ghost use Rattle.upkeep.specs.ViewStates.{IsCurrent, is_plain, made_row};
+ghost use Rattle.upkeep.specs.ViewStates.{IsCurrentFor, is_plain, made_row};
 ghost use Rattle.upkeep.specs.ViewedRows.{IsViewed, ShowsView, rows_shown};
 ghost use Rattle.upkeep.specs.declared.view_state.Kept.TheVariants as kept;
 
@@ -63,10 +64,9 @@ fn make_row(
     requires plain { view.now.outputs ≡ columns outputs.now }
     requires view { IsView (tables_in stores.old.items) view.now }
     requires main { 0 < length stores.old.items }
-    requires there { number < length (rows_at (rows_in stores.old.items) 0) }
+    requires there { number < length (main_slots stores.old.items) }
     ensures row { IfOk result (λ made. option_map (λ r. r.items) made
-        ≡ made_row view.now (side_by (tables_in stores.old.items) (rows_in stores.old.items) view.now)
-        (row_of (rows_at (rows_in stores.old.items) 0) number)) }
+        ≡ made_row view.now (side_from stores.old.items view.now) (row_of (main_slots stores.old.items) number)) }
     ensures same_rows { HaveSameRows stores.old.items stores.new.items }
     ensures visits { visits_in stores.new.items ≤ visits_in stores.old.items + 1 }
 {
@@ -102,10 +102,9 @@ fn make_rows(
     requires plain { view.now.outputs ≡ columns outputs.now }
     requires view { IsView (tables_in stores.old.items) view.now }
     requires main { 0 < length stores.old.items }
-    requires there { All (λ n. n < length (rows_at (rows_in stores.old.items) 0)) numbers.now }
+    requires there { All (λ n. n < length (main_slots stores.old.items)) numbers.now }
     ensures rows { IfOk result (λ made. rows_of made.items
-        ≡ made_at view.now (side_by (tables_in stores.old.items) (rows_in stores.old.items) view.now)
-        (rows_at (rows_in stores.old.items) 0) numbers.now) }
+        ≡ made_at view.now (side_from stores.old.items view.now) (main_slots stores.old.items) numbers.now) }
     ensures same_rows { HaveSameRows stores.old.items stores.new.items }
     ensures visits { visits_in stores.new.items ≤ visits_in stores.old.items + length numbers.now }
 {
@@ -121,9 +120,9 @@ fn make_rows(
 /// The numbers of the rows that a plain view shows where it shows each row in its place.
 fn first_live(alloc: Global, stores: &[RowStore], view: &View) -> Result<Vec<usize>, AllocError>
     requires { 0 < length stores.now }
-    ensures { IfOk result (λ numbers. (tables : List Table) → (side : Side)
-        → IsReadable tables view.now side (rows_at (rows_in stores.now) 0) kept.Live
-        → AreShown view.now side (rows_at (rows_in stores.now) 0) numbers.items) }
+    ensures { IfOk result (λ first. (tables : List Table) (side : Side)
+        → IsReadable tables view.now side (main_slots stores.now) kept.Live
+        → AreShown view.now side (main_slots stores.now) first.items) }
 {
     reading_law();
     stores[0].first_live_numbers(alloc, view.first.unwrap_or(MAX_MAIN_ROWS))
@@ -131,9 +130,8 @@ fn first_live(alloc: Global, stores: &[RowStore], view: &View) -> Result<Vec<usi
 
 /// The numbers of the rows that a plain view shows, in their order.
 fn first_numbers(alloc: Global, view: &View, order: &Ordered) -> Result<Vec<usize>, AllocError>
-    ensures { IfOk result (λ numbers. (tables : List Table) → (side : Side) → (slots : List Slot)
-        → IsReadable tables view.now side slots (kept.Order order.now)
-        → AreShown view.now side slots numbers.items) }
+    ensures { IfOk result (λ numbers. WhereReadable view.now (kept.Order order.now)
+        (λ side slots. AreShown view.now side slots numbers.items)) }
 {
     reading_law();
     order.first_of_view(alloc, view.first.unwrap_or(MAX_MAIN_ROWS))
@@ -164,9 +162,8 @@ fn show_columns(
     requires main { 0 < length stores.old.items }
     requires view { IsView (tables_in stores.old.items) view.now }
     requires plain { view.now.outputs ≡ columns outputs.now }
-    requires shown { AreShown view.now
-        (side_by (tables_in stores.old.items) (rows_in stores.old.items) view.now)
-        (rows_at (rows_in stores.old.items) 0) numbers.items }
+    requires shown { AreShown view.now (side_from stores.old.items view.now) (main_slots stores.old.items)
+        numbers.items }
     ensures rows { IfOk result (ShowsView stores.old.items view.now) }
     ensures same_rows { HaveSameRows stores.old.items stores.new.items }
     ensures visits { visits_in stores.new.items ≤ visits_in stores.old.items + length numbers.items }
@@ -192,9 +189,8 @@ fn show_numbers(
     requires main { 0 < length stores.old.items }
     requires view { IsView (tables_in stores.old.items) view.now }
     requires plain { is_plain view.now.outputs ≡ true }
-    requires shown { AreShown view.now
-        (side_by (tables_in stores.old.items) (rows_in stores.old.items) view.now)
-        (rows_at (rows_in stores.old.items) 0) numbers.items }
+    requires shown { AreShown view.now (side_from stores.old.items view.now) (main_slots stores.old.items)
+        numbers.items }
     ensures rows { IfOk result (ShowsView stores.old.items view.now) }
     ensures same_rows { HaveSameRows stores.old.items stores.new.items }
     ensures visits { visits_in stores.new.items
@@ -214,9 +210,8 @@ fn show_first(
     order: &Ordered,
 ) -> Result<Shown, AllocError>
     requires main { 0 < length stores.old.items }
-    requires kept { IsReadable (tables_in stores.old.items) view.now
-        (side_by (tables_in stores.old.items) (rows_in stores.old.items) view.now)
-        (rows_at (rows_in stores.old.items) 0) (kept.Order order.now) }
+    requires kept { IsReadable (tables_in stores.old.items) view.now (side_from stores.old.items view.now)
+        (main_slots stores.old.items) (kept.Order order.now) }
     ensures rows { IfOk result (ShowsView stores.old.items view.now) }
     ensures same_rows { HaveSameRows stores.old.items stores.new.items }
     ensures visits { visits_in stores.new.items
@@ -229,9 +224,8 @@ fn show_first(
 /// What a plain view shows where it shows each row in its place.
 fn show_live(alloc: Global, stores: &mut Vec<RowStore>, view: &View) -> Result<Shown, AllocError>
     requires main { 0 < length stores.old.items }
-    requires kept { IsReadable (tables_in stores.old.items) view.now
-        (side_by (tables_in stores.old.items) (rows_in stores.old.items) view.now)
-        (rows_at (rows_in stores.old.items) 0) kept.Live }
+    requires kept { IsReadable (tables_in stores.old.items) view.now (side_from stores.old.items view.now)
+        (main_slots stores.old.items) kept.Live }
     ensures rows { IfOk result (ShowsView stores.old.items view.now) }
     ensures same_rows { HaveSameRows stores.old.items stores.new.items }
     ensures visits { visits_in stores.new.items
@@ -243,9 +237,8 @@ fn show_live(alloc: Global, stores: &mut Vec<RowStore>, view: &View) -> Result<S
 
 /// The rows that a view of groups shows. No other group is read.
 fn group_rows(alloc: Global, view: &View, groups: &RankedGroups) -> Result<Vec<Row>, AllocError>
-    ensures { IfOk result (λ rows. (tables : List Table) → (side : Side) → (slots : List Slot)
-        → IsReadable tables view.now side slots (kept.Groups groups.now)
-        → rows_of rows.items ≡ view_rows view.now side (live slots)) }
+    ensures { IfOk result (λ rows. WhereReadable view.now (kept.Groups groups.now) (λ side slots. rows_of rows.items
+        ≡ view_rows view.now side (live slots))) }
 {
     reading_law();
     groups.first_rows(alloc, view.first.unwrap_or(MAX_MAIN_ROWS))
@@ -263,14 +256,11 @@ pub(crate) fn show_kept(
     requires main { 0 < length stores.old.items }
     requires viewed { IsViewed stores.old.items view.now }
     requires fresh { state.now.stale ≡ false }
-    requires current { IsCurrent (tables_in stores.old.items) view.now
-        (side_by (tables_in stores.old.items) (rows_in stores.old.items) view.now) state.now
-        (numbered (rows_at (rows_in stores.old.items) 0)) }
+    requires current { IsCurrentFor stores.old.items view.now state.now (numbered (main_slots stores.old.items)) }
     ensures rows { IfOk result (ShowsView stores.old.items view.now) }
     ensures same_rows { HaveSameRows stores.old.items stores.new.items }
-    ensures visits { visits_in stores.new.items ≤ visits_in stores.old.items + opened_of view.now
-        (side_by (tables_in stores.old.items) (rows_in stores.old.items) view.now)
-        (rows_at (rows_in stores.old.items) 0) }
+    ensures visits { visits_in stores.new.items ≤ visits_in stores.old.items
+        + opened_of view.now (side_from stores.old.items view.now) (main_slots stores.old.items) }
 {
     match &state.kept {
         Kept::Live => show_live(alloc, stores, view),

@@ -1,12 +1,12 @@
 //! Brings what is kept of a view up to rows of the main table for which another row of a side table is looked up.
 
-ghost use Rattle.std.specs.Prelude.{◌≡◌, ◌<◌, ◌≤◌, ◌+◌, ◌^◌, [], ◌∷◌, All, OnOk, length, true};
+ghost use Rattle.std.specs.Prelude.{◌≡◌, ◌<◌, ◌≤◌, ◌+◌, [], ◌∷◌, All, OnOk, length, true};
 ghost use Rattle.std.specs.Option.{option_map};
-ghost use Rattle.view_lang.specs.Shifts.{Fits, IsFew, NumberedRows, patched, shift};
 ghost use Rattle.upkeep.specs.AlikeRows.{are_remade_alike};
-ghost use Rattle.upkeep.specs.SideRows.{sided_cells, sided_change};
-ghost use Rattle.upkeep.specs.Stores.{HaveSameRows, rows_at, rows_in, visits_in};
-ghost use Rattle.upkeep.specs.ViewStates.{IsKept, made_by};
+ghost use Rattle.upkeep.specs.Following.{CanFollow, CanTurn, KeptFollows};
+ghost use Rattle.upkeep.specs.SideRows.{sided_cells, sided_change, sided_shift};
+ghost use Rattle.upkeep.specs.Stores.{HaveSameRows, main_slots, visits_in};
+ghost use Rattle.upkeep.specs.ViewStates.{IsKept};
 
 use crate::alike::is_kept_alike;
 use crate::side_rows::{SideRows, row_for};
@@ -46,16 +46,9 @@ fn remake_row(
     before: &Option<SidedRow<'_>>,
     after: &Option<SidedRow<'_>>,
 ) -> Result<(), AllocError>
-    requires { (rows : NumberedRows) × (IsKept view.now kept.old rows
-        × (Fits rows (shift number (made_by view.now.outputs (option_map sided_cells before.now))
-        (made_by view.now.outputs (option_map sided_cells after.now)) ∷ []) × (length rows < 2 ^ 62))) }
-    ensures kept { OnOk result ((rows : NumberedRows)
-        → Fits rows (shift number (made_by view.now.outputs (option_map sided_cells before.now))
-        (made_by view.now.outputs (option_map sided_cells after.now)) ∷ [])
-        → IsKept view.now kept.old rows
-        → IsKept view.now kept.new
-        (patched rows (shift number (made_by view.now.outputs (option_map sided_cells before.now))
-        (made_by view.now.outputs (option_map sided_cells after.now)) ∷ []))) }
+    requires { CanTurn (IsKept view.now kept.old) (sided_shift view.now number before.now after.now ∷ []) }
+    ensures kept { OnOk result (KeptFollows view.now kept.old kept.new
+        (sided_shift view.now number before.now after.now ∷ [])) }
     ensures left { are_remade_alike view.now kept.old (option_map sided_cells before.now)
         (option_map sided_cells after.now) ≡ true → kept.new ≡ kept.old }
 {
@@ -77,15 +70,11 @@ fn remake_number(
     keys: &mut KeyBuffer,
 ) -> Result<(), AllocError>
     requires main { 0 < length stores.old.items }
-    requires there { number < length (rows_at (rows_in stores.old.items) 0) }
-    requires fits { (rows : NumberedRows) × (IsKept view.now kept.old rows
-        × (Fits rows (sided_change (rows_at (rows_in stores.old.items) 0) view.now sides.now (number ∷ []))
-        × (length rows < 2 ^ 62))) }
-    ensures kept { OnOk result ((rows : NumberedRows)
-        → Fits rows (sided_change (rows_at (rows_in stores.old.items) 0) view.now sides.now (number ∷ []))
-        → IsKept view.now kept.old rows
-        → IsKept view.now kept.new (patched rows
-        (sided_change (rows_at (rows_in stores.old.items) 0) view.now sides.now (number ∷ [])))) }
+    requires there { number < length (main_slots stores.old.items) }
+    requires fits { CanTurn (IsKept view.now kept.old) (sided_change (main_slots stores.old.items) view.now sides.now
+        (number ∷ [])) }
+    ensures kept { OnOk result (KeptFollows view.now kept.old kept.new
+        (sided_change (main_slots stores.old.items) view.now sides.now (number ∷ []))) }
     ensures same_rows { HaveSameRows stores.old.items stores.new.items }
     ensures visits { visits_in stores.new.items ≤ visits_in stores.old.items + 1 }
 {
@@ -109,15 +98,11 @@ pub(crate) fn remake_numbers(
     numbers: &[usize],
 ) -> Result<(), AllocError>
     requires main { 0 < length stores.old.items }
-    requires there { All (λ n. n < length (rows_at (rows_in stores.old.items) 0)) numbers.now }
-    requires fits { (rows : NumberedRows) × (IsKept view.now kept.old rows
-        × (Fits rows (sided_change (rows_at (rows_in stores.old.items) 0) view.now sides.now numbers.now)
-        × IsFew rows (sided_change (rows_at (rows_in stores.old.items) 0) view.now sides.now numbers.now))) }
-    ensures kept { OnOk result ((rows : NumberedRows)
-        → Fits rows (sided_change (rows_at (rows_in stores.old.items) 0) view.now sides.now numbers.now)
-        → IsKept view.now kept.old rows
-        → IsKept view.now kept.new (patched rows
-        (sided_change (rows_at (rows_in stores.old.items) 0) view.now sides.now numbers.now))) }
+    requires there { All (λ n. n < length (main_slots stores.old.items)) numbers.now }
+    requires fits { CanFollow (IsKept view.now kept.old) (sided_change (main_slots stores.old.items) view.now sides.now
+        numbers.now) }
+    ensures kept { OnOk result (KeptFollows view.now kept.old kept.new
+        (sided_change (main_slots stores.old.items) view.now sides.now numbers.now)) }
     ensures same_rows { HaveSameRows stores.old.items stores.new.items }
     ensures visits { visits_in stores.new.items ≤ visits_in stores.old.items + length numbers.now }
 {

@@ -1,33 +1,36 @@
 //! Moves the sub-groups of a view's rows from group to group, where rows of the side table change that they look up.
 
-ghost use Rattle.std.specs.Prelude.{◌≡◌, ◌++◌, ◌<◌, IfOk, List, OnOk, length, replicate, true};
+ghost use Rattle.std.specs.Prelude.{◌≡◌, ◌++◌, ◌<◌, IfOk, OnOk, length, replicate, true};
 ghost use Rattle.std.specs.List.Sorted.{IsStrictlySortedBy};
 ghost use Rattle.std.specs.Option.{option_map};
-ghost use Rattle.values.specs.Datum.{Datum, null};
+ghost use Rattle.values.specs.Datum.{null};
 ghost use Rattle.view_lang.specs.ConfigRules.{IsLookup, IsView};
 ghost use Rattle.view_lang.specs.Images.{image};
 ghost use Rattle.view_lang.specs.Joined.{joined_row, or_missing};
 ghost use Rattle.view_lang.specs.Views.{side_in};
 ghost use Rattle.view_lang.specs.World.{table_at};
-ghost use Rattle.group_order.specs.Ranked.{Keeps as KeepsRanked};
 ghost use Rattle.group_state.specs.Keys.{tuple_cmp};
 ghost use Rattle.group_state.specs.Tuples.{tuple_of as tuple_by};
 ghost use Rattle.row_keys.specs.Numbered.{numbered};
-ghost use Rattle.sub_groups.specs.Places.{stand_row};
-ghost use Rattle.upkeep.specs.Inputs.{side_by};
-ghost use Rattle.upkeep.specs.Moves.{AreGrouped, AreParted, CanMove, after_move, before_move, made_but, out_at};
-ghost use Rattle.upkeep.specs.Stores.{HaveSameRows, rows_at, rows_in, tables_in, visits_in, world_of};
+ghost use Rattle.upkeep.specs.Inputs.{side_by, side_from};
+ghost use Rattle.upkeep.specs.Moves.{
+  CanMove,
+  CanTurnSubGroup,
+  CanTurnSubGroups,
+  TurnsSubGroup,
+  TurnsSubGroups,
+  stand_row_of,
+};
+ghost use Rattle.upkeep.specs.Stores.{HaveSameRows, main_slots, rows_at, rows_in, tables_in, visits_in, world_of};
 ghost use Rattle.upkeep.specs.Swaps.{CanSwap};
 ghost use Rattle.upkeep.specs.ViewStates.{
   AreLinks,
-  IsKept,
+  IsKeptLive,
   KeepsLinks,
   columns_in,
   looks_up,
-  made_row,
   sub_row_of,
   swapped_at,
-  width_in,
 };
 ghost use Rattle.upkeep.specs.declared.view_state.Links.TheVariants as links;
 
@@ -116,8 +119,7 @@ fn place_of(
     requires view { IsView (tables_in stores.now) view.now }
     requires main { 0 < length stores.now }
     ensures { IfOk result (λ place. place ≡ option_map (tuple_by groups.now.groups.keys)
-        (stand_row (width_in (tables_in stores.now)) view.now
-        (side_by (tables_in stores.now) (rows_in stores.now) view.now) sub_groups.now.groups.keys tuple.now)) }
+        (stand_row_of stores.now view.now sub_groups.now tuple.now)) }
 {
     let width = stores[0].table().columns.len();
     let stand_in = sub_groups.stand_in(alloc, width, tuple)?;
@@ -145,15 +147,8 @@ fn turn_sub_group(
     requires view { IsView (tables_in stores.now) view.now }
     requires main { 0 < length stores.now }
     requires can { CanMove (tables_in stores.now) view.now sub_groups.now groups.old }
-    requires parted { (rows : List (List Datum)) × (all : List (List Datum)) × (others : List (List Datum))
-        × (AreGrouped (tables_in stores.now) view.now sub_groups.now rows
-        × (AreParted view.now (side_by (tables_in stores.now) (rows_in stores.now) view.now) sub_groups.now.groups.keys
-        tuple.now rows all others × KeepsRanked groups.old (before_move turn all others))) }
-    ensures kept { OnOk result ((rows all others : List (List Datum))
-        → AreGrouped (tables_in stores.now) view.now sub_groups.now rows
-        → AreParted view.now (side_by (tables_in stores.now) (rows_in stores.now) view.now) sub_groups.now.groups.keys
-        tuple.now rows all others → KeepsRanked groups.old (before_move turn all others)
-        → KeepsRanked groups.new (after_move turn all others)) }
+    requires parted { CanTurnSubGroup stores.now view.now sub_groups.now tuple.now turn groups.old }
+    ensures kept { OnOk result (TurnsSubGroup stores.now view.now sub_groups.now tuple.now turn groups.old groups.new) }
     ensures keys { OnOk result (groups.new.groups.keys ≡ groups.old.groups.keys) }
     ensures columns { OnOk result (groups.new.groups.columns ≡ groups.old.groups.columns) }
     ensures ranking { groups.new.ranking ≡ groups.old.ranking }
@@ -192,15 +187,9 @@ fn turn_sub_groups(
     requires main { 0 < length stores.now }
     requires can { CanMove (tables_in stores.now) view.now sub_groups.now groups.old }
     requires ascending { IsStrictlySortedBy tuple_cmp tuples.now }
-    requires kept { (rows : List (List Datum)) × (AreGrouped (tables_in stores.now) view.now sub_groups.now rows
-        × KeepsRanked groups.old (made_but view.now (side_by (tables_in stores.now) (rows_in stores.now) view.now)
-        sub_groups.now.groups.keys (out_at turn 0 tuples.now) rows)) }
-    ensures kept { OnOk result ((rows : List (List Datum))
-        → AreGrouped (tables_in stores.now) view.now sub_groups.now rows
-        → KeepsRanked groups.old (made_but view.now (side_by (tables_in stores.now) (rows_in stores.now) view.now)
-        sub_groups.now.groups.keys (out_at turn 0 tuples.now) rows)
-        → KeepsRanked groups.new (made_but view.now (side_by (tables_in stores.now) (rows_in stores.now) view.now)
-        sub_groups.now.groups.keys (out_at turn (length tuples.now) tuples.now) rows)) }
+    requires kept { CanTurnSubGroups stores.now view.now sub_groups.now tuples.now turn groups.old }
+    ensures kept { OnOk result (TurnsSubGroups stores.now view.now sub_groups.now tuples.now turn groups.old
+        groups.new) }
     ensures keys { OnOk result (groups.new.groups.keys ≡ groups.old.groups.keys) }
     ensures columns { OnOk result (groups.new.groups.columns ≡ groups.old.groups.columns) }
     ensures ranking { groups.new.ranking ≡ groups.old.ranking }
@@ -244,13 +233,12 @@ pub(crate) fn move_sub_groups(
     requires swaps { CanSwap turn (table_at (tables_in stores.old.items) table) change.now
         (rows_at (rows_in stores.old.items) table) }
     requires right { AreLinks (tables_in stores.old.items) view.now kept.old (links.SubGroups sub_groups.now) }
-    requires kept { IsKept view.now kept.old (image (made_row view.now (side_by (tables_in stores.old.items)
-        (swapped_at table turn change.now (rows_in stores.old.items)) view.now))
-        (numbered (rows_at (rows_in stores.old.items) 0))) }
-    requires links { KeepsLinks (links.SubGroups sub_groups.now) (image (sub_row_of view.now)
-        (numbered (rows_at (rows_in stores.old.items) 0))) }
-    ensures kept { OnOk result (IsKept view.now kept.new (image (made_row view.now (side_by (tables_in stores.old.items)
-        (rows_in stores.old.items) view.now)) (numbered (rows_at (rows_in stores.old.items) 0)))) }
+    requires kept { IsKeptLive view.now kept.old (side_by (tables_in stores.old.items)
+        (swapped_at table turn change.now (rows_in stores.old.items)) view.now) (main_slots stores.old.items) }
+    requires links { KeepsLinks (links.SubGroups sub_groups.now)
+        (image (sub_row_of view.now) (numbered (main_slots stores.old.items))) }
+    ensures kept { OnOk result (IsKeptLive view.now kept.new (side_from stores.old.items view.now)
+        (main_slots stores.old.items)) }
     ensures columns { OnOk result (columns_in kept.new ≡ columns_in kept.old) }
     ensures same_rows { HaveSameRows stores.old.items stores.new.items }
     ensures visits { visits_in stores.new.items ≡ visits_in stores.old.items }

@@ -1,17 +1,16 @@
 //! Brings what is kept of a view up to one row that comes or goes, where the row lies.
 
-ghost use Rattle.std.specs.Prelude.{◌≡◌, ◌<◌, ◌^◌, ◌∷◌, [], OnOk, Some, length};
+ghost use Rattle.std.specs.Prelude.{◌≡◌, ◌<◌, ◌∷◌, [], OnOk, Some};
 ghost use Rattle.std.specs.Map.{values_of};
 ghost use Rattle.std.specs.Option.{option_map};
 ghost use Rattle.values.specs.CellViews.{shallow, viewed};
 ghost use Rattle.values.specs.Datum.{Datum};
-ghost use Rattle.view_lang.specs.Shifts.{Fits, NumberedRows, patched};
 ghost use Rattle.view_lang.specs.Views.{shown_row};
 ghost use Rattle.group_order.specs.Ranked.{Keeps as KeepsRanked};
 ghost use Rattle.lookups.specs.Keeping.{Keeps as KeepsReferrers};
 ghost use Rattle.top_rows.specs.Keeping.{Keeps as KeepsOrder};
-ghost use Rattle.group_state.specs.Groups.{Keeps as KeepsGroups};
-ghost use Rattle.sub_groups.specs.SubGroups.{IsSame};
+ghost use Rattle.sub_groups.specs.SubGroups.{IsSame, KeepsSubGroups};
+ghost use Rattle.upkeep.specs.Following.{CanTurn, Follows, KeptFollows, LinksFollow};
 ghost use Rattle.upkeep.specs.ViewStates.{
   IsKept,
   KeepsLinks,
@@ -43,11 +42,8 @@ fn turn_order<R: RowView>(
     row: &R,
 ) -> Result<(), AllocError>
     ensures order { order.new.order ≡ order.old.order }
-    ensures kept { OnOk result ((rows : NumberedRows)
-        → Fits rows (turned_by turn number (Some (shown_row outputs.now (R.cells row.now))) ∷ [])
-        → KeepsOrder order.old rows
-        → KeepsOrder order.new
-        (patched rows (turned_by turn number (Some (shown_row outputs.now (R.cells row.now))) ∷ []))) }
+    ensures kept { OnOk result (Follows (KeepsOrder order.old) (KeepsOrder order.new)
+        (turned_by turn number (Some (shown_row outputs.now (R.cells row.now))) ∷ [])) }
 {
     let shown = ShownRow { outputs, row };
     match turn {
@@ -69,15 +65,13 @@ fn turn_groups<R: RowView>(
     number: usize,
     row: &R,
 ) -> Result<(), AllocError>
-    requires { (rows : NumberedRows) × (KeepsRanked groups.old (values_of rows)
-        × (Fits rows (turned_by turn number (Some (R.cells row.now)) ∷ []) × (length rows < 2 ^ 62))) }
+    requires { CanTurn (λ rows. KeepsRanked groups.old (values_of rows))
+        (turned_by turn number (Some (R.cells row.now)) ∷ []) }
     ensures keys { OnOk result (groups.new.groups.keys ≡ groups.old.groups.keys) }
     ensures columns { OnOk result (groups.new.groups.columns ≡ groups.old.groups.columns) }
     ensures ranking { groups.new.ranking ≡ groups.old.ranking }
-    ensures kept { OnOk result ((rows : NumberedRows)
-        → Fits rows (turned_by turn number (Some (R.cells row.now)) ∷ [])
-        → KeepsRanked groups.old (values_of rows)
-        → KeepsRanked groups.new (values_of (patched rows (turned_by turn number (Some (R.cells row.now)) ∷ [])))) }
+    ensures kept { OnOk result (Follows (λ rows. KeepsRanked groups.old (values_of rows))
+        (λ rows. KeepsRanked groups.new (values_of rows)) (turned_by turn number (Some (R.cells row.now)) ∷ [])) }
 {
     match turn {
         Turn::Come => {
@@ -99,15 +93,11 @@ fn turn_row<R: RowView>(
     number: usize,
     row: &R,
 ) -> Result<(), AllocError>
-    requires { (rows : NumberedRows) × (IsKept view.now kept.old rows
-        × (Fits rows (turned_by turn number (made_by view.now.outputs (Some (R.cells row.now))) ∷ [])
-        × (length rows < 2 ^ 62))) }
+    requires { CanTurn (IsKept view.now kept.old) (turned_by turn number
+        (made_by view.now.outputs (Some (R.cells row.now))) ∷ []) }
     ensures columns { OnOk result (columns_in kept.new ≡ columns_in kept.old) }
-    ensures kept { OnOk result ((rows : NumberedRows)
-        → Fits rows (turned_by turn number (made_by view.now.outputs (Some (R.cells row.now))) ∷ [])
-        → IsKept view.now kept.old rows
-        → IsKept view.now kept.new
-        (patched rows (turned_by turn number (made_by view.now.outputs (Some (R.cells row.now))) ∷ []))) }
+    ensures kept { OnOk result (KeptFollows view.now kept.old kept.new
+        (turned_by turn number (made_by view.now.outputs (Some (R.cells row.now))) ∷ [])) }
 {
     match (&view.outputs, kept) {
         (_, Kept::Live) => return Ok(()),
@@ -132,15 +122,11 @@ pub(crate) fn turn_joined<R: RowView>(
     number: usize,
     joined: &Option<R>,
 ) -> Result<(), AllocError>
-    requires { (rows : NumberedRows) × (IsKept view.now kept.old rows
-        × (Fits rows (turned_by turn number (made_by view.now.outputs (option_map R.cells joined.now)) ∷ [])
-        × (length rows < 2 ^ 62))) }
+    requires { CanTurn (IsKept view.now kept.old) (turned_by turn number
+        (made_by view.now.outputs (option_map R.cells joined.now)) ∷ []) }
     ensures columns { OnOk result (columns_in kept.new ≡ columns_in kept.old) }
-    ensures kept { OnOk result ((rows : NumberedRows)
-        → Fits rows (turned_by turn number (made_by view.now.outputs (option_map R.cells joined.now)) ∷ [])
-        → IsKept view.now kept.old rows
-        → IsKept view.now kept.new
-        (patched rows (turned_by turn number (made_by view.now.outputs (option_map R.cells joined.now)) ∷ []))) }
+    ensures kept { OnOk result (KeptFollows view.now kept.old kept.new
+        (turned_by turn number (made_by view.now.outputs (option_map R.cells joined.now)) ∷ [])) }
 {
     let Some(row) = joined else {
         return Ok(());
@@ -155,9 +141,9 @@ pub(crate) fn turn_referrer(
     number: usize,
     cell: CellView<'_>,
 ) -> Result<(), AllocError>
-    ensures { OnOk result ((rows : NumberedRows) (d : Datum) → viewed cell.entry ≡ shallow d
-        → Fits rows (turned_by turn number (Some (d ∷ [])) ∷ []) → KeepsReferrers referrers.old rows
-        → KeepsReferrers referrers.new (patched rows (turned_by turn number (Some (d ∷ [])) ∷ []))) }
+    ensures { OnOk result ((d : Datum) → viewed cell.entry ≡ shallow d
+        → Follows (KeepsReferrers referrers.old) (KeepsReferrers referrers.new)
+        (turned_by turn number (Some (d ∷ [])) ∷ [])) }
 {
     match turn {
         Turn::Come => {
@@ -179,9 +165,8 @@ fn turn_referring(
     number: usize,
     row: &StoredRow<'_>,
 ) -> Result<(), AllocError>
-    ensures { OnOk result ((rows : NumberedRows)
-        → Fits rows (turned_by turn number (referring_by lookup row.now) ∷ []) → KeepsReferrers referrers.old rows
-        → KeepsReferrers referrers.new (patched rows (turned_by turn number (referring_by lookup row.now) ∷ []))) }
+    ensures { OnOk result (Follows (KeepsReferrers referrers.old) (KeepsReferrers referrers.new)
+        (turned_by turn number (referring_by lookup row.now) ∷ [])) }
 {
     let Some(lookup) = lookup else {
         return Ok(());
@@ -197,13 +182,9 @@ fn turn_sub_row(
     number: usize,
     row: &StoredRow<'_>,
 ) -> Result<(), AllocError>
-    requires { (rows : NumberedRows) × (KeepsGroups sub_groups.old.groups (values_of rows)
-        × (Fits rows (turned_by turn number (sub_row_of view.now row.now) ∷ []) × (length rows < 2 ^ 62))) }
-    ensures kept { OnOk result ((rows : NumberedRows)
-        → Fits rows (turned_by turn number (sub_row_of view.now row.now) ∷ [])
-        → KeepsGroups sub_groups.old.groups (values_of rows)
-        → KeepsGroups sub_groups.new.groups
-        (values_of (patched rows (turned_by turn number (sub_row_of view.now row.now) ∷ [])))) }
+    requires { CanTurn (KeepsSubGroups sub_groups.old) (turned_by turn number (sub_row_of view.now row.now) ∷ []) }
+    ensures kept { OnOk result (Follows (KeepsSubGroups sub_groups.old) (KeepsSubGroups sub_groups.new)
+        (turned_by turn number (sub_row_of view.now row.now) ∷ [])) }
     ensures same { OnOk result (IsSame sub_groups.old sub_groups.new) }
 {
     match turn {
@@ -226,12 +207,9 @@ pub(crate) fn turn_link(
     number: usize,
     row: &StoredRow<'_>,
 ) -> Result<(), AllocError>
-    requires { (rows : NumberedRows) × (KeepsLinks links.old rows
-        × (Fits rows (turned_by turn number (link_row links.old view.now row.now) ∷ []) × (length rows < 2 ^ 62))) }
-    ensures kept { OnOk result ((rows : NumberedRows)
-        → Fits rows (turned_by turn number (link_row links.old view.now row.now) ∷ []) → KeepsLinks links.old rows
-        → KeepsLinks links.new
-        (patched rows (turned_by turn number (link_row links.old view.now row.now) ∷ []))) }
+    requires { CanTurn (KeepsLinks links.old) (turned_by turn number (link_row links.old view.now row.now) ∷ []) }
+    ensures kept { OnOk result (LinksFollow links.old links.new
+        (turned_by turn number (link_row links.old view.now row.now) ∷ [])) }
     ensures form { OnOk result (form_of links.new ≡ form_of links.old) }
 {
     match links {

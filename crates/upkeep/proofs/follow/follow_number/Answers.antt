@@ -92,7 +92,7 @@ returns-then-drops-clause-links c =
     on_ok _ _ c.turn_dropped.result
     (λ turned_one. same_change (KeepsLinks c.args.state.now.links) (KeepsLinks c.turn_dropped.new.links) _ _
     (sym (live_change make slots c.args.number c.args.turn live))
-    (λ rows. turned_one rows (make row) dropped))
+    (turned_one (make row) dropped))
     c.turn_dropped.ensures.kept
 
 pub turn_main_row-requires-clause-fits : goal.turn_main_row-requires-clause-fits

@@ -1,7 +1,8 @@
-use Rattle.std.proofs.Common.{◌+◌, ◌<◌, ◌^◌, ◌∙◌, ℕ, List, [], ◌∷◌, Option, arith, get_or, length, map, subst, sym}
+use Rattle.std.proofs.Common.{◌+◌, ◌<◌, ◌∙◌, ℕ, List, [], ◌∷◌, Option, arith, get_or, length, map, subst, sym}
 use Rattle.values.specs.Datum.{Datum}
 use Rattle.view_lang.specs.Images.{shift_image}
 use Rattle.view_lang.specs.Config.{Table}
+use Rattle.view_lang.specs.Limits.{max_appended_rows}
 use Rattle.view_lang.specs.Shifts.{Fits, NumberedRows, patched}
 use Rattle.row_keys.specs.Slots.{row_of}
 use Rattle.upkeep.specs.Arrivals.{TellsOf}
@@ -32,7 +33,7 @@ follow_number-requires-clause-fits c =
     let n : ℕ = get_or c.args.numbers.now c.loop-index.index 0 in
     at_stores (λ (ts : List Table) (rs : Rows). (rows : NumberedRows)
     × (IsKept v c.loop-index.state.kept rows
-    × (Fits rows (made_change ts rs v c.args.turn (n ∷ [])) × (length rows < 2 ^ 62))))
+    × (Fits rows (made_change ts rs v c.args.turn (n ∷ [])) × (length rows < max_appended_rows))))
     (tables_in stores) (tables_in now) (rows_in stores) (rows_in now) (sym c.loop-index.invariant.same_rows.tables)
     (sym c.loop-index.invariant.same_rows.rows)
     (next_needs (IsKept v c.args.state.now.kept) (IsKept v c.loop-index.state.kept) make
@@ -49,12 +50,12 @@ follow_number-requires-clause-links c =
     let n : ℕ = get_or c.args.numbers.now c.loop-index.index 0 in
     at_stores (λ (ts : List Table) (rs : Rows). (rows : NumberedRows)
     × (KeepsLinks c.loop-index.state.links rows
-    × (Fits rows (link_change (rows_at rs 0) c.loop-index.state.links v c.args.turn (n ∷ [])) × (length rows < 2 ^ 62))))
+    × (Fits rows (link_change (rows_at rs 0) c.loop-index.state.links v c.args.turn (n ∷ [])) × (length rows < max_appended_rows))))
     (tables_in stores) (tables_in now) (rows_in stores) (rows_in now) (sym c.loop-index.invariant.same_rows.tables)
     (sym c.loop-index.invariant.same_rows.rows)
     (subst (λ (h : List Datum → Option (List Datum)). (rows : NumberedRows)
     × (KeepsLinks c.loop-index.state.links rows
-    × (Fits rows (map (shift_image h) (turned c.args.turn slots (n ∷ []))) × (length rows < 2 ^ 62))))
+    × (Fits rows (map (shift_image h) (turned c.args.turn slots (n ∷ []))) × (length rows < max_appended_rows))))
     (sym (links_same l c.loop-index.state.links v c.loop-index.invariant.form))
     (next_needs (KeepsLinks l) (KeepsLinks c.loop-index.state.links) (link_row l v)
     c.args.turn slots c.args.numbers.now c.loop-index.index c.requires.links.0 (omega (arith, c.loop-index-test.true))

@@ -1,4 +1,5 @@
-use Rattle.std.proofs.Common.{◌<◌, ◌^◌, ◌∙◌, ℕ, [], ◌∷◌, arith, get_or, length, subst, sym}
+use Rattle.std.proofs.Common.{◌<◌, ◌∙◌, ℕ, [], ◌∷◌, arith, get_or, length, subst, sym}
+use Rattle.view_lang.specs.Limits.{max_appended_rows}
 use Rattle.view_lang.specs.Shifts.{Fits, NumberedRows, Shift, patched, shift}
 use Rattle.row_keys.specs.Slots.{row_of}
 use Rattle.upkeep.specs.SideRows.{side_of_rows}
@@ -17,7 +18,7 @@ remake_number-requires-clause-fits c =
     let s : ℕ → Shift = λ n. shift n (f (row_of slots n)) (g (row_of slots n)) in
     let n : ℕ = get_or c.args.numbers.now c.loop-index.index 0 in
     subst (λ (rs : Rows). (rows : NumberedRows) × (IsKept v c.loop-index.kept rows
-    × (Fits rows (remade_by f g (rows_at rs 0) (n ∷ [])) × (length rows < 2 ^ 62))))
+    × (Fits rows (remade_by f g (rows_at rs 0) (n ∷ [])) × (length rows < max_appended_rows))))
     (sym c.loop-index.invariant.same_rows.rows)
     (next_needs s (IsKept v c.args.kept.now) (IsKept v c.loop-index.kept) c.args.numbers.now c.loop-index.index
     c.loop-index.invariant.kept c.requires.fits.0 c.loop-index-test.true c.requires.fits.1.0 c.requires.fits.1.1.0
