@@ -1,6 +1,5 @@
 -- Rows of which one thing was made and another is made now, under their numbers.
 use Rattle.std.proofs.Common.{◌≡◌, ℕ, zero, suc, ◌+◌, ◌<◌, ◌≤◌, ◌||◌, Bool, true, false, cond, List, [], ◌∷◌, Option, None, Some, ap, arith, get_or, length, map, refl, subst, sym, take, ◌∙◌}
-use Rattle.std.specs.Prelude.{◌^◌}
 use Rattle.std.specs.BTreeMap.{is_at}
 use Rattle.std.specs.Cmp.{eq_by_cmp_equiv, nat_cmp_total, tied_itself, unsigned_tied}
 use Rattle.std.specs.List.{AllByRecursion}

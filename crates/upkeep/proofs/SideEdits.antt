@@ -1,30 +1,6 @@
 -- A change of the store of a side table, and views that follow it.
-use Rattle.std.proofs.Common.{
-  ◌≡◌,
-  ℕ,
-  zero,
-  suc,
-  ◌+◌,
-  ◌*◌,
-  ◌<◌,
-  ◌≤◌,
-  Bool,
-  List,
-  [],
-  ◌∷◌,
-  Err,
-  Result,
-  Ok,
-  ap,
-  arith,
-  get_or,
-  length,
-  refl,
-  subst,
-  sym,
-  ◌∙◌,
-}
-use Rattle.std.specs.Prelude.{IfOk, count_by, slice_set}
+use Rattle.std.proofs.Common.{◌≡◌, ℕ, zero, suc, ◌+◌, ◌*◌, ◌<◌, ◌≤◌, Bool, List, [], ◌∷◌, Err, Ok, ap, arith, get_or, length, refl, subst, sym, ◌∙◌}
+use Rattle.std.specs.Prelude.{count_by, slice_set}
 use Rattle.values.specs.Datum.{Datum}
 use Rattle.view_lang.specs.Config.{Table, View}
 use Rattle.view_lang.specs.Edits.{TableEdit}

@@ -1,6 +1,5 @@
 -- Loops over the states of views, and over numbers.
 use Rattle.std.proofs.Common.{◌≡◌, ℕ, zero, suc, ◌+◌, ◌<◌, ◌++◌, All, Bool, true, false, List, [], ◌∷◌, add-one, arith, count_by, get_or, length, map, refl, ap, subst, sym, take, ◌∙◌}
-use Rattle.std.specs.List.{range_with_len}
 use Rattle.std.specs.Prelude.{cond, slice_set}
 use Rattle.std.proofs.Math.Seq.{take-suc}
 use Rattle.std.proofs.lemmas.List.{map-append}

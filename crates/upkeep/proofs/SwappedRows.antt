@@ -1,10 +1,8 @@
 -- Rows of a side table whose keys a change doesn't name.
-use Rattle.std.proofs.Common.{◌≡◌, ℕ, zero, suc, ◌<◌, ◌≤◌, ◌||◌, All, Bool, true, false, cond, List, [], ◌∷◌, ◌++◌, Option, Some, Vec, find, length, refl, ap, sym, subst, ◌∙◌, arith, true≢false}
+use Rattle.std.proofs.Common.{◌≡◌, ℕ, zero, suc, ◌<◌, ◌≤◌, ◌||◌, All, Bool, true, false, cond, List, [], ◌∷◌, ◌++◌, Option, Some, find, length, refl, ap, sym, ◌∙◌, arith, true≢false}
 use Rattle.std.specs.List.{range_with_len}
 use Rattle.std.specs.Prelude.{if◌then◌else◌, ◌-◌}
 use Rattle.std.proofs.lemmas.List.{length-take, map-append}
-use Rattle.std.proofs.lemmas.List.Elements.{All-append}
-use Rattle.std.specs.declared.alloc.Global.{Global}
 use Rattle.values.specs.Datum.{Datum, null, truth, whole, text, bytes, list, structure}
 use Rattle.view_lang.specs.Config.{Table}
 use Rattle.view_lang.specs.Contents.{is_among, key_in, same_key}
@@ -18,7 +16,6 @@ use Rattle.row_keys.specs.declared.table_change.TableChange.{TableChange}
 use Rattle.row_keys.specs.declared.table_change.TableChange.TheVariants.{Appended, Put, Retracted}
 use Rattle.upkeep.specs.declared.view_state.Turn.{Turn}
 use Rattle.upkeep.specs.declared.view_state.Turn.TheVariants as turn
-use Rattle.row_keys.proofs.NumberRanges.{last_there}
 use Rattle.upkeep.proofs.MainTable.{put_back_there, retracted_there}
 
 -- the row with a key that isn't named

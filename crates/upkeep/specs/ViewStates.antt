@@ -45,7 +45,7 @@ use Rattle.row_keys.specs.Numbered.{come, gone, numbered}
 use Rattle.row_keys.specs.Slots.{Slot, last_numbers, live, row_of}
 use Rattle.row_keys.specs.Store.{Store}
 use Rattle.upkeep.specs.Inputs.{side_by, side_from}
-use Rattle.upkeep.specs.Stores.{Rows, main_slots, rows_at, rows_in, tables_in}
+use Rattle.upkeep.specs.Stores.{Rows, rows_at, rows_in, tables_in}
 use Rattle.upkeep.specs.Swaps.{swapped}
 use Rattle.row_keys.specs.declared.table_change.TableChange.{TableChange}
 use Rattle.upkeep.specs.declared.view_state.Kept.{Kept}

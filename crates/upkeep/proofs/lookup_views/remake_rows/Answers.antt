@@ -1,4 +1,4 @@
-use Rattle.std.proofs.Common.{◌<◌, ◌≤◌, ◌+◌, All, List, ap, arith, length, map, subst, sym, ◌∙◌}
+use Rattle.std.proofs.Common.{◌<◌, ◌≤◌, ◌+◌, All, List, ap, arith, length, map, subst, sym}
 use Rattle.std.specs.Prelude.{slice_set}
 use Rattle.values.specs.Keys.{datum_of_key}
 use Rattle.view_lang.specs.Config.{Table}

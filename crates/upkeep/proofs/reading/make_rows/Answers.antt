@@ -1,4 +1,4 @@
-use Rattle.std.proofs.Common.{◌∙◌, arith}
+use Rattle.std.proofs.Common.{arith}
 use Rattle.std.specs.Option.{option_map}
 use Rattle.view_lang.specs.Cells.{rows_of}
 use Rattle.upkeep.proofs.ChangedStores.{still_same}

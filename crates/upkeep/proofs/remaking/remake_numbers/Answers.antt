@@ -1,4 +1,4 @@
-use Rattle.std.proofs.Common.{◌<◌, ◌∙◌, ℕ, [], ◌∷◌, arith, get_or, length, subst, sym}
+use Rattle.std.proofs.Common.{◌<◌, ℕ, [], ◌∷◌, arith, get_or, length, subst, sym}
 use Rattle.view_lang.specs.Limits.{max_appended_rows}
 use Rattle.view_lang.specs.Shifts.{Fits, NumberedRows, Shift, patched, shift}
 use Rattle.row_keys.specs.Slots.{row_of}

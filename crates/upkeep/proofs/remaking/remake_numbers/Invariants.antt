@@ -1,4 +1,4 @@
-use Rattle.std.proofs.Common.{◌≡◌, ◌≤◌, ◌+◌, take}
+use Rattle.std.proofs.Common.{◌≤◌, ◌+◌, take}
 use Rattle.view_lang.specs.Shifts.{Fits, NumberedRows, patched}
 use Rattle.upkeep.specs.SideRows.{sided_change}
 use Rattle.upkeep.specs.Stores.{HaveSameRows, rows_at, rows_in, visits_in}
