@@ -1,6 +1,6 @@
 pub mod OrderedPlaces
 pub mod SortKeys
-pub mod FirstKinds
+pub mod InlineKeys
 pub mod PlaceOrder
 pub mod Ties
 pub mod Places

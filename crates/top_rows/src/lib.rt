@@ -4,7 +4,7 @@
 //! (what a row is ordered by), and `specs/ViewOrder.antt` that its first places are the first rows of a view.
 #![tactic(auto)]
 
-mod first_kind;
+mod inline_kind;
 mod laws;
 mod ordered;
 mod parts;

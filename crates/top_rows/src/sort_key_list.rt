@@ -1,10 +1,11 @@
 //! Sort keys of rows.
 
-ghost use Rattle.std.specs.Prelude.{◌≡◌, [], ◌∷◌, IfOk};
-ghost use Rattle.top_rows.specs.FirstKinds.{cmp_in};
+ghost use Rattle.std.specs.Prelude.{◌≡◌, [], ◌∷◌, IfOk, List, MatchOption};
+ghost use Rattle.top_rows.specs.InlineKeys.{IsListed, cmp_in, inline_cmp, listed};
 ghost use Rattle.top_rows.specs.SortKeys.{sort_keys_of};
+ghost use Rattle.top_rows.specs.declared.sort_key.SortKey.{SortKey as SortKeys};
 
-use crate::first_kind::FirstKind;
+use crate::inline_kind::InlineKind;
 use crate::sort_key::SortKey;
 use std::alloc::{AllocError, Global};
 use std::cmp::{Ordering, Reverse};
@@ -12,25 +13,28 @@ use std::marker::Model;
 use values::Key;
 use view_lang::{OrderBy, RowView};
 
-/// The sort keys of a row, one for each of an order's columns. The first lies in the value itself. Contracts see the
+/// The sort keys of a row, one for each of an order's columns. The first two lie in the value itself. Contracts see the
 /// list of all.
 #[derive(Debug, Drop)]
 pub struct SortKeyList {
-    key: Key,
+    first: Key,
+    second: Key,
     others: Vec<SortKey>,
-    kind: FirstKind,
+    first_kind: InlineKind,
+    second_kind: InlineKind,
 }
 
 impl Model for SortKeyList {
     ghost use Rattle.std.specs.Prelude.{List};
-    ghost use Rattle.top_rows.specs.FirstKinds.{IsListed, listed};
+    ghost use Rattle.top_rows.specs.InlineKeys.{IsListed, listed};
     ghost use Rattle.top_rows.specs.declared.sort_key.SortKey.{SortKey};
 
     ghost Value = { List SortKey };
 
-    ghost view = { λ l. listed l.kind l.key l.others.items };
+    ghost view = { λ l. listed l.first_kind l.first (listed l.second_kind l.second l.others.items) };
 
-    ghost invariant = { λ l. IsListed l.kind l.key l.others.items };
+    ghost invariant = { λ l. IsListed l.first_kind l.first (listed l.second_kind l.second l.others.items)
+        × IsListed l.second_kind l.second l.others.items };
 }
 
 impl PartialEq for SortKeyList {
@@ -68,6 +72,7 @@ impl PartialOrd for SortKeyList {
     }
 }
 
+#[tactic(auto, using(crate::proofs::InlineKeys::listed_cmp))]
 impl Ord for SortKeyList {
     ghost use Rattle.std.specs.Prelude.{refl};
     ghost use Rattle.top_rows.specs.PlaceOrder.{sort_keys_cmp, sort_keys_total};
@@ -81,11 +86,17 @@ impl Ord for SortKeyList {
     ghost matches_eq = { λ x y. refl };
 
     fn cmp(&self, other: &SortKeyList) -> Ordering {
-        let first = self
-            .kind
-            .cmp(&other.kind)
-            .then(cmp_keys(self.kind, &self.key, &other.key));
-        match first {
+        let first = cmp_inline(self.first_kind, &self.first, other.first_kind, &other.first);
+        if first != Ordering::Equal {
+            return first;
+        }
+        let second = cmp_inline(
+            self.second_kind,
+            &self.second,
+            other.second_kind,
+            &other.second,
+        );
+        match second {
             Ordering::Equal => self.others.cmp(&other.others),
             unlike => unlike,
         }
@@ -105,11 +116,16 @@ impl SortKeyList {
             return Ok(SortKeyList::empty(alloc));
         };
         let first = SortKey::of(alloc, row, by)?;
+        let Some((by, further)) = further.split_first() else {
+            return Ok(SortKeyList::of_one(alloc, first));
+        };
+        let second = SortKey::of(alloc, row, by)?;
         let others = each_key(alloc, further, row)?;
-        Ok(SortKeyList::with_first(first, others))
+        Ok(SortKeyList::with_two(first, second, others))
     }
 
-    /// The sort keys that a list holds. The list's memory is given back, but where there are further keys than the first.
+    /// The sort keys that a list holds. The list's memory is given back, but where there are further keys than the first
+    /// two.
     pub fn from_list(alloc: Global, keys: Vec<SortKey>) -> SortKeyList
         ensures { result ≡ keys.items }
     {
@@ -119,25 +135,27 @@ impl SortKeyList {
         }
         let first = others.remove(0);
         if others.is_empty() {
+            return SortKeyList::of_one(alloc, first);
+        }
+        let second = others.remove(0);
+        if others.is_empty() {
             others = Vec::new(alloc);
         }
-        SortKeyList::with_first(first, others)
+        SortKeyList::with_two(first, second, others)
     }
 
     /// The list of them. If memory is refused, they are lost.
     pub fn into_list(self) -> Result<Vec<SortKey>, AllocError>
         ensures { IfOk result (λ keys. keys.items ≡ self) }
     {
-        let SortKeyList { key, others, kind } = self;
-        let mut keys = others;
-        let first = match kind {
-            FirstKind::NoKey => return Ok(keys),
-            FirstKind::Ascending => SortKey::Ascending(key),
-            FirstKind::Descending => SortKey::Descending(Reverse(key)),
-            FirstKind::Missing => SortKey::Missing,
-        };
-        keys.reserve_exact(1)?;
-        keys.insert(0, first)?;
+        let mut keys = self.others;
+        keys.reserve_exact(2)?;
+        if let Some(second) = joined(self.second_kind, self.second) {
+            keys.insert(0, second)?;
+        }
+        if let Some(first) = joined(self.first_kind, self.first) {
+            keys.insert(0, first)?;
+        }
         Ok(keys)
     }
 
@@ -145,21 +163,64 @@ impl SortKeyList {
         ensures { result ≡ [] }
     {
         SortKeyList {
-            key: Key::Null,
+            first: Key::Null,
+            second: Key::Null,
             others: Vec::new(alloc),
-            kind: FirstKind::NoKey,
+            first_kind: InlineKind::NoKey,
+            second_kind: InlineKind::NoKey,
         }
     }
 
-    fn with_first(first: SortKey, others: Vec<SortKey>) -> SortKeyList
-        ensures { result ≡ first ∷ others.items }
+    fn of_one(alloc: Global, first: SortKey) -> SortKeyList
+        ensures { result ≡ first ∷ [] }
     {
-        let (kind, key) = match first {
-            SortKey::Ascending(key) => (FirstKind::Ascending, key),
-            SortKey::Descending(key) => (FirstKind::Descending, key.0),
-            SortKey::Missing => (FirstKind::Missing, Key::Null),
-        };
-        SortKeyList { key, others, kind }
+        let (first_kind, first) = parted(first);
+        SortKeyList {
+            first,
+            second: Key::Null,
+            others: Vec::new(alloc),
+            first_kind,
+            second_kind: InlineKind::NoKey,
+        }
+    }
+
+    fn with_two(first: SortKey, second: SortKey, others: Vec<SortKey>) -> SortKeyList
+        ensures { result ≡ first ∷ second ∷ others.items }
+    {
+        let (first_kind, first) = parted(first);
+        let (second_kind, second) = parted(second);
+        SortKeyList {
+            first,
+            second,
+            others,
+            first_kind,
+            second_kind,
+        }
+    }
+}
+
+/// The kind and the key by which a sort key is given.
+fn parted(sort_key: SortKey) -> (InlineKind, Key)
+    ensures listed { (others : List SortKeys) → listed result.0 result.1 others ≡ sort_key ∷ others }
+    ensures given { (others : List SortKeys) → IsListed result.0 result.1 others }
+{
+    match sort_key {
+        SortKey::Ascending(key) => (InlineKind::Ascending, key),
+        SortKey::Descending(key) => (InlineKind::Descending, key.0),
+        SortKey::Missing => (InlineKind::Missing, Key::Null),
+    }
+}
+
+/// The sort key that is given by a kind and a key, if there is one.
+fn joined(kind: InlineKind, key: Key) -> Option<SortKey>
+    ensures { MatchOption result ((others : List SortKeys) → listed kind key others ≡ others)
+        (λ sort_key. (others : List SortKeys) → listed kind key others ≡ sort_key ∷ others) }
+{
+    match kind {
+        InlineKind::NoKey => None,
+        InlineKind::Ascending => Some(SortKey::Ascending(key)),
+        InlineKind::Descending => Some(SortKey::Descending(Reverse(key))),
+        InlineKind::Missing => Some(SortKey::Missing),
     }
 }
 
@@ -177,11 +238,18 @@ fn each_key<R: RowView>(
     Ok(keys)
 }
 
-fn cmp_keys(kind: FirstKind, first: &Key, second: &Key) -> Ordering
+fn cmp_keys(kind: InlineKind, first: &Key, second: &Key) -> Ordering
     ensures { result ≡ cmp_in kind first.now second.now }
 {
     match kind {
-        FirstKind::Descending => second.cmp(first),
+        InlineKind::Descending => second.cmp(first),
         _ => first.cmp(second),
     }
+}
+
+/// How two sort keys are ordered that are given by their kinds and keys.
+fn cmp_inline(kind: InlineKind, key: &Key, other_kind: InlineKind, other: &Key) -> Ordering
+    ensures { result ≡ inline_cmp kind key.now other_kind other.now }
+{
+    kind.cmp(&other_kind).then(cmp_keys(kind, key, other))
 }
