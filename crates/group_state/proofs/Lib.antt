@@ -16,6 +16,7 @@ pub mod Sums
 pub mod GroupLaw
 pub mod KeptColumns
 pub mod FewValues
+pub mod OneValue
 pub mod Poured
 pub mod Present
 pub mod SampleFits

@@ -16,5 +16,6 @@ pub mod Seen
 pub mod Touched
 pub mod TupleKeys
 pub mod FewValues
+pub mod OneValue
 pub mod Multisets
 pub mod Moves

@@ -38,7 +38,7 @@ impl Group {
     {
         let mut tallies = Vec::with_capacity(alloc, columns.len())?;
         for column in columns {
-            tallies.push(Tally::new(alloc, column.form))?;
+            tallies.push(Tally::new(column.form))?;
         }
         Ok(Group { rows: 0, tallies })
     }

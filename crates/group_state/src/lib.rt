@@ -16,6 +16,7 @@ mod groups;
 mod kept_columns;
 mod many_values;
 mod multiset;
+mod one_value;
 mod parts;
 mod reading;
 mod row_cells;

@@ -4,16 +4,18 @@ ghost use Rattle.group_state.specs.Counts.{had, keeps_none, one, put_one, put_ti
 ghost use Rattle.group_state.specs.Folds.{first_of, last_of};
 ghost use Rattle.group_state.specs.GroupParts.{IsMultiset, counts_with};
 ghost use Rattle.group_state.specs.Keys.{key_cmp};
+ghost use Rattle.group_state.specs.Multisets.{HasRoom, counted_in};
 ghost use Rattle.std.proofs.Common.{option_map};
 ghost use Rattle.std.specs.List.{All};
 ghost use Rattle.std.specs.List.Sorted.{IsStrictlySortedBy};
 ghost use Rattle.std.specs.Map.{keys_of, values_of};
-ghost use Rattle.std.specs.Prelude.{◌≡◌, ◌<◌, ◌^◌, ◌+◌, ◌-◌, IfOk, OnErr, OnOk, cond, length};
+ghost use Rattle.std.specs.Prelude.{◌≡◌, ◌<◌, ◌^◌, ◌+◌, ◌-◌, IfOk, IfSome, MatchOption, OnErr, OnOk, cond, length};
 ghost use Rattle.std.specs.BTreeMap.{is_at};
 ghost use Rattle.values.specs.declared.key.Key.{Key};
 
 use crate::few_values::FewValues;
 use crate::many_values::ManyValues;
+use crate::one_value::OneValue;
 use crate::parts::MultisetParts;
 use std::alloc::{AllocError, Global};
 use std::marker::Model;
@@ -22,9 +24,10 @@ use values::Key;
 /// More values than this are kept in a tree.
 const MOST_FEW: usize = 8;
 
-/// A few values in one piece of memory, or many in a tree.
+/// One value in its place, a few values in one piece of memory, or many in a tree.
 #[derive(Debug, Drop)]
 enum Counts {
+    One(OneValue),
     Few(FewValues),
     Many(ManyValues),
 }
@@ -45,13 +48,76 @@ impl Model for Multiset {
     ghost view = { λ m. counted_in m.counts };
 }
 
+/// The values in a wider form, where this one can't be added in theirs.
+fn widened(counts: &Counts, alloc: Global, key: &Key) -> Result<Option<Counts>, AllocError>
+    ensures same { IfOk result (λ found. IfSome found (λ wider. counted_in wider ≡ counted_in counts.now)) }
+    ensures room { IfOk result (λ found. MatchOption found (HasRoom key.now counts.now) (HasRoom key.now)) }
+{
+    match counts {
+        Counts::One(value) => {
+            if value.can_take(key) {
+                return Ok(None);
+            }
+            Ok(Some(Counts::Few(value.to_few(alloc)?)))
+        }
+        Counts::Few(values) => {
+            if values.len() < MOST_FEW {
+                return Ok(None);
+            }
+            Ok(Some(Counts::Many(values.to_many(alloc)?)))
+        }
+        Counts::Many(_values) => Ok(None),
+    }
+}
+
+/// Moves the values into a wider form, where this one can't be added in theirs. If memory is refused, nothing has
+/// changed.
+fn make_room(counts: &mut Counts, alloc: Global, key: &Key) -> Result<(), AllocError>
+    ensures same { counted_in counts.new ≡ counted_in counts.old }
+    ensures room { OnOk result (HasRoom key.now counts.new) }
+{
+    if let Some(wider) = widened(counts, alloc, key)? {
+        *counts = wider;
+    }
+    Ok(())
+}
+
+/// Adds a value so many times. If memory is refused, nothing has changed.
+fn put(counts: &mut Counts, key: Key, times: u64) -> Result<(), AllocError>
+    requires some { 0 < times }
+    requires room { HasRoom key counts.old }
+    requires few { had (counted_in counts.old) key + times < 2 ^ 64 }
+    ensures ok { OnOk result (counted_in counts.new ≡ put_times key times (counted_in counts.old)) }
+    ensures err { OnErr result (counted_in counts.new ≡ counted_in counts.old) }
+{
+    match counts {
+        Counts::One(value) => {
+            value.add(key, times);
+            Ok(())
+        }
+        Counts::Few(values) => values.add(key, times),
+        Counts::Many(values) => values.add(key, times),
+    }
+}
+
+/// Removes a value so many times, as far as it is there.
+fn take(counts: &mut Counts, key: &Key, times: u64)
+    ensures { counted_in counts.new ≡ take_times key.now times (counted_in counts.old) }
+{
+    match counts {
+        Counts::One(value) => value.remove(key, times),
+        Counts::Few(values) => values.remove(key, times),
+        Counts::Many(values) => values.remove(key, times),
+    }
+}
+
 impl Multiset {
     /// An empty multiset. It takes no memory.
-    pub fn new(alloc: Global) -> Multiset
+    pub fn new() -> Multiset
         ensures { result ≡ keeps_none }
     {
         Multiset {
-            counts: Counts::Few(FewValues::new(alloc)),
+            counts: Counts::One(OneValue::none()),
         }
     }
 
@@ -60,6 +126,7 @@ impl Multiset {
         ensures kept { IfOk result (λ parts. IsMultiset parts) }
     {
         match self.counts {
+            Counts::One(value) => value.into_parts(alloc),
             Counts::Few(values) => values.into_parts(alloc),
             Counts::Many(values) => values.into_parts(alloc),
         }
@@ -84,6 +151,7 @@ impl Multiset {
         ensures present { All (λ n. 0 < n) (values_of self.now) }
     {
         match &self.counts {
+            Counts::One(value) => value.len(),
             Counts::Few(values) => values.len(),
             Counts::Many(values) => values.len(),
         }
@@ -97,6 +165,7 @@ impl Multiset {
     {
         let _size = self.count_distinct();
         match &self.counts {
+            Counts::One(value) => value.key(),
             Counts::Few(values) => values.least(),
             Counts::Many(values) => values.least(),
         }
@@ -110,41 +179,9 @@ impl Multiset {
     {
         let _size = self.count_distinct();
         match &self.counts {
+            Counts::One(value) => value.key(),
             Counts::Few(values) => values.greatest(),
             Counts::Many(values) => values.greatest(),
-        }
-    }
-
-    /// Moves the values into a tree where there are no longer few. If memory is refused, nothing has changed.
-    fn make_room(&mut self, alloc: Global) -> Result<(), AllocError>
-        ensures { self.new ≡ self.old }
-    {
-        let many = match &self.counts {
-            Counts::Few(values) if values.len() >= MOST_FEW => values.to_many(alloc)?,
-            _ => return Ok(()),
-        };
-        self.counts = Counts::Many(many);
-        Ok(())
-    }
-
-    fn put(&mut self, key: Key, times: u64) -> Result<(), AllocError>
-        requires some { 0 < times }
-        requires few { had self.old key + times < 2 ^ 64 }
-        ensures ok { OnOk result (self.new ≡ put_times key times self.old) }
-        ensures err { OnErr result (self.new ≡ self.old) }
-    {
-        match &mut self.counts {
-            Counts::Few(values) => values.add(key, times),
-            Counts::Many(values) => values.add(key, times),
-        }
-    }
-
-    fn take(&mut self, key: &Key, times: u64)
-        ensures { self.new ≡ take_times key.now times self.old }
-    {
-        match &mut self.counts {
-            Counts::Few(values) => values.remove(key, times),
-            Counts::Many(values) => values.remove(key, times),
         }
     }
 
@@ -155,8 +192,8 @@ impl Multiset {
         ensures counts { OnOk result ((q : Key) → had self.new q ≡ had self.old q + one key q) }
         ensures err { OnErr result (self.new ≡ self.old) }
     {
-        self.make_room(alloc)?;
-        self.put(key, 1)?;
+        make_room(&mut self.counts, alloc, &key)?;
+        put(&mut self.counts, key, 1)?;
         Ok(())
     }
 
@@ -166,7 +203,7 @@ impl Multiset {
         ensures counts { (q : Key) → had self.new q ≡ had self.old q - one key.now q }
     {
         let _size = self.count_distinct();
-        self.take(key, 1);
+        take(&mut self.counts, key, 1);
     }
 
     /// Adds a value so many times.
@@ -176,8 +213,8 @@ impl Multiset {
         ensures { OnOk result ((q : Key) → had self.new q
             ≡ had self.old q + cond (is_at (key_cmp key.now) q) times 0) }
     {
-        self.make_room(alloc)?;
-        self.put(key.copy(alloc)?, times)?;
+        make_room(&mut self.counts, alloc, key)?;
+        put(&mut self.counts, key.copy(alloc)?, times)?;
         Ok(())
     }
 
@@ -186,7 +223,7 @@ impl Multiset {
         ensures { (q : Key) → had self.new q ≡ had self.old q - cond (is_at (key_cmp key.now) q) times 0 }
     {
         let _size = self.count_distinct();
-        self.take(key, times);
+        take(&mut self.counts, key, times);
     }
 
     /// Adds the values of another multiset, each as often as it is there.
@@ -195,6 +232,7 @@ impl Multiset {
         ensures { OnOk result ((q : Key) → had self.new q ≡ had self.old q + had other.now q) }
     {
         match &other.counts {
+            Counts::One(value) => self.take_in_one(alloc, value),
             Counts::Few(values) => self.take_in_few(alloc, values),
             Counts::Many(values) => self.take_in_many(alloc, values),
         }
@@ -205,9 +243,20 @@ impl Multiset {
         ensures { (q : Key) → had self.new q ≡ had self.old q - had other.now q }
     {
         match &other.counts {
+            Counts::One(value) => self.give_up_one(value),
             Counts::Few(values) => self.give_up_few(values),
             Counts::Many(values) => self.give_up_many(values),
         }
+    }
+
+    fn take_in_one(&mut self, alloc: Global, other: &OneValue) -> Result<(), AllocError>
+        requires { (q : Key) → had self.old q + had other.now q < 2 ^ 63 }
+        ensures { OnOk result ((q : Key) → had self.new q ≡ had self.old q + had other.now q) }
+    {
+        if let Some((key, count)) = other.entry() {
+            self.add_times(alloc, key, count)?;
+        }
+        Ok(())
     }
 
     fn take_in_few(&mut self, alloc: Global, other: &FewValues) -> Result<(), AllocError>
@@ -230,6 +279,14 @@ impl Multiset {
             self.add_times(alloc, key, *count)?;
         }
         Ok(())
+    }
+
+    fn give_up_one(&mut self, other: &OneValue)
+        ensures { (q : Key) → had self.new q ≡ had self.old q - had other.now q }
+    {
+        if let Some((key, count)) = other.entry() {
+            self.remove_times(key, count);
+        }
     }
 
     fn give_up_few(&mut self, other: &FewValues)

@@ -32,7 +32,7 @@ pub enum Tally {
 
 impl Tally {
     /// The tally of no cells, in this form.
-    pub(crate) fn new(alloc: Global, form: KeptForm) -> Tally
+    pub(crate) fn new(form: KeptForm) -> Tally
         ensures { result ≡ fresh form }
     {
         match form {
@@ -40,7 +40,7 @@ impl Tally {
                 filled: 0,
                 total: 0,
             }),
-            KeptForm::Values => Tally::Values(Multiset::new(alloc)),
+            KeptForm::Values => Tally::Values(Multiset::new()),
         }
     }
 
