@@ -58,7 +58,8 @@ class Proving:
         word = "test" if what == "test" else "lib" if is_library else "check"
         with self.lanes.one() as lane:
             began = time.monotonic()
-            ran = lane.rt(crate, word, "--jobs", "1", keeps=True)
+            # where few crates can be checked at once, each takes the processors of the lanes that stand empty
+            ran = lane.rt(crate, word, "--jobs", str(1 + len(self.lanes.free)), keeps=True)
             proved = re.search("^logic=proved .*", ran.text, re.M)
             # only a proved library is built, and of one that was built of this very text no more is said
             is_well = ran.status == 0 and (proved is not None or word != "check")
