@@ -31,3 +31,5 @@ pub mod PickedLemmas
 pub mod GatheredCells
 pub mod PlacedColumns
 pub mod LeafColumns
+pub mod WeighedRows
+pub mod BoundedRows

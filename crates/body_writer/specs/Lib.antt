@@ -10,3 +10,4 @@ pub mod RowRanges
 pub mod Texts
 pub mod Picked
 pub mod Places
+pub mod Heavy

@@ -5,7 +5,8 @@
 //! `specs/Batch.antt` what the body of a batch is and which rows make one, `specs/Law.antt` that a column that is
 //! written is read back. The laws are carried by [`column_law`] and its neighbours. What is written has its source in its
 //! name: [`write_column_from_values`], [`write_body_from_columns`], [`write_body_from_picked_columns`] and
-//! [`write_body_from_places`].
+//! [`write_body_from_places`]. Which rows are too heavy to be written is what [`heaviest_row`] and [`weigh_row`] say
+//! (`specs/Heavy.antt`).
 #![tactic(auto)]
 
 mod body;
@@ -14,6 +15,7 @@ mod from_columns;
 mod from_places;
 mod from_values;
 mod laws;
+mod weighing;
 
 pub use body::Body;
 pub use from_columns::batch::{Batch, RowRange};
@@ -26,3 +28,4 @@ pub use from_places::write::write_body_from_places;
 pub use from_values::batch::column_cells;
 pub use from_values::column::write_column_from_values;
 pub use laws::{column_law, count_law, size_law, standing_law};
+pub use weighing::{MAX_LIGHT_ROW, heaviest_row, weigh_row};

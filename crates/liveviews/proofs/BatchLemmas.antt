@@ -9,8 +9,8 @@ use Rattle.values.specs.declared.causes.Cause.{Cause}
 use Rattle.values.specs.declared.causes.Cause.TheVariants as cause
 use Rattle.values.specs.declared.layout.Layout.{Layout}
 use Rattle.schema_meta.specs.Rows.{rows_in, rows_from, row_at}
-use Rattle.stream_writer.specs.Heavy.{IsHeavy}
-use Rattle.liveviews.specs.Taken.{AreFit, AreTaken, IsTakenRow, HasHeavyRow, RefusesRows}
+use Rattle.body_writer.specs.Heavy.{HasHeavyRow, IsHeavy}
+use Rattle.liveviews.specs.Taken.{AreFit, AreTaken, IsTakenRow, RefusesRows}
 use Rattle.liveviews.specs.Refused.{RefusesBatch}
 
 pub rows_from-length : (columns : List (List Datum)) (i n : ℕ) → length (rows_from columns i n) ≡ n

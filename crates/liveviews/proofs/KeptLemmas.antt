@@ -20,9 +20,10 @@ use Rattle.row_keys.specs.Batches.{HoldsCells}
 use Rattle.body_writer.specs.declared.from_columns.batch.Batch.{Batch}
 use Rattle.body_writer.specs.RowRanges.{IsSized, batch_rows, rows_of}
 use Rattle.stream_writer.specs.Stream.{trees}
-use Rattle.stream_writer.specs.Heavy.{IsLight, row_weight}
+use Rattle.body_writer.specs.Batch.{row_weight}
+use Rattle.body_writer.specs.Heavy.{AreLightUpTo, IsLight}
 use Rattle.liveviews.specs.Taken.{AreFit}
-use Rattle.liveviews.specs.Kept.{AreLightUpTo, IsKept, IsKeptSo, IsWritable, taken_rows}
+use Rattle.liveviews.specs.Kept.{IsKept, IsKeptSo, IsWritable, taken_rows}
 use Rattle.stream_writer.specs.Weights.{IsLightBatch, WeighsAs}
 use Rattle.liveviews.specs.declared.recasting.kept_batches.KeptBatches.{KeptBatches}
 use Rattle.liveviews.proofs.BatchLemmas.{rows_from-length}

@@ -1,4 +1,3 @@
-pub mod BoundLemmas
 pub mod BatchLemmas
 pub mod Stories
 pub mod Tables

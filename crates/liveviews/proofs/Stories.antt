@@ -79,7 +79,7 @@ use Rattle.feed.specs.StoryLaw.{
   rest_story,
   rest_story_from,
 }
-use Rattle.stream_writer.specs.Heavy.{IsHeavy}
+use Rattle.body_writer.specs.Heavy.{IsHeavy}
 use Rattle.liveviews.specs.Refused.{RefusesBatch}
 use Rattle.liveviews.proofs.Accounts.{after-shows, gave, gives-fault, uses-some}
 use Rattle.liveviews.proofs.Tables.{after-by}

@@ -32,7 +32,8 @@ use Rattle.stream_writer.specs.Sinks.{Sunk, Writes}
 use Rattle.stream_writer.specs.Stream.{canon, trees}
 use Rattle.stream_writer.specs.Table.{IsRow, IsTable}
 use Rattle.stream_writer.specs.TableWriters.{IsWriting, MayCome}
-use Rattle.stream_writer.specs.Heavy.{row_weight}
+use Rattle.body_writer.specs.Batch.{row_weight}
+use Rattle.body_writer.specs.Heavy.{AreLightUpTo}
 use Rattle.stream_writer.specs.Weights.{HasSizes, WeighsAs}
 use Rattle.stream_writer.specs.declared.faults.WriteFault.{WriteFault}
 use Rattle.stream_writer.specs.declared.faults.WriteFault.TheVariants as write
@@ -40,7 +41,6 @@ use Rattle.stream_writer.specs.declared.table_writer.TableWriter.{TableWriter}
 use Rattle.stream_writer.proofs.BatchRowLemmas.{batch-long}
 use Rattle.stream_writer.proofs.ProgressLemmas.{stops-memory}
 use Rattle.liveviews.specs.Brought.{Brings}
-use Rattle.liveviews.specs.Kept.{AreLightUpTo}
 use Rattle.liveviews.specs.Recast.{WritesTable, fault_of}
 use Rattle.liveviews.specs.ReadBack.{ReadBack}
 use Rattle.liveviews.specs.Steps.{AreTakenSo, IsComplete, Refuses}

@@ -11,7 +11,7 @@ use Rattle.schema_meta.specs.Rows.{row_at}
 use Rattle.feed.specs.Columns.{cells_in, layouts_in}
 use Rattle.body_writer.specs.RowRanges.{IsSized, rows_of}
 use Rattle.stream_writer.specs.Stream.{trees}
-use Rattle.stream_writer.specs.Heavy.{IsLight, row_weight}
+use Rattle.body_writer.specs.Batch.{row_weight}
 use Rattle.stream_writer.specs.Weights.{IsLightBatch, WeighsAs}
 use Rattle.liveviews.specs.declared.recasting.kept_batches.KeptBatches.{KeptBatches}
 
@@ -20,17 +20,6 @@ taken_rows t = rows_of t.batches.items
 
 abbrev pub IsCounted : KeptBatches → Type 0
 IsCounted t = t.rows ≡ length (taken_rows t)
-
--- the first n rows are not too heavy, and none is heavier than this
-abbrev pub AreLightUpTo : Roses Layout → List (List Datum) → ℕ → ℕ → Type 0
-AreLightUpTo ls columns n most = (k : ℕ) → k < n → IsLight ls (row_at columns k)
-    × (row_weight ls (row_at columns k) ≤ most)
-
--- no row of these columns is too heavy, or heavier than this
-abbrev pub IsRowBound : List CheckedColumn → ℕ → Type 0
-IsRowBound columns most = (k : ℕ) → All (λ (c : CheckedColumn). k < length c.cells) columns
-    → IsLight (layouts_in columns) (row_at (cells_in columns) k)
-    × (row_weight (layouts_in columns) (row_at (cells_in columns) k) ≤ most)
 
 -- each batch has n columns, which weigh as these layouts, and no row is too heavy, or heavier than `heaviest`
 pub record IsKept (n : ℕ) (ls : Roses Layout) (t : KeptBatches) : Type 0 where

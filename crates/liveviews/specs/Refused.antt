@@ -9,7 +9,7 @@ use Rattle.values.specs.declared.layout.Layout.{Layout}
 use Rattle.values.specs.declared.causes.Cause.{Cause}
 use Rattle.values.specs.declared.causes.Cause.TheVariants as cause
 use Rattle.values.specs.declared.faults.StreamFault.{StreamFault}
-use Rattle.stream_writer.specs.Heavy.{IsHeavy}
+use Rattle.body_writer.specs.Heavy.{IsHeavy}
 
 -- a stream fault of this cause stands
 abbrev pub StandsAs : {X : Type 0} → Reading X → Cause → Type 0

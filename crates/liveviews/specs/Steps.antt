@@ -15,7 +15,7 @@ use Rattle.feed.specs.Retained.{Retained}
 use Rattle.feed.specs.Shown.{FeedParts, Shows}
 use Rattle.feed.specs.States.{FeedState, after_push, gives, is_broken, retained_in}
 use Rattle.feed.specs.StoryLaw.{IsBetween, rest_story}
-use Rattle.stream_writer.specs.Heavy.{IsHeavy}
+use Rattle.body_writer.specs.Heavy.{IsHeavy}
 use Rattle.liveviews.specs.Taken.{AreTaken}
 use Rattle.liveviews.specs.Refused.{StandsAs}
 use Rattle.liveviews.specs.Kept.{IsKeptSo, taken_rows}

@@ -8,7 +8,7 @@ use Rattle.values.specs.declared.layout.Layout.{Layout}
 use Rattle.values.specs.declared.causes.Cause.{Cause}
 use Rattle.values.specs.declared.causes.Cause.TheVariants as cause
 use Rattle.schema_meta.specs.Rows.{row_at}
-use Rattle.stream_writer.specs.Heavy.{IsHeavy, IsLight}
+use Rattle.body_writer.specs.Heavy.{HasHeavyRow, IsLight}
 
 -- Rows that are taken have a cell a column, of the column's layout, and are not too heavy; and they are not too many.
 pub record IsTakenRow (ls : Roses Layout) (row : List Datum) : Type 0 where
@@ -22,10 +22,6 @@ pub record AreTaken (ls : Roses Layout) (rows : List (List Datum)) : Type 0 wher
 -- each of the first n rows can be taken
 abbrev pub AreFit : Roses Layout → List (List Datum) → ℕ → Type 0
 AreFit ls columns n = (k : ℕ) → k < n → IsTakenRow ls (row_at columns k)
-
--- one of the first n rows is too heavy
-abbrev pub HasHeavyRow : Roses Layout → List (List Datum) → ℕ → Type 0
-HasHeavyRow ls columns n = (k : ℕ) × (k < n) × IsHeavy ls (row_at columns k)
 
 -- why the first n rows of a batch were not taken
 abbrev pub RefusesRows : Roses Layout → List (List Datum) → ℕ → Cause → Type 0

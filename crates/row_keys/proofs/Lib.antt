@@ -14,7 +14,6 @@ mod LastRows
 mod KeyedRows
 mod KeysOfBatch
 mod HeavyRows
-mod BoundedRows
 mod LightRows
 mod HeldRows
 mod AppendedBatches

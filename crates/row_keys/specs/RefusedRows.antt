@@ -18,8 +18,3 @@ RefusesRows most live appended rows columns (fault.Unfit unfit.CellTooHeavy) =
     (are_many most live appended rows ≡ false) × (any_heavy (layouts_in columns) (batch_rows rows columns) ≡ true)
 RefusesRows most live appended rows columns fault.Memory = Unit {0}
 RefusesRows most live appended rows columns _ = ⊥
-
--- However many rows these columns have, none is too heavy.
-abbrev pub IsBounded : List CheckedColumn → Type 0
-IsBounded columns = (rows : ℕ) → All (λ (c : CheckedColumn). length c.cells ≡ rows) columns
-    → any_heavy (layouts_in columns) (batch_rows rows columns) ≡ false

@@ -27,7 +27,6 @@ mod Sample
 pub mod PlainRows
 pub mod BatchRowLemmas
 pub mod FittingLemmas
-pub mod WeightLemmas
 pub mod RowWeights
 mod RangeLemmas
 mod RangeBoundLemmas

@@ -15,11 +15,11 @@ use Rattle.schema_meta.specs.SchemaTree.{AreColumns}
 use Rattle.body_writer.specs.Batch.{row_weight}
 use Rattle.body_writer.specs.declared.from_columns.batch.Batch.{Batch}
 use Rattle.body_writer.specs.RowRanges.{batch_rows, cells_in}
-use Rattle.stream_writer.specs.Heavy.{IsLight}
+use Rattle.body_writer.specs.Heavy.{IsLight}
 use Rattle.stream_writer.specs.Stream.{trees}
 use Rattle.stream_writer.specs.Table.{IsRow, IsTable}
 use Rattle.stream_writer.specs.TableWriters.{MayCome}
-use Rattle.stream_writer.specs.Weights.{layouts_in}
+use Rattle.body_writer.specs.Heavy.{layouts_in}
 
 plain-row : IsRow [] []
 plain-row = record { held = tt; light = omega arith }

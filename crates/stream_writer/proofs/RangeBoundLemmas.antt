@@ -60,7 +60,7 @@ use Rattle.stream_writer.specs.BatchRows.{AreLightRows, max_light_row}
 use Rattle.stream_writer.specs.RangeBounds.{BoundsCells, IsHeaviest}
 use Rattle.stream_writer.specs.RangeRows.{HoldRows}
 use Rattle.stream_writer.proofs.RangeLemmas.{all-rows, cell-of, each-row}
-use Rattle.stream_writer.proofs.WeightLemmas.{weight_said}
+use Rattle.body_writer.proofs.WeighedRows.{weight_said}
 
 -- the heaviest cell
 

@@ -33,12 +33,12 @@ use Rattle.values.specs.Datum.{Datum}
 use Rattle.values.specs.Rose.{Roses, none, more}
 use Rattle.values.specs.declared.layout.Layout.{Layout}
 use Rattle.schema_meta.specs.Rows.{row_at, rows_from}
-use Rattle.stream_writer.specs.Weights.{layouts_in}
+use Rattle.body_writer.specs.Batch.{row_weight}
 use Rattle.body_writer.specs.declared.from_columns.batch.Batch.{Batch}
 use Rattle.body_writer.specs.RowRanges.{batch_rows, rows_of}
 use Rattle.stream_writer.specs.Weights.{weights_of}
-use Rattle.stream_writer.specs.Heavy.{AreLightCells, HasHeavyCell, IsHeavy, IsLight, row_weight}
-use Rattle.stream_writer.specs.Weights.{IsLightAs, WeighsAs}
+use Rattle.body_writer.specs.Heavy.{AreLightCells, HasHeavyCell, IsHeavy, IsLight, IsLightAs, layouts_in}
+use Rattle.stream_writer.specs.Weights.{WeighsAs}
 
 -- a row isn't both
 

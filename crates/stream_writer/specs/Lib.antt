@@ -16,7 +16,6 @@ pub mod FramingLaw
 pub mod RowsLaw
 pub mod DictionaryLaw
 pub mod RoundTrip
-pub mod Heavy
 pub mod BatchRows
 pub mod Weights
 pub mod RangeRows

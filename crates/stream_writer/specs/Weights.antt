@@ -24,7 +24,7 @@ use Rattle.schema_meta.specs.Rows.{row_at}
 use Rattle.body_writer.specs.Batch.{row_weight}
 use Rattle.body_writer.specs.declared.from_columns.batch.Batch.{Batch}
 use Rattle.body_writer.specs.RowRanges.{cells_in}
-use Rattle.stream_writer.specs.Heavy.{IsLight}
+use Rattle.body_writer.specs.Heavy.{IsLight, layouts_in}
 
 abbrev pub weights_of : Roses Layout → List (List Datum) → List ℕ
 weights_of ls rows = map (row_weight ls) rows
@@ -34,15 +34,6 @@ abbrev pub fitting : ℕ → ℕ → List ℕ → ℕ
 fitting zero room ws = 0
 fitting (suc n) room [] = 0
 fitting (suc n) room (w ∷ ws) = if nat_le w room then 1 + fitting n (room - w) ws else 0
-
--- how checked columns lie in memory
-abbrev pub layouts_in : List CheckedColumn → Roses Layout
-layouts_in columns = kids_of (map (λ c. c.layouts) columns)
-
--- a row that isn't too heavy, and its weight
-pub record IsLightAs (ls : Roses Layout) (row : List Datum) (weight : ℕ) : Type 0 where
-  pub light : IsLight ls row
-  pub exact : row_weight ls row ≡ weight
 
 -- each column has a cell a row
 abbrev pub HasSizes : Batch → Type 0

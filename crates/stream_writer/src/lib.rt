@@ -40,7 +40,7 @@ pub use table::{
     write_batches, write_coded, write_places, write_ranges, write_table, write_weighed_batches,
 };
 pub use table_writer::TableWriter;
-pub use weighing::{MAX_LIGHT_ROW, weigh_row, weights_in};
+pub use weighing::weights_in;
 
 #[cfg(test)]
 mod coded_tests;

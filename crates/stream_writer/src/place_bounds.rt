@@ -7,7 +7,7 @@ ghost use Rattle.body_writer.specs.Places.{AreFound, column_of};
 ghost use Rattle.stream_writer.specs.PlaceRows.{AreLightBatches, BoundsBatch, BoundsColumn};
 
 use crate::range_bounds::bound_values;
-use crate::weighing::MAX_LIGHT_ROW;
+use body_writer::MAX_LIGHT_ROW;
 use body_writer::{Batch, BatchArrays};
 use std::alloc::{AllocError, Global};
 use values::LayoutTree;

@@ -11,7 +11,7 @@ ghost use Rattle.stream_writer.specs.BatchRows.{AreLightRows};
 ghost use Rattle.stream_writer.specs.RangeBounds.{BoundsCells, IsHeaviest};
 ghost use Rattle.stream_writer.specs.RangeRows.{HoldRows};
 
-use crate::weighing::MAX_LIGHT_ROW;
+use body_writer::MAX_LIGHT_ROW;
 use arrays::Column;
 use body_writer::RowRange;
 use values::limits::MAX_CELL_WEIGHT;

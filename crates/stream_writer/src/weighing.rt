@@ -1,53 +1,26 @@
 //! Weighs the rows of batches of checked columns.
 
-ghost use Rattle.std.specs.Prelude.{◌≡◌, ℕ, ◌<◌, ◌≤◌, ◌++◌, All, IfOk, IfSome, OnOk, None, drop, length};
+ghost use Rattle.std.specs.Prelude.{◌≡◌, ℕ, ◌<◌, ◌≤◌, ◌++◌, All, IfOk, OnOk, drop, length};
 ghost use Rattle.values.specs.Limits.{max_batch_rows, max_batch_weight};
 ghost use Rattle.values.specs.Rose.{Roses};
 ghost use Rattle.values.specs.declared.layout.Layout.{Layout};
 ghost use Rattle.schema_meta.specs.Rows.{row_at, rows_in};
 ghost use Rattle.body_writer.specs.Batch.{row_weight};
+ghost use Rattle.body_writer.specs.Heavy.{IsLight, layouts_in};
 ghost use Rattle.body_writer.specs.RowRanges.{batch_rows, cells_in, rows_of};
 ghost use Rattle.stream_writer.specs.BatchRows.{AreWeighed};
-ghost use Rattle.stream_writer.specs.Heavy.{IsHeavy, IsLight};
 ghost use Rattle.stream_writer.specs.Weights.{
   HasSizes,
-  IsLightAs,
   IsLightBatch,
   WeighsAs,
   fitting,
-  layouts_in,
   weights_of,
 };
 
 use arrays::Column;
-use body_writer::Batch;
+use body_writer::{Batch, MAX_LIGHT_ROW, weigh_row};
 use std::alloc::{AllocError, Global};
-use values::limits::{MAX_BATCH_ROWS, MAX_BATCH_WEIGHT, MAX_CELL_WEIGHT, MAX_ROW_WEIGHT};
-
-/// Of rows that weigh no more than this, 1,024 are within the limit on a written batch's weight.
-pub const MAX_LIGHT_ROW: u64 = 1 << 17;
-
-/// The weight of row `index`, or `None` if one of its cells is above the limit of a cell, or the row is above that of a
-/// row. Nothing is copied.
-#[tactic(auto, using(crate::proofs::WeightLemmas::weighing))]
-pub fn weigh_row(columns: &[Column], index: usize) -> Option<u64>
-    requires { All (λ c. index < length c.cells) columns.now }
-    ensures heavy { result ≡ None → IsHeavy (layouts_in columns.now) (row_at (cells_in columns.now) index) }
-    ensures light { IfSome result (IsLightAs (layouts_in columns.now) (row_at (cells_in columns.now) index)) }
-{
-    let mut sum = 0;
-    for column in columns {
-        let weight = column.weight(index);
-        if weight > MAX_CELL_WEIGHT {
-            return None;
-        }
-        sum += weight;
-        if sum > MAX_ROW_WEIGHT {
-            return None;
-        }
-    }
-    Some(sum)
-}
+use values::limits::{MAX_BATCH_ROWS, MAX_BATCH_WEIGHT};
 
 /// Appends the weights of the first `count` rows, none of which is too heavy.
 #[tactic(auto, using(crate::proofs::RowWeights::weights))]

@@ -11,13 +11,11 @@ ghost use Rattle.liveviews.specs.Taken.{AreTaken};
 ghost use Rattle.liveviews.specs.Kept.{IsCounted, IsKept, IsWritable, taken_rows};
 ghost use Rattle.liveviews.specs.Refused.{RefusesBatch};
 
-use crate::recasting::batch::{columns_law, heaviest_row};
+use crate::recasting::batch::columns_law;
 use arrays::Column;
-use body_writer::Batch;
+use body_writer::{Batch, MAX_LIGHT_ROW, heaviest_row};
 use std::alloc::Global;
-use stream_writer::{
-    MAX_LIGHT_ROW, Sink, WriteFault, weights_in, write_batches, write_weighed_batches,
-};
+use stream_writer::{Sink, WriteFault, weights_in, write_batches, write_weighed_batches};
 use values::limits::MAX_MAIN_ROWS;
 use values::{Cause, Schema};
 

@@ -4,7 +4,8 @@ use Rattle.arrays.specs.Checked.{CheckedColumn}
 use Rattle.schema_meta.specs.Rows.{rows_in}
 use Rattle.body_writer.specs.Batch.{row_weight}
 use Rattle.body_writer.specs.RowRanges.{cells_in, rows_of}
-use Rattle.stream_writer.specs.Weights.{layouts_in, weights_of}
+use Rattle.body_writer.specs.Heavy.{layouts_in}
+use Rattle.stream_writer.specs.Weights.{weights_of}
 use Rattle.stream_writer.proofs.BatchRowLemmas.{weighed-each, weighed-more}
 use Rattle.stream_writer.proofs.FittingLemmas.{weights-left}
 use Rattle.stream_writer.proofs.RowWeights.{weights-added}

@@ -1,6 +1,6 @@
 use Rattle.schema_meta.specs.Rows.{row_at}
 use Rattle.body_writer.specs.RowRanges.{cells_in}
-use Rattle.stream_writer.specs.Weights.{layouts_in}
+use Rattle.body_writer.specs.Heavy.{layouts_in}
 use Rattle.stream_writer.proofs.RowWeights.{weight-is, weights-end, weights-more}
 use Rattle.stream_writer.proofs.weighing.push_weights.Goals as goal
 

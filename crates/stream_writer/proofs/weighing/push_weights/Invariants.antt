@@ -1,7 +1,7 @@
 use Rattle.std.proofs.Common.{◌≡◌, ◌++◌, ◌-◌}
 use Rattle.schema_meta.specs.Rows.{rows_from, rows_in}
 use Rattle.body_writer.specs.RowRanges.{cells_in}
-use Rattle.stream_writer.specs.Weights.{layouts_in}
+use Rattle.body_writer.specs.Heavy.{layouts_in}
 use Rattle.stream_writer.specs.Weights.{weights_of}
 use Rattle.stream_writer.proofs.weighing.push_weights.Given as goal
 

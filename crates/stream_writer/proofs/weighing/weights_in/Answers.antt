@@ -2,7 +2,7 @@ use Rattle.std.proofs.Common.{◌≡◌, ◌++◌, List, subst}
 use Rattle.arrays.specs.Checked.{CheckedColumn}
 use Rattle.schema_meta.specs.Rows.{rows_in}
 use Rattle.body_writer.specs.RowRanges.{cells_in}
-use Rattle.stream_writer.specs.Weights.{layouts_in}
+use Rattle.body_writer.specs.Heavy.{layouts_in}
 use Rattle.stream_writer.specs.Weights.{weights_of}
 use Rattle.stream_writer.proofs.RowWeights.{batch-more}
 use Rattle.stream_writer.proofs.weighing.weights_in.Goals as goal

@@ -4,8 +4,8 @@ use Rattle.arrays.specs.Checked.{CheckedColumn}
 use Rattle.feed.specs.Columns.{cells_in, layouts_in}
 use Rattle.row_keys.specs.Batches.{HoldsCells}
 use Rattle.body_writer.specs.declared.from_columns.batch.Batch.{Batch}
-use Rattle.liveviews.specs.Taken.{HasHeavyRow}
-use Rattle.liveviews.specs.Kept.{AreLightUpTo, taken_rows}
+use Rattle.liveviews.specs.Kept.{taken_rows}
+use Rattle.body_writer.specs.Heavy.{AreLightUpTo, HasHeavyRow}
 use Rattle.liveviews.specs.declared.recasting.kept_batches.KeptBatches.{KeptBatches}
 use Rattle.liveviews.proofs.BatchLemmas.{rows-many, rows-refused, taken-rows}
 use Rattle.liveviews.proofs.KeptLemmas.{count-more, fit-rows, kept-more, one-more}

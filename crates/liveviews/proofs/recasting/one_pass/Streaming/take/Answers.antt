@@ -7,8 +7,7 @@ use Rattle.schema_meta.specs.Logical.{logical_field}
 use Rattle.feed.specs.Columns.{cells_in, layouts_in}
 use Rattle.row_keys.specs.Batches.{HoldsCells}
 use Rattle.body_writer.specs.RowRanges.{batch_rows}
-use Rattle.liveviews.specs.Kept.{AreLightUpTo}
-use Rattle.liveviews.specs.Taken.{HasHeavyRow}
+use Rattle.body_writer.specs.Heavy.{AreLightUpTo, HasHeavyRow}
 use Rattle.liveviews.proofs.BatchLemmas.{rows-many, rows-refused}
 use Rattle.liveviews.proofs.BroughtLemmas.{brought-refused}
 use Rattle.liveviews.proofs.StreamLemmas.{

@@ -7,9 +7,9 @@ use Rattle.values.specs.Limits.{max_cell_weight, max_row_weight}
 use Rattle.values.specs.Datum.{null}
 use Rattle.values.specs.Layouts.{weight}
 use Rattle.arrays.specs.Checked.{CheckedColumn}
-use Rattle.feed.specs.Columns.{cells_in, layouts_in}
-use Rattle.liveviews.specs.Kept.{AreLightUpTo, IsRowBound}
-use Rattle.stream_writer.proofs.WeightLemmas.{cell_there, light_left, split_at, weight_left}
+use Rattle.body_writer.specs.RowRanges.{cells_in}
+use Rattle.body_writer.specs.Heavy.{AreLightUpTo, IsRowBound, layouts_in}
+use Rattle.body_writer.proofs.WeighedRows.{cell_there, light_left, split_at, weight_left}
 
 -- Rows by bounds on the cells of their columns: what the sum of the bounds so far and the columns that are left weigh.
 pub record Covers (sum : ℕ) (rest columns : List CheckedColumn) : Type 0 where

@@ -1,6 +1,6 @@
 use Rattle.std.proofs.Common.{arith}
-use Rattle.liveviews.proofs.BoundLemmas.{covers_more}
-use Rattle.liveviews.proofs.recasting.batch.bound_rows.Goals as goal
+use Rattle.body_writer.proofs.BoundedRows.{covers_more}
+use Rattle.body_writer.proofs.weighing.bound_rows.Goals as goal
 
 pub loop-column-preserved : goal.loop-column-preserved
 loop-column-preserved c = (

@@ -30,9 +30,8 @@ use Rattle.arrays.specs.Checked.{CheckedColumn}
 use Rattle.arrays.specs.Weights.{Says}
 use Rattle.schema_meta.specs.Rows.{row_at}
 use Rattle.body_writer.specs.RowRanges.{cells_in}
-use Rattle.stream_writer.specs.Weights.{layouts_in}
-use Rattle.stream_writer.specs.Weights.{IsLightAs}
-use Rattle.stream_writer.specs.Heavy.{row_weight, HasHeavyCell, AreLightCells, IsHeavy, IsLight}
+use Rattle.body_writer.specs.Batch.{row_weight}
+use Rattle.body_writer.specs.Heavy.{AreLightCells, HasHeavyCell, IsHeavy, IsLight, IsLightAs, layouts_in}
 
 abbrev pub weight_left : List CheckedColumn → ℕ → ℕ
 weight_left cs k = row_weight (layouts_in cs) (row_at (cells_in cs) k)

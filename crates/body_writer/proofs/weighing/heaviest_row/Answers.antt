@@ -1,5 +1,5 @@
-use Rattle.liveviews.proofs.BoundLemmas.{rows_bounded}
-use Rattle.liveviews.proofs.recasting.batch.heaviest_row.Goals as goal
+use Rattle.body_writer.proofs.BoundedRows.{rows_bounded}
+use Rattle.body_writer.proofs.weighing.heaviest_row.Goals as goal
 
 pub returns-in-Some-clause-light : goal.returns-in-Some-clause-light
 returns-in-Some-clause-light c =

@@ -1,6 +1,6 @@
 use Rattle.std.proofs.Common.{arith}
-use Rattle.stream_writer.proofs.WeightLemmas.{cell_there, weighs-heavy, weighs-over, weighs-more}
-use Rattle.stream_writer.proofs.weighing.weigh_row.Goals as goal
+use Rattle.body_writer.proofs.WeighedRows.{cell_there, weighs-heavy, weighs-over, weighs-more}
+use Rattle.body_writer.proofs.weighing.weigh_row.Goals as goal
 
 pub returns-then-weight-gt-MAX_CELL_WEIGHT-clause-heavy : goal.returns-then-weight-gt-MAX_CELL_WEIGHT-clause-heavy
 returns-then-weight-gt-MAX_CELL_WEIGHT-clause-heavy c = λ same.
