@@ -1,5 +1,5 @@
 -- What contracts see of groups that are kept with the order of their rows.
-use Rattle.std.specs.Prelude.{◌||◌, ℕ, Bool, cond, false, filter, is_some, length, List, nat_lt, None, Option, Some}
+use Rattle.std.specs.Prelude.{◌≡◌, ◌||◌, ℕ, Bool, cond, false, filter, is_some, length, List, nat_lt, None, Option, Some, true}
 use Rattle.std.specs.BTreeMap.{is_at}
 use Rattle.values.specs.Datum.{Datum}
 use Rattle.values.specs.declared.key.Key.{Key}
@@ -14,7 +14,7 @@ use Rattle.group_state.specs.Grouped.{Grouped}
 use Rattle.group_state.specs.Groups.{Keeps as KeepsGroups}
 use Rattle.group_state.specs.Keys.{tuple_cmp}
 use Rattle.group_state.specs.Aggregates.{seen_at}
-use Rattle.top_rows.specs.Ties.{KeepsBy}
+use Rattle.top_rows.specs.Ties.{KeepsBy, is_place_by, pick, stands_by, without}
 use Rattle.top_rows.specs.declared.sort_key.SortKey.{SortKey}
 use Rattle.group_order.specs.GroupPlaces.{GroupPlace, group_place_cmp}
 
@@ -71,3 +71,26 @@ IsRanked s = KeepsBy tuple_cmp s.ranking.order s.places (placed_at s.ranking s.g
 pub record Keeps (s : Ranked) (rows : List (List Datum)) : Type 0 where
   pub groups_are : KeepsGroups s.groups rows
   pub ranked : IsRanked s
+
+-- These places went, and those came; where the first were there.
+abbrev pub AreExchanged : (GroupPlace → Bool) → (GroupPlace → Bool) → List GroupPlace → List GroupPlace → Type 0
+AreExchanged before after old new =
+    ((p : GroupPlace) → before p ≡ true → stands_by tuple_cmp old p ≡ true)
+    → (p : GroupPlace)
+    → stands_by tuple_cmp new p ≡ cond (after p) true (cond (before p) false (stands_by tuple_cmp old p))
+
+-- These are the places that were kept, but that of a tuple's row is there, or isn't.
+abbrev pub AreWithPlace : Bool → Ranked → List Key → List GroupPlace → Type 0
+AreWithPlace there s t places =
+    (p : GroupPlace)
+    → stands_by tuple_cmp places p
+    ≡ cond (is_place_by tuple_cmp s.ranking.order t (placed_at s.ranking s.groups t) p) there
+    (stands_by tuple_cmp s.places p)
+
+-- The places of these tuples' rows came: there were none of them before.
+abbrev pub AreWithAll : Ranked → List (List Key) → List GroupPlace → Type 0
+AreWithAll s ts places =
+    (before : List Key → Option (List Datum))
+    → KeepsBy tuple_cmp s.ranking.order s.places (without tuple_cmp ts before)
+    → KeepsBy tuple_cmp s.ranking.order places
+    (pick tuple_cmp ts (placed_at s.ranking s.groups) (without tuple_cmp ts before))

@@ -3,17 +3,14 @@
 ghost use Rattle.std.specs.Prelude.{
   ◌≡◌,
   ◌<◌,
-  ◌^◌,
   ◌++◌,
   [],
   All,
-  cond,
   length,
   map,
   take,
   false,
   IfOk,
-  List,
   None,
   OnOk,
   Option,
@@ -28,17 +25,28 @@ ghost use Rattle.std.specs.Map.{keys_of, values_of};
 ghost use Rattle.std.specs.Ordering.{nat_cmp};
 ghost use Rattle.std.specs.Option.{option_map};
 ghost use Rattle.view_lang.specs.Cells.{rows_of};
-ghost use Rattle.group_state.specs.Reading.{CanReadAll};
-ghost use Rattle.values.specs.Datum.{Datum};
-ghost use Rattle.values.specs.declared.key.Key.{Key};
-ghost use Rattle.view_lang.specs.Shifts.{Fits, IsFew, NumberedRows, patched, row_at, with_at};
+ghost use Rattle.view_lang.specs.Limits.{max_appended_rows};
+ghost use Rattle.view_lang.specs.Shifts.{Fits, FollowsShift, IsFew, NumberedRows, patched, row_at, shift};
 ghost use Rattle.group_state.specs.Keys.{tuple_cmp};
 ghost use Rattle.group_state.specs.Aggregates.{AreReadBy, IsKept};
-ghost use Rattle.group_state.specs.Moves.{IsPartOf};
+ghost use Rattle.group_state.specs.Moves.{CanGiveUp, CanTakeIn, GivesUp, TakesIn};
+ghost use Rattle.group_state.specs.Reading.{WhereRead};
 ghost use Rattle.group_state.specs.Tuples.{tuple_of as tuple_by};
-ghost use Rattle.top_rows.specs.Ties.{KeepsBy, is_place_by, pick, place_by, stands_by, without};
+ghost use Rattle.top_rows.specs.Ties.{KeepsBy, place_by, without};
 ghost use Rattle.group_order.specs.GroupPlaces.{GroupPlace as PlaceSeen, group_place_cmp};
-ghost use Rattle.group_order.specs.Ranked.{IsRanked, Keeps, has_places, is_there, named, placed_at, ranked_rows, shown_at};
+ghost use Rattle.group_order.specs.Ranked.{
+  AreExchanged,
+  AreWithAll,
+  AreWithPlace,
+  IsRanked,
+  Keeps,
+  has_places,
+  is_there,
+  named,
+  placed_at,
+  ranked_rows,
+  shown_at,
+};
 ghost use Rattle.group_order.specs.RankedParts.{AreRanked, ranked_with};
 
 use crate::parts::RankedParts;
@@ -205,10 +213,8 @@ impl RankedGroups {
     ) -> Result<(), AllocError>
         ensures groups { self.new.groups ≡ self.old.groups }
         ensures ranking { self.new.ranking ≡ self.old.ranking }
-        ensures places { OnOk result (((p : PlaceSeen) → is_there (named tuple before) p ≡ true
-            → stands_by tuple_cmp self.old.places p ≡ true) → (p : PlaceSeen) → stands_by tuple_cmp self.new.places p
-            ≡ cond (is_there (named tuple after) p) true
-            (cond (is_there (named tuple before) p) false (stands_by tuple_cmp self.old.places p))) }
+        ensures places { OnOk result (AreExchanged (is_there (named tuple before)) (is_there (named tuple after))
+            self.old.places self.new.places) }
     {
         match (before, after) {
             (Some(before), Some(after)) => {
@@ -233,10 +239,7 @@ impl RankedGroups {
     fn take_out(&mut self, tuple: &Tuple) -> Result<(), AllocError>
         ensures groups { self.new.groups ≡ self.old.groups }
         ensures ranking { self.new.ranking ≡ self.old.ranking }
-        ensures places { OnOk result ((p : PlaceSeen) → stands_by tuple_cmp self.new.places p
-            ≡ cond (is_place_by tuple_cmp self.old.ranking.order tuple.now
-            (placed_at self.old.ranking self.old.groups tuple.now) p) false
-            (stands_by tuple_cmp self.old.places p)) }
+        ensures places { OnOk result (AreWithPlace false self.old tuple.now self.new.places) }
     {
         if let Some(place) = self.place_of(tuple)? {
             let _there = self.places.remove(&place);
@@ -249,10 +252,7 @@ impl RankedGroups {
     fn put_in(&mut self, tuple: &Tuple) -> Result<(), AllocError>
         ensures groups { self.new.groups ≡ self.old.groups }
         ensures ranking { self.new.ranking ≡ self.old.ranking }
-        ensures places { OnOk result ((p : PlaceSeen) → stands_by tuple_cmp self.new.places p
-            ≡ cond (is_place_by tuple_cmp self.old.ranking.order tuple.now
-            (placed_at self.old.ranking self.old.groups tuple.now) p) true
-            (stands_by tuple_cmp self.old.places p)) }
+        ensures places { OnOk result (AreWithPlace true self.old tuple.now self.new.places) }
     {
         if let Some(place) = self.place_of(tuple)? {
             self.places.insert(place)?;
@@ -277,11 +277,7 @@ impl RankedGroups {
     fn put_all(&mut self, tuples: &[Tuple]) -> Result<(), AllocError>
         ensures groups { self.new.groups ≡ self.old.groups }
         ensures ranking { self.new.ranking ≡ self.old.ranking }
-        ensures places { OnOk result ((before : List Key → Option (List Datum))
-            → KeepsBy tuple_cmp self.old.ranking.order self.old.places (without tuple_cmp tuples.now before)
-            → KeepsBy tuple_cmp self.old.ranking.order self.new.places
-            (pick tuple_cmp tuples.now (placed_at self.old.ranking self.old.groups)
-            (without tuple_cmp tuples.now before))) }
+        ensures places { OnOk result (AreWithAll self.old tuples.now self.new.places) }
     {
         for tuple in tuples {
             self.put_in(tuple)?;
@@ -327,10 +323,10 @@ impl RankedGroups {
 
     /// A row comes, under a number that no row has. After an error what is kept has no meaning.
     pub fn come<R: RowView>(&mut self, row: &R) -> Result<(), AllocError>
-        requires { (rows : NumberedRows) × (Keeps self.old (values_of rows) × (length rows < 2 ^ 62)) }
-        ensures kept { OnOk result ((rows : NumberedRows) (n : ℕ) → IsStrictlySortedBy nat_cmp (keys_of rows)
-            → row_at n rows ≡ None → Keeps self.old (values_of rows)
-            → Keeps self.new (values_of (with_at n (Some (R.cells row.now)) rows))) }
+        requires { (rows : NumberedRows) × (Keeps self.old (values_of rows) × (length rows < max_appended_rows)) }
+        ensures kept { OnOk result ((rows : NumberedRows) (n : ℕ)
+            → FollowsShift (λ rs. Keeps self.old (values_of rs)) (λ rs. Keeps self.new (values_of rs))
+            (shift n None (Some (R.cells row.now))) rows) }
         ensures keys { OnOk result (self.new.groups.keys ≡ self.old.groups.keys) }
         ensures columns { OnOk result (self.new.groups.columns ≡ self.old.groups.columns) }
         ensures ranking { self.new.ranking ≡ self.old.ranking }
@@ -345,10 +341,10 @@ impl RankedGroups {
 
     /// A row comes, and the place of its group is put in for that before.
     fn come_to_place<R: RowView>(&mut self, row: &R) -> Result<(), AllocError>
-        requires { (rows : NumberedRows) × (Keeps self.old (values_of rows) × (length rows < 2 ^ 62)) }
-        ensures kept { OnOk result ((rows : NumberedRows) (n : ℕ) → IsStrictlySortedBy nat_cmp (keys_of rows)
-            → row_at n rows ≡ None → Keeps self.old (values_of rows)
-            → Keeps self.new (values_of (with_at n (Some (R.cells row.now)) rows))) }
+        requires { (rows : NumberedRows) × (Keeps self.old (values_of rows) × (length rows < max_appended_rows)) }
+        ensures kept { OnOk result ((rows : NumberedRows) (n : ℕ)
+            → FollowsShift (λ rs. Keeps self.old (values_of rs)) (λ rs. Keeps self.new (values_of rs))
+            (shift n None (Some (R.cells row.now))) rows) }
         ensures keys { OnOk result (self.new.groups.keys ≡ self.old.groups.keys) }
         ensures columns { OnOk result (self.new.groups.columns ≡ self.old.groups.columns) }
         ensures ranking { self.new.ranking ≡ self.old.ranking }
@@ -365,9 +361,9 @@ impl RankedGroups {
     pub fn go<R: RowView>(&mut self, row: &R) -> Result<(), AllocError>
         requires { (rows : NumberedRows) × (n : ℕ) × (Keeps self.old (values_of rows)
             × (IsStrictlySortedBy nat_cmp (keys_of rows) × (row_at n rows ≡ Some (R.cells row.now)))) }
-        ensures kept { OnOk result ((rows : NumberedRows) (n : ℕ) → IsStrictlySortedBy nat_cmp (keys_of rows)
-            → row_at n rows ≡ Some (R.cells row.now) → Keeps self.old (values_of rows)
-            → Keeps self.new (values_of (with_at n None rows))) }
+        ensures kept { OnOk result ((rows : NumberedRows) (n : ℕ)
+            → FollowsShift (λ rs. Keeps self.old (values_of rs)) (λ rs. Keeps self.new (values_of rs))
+            (shift n (Some (R.cells row.now)) None) rows) }
         ensures keys { OnOk result (self.new.groups.keys ≡ self.old.groups.keys) }
         ensures columns { OnOk result (self.new.groups.columns ≡ self.old.groups.columns) }
         ensures ranking { self.new.ranking ≡ self.old.ranking }
@@ -384,9 +380,9 @@ impl RankedGroups {
     fn go_from_place<R: RowView>(&mut self, row: &R) -> Result<(), AllocError>
         requires { (rows : NumberedRows) × (n : ℕ) × (Keeps self.old (values_of rows)
             × (IsStrictlySortedBy nat_cmp (keys_of rows) × (row_at n rows ≡ Some (R.cells row.now)))) }
-        ensures kept { OnOk result ((rows : NumberedRows) (n : ℕ) → IsStrictlySortedBy nat_cmp (keys_of rows)
-            → row_at n rows ≡ Some (R.cells row.now) → Keeps self.old (values_of rows)
-            → Keeps self.new (values_of (with_at n None rows))) }
+        ensures kept { OnOk result ((rows : NumberedRows) (n : ℕ)
+            → FollowsShift (λ rs. Keeps self.old (values_of rs)) (λ rs. Keeps self.new (values_of rs))
+            (shift n (Some (R.cells row.now)) None) rows) }
         ensures keys { OnOk result (self.new.groups.keys ≡ self.old.groups.keys) }
         ensures columns { OnOk result (self.new.groups.columns ≡ self.old.groups.columns) }
         ensures ranking { self.new.ranking ≡ self.old.ranking }
@@ -401,12 +397,8 @@ impl RankedGroups {
 
     /// The rows of a group come, all at once: they have this tuple. After an error what is kept has no meaning.
     pub fn take_in(&mut self, tuple: &Tuple, group: &Group) -> Result<(), AllocError>
-        requires part { (all : List (List Datum)) × (moved : List (List Datum)) × (others : List (List Datum))
-            × (Keeps self.old others × (IsPartOf self.old.groups.keys self.old.groups.columns tuple.now group.now all
-            moved others × (length all < 2 ^ 62))) }
-        ensures kept { OnOk result ((all moved others : List (List Datum))
-            → IsPartOf self.old.groups.keys self.old.groups.columns tuple.now group.now all moved others
-            → Keeps self.old others → Keeps self.new all) }
+        requires part { CanTakeIn (Keeps self.old) self.old.groups tuple.now group.now }
+        ensures kept { OnOk result (TakesIn (Keeps self.old) (Keeps self.new) self.old.groups tuple.now group.now) }
         ensures keys { OnOk result (self.new.groups.keys ≡ self.old.groups.keys) }
         ensures columns { OnOk result (self.new.groups.columns ≡ self.old.groups.columns) }
         ensures ranking { self.new.ranking ≡ self.old.ranking }
@@ -421,12 +413,8 @@ impl RankedGroups {
 
     /// The rows of a group come, and the place of their tuple's group is put in for that before.
     fn take_in_at_place(&mut self, tuple: &Tuple, group: &Group) -> Result<(), AllocError>
-        requires part { (all : List (List Datum)) × (moved : List (List Datum)) × (others : List (List Datum))
-            × (Keeps self.old others × (IsPartOf self.old.groups.keys self.old.groups.columns tuple.now group.now all
-            moved others × (length all < 2 ^ 62))) }
-        ensures kept { OnOk result ((all moved others : List (List Datum))
-            → IsPartOf self.old.groups.keys self.old.groups.columns tuple.now group.now all moved others
-            → Keeps self.old others → Keeps self.new all) }
+        requires part { CanTakeIn (Keeps self.old) self.old.groups tuple.now group.now }
+        ensures kept { OnOk result (TakesIn (Keeps self.old) (Keeps self.new) self.old.groups tuple.now group.now) }
         ensures keys { OnOk result (self.new.groups.keys ≡ self.old.groups.keys) }
         ensures columns { OnOk result (self.new.groups.columns ≡ self.old.groups.columns) }
         ensures ranking { self.new.ranking ≡ self.old.ranking }
@@ -440,12 +428,8 @@ impl RankedGroups {
 
     /// The rows of a group go, all at once: they have this tuple. After an error what is kept has no meaning.
     pub fn give_up(&mut self, tuple: &Tuple, group: &Group) -> Result<(), AllocError>
-        requires part { (all : List (List Datum)) × (moved : List (List Datum)) × (others : List (List Datum))
-            × (Keeps self.old all × IsPartOf self.old.groups.keys self.old.groups.columns tuple.now group.now all moved
-            others) }
-        ensures kept { OnOk result ((all moved others : List (List Datum))
-            → IsPartOf self.old.groups.keys self.old.groups.columns tuple.now group.now all moved others
-            → Keeps self.old all → Keeps self.new others) }
+        requires part { CanGiveUp (Keeps self.old) self.old.groups tuple.now group.now }
+        ensures kept { OnOk result (GivesUp (Keeps self.old) (Keeps self.new) self.old.groups tuple.now group.now) }
         ensures keys { OnOk result (self.new.groups.keys ≡ self.old.groups.keys) }
         ensures columns { OnOk result (self.new.groups.columns ≡ self.old.groups.columns) }
         ensures ranking { self.new.ranking ≡ self.old.ranking }
@@ -460,12 +444,8 @@ impl RankedGroups {
 
     /// The rows of a group go, and the place of their tuple's group is put in for that before.
     fn give_up_from_place(&mut self, tuple: &Tuple, group: &Group) -> Result<(), AllocError>
-        requires part { (all : List (List Datum)) × (moved : List (List Datum)) × (others : List (List Datum))
-            × (Keeps self.old all × IsPartOf self.old.groups.keys self.old.groups.columns tuple.now group.now all moved
-            others) }
-        ensures kept { OnOk result ((all moved others : List (List Datum))
-            → IsPartOf self.old.groups.keys self.old.groups.columns tuple.now group.now all moved others
-            → Keeps self.old all → Keeps self.new others) }
+        requires part { CanGiveUp (Keeps self.old) self.old.groups tuple.now group.now }
+        ensures kept { OnOk result (GivesUp (Keeps self.old) (Keeps self.new) self.old.groups tuple.now group.now) }
         ensures keys { OnOk result (self.new.groups.keys ≡ self.old.groups.keys) }
         ensures columns { OnOk result (self.new.groups.columns ≡ self.old.groups.columns) }
         ensures ranking { self.new.ranking ≡ self.old.ranking }
@@ -523,10 +503,8 @@ impl RankedGroups {
 
     /// The first rows that are shown of the groups, at most `most` of them. No other group is read.
     pub fn first_rows(&self, alloc: Global, most: usize) -> Result<Vec<Row>, AllocError>
-        ensures { IfOk result (λ made. (rows : List (List Datum)) → Keeps self.now rows
-            → CanReadAll self.now.groups.keys self.now.groups.columns self.now.ranking.outputs rows
-            → rows_of made.items
-            ≡ take most (ranked_rows self.now.groups.keys self.now.ranking rows)) }
+        ensures { IfOk result (λ made. WhereRead (Keeps self.now) self.now.groups self.now.ranking.outputs
+            (λ rows. rows_of made.items ≡ take most (ranked_rows self.now.groups.keys self.now.ranking rows))) }
     {
         if !self.ranking.has_places() {
             let made = self.groups.first_rows(alloc, self.ranking.outputs(), most)?;
@@ -539,10 +517,8 @@ impl RankedGroups {
     /// The rows at the first places, at most `most` of them.
     fn first_placed(&self, alloc: Global, most: usize) -> Result<Vec<Row>, AllocError>
         requires { has_places self.now.ranking ≡ true }
-        ensures { IfOk result (λ made. (rows : List (List Datum)) → Keeps self.now rows
-            → CanReadAll self.now.groups.keys self.now.groups.columns self.now.ranking.outputs rows
-            → rows_of made.items
-            ≡ take most (ranked_rows self.now.groups.keys self.now.ranking rows)) }
+        ensures { IfOk result (λ made. WhereRead (Keeps self.now) self.now.groups self.now.ranking.outputs
+            (λ rows. rows_of made.items ≡ take most (ranked_rows self.now.groups.keys self.now.ranking rows))) }
     {
         group_law();
         self.groups.tuples_ascend();
@@ -577,10 +553,8 @@ fn exchange(
     before: SortKeyList,
     after: SortKeyList,
 ) -> Result<(), AllocError>
-    ensures { OnOk result (((p : PlaceSeen) → is_at (group_place_cmp (before, tuple)) p ≡ true
-        → stands_by tuple_cmp places.old.keys p ≡ true) → (p : PlaceSeen) → stands_by tuple_cmp places.new.keys p
-        ≡ cond (is_at (group_place_cmp (after, tuple)) p) true
-        (cond (is_at (group_place_cmp (before, tuple)) p) false (stands_by tuple_cmp places.old.keys p))) }
+    ensures { OnOk result (AreExchanged (is_at (group_place_cmp (before, tuple)))
+        (is_at (group_place_cmp (after, tuple))) places.old.keys places.new.keys) }
 {
     if before == after {
         return Ok(());

@@ -1,6 +1,6 @@
 -- A row goes into the tallies of a group, or out of them, one column after the other.
 use Rattle.std.proofs.Common.{◌≡◌, refl, sym, ◌∙◌, arith, ℕ, ◌+◌, ◌<◌, ◌≤◌, List, [], ◌∷◌, subst, length, get_or-set_same, get_or-set_other, ◌≢◌, ⊎_elim}
-use Rattle.std.specs.Prelude.{slice_index_or, slice_set, ◌^◌, map, pos, suc, zero}
+use Rattle.std.specs.Prelude.{slice_index_or, slice_set, map, pos, suc, zero}
 use Rattle.std.proofs.lemmas.Bool.{cases_eq}
 use Rattle.std.proofs.lemmas.List.{length-map}
 use Rattle.std.proofs.lemmas.Int.{int_wrap_fits, ints}
@@ -9,6 +9,7 @@ use Rattle.std.proofs.Math.ListN.{length-set}
 use Rattle.std.specs.List.Sorted.{IsStrictlySortedBy}
 use Rattle.view_lang.specs.Folds.{total}
 use Rattle.values.specs.Datum.{Datum}
+use Rattle.view_lang.specs.Limits.{max_appended_rows}
 use Rattle.group_state.specs.declared.kept_columns.KeptColumn.{KeptColumn}
 use Rattle.group_state.specs.declared.tally.Tally.{Tally}
 use Rattle.group_state.specs.Cells.{KeepsCells, fresh}
@@ -57,7 +58,7 @@ halfway-more columns tallies n done left t k h at e =
       ahead = λ i c d b l. let q : i ≢ n = omega arith in rw get_or-set_other (k.ahead i c d (omega arith) l);
     }
 
-pub cells-few : (j : ℕ) (rows : List (List Datum)) → length rows < 2 ^ 62 → length (cells j rows) < 2 ^ 62
+pub cells-few : (j : ℕ) (rows : List (List Datum)) → length rows < max_appended_rows → length (cells j rows) < max_appended_rows
 cells-few j rows h = rw length-map h
 
 -- Fresh tallies are those of no rows.

@@ -10,6 +10,7 @@ use Rattle.std.proofs.lemmas.List.Sums.{length-filter, count_by-le-length}
 use Rattle.std.specs.BTreeMap.{is_at}
 use Rattle.values.specs.Datum.{Datum}
 use Rattle.values.specs.declared.key.Key.{Key}
+use Rattle.view_lang.specs.Limits.{max_appended_rows}
 use Rattle.group_state.specs.Keys.{key_cmp, tuple_cmp, tuple_total}
 use Rattle.group_state.specs.GroupCounts.{GroupCounts}
 use Rattle.group_state.specs.declared.kept_columns.KeptColumn.{KeptColumn}
@@ -88,8 +89,8 @@ module _ (keys : List ℕ) (columns : List KeptColumn) (old new : List (List Key
         groups_are = λ t. take_by here t (is_at (tuple_cmp t) (tuple_of keys row)) refl (k.groups_are t);
       }
 
-    pub put-needs : Keeps (record { keys = keys; columns = columns; groups = old }) rows → length rows < 2 ^ 62
-        → (x : List (List Datum)) × (KeepsAt columns x (at old (tuple_of keys row)) × (length x < 2 ^ 62))
+    pub put-needs : Keeps (record { keys = keys; columns = columns; groups = old }) rows → length rows < max_appended_rows
+        → (x : List (List Datum)) × (KeepsAt columns x (at old (tuple_of keys row)) × (length x < max_appended_rows))
     put-needs k h =
         let a = length-filter (has_tuple keys (tuple_of keys row)) rows in
         let b = count_by-le-length (has_tuple keys (tuple_of keys row)) rows in

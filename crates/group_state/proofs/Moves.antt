@@ -1,7 +1,7 @@
 -- A group's rows come or go all at once.
 use Rattle.std.proofs.Common.{◌≡◌, refl, ap, sym, ◌∙◌, subst, arith, ℕ, ◌+◌, ◌-◌, ◌<◌, ◌≤◌, List, [], ◌∷◌, ◌++◌, length}
 use Rattle.std.proofs.lemmas.List.{length-append, length-map, map-append}
-use Rattle.std.specs.Prelude.{ℤ, ◌+ℤ◌, ◌-ℤ◌, ◌^◌, Bool, true, false, cond, All, Option, count_by, filter}
+use Rattle.std.specs.Prelude.{ℤ, ◌+ℤ◌, ◌-ℤ◌, Bool, true, false, cond, All, Option, count_by, filter}
 use Rattle.std.specs.BTreeMap.{is_at}
 use Rattle.std.specs.Cmp.{eq_by_cmp_equiv}
 use Rattle.std.specs.Int.{int_wrap}
@@ -14,6 +14,7 @@ use mir.Syntax.{w128}
 use Rattle.values.specs.Datum.{Datum}
 use Rattle.values.specs.declared.key.Key.{Key}
 use Rattle.view_lang.specs.Folds.{total}
+use Rattle.view_lang.specs.Limits.{max_appended_rows}
 use Rattle.group_state.specs.Cells.{KeepsTotal, is_filled}
 use Rattle.group_state.specs.GroupCounts.{GroupCounts}
 use Rattle.group_state.specs.Groups.{Keeps, KeepsAt}
@@ -76,8 +77,8 @@ module _ (t u v : Total) (rest moved : List Datum) where
         (total (filter is_filled rest)) k.total_is l.total_is (sum-append moved rest);
   }
 
-  pub filled-few : KeepsTotal t rest → KeepsTotal u moved → length rest + length moved < 2 ^ 62
-      → t.filled + u.filled < 2 ^ 62
+  pub filled-few : KeepsTotal t rest → KeepsTotal u moved → length rest + length moved < max_appended_rows
+      → t.filled + u.filled < max_appended_rows
   filled-few k l h =
       let a = k.filled_is in
       let b = l.filled_is in
@@ -90,8 +91,8 @@ module _ (t u v : Total) (rest moved : List Datum) where
 pub cells-append : (j : ℕ) (xs ys : List (List Datum)) → cells j (xs ++ ys) ≡ cells j xs ++ cells j ys
 cells-append j xs ys = map-append (cell j) xs ys
 
-pub cells-few : (j : ℕ) (xs ys : List (List Datum)) → length xs + length ys < 2 ^ 62
-    → length (cells j xs) + length (cells j ys) < 2 ^ 62
+pub cells-few : (j : ℕ) (xs ys : List (List Datum)) → length xs + length ys < max_appended_rows
+    → length (cells j xs) + length (cells j ys) < max_appended_rows
 cells-few j xs ys h =
     let a = length-map xs (cell j) in
     let b = length-map ys (cell j) in
@@ -179,9 +180,9 @@ module _ (keys : List ℕ) (columns : List KeptColumn) (old new : List (List Key
         keeps-same all (moved ++ others) (λ p. sym (count-append all moved others part.together p))
         (record { keys = keys; columns = columns; groups = es }) k
 
-    pub put-needs : KeepsBy old others → length all < 2 ^ 62
+    pub put-needs : KeepsBy old others → length all < max_appended_rows
         → (x : List (List Datum)) × (y : List (List Datum)) × (KeepsAt columns x (at old t)
-        × (KeepsRows columns g y × (length x + length y < 2 ^ 62)))
+        × (KeepsRows columns g y × (length x + length y < max_appended_rows)))
     put-needs k h =
         let a = length-filter (has_tuple keys t) others in
         let b = count_by-le-length (has_tuple keys t) others in

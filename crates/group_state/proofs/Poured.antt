@@ -11,6 +11,7 @@ use Rattle.std.proofs.lemmas.Map.Keys.{sorted_tail}
 use Rattle.std.proofs.Math.ListN.{drop_of_length-le}
 use Rattle.values.specs.Datum.{Datum}
 use Rattle.values.specs.declared.key.Key.{Key}
+use Rattle.view_lang.specs.Limits.{max_appended_rows}
 use Rattle.group_state.specs.Cells.{KeepsValues, is_value}
 use Rattle.group_state.specs.Counts.{had}
 use Rattle.group_state.specs.Keys.{key_cmp}
@@ -133,7 +134,7 @@ counted : (q : Key) (xs ys : List Datum)
 counted q xs ys = sum_by-append (λ (d : Datum). cond (is_value q d) 1 0) xs ys
 
 module _ (es fs gs : Entries) (rest moved : List Datum) where
-  pub values-few : KeepsValues es rest → KeepsValues fs moved → length rest + length moved < 2 ^ 62 → (q : Key)
+  pub values-few : KeepsValues es rest → KeepsValues fs moved → length rest + length moved < max_appended_rows → (q : Key)
       → had es q + had fs q < 2 ^ 63
   values-few k l h q =
       let a = k.values_are q in

@@ -16,6 +16,14 @@ abbrev pub KeepsAt : List KeptColumn → List (List Datum) → Option GroupCount
 KeepsAt columns rows None = rows ≡ []
 KeepsAt columns rows (Some g) = (0 < g.rows) × KeepsRows columns g rows
 
+-- the group of a tuple, if it has one
+abbrev pub group_at : List (List Key × GroupCounts) → List Key → Option GroupCounts
+group_at groups t = lookup (is_at (tuple_cmp t)) groups
+
+-- the group of a tuple is that of these rows
+abbrev pub KeepsUnder : List KeptColumn → List (List Key × GroupCounts) → List Key → List (List Datum) → Type 0
+KeepsUnder columns groups t rows = KeepsAt columns rows (group_at groups t)
+
 -- the groups are those of these rows
 pub record Keeps (s : Grouped) (rows : List (List Datum)) : Type 0 where
   pub groups_are :

@@ -1,11 +1,14 @@
 -- A whole group moves: its rows go out of groups, or come into them, all at once.
-use Rattle.std.specs.Prelude.{◌≡◌, ◌+◌, ◌<◌, ℕ, All, Bool, false, List, [], ◌∷◌, count_by}
+use Rattle.std.specs.Prelude.{◌≡◌, ◌+◌, ◌++◌, ◌<◌, ℕ, All, Bool, false, List, [], ◌∷◌, Option, count_by, length}
 use Rattle.std.specs.BTreeMap.{is_at}
 use Rattle.std.specs.List.{list_any}
 use Rattle.values.specs.Datum.{Datum}
 use Rattle.values.specs.declared.key.Key.{Key}
+use Rattle.view_lang.specs.Limits.{max_appended_rows}
 use Rattle.group_state.specs.GroupCounts.{GroupCounts}
-use Rattle.group_state.specs.Keys.{key_cmp, key_in}
+use Rattle.group_state.specs.Grouped.{Grouped}
+use Rattle.group_state.specs.Groups.{KeepsAt}
+use Rattle.group_state.specs.Keys.{key_cmp, key_in, tuple_cmp}
 use Rattle.group_state.specs.Rows.{KeepsRows}
 use Rattle.group_state.specs.Tuples.{tuple_of}
 use Rattle.group_state.specs.declared.kept_columns.KeptColumn.{KeptColumn}
@@ -21,6 +24,72 @@ pub record IsPartOf (keys : List ℕ) (columns : List KeptColumn) (t : List Key)
   pub kept : KeepsRows columns g moved
   pub tuple : All (λ row. tuple_of keys row ≡ t) moved
   pub some : 0 < g.rows
+
+-- What is kept can take in a whole group: it is that of the others of some rows, and there are few of all these.
+abbrev pub CanTakeIn : (List (List Datum) → Type 0) → Grouped → List Key → GroupCounts → Type 0
+CanTakeIn keeps s t g =
+    (all : List (List Datum)) × (moved : List (List Datum)) × (others : List (List Datum))
+    × (keeps others × (IsPartOf s.keys s.columns t g all moved others × (length all < max_appended_rows)))
+
+-- It took the group in: what was kept of the others is kept of all.
+abbrev pub TakesIn :
+    (List (List Datum) → Type 0) → (List (List Datum) → Type 0) → Grouped → List Key → GroupCounts → Type 0
+TakesIn was is s t g =
+    (all moved others : List (List Datum)) → IsPartOf s.keys s.columns t g all moved others → was others → is all
+
+-- It can give a whole group up: it is that of all rows.
+abbrev pub CanGiveUp : (List (List Datum) → Type 0) → Grouped → List Key → GroupCounts → Type 0
+CanGiveUp keeps s t g =
+    (all : List (List Datum)) × (moved : List (List Datum)) × (others : List (List Datum))
+    × (keeps all × IsPartOf s.keys s.columns t g all moved others)
+
+-- It gave the group up: what was kept of all is kept of the others.
+abbrev pub GivesUp :
+    (List (List Datum) → Type 0) → (List (List Datum) → Type 0) → Grouped → List Key → GroupCounts → Type 0
+GivesUp was is s t g =
+    (all moved others : List (List Datum)) → IsPartOf s.keys s.columns t g all moved others → was all → is others
+
+-- What is kept of rows can take in what is kept of more, of the same columns: there are few of both together.
+abbrev pub CanAdd :
+    (List KeptColumn → List (List Datum) → Type 0) → (List KeptColumn → List (List Datum) → Type 0) → Type 0
+CanAdd was more =
+    (columns : List KeptColumn) × (rest : List (List Datum)) × (moved : List (List Datum))
+    × (was columns rest × (more columns moved × (length rest + length moved < max_appended_rows)))
+
+-- It took them in.
+abbrev pub Adds :
+    (List KeptColumn → List (List Datum) → Type 0) → (List KeptColumn → List (List Datum) → Type 0)
+    → (List KeptColumn → List (List Datum) → Type 0) → Type 0
+Adds was more is =
+    (columns : List KeptColumn) (rest moved : List (List Datum)) → was columns rest → more columns moved
+    → is columns (moved ++ rest)
+
+-- The same at the tuple of one of these groups.
+abbrev pub CanAddAt : List KeptColumn → Option GroupCounts → GroupCounts → Type 0
+CanAddAt columns was g =
+    (rest : List (List Datum)) × (moved : List (List Datum))
+    × (KeepsAt columns rest was × (KeepsRows columns g moved × (length rest + length moved < max_appended_rows)))
+
+abbrev pub AddsAt : List KeptColumn → Option GroupCounts → GroupCounts → Option GroupCounts → Type 0
+AddsAt columns was g is =
+    (rest moved : List (List Datum)) → 0 < g.rows → KeepsRows columns g moved → KeepsAt columns rest was
+    → KeepsAt columns (moved ++ rest) is
+
+-- The rows of a group can be removed at a tuple.
+abbrev pub CanRemoveAt : Option GroupCounts → GroupCounts → Type 0
+CanRemoveAt was g =
+    (columns : List KeptColumn) × (rest : List (List Datum)) × (moved : List (List Datum))
+    × (KeepsAt columns (moved ++ rest) was × KeepsRows columns g moved)
+
+-- They were.
+abbrev pub RemovesAt : Option GroupCounts → GroupCounts → Option GroupCounts → Type 0
+RemovesAt was g is =
+    (columns : List KeptColumn) (rest moved : List (List Datum)) → KeepsRows columns g moved
+    → KeepsAt columns (moved ++ rest) was → KeepsAt columns rest is
+
+-- whether a tuple is one of these
+abbrev pub is_tuple_among : List Key → List (List Key) → Bool
+is_tuple_among t ts = list_any (is_at (tuple_cmp t)) ts
 
 -- whether a tuple begins with a key
 abbrev pub begins_with : Key → List Key → Bool

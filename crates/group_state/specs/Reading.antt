@@ -16,6 +16,7 @@ use Rattle.group_state.specs.Keys.{data_of}
 use Rattle.group_state.specs.declared.kept_columns.KeptColumn.{KeptColumn}
 use Rattle.group_state.specs.declared.kept_columns.KeptForm.{KeptForm}
 use Rattle.group_state.specs.GroupCounts.{GroupCounts}
+use Rattle.group_state.specs.Grouped.{Grouped}
 use Rattle.group_state.specs.Rows.{KeepsRows}
 
 -- the cells that aren't null
@@ -52,3 +53,8 @@ pub record CanReadAll
   pub kept : All (λ o. IsKept columns o.aggregate) outs
   pub sums : AreSummable outs rows
   pub keys : AllByRecursion (UsesKeys by outs) rows
+
+-- This holds of the rows of which groups are kept, where these columns of the output can be made for them.
+abbrev pub WhereRead :
+    (List (List Datum) → Type 0) → Grouped → List GroupOutput → (List (List Datum) → Type 0) → Type 0
+WhereRead keeps s outs P = (rows : List (List Datum)) → keeps rows → CanReadAll s.keys s.columns outs rows → P rows

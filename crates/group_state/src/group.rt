@@ -1,12 +1,14 @@
 //! A group: the number of its rows, and a tally for each column that outputs read.
 
-ghost use Rattle.std.specs.Prelude.{◌≡◌, ◌<◌, ◌^◌, ◌∷◌, ◌++◌, ◌+◌, ◌-◌, List, OnOk, IfOk, length, []};
+ghost use Rattle.std.specs.Prelude.{◌≡◌, ◌<◌, ◌∷◌, ◌++◌, ◌+◌, ◌-◌, List, OnOk, IfOk, length, []};
 ghost use Rattle.values.specs.Datum.{Datum};
 ghost use Rattle.std.proofs.Common.{option_map};
 ghost use Rattle.group_state.specs.GroupParts.{IsGroup, group_with};
+ghost use Rattle.group_state.specs.Moves.{Adds, CanAdd};
 ghost use Rattle.group_state.specs.Rows.{KeepsRows, KeepsEach};
 ghost use Rattle.group_state.specs.Seen.{index_from, tally_at};
 ghost use Rattle.group_state.specs.declared.kept_columns.KeptColumn.{KeptColumn};
+ghost use Rattle.view_lang.specs.Limits.{max_appended_rows};
 
 use crate::kept_columns::KeptColumn;
 use crate::parts::GroupParts;
@@ -107,7 +109,8 @@ impl Group {
         columns: &[KeptColumn],
         row: &R,
     ) -> Result<(), AllocError>
-        requires { (rows : List (List Datum)) × (KeepsRows columns.now self.old rows × (length rows < 2 ^ 62)) }
+        requires { (rows : List (List Datum)) × (KeepsRows columns.now self.old rows
+            × (length rows < max_appended_rows)) }
         ensures { OnOk result ((rows : List (List Datum)) → KeepsRows columns.now self.old rows
             → KeepsRows columns.now self.new (R.cells row.now ∷ rows)) }
     {
@@ -134,12 +137,9 @@ impl Group {
 
     /// Adds the rows of another group of the same columns.
     pub(crate) fn take_in(&mut self, alloc: Global, other: &Group) -> Result<(), AllocError>
-        requires { (columns : List KeptColumn) × (rest : List (List Datum)) × (moved : List (List Datum))
-            × (KeepsRows columns self.old rest × (KeepsRows columns other.now moved
-            × (length rest + length moved < 2 ^ 62))) }
-        ensures kept { OnOk result ((columns : List KeptColumn) (rest moved : List (List Datum))
-            → KeepsRows columns self.old rest → KeepsRows columns other.now moved
-            → KeepsRows columns self.new (moved ++ rest)) }
+        requires { CanAdd (λ cs. KeepsRows cs self.old) (λ cs. KeepsRows cs other.now) }
+        ensures kept { OnOk result (Adds (λ cs. KeepsRows cs self.old) (λ cs. KeepsRows cs other.now)
+            (λ cs. KeepsRows cs self.new)) }
         ensures rows { OnOk result (self.new.rows ≡ self.old.rows + other.now.rows) }
     {
         take_in_each(self.tallies.as_mut_slice(), alloc, other.tallies.as_slice())?;
@@ -162,12 +162,9 @@ impl Group {
 }
 
 fn take_in_each(tallies: &mut [Tally], alloc: Global, others: &[Tally]) -> Result<(), AllocError>
-    requires { (columns : List KeptColumn) × (rest : List (List Datum)) × (moved : List (List Datum))
-        × (KeepsEach columns tallies.old rest × (KeepsEach columns others.now moved
-        × (length rest + length moved < 2 ^ 62))) }
-    ensures { OnOk result ((columns : List KeptColumn) (rest moved : List (List Datum))
-        → KeepsEach columns tallies.old rest → KeepsEach columns others.now moved
-        → KeepsEach columns tallies.new (moved ++ rest)) }
+    requires { CanAdd (λ cs. KeepsEach cs tallies.old) (λ cs. KeepsEach cs others.now) }
+    ensures { OnOk result (Adds (λ cs. KeepsEach cs tallies.old) (λ cs. KeepsEach cs others.now)
+        (λ cs. KeepsEach cs tallies.new)) }
 {
     for i in 0..others.len() {
         tallies[i].take_in(alloc, &others[i])?;
@@ -193,7 +190,8 @@ fn add_each<R: RowView>(
     columns: &[KeptColumn],
     row: &R,
 ) -> Result<(), AllocError>
-    requires { (rows : List (List Datum)) × (KeepsEach columns.now tallies.old rows × (length rows < 2 ^ 62)) }
+    requires { (rows : List (List Datum)) × (KeepsEach columns.now tallies.old rows
+        × (length rows < max_appended_rows)) }
     ensures { OnOk result ((rows : List (List Datum)) → KeepsEach columns.now tallies.old rows
         → KeepsEach columns.now tallies.new (R.cells row.now ∷ rows)) }
 {

@@ -1,12 +1,23 @@
 //! Groups of rows, kept current by changes of the rows.
 
 ghost use Rattle.group_state.specs.GroupParts.{AreGroups, grouped_with};
-ghost use Rattle.group_state.specs.Groups.{Keeps, KeepsAt};
+ghost use Rattle.group_state.specs.Groups.{Keeps, KeepsUnder, group_at};
 ghost use Rattle.group_state.specs.Keys.{key_cmp, key_in, tuple_cmp};
 ghost use Rattle.group_state.specs.Aggregates.{AreReadBy, IsKept, seen_at};
-ghost use Rattle.group_state.specs.Moves.{IsPartOf, begins_with, begins_with_one};
-ghost use Rattle.group_state.specs.Reading.{CanReadAll};
-ghost use Rattle.group_state.specs.Rows.{KeepsRows};
+ghost use Rattle.group_state.specs.Moves.{
+  AddsAt,
+  CanAddAt,
+  CanGiveUp,
+  CanRemoveAt,
+  CanTakeIn,
+  GivesUp,
+  RemovesAt,
+  TakesIn,
+  begins_with,
+  begins_with_one,
+  is_tuple_among,
+};
+ghost use Rattle.group_state.specs.Reading.{WhereRead};
 ghost use Rattle.group_state.specs.Touched.{StayBut, comes, goes, is_of, touches};
 ghost use Rattle.group_state.specs.Tuples.{has_tuple, tuple_of as tuple_by};
 ghost use Rattle.std.proofs.Common.{option_map};
@@ -18,10 +29,8 @@ ghost use Rattle.std.specs.Ordering.{nat_cmp};
 ghost use Rattle.std.specs.Prelude.{
   ◌≡◌,
   ◌<◌,
-  ◌^◌,
   ◌∷◌,
   ◌+◌,
-  ◌++◌,
   ◌↔◌,
   ◌&&◌,
   ◌||◌,
@@ -43,14 +52,16 @@ ghost use Rattle.values.specs.declared.key.Key.{Key};
 ghost use Rattle.view_lang.specs.Cells.{rows_of};
 ghost use Rattle.group_state.specs.declared.kept_columns.KeptColumn.{KeptColumn};
 ghost use Rattle.view_lang.specs.Groups.{group_rows};
+ghost use Rattle.view_lang.specs.Limits.{max_appended_rows};
 ghost use Rattle.view_lang.specs.Shifts.{
   Fits,
+  FollowsShift,
   IsFew,
   NumberedRows,
   patched,
   push_some,
   row_at,
-  with_at,
+  shift,
   with_afters,
   with_befores,
 };
@@ -160,9 +171,8 @@ impl Groups {
     /// The group rows, ascending by their tuples. Without grouping columns there is one row, also where there are no
     /// rows to group.
     pub fn rows(&self, alloc: Global, outputs: &[GroupOutput]) -> Result<Vec<Row>, AllocError>
-        ensures { IfOk result (λ made. (rows : List (List Datum)) → Keeps self.now rows
-            → CanReadAll self.now.keys self.now.columns outputs.now rows
-            → rows_of made.items ≡ group_rows self.now.keys outputs.now rows) }
+        ensures { IfOk result (λ made. WhereRead (Keeps self.now) self.now outputs.now (λ rows. rows_of made.items
+            ≡ group_rows self.now.keys outputs.now rows)) }
     {
         group_law();
         if self.is_bare() {
@@ -187,9 +197,8 @@ impl Groups {
         outputs: &[GroupOutput],
         most: usize,
     ) -> Result<Vec<Row>, AllocError>
-        ensures { IfOk result (λ made. (rows : List (List Datum)) → Keeps self.now rows
-            → CanReadAll self.now.keys self.now.columns outputs.now rows
-            → rows_of made.items ≡ take most (group_rows self.now.keys outputs.now rows)) }
+        ensures { IfOk result (λ made. WhereRead (Keeps self.now) self.now outputs.now (λ rows. rows_of made.items
+            ≡ take most (group_rows self.now.keys outputs.now rows))) }
     {
         group_law();
         if self.is_bare() {
@@ -241,7 +250,7 @@ impl Groups {
 
     /// The tuples of the rows of a change, those before and those after it, each once.
     pub fn touched(&self, change: &Change) -> Result<Vec<Tuple>, AllocError>
-        ensures { IfOk result (λ tuples. (t : List Key) → list_any (is_at (tuple_cmp t)) tuples.items
+        ensures { IfOk result (λ tuples. (t : List Key) → is_tuple_among t tuples.items
             ≡ list_any (touches self.now.keys t) change.now) }
     {
         let mut tuples = BTreeSet::new(self.alloc);
@@ -265,8 +274,8 @@ impl Groups {
     /// The tuples of the groups that begin with one of these values, each once, in ascending order. A list or a struct
     /// counts as a null. For each value at most one other group is looked at.
     pub fn tuples_under(&self, values: &[Value]) -> Result<Vec<Tuple>, AllocError>
-        ensures tuples { IfOk result (λ tuples. (t : List Key) → list_any (is_at (tuple_cmp t)) tuples.items
-            ≡ (begins_with_one values.now t && list_any (is_at (tuple_cmp t)) (keys_of self.now.groups))) }
+        ensures tuples { IfOk result (λ tuples. (t : List Key) → is_tuple_among t tuples.items
+            ≡ (begins_with_one values.now t && is_tuple_among t (keys_of self.now.groups))) }
         ensures ascending { IfOk result (λ tuples. IsStrictlySortedBy tuple_cmp tuples.items) }
     {
         let firsts = keys_among(self.alloc, values)?;
@@ -280,9 +289,9 @@ impl Groups {
 
     /// Adds the tuples of the groups that begin with a key.
     fn insert_under(&self, tuples: &mut BTreeSet<Tuple>, first: &Key) -> Result<(), AllocError>
-        ensures { OnOk result ((t : List Key) → list_any (is_at (tuple_cmp t)) tuples.new.keys
-            ≡ (list_any (is_at (tuple_cmp t)) tuples.old.keys
-            || (begins_with first.now t && list_any (is_at (tuple_cmp t)) (keys_of self.now.groups)))) }
+        ensures { OnOk result ((t : List Key) → is_tuple_among t tuples.new.keys
+            ≡ (is_tuple_among t tuples.old.keys || (begins_with first.now t && is_tuple_among t
+            (keys_of self.now.groups)))) }
     {
         let start = Tuple::one(first.copy(self.alloc)?);
         for (tuple, _group) in self.groups.range(&start..) {
@@ -326,7 +335,8 @@ impl Groups {
     }
 
     fn add_all(&mut self, changes: &[RowChange]) -> Result<(), AllocError>
-        requires { (rows : List (List Datum)) × (Keeps self.old rows × (length rows + length changes.now < 2 ^ 62)) }
+        requires { (rows : List (List Datum)) × (Keeps self.old rows
+            × (length rows + length changes.now < max_appended_rows)) }
         ensures kept { OnOk result ((rows : List (List Datum)) → Keeps self.old rows
             → Keeps self.new (with_afters changes.now rows)) }
         ensures keys { self.new.keys ≡ self.old.keys }
@@ -355,7 +365,7 @@ impl Groups {
 
     /// Adds the row after a change, if there is one.
     fn add_after(&mut self, changed: &RowChange) -> Result<(), AllocError>
-        requires { (rows : List (List Datum)) × (Keeps self.old rows × (length rows < 2 ^ 62)) }
+        requires { (rows : List (List Datum)) × (Keeps self.old rows × (length rows < max_appended_rows)) }
         ensures kept { OnOk result ((rows : List (List Datum)) → Keeps self.old rows
             → Keeps self.new (push_some changed.now.after rows)) }
         ensures keys { self.new.keys ≡ self.old.keys }
@@ -385,10 +395,10 @@ impl Groups {
 
     /// A row comes, under a number that no row has. After an error what is kept has no meaning.
     pub fn come<R: RowView>(&mut self, row: &R) -> Result<(), AllocError>
-        requires { (rows : NumberedRows) × (Keeps self.old (values_of rows) × (length rows < 2 ^ 62)) }
-        ensures kept { OnOk result ((rows : NumberedRows) (n : ℕ) → IsStrictlySortedBy nat_cmp (keys_of rows)
-            → row_at n rows ≡ None → Keeps self.old (values_of rows)
-            → Keeps self.new (values_of (with_at n (Some (R.cells row.now)) rows))) }
+        requires { (rows : NumberedRows) × (Keeps self.old (values_of rows) × (length rows < max_appended_rows)) }
+        ensures kept { OnOk result ((rows : NumberedRows) (n : ℕ)
+            → FollowsShift (λ rs. Keeps self.old (values_of rs)) (λ rs. Keeps self.new (values_of rs))
+            (shift n None (Some (R.cells row.now))) rows) }
         ensures keys { self.new.keys ≡ self.old.keys }
         ensures columns { self.new.columns ≡ self.old.columns }
         ensures others { OnOk result (StayBut (λ t. has_tuple self.old.keys t (R.cells row.now)) self.old self.new) }
@@ -401,10 +411,10 @@ impl Groups {
     /// meaning.
     pub fn come_to<R: RowView>(&mut self, tuple: &Tuple, row: &R) -> Result<(), AllocError>
         requires tuple { tuple.now ≡ tuple_by self.old.keys (R.cells row.now) }
-        requires rows { (rows : NumberedRows) × (Keeps self.old (values_of rows) × (length rows < 2 ^ 62)) }
-        ensures kept { OnOk result ((rows : NumberedRows) (n : ℕ) → IsStrictlySortedBy nat_cmp (keys_of rows)
-            → row_at n rows ≡ None → Keeps self.old (values_of rows)
-            → Keeps self.new (values_of (with_at n (Some (R.cells row.now)) rows))) }
+        requires rows { (rows : NumberedRows) × (Keeps self.old (values_of rows) × (length rows < max_appended_rows)) }
+        ensures kept { OnOk result ((rows : NumberedRows) (n : ℕ)
+            → FollowsShift (λ rs. Keeps self.old (values_of rs)) (λ rs. Keeps self.new (values_of rs))
+            (shift n None (Some (R.cells row.now))) rows) }
         ensures keys { self.new.keys ≡ self.old.keys }
         ensures columns { self.new.columns ≡ self.old.columns }
         ensures others { OnOk result (StayBut (λ t. has_tuple self.old.keys t (R.cells row.now)) self.old self.new) }
@@ -417,9 +427,9 @@ impl Groups {
     pub fn go<R: RowView>(&mut self, row: &R) -> Result<(), AllocError>
         requires { (rows : NumberedRows) × (n : ℕ) × (Keeps self.old (values_of rows)
             × (IsStrictlySortedBy nat_cmp (keys_of rows) × (row_at n rows ≡ Some (R.cells row.now)))) }
-        ensures kept { OnOk result ((rows : NumberedRows) (n : ℕ) → IsStrictlySortedBy nat_cmp (keys_of rows)
-            → row_at n rows ≡ Some (R.cells row.now) → Keeps self.old (values_of rows)
-            → Keeps self.new (values_of (with_at n None rows))) }
+        ensures kept { OnOk result ((rows : NumberedRows) (n : ℕ)
+            → FollowsShift (λ rs. Keeps self.old (values_of rs)) (λ rs. Keeps self.new (values_of rs))
+            (shift n (Some (R.cells row.now)) None) rows) }
         ensures keys { self.new.keys ≡ self.old.keys }
         ensures columns { self.new.columns ≡ self.old.columns }
         ensures others { OnOk result (StayBut (λ t. has_tuple self.old.keys t (R.cells row.now)) self.old self.new) }
@@ -433,9 +443,9 @@ impl Groups {
         requires tuple { tuple.now ≡ tuple_by self.old.keys (R.cells row.now) }
         requires rows { (rows : NumberedRows) × (n : ℕ) × (Keeps self.old (values_of rows)
             × (IsStrictlySortedBy nat_cmp (keys_of rows) × (row_at n rows ≡ Some (R.cells row.now)))) }
-        ensures kept { OnOk result ((rows : NumberedRows) (n : ℕ) → IsStrictlySortedBy nat_cmp (keys_of rows)
-            → row_at n rows ≡ Some (R.cells row.now) → Keeps self.old (values_of rows)
-            → Keeps self.new (values_of (with_at n None rows))) }
+        ensures kept { OnOk result ((rows : NumberedRows) (n : ℕ)
+            → FollowsShift (λ rs. Keeps self.old (values_of rs)) (λ rs. Keeps self.new (values_of rs))
+            (shift n (Some (R.cells row.now)) None) rows) }
         ensures keys { self.new.keys ≡ self.old.keys }
         ensures columns { self.new.columns ≡ self.old.columns }
         ensures others { OnOk result (StayBut (λ t. has_tuple self.old.keys t (R.cells row.now)) self.old self.new) }
@@ -446,7 +456,7 @@ impl Groups {
 
     /// Adds a row.
     fn add<R: RowView>(&mut self, row: &R) -> Result<(), AllocError>
-        requires { (rows : List (List Datum)) × (Keeps self.old rows × (length rows < 2 ^ 62)) }
+        requires { (rows : List (List Datum)) × (Keeps self.old rows × (length rows < max_appended_rows)) }
         ensures kept { OnOk result ((rows : List (List Datum)) → Keeps self.old rows
             → Keeps self.new (R.cells row.now ∷ rows)) }
         ensures keys { self.new.keys ≡ self.old.keys }
@@ -460,7 +470,7 @@ impl Groups {
     /// Adds a row of which this is the tuple.
     fn add_to<R: RowView>(&mut self, tuple: &Tuple, row: &R) -> Result<(), AllocError>
         requires tuple { tuple.now ≡ tuple_by self.old.keys (R.cells row.now) }
-        requires rows { (rows : List (List Datum)) × (Keeps self.old rows × (length rows < 2 ^ 62)) }
+        requires rows { (rows : List (List Datum)) × (Keeps self.old rows × (length rows < max_appended_rows)) }
         ensures kept { OnOk result ((rows : List (List Datum)) → Keeps self.old rows
             → Keeps self.new (R.cells row.now ∷ rows)) }
         ensures keys { self.new.keys ≡ self.old.keys }
@@ -514,12 +524,8 @@ impl Groups {
 impl Groups {
     /// The rows of a group come, all at once: they have this tuple. After an error what is kept has no meaning.
     pub fn take_in(&mut self, tuple: &Tuple, group: &Group) -> Result<(), AllocError>
-        requires part { (all : List (List Datum)) × (moved : List (List Datum)) × (others : List (List Datum))
-            × (Keeps self.old others × (IsPartOf self.old.keys self.old.columns tuple.now group.now all moved others
-            × (length all < 2 ^ 62))) }
-        ensures kept { OnOk result ((all moved others : List (List Datum))
-            → IsPartOf self.old.keys self.old.columns tuple.now group.now all moved others → Keeps self.old others
-            → Keeps self.new all) }
+        requires part { CanTakeIn (Keeps self.old) self.old tuple.now group.now }
+        ensures kept { OnOk result (TakesIn (Keeps self.old) (Keeps self.new) self.old tuple.now group.now) }
         ensures keys { self.new.keys ≡ self.old.keys }
         ensures columns { self.new.columns ≡ self.old.columns }
         ensures others { OnOk result (StayBut (λ t. is_at (tuple_cmp tuple.now) t) self.old self.new) }
@@ -536,11 +542,8 @@ impl Groups {
 
     /// The rows of a group go, all at once: they have this tuple.
     pub fn give_up(&mut self, tuple: &Tuple, group: &Group)
-        requires part { (all : List (List Datum)) × (moved : List (List Datum)) × (others : List (List Datum))
-            × (Keeps self.old all × IsPartOf self.old.keys self.old.columns tuple.now group.now all moved others) }
-        ensures kept { (all moved others : List (List Datum))
-            → IsPartOf self.old.keys self.old.columns tuple.now group.now all moved others → Keeps self.old all
-            → Keeps self.new others }
+        requires part { CanGiveUp (Keeps self.old) self.old tuple.now group.now }
+        ensures kept { GivesUp (Keeps self.old) (Keeps self.new) self.old tuple.now group.now }
         ensures keys { self.new.keys ≡ self.old.keys }
         ensures columns { self.new.columns ≡ self.old.columns }
         ensures others { StayBut (λ t. is_at (tuple_cmp tuple.now) t) self.old self.new }
@@ -568,8 +571,8 @@ fn insert_tuple(
     keys: &[usize],
     row: Option<&[Value]>,
 ) -> Result<(), AllocError>
-    ensures { OnOk result ((t : List Key) → list_any (is_at (tuple_cmp t)) tuples.new.keys
-        ≡ (list_any (is_at (tuple_cmp t)) tuples.old.keys || is_of keys.now t (option_map (λ r. r.now) row.entry))) }
+    ensures { OnOk result ((t : List Key) → is_tuple_among t tuples.new.keys
+        ≡ (is_tuple_among t tuples.old.keys || is_of keys.now t (option_map (λ r. r.now) row.entry))) }
 {
     if let Some(row) = row {
         tuples.insert(Tuple::of(alloc, keys, &row)?)?;
@@ -609,14 +612,12 @@ fn put_row<R: RowView>(
     tuple: &Tuple,
     row: &R,
 ) -> Result<(), AllocError>
-    requires { (rows : List (List Datum))
-        × (KeepsAt columns.now rows (lookup (is_at (tuple_cmp tuple.now)) groups.old.entries)
-        × (length rows < 2 ^ 62)) }
-    ensures here { OnOk result ((rows : List (List Datum))
-        → KeepsAt columns.now rows (lookup (is_at (tuple_cmp tuple.now)) groups.old.entries)
-        → KeepsAt columns.now (R.cells row.now ∷ rows) (lookup (is_at (tuple_cmp tuple.now)) groups.new.entries)) }
-    ensures others { OnOk result ((t : List Key) → is_at (tuple_cmp tuple.now) t ≡ false
-        → lookup (is_at (tuple_cmp t)) groups.new.entries ≡ lookup (is_at (tuple_cmp t)) groups.old.entries) }
+    requires { (rows : List (List Datum)) × (KeepsUnder columns.now groups.old.entries tuple.now rows
+        × (length rows < max_appended_rows)) }
+    ensures here { OnOk result ((rows : List (List Datum)) → KeepsUnder columns.now groups.old.entries tuple.now rows
+        → KeepsUnder columns.now groups.new.entries tuple.now (R.cells row.now ∷ rows)) }
+    ensures others { OnOk result ((t : List Key) → is_at (tuple_cmp tuple.now) t ≡ false → group_at groups.new.entries t
+        ≡ group_at groups.old.entries t) }
 {
     if let Some(group) = groups.get_mut(tuple) {
         return group.add(alloc, columns, row);
@@ -635,13 +636,13 @@ fn take_row<R: RowView>(
     tuple: &Tuple,
     row: &R,
 ) -> Result<(), AllocError>
-    requires { (rows : List (List Datum))
-        × KeepsAt columns.now (R.cells row.now ∷ rows) (lookup (is_at (tuple_cmp tuple.now)) groups.old.entries) }
+    requires { (rows : List (List Datum)) × KeepsUnder columns.now groups.old.entries tuple.now
+        (R.cells row.now ∷ rows) }
     ensures here { OnOk result ((rows : List (List Datum))
-        → KeepsAt columns.now (R.cells row.now ∷ rows) (lookup (is_at (tuple_cmp tuple.now)) groups.old.entries)
-        → KeepsAt columns.now rows (lookup (is_at (tuple_cmp tuple.now)) groups.new.entries)) }
-    ensures others { OnOk result ((t : List Key) → is_at (tuple_cmp tuple.now) t ≡ false
-        → lookup (is_at (tuple_cmp t)) groups.new.entries ≡ lookup (is_at (tuple_cmp t)) groups.old.entries) }
+        → KeepsUnder columns.now groups.old.entries tuple.now (R.cells row.now ∷ rows)
+        → KeepsUnder columns.now groups.new.entries tuple.now rows) }
+    ensures others { OnOk result ((t : List Key) → is_at (tuple_cmp tuple.now) t ≡ false → group_at groups.new.entries t
+        ≡ group_at groups.old.entries t) }
 {
     if let Some(group) = groups.get_mut(tuple) {
         if group.rows() > 1 {
@@ -660,15 +661,11 @@ fn put_group(
     tuple: &Tuple,
     group: &Group,
 ) -> Result<(), AllocError>
-    requires { (rest : List (List Datum)) × (moved : List (List Datum))
-        × (KeepsAt columns.now rest (lookup (is_at (tuple_cmp tuple.now)) groups.old.entries)
-        × (KeepsRows columns.now group.now moved × (length rest + length moved < 2 ^ 62))) }
-    ensures here { OnOk result ((rest moved : List (List Datum)) → 0 < group.now.rows
-        → KeepsRows columns.now group.now moved
-        → KeepsAt columns.now rest (lookup (is_at (tuple_cmp tuple.now)) groups.old.entries)
-        → KeepsAt columns.now (moved ++ rest) (lookup (is_at (tuple_cmp tuple.now)) groups.new.entries)) }
-    ensures others { OnOk result ((t : List Key) → is_at (tuple_cmp tuple.now) t ≡ false
-        → lookup (is_at (tuple_cmp t)) groups.new.entries ≡ lookup (is_at (tuple_cmp t)) groups.old.entries) }
+    requires { CanAddAt columns.now (group_at groups.old.entries tuple.now) group.now }
+    ensures here { OnOk result (AddsAt columns.now (group_at groups.old.entries tuple.now) group.now
+        (group_at groups.new.entries tuple.now)) }
+    ensures others { OnOk result ((t : List Key) → is_at (tuple_cmp tuple.now) t ≡ false → group_at groups.new.entries t
+        ≡ group_at groups.old.entries t) }
 {
     if let Some(kept) = groups.get_mut(tuple) {
         return kept.take_in(alloc, group);
@@ -682,15 +679,10 @@ fn put_group(
 /// Removes the rows of a group from the group of their tuple, and that group with its last row.
 #[tactic(auto, using(crate::proofs::Moves::none_left))]
 fn take_group(groups: &mut BTreeMap<Tuple, Group>, tuple: &Tuple, group: &Group)
-    requires { (columns : List KeptColumn) × (rest : List (List Datum)) × (moved : List (List Datum))
-        × (KeepsAt columns (moved ++ rest) (lookup (is_at (tuple_cmp tuple.now)) groups.old.entries)
-        × KeepsRows columns group.now moved) }
-    ensures here { (columns : List KeptColumn) (rest moved : List (List Datum))
-        → KeepsRows columns group.now moved
-        → KeepsAt columns (moved ++ rest) (lookup (is_at (tuple_cmp tuple.now)) groups.old.entries)
-        → KeepsAt columns rest (lookup (is_at (tuple_cmp tuple.now)) groups.new.entries) }
-    ensures others { (t : List Key) → is_at (tuple_cmp tuple.now) t ≡ false
-        → lookup (is_at (tuple_cmp t)) groups.new.entries ≡ lookup (is_at (tuple_cmp t)) groups.old.entries }
+    requires { CanRemoveAt (group_at groups.old.entries tuple.now) group.now }
+    ensures here { RemovesAt (group_at groups.old.entries tuple.now) group.now (group_at groups.new.entries tuple.now) }
+    ensures others { (t : List Key) → is_at (tuple_cmp tuple.now) t ≡ false → group_at groups.new.entries t
+        ≡ group_at groups.old.entries t }
 {
     if let Some(kept) = groups.get_mut(tuple) {
         if kept.rows() > group.rows() {

@@ -1,6 +1,6 @@
 //! Tallies of the cells of one column of a group.
 
-ghost use Rattle.std.specs.Prelude.{◌≡◌, ◌<◌, ◌^◌, ◌∷◌, ◌++◌, ◌+◌, List, OnOk, IfOk, length};
+ghost use Rattle.std.specs.Prelude.{◌≡◌, ◌<◌, ◌∷◌, ◌++◌, ◌+◌, List, OnOk, IfOk, length};
 ghost use Rattle.std.proofs.Common.{option_map};
 ghost use Rattle.values.specs.CellViews.{shallow, viewed};
 ghost use Rattle.values.specs.Datum.{Datum};
@@ -10,6 +10,7 @@ ghost use Rattle.group_state.specs.GroupParts.{IsTally, tally_with};
 ghost use Rattle.group_state.specs.Seen.{seen_count, seen_distinct, seen_greatest, seen_least, seen_sum};
 ghost use Rattle.group_state.specs.Rows.{cell};
 ghost use Rattle.group_state.specs.declared.kept_columns.KeptForm.{KeptForm};
+ghost use Rattle.view_lang.specs.Limits.{max_appended_rows};
 
 use crate::cells::{count, no_value, whole};
 use crate::kept_columns::KeptForm;
@@ -172,7 +173,7 @@ impl Tally {
         column: usize,
     ) -> Result<(), AllocError>
         requires { (form : KeptForm) × (cells : List Datum)
-            × (KeepsCells form self.old cells × (length cells < 2 ^ 62)) }
+            × (KeepsCells form self.old cells × (length cells < max_appended_rows)) }
         ensures { OnOk result ((form : KeptForm) (cells : List Datum) → KeepsCells form self.old cells
             → KeepsCells form self.new (cell column (R.cells row.now) ∷ cells)) }
     {
@@ -212,8 +213,9 @@ impl Tally {
 
     /// Adds the cells of another tally of the same form.
     pub(crate) fn take_in(&mut self, alloc: Global, other: &Tally) -> Result<(), AllocError>
-        requires { (form : KeptForm) × (rest : List Datum) × (moved : List Datum) × (KeepsCells form self.old rest
-            × (KeepsCells form other.now moved × (length rest + length moved < 2 ^ 62))) }
+        requires { (form : KeptForm) × (rest : List Datum) × (moved : List Datum)
+            × (KeepsCells form self.old rest × (KeepsCells form other.now moved
+            × (length rest + length moved < max_appended_rows))) }
         ensures { OnOk result ((form : KeptForm) (rest moved : List Datum) → KeepsCells form self.old rest
             → KeepsCells form other.now moved → KeepsCells form self.new (moved ++ rest)) }
     {
@@ -242,8 +244,9 @@ impl Tally {
 
 /// Adds the values of other cells.
 fn take_in_values(values: &mut Multiset, alloc: Global, other: &Multiset) -> Result<(), AllocError>
-    requires { (rest : List Datum) × (moved : List Datum) × (KeepsValues values.old rest
-        × (KeepsValues other.now moved × (length rest + length moved < 2 ^ 62))) }
+    requires { (rest : List Datum) × (moved : List Datum)
+        × (KeepsValues values.old rest × (KeepsValues other.now moved
+        × (length rest + length moved < max_appended_rows))) }
     ensures { OnOk result ((rest moved : List Datum) → KeepsValues values.old rest → KeepsValues other.now moved
         → KeepsValues values.new (moved ++ rest)) }
 {
@@ -268,7 +271,7 @@ fn add_value<R: RowView>(
     row: &R,
     column: usize,
 ) -> Result<(), AllocError>
-    requires { (cells : List Datum) × (KeepsValues values.old cells × (length cells < 2 ^ 62)) }
+    requires { (cells : List Datum) × (KeepsValues values.old cells × (length cells < max_appended_rows)) }
     ensures { OnOk result ((cells : List Datum) → KeepsValues values.old cells
         → KeepsValues values.new (cell column (R.cells row.now) ∷ cells)) }
 {

@@ -1,7 +1,8 @@
 //! How many cells of a column aren't null, and their sum.
 
-ghost use Rattle.std.specs.Prelude.{◌≡◌, ◌<◌, ◌^◌, ◌∷◌, ◌++◌, ◌+◌, ◌+ℤ◌, ◌-ℤ◌, List, length};
+ghost use Rattle.std.specs.Prelude.{◌≡◌, ◌<◌, ◌∷◌, ◌++◌, ◌+◌, ◌+ℤ◌, ◌-ℤ◌, List, length};
 ghost use Rattle.std.specs.Int.{int_wrap};
+ghost use Rattle.view_lang.specs.Limits.{max_appended_rows};
 ghost use mir.Syntax.{w128};
 ghost use Rattle.values.specs.Datum.{Datum};
 ghost use Rattle.group_state.specs.Cells.{KeepsTotal};
@@ -21,7 +22,7 @@ pub struct Total {
 impl Total {
     /// Adds a row's cell. Nothing is copied of it.
     pub(crate) fn add<R: RowView>(&mut self, row: &R, column: usize)
-        requires { (cells : List Datum) × (KeepsTotal self.old cells × (length cells < 2 ^ 62)) }
+        requires { (cells : List Datum) × (KeepsTotal self.old cells × (length cells < max_appended_rows)) }
         ensures { (cells : List Datum) → KeepsTotal self.old cells
             → KeepsTotal self.new (cell column (R.cells row.now) ∷ cells) }
     {
@@ -48,8 +49,9 @@ impl Total {
 
     /// Adds the cells of another total.
     pub(crate) fn take_in(&mut self, other: &Total)
-        requires { (rest : List Datum) × (moved : List Datum) × (KeepsTotal self.old rest
-            × (KeepsTotal other.now moved × (length rest + length moved < 2 ^ 62))) }
+        requires { (rest : List Datum) × (moved : List Datum)
+            × (KeepsTotal self.old rest × (KeepsTotal other.now moved
+            × (length rest + length moved < max_appended_rows))) }
         ensures { (rest moved : List Datum) → KeepsTotal self.old rest → KeepsTotal other.now moved
             → KeepsTotal self.new (moved ++ rest) }
     {

@@ -17,7 +17,6 @@ ghost use Rattle.std.specs.Prelude.{
   ℕ,
 };
 ghost use Rattle.std.specs.BTreeMap.{is_at};
-ghost use Rattle.std.specs.List.{list_any};
 ghost use Rattle.std.specs.List.Sorted.{IsStrictlySortedBy};
 ghost use Rattle.std.specs.Map.{keys_of, lookup};
 ghost use Rattle.std.specs.Option.{option_map};
@@ -28,7 +27,7 @@ ghost use Rattle.view_lang.specs.Shifts.{FollowsShift, NumberedRows, row_at, shi
 ghost use Rattle.group_state.specs.GroupParts.{AreGroups};
 ghost use Rattle.group_state.specs.Groups.{Keeps};
 ghost use Rattle.group_state.specs.Keys.{tuple_cmp};
-ghost use Rattle.group_state.specs.Moves.{begins_with_one};
+ghost use Rattle.group_state.specs.Moves.{begins_with_one, is_tuple_among};
 ghost use Rattle.sub_groups.specs.FilterParts.{are_decided, conjuncts};
 ghost use Rattle.sub_groups.specs.Places.{stand_in};
 ghost use Rattle.sub_groups.specs.Moved.{KeepRead, is_moved};
@@ -195,8 +194,8 @@ impl SubGroups {
     /// The tuples of the sub-groups of the rows that look up one of these values, each once, in ascending order. No
     /// other sub-group is visited.
     pub fn tuples_under(&self, values: &[Value]) -> Result<Vec<Tuple>, AllocError>
-        ensures tuples { IfOk result (λ tuples. (t : List Key) → list_any (is_at (tuple_cmp t)) tuples.items
-            ≡ (begins_with_one values.now t && list_any (is_at (tuple_cmp t)) (keys_of self.now.groups.groups))) }
+        ensures tuples { IfOk result (λ tuples. (t : List Key) → is_tuple_among t tuples.items
+            ≡ (begins_with_one values.now t && is_tuple_among t (keys_of self.now.groups.groups))) }
         ensures ascending { IfOk result (λ tuples. IsStrictlySortedBy tuple_cmp tuples.items) }
     {
         let tuples = self.groups.tuples_under(values)?;

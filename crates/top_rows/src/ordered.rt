@@ -1,10 +1,8 @@
 //! The order of some rows, kept current by changes of the rows.
 
-ghost use Rattle.std.specs.Prelude.{◌≡◌, [], None, Some, cond, false, IfOk, List, map, OnErr, OnOk, take, true};
+ghost use Rattle.std.specs.Prelude.{◌≡◌, [], None, Some, cond, false, IfOk, map, OnErr, OnOk, take, true};
 ghost use Rattle.std.specs.List.Sorted.{IsStrictlySortedBy};
-ghost use Rattle.std.specs.Map.{keys_of};
-ghost use Rattle.std.specs.Ordering.{nat_cmp};
-ghost use Rattle.view_lang.specs.Shifts.{NumberedRows, row_at, with_at};
+ghost use Rattle.view_lang.specs.Shifts.{FollowsShift, NumberedRows, shift};
 ghost use Rattle.top_rows.specs.Keeping.{Keeps};
 ghost use Rattle.top_rows.specs.OrderParts.{AreAscending, ordered_with};
 ghost use Rattle.top_rows.specs.PlaceOrder.{RowPlace, place_cmp};
@@ -139,9 +137,8 @@ impl Ordered {
     /// there in the end.
     fn change_row(&mut self, changed: &RowChange) -> Result<(), AllocError>
         ensures order { self.new.order ≡ self.old.order }
-        ensures kept { OnOk result ((rows : NumberedRows) → IsStrictlySortedBy nat_cmp (keys_of rows)
-            → row_at changed.now.number rows ≡ changed.now.before → Keeps self.old rows
-            → Keeps self.new (with_at changed.now.number changed.now.after rows)) }
+        ensures kept { OnOk result ((rows : NumberedRows) → FollowsShift (Keeps self.old) (Keeps self.new) changed.now
+            rows) }
     {
         self.remove_before(changed)?;
         self.insert_after(changed)?;
@@ -151,9 +148,8 @@ impl Ordered {
     /// A row comes under a number that no row has. If memory is refused, nothing has changed.
     pub fn come<R: RowView>(&mut self, number: usize, row: &R) -> Result<(), AllocError>
         ensures order { self.new.order ≡ self.old.order }
-        ensures kept { OnOk result ((rows : NumberedRows) → IsStrictlySortedBy nat_cmp (keys_of rows)
-            → row_at number rows ≡ None → Keeps self.old rows
-            → Keeps self.new (with_at number (Some (R.cells row.now)) rows)) }
+        ensures kept { OnOk result ((rows : NumberedRows) → FollowsShift (Keeps self.old) (Keeps self.new)
+            (shift number None (Some (R.cells row.now))) rows) }
         ensures err { OnErr result (self.new ≡ self.old) }
     {
         self.insert(number, row)?;
@@ -163,9 +159,8 @@ impl Ordered {
     /// The row under a number goes. If memory is refused, nothing has changed.
     pub fn go<R: RowView>(&mut self, number: usize, row: &R) -> Result<(), AllocError>
         ensures order { self.new.order ≡ self.old.order }
-        ensures kept { OnOk result ((rows : NumberedRows) → IsStrictlySortedBy nat_cmp (keys_of rows)
-            → row_at number rows ≡ Some (R.cells row.now) → Keeps self.old rows
-            → Keeps self.new (with_at number None rows)) }
+        ensures kept { OnOk result ((rows : NumberedRows) → FollowsShift (Keeps self.old) (Keeps self.new)
+            (shift number (Some (R.cells row.now)) None) rows) }
         ensures err { OnErr result (self.new ≡ self.old) }
     {
         self.remove(number, row)?;
