@@ -33,10 +33,9 @@ use Rattle.std.proofs.Common.{
   append_assoc,
 }
 use Rattle.std.specs.Prelude.{Option, map, slice_get}
-use Rattle.std.proofs.lemmas.List.{drop_more, get_or-map, length-map}
-use Rattle.std.proofs.lemmas.List.Elements.{All-append, All-cons, All-get_or, All-head, All-nil, All-tail, All-weaker}
-use Rattle.std.proofs.lemmas.List.Concat.{flat_map-append}
-use Rattle.std.proofs.lemmas.Option.{get_or_from_slice_get, slice_get_cases, slice_get_within}
+use Rattle.std.proofs.lemmas.List.{drop_all, drop_more, get_or-map, length-map}
+use Rattle.std.proofs.lemmas.List.Elements.{All-get_or, All-head, All-tail, All-weaker}
+use Rattle.std.proofs.lemmas.Option.{get_or_from_slice_get, none-some, slice_get_cases, slice_get_past, slice_get_within}
 use Rattle.std.proofs.lemmas.Bool.{cases_lt}
 use denote.Ref.{Bor}
 use Rattle.values.specs.Datum.{Datum, null}
@@ -50,34 +49,14 @@ use Rattle.body_writer.specs.Batch.{row_cell, row_cells}
 use Rattle.body_writer.specs.Slots.{part}
 use Rattle.body_writer.specs.Runs.{cell_in, slots}
 use Rattle.body_writer.specs.Pieces.{array_of}
-use Rattle.body_writer.specs.RowRanges.{IsRange, IsSized, batch_rows, cells_in, range_rows, ranges_rows}
-use Rattle.body_writer.specs.Places.{
-  AreFound,
-  ArePlain,
-  Fits,
-  HasCells,
-  HasCellsAt,
-  IsPlaced,
-  IsReady,
-  IsSlot,
-  cell_there,
-  column_at,
-  column_of,
-  layout_of,
-  place_cell,
-  place_cells,
-  place_row,
-  placed_rows,
-  row_in,
-}
+use Rattle.body_writer.specs.RowRanges.{HasColumn, IsSized, batch_rows, cells_in, range_rows}
+use Rattle.body_writer.specs.Places.{ArePlain, AreRowsOf, Fits, HasCells, HasCellsAt, HasRow, IsPlaced, IsReady, IsSlot, IsWritable, cell_there, cells_at, column_cells, layout_of, place_cell, place_cells, place_row, row_in}
 use Rattle.body_writer.specs.declared.from_columns.batch.Batch.{Batch}
 use Rattle.body_writer.specs.declared.from_columns.batch.RowRange.{RowRange}
-use Rattle.body_writer.specs.declared.from_places.plain.BatchArrays.{BatchArrays}
-use Rattle.body_writer.specs.declared.from_places.plain.PlainArray.{PlainArray}
 use Rattle.body_writer.specs.declared.from_places.place.RowPlace.{RowPlace}
-use Rattle.body_writer.specs.Picked.{picked_rows}
-use Rattle.body_writer.proofs.Cells.{listed-items_of}
-use Rattle.body_writer.proofs.PickedLemmas.{parts-picked}
+use Rattle.body_writer.specs.declared.from_places.plain.PlainArray.{PlainArray}
+use Rattle.body_writer.specs.declared.from_places.write.PlacedColumn.{PlacedColumn}
+use Rattle.body_writer.proofs.Cells.{listed-items_of, part-listed}
 use Rattle.body_writer.proofs.RowRangeLemmas.{cells-long, column-slots, rows-cut}
 
 -- one cell
@@ -122,31 +101,47 @@ cell-of (Some (Some a)) l ds i has h =
 cell-of (Some None) l ds i has h = absurd has
 cell-of None l ds i has h = absurd has
 
-pub placed-cell : (l : Layout) (n j : ℕ) (bs : List (Bor Batch)) (xs : List (Option PlainArray)) (p : RowPlace)
-    → ArePlain l j bs xs → j < n → IsPlaced n bs p → part j (row_cell (place_row bs p)) ≡ place_cell xs p
-placed-cell l n j bs xs p plain h placed =
-    let b = placed.batch.now in
-    let at = found n j b placed.sized h in
+there-cell : (l : Layout) (n j : ℕ) (bs : List (Bor Batch)) (xs : List (Option PlainArray)) (p : RowPlace)
+    (batch : Bor Batch) → ArePlain l j bs xs → j < n → slice_get bs p.batch ≡ Some batch → HasRow n p.row batch.now
+    → part j (row_cell (place_row bs p)) ≡ place_cell xs p
+there-cell l n j bs xs p batch plain h there row =
+    let b = batch.now in
+    let at = found n j b row.sized h in
     let items : CheckedColumn → List Datum = λ c. c.cells in
     let many = length-map b.columns.items items in
     let here : get_or (cells_in b.columns.items) j [] ≡ at.column.cells =
     get_or-map items b.columns.items j at.column [] at.below
     ∙ ap items (get_or_from_slice_get b.columns.items j at.column at.column at.there) in
-    ap (λ o. part j (row_cell (row_in o p.row))) placed.there
+    ap (λ o. part j (row_cell (row_in o p.row))) there
     ∙ row-part (cells_in b.columns.items) p.row j (omega (arith, at.below, many))
     ∙ ap (λ ds. get_or ds p.row null) here
     ∙ sym (cell-of (slice_get xs p.batch) l at.column.cells p.row
-    (plain p.batch placed.batch at.column placed.there at.there) (omega (arith, placed.within, at.long)))
+    (plain p.batch batch at.column there at.there) (omega (arith, row.within, at.long)))
+
+-- Where there is no batch, there is no array.
+none-there : (bs : List (Bor Batch)) (xs : List (Option PlainArray)) (k : ℕ) → length xs ≤ length bs → length bs ≤ k
+    → slice_get xs k ≡ None
+none-there bs xs k few past = slice_get_past xs k (omega (arith, few, past))
+
+pub placed-cell : (l : Layout) (n j : ℕ) (bs : List (Bor Batch)) (xs : List (Option PlainArray)) (p : RowPlace)
+    → ArePlain l j bs xs → length xs ≤ length bs → j < n → IsPlaced n bs p
+    → part j (row_cell (place_row bs p)) ≡ place_cell xs p
+placed-cell l n j bs xs p plain few h placed = elim (slice_get_cases bs p.batch).1 [
+  | inl inside ↦ there-cell l n j bs xs p inside.0 plain h inside.2 (placed inside.0 inside.2)
+  | inr out ↦
+      ap (λ o. part j (row_cell (row_in o p.row))) out.1 ∙ part-listed j []
+      ∙ sym (ap (λ o. cell_there o p.row) (none-there bs xs p.batch few out.0))
+]
 
 -- all of them
 
 pub placed-column : (l : Layout) (n j : ℕ) (bs : List (Bor Batch)) (xs : List (Option PlainArray))
-    (ps : List RowPlace) → ArePlain l j bs xs → j < n → All (IsPlaced n bs) ps
-    → column_at j bs ps ≡ place_cells xs ps
-placed-column l n j bs xs [] plain h all = refl
-placed-column l n j bs xs (p ∷ ps) plain h all =
-    ap₂ (λ d ds. d ∷ ds) (placed-cell l n j bs xs p plain h (All-head (IsPlaced n bs) p ps all))
-    (placed-column l n j bs xs ps plain h (All-tail (IsPlaced n bs) p ps all))
+    (ps : List RowPlace) → ArePlain l j bs xs → length xs ≤ length bs → j < n → All (IsPlaced n bs) ps
+    → map (part j) (row_cells (map (place_row bs) ps)) ≡ place_cells xs ps
+placed-column l n j bs xs [] plain few h all = refl
+placed-column l n j bs xs (p ∷ ps) plain few h all =
+    ap₂ (λ d ds. d ∷ ds) (placed-cell l n j bs xs p plain few h (All-head (IsPlaced n bs) p ps all))
+    (placed-column l n j bs xs ps plain few h (All-tail (IsPlaced n bs) p ps all))
 
 fits-by : (o : Option (Option PlainArray)) (l : Layout) (ds : List Datum) (i : ℕ) (a : PlainArray)
     → HasCellsAt l ds o → i < length ds → o ≡ Some (Some a) → IsSlot l a i
@@ -156,72 +151,95 @@ fits-by o l ds i a has h is =
     record { plain = there.plain; below = omega (arith, h, long, there.all) }
 
 placed-fits : (l : Layout) (n j : ℕ) (bs : List (Bor Batch)) (xs : List (Option PlainArray)) → ArePlain l j bs xs
-    → j < n → (p : RowPlace) → IsPlaced n bs p → Fits l xs p
-placed-fits l n j bs xs plain h p placed a is =
-    let at = found n j placed.batch.now placed.sized h in
-    fits-by (slice_get xs p.batch) l at.column.cells p.row a
-    (plain p.batch placed.batch at.column placed.there at.there) (omega (arith, placed.within, at.long)) is
+    → length xs ≤ length bs → j < n → (p : RowPlace) → IsPlaced n bs p → Fits l xs p
+placed-fits l n j bs xs plain few h p placed a is = elim (slice_get_cases bs p.batch).1 [
+  | inl inside ↦
+      let row = placed inside.0 inside.2 in
+      let at = found n j inside.0.now row.sized h in
+      fits-by (slice_get xs p.batch) l at.column.cells p.row a
+      (plain p.batch inside.0 at.column inside.2 at.there) (omega (arith, row.within, at.long)) is
+  | inr out ↦ absurd (none-some (Some a) (sym (none-there bs xs p.batch few out.0) ∙ is))
+]
 
 pub all-fit : (l : Layout) (n j : ℕ) (bs : List (Bor Batch)) (xs : List (Option PlainArray)) (ps : List RowPlace)
-    → ArePlain l j bs xs → j < n → All (IsPlaced n bs) ps → All (Fits l xs) ps
-all-fit l n j bs xs ps plain h all =
-    All-weaker (IsPlaced n bs) (Fits l xs) (placed-fits l n j bs xs plain h) ps all
+    → ArePlain l j bs xs → length xs ≤ length bs → j < n → All (IsPlaced n bs) ps → All (Fits l xs) ps
+all-fit l n j bs xs ps plain few h all =
+    All-weaker (IsPlaced n bs) (Fits l xs) (placed-fits l n j bs xs plain few h) ps all
 
 -- a place as a range of one row
 
--- the batch of a place
-batch-of : (n : ℕ) (bs : List (Bor Batch)) (p : RowPlace) (item : Bor Batch) (b : Batch) (placed : IsPlaced n bs p)
-    → item ≡ get_or bs p.batch item → b ≡ item.now → b ≡ placed.batch.now
-batch-of n bs p item b placed at is =
-    is ∙ ap (λ (x : Bor Batch). x.now) (at ∙ get_or_from_slice_get bs p.batch placed.batch item placed.there)
-
-pub one-row : (n : ℕ) (bs : List (Bor Batch)) (p : RowPlace) (item : Bor Batch) (r : RowRange) → IsPlaced n bs p
-    → item ≡ get_or bs p.batch item → r.batch.now ≡ item.now → r.from ≡ p.row → r.to ≡ p.row + 1
+pub one-row : (n : ℕ) (bs : List (Bor Batch)) (p : RowPlace) (batch : Bor Batch) (r : RowRange) → IsPlaced n bs p
+    → slice_get bs p.batch ≡ Some batch → r.batch.now ≡ batch.now → r.from ≡ p.row → r.to ≡ p.row + 1
     → range_rows r ≡ place_row bs p ∷ []
 unfolding rows_from
-one-row n bs p item r placed at is from to =
-    let there = batch-of n bs p item r.batch.now placed at is in
+one-row n bs p batch r placed there is from to =
+    let row = placed batch there in
     let one : r.to - r.from ≡ 1 = omega (arith, from, to) in
-    let room : p.row + 1 ≤ placed.batch.now.rows = omega (arith, placed.within) in
+    let room : p.row + 1 ≤ batch.now.rows = omega (arith, row.within) in
     ap (λ k. take k (drop r.from (batch_rows r.batch.now))) one
     ∙ ap (λ k. take 1 (drop k (batch_rows r.batch.now))) from
-    ∙ ap (λ (b : Batch). take 1 (drop p.row (batch_rows b))) there
-    ∙ rows-cut (cells_in placed.batch.now.columns.items) p.row 1 placed.batch.now.rows room
-    ∙ ap (λ o. row_in o p.row ∷ []) (sym placed.there)
+    ∙ ap (λ (b : Batch). take 1 (drop p.row (batch_rows b))) is
+    ∙ rows-cut (cells_in batch.now.columns.items) p.row 1 batch.now.rows room
+    ∙ ap (λ o. row_in o p.row ∷ []) (sym there)
 
-pub place-range : (n : ℕ) (bs : List (Bor Batch)) (p : RowPlace) (item : Bor Batch) (r : RowRange) → IsPlaced n bs p
-    → item ≡ get_or bs p.batch item → r.batch.now ≡ item.now → r.from ≡ p.row → r.to ≡ p.row + 1 → IsRange n r
-place-range n bs p item r placed at is from to =
-    let there = sym (batch-of n bs p item r.batch.now placed at is) in
-    let within : p.row + 1 ≤ placed.batch.now.rows = omega (arith, placed.within) in
+pub one-column : (n j : ℕ) (bs : List (Bor Batch)) (p : RowPlace) (batch : Bor Batch) (r : RowRange) → j < n
+    → IsPlaced n bs p → slice_get bs p.batch ≡ Some batch → r.batch.now ≡ batch.now → r.from ≡ p.row
+    → r.to ≡ p.row + 1 → HasColumn j r
+one-column n j bs p batch r h placed there is from to =
+    let row = placed batch there in
+    let sized : IsSized n r.batch.now = subst (IsSized n) (sym is) row.sized in
+    let within : p.row + 1 ≤ batch.now.rows = omega (arith, row.within) in
     record {
-      sized = subst (IsSized n) there placed.sized;
+      below = omega (arith, h, sized.columns);
+      cells = sized.cells;
       order = omega (arith, from, to);
-      within = subst (λ (b : Batch). r.to ≤ b.rows) there (omega (arith, within, to));
+      within = subst (λ (b : Batch). r.to ≤ b.rows) (sym is) (omega (arith, within, to));
     }
+
+-- the cells of one row
+pub one-cell : (n j : ℕ) (bs : List (Bor Batch)) (p : RowPlace) (batch : Bor Batch) (r : RowRange) → IsPlaced n bs p
+    → slice_get bs p.batch ≡ Some batch → r.batch.now ≡ batch.now → r.from ≡ p.row → r.to ≡ p.row + 1
+    → map (part j) (row_cells (range_rows r)) ≡ get_or (place_row bs p) j null ∷ []
+one-cell n j bs p batch r placed there is from to =
+    ap (λ rows. map (part j) (row_cells rows)) (one-row n bs p batch r placed there is from to)
+    ∙ ap (λ d. d ∷ []) (part-listed j (place_row bs p))
+
+-- the same cell, read from its column
+pub cell-read : (n j : ℕ) (bs : List (Bor Batch)) (p : RowPlace) (batch : Bor Batch) (c : CheckedColumn) → j < n
+    → IsPlaced n bs p → slice_get bs p.batch ≡ Some batch → c ≡ get_or batch.now.columns.items j c
+    → get_or (place_row bs p) j null ≡ get_or c.cells p.row null
+cell-read n j bs p batch c h placed there is =
+    let b = batch.now in
+    let row = placed batch there in
+    let items : CheckedColumn → List Datum = λ x. x.cells in
+    let many = length-map b.columns.items items in
+    let inside : j < length b.columns.items = omega (arith, h, row.sized.columns) in
+    ap (λ o. get_or (row_in o p.row) j null) there
+    ∙ get_or-map (λ ds. get_or ds p.row null) (cells_in b.columns.items) j [] null (omega (arith, inside, many))
+    ∙ ap (λ ds. get_or ds p.row null) (get_or-map items b.columns.items j c [] inside ∙ ap items (sym is))
+
+-- cell after cell
 
 pub placed-item : (n : ℕ) (bs : List (Bor Batch)) (ps : List RowPlace) (i : ℕ) (p : RowPlace)
     → All (IsPlaced n bs) ps → i < length ps → IsPlaced n bs (get_or ps i p)
 placed-item n bs ps i p all h = All-get_or (IsPlaced n bs) ps i p h all
 
-pub rows-step : (bs : List (Bor Batch)) (ps : List RowPlace) (i : ℕ) (p : RowPlace) (made next : List RowRange)
-    (r : RowRange) (total : List (List Datum)) → i < length ps
-    → range_rows r ≡ place_row bs (get_or ps i p) ∷ [] → next ≡ made ++ r ∷ []
-    → ranges_rows made ++ placed_rows bs (drop i ps) ≡ total
-    → ranges_rows next ++ placed_rows bs (drop (i + 1) ps) ≡ total
-rows-step bs ps i p made next r total h row n is =
-    let rest = placed_rows bs (drop (i + 1) ps) in
-    ap (λ rs. ranges_rows rs ++ rest) n
-    ∙ ap (λ rows. rows ++ rest) (flat_map-append range_rows made (r ∷ []))
-    ∙ append_assoc (ranges_rows made) (ranges_rows (r ∷ [])) rest
-    ∙ ap (λ rows. ranges_rows made ++ (rows ++ rest)) (append-nil (range_rows r) ∙ row)
-    ∙ ap (λ qs. ranges_rows made ++ placed_rows bs qs) (sym (drop_more ps i p h))
-    ∙ is
+pub cells-step : (j : ℕ) (bs : List (Bor Batch)) (ps : List RowPlace) (i : ℕ) (p : RowPlace)
+    (made next total : List Datum) → i < length ps
+    → next ≡ made ++ get_or (place_row bs (get_or ps i p)) j null ∷ [] → made ++ cells_at j bs (drop i ps) ≡ total
+    → next ++ cells_at j bs (drop (i + 1) ps) ≡ total
+cells-step j bs ps i p made next total h n so =
+    let rest = cells_at j bs (drop (i + 1) ps) in
+    let q : RowPlace = get_or ps i p in
+    let d : Datum = get_or (place_row bs q) j null in
+    let split : cells_at j bs (drop i ps) ≡ d ∷ rest =
+    ap (cells_at j bs) (drop_more ps i p h) ∙ ap (λ e. e ∷ rest) (part-listed j (place_row bs q)) in
+    ap (λ xs. xs ++ rest) n ∙ append_assoc made (d ∷ []) rest ∙ ap (λ xs. made ++ xs) (sym split) ∙ so
 
-pub range-more : (n : ℕ) (made next : List RowRange) (r : RowRange) → next ≡ made ++ r ∷ [] → All (IsRange n) made
-    → IsRange n r → All (IsRange n) next
-range-more n made next r e all one =
-    subst (All (IsRange n)) (sym e) (All-append (IsRange n) made (r ∷ []) all (All-cons (IsRange n) r [] one (All-nil (IsRange n))))
+pub cells-end : (j : ℕ) (bs : List (Bor Batch)) (ps : List RowPlace) (i : ℕ) (made total : List Datum)
+    → length ps ≤ i → made ++ cells_at j bs (drop i ps) ≡ total → made ≡ total
+cells-end j bs ps i made total h so =
+    sym (append-nil made) ∙ ap (λ qs. made ++ cells_at j bs qs) (sym (drop_all i ps h)) ∙ so
 
 -- array after array
 
@@ -268,26 +286,29 @@ all-so l j bs xs i h so k b c there column =
 
 -- the cells of arrays that are ready
 
-pub ready-cells : (t : Rose Layout) (s : BatchArrays) (n : ℕ) (bs : List (Bor Batch)) (ps : List RowPlace)
-    (xs : List (Option PlainArray)) → xs ≡ s.arrays.items → IsReady t s → AreFound bs s → s.column < n
-    → All (IsPlaced n bs) ps → column_at s.column bs ps ≡ place_cells xs ps
-ready-cells t s n bs ps xs is ready plain h all =
-    placed-column s.layout n s.column bs s.arrays.items ps (plain ready.plain) h all
-    ∙ ap (λ ys. place_cells ys ps) (sym is)
+pub ready-cells : (t : Rose Layout) (c : PlacedColumn) (xs : List (Option PlainArray)) (ps : List RowPlace)
+    → xs ≡ c.arrays.now.arrays.items → ps ≡ c.rows.places.now → IsReady t c.arrays.now → IsWritable c
+    → column_cells c ≡ place_cells xs ps
+ready-cells t c xs ps is places ready column =
+    let s = c.arrays.now in
+    let have = column.have in
+    placed-column s.layout have.width s.column c.rows.batches.now s.arrays.items c.rows.places.now
+    (column.found.plain ready.plain) column.found.few have.below have.placed
+    ∙ ap (λ ys. place_cells ys c.rows.places.now) (sym is) ∙ ap (place_cells xs) (sym places)
 
-pub ready-fits : (t : Rose Layout) (s : BatchArrays) (n : ℕ) (bs : List (Bor Batch)) (ps : List RowPlace)
-    (xs : List (Option PlainArray)) → xs ≡ s.arrays.items → IsReady t s → AreFound bs s → s.column < n
-    → All (IsPlaced n bs) ps → All (Fits (layout_of t) xs) ps
-ready-fits t s n bs ps xs is ready plain h all =
+pub ready-fits : (t : Rose Layout) (c : PlacedColumn) (xs : List (Option PlainArray)) (ps : List RowPlace)
+    → xs ≡ c.arrays.now.arrays.items → ps ≡ c.rows.places.now → IsReady t c.arrays.now → IsWritable c
+    → All (Fits (layout_of t) xs) ps
+ready-fits t c xs ps is places ready column =
+    let s = c.arrays.now in
+    let have = column.have in
     subst (λ l. All (Fits l xs) ps) ready.layout
     (subst (λ ys. All (Fits s.layout ys) ps) (sym is)
-    (all-fit s.layout n s.column bs s.arrays.items ps (plain ready.plain) h all))
+    (subst (All (Fits s.layout s.arrays.items)) (sym places)
+    (all-fit s.layout have.width s.column c.rows.batches.now s.arrays.items c.rows.places.now
+    (column.found.plain ready.plain) column.found.few have.below have.placed)))
 
--- column j of what is picked
-pub picked-at : (columns : List BatchArrays) (rows : List (List Datum)) (j : ℕ) (s : BatchArrays) → j < length columns
-    → s ≡ get_or columns j s
-    → map (part s.column) (row_cells rows) ≡ map (part j) (row_cells (picked_rows (map column_of columns) rows))
-picked-at columns rows j s h e =
-    let many = length-map columns column_of in
-    parts-picked (map column_of columns) rows j s.column (omega (arith, h, many))
-    (ap column_of e ∙ sym (get_or-map column_of columns j s 0 h))
+-- column after column
+pub column-there : (cs : List PlacedColumn) (rows : List (List Datum)) (j : ℕ) (c : PlacedColumn) → AreRowsOf cs rows
+    → j < length cs → c ≡ get_or cs j c → column_cells c ≡ map (part j) (row_cells rows)
+column-there cs rows j c are h is = sym (are j c h is)

@@ -134,7 +134,7 @@ abbrev parts_weight : ℕ → Roses Layout → Datum → ℕ
 parts_weight j none c = 0
 parts_weight j (more t ts) c = weight t (part j c) + parts_weight (suc j) ts c
 
-null-weight : (t : Rose Layout) → weight t null ≡ slot t
+pub null-weight : (t : Rose Layout) → weight t null ≡ slot t
 null-weight (node Booleans kids) = refl
 null-weight (node (Int w s) kids) = refl
 null-weight (node (Decimal p) kids) = refl

@@ -1,15 +1,15 @@
 -- Rows that lie each at a place of its own in batches of checked columns, and the arrays in which their cells lie.
-use Rattle.std.specs.Prelude.{◌≡◌, ℕ, ◌<◌, List, [], None, Ok, Option, Some, map, slice_get, slice_index, true}
+use Rattle.std.specs.Prelude.{◌≡◌, ℕ, ◌<◌, ◌≤◌, All, List, [], None, Ok, Option, Some, get_or, length, map, slice_get, slice_index, true}
 use denote.Ref.{Bor}
 use Rattle.values.specs.Datum.{Datum, null}
-use Rattle.values.specs.Rose.{Rose, node}
+use Rattle.values.specs.Rose.{Rose, Roses, node}
 use Rattle.values.specs.declared.layout.Layout.{Layout}
 use Rattle.values.specs.declared.layout.Layout.TheVariants.{Utf8, Binary, List as Listed, Struct}
 use Rattle.array_layout.specs.Placing.{bytes_of}
 use Rattle.array_layout.specs.Cells.{cell, cells}
 use Rattle.arrays.specs.Checked.{CheckedColumn}
 use Rattle.schema_meta.specs.Rows.{row_at}
-use Rattle.body_writer.specs.Batch.{row_cells}
+use Rattle.body_writer.specs.Batch.{IsBatch, row_cells}
 use Rattle.body_writer.specs.Slots.{part}
 use Rattle.body_writer.specs.Runs.{cell_in}
 use Rattle.body_writer.specs.Pieces.{HasLayout, array_of}
@@ -17,9 +17,11 @@ use Rattle.body_writer.specs.RowRanges.{IsSized, cells_in}
 use Rattle.body_writer.specs.declared.from_columns.batch.Batch.{Batch}
 use Rattle.body_writer.specs.declared.from_places.plain.BatchArrays.{BatchArrays}
 use Rattle.body_writer.specs.declared.from_places.plain.PlainArray.{PlainArray}
+use Rattle.body_writer.specs.declared.from_places.place.PlacedRows.{PlacedRows}
 use Rattle.body_writer.specs.declared.from_places.place.RowPlace.{RowPlace}
+use Rattle.body_writer.specs.declared.from_places.write.PlacedColumn.{PlacedColumn}
 
--- row i of a batch; no cells where there is no batch
+-- row i of a batch; one without cells where there is no batch
 abbrev pub row_in : Option (Bor Batch) → ℕ → List Datum
 row_in None i = []
 row_in (Some b) i = row_at (cells_in b.now.columns.items) i
@@ -30,16 +32,43 @@ place_row bs p = row_in (slice_get bs p.batch) p.row
 abbrev pub placed_rows : List (Bor Batch) → List RowPlace → List (List Datum)
 placed_rows bs ps = map (place_row bs) ps
 
--- There is such a row, in a batch of n columns.
-pub record IsPlaced (n : ℕ) (bs : List (Bor Batch)) (p : RowPlace) : Type 0 where
+abbrev pub rows_at : PlacedRows → List (List Datum)
+rows_at r = placed_rows r.batches.now r.places.now
+
+-- There is row i in a batch of n columns.
+pub record HasRow (n i : ℕ) (b : Batch) : Type 0 where
+  pub sized : IsSized n b
+  pub within : i < b.rows
+
+-- If there is such a batch, there is such a row, in n columns.
+abbrev pub IsPlaced : ℕ → List (Bor Batch) → RowPlace → Type 0
+IsPlaced n bs p = (b : Bor Batch) → slice_get bs p.batch ≡ Some b → HasRow n p.row b.now
+
+abbrev pub ArePlaced : ℕ → PlacedRows → Type 0
+ArePlaced n r = All (IsPlaced n r.batches.now) r.places.now
+
+-- There are such a batch and such a row.
+pub record IsRowAt (n : ℕ) (bs : List (Bor Batch)) (p : RowPlace) : Type 0 where
   pub batch : Bor Batch
   pub there : slice_get bs p.batch ≡ Some batch
-  pub sized : IsSized n batch.now
-  pub within : p.row < batch.now.rows
+  pub row : HasRow n p.row batch.now
+
+-- The rows lie in batches that have column j.
+pub record HaveCells (j : ℕ) (bs : List (Bor Batch)) (ps : List RowPlace) : Type 0 where
+  pub width : ℕ
+  pub below : j < width
+  pub placed : All (IsPlaced width bs) ps
+
+abbrev pub HaveColumn : ℕ → PlacedRows → Type 0
+HaveColumn j r = HaveCells j r.batches.now r.places.now
 
 -- the cells of column j in all of them
-abbrev pub column_at : ℕ → List (Bor Batch) → List RowPlace → List Datum
-column_at j bs ps = map (part j) (row_cells (placed_rows bs ps))
+
+abbrev pub cells_at : ℕ → List (Bor Batch) → List RowPlace → List Datum
+cells_at j bs ps = map (part j) (row_cells (placed_rows bs ps))
+
+abbrev pub column_at : ℕ → PlacedRows → List Datum
+column_at j r = cells_at j r.batches.now r.places.now
 
 -- what slot i of an array without a dictionary holds
 abbrev pub array_cell : PlainArray → ℕ → Datum
@@ -114,15 +143,31 @@ abbrev pub ArePlain : Layout → ℕ → List (Bor Batch) → List (Option Plain
 ArePlain l j bs xs = (k : ℕ) (b : Bor Batch) (c : CheckedColumn) → slice_get bs k ≡ Some b
     → slice_get b.now.columns.items j ≡ Some c → HasCellsAt l c.cells (slice_get xs k)
 
-abbrev pub column_of : BatchArrays → ℕ
-column_of s = s.column
-
 -- They are said to be plain, and have this layout, which has no children.
 pub record IsReady (t : Rose Layout) (s : BatchArrays) : Type 0 where
   pub plain : s.is_plain ≡ true
   pub layout : s.layout ≡ layout_of t
   pub leaf : IsLeaf s.layout
 
--- They are if they are said to be plain.
-abbrev pub AreFound : List (Bor Batch) → BatchArrays → Type 0
-AreFound bs s = s.is_plain ≡ true → ArePlain s.layout s.column bs s.arrays.items
+-- They are if they are said to be plain, and there are none beside them.
+pub record AreFound (bs : List (Bor Batch)) (s : BatchArrays) : Type 0 where
+  pub plain : s.is_plain ≡ true → ArePlain s.layout s.column bs s.arrays.items
+  pub few : length s.arrays.items ≤ length bs
+
+-- The arrays are those of the batches in which the rows lie.
+pub record IsWritable (c : PlacedColumn) : Type 0 where
+  pub found : AreFound c.rows.batches.now c.arrays.now
+  pub have : HaveColumn c.arrays.now.column c.rows
+
+abbrev pub column_cells : PlacedColumn → List Datum
+column_cells c = column_at c.arrays.now.column c.rows
+
+-- The cells of these rows are those of the columns, one by one.
+abbrev pub AreRowsOf : List PlacedColumn → List (List Datum) → Type 0
+AreRowsOf cs rows = (j : ℕ) (c : PlacedColumn) → j < length cs → c ≡ get_or cs j c
+    → map (part j) (row_cells rows) ≡ column_cells c
+
+-- and they make a batch
+pub record MakeBatch (ls : Roses Layout) (cs : List PlacedColumn) (rows : List (List Datum)) : Type 0 where
+  pub cells : AreRowsOf cs rows
+  pub batch : IsBatch ls rows

@@ -13,7 +13,7 @@ use std::alloc::{AllocError, Global};
 use values::Value;
 
 /// Where the cells of column `j` of these rows lie.
-fn slots_in<'a>(range: &RowRange<'a>, j: usize) -> SlotRange<'a>
+pub(crate) fn slots_in<'a>(range: &RowRange<'a>, j: usize) -> SlotRange<'a>
     requires { HasColumn j range.now }
     ensures piece { HasWidth result }
     ensures cells { range_cells result ≡ map (part j) (row_cells (range_rows range.now)) }

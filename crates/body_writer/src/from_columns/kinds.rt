@@ -116,16 +116,27 @@ fn array_of<'a>(piece: &Piece<'a>) -> Option<ColumnParts<'a>>
     }
 }
 
+/// The array of the first of these pieces that is of slots.
+fn first_array<'a>(pieces: &[Piece<'a>]) -> Option<ColumnParts<'a>>
+    ensures { IfSome result (λ a. (t : Rose Layouts) (m : Rose Arrays) → All (LiesAs t m) pieces.now
+        → Lies t m (array_of a)) }
+{
+    for piece in pieces {
+        let array = array_of(piece);
+        if array.is_some() {
+            return array;
+        }
+    }
+    None
+}
+
 /// An array of the form that those of all these pieces have, if they have one form.
 pub(crate) fn model_of<'a>(pieces: &[Piece<'a>], layout: &LayoutTree) -> Option<ColumnParts<'a>>
     requires { All (OfSlots HasWidth) pieces.now }
     ensures model { IfSome result (λ m. Lies layout.now (array_of m) (array_of m)) }
     ensures lie { IfSome result (λ m. All (LiesAs layout.now (array_of m)) pieces.now) }
 {
-    let [piece, ..] = pieces else {
-        return None;
-    };
-    let model = array_of(piece)?;
+    let model = first_array(pieces)?;
     if all_lie_as(pieces, layout, model) {
         return Some(model);
     }

@@ -144,7 +144,7 @@ fn write_children(
 /// Appends the column whose cells lie in these pieces, with its children. Their arrays are of the form of `model`, with
 /// `models` below it.
 #[cycle(column)]
-fn write_pieces(
+pub(crate) fn write_pieces(
     alloc: Global,
     layout: &LayoutTree,
     model: &ArrayData,

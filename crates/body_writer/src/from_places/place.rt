@@ -1,8 +1,18 @@
 //! Where single rows lie.
 
-/// Where a row lies: row `row` of the batch at place `batch` in a list of batches.
+use crate::from_columns::batch::Batch;
+
+/// Where a row lies: row `row` of the batch at place `batch` in a list of batches. Where there is no such batch, it is
+/// that of a row without cells.
 #[derive(Clone, Copy, Debug)]
 pub struct RowPlace {
     pub batch: usize,
     pub row: usize,
+}
+
+/// Rows that lie each at a place of its own in these batches.
+#[derive(Clone, Copy)]
+pub struct PlacedRows<'a> {
+    pub batches: &'a [&'a Batch],
+    pub places: &'a [RowPlace],
 }

@@ -1,6 +1,6 @@
 //! The arrays of one column of many batches, found once.
 
-ghost use Rattle.std.specs.Prelude.{◌≡◌, ℕ, ◌<◌, IfOk, IfSome, List, Ok, Some, slice_get, slice_index};
+ghost use Rattle.std.specs.Prelude.{◌≡◌, ℕ, ◌<◌, ◌≤◌, IfOk, IfSome, List, Ok, Some, length, slice_get, slice_index};
 ghost use Rattle.values.specs.Datum.{Datum};
 ghost use Rattle.array_layout.specs.Placing.{bytes_of};
 ghost use Rattle.array_layout.specs.Sound.{IsSound, LiesIn};
@@ -95,7 +95,8 @@ fn arrays_in<'a>(
     j: usize,
     layout: Layout,
 ) -> Result<Option<Vec<Option<PlainArray<'a>>>>, AllocError>
-    ensures { IfOk result (λ found. IfSome found (λ arrays. ArePlain layout j batches.now arrays.items)) }
+    ensures plain { IfOk result (λ found. IfSome found (λ arrays. ArePlain layout j batches.now arrays.items)) }
+    ensures few { IfOk result (λ found. IfSome found (λ arrays. length arrays.items ≤ length batches.now)) }
 {
     let mut arrays = Vec::with_capacity(alloc, batches.len())?;
     for batch in batches {

@@ -1,7 +1,8 @@
 //! Writes columns of rows that lie each at a place of its own.
 
-ghost use Rattle.std.specs.Prelude.{◌≡◌, ℕ, ◌^◌, ◌<◌, ◌≤◌, All, IfOk, OnOk, [], ◌∷◌, length, map, true};
+ghost use Rattle.std.specs.Prelude.{◌≡◌, ℕ, ◌^◌, ◌<◌, ◌≤◌, All, IfOk, List, OnOk, [], ◌∷◌, length, map, true};
 ghost use Rattle.std.specs.List.{flat_map};
+ghost use Rattle.values.specs.Datum.{Datum};
 ghost use Rattle.values.specs.Limits.{max_body_size};
 ghost use Rattle.values.specs.Rose.{kids_of};
 ghost use Rattle.values.specs.Layouts.{IsLayout, Holds};
@@ -18,35 +19,43 @@ ghost use Rattle.body_writer.specs.Columns.{
 };
 ghost use Rattle.body_writer.specs.Grows.{Appends, Grows};
 ghost use Rattle.body_writer.specs.Runs.{slot_bytes};
-ghost use Rattle.body_writer.specs.Batch.{IsBatch, body_bytes, body_nodes, body_ranges};
-ghost use Rattle.body_writer.specs.Picked.{picked_rows};
+ghost use Rattle.body_writer.specs.Batch.{body_bytes, body_nodes, body_ranges};
 ghost use Rattle.body_writer.specs.Texts.{as_bytes};
 ghost use Rattle.body_writer.specs.Places.{
-  AreFound,
   Fits,
+  HaveColumn,
   IsLeaf,
-  IsPlaced,
   IsReady,
   IsTexts,
+  IsWritable,
+  MakeBatch,
   column_at,
-  column_of,
+  column_cells,
   layout_of,
   place_cells,
-  placed_rows,
 };
 
 use crate::body::Body;
-use crate::from_columns::batch::Batch;
+use crate::from_columns::gather::refs_of;
+use crate::from_columns::kinds::model_of;
 use crate::from_columns::slot_runs::slot_width;
 use crate::from_columns::texts::write_texts;
-use crate::from_columns::write::write_column;
+use crate::from_columns::write::write_pieces;
+use crate::from_places::cells::{copies_at, pieces_at};
 use crate::from_places::gather::{count_nulls, push_slots, texts, truths, validity};
-use crate::from_places::place::RowPlace;
+use crate::from_places::place::{PlacedRows, RowPlace};
 use crate::from_places::plain::{BatchArrays, PlainArray};
-use crate::from_places::ranges::ranges_at;
+use crate::from_values::column::write_column_from_values;
 use array_layout::FieldNode;
 use std::alloc::{AllocError, Global};
 use values::{Layout, LayoutTree, OffsetWidth};
+
+/// A column of rows that lie each at a place of its own, and the arrays in which its cells lie.
+#[derive(Clone, Copy)]
+pub struct PlacedColumn<'a> {
+    pub arrays: &'a BatchArrays<'a>,
+    pub rows: PlacedRows<'a>,
+}
 
 /// Appends the node and the validity of these cells.
 fn write_validity(
@@ -142,25 +151,46 @@ fn write_slices(
     write_texts(alloc, width, &slices, body)
 }
 
-/// Appends column `j` of these rows, range by range.
-fn write_ranges(
+/// Appends column `j` of these rows from copies of its cells.
+fn write_copies(
     alloc: Global,
     layout: &LayoutTree,
     j: usize,
-    batches: &[&Batch],
-    places: &[RowPlace],
+    rows: &PlacedRows,
     body: &mut Body,
 ) -> Result<(), AllocError>
-    requires placed { (n : ℕ) × (j < n) × All (IsPlaced n batches.now) places.now }
+    requires have { HaveColumn j rows.now }
     requires layouts { IsLayout layout.now }
-    requires held { All (Holds layout.now) (column_at j batches.now places.now) }
-    requires light { weights layout.now (column_at j batches.now places.now) < 2 ^ 31 }
+    requires held { All (Holds layout.now) (column_at j rows.now) }
+    requires light { weights layout.now (column_at j rows.now) < 2 ^ 31 }
     ensures { OnOk result
-        (Grows body.old body.new (nodes layout.now (column_at j batches.now places.now))
-        (buffers layout.now (column_at j batches.now places.now))) }
+        (Grows body.old body.new (nodes layout.now (column_at j rows.now)) (buffers layout.now (column_at j rows.now))) }
 {
-    let ranges = ranges_at(alloc, batches, places)?;
-    write_column(alloc, layout, &ranges, j, body)
+    let values = copies_at(alloc, rows.batches, rows.places, j)?;
+    let cells = refs_of(alloc, &values)?;
+    write_column_from_values(alloc, layout, &cells, body)
+}
+
+/// Appends column `j` of these rows, cell by cell.
+fn write_cells(
+    alloc: Global,
+    layout: &LayoutTree,
+    j: usize,
+    rows: &PlacedRows,
+    body: &mut Body,
+) -> Result<(), AllocError>
+    requires have { HaveColumn j rows.now }
+    requires layouts { IsLayout layout.now }
+    requires held { All (Holds layout.now) (column_at j rows.now) }
+    requires light { weights layout.now (column_at j rows.now) < 2 ^ 31 }
+    ensures { OnOk result
+        (Grows body.old body.new (nodes layout.now (column_at j rows.now)) (buffers layout.now (column_at j rows.now))) }
+{
+    let pieces = pieces_at(alloc, rows.batches, rows.places, j)?;
+    match model_of(&pieces, layout) {
+        Some(model) => write_pieces(alloc, layout, model.own, model.children, &pieces, body),
+        None => write_copies(alloc, layout, j, rows, body),
+    }
 }
 
 /// Whether arrays of this layout have no children.
@@ -205,57 +235,50 @@ fn write_gathered(
     }
 }
 
-/// Appends the column of these arrays' cells at these places.
+/// Appends a column.
 fn write_placed(
     alloc: Global,
     layout: &LayoutTree,
-    arrays: &BatchArrays,
-    batches: &[&Batch],
-    places: &[RowPlace],
+    column: &PlacedColumn,
     body: &mut Body,
 ) -> Result<(), AllocError>
-    requires found { AreFound batches.now arrays.now }
-    requires placed { (n : ℕ) × (arrays.now.column < n) × All (IsPlaced n batches.now) places.now }
+    requires column { IsWritable column.now }
     requires layouts { IsLayout layout.now }
-    requires held { All (Holds layout.now) (column_at arrays.now.column batches.now places.now) }
-    requires light { weights layout.now (column_at arrays.now.column batches.now places.now) < 2 ^ 31 }
+    requires held { All (Holds layout.now) (column_cells column.now) }
+    requires light { weights layout.now (column_cells column.now) < 2 ^ 31 }
     ensures { OnOk result
-        (Grows body.old body.new (nodes layout.now (column_at arrays.now.column batches.now places.now))
-        (buffers layout.now (column_at arrays.now.column batches.now places.now))) }
+        (Grows body.old body.new (nodes layout.now (column_cells column.now))
+        (buffers layout.now (column_cells column.now))) }
 {
+    let arrays = column.arrays;
     if is_ready(arrays, layout) {
-        return write_gathered(alloc, layout, &arrays.arrays, places, body);
+        return write_gathered(alloc, layout, &arrays.arrays, column.rows.places, body);
     }
-    write_ranges(alloc, layout, arrays.column, batches, places, body)
+    write_cells(alloc, layout, arrays.column, &column.rows, body)
 }
 
-/// The body of a record batch of the cells of the rows at these places, in the columns of these arrays, which have these
-/// layouts. No other column is read. Room for `room` bytes of it is made at once.
-#[tactic(auto, using(crate::proofs::Rows::batch), unfolding(crate::specs::Batch::body_nodes, crate::specs::Batch::body_ranges, crate::specs::Batch::body_bytes))]
+/// The body of a record batch of these columns, which have these layouts and as many cells each. No other column of the
+/// batches is read. Room for `room` bytes of it is made at once.
 pub fn write_body_from_places(
     alloc: Global,
     layouts: &[LayoutTree],
-    columns: &[BatchArrays],
-    batches: &[&Batch],
-    places: &[RowPlace],
+    columns: &[PlacedColumn],
     room: usize,
 ) -> Result<Body, AllocError>
     requires many { length columns.now ≡ length layouts.now }
-    requires found { All (AreFound batches.now) columns.now }
-    requires placed { (n : ℕ) × All (λ c. c.column < n) columns.now × All (IsPlaced n batches.now) places.now }
-    requires batch { IsBatch (kids_of layouts.now)
-        (picked_rows (map column_of columns.now) (placed_rows batches.now places.now)) }
-    ensures nodes { IfOk result (λ body. body.nodes.items ≡ body_nodes (kids_of layouts.now)
-        (picked_rows (map column_of columns.now) (placed_rows batches.now places.now))) }
-    ensures ranges { IfOk result (λ body. body.ranges.items ≡ body_ranges (kids_of layouts.now)
-        (picked_rows (map column_of columns.now) (placed_rows batches.now places.now))) }
-    ensures bytes { IfOk result (λ body. body.bytes.items ≡ body_bytes (kids_of layouts.now)
-        (picked_rows (map column_of columns.now) (placed_rows batches.now places.now))) }
+    requires columns { All IsWritable columns.now }
+    requires rows { (rows : List (List Datum)) × MakeBatch (kids_of layouts.now) columns.now rows }
+    ensures nodes { IfOk result (λ body. (rows : List (List Datum)) → MakeBatch (kids_of layouts.now) columns.now rows
+        → body.nodes.items ≡ body_nodes (kids_of layouts.now) rows) }
+    ensures ranges { IfOk result (λ body. (rows : List (List Datum)) → MakeBatch (kids_of layouts.now) columns.now rows
+        → body.ranges.items ≡ body_ranges (kids_of layouts.now) rows) }
+    ensures bytes { IfOk result (λ body. (rows : List (List Datum)) → MakeBatch (kids_of layouts.now) columns.now rows
+        → body.bytes.items ≡ body_bytes (kids_of layouts.now) rows) }
     ensures size { IfOk result (λ body. length body.bytes.items ≤ max_body_size) }
 {
     let mut body = Body::with_capacity(alloc, room)?;
     for j in 0..layouts.len() {
-        write_placed(alloc, &layouts[j], &columns[j], batches, places, &mut body)?;
+        write_placed(alloc, &layouts[j], &columns[j], &mut body)?;
     }
     Ok(body)
 }

@@ -1,12 +1,10 @@
-use Rattle.std.proofs.Common.{drop}
-use Rattle.std.specs.Prelude.{map}
+use Rattle.std.proofs.Common.{List, drop}
+use Rattle.values.specs.Datum.{Datum}
 use Rattle.values.specs.Rose.{kids_of}
 use Rattle.body_writer.proofs.Rows.{Writing}
-use Rattle.body_writer.specs.Picked.{picked_rows}
-use Rattle.body_writer.specs.Places.{column_of, placed_rows}
+use Rattle.body_writer.specs.Places.{MakeBatch}
 use Rattle.body_writer.proofs.from_places.write.write_body_from_places.Given as goal
 
 abbrev pub invariant-loop-j : goal.invariant-loop-j
-invariant-loop-j l =
-    Writing l.j (kids_of (drop l.j l.layouts)) (picked_rows (map column_of l.columns) (placed_rows l.batches l.places))
-    l.body (kids_of l.layouts)
+invariant-loop-j l = (rows : List (List Datum)) → MakeBatch (kids_of l.layouts) l.columns rows
+    → Writing l.j (kids_of (drop l.j l.layouts)) rows l.body (kids_of l.layouts)
