@@ -30,5 +30,6 @@ pub mod FittingLemmas
 pub mod RowWeights
 mod RangeLemmas
 mod RangeBoundLemmas
+mod JoinedLemmas
 mod PlaceBoundLemmas
 mod PlaceRowLemmas

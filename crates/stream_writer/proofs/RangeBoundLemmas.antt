@@ -1,41 +1,12 @@
 -- Bounds on the weights of rows that lie in ranges.
-use Rattle.std.proofs.Common.{
-  ◌≡◌,
-  inl,
-  inr,
-  ℕ,
-  zero,
-  suc,
-  ◌+◌,
-  ◌-◌,
-  ◌^◌,
-  ◌<◌,
-  ◌≤◌,
-  Bool,
-  true,
-  false,
-  IfSome,
-  List,
-  [],
-  ◌∷◌,
-  All,
-  length,
-  get_or,
-  drop,
-  refl,
-  ap,
-  sym,
-  subst,
-  ◌∙◌,
-  arith,
-}
-use Rattle.std.specs.Prelude.{if◌then◌else◌, map, max, nat_lt, slice_get}
+use Rattle.std.proofs.Common.{◌≡◌, inl, inr, ℕ, ◌+◌, ◌-◌, ◌^◌, ◌<◌, ◌≤◌, Bool, true, false, IfSome, List, [], ◌∷◌, All, length, get_or, drop, refl, ap, sym, subst, ◌∙◌, arith}
+use Rattle.std.specs.Prelude.{if◌then◌else◌, max, nat_lt, slice_get}
 use Rattle.std.proofs.lemmas.Bool.{cases_lt}
-use Rattle.std.proofs.lemmas.List.{drop_all, drop_more, get_or-map}
+use Rattle.std.proofs.lemmas.List.{drop_all, drop_more}
 use Rattle.values.specs.Datum.{Datum, null, truth, whole, text, bytes, list, structure, items_of}
 use Rattle.values.specs.Layouts.{Holds, HoldsEach, slot, weight}
 use Rattle.values.specs.Limits.{max_cell_weight}
-use Rattle.values.specs.Rose.{Rose, node, Roses, none, more, kids_of}
+use Rattle.values.specs.Rose.{Rose, node, Roses, kids_of}
 use Rattle.values.specs.Weights.{saturated}
 use Rattle.values.specs.declared.layout.Layout.{Layout}
 use Rattle.values.specs.declared.layout.Layout.TheVariants.{
@@ -148,7 +119,7 @@ flat-weight (node (Binary o) ks) u l kids (structure es) w is flat here there sm
 flat-weight (node (Listed o) ks) u l kids d w is flat here there small light = absurd (flat.list o (cc is))
 flat-weight (node Struct ks) u l kids d w is flat here there small light = absurd (flat.struct (cc is))
 
-slot-small : (n most : ℕ) → saturated n ≤ most → most ≤ max_cell_weight → n ≤ most
+pub slot-small : (n most : ℕ) → saturated n ≤ most → most ≤ max_cell_weight → n ≤ most
 unfolding saturated
 slot-small n most le small = by (nat_lt n (2 ^ 64)) le
   where

@@ -38,8 +38,7 @@ use Rattle.values.specs.declared.layout.Layout.{Layout}
 use Rattle.arrays.specs.Checked.{CheckedColumn}
 use Rattle.schema_meta.specs.Rows.{row_at, rows_from}
 use Rattle.body_writer.specs.RowRanges.{IsRange, batch_rows, cells_in, range_rows, ranges_rows}
-use Rattle.body_writer.specs.Picked.{HaveColumns, picked, picked_rows}
-use Rattle.body_writer.specs.declared.from_columns.batch.Batch.{Batch}
+use Rattle.body_writer.specs.Picked.{picked, picked_rows}
 use Rattle.body_writer.specs.declared.from_columns.batch.RowRange.{RowRange}
 use Rattle.body_writer.proofs.RowRangeLemmas.{rows-cut}
 use Rattle.body_writer.proofs.PickedLemmas.{rows-at}

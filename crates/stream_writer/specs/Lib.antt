@@ -20,4 +20,5 @@ pub mod BatchRows
 pub mod Weights
 pub mod RangeRows
 pub mod RangeBounds
+pub mod JoinedRows
 pub mod PlaceRows

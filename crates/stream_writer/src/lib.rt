@@ -12,6 +12,8 @@ mod dictionary_batch;
 mod dictionary_builder;
 mod encoded;
 mod faults;
+mod joined_copies;
+mod joined_rows;
 mod laws;
 mod layouts;
 mod memory;
@@ -29,6 +31,7 @@ mod table_writer;
 mod weighing;
 
 pub use faults::WriteFault;
+pub use joined_rows::JoinedRows;
 pub use laws::{
     batch_law, canon_law, closed_law, coded_law, cut_law, dictionary_law, framing_law, rows_law,
     values_law,

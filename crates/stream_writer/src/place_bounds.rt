@@ -1,16 +1,20 @@
-//! Bounds on the weights of all rows of some batches, found once for all rows that lie in them.
+//! Bounds on the weights of rows that lie each at a place of its own, by all cells of their batches.
 
-ghost use Rattle.std.specs.Prelude.{◌≡◌, ◌+◌, ◌≤◌, All, IfOk, IfSome, length, map, true};
+ghost use Rattle.std.specs.Prelude.{◌≡◌, ◌+◌, ◌≤◌, IfOk, IfSome, length, true};
 ghost use Rattle.values.specs.Limits.{max_cell_weight};
 ghost use Rattle.values.specs.Rose.{kids_of};
-ghost use Rattle.body_writer.specs.Places.{AreFound, column_of};
-ghost use Rattle.stream_writer.specs.PlaceRows.{AreLightBatches, BoundsBatch, BoundsColumn};
+ghost use Rattle.body_writer.specs.Picked.{picked_rows};
+ghost use Rattle.stream_writer.specs.BatchRows.{AreLightRows};
+ghost use Rattle.stream_writer.specs.JoinedRows.{AreArrays, HaveJoined, joined_rows};
+ghost use Rattle.stream_writer.specs.PlaceRows.{BoundsBatch, BoundsColumn};
+ghost use Rattle.stream_writer.specs.RangeRows.{HoldRows};
 
+use crate::joined_rows::JoinedRows;
 use crate::range_bounds::bound_values;
-use body_writer::MAX_LIGHT_ROW;
-use body_writer::{Batch, BatchArrays};
+use body_writer::{Batch, BatchArrays, MAX_LIGHT_ROW};
 use std::alloc::{AllocError, Global};
-use values::LayoutTree;
+use values::limits::MAX_CELL_WEIGHT;
+use values::{LayoutTree, slot};
 
 /// A weight that no cell in column `j` of a batch is above as a value of this layout, or `None` where nothing is known.
 fn bound_in(layout: &LayoutTree, j: usize, batch: &Batch) -> Option<u64>
@@ -23,31 +27,34 @@ fn bound_in(layout: &LayoutTree, j: usize, batch: &Batch) -> Option<u64>
     }
 }
 
-/// A weight that no cell in column `j` of these batches is above as a value of this layout, or `None` where nothing is
-/// known.
+/// A weight that neither a null nor a cell in column `j` of these batches is above as a value of this layout, or `None`
+/// where nothing is known.
 fn bound_column(layout: &LayoutTree, j: usize, batches: &[&Batch]) -> Option<u64>
     ensures { IfSome result (BoundsColumn layout.now j batches.now) }
 {
-    let mut most = 0u64;
+    let mut most = slot(layout);
+    if most > MAX_CELL_WEIGHT {
+        return None;
+    }
     for batch in batches {
         most = most.max(bound_in(layout, j, batch)?);
     }
     Some(most)
 }
 
-/// Whether all rows of these batches are so light that a batch of 1,024 of them is within the limit on weight. Each
-/// column is gone through once. Where rows are light, but have lists or structs, it isn't known.
-pub(crate) fn are_light_batches(
-    layouts: &[LayoutTree],
-    columns: &[usize],
-    batches: &[&Batch],
-) -> bool
-    requires { length columns.now ≡ length layouts.now }
-    ensures { result ≡ true → AreLightBatches (kids_of layouts.now) columns.now batches.now }
+/// Whether each of these rows is so light that a batch of 1,024 of them is within the limit on weight. Each column is
+/// gone through once. Where rows are light, but have lists or structs, it isn't known.
+pub(crate) fn are_light_joined(layouts: &[LayoutTree], columns: &[usize], rows: &JoinedRows) -> bool
+    requires many { length columns.now ≡ length layouts.now }
+    requires have { HaveJoined columns.now rows.now }
+    requires held { HoldRows (kids_of layouts.now) (picked_rows columns.now (joined_rows rows.now)) }
+    ensures { result ≡ true → AreLightRows (kids_of layouts.now) (picked_rows columns.now (joined_rows rows.now)) }
 {
     let mut sum = 0u64;
     for j in 0..layouts.len() {
-        let Some(most) = bound_column(&layouts[j], columns[j], batches) else {
+        let column = columns[j];
+        let batches = rows.half(column).batches;
+        let Some(most) = bound_column(&layouts[j], rows.place_of(column), batches) else {
             return false;
         };
         sum = sum.saturating_add(most);
@@ -63,16 +70,17 @@ pub(crate) fn find_arrays<'a>(
     alloc: Global,
     layouts: &[LayoutTree],
     columns: &[usize],
-    batches: &[&'a Batch],
+    rows: &JoinedRows<'a>,
 ) -> Result<Vec<BatchArrays<'a>>, AllocError>
     requires { length columns.now ≡ length layouts.now }
-    ensures columns { IfOk result (λ arrays. map column_of arrays.items ≡ columns.now) }
-    ensures found { IfOk result (λ arrays. All (AreFound batches.now) arrays.items) }
+    ensures { IfOk result (λ arrays. AreArrays rows.now columns.now arrays.items) }
 {
     let mut arrays = Vec::with_capacity(alloc, columns.len())?;
     for j in 0..columns.len() {
+        let column = columns[j];
+        let batches = rows.half(column).batches;
         let layout = &layouts[j];
-        let found = BatchArrays::find(alloc, batches, columns[j], layout.layout)?;
+        let found = BatchArrays::find(alloc, batches, rows.place_of(column), layout.layout)?;
         arrays.push(found)?;
     }
     Ok(arrays)

@@ -11,9 +11,8 @@ ghost use Rattle.stream_writer.specs.BatchRows.{AreLightRows};
 ghost use Rattle.stream_writer.specs.RangeBounds.{BoundsCells, IsHeaviest};
 ghost use Rattle.stream_writer.specs.RangeRows.{HoldRows};
 
-use body_writer::MAX_LIGHT_ROW;
 use arrays::Column;
-use body_writer::RowRange;
+use body_writer::{MAX_LIGHT_ROW, RowRange};
 use values::limits::MAX_CELL_WEIGHT;
 use values::{Layout, LayoutTree, slot};
 

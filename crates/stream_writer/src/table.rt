@@ -7,16 +7,17 @@ ghost use Rattle.values.specs.Coded.{AreCoded};
 ghost use Rattle.stream_writer.specs.Stream.{trees, canon, coded_canon};
 ghost use Rattle.body_writer.specs.RowRanges.{IsSized, ranges_rows, rows_of};
 ghost use Rattle.body_writer.specs.Picked.{HaveColumns, picked_rows};
-ghost use Rattle.body_writer.specs.Places.{placed_rows};
-ghost use Rattle.stream_writer.specs.PlaceRows.{HavePlaces};
 ghost use Rattle.stream_writer.specs.BatchRows.{AreLightRows};
+ghost use Rattle.stream_writer.specs.JoinedRows.{HaveJoined, joined_rows};
 ghost use Rattle.stream_writer.specs.Table.{IsTable};
 ghost use Rattle.stream_writer.specs.Weights.{weights_of};
 
 use crate::batch_rows::BatchRows;
 use crate::faults::WriteFault;
+use crate::joined_copies::copy_joined;
+use crate::joined_rows::JoinedRows;
 use crate::layouts::layouts_of;
-use crate::place_bounds::{are_light_batches, find_arrays};
+use crate::place_bounds::{are_light_joined, find_arrays};
 use crate::place_rows::PlaceRows;
 use crate::progress::{put_rest, put_schema};
 use crate::range_bounds::are_light;
@@ -24,7 +25,7 @@ use crate::range_copies::copy_rows;
 use crate::range_rows::RangeRows;
 use crate::rows::{RowSource, ValueRows};
 use crate::sink::Sink;
-use body_writer::{Batch, RowPlace, RowRange, ranges_at};
+use body_writer::{Batch, RowRange};
 use std::alloc::Global;
 use values::{LayoutTree, Row, Schema};
 
@@ -159,37 +160,37 @@ pub fn write_ranges<S: Sink>(
     write_messages(alloc, sink, schema, &[], &layouts, left)
 }
 
-/// Writes the canonical stream of a table whose rows lie at these places in batches of checked columns, each at a place
-/// of its own, and returns its length in bytes. Its columns are those of the batches at these positions, in this order.
-/// It is as [`write_ranges`] of as many ranges, where no two rows lie one after the other.
+/// Writes the canonical stream of a table whose rows are these ones of a main table with rows of a side table beside
+/// them, and returns its length in bytes. Its columns are those of the joined rows at these positions, in this order:
+/// the main table's come first, then the side table's. Cells are copied where a row may be so heavy that a batch would
+/// have fewer than 1,024 rows for it, and where there are lists or structs.
 ///
 /// On an error the sink took a beginning of that stream: `written` bytes.
-pub fn write_places<'a, S: Sink>(
+pub fn write_places<S: Sink>(
     alloc: Global,
     sink: &mut S,
     schema: &Schema,
     columns: &[usize],
-    batches: &'a [&'a Batch],
-    places: &'a [RowPlace],
+    rows: &JoinedRows,
 ) -> Result<u64, WriteFault>
-    requires table { IsTable schema.now.fields.items (picked_rows columns.now (placed_rows batches.now places.now)) }
+    requires table { IsTable schema.now.fields.items (picked_rows columns.now (joined_rows rows.now)) }
     requires many { length columns.now ≡ length schema.now.fields.items }
-    requires places { (n : ℕ) × HavePlaces n columns.now batches.now places.now }
+    requires have { HaveJoined columns.now rows.now }
     ensures { Writes (S.sunk sink.old) (S.sunk sink.new) result
-        (canon schema.now.fields.items (picked_rows columns.now (placed_rows batches.now places.now))) }
+        (canon schema.now.fields.items (picked_rows columns.now (joined_rows rows.now))) }
 {
     let layouts = layouts_of(alloc, schema)?;
-    if !are_light_batches(&layouts, columns, batches) {
-        let ranges = ranges_at(alloc, batches, places)?;
-        return write_ranges(alloc, sink, schema, columns, &ranges, places.len());
+    if !are_light_joined(&layouts, columns, rows) {
+        let copies = copy_joined(alloc, columns, rows)?;
+        return write_table(alloc, sink, schema, &copies);
     }
-    let arrays = find_arrays(alloc, &layouts, columns, batches)?;
-    let rows = PlaceRows {
-        columns: &arrays,
-        batches,
-        places,
+    let arrays = find_arrays(alloc, &layouts, columns, rows)?;
+    let left = PlaceRows {
+        columns,
+        arrays: &arrays,
+        rows: *rows,
     };
-    write_messages(alloc, sink, schema, &[], &layouts, rows)
+    write_messages(alloc, sink, schema, &[], &layouts, left)
 }
 
 /// Writes the messages of a table whose columns have these layouts.

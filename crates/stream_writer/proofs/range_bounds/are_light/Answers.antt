@@ -1,4 +1,4 @@
-use Rattle.std.proofs.Common.{All, ◌≤◌, List, get_or, refl, subst, sym, take}
+use Rattle.std.proofs.Common.{All, ◌≤◌, List, refl, subst}
 use Rattle.std.proofs.lemmas.List.{take_all}
 use Rattle.std.proofs.lemmas.List.Elements.{All-more}
 use Rattle.values.specs.Datum.{Datum, items_of}

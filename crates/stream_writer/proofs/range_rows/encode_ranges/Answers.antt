@@ -1,8 +1,7 @@
-use Rattle.std.proofs.Common.{◌≡◌, ◌++◌, ◌≤◌, ◌*◌, ◌∙◌, ℕ, List, length, take, drop, ap, subst, sym, arith}
+use Rattle.std.proofs.Common.{◌≡◌, ◌++◌, ◌≤◌, ◌*◌, ◌∙◌, ℕ, List, length, take, ap, subst, sym, arith}
 use Rattle.std.proofs.lemmas.List.{length-take}
 use Rattle.array_layout.specs.declared.array.BufferRange.{BufferRange}
 use Rattle.array_layout.specs.declared.array.FieldNode.{FieldNode}
-use Rattle.values.specs.Datum.{Datum}
 use Rattle.values.specs.Limits.{max_fields}
 use Rattle.values.specs.Rose.{kids_of}
 use Rattle.body_writer.specs.Batch.{IsBatch, body_bytes, body_nodes, body_ranges}

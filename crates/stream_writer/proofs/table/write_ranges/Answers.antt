@@ -1,4 +1,4 @@
-use Rattle.std.proofs.Common.{◌≡◌, ◌∙◌, length, arith, ap, refl, sym}
+use Rattle.std.proofs.Common.{◌≡◌, ◌∙◌, arith, ap, refl, sym}
 use Rattle.values.specs.Rose.{kids_of}
 use Rattle.body_writer.specs.RowRanges.{ranges_rows}
 use Rattle.body_writer.specs.Picked.{picked_rows}

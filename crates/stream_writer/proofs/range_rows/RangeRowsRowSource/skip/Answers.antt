@@ -1,4 +1,4 @@
-use Rattle.std.proofs.Common.{◌≡◌, ◌+◌, ◌-◌, ◌∙◌, All, List, length, take, drop, arith, ap, length-drop, subst, sym}
+use Rattle.std.proofs.Common.{◌≡◌, ◌-◌, ◌∙◌, All, List, length, take, drop, arith, ap, length-drop, subst, sym}
 use Rattle.std.proofs.lemmas.List.Elements.{All-drop}
 use Rattle.values.specs.Datum.{Datum}
 use Rattle.values.specs.Rose.{kids_of}
