@@ -1,11 +1,13 @@
 -- Where the live rows of a store lie.
 use Rattle.std.proofs.Common.{◌≡◌, ℕ, ◌<◌, All, true, List, [], ◌∷◌, get_or, length, map, refl, ap, ap₂, ◌∙◌, arith}
 use Rattle.std.proofs.lemmas.List.Elements.{All-head, All-tail, All-weaker}
-use Rattle.std.proofs.lemmas.Option.{slice_get_within}
+use Rattle.std.specs.Prelude.{IfSome, None, Option, Some}
+use Rattle.std.proofs.lemmas.Option.{IfSome_then, slice_get_within}
 use Rattle.values.specs.Datum.{Datum}
 use Rattle.view_lang.specs.Config.{Table}
 use Rattle.view_lang.specs.Rows.{IsRow}
 use Rattle.row_keys.specs.Numbers.{Numbered}
+use Rattle.row_keys.specs.Places.{row_if}
 use Rattle.row_keys.specs.Slots.{no_slot, row_of}
 use Rattle.row_keys.specs.Stored.{IsStored, joined}
 use Rattle.row_keys.proofs.HeldRows.{rows_right}
@@ -46,3 +48,30 @@ module _ (t : Table) (rows : List (List Datum)) (xs : List Numbered) (stored : I
   live_mapped (n ∷ ns) lives =
       ap₂ (λ r rs. r ∷ rs) (live_at_once n (All-head (IsLiveIn rows xs) n ns lives))
       (live_mapped ns (All-tail (IsLiveIn rows xs) n ns lives))
+
+  -- rows that may be there
+
+  abbrev IsLiveIf : Option ℕ → Type 0
+  IsLiveIf o = IfSome o (IsLiveIn rows xs)
+
+  pub live_wide_if : (numbers : List (Option ℕ)) → All IsLiveIf numbers
+      → All (λ o. IfSome o (λ n. length (get_or rows n []) ≡ length t.columns)) numbers
+  live_wide_if numbers lives =
+      All-weaker IsLiveIf (λ o. IfSome o (λ n. length (get_or rows n []) ≡ length t.columns))
+      (λ o some. IfSome_then o some live_size) numbers lives
+
+  pub live_kept_if : (numbers : List (Option ℕ)) → All IsLiveIf numbers
+      → All (λ o. IfSome o (λ n. 0 < length (get_or rows n []))) numbers
+  live_kept_if numbers lives =
+      let key = slice_get_within t.columns t.key stored.table.key.0 stored.table.key.1 in
+      let some : 0 < length t.columns = omega (arith, key) in
+      All-weaker IsLiveIf (λ o. IfSome o (λ n. 0 < length (get_or rows n [])))
+      (λ o is. IfSome_then o is (λ n live. let size = live_size n live in omega (arith, size, some))) numbers lives
+
+  pub live_mapped_if : (numbers : List (Option ℕ)) → All IsLiveIf numbers
+      → map (row_if (λ n. get_or rows n [])) numbers ≡ map (row_if (row_of (joined rows xs))) numbers
+  live_mapped_if [] lives = refl
+  live_mapped_if (None ∷ os) lives = ap (λ rs. [] ∷ rs) (live_mapped_if os (All-tail IsLiveIf None os lives))
+  live_mapped_if (Some n ∷ os) lives =
+      ap₂ (λ r rs. r ∷ rs) (live_at_once n (All-head IsLiveIf (Some n) os lives))
+      (live_mapped_if os (All-tail IsLiveIf (Some n) os lives))

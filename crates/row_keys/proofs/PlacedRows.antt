@@ -1,17 +1,18 @@
 -- Rows of chunks by their places.
 use Rattle.std.proofs.Common.{◌≡◌, ℕ, zero, suc, ◌+◌, ◌<◌, ◌≤◌, All, Bool, true, false, Some, List, [], ◌∷◌, ◌++◌, get_or, length, take, refl, ap, ap₂, sym, subst, ◌∙◌, arith}
-use Rattle.std.specs.Prelude.{if◌then◌else◌, map, slice_get}
+use Rattle.std.specs.Prelude.{IfSome, None, Option, if◌then◌else◌, map, slice_get}
 use Rattle.std.proofs.lemmas.List.Elements.{All-cons, All-head, All-nil, All-tail}
 use Rattle.std.proofs.lemmas.List.{take_all, take_more}
-use Rattle.std.proofs.lemmas.Option.{none-some}
+use Rattle.std.proofs.lemmas.Option.{none-some, slice_get_past, slice_get_within}
 use denote.Ref.{Bor}
+use Rattle.values.specs.Datum.{Datum}
 use Rattle.schema_meta.specs.Rows.{row_at}
-use Rattle.body_writer.specs.Places.{IsPlaced, place_row as row_at_place, placed_rows, row_in as batch_row}
+use Rattle.body_writer.specs.Places.{HasRow, IsPlaced, IsRowAt, place_row as row_at_place, placed_rows, row_in as batch_row}
 use Rattle.body_writer.specs.declared.from_columns.batch.Batch.{Batch}
 use Rattle.body_writer.specs.declared.from_places.place.RowPlace.{RowPlace}
 use Rattle.row_keys.specs.Batches.{cells_in}
 use Rattle.row_keys.specs.Chunks.{Chunk, IsLong, LiesAt, chunk_row, row_in}
-use Rattle.row_keys.specs.Places.{AreAtPlaces, AreBatches, IsBatchOf}
+use Rattle.row_keys.specs.Places.{AreAtPlaces, AreBatches, IsAtPlace, IsBatchOf, MayBeAtPlaces, row_if}
 use Rattle.row_keys.proofs.Places.{some_same}
 use Rattle.row_keys.proofs.RunRows.{cells_many}
 
@@ -53,7 +54,7 @@ placed_row cs bs n p are at kept =
     ∙ sym (kept_row cs n p.batch p.row at kept)
 
 pub placed_there : (cs : List Chunk) (bs : List (Bor Batch)) (n w : ℕ) (p : RowPlace) → AreBatches cs bs
-    → LiesAt cs n p.batch p.row → 0 < length (row_in cs n) → length (row_in cs n) ≡ w → IsPlaced w bs p
+    → LiesAt cs n p.batch p.row → 0 < length (row_in cs n) → length (row_in cs n) ≡ w → IsRowAt w bs p
 placed_there cs bs n w p are at kept wide =
     let c : Chunk = at.lies.chunk in
     let b = batch_at cs bs p.batch c are at.lies.there in
@@ -65,12 +66,14 @@ placed_there cs bs n w p are at kept wide =
     record {
       batch = b.batch;
       there = b.there;
-      sized = record {
-        columns = omega (arith, columns, many, row, wide);
-        cells = subst (λ ks. All (λ k. length k.cells ≡ b.batch.now.rows) ks) b.is.columns
-            (subst (λ m. All (λ k. length k.cells ≡ m) c.columns) b.is.rows long.long);
+      row = record {
+        sized = record {
+          columns = omega (arith, columns, many, row, wide);
+          cells = subst (λ ks. All (λ k. length k.cells ≡ b.batch.now.rows) ks) b.is.columns
+              (subst (λ m. All (λ k. length k.cells ≡ m) c.columns) b.is.rows long.long);
+        };
+        within = omega (arith, at.within, few, b.is.rows);
       };
-      within = omega (arith, at.within, few, b.is.rows);
     }
 
 -- all of them
@@ -87,14 +90,14 @@ rows_placed cs bs (n ∷ ns) (p ∷ ps) are at kept =
 
 pub all_placed : (cs : List Chunk) (bs : List (Bor Batch)) (ns : List ℕ) (ps : List RowPlace) (w : ℕ)
     → AreBatches cs bs → AreAtPlaces cs ns ps → All (λ n. 0 < length (row_in cs n)) ns
-    → All (λ n. length (row_in cs n) ≡ w) ns → All (IsPlaced w bs) ps
-all_placed cs bs [] [] w are at kept wide = All-nil (IsPlaced w bs)
+    → All (λ n. length (row_in cs n) ≡ w) ns → All (IsRowAt w bs) ps
+all_placed cs bs [] [] w are at kept wide = All-nil (IsRowAt w bs)
 all_placed cs bs [] (p ∷ ps) w are at kept wide = absurd at
 all_placed cs bs (n ∷ ns) [] w are at kept wide = absurd at
 all_placed cs bs (n ∷ ns) (p ∷ ps) w are at kept wide =
     let K : ℕ → Type 0 = λ m. 0 < length (row_in cs m) in
     let W : ℕ → Type 0 = λ m. length (row_in cs m) ≡ w in
-    All-cons (IsPlaced w bs) p ps
+    All-cons (IsRowAt w bs) p ps
     (placed_there cs bs n w p are at.0 (All-head K n ns kept) (All-head W n ns wide))
     (all_placed cs bs ns ps w are at.1 (All-tail K n ns kept) (All-tail W n ns wide))
 
@@ -137,3 +140,78 @@ batches_next cs i c made next b n at h is are =
 pub batches_all : (cs : List Chunk) (i : ℕ) (made : List (Bor Batch)) → length cs ≤ i
     → AreBatches (take i cs) made → AreBatches cs made
 batches_all cs i made h are = subst (λ xs. AreBatches xs made) (take_all i cs h) are
+
+-- rows that may be there
+
+batches_many : (cs : List Chunk) (bs : List (Bor Batch)) → AreBatches cs bs → length bs ≡ length cs
+batches_many [] [] are = refl
+batches_many [] (b ∷ bs) are = absurd are
+batches_many (c ∷ cs) [] are = absurd are
+batches_many (c ∷ cs) (b ∷ bs) are = ap suc (batches_many cs bs are.1)
+
+placed_if : (cs : List Chunk) (bs : List (Bor Batch)) (o : Option ℕ) (p : RowPlace) → AreBatches cs bs
+    → IsAtPlace cs o p → IfSome o (λ n. 0 < length (row_in cs n)) → row_at_place bs p ≡ row_if (row_in cs) o
+placed_if cs bs None p are at kept =
+    let many = batches_many cs bs are in
+    ap (λ b. batch_row b p.row) (slice_get_past bs p.batch (omega (arith, many, at)))
+placed_if cs bs (Some n) p are at kept = placed_row cs bs n p are at kept
+
+there_if : (cs : List Chunk) (bs : List (Bor Batch)) (o : Option ℕ) (w : ℕ) (p : RowPlace) → AreBatches cs bs
+    → IsAtPlace cs o p → IfSome o (λ n. 0 < length (row_in cs n)) → IfSome o (λ n. length (row_in cs n) ≡ w)
+    → IsPlaced w bs p
+there_if cs bs None w p are at kept wide b there =
+    let many = batches_many cs bs are in
+    let inside = slice_get_within bs p.batch b there in
+    absurd (omega (arith, many, at, inside))
+there_if cs bs (Some n) w p are at kept wide b there =
+    let is = placed_there cs bs n w p are at kept wide in
+    subst (λ (x : Bor Batch). HasRow w p.row x.now) (some_same is.batch b (sym is.there ∙ there)) is.row
+
+pub rows_placed_if : (cs : List Chunk) (bs : List (Bor Batch)) (os : List (Option ℕ)) (ps : List RowPlace)
+    → AreBatches cs bs → MayBeAtPlaces cs os ps → All (λ o. IfSome o (λ n. 0 < length (row_in cs n))) os
+    → placed_rows bs ps ≡ map (row_if (row_in cs)) os
+rows_placed_if cs bs [] [] are at kept = refl
+rows_placed_if cs bs [] (p ∷ ps) are at kept = absurd at
+rows_placed_if cs bs (o ∷ os) [] are at kept = absurd at
+rows_placed_if cs bs (o ∷ os) (p ∷ ps) are at kept =
+    let K : Option ℕ → Type 0 = λ x. IfSome x (λ n. 0 < length (row_in cs n)) in
+    ap₂ (λ r rs. r ∷ rs) (placed_if cs bs o p are at.0 (All-head K o os kept))
+    (rows_placed_if cs bs os ps are at.1 (All-tail K o os kept))
+
+pub all_placed_if : (cs : List Chunk) (bs : List (Bor Batch)) (os : List (Option ℕ)) (ps : List RowPlace) (w : ℕ)
+    → AreBatches cs bs → MayBeAtPlaces cs os ps → All (λ o. IfSome o (λ n. 0 < length (row_in cs n))) os
+    → All (λ o. IfSome o (λ n. length (row_in cs n) ≡ w)) os → All (IsPlaced w bs) ps
+all_placed_if cs bs [] [] w are at kept wide = All-nil (IsPlaced w bs)
+all_placed_if cs bs [] (p ∷ ps) w are at kept wide = absurd at
+all_placed_if cs bs (o ∷ os) [] w are at kept wide = absurd at
+all_placed_if cs bs (o ∷ os) (p ∷ ps) w are at kept wide =
+    let K : Option ℕ → Type 0 = λ x. IfSome x (λ n. 0 < length (row_in cs n)) in
+    let W : Option ℕ → Type 0 = λ x. IfSome x (λ n. length (row_in cs n) ≡ w) in
+    All-cons (IsPlaced w bs) p ps
+    (there_if cs bs o w p are at.0 (All-head K o os kept) (All-head W o os wide))
+    (all_placed_if cs bs os ps w are at.1 (All-tail K o os kept) (All-tail W o os wide))
+
+place_after : (cs : List Chunk) (os : List (Option ℕ)) (ps : List RowPlace) (o : Option ℕ) (p : RowPlace)
+    → MayBeAtPlaces cs os ps → IsAtPlace cs o p → MayBeAtPlaces cs (os ++ o ∷ []) (ps ++ p ∷ [])
+place_after cs [] [] o p at here = (here, tt)
+place_after cs [] (q ∷ ps) o p at here = absurd at
+place_after cs (m ∷ os) [] o p at here = absurd at
+place_after cs (m ∷ os) (q ∷ ps) o p at here = (at.0, place_after cs os ps o p at.1 here)
+
+pub place_next : (cs : List Chunk) (numbers : List (Option ℕ)) (i : ℕ) (o : Option ℕ) (made next : List RowPlace)
+    (p : RowPlace) → i < length numbers → next ≡ made ++ p ∷ [] → IsAtPlace cs (get_or numbers i o) p
+    → MayBeAtPlaces cs (take i numbers) made → MayBeAtPlaces cs (take (i + 1) numbers) next
+place_next cs numbers i o made next p h n here at =
+    subst (MayBeAtPlaces cs (take (i + 1) numbers)) (sym n)
+    (subst (λ os. MayBeAtPlaces cs os (made ++ p ∷ [])) (sym (take_more numbers i o h))
+    (place_after cs (take i numbers) made (get_or numbers i o) p at here))
+
+pub place_all : (cs : List Chunk) (numbers : List (Option ℕ)) (i : ℕ) (made : List RowPlace) → length numbers ≤ i
+    → MayBeAtPlaces cs (take i numbers) made → MayBeAtPlaces cs numbers made
+place_all cs numbers i made h at = subst (λ os. MayBeAtPlaces cs os made) (take_all i numbers h) at
+
+pub mapped_if : (f g : ℕ → List Datum) (os : List (Option ℕ)) → ((n : ℕ) → f n ≡ g n)
+    → map (row_if f) os ≡ map (row_if g) os
+mapped_if f g [] same = refl
+mapped_if f g (None ∷ os) same = ap (λ rs. [] ∷ rs) (mapped_if f g os same)
+mapped_if f g (Some n ∷ os) same = ap₂ (λ r rs. r ∷ rs) (same n) (mapped_if f g os same)

@@ -26,7 +26,7 @@ ghost use Rattle.values.specs.CellViews.{shallow, viewed};
 ghost use Rattle.values.specs.Datum.{Datum};
 ghost use Rattle.values.specs.Keys.{datum_of_key};
 ghost use Rattle.values.specs.Limits.{max_main_rows};
-ghost use Rattle.body_writer.specs.Places.{IsPlaced, placed_rows};
+ghost use Rattle.body_writer.specs.Places.{IsPlaced, IsRowAt, placed_rows};
 ghost use Rattle.body_writer.specs.RowRanges.{IsRange, ranges_rows};
 ghost use Rattle.view_lang.specs.Causes.{cause_of};
 ghost use Rattle.view_lang.specs.Contents.{applied, key_in, keys_in, without};
@@ -38,6 +38,7 @@ ghost use Rattle.view_lang.specs.TableRules.{IsSideTable, IsTable};
 ghost use Rattle.row_keys.specs.Batches.{AreKeys, IsBatch, batch_rows};
 ghost use Rattle.row_keys.specs.Numbered.{numbered};
 ghost use Rattle.row_keys.specs.Parts.{AreStoreParts, store_with};
+ghost use Rattle.row_keys.specs.Places.{row_if};
 ghost use Rattle.row_keys.specs.Slots.{
   CanPutBack,
   CanRetract,
@@ -608,10 +609,23 @@ impl RowStore {
         ensures rows { IfOk result (λ found.
             placed_rows found.batches.items found.places.items ≡ map (row_of self.now.slots) visits) }
         ensures placed { IfOk result (λ found.
-            All (IsPlaced (length self.now.table.columns) found.batches.items) found.places.items) }
+            All (IsRowAt (length self.now.table.columns) found.batches.items) found.places.items) }
     {
         let _table = &self.table;
         self.rows.places(self.alloc, visits.numbers())
+    }
+
+    /// Where the rows of these numbers lie, which are live: each by itself. Where there is no number, the place is in no
+    /// batch. Visits count the rows of the main table that are opened, and no others.
+    pub fn places_if(&self, numbers: &[Option<usize>]) -> Result<StoredPlaces<'_>, AllocError>
+        requires { All (λ o. IfSome o (λ n. (get_or self.now.slots n no_slot).live ≡ true)) numbers.now }
+        ensures rows { IfOk result (λ found.
+            placed_rows found.batches.items found.places.items ≡ map (row_if (row_of self.now.slots)) numbers.now) }
+        ensures placed { IfOk result (λ found.
+            All (IsPlaced (length self.now.table.columns) found.batches.items) found.places.items) }
+    {
+        let _table = &self.table;
+        self.rows.places_if(self.alloc, numbers)
     }
 
     /// A copy of the row of this number, live or retracted; one that is gone has no cells. It is counted as a visit.

@@ -1,6 +1,6 @@
 use Rattle.std.proofs.Common.{◌≡◌, ◌<◌, ◌∙◌, All, List, [], ap, get_or, length, map, subst, sym, true, ℕ}
 use Rattle.std.proofs.lemmas.Result.{IfOk-weaker}
-use Rattle.body_writer.specs.Places.{IsPlaced}
+use Rattle.body_writer.specs.Places.{IsRowAt}
 use Rattle.row_keys.specs.Slots.{no_slot, row_of}
 use Rattle.row_keys.specs.Store.{Store}
 use Rattle.row_keys.proofs.LiveRanges.{live_kept, live_mapped, live_wide}
@@ -33,7 +33,7 @@ returns-clause-placed c =
     (subst P (sym c.self.view_is) c.requires) in
     IfOk-weaker c.places.result _ _
     (λ found placed.
-    subst (λ (s : Store). All (IsPlaced (length s.table.columns) found.batches.items) found.places.items)
+    subst (λ (s : Store). All (IsRowAt (length s.table.columns) found.batches.items) found.places.items)
     c.self.view_is
     (placed (length c.self.inside.table.columns) (subst A (sym c.numbers.ensures) wide)))
     c.places.ensures.placed
