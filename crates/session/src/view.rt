@@ -16,11 +16,54 @@ ghost use Rattle.upkeep.specs.ViewStates.{width_in};
 ghost use Rattle.upkeep.specs.ViewedRows.{IsViewed, ShowsView};
 ghost use Rattle.session.specs.WrittenViews.{IsReadBack, stream_at};
 
+use body_writer::PlacedRows;
+use row_keys::Visits;
 use std::alloc::Global;
-use stream_writer::{Sink, WriteFault, coded_law, write_coded, write_ranges};
+use stream_writer::{
+    JoinedRows, Sink, WriteFault, coded_law, write_coded, write_places, write_ranges,
+};
 use upkeep::{LiveTables, Shown, StoredColumns};
 use values::Schema;
 use view_lang::{config_law, rows_law};
+
+/// Rows lie scattered where no more than this lie one after the other in the mean.
+const SHORT_RUNS: usize = 4;
+
+/// Scattered rows are gathered where they are no less than one in so many of the table's.
+const FEW: usize = 8;
+
+/// Whether so many of all rows of a table, which lie in these runs, are written sooner one by one than run by run. What
+/// is found for that in each of the table's batches pays for many rows only.
+fn are_scattered(runs: usize, count: usize, all: usize) -> bool {
+    runs > count / SHORT_RUNS && count >= all / FEW
+}
+
+/// Writes the canonical stream of columns of the main table from where they are stored, row by row, and returns its
+/// length in bytes.
+fn write_scattered<S: Sink>(
+    alloc: Global,
+    tables: &LiveTables,
+    schema: &Schema,
+    columns: &[usize],
+    visits: Visits,
+    sink: &mut S,
+) -> Result<u64, WriteFault>
+    requires live { All (IsLiveAt (main_slots tables.now.stores)) visits }
+    requires below { All (λ j. j < width_in (tables_in tables.now.stores)) columns.now }
+    requires many { length columns.now ≡ length schema.now.fields.items }
+    requires table { IsTable schema.now.fields.items
+        (picked_rows columns.now (map (row_of (main_slots tables.now.stores)) visits)) }
+    ensures { Writes (S.sunk sink.old) (S.sunk sink.new) result (canon schema.now.fields.items
+        (picked_rows columns.now (map (row_of (main_slots tables.now.stores)) visits))) }
+{
+    let found = tables.places(visits)?;
+    let main = PlacedRows {
+        batches: &found.batches,
+        places: &found.places,
+    };
+    let rows = JoinedRows::alone(tables.width(), main);
+    write_places(alloc, sink, schema, columns, &rows)
+}
 
 /// Writes the canonical stream of columns of the main table from where they are stored, and returns its length in
 /// bytes.
@@ -42,6 +85,9 @@ fn write_stored<S: Sink>(
 {
     let StoredColumns { columns, visits } = stored;
     let count = visits.len();
+    if are_scattered(visits.count_runs(), count, tables.len()) {
+        return write_scattered(alloc, tables, schema, &columns, visits, sink);
+    }
     let ranges = tables.ranges(visits)?;
     write_ranges(alloc, sink, schema, &columns, &ranges, count)
 }

@@ -18,7 +18,7 @@ ghost use Rattle.std.specs.Prelude.{
   slice_set,
   true,
 };
-ghost use Rattle.body_writer.specs.Places.{IsPlaced, placed_rows};
+ghost use Rattle.body_writer.specs.Places.{IsRowAt, placed_rows};
 ghost use Rattle.body_writer.specs.RowRanges.{IsRange, ranges_rows};
 ghost use Rattle.view_lang.specs.Edits.{table_of};
 ghost use Rattle.view_lang.specs.ViewColumns.{columns_by, feed_columns, key_column};
@@ -455,6 +455,13 @@ impl LiveTables {
         show_kept(self.alloc, &mut self.stores, view, &self.states[place])
     }
 
+    /// How many columns the main table has. It takes no memory.
+    pub fn width(&self) -> usize
+        ensures { result ≡ width_in (tables_in self.now.stores) }
+    {
+        self.stores[0].table().columns.len()
+    }
+
     /// Where the visited rows of the main table lie, which are live: as many as lie one after the other at once.
     pub fn ranges(&self, visits: Visits) -> Result<Vec<RowRange<'_>>, AllocError>
         requires { All (IsLiveAt (main_slots self.now.stores)) visits }
@@ -471,7 +478,7 @@ impl LiveTables {
         ensures rows { IfOk result (λ found. placed_rows found.batches.items found.places.items
             ≡ map (row_of (main_slots self.now.stores)) visits) }
         ensures placed { IfOk result (λ found.
-            All (IsPlaced (width_in (tables_in self.now.stores)) found.batches.items) found.places.items) }
+            All (IsRowAt (width_in (tables_in self.now.stores)) found.batches.items) found.places.items) }
     {
         self.stores[0].places(visits)
     }

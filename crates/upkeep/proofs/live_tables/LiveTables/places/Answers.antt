@@ -1,6 +1,6 @@
 use Rattle.std.proofs.Common.{ℕ, All, ap, subst, ◌∙◌}
 use Rattle.std.proofs.lemmas.Result.{IfOk-weaker}
-use Rattle.body_writer.specs.Places.{IsPlaced}
+use Rattle.body_writer.specs.Places.{IsRowAt}
 use Rattle.upkeep.specs.LiveParts.{LiveParts}
 use Rattle.upkeep.specs.Stores.{tables_in}
 use Rattle.upkeep.specs.ViewStates.{width_in}
@@ -12,5 +12,5 @@ returns-clause-placed c =
     let width = main_width c.self.inside.stores.items c.index.result.now c.index.ensures c.self.invariant.these.main
     ∙ ap (λ (p : LiveParts). width_in (tables_in p.stores)) c.self.view_is in
     IfOk-weaker c.places.result _ _
-    (λ found placed. subst (λ (w : ℕ). All (IsPlaced w found.batches.items) found.places.items) width placed)
+    (λ found placed. subst (λ (w : ℕ). All (IsRowAt w found.batches.items) found.places.items) width placed)
     c.places.ensures.placed
