@@ -1,6 +1,6 @@
 -- The order of lists by the first of their elements.
-use Rattle.std.proofs.Common.{◌≡◌, refl, ap, ap₂, sym, ◌∙◌, true≢false}
-use Rattle.std.specs.Prelude.{ℕ, zero, suc, Bool, true, false, ◌&&◌, not, List, [], ◌∷◌, take, nat_eq}
+use Rattle.std.proofs.Common.{◌≡◌, refl, ap, ap₂, ◌∙◌, true≢false}
+use Rattle.std.specs.Prelude.{ℕ, zero, suc, true, ◌&&◌, not, List, [], ◌∷◌, take, nat_eq}
 use Rattle.std.specs.Cmp.{unsigned_ties}
 use Rattle.std.specs.Cmp.Lexicographic.{pointwise, slice_cmp}
 use Rattle.std.specs.Ordering.{nat_cmp, ordering_then, is_eq}

@@ -7,3 +7,4 @@ pub mod WeightLemmas
 pub mod Logicals
 pub mod ShallowLemmas
 pub mod HeadLemmas
+pub mod WordLemmas

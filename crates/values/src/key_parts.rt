@@ -110,7 +110,7 @@ impl Ord for KeyText {
     ghost matches_eq = { Prim.search (comparing, rules) };
 
     fn cmp(&self, other: &KeyText) -> Ordering {
-        match self.bytes.cmp_heads(&other.bytes) {
+        match self.bytes.cmp_in_place(&other.bytes) {
             Some(order) => order,
             None => self.as_str().cmp(other.as_str()),
         }
@@ -230,7 +230,7 @@ impl Ord for KeyBytes {
     ghost matches_eq = { Prim.search (comparing, rules) };
 
     fn cmp(&self, other: &KeyBytes) -> Ordering {
-        match self.bytes.cmp_heads(&other.bytes) {
+        match self.bytes.cmp_in_place(&other.bytes) {
             Some(order) => order,
             None => self.as_slice().cmp(other.as_slice()),
         }

@@ -37,7 +37,8 @@ impl Model for LogicalField {
 
     ghost coded = { rose_code logical_code };
 
-    ghost view = { λ n. node (record { name = string_bytes n.name; col_type = n.col_type }) (kids_of n.children.items) };
+    ghost view = { λ n.
+        node (record { name = string_bytes n.name; col_type = n.col_type }) (kids_of n.children.items) };
 
     ghost size = { rose_size };
 

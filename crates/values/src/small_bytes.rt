@@ -3,6 +3,7 @@
 ghost use Rattle.std.specs.Cmp.Lexicographic.{slice_cmp};
 ghost use Rattle.std.specs.Ordering.{nat_cmp};
 ghost use Rattle.std.specs.Prelude.{◌≡◌, ◌≤◌, [], IfOk, IfSome, OnErr, OnOk, length, take};
+ghost use Rattle.values.specs.SmallBytes.{IsInline, spelled};
 
 use std::alloc::{AllocError, Global};
 use std::cmp::Ordering;
@@ -18,7 +19,7 @@ const HEAD: usize = 15;
 /// Where bytes lie. Both kinds are as large as a `Vec`.
 #[derive(Debug, Drop)]
 enum Room {
-    /// The first so many of these.
+    /// The first so many of these; the others are zeros.
     Inline(u8, [u8; INLINE]),
     /// More than that, and the first of them once more, so that a comparison can do without the pointer.
     Heap([u8; HEAD], Box<Vec<u8>>),
@@ -63,6 +64,54 @@ fn inline(bytes: &[u8]) -> SmallBytes
     }
 }
 
+/// Eight bytes as a number, the first of them its highest. Such numbers are ordered as the bytes are.
+#[inline(always)]
+fn word(bytes: &[u8]) -> u64
+    requires { length bytes.now ≡ 8 }
+    ensures { result ≡ spelled 0 bytes.now }
+{
+    u64::from_be_bytes([
+        bytes[0], bytes[1], bytes[2], bytes[3], bytes[4], bytes[5], bytes[6], bytes[7],
+    ])
+}
+
+/// Six bytes as a number, likewise.
+#[inline(always)]
+fn word_of_six(bytes: &[u8]) -> u64
+    requires { length bytes.now ≡ 6 }
+    ensures { result ≡ spelled 0 bytes.now }
+{
+    u64::from_be_bytes([
+        0, 0, bytes[0], bytes[1], bytes[2], bytes[3], bytes[4], bytes[5],
+    ])
+}
+
+/// The order of so many bytes, compared eight at a time.
+#[inline(always)]
+fn cmp_by_words(bytes: &[u8; INLINE], other: &[u8; INLINE]) -> Ordering
+    ensures { result ≡ slice_cmp nat_cmp bytes.now other.now }
+{
+    let first = word(&bytes[..8]).cmp(&word(&other[..8]));
+    if first != Ordering::Equal {
+        return first;
+    }
+    let second = word(&bytes[8..16]).cmp(&word(&other[8..16]));
+    if second != Ordering::Equal {
+        return second;
+    }
+    word_of_six(&bytes[16..]).cmp(&word_of_six(&other[16..]))
+}
+
+/// The order of bytes that lie in their places: by all that lies there, which ends in zeros, and then by their lengths.
+#[inline(always)]
+fn cmp_inline(len: u8, bytes: &[u8; INLINE], other_len: u8, other: &[u8; INLINE]) -> Ordering
+    requires bytes { IsInline len bytes.now }
+    requires other { IsInline other_len other.now }
+    ensures { result ≡ slice_cmp nat_cmp (take len bytes.now) (take other_len other.now) }
+{
+    cmp_by_words(bytes, other).then(len.cmp(&other_len))
+}
+
 impl SmallBytes {
     /// A copy of some bytes.
     pub(crate) fn new(alloc: Global, bytes: &[u8]) -> Result<SmallBytes, AllocError>
@@ -103,11 +152,15 @@ impl SmallBytes {
         Ok(())
     }
 
-    /// The order of many bytes by the first of them, where these differ: no pointer is followed.
-    pub(crate) fn cmp_heads(&self, other: &SmallBytes) -> Option<Ordering>
+    /// The order of bytes that both lie in their places, or of many whose first bytes differ: no pointer is followed.
+    #[inline(always)]
+    pub(crate) fn cmp_in_place(&self, other: &SmallBytes) -> Option<Ordering>
         ensures { IfSome result (λ order. order ≡ slice_cmp nat_cmp self.now other.now) }
     {
         match (&self.room, &other.room) {
+            (Room::Inline(len, bytes), Room::Inline(other_len, other)) => {
+                Some(cmp_inline(*len, bytes, *other_len, other))
+            }
             (Room::Heap(head, _), Room::Heap(other, _)) if head != other => Some(head.cmp(other)),
             _ => None,
         }

@@ -1,9 +1,9 @@
-use Rattle.std.proofs.Common.{◌≡◌, ap, ap₂, sym, subst, ◌∙◌}
+use Rattle.std.proofs.Common.{ap, ap₂, sym, subst, ◌∙◌}
 use Rattle.std.specs.Cmp.Lexicographic.{slice_cmp}
 use Rattle.std.specs.Ordering.{nat_cmp}
 use Rattle.values.specs.SmallBytes.{IsRoom, bytes_in}
 use Rattle.values.proofs.HeadLemmas.{settled-by-heads}
-use Rattle.values.proofs.small_bytes.SmallBytes.cmp_heads.Goals as goal
+use Rattle.values.proofs.small_bytes.SmallBytes.cmp_in_place.Goals as goal
 
 pub returns-in-Heap-Heap : goal.returns-in-Heap-Heap
 returns-in-Heap-Heap c =
