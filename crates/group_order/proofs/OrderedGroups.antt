@@ -6,23 +6,37 @@ use Rattle.std.specs.Cmp.{Equal-is, eq_by_cmp_equiv}
 use Rattle.std.specs.Ordering.{eq_by_cmp}
 use Rattle.std.specs.declared.cmp.Ordering.TheVariants.{Equal}
 use Rattle.std.specs.List.{list_any}
-use Rattle.std.specs.Option.{option_map}
+use Rattle.std.specs.Option.{option_and_then, option_map}
 use Rattle.values.specs.Datum.{Datum}
 use Rattle.values.specs.declared.key.Key.{Key}
 use Rattle.view_lang.specs.Shifts.{Shift}
+use Rattle.view_lang.specs.Truth.{passes}
 use Rattle.view_lang.specs.declared.view.OrderBy.{OrderBy}
 use Rattle.group_state.specs.Grouped.{Grouped}
 use Rattle.group_state.specs.Keys.{tuple_cmp, tuple_total}
-use Rattle.group_state.specs.Aggregates.{seen_row}
+use Rattle.group_state.specs.Aggregates.{seen_at, seen_row}
+use Rattle.group_state.specs.Readers.{read_at}
 use Rattle.group_state.specs.Touched.{StayBut, group_at, touches}
 use Rattle.group_state.specs.Tuples.{has_tuple, tuple_of}
 use Rattle.group_state.proofs.Members.{tuple_exact}
 use Rattle.top_rows.specs.PlaceOrder.{sort_keys_cmp}
+use Rattle.top_rows.specs.SortKeys.{sort_keys_of}
 use Rattle.top_rows.specs.declared.sort_key.SortKey.{SortKey}
 use Rattle.top_rows.specs.Ties.{KeepsBy, has_sort_keys, is_place_by, pick, place_by, stands_by, without}
 use Rattle.top_rows.proofs.Ties.{all-picked, none-there, some-here, some-there, tied_exact, with-more, without-more}
 use Rattle.group_order.specs.GroupPlaces.{GroupPlace, group_place_cmp}
-use Rattle.group_order.specs.Ranked.{IsRanked, Ranked, Ranking, has_places, if_passing, is_there, placed_at, shown_at}
+use Rattle.group_order.specs.Ranked.{
+  IsRanked,
+  Ranked,
+  Ranking,
+  has_places,
+  if_passing,
+  is_there,
+  keys_read,
+  named,
+  placed_at,
+  shown_at,
+}
 
 abbrev changed_at : Bool → Ranking → Grouped → List Key → List GroupPlace → GroupPlace → Bool
 changed_at b r g t places p =
@@ -217,6 +231,28 @@ pub is-placed : (order : List OrderBy) (t : List Key) (o : Option (List Datum)) 
     (found : Option GroupPlace) → found ≡ Some q → found ≡ option_map (place_by tuple_cmp order t) o
     → is_at (group_place_cmp q) p ≡ is_place_by tuple_cmp order t o p
 is-placed order t o q p found is e = ap (λ x. is_there x p) (sym is ∙ e) ∙ there-place order t o p
+
+-- The place of a row that passes is named by its sort keys.
+shown-keys : (order : List OrderBy) (t : List Key) (row : List Datum) (c : Bool)
+    → named t (option_map (sort_keys_of order) (cond c (Some row) None))
+    ≡ option_map (place_by tuple_cmp order t) (cond c (Some row) None)
+shown-keys order t row true = refl
+shown-keys order t row false = refl
+
+keys-placed : (r : Ranking) (t : List Key) (b : Bool) (o : Option (List Datum))
+    → named t
+    (option_and_then (λ row. cond b (option_map (sort_keys_of r.order) (if_passing r.having (Some row))) None) o)
+    ≡ option_map (place_by tuple_cmp r.order t) (cond b (if_passing r.having o) None)
+keys-placed r t true None = refl
+keys-placed r t false None = refl
+keys-placed r t false (Some row) = refl
+keys-placed r t true (Some row) = shown-keys r.order t row (passes r.having row)
+
+-- The sort keys that are read of a tuple's group are those of its place.
+pub read-placed : (r : Ranking) (g : Grouped) (t : List Key) (read : Option (List SortKey))
+    → read ≡ read_at (keys_read r) r.outputs g t
+    → named t read ≡ option_map (place_by tuple_cmp r.order t) (placed_at r g t)
+read-placed r g t read is = ap (named t) is ∙ keys-placed r t (has_places r) (seen_at r.outputs g t)
 
 -- Where the group of one tuple changes, the place of its row is put in for that before.
 pub ranked-at : (old new : Ranked) (t : List Key) (next : Grouped) (before after : Option GroupPlace)

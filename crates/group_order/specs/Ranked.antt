@@ -1,6 +1,7 @@
 -- What contracts see of groups that are kept with the order of their rows.
 use Rattle.std.specs.Prelude.{◌≡◌, ◌||◌, ℕ, Bool, cond, false, filter, is_some, length, List, nat_lt, None, Option, Some, true}
 use Rattle.std.specs.BTreeMap.{is_at}
+use Rattle.std.specs.Option.{option_map}
 use Rattle.values.specs.Datum.{Datum}
 use Rattle.values.specs.declared.key.Key.{Key}
 use Rattle.view_lang.specs.Filter.{Filter}
@@ -14,6 +15,7 @@ use Rattle.group_state.specs.Grouped.{Grouped}
 use Rattle.group_state.specs.Groups.{Keeps as KeepsGroups}
 use Rattle.group_state.specs.Keys.{tuple_cmp}
 use Rattle.group_state.specs.Aggregates.{seen_at}
+use Rattle.top_rows.specs.SortKeys.{sort_keys_of}
 use Rattle.top_rows.specs.Ties.{KeepsBy, is_place_by, pick, stands_by, without}
 use Rattle.top_rows.specs.declared.sort_key.SortKey.{SortKey}
 use Rattle.group_order.specs.GroupPlaces.{GroupPlace, group_place_cmp}
@@ -48,6 +50,10 @@ has_places r = is_some r.having || nat_lt 0 (length r.order)
 -- the row that a tuple's group has a place by
 abbrev pub placed_at : Ranking → Grouped → List Key → Option (List Datum)
 placed_at r g t = cond (has_places r) (shown_at r g t) None
+
+-- the sort keys that a group's row has a place by, if it has a place
+abbrev pub keys_read : Ranking → List Datum → Option (List SortKey)
+keys_read r row = cond (has_places r) (option_map (sort_keys_of r.order) (if_passing r.having (Some row))) None
 
 -- the place of a tuple's row with these sort keys, if there are such
 abbrev pub named : List Key → Option (List SortKey) → Option GroupPlace

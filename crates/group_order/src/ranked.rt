@@ -52,7 +52,7 @@ ghost use Rattle.group_order.specs.RankedParts.{AreRanked, ranked_with};
 use crate::parts::RankedParts;
 use crate::place::GroupPlace;
 use crate::ranking::Ranking;
-use group_state::{Group, GroupRow, Groups, KeptColumn, Tuple};
+use group_state::{Group, GroupReader, GroupRow, Groups, KeptColumn, NoReader, Tuple};
 use std::alloc::{AllocError, Global};
 use std::collections::BTreeSet;
 use std::marker::Model;
@@ -182,14 +182,10 @@ impl RankedGroups {
             (place_by tuple_cmp self.now.ranking.order tuple.now)
             (placed_at self.now.ranking self.now.groups tuple.now)) }
     {
-        if !self.ranking.has_places() {
-            return Ok(None);
+        match self.groups.row(self.ranking.outputs(), tuple) {
+            Some(row) => self.ranking.read(self.alloc, &row),
+            None => Ok(None),
         }
-        let Some(row) = self.shown(tuple) else {
-            return Ok(None);
-        };
-        let order = self.ranking.order();
-        Ok(Some(SortKeyList::of(self.alloc, order, &row)?))
     }
 
     /// The place of the row that is shown of a tuple's group, if there is one and places are kept.
@@ -350,10 +346,11 @@ impl RankedGroups {
         ensures ranking { self.new.ranking ≡ self.old.ranking }
     {
         let tuple = self.groups.tuple_of(row)?;
-        let before = self.sort_keys_of(&tuple)?;
-        self.groups.come_to(&tuple, row)?;
-        let after = self.sort_keys_of(&tuple)?;
-        self.replace(tuple, before, after)?;
+        let ranking = &self.ranking;
+        let keys = self
+            .groups
+            .come_to(&tuple, row, ranking.outputs(), ranking)?;
+        self.replace(tuple, keys.before, keys.after)?;
         Ok(())
     }
 
@@ -388,10 +385,11 @@ impl RankedGroups {
         ensures ranking { self.new.ranking ≡ self.old.ranking }
     {
         let tuple = self.groups.tuple_of(row)?;
-        let before = self.sort_keys_of(&tuple)?;
-        self.groups.go_from(&tuple, row)?;
-        let after = self.sort_keys_of(&tuple)?;
-        self.replace(tuple, before, after)?;
+        let ranking = &self.ranking;
+        let keys = self
+            .groups
+            .go_from(&tuple, row, ranking.outputs(), ranking)?;
+        self.replace(tuple, keys.before, keys.after)?;
         Ok(())
     }
 
@@ -406,7 +404,7 @@ impl RankedGroups {
         if self.ranking.has_places() {
             self.take_in_at_place(tuple, group)?;
         } else {
-            self.groups.take_in(tuple, group)?;
+            self.groups.take_in(tuple, group, &[], &NoReader)?;
         }
         Ok(())
     }
@@ -419,10 +417,11 @@ impl RankedGroups {
         ensures columns { OnOk result (self.new.groups.columns ≡ self.old.groups.columns) }
         ensures ranking { self.new.ranking ≡ self.old.ranking }
     {
-        let before = self.sort_keys_of(tuple)?;
-        self.groups.take_in(tuple, group)?;
-        let after = self.sort_keys_of(tuple)?;
-        self.replace(tuple.copy(self.alloc)?, before, after)?;
+        let ranking = &self.ranking;
+        let keys = self
+            .groups
+            .take_in(tuple, group, ranking.outputs(), ranking)?;
+        self.replace(tuple.copy(self.alloc)?, keys.before, keys.after)?;
         Ok(())
     }
 
@@ -437,7 +436,7 @@ impl RankedGroups {
         if self.ranking.has_places() {
             self.give_up_from_place(tuple, group)?;
         } else {
-            self.groups.give_up(tuple, group);
+            self.groups.give_up(tuple, group, &[], &NoReader)?;
         }
         Ok(())
     }
@@ -450,10 +449,11 @@ impl RankedGroups {
         ensures columns { OnOk result (self.new.groups.columns ≡ self.old.groups.columns) }
         ensures ranking { self.new.ranking ≡ self.old.ranking }
     {
-        let before = self.sort_keys_of(tuple)?;
-        self.groups.give_up(tuple, group);
-        let after = self.sort_keys_of(tuple)?;
-        self.replace(tuple.copy(self.alloc)?, before, after)?;
+        let ranking = &self.ranking;
+        let keys = self
+            .groups
+            .give_up(tuple, group, ranking.outputs(), ranking)?;
+        self.replace(tuple.copy(self.alloc)?, keys.before, keys.after)?;
         Ok(())
     }
 

@@ -3,9 +3,11 @@
 ghost use Rattle.std.specs.Prelude.{◌≡◌, IfOk};
 ghost use Rattle.group_order.specs.Ranked.{has_places, ranking_by};
 
+use group_state::{GroupReader, GroupRow};
 use std::alloc::{AllocError, Global};
 use std::marker::Model;
-use view_lang::{Filter, GroupOutput, OrderBy};
+use top_rows::SortKeyList;
+use view_lang::{Filter, GroupOutput, OrderBy, passes};
 
 /// What is shown of groups, of which of them, and in which order: the outputs, the order and `having` of a view.
 #[derive(Debug, Drop)]
@@ -57,17 +59,28 @@ impl Ranking {
         &self.having
     }
 
-    pub(crate) fn order(&self) -> &[OrderBy]
-        ensures { result.now ≡ self.now.order }
-    {
-        &self.order
-    }
-
     /// Whether places are kept: else all groups are shown, in their own order.
     pub(crate) fn has_places(&self) -> bool
         ensures { result ≡ has_places self.now }
     {
         self.having.is_some() || self.order.len() > 0
+    }
+}
+
+/// It reads the sort keys of the rows that are shown, where places are kept.
+impl GroupReader for Ranking {
+    ghost use Rattle.group_order.specs.Ranked.{keys_read};
+
+    type Read = SortKeyList;
+
+    ghost reads = { keys_read };
+
+    fn read(&self, alloc: Global, row: &GroupRow<'_>) -> Result<Option<SortKeyList>, AllocError> {
+        if self.has_places() && passes(&self.having, row) {
+            Ok(Some(SortKeyList::of(alloc, &self.order, row)?))
+        } else {
+            Ok(None)
+        }
     }
 }
 

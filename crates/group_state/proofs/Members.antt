@@ -1,6 +1,6 @@
 -- What is kept at each tuple after a row is put or taken.
 use Rattle.std.proofs.Common.{◌≡◌, refl, sym, ◌∙◌, arith, ℕ, ◌<◌, List, [], ◌∷◌, subst, length}
-use Rattle.std.specs.Prelude.{Bool, true, false, cond, Option, ◌^◌}
+use Rattle.std.specs.Prelude.{Bool, true, false, cond, Option}
 use Rattle.std.specs.declared.cmp.Ordering.{Ordering}
 use Rattle.std.specs.declared.cmp.Ordering.TheVariants.{Less, Equal, Greater}
 use Rattle.std.specs.Ordering.{ordering_then}

@@ -19,3 +19,4 @@ pub mod FewValues
 pub mod OneValue
 pub mod Multisets
 pub mod Moves
+pub mod Readers

@@ -17,6 +17,7 @@ ghost use Rattle.group_state.specs.Moves.{
   begins_with_one,
   is_tuple_among,
 };
+ghost use Rattle.group_state.specs.Readers.{read_at, read_under};
 ghost use Rattle.group_state.specs.Reading.{WhereRead};
 ghost use Rattle.group_state.specs.Touched.{StayBut, comes, goes, is_of, touches};
 ghost use Rattle.group_state.specs.Tuples.{has_tuple, tuple_of as tuple_by};
@@ -68,6 +69,7 @@ ghost use Rattle.view_lang.specs.Shifts.{
 
 use crate::aggregates::kept_columns;
 use crate::group::Group;
+use crate::group_reader::{GroupReader, NoReader, Readings};
 use crate::group_row::GroupRow;
 use crate::kept_columns::KeptColumn;
 use crate::parts::GroupsParts;
@@ -404,12 +406,19 @@ impl Groups {
         ensures others { OnOk result (StayBut (λ t. has_tuple self.old.keys t (R.cells row.now)) self.old self.new) }
     {
         let tuple = self.tuple_of(row)?;
-        self.come_to(&tuple, row)
+        self.come_to(&tuple, row, &[], &NoReader)?;
+        Ok(())
     }
 
-    /// A row comes, of which this is the tuple, under a number that no row has. After an error what is kept has no
-    /// meaning.
-    pub fn come_to<R: RowView>(&mut self, tuple: &Tuple, row: &R) -> Result<(), AllocError>
+    /// A row comes, of which this is the tuple, under a number that no row has. Gives what is read of the group of the
+    /// tuple before and after that. After an error what is kept has no meaning.
+    pub fn come_to<R: RowView, S: GroupReader>(
+        &mut self,
+        tuple: &Tuple,
+        row: &R,
+        outputs: &[GroupOutput],
+        reader: &S,
+    ) -> Result<Readings<S::Read>, AllocError>
         requires tuple { tuple.now ≡ tuple_by self.old.keys (R.cells row.now) }
         requires rows { (rows : NumberedRows) × (Keeps self.old (values_of rows) × (length rows < max_appended_rows)) }
         ensures kept { OnOk result ((rows : NumberedRows) (n : ℕ)
@@ -418,9 +427,12 @@ impl Groups {
         ensures keys { self.new.keys ≡ self.old.keys }
         ensures columns { self.new.columns ≡ self.old.columns }
         ensures others { OnOk result (StayBut (λ t. has_tuple self.old.keys t (R.cells row.now)) self.old self.new) }
+        ensures before { IfOk result (λ readings.
+            readings.before ≡ read_at (S.reads reader.now) outputs.now self.old tuple.now) }
+        ensures after { IfOk result (λ readings.
+            readings.after ≡ read_at (S.reads reader.now) outputs.now self.new tuple.now) }
     {
-        self.add_to(tuple, row)?;
-        Ok(())
+        Ok(self.add_to(tuple, row, outputs, reader)?)
     }
 
     /// The row under a number goes. After an error what is kept has no meaning.
@@ -435,11 +447,19 @@ impl Groups {
         ensures others { OnOk result (StayBut (λ t. has_tuple self.old.keys t (R.cells row.now)) self.old self.new) }
     {
         let tuple = self.tuple_of(row)?;
-        self.go_from(&tuple, row)
+        self.go_from(&tuple, row, &[], &NoReader)?;
+        Ok(())
     }
 
-    /// The row under a number goes, of which this is the tuple. After an error what is kept has no meaning.
-    pub fn go_from<R: RowView>(&mut self, tuple: &Tuple, row: &R) -> Result<(), AllocError>
+    /// The row under a number goes, of which this is the tuple. Gives what is read of the group of the tuple before
+    /// and after that. After an error what is kept has no meaning.
+    pub fn go_from<R: RowView, S: GroupReader>(
+        &mut self,
+        tuple: &Tuple,
+        row: &R,
+        outputs: &[GroupOutput],
+        reader: &S,
+    ) -> Result<Readings<S::Read>, AllocError>
         requires tuple { tuple.now ≡ tuple_by self.old.keys (R.cells row.now) }
         requires rows { (rows : NumberedRows) × (n : ℕ) × (Keeps self.old (values_of rows)
             × (IsStrictlySortedBy nat_cmp (keys_of rows) × (row_at n rows ≡ Some (R.cells row.now)))) }
@@ -449,9 +469,12 @@ impl Groups {
         ensures keys { self.new.keys ≡ self.old.keys }
         ensures columns { self.new.columns ≡ self.old.columns }
         ensures others { OnOk result (StayBut (λ t. has_tuple self.old.keys t (R.cells row.now)) self.old self.new) }
+        ensures before { IfOk result (λ readings.
+            readings.before ≡ read_at (S.reads reader.now) outputs.now self.old tuple.now) }
+        ensures after { IfOk result (λ readings.
+            readings.after ≡ read_at (S.reads reader.now) outputs.now self.new tuple.now) }
     {
-        self.remove_from(tuple, row)?;
-        Ok(())
+        Ok(self.remove_from(tuple, row, outputs, reader)?)
     }
 
     /// Adds a row.
@@ -464,11 +487,18 @@ impl Groups {
         ensures others { OnOk result (StayBut (λ t. has_tuple self.old.keys t (R.cells row.now)) self.old self.new) }
     {
         let tuple = self.tuple_of(row)?;
-        self.add_to(&tuple, row)
+        self.add_to(&tuple, row, &[], &NoReader)?;
+        Ok(())
     }
 
-    /// Adds a row of which this is the tuple.
-    fn add_to<R: RowView>(&mut self, tuple: &Tuple, row: &R) -> Result<(), AllocError>
+    /// Adds a row of which this is the tuple. Gives what is read of the group of the tuple before and after that.
+    fn add_to<R: RowView, S: GroupReader>(
+        &mut self,
+        tuple: &Tuple,
+        row: &R,
+        outputs: &[GroupOutput],
+        reader: &S,
+    ) -> Result<Readings<S::Read>, AllocError>
         requires tuple { tuple.now ≡ tuple_by self.old.keys (R.cells row.now) }
         requires rows { (rows : List (List Datum)) × (Keeps self.old rows × (length rows < max_appended_rows)) }
         ensures kept { OnOk result ((rows : List (List Datum)) → Keeps self.old rows
@@ -476,15 +506,20 @@ impl Groups {
         ensures keys { self.new.keys ≡ self.old.keys }
         ensures columns { self.new.columns ≡ self.old.columns }
         ensures others { OnOk result (StayBut (λ t. has_tuple self.old.keys t (R.cells row.now)) self.old self.new) }
+        ensures before { IfOk result (λ readings.
+            readings.before ≡ read_at (S.reads reader.now) outputs.now self.old tuple.now) }
+        ensures after { IfOk result (λ readings.
+            readings.after ≡ read_at (S.reads reader.now) outputs.now self.new tuple.now) }
     {
-        put_row(
+        Ok(put_row(
             &mut self.groups,
             self.alloc,
             self.columns.as_slice(),
             tuple,
             row,
-        )?;
-        Ok(())
+            outputs,
+            reader,
+        )?)
     }
 
     /// Removes a row.
@@ -497,11 +532,18 @@ impl Groups {
         ensures others { OnOk result (StayBut (λ t. has_tuple self.old.keys t (R.cells row.now)) self.old self.new) }
     {
         let tuple = self.tuple_of(row)?;
-        self.remove_from(&tuple, row)
+        self.remove_from(&tuple, row, &[], &NoReader)?;
+        Ok(())
     }
 
-    /// Removes a row of which this is the tuple.
-    fn remove_from<R: RowView>(&mut self, tuple: &Tuple, row: &R) -> Result<(), AllocError>
+    /// Removes a row of which this is the tuple. Gives what is read of the group of the tuple before and after that.
+    fn remove_from<R: RowView, S: GroupReader>(
+        &mut self,
+        tuple: &Tuple,
+        row: &R,
+        outputs: &[GroupOutput],
+        reader: &S,
+    ) -> Result<Readings<S::Read>, AllocError>
         requires tuple { tuple.now ≡ tuple_by self.old.keys (R.cells row.now) }
         requires rows { (rows : List (List Datum)) × Keeps self.old (R.cells row.now ∷ rows) }
         ensures kept { OnOk result ((rows : List (List Datum)) → Keeps self.old (R.cells row.now ∷ rows)
@@ -509,46 +551,82 @@ impl Groups {
         ensures keys { self.new.keys ≡ self.old.keys }
         ensures columns { self.new.columns ≡ self.old.columns }
         ensures others { OnOk result (StayBut (λ t. has_tuple self.old.keys t (R.cells row.now)) self.old self.new) }
+        ensures before { IfOk result (λ readings.
+            readings.before ≡ read_at (S.reads reader.now) outputs.now self.old tuple.now) }
+        ensures after { IfOk result (λ readings.
+            readings.after ≡ read_at (S.reads reader.now) outputs.now self.new tuple.now) }
     {
-        take_row(
+        Ok(take_row(
             &mut self.groups,
             self.alloc,
             self.columns.as_slice(),
             tuple,
             row,
-        )?;
-        Ok(())
+            outputs,
+            reader,
+        )?)
     }
 }
 
 impl Groups {
-    /// The rows of a group come, all at once: they have this tuple. After an error what is kept has no meaning.
-    pub fn take_in(&mut self, tuple: &Tuple, group: &Group) -> Result<(), AllocError>
+    /// The rows of a group come, all at once: they have this tuple. Gives what is read of the group of the tuple before
+    /// and after that. After an error what is kept has no meaning.
+    pub fn take_in<S: GroupReader>(
+        &mut self,
+        tuple: &Tuple,
+        group: &Group,
+        outputs: &[GroupOutput],
+        reader: &S,
+    ) -> Result<Readings<S::Read>, AllocError>
         requires part { CanTakeIn (Keeps self.old) self.old tuple.now group.now }
         ensures kept { OnOk result (TakesIn (Keeps self.old) (Keeps self.new) self.old tuple.now group.now) }
         ensures keys { self.new.keys ≡ self.old.keys }
         ensures columns { self.new.columns ≡ self.old.columns }
         ensures others { OnOk result (StayBut (λ t. is_at (tuple_cmp tuple.now) t) self.old self.new) }
+        ensures before { IfOk result (λ readings.
+            readings.before ≡ read_at (S.reads reader.now) outputs.now self.old tuple.now) }
+        ensures after { IfOk result (λ readings.
+            readings.after ≡ read_at (S.reads reader.now) outputs.now self.new tuple.now) }
     {
-        put_group(
+        Ok(put_group(
             &mut self.groups,
             self.alloc,
             self.columns.as_slice(),
             tuple,
             group,
-        )?;
-        Ok(())
+            outputs,
+            reader,
+        )?)
     }
 
-    /// The rows of a group go, all at once: they have this tuple.
-    pub fn give_up(&mut self, tuple: &Tuple, group: &Group)
+    /// The rows of a group go, all at once: they have this tuple. Gives what is read of the group of the tuple before
+    /// and after that. The rows go also where that can't be read.
+    pub fn give_up<S: GroupReader>(
+        &mut self,
+        tuple: &Tuple,
+        group: &Group,
+        outputs: &[GroupOutput],
+        reader: &S,
+    ) -> Result<Readings<S::Read>, AllocError>
         requires part { CanGiveUp (Keeps self.old) self.old tuple.now group.now }
         ensures kept { GivesUp (Keeps self.old) (Keeps self.new) self.old tuple.now group.now }
         ensures keys { self.new.keys ≡ self.old.keys }
         ensures columns { self.new.columns ≡ self.old.columns }
         ensures others { StayBut (λ t. is_at (tuple_cmp tuple.now) t) self.old self.new }
+        ensures before { IfOk result (λ readings.
+            readings.before ≡ read_at (S.reads reader.now) outputs.now self.old tuple.now) }
+        ensures after { IfOk result (λ readings.
+            readings.after ≡ read_at (S.reads reader.now) outputs.now self.new tuple.now) }
     {
-        take_group(&mut self.groups, tuple, group);
+        take_group(
+            &mut self.groups,
+            self.alloc,
+            self.columns.as_slice(),
+            tuple,
+            group,
+            outputs,
+            reader,
+        )
     }
 }
 
@@ -604,38 +682,54 @@ fn in_order(alloc: Global, tuples: BTreeSet<Tuple>) -> Result<Vec<Tuple>, AllocE
     Ok(listed)
 }
 
-/// Adds a row to the group of its tuple.
-fn put_row<R: RowView>(
+/// Adds a row to the group of its tuple. Gives what is read of the group before and after that.
+fn put_row<R: RowView, S: GroupReader>(
     groups: &mut BTreeMap<Tuple, Group>,
     alloc: Global,
     columns: &[KeptColumn],
     tuple: &Tuple,
     row: &R,
-) -> Result<(), AllocError>
+    outputs: &[GroupOutput],
+    reader: &S,
+) -> Result<Readings<S::Read>, AllocError>
     requires { (rows : List (List Datum)) × (KeepsUnder columns.now groups.old.entries tuple.now rows
         × (length rows < max_appended_rows)) }
     ensures here { OnOk result ((rows : List (List Datum)) → KeepsUnder columns.now groups.old.entries tuple.now rows
         → KeepsUnder columns.now groups.new.entries tuple.now (R.cells row.now ∷ rows)) }
     ensures others { OnOk result ((t : List Key) → is_at (tuple_cmp tuple.now) t ≡ false → group_at groups.new.entries t
         ≡ group_at groups.old.entries t) }
+    ensures before { IfOk result (λ readings. readings.before
+        ≡ read_under (S.reads reader.now) columns.now outputs.now groups.old.entries tuple.now) }
+    ensures after { IfOk result (λ readings. readings.after
+        ≡ read_under (S.reads reader.now) columns.now outputs.now groups.new.entries tuple.now) }
 {
     if let Some(group) = groups.get_mut(tuple) {
-        return group.add(alloc, columns, row);
+        let before = reader.read(alloc, &GroupRow::new(outputs, columns, tuple, group))?;
+        group.add(alloc, columns, row)?;
+        let after = reader.read(alloc, &GroupRow::new(outputs, columns, tuple, group))?;
+        return Ok(Readings { before, after });
     }
     let mut group = Group::new(alloc, columns)?;
     group.add(alloc, columns, row)?;
+    let after = reader.read(alloc, &GroupRow::new(outputs, columns, tuple, &group))?;
     groups.insert(tuple.copy(alloc)?, group)?;
-    Ok(())
+    Ok(Readings {
+        before: None,
+        after,
+    })
 }
 
-/// Removes a row from the group of its tuple, and the group with its last row.
-fn take_row<R: RowView>(
+/// Removes a row from the group of its tuple, and the group with its last row. Gives what is read of the group before
+/// and after that.
+fn take_row<R: RowView, S: GroupReader>(
     groups: &mut BTreeMap<Tuple, Group>,
     alloc: Global,
     columns: &[KeptColumn],
     tuple: &Tuple,
     row: &R,
-) -> Result<(), AllocError>
+    outputs: &[GroupOutput],
+    reader: &S,
+) -> Result<Readings<S::Read>, AllocError>
     requires { (rows : List (List Datum)) × KeepsUnder columns.now groups.old.entries tuple.now
         (R.cells row.now ∷ rows) }
     ensures here { OnOk result ((rows : List (List Datum))
@@ -643,52 +737,105 @@ fn take_row<R: RowView>(
         → KeepsUnder columns.now groups.new.entries tuple.now rows) }
     ensures others { OnOk result ((t : List Key) → is_at (tuple_cmp tuple.now) t ≡ false → group_at groups.new.entries t
         ≡ group_at groups.old.entries t) }
+    ensures before { IfOk result (λ readings. readings.before
+        ≡ read_under (S.reads reader.now) columns.now outputs.now groups.old.entries tuple.now) }
+    ensures after { IfOk result (λ readings. readings.after
+        ≡ read_under (S.reads reader.now) columns.now outputs.now groups.new.entries tuple.now) }
 {
-    if let Some(group) = groups.get_mut(tuple) {
-        if group.rows() > 1 {
-            return group.remove(alloc, columns, row);
-        }
+    let Some(group) = groups.get_mut(tuple) else {
+        return Ok(Readings {
+            before: None,
+            after: None,
+        });
+    };
+    let before = reader.read(alloc, &GroupRow::new(outputs, columns, tuple, group))?;
+    if group.rows() > 1 {
+        group.remove(alloc, columns, row)?;
+        let after = reader.read(alloc, &GroupRow::new(outputs, columns, tuple, group))?;
+        return Ok(Readings { before, after });
     }
     drop(groups.remove(tuple));
-    Ok(())
+    Ok(Readings {
+        before,
+        after: None,
+    })
 }
 
-/// Adds the rows of a group to the group of their tuple.
-fn put_group(
+/// Adds the rows of a group to the group of their tuple. Gives what is read of that group before and after that.
+fn put_group<S: GroupReader>(
     groups: &mut BTreeMap<Tuple, Group>,
     alloc: Global,
     columns: &[KeptColumn],
     tuple: &Tuple,
     group: &Group,
-) -> Result<(), AllocError>
+    outputs: &[GroupOutput],
+    reader: &S,
+) -> Result<Readings<S::Read>, AllocError>
     requires { CanAddAt columns.now (group_at groups.old.entries tuple.now) group.now }
     ensures here { OnOk result (AddsAt columns.now (group_at groups.old.entries tuple.now) group.now
         (group_at groups.new.entries tuple.now)) }
     ensures others { OnOk result ((t : List Key) → is_at (tuple_cmp tuple.now) t ≡ false → group_at groups.new.entries t
         ≡ group_at groups.old.entries t) }
+    ensures before { IfOk result (λ readings. readings.before
+        ≡ read_under (S.reads reader.now) columns.now outputs.now groups.old.entries tuple.now) }
+    ensures after { IfOk result (λ readings. readings.after
+        ≡ read_under (S.reads reader.now) columns.now outputs.now groups.new.entries tuple.now) }
 {
     if let Some(kept) = groups.get_mut(tuple) {
-        return kept.take_in(alloc, group);
+        let before = reader.read(alloc, &GroupRow::new(outputs, columns, tuple, kept))?;
+        kept.take_in(alloc, group)?;
+        let after = reader.read(alloc, &GroupRow::new(outputs, columns, tuple, kept))?;
+        return Ok(Readings { before, after });
     }
     let mut kept = Group::new(alloc, columns)?;
     kept.take_in(alloc, group)?;
+    let after = reader.read(alloc, &GroupRow::new(outputs, columns, tuple, &kept))?;
     groups.insert(tuple.copy(alloc)?, kept)?;
-    Ok(())
+    Ok(Readings {
+        before: None,
+        after,
+    })
 }
 
-/// Removes the rows of a group from the group of their tuple, and that group with its last row.
+/// Removes the rows of a group from the group of their tuple, and that group with its last row. Gives what is read of
+/// that group before and after that.
 #[tactic(auto, using(crate::proofs::Moves::none_left))]
-fn take_group(groups: &mut BTreeMap<Tuple, Group>, tuple: &Tuple, group: &Group)
+fn take_group<S: GroupReader>(
+    groups: &mut BTreeMap<Tuple, Group>,
+    alloc: Global,
+    columns: &[KeptColumn],
+    tuple: &Tuple,
+    group: &Group,
+    outputs: &[GroupOutput],
+    reader: &S,
+) -> Result<Readings<S::Read>, AllocError>
     requires { CanRemoveAt (group_at groups.old.entries tuple.now) group.now }
     ensures here { RemovesAt (group_at groups.old.entries tuple.now) group.now (group_at groups.new.entries tuple.now) }
     ensures others { (t : List Key) → is_at (tuple_cmp tuple.now) t ≡ false → group_at groups.new.entries t
         ≡ group_at groups.old.entries t }
+    ensures before { IfOk result (λ readings. readings.before
+        ≡ read_under (S.reads reader.now) columns.now outputs.now groups.old.entries tuple.now) }
+    ensures after { IfOk result (λ readings. readings.after
+        ≡ read_under (S.reads reader.now) columns.now outputs.now groups.new.entries tuple.now) }
 {
-    if let Some(kept) = groups.get_mut(tuple) {
-        if kept.rows() > group.rows() {
-            kept.give_up(group);
-            return;
-        }
+    let Some(kept) = groups.get_mut(tuple) else {
+        return Ok(Readings {
+            before: None,
+            after: None,
+        });
+    };
+    let before = reader.read(alloc, &GroupRow::new(outputs, columns, tuple, kept));
+    if kept.rows() > group.rows() {
+        kept.give_up(group);
+        let after = reader.read(alloc, &GroupRow::new(outputs, columns, tuple, kept))?;
+        return Ok(Readings {
+            before: before?,
+            after,
+        });
     }
     drop(groups.remove(tuple));
+    Ok(Readings {
+        before: before?,
+        after: None,
+    })
 }

@@ -11,6 +11,7 @@ mod aggregates;
 mod cells;
 mod few_values;
 mod group;
+mod group_reader;
 mod group_row;
 mod groups;
 mod kept_columns;
@@ -27,6 +28,7 @@ mod total;
 mod tuple;
 
 pub use group::Group;
+pub use group_reader::{GroupReader, NoReader, Readings};
 pub use group_row::GroupRow;
 pub use groups::Groups;
 pub use kept_columns::{KeptColumn, KeptForm};

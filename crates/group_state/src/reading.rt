@@ -27,7 +27,7 @@ pub(crate) fn read_row(
 ) -> Result<Row, AllocError>
     ensures { IfOk result (λ cells. cells.items ≡ seen_row columns.now outputs.now (tuple.now, group.now)) }
 {
-    let mut cells = Vec::new(alloc);
+    let mut cells = Vec::with_capacity(alloc, outputs.len())?;
     for output in outputs {
         cells.push(read_cell(alloc, output.aggregate, tuple, group, columns)?)?;
     }

@@ -6,7 +6,7 @@ ghost use Rattle.group_state.specs.Groups.{Keeps};
 ghost use Rattle.group_state.specs.KeptColumns.{counted, valued};
 ghost use Rattle.group_state.specs.Sample.{cell_of, row_of, sample_change};
 
-use crate::{Groups, KeptColumn};
+use crate::{Groups, KeptColumn, NoReader};
 use std::alloc::{AllocError, Global};
 use std::cmp::Ordering;
 use std::test::Fail;
@@ -181,7 +181,7 @@ fn groups_with_more(alloc: Global, row: &[Value], other: &[Value]) -> Result<Gro
     let mut groups = one_group(alloc, row)?;
     let tuple = ones.tuple_of(&other)?;
     if let Some(group) = ones.group(&tuple) {
-        groups.take_in(&tuple, group)?;
+        groups.take_in(&tuple, group, &[], &NoReader)?;
     }
     Ok(groups)
 }
@@ -207,7 +207,7 @@ fn groups_with_less(alloc: Global, row: &[Value], other: &[Value]) -> Result<Gro
     groups.come(&other)?;
     let tuple = ones.tuple_of(&other)?;
     if let Some(group) = ones.group(&tuple) {
-        groups.give_up(&tuple, group);
+        groups.give_up(&tuple, group, &[], &NoReader)?;
     }
     Ok(groups)
 }

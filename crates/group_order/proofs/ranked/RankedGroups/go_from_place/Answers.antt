@@ -1,16 +1,13 @@
-use Rattle.std.proofs.Common.{◌≡◌, sym, subst, List}
+use Rattle.std.proofs.Common.{sym, subst, List}
 use Rattle.std.specs.Prelude.{None}
 use Rattle.std.specs.Map.{values_of}
-use Rattle.std.specs.Option.{option_map}
 use Rattle.values.specs.Datum.{Datum}
 use Rattle.values.specs.declared.key.Key.{Key}
 use Rattle.view_lang.specs.Shifts.{with_at}
 use Rattle.group_state.specs.Grouped.{Grouped}
 use Rattle.group_state.specs.Groups.{Keeps as KeepsGroups}
-use Rattle.group_state.specs.Keys.{tuple_cmp}
-use Rattle.top_rows.specs.Ties.{place_by}
-use Rattle.group_order.specs.Ranked.{IsRanked, Ranked, named, placed_at}
-use Rattle.group_order.proofs.OrderedGroups.{ranked-one}
+use Rattle.group_order.specs.Ranked.{IsRanked, Ranked, named}
+use Rattle.group_order.proofs.OrderedGroups.{ranked-one, read-placed}
 use Rattle.group_order.proofs.ranked.RankedGroups.go_from_place.Goals as goal
 
 pub returns-clause-kept : goal.returns-clause-kept
@@ -23,18 +20,18 @@ returns-clause-kept g c = λ rows n s is k.
       ranking = c.self.inside.ranking;
       places = c.self.inside.places.keys;
     } in
+    let before = c.in_ok-keys.keys.before in
+    let after = c.in_ok-keys.keys.after in
     record {
       groups_are =
           subst (λ (x : Grouped). KeepsGroups x (values_of (with_at n None rows))) (sym c.replace.ensures.groups)
-          (c.in_ok-go_from.ensures.kept rows n s is
+          (c.in_ok-keys.ensures.kept rows n s is
           (subst (λ (r : Ranked). KeepsGroups r.groups (values_of rows)) (sym c.self.view_is) k.groups_are));
       ranked =
-          ranked-one was c.replace.new.self was.groups.keys cells t next
-          (named t c.in_ok-before.before) (named t c.in_ok-after.after)
-          c.in_ok-tuple.ensures c.in_ok-go_from.ensures.others c.go_from.ensures.columns c.replace.ensures.groups
+          ranked-one was c.replace.new.self was.groups.keys cells t next (named t before) (named t after)
+          c.in_ok-tuple.ensures c.in_ok-keys.ensures.others c.go_from.ensures.columns c.replace.ensures.groups
           c.replace.ensures.ranking
-          (subst (λ (r : Ranked). named t c.in_ok-before.before
-          ≡ option_map (place_by tuple_cmp r.ranking.order t) (placed_at r.ranking r.groups t)) (sym c.self.view_is)
-          c.in_ok-before.ensures)
-          c.in_ok-after.ensures c.in_ok-replace.ensures.places (subst IsRanked (sym c.self.view_is) k.ranked);
+          (read-placed was.ranking was.groups t before (rw c.outputs.ensures at c.in_ok-keys.ensures.before))
+          (read-placed was.ranking next t after (rw c.outputs.ensures at c.in_ok-keys.ensures.after))
+          c.in_ok-replace.ensures.places (subst IsRanked (sym c.self.view_is) k.ranked);
     }

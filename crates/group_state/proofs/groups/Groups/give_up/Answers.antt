@@ -6,7 +6,7 @@ use Rattle.group_state.proofs.Moves.{keeps-out, take-needs}
 use Rattle.group_state.proofs.groups.Groups.give_up.Goals as goal
 
 pub take_group-requires : goal.take_group-requires
-take_group-requires c =
+take_group-requires g c =
     let need = c.requires.part in
     let part = subst (λ (s : Grouped). IsPartOf s.keys s.columns c.args.tuple.now c.args.group.now need.0 need.1 need.2)
     (sym c.self.view_is) need.3.1 in
@@ -17,7 +17,7 @@ take_group-requires c =
     (c.self.inside.columns.items, found.0, found.1, found.2)
 
 pub returns-clause-kept : goal.returns-clause-kept
-returns-clause-kept c = λ all moved others part k.
+returns-clause-kept g c = λ all moved others part k.
     let own = subst (λ (s : Grouped). IsPartOf s.keys s.columns c.args.tuple.now c.args.group.now all moved others)
     (sym c.self.view_is) part in
     let held = subst (λ (s : Grouped). Keeps s all) (sym c.self.view_is) k in

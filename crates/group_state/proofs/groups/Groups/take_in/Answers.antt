@@ -6,7 +6,7 @@ use Rattle.group_state.proofs.Moves.{keeps-in, put-needs}
 use Rattle.group_state.proofs.groups.Groups.take_in.Goals as goal
 
 pub put_group-requires : goal.put_group-requires
-put_group-requires c =
+put_group-requires g c =
     let need = c.requires.part in
     let part = subst (λ (s : Grouped). IsPartOf s.keys s.columns c.args.tuple.now c.args.group.now need.0 need.1 need.2)
     (sym c.self.view_is) need.3.1.0 in
@@ -16,7 +16,7 @@ put_group-requires c =
     c.self.inside.groups.entries c.args.tuple.now c.args.group.now need.0 need.1 need.2 part k need.3.1.1)
 
 pub returns-clause-kept : goal.returns-clause-kept
-returns-clause-kept c = λ all moved others part k.
+returns-clause-kept g c = λ all moved others part k.
     let own = subst (λ (s : Grouped). IsPartOf s.keys s.columns c.args.tuple.now c.args.group.now all moved others)
     (sym c.self.view_is) part in
     let held = subst (λ (s : Grouped). Keeps s others) (sym c.self.view_is) k in
