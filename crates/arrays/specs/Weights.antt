@@ -55,11 +55,14 @@ abbrev pub encoded_weight : Layout → Reading Datum → ℕ
 encoded_weight l (Ok d) = weight (node l none) d
 encoded_weight l (Err fs) = slot (node l none)
 
+-- the value of a dictionary for which slot i of an array of indices stands
+abbrev pub indexed_weight : DictionaryValues → List ℕ → ArrayData → ℕ → ℕ
+indexed_weight w body p i = encoded_weight w.layout (coded_by p.layout w.values (bytes_of body p.values) i)
+
 -- a valid slot
 abbrev pub slot_weight : Option DictionaryValues → List ℕ → ArrayData → ℕ → (ℕ → ℕ) → (ℕ → ℕ) → ℕ → ℕ
 slot_weight None body p bare here beside i = weight_by p.layout body p bare here beside i
-slot_weight (Some w) body p bare here beside i =
-    encoded_weight w.layout (coded_by p.layout w.values (bytes_of body p.values) i)
+slot_weight (Some w) body p bare here beside i = indexed_weight w body p i
 
 unfoldable pub weight_in : List ℕ → ArrayData → ℕ → (ℕ → ℕ) → (ℕ → ℕ) → ℕ → ℕ
 weight_in body p bare here beside i =

@@ -11,12 +11,12 @@ ghost use Rattle.values.specs.Layouts.{offset_bytes, slot, slots, weight};
 ghost use Rattle.array_layout.specs.Placing.{bytes_of, layout_of, layouts_of};
 ghost use Rattle.array_layout.specs.Sound.{LiesIn, IsSound, AreSound, AreLong};
 ghost use Rattle.array_layout.specs.Buffers.{offset_at};
-ghost use Rattle.array_layout.specs.Cells.{coded_by, len_of};
+ghost use Rattle.array_layout.specs.Cells.{len_of};
 ghost use Rattle.arrays.specs.Encoded.{HasIndex};
 ghost use Rattle.arrays.specs.Bounds.{IsBound};
 ghost use Rattle.arrays.specs.Weights.{
-  encoded_weight,
   extent,
+  indexed_weight,
   list_weight,
   value_weight,
   weight_at,
@@ -85,8 +85,7 @@ fn heaviest_slot(body: &[u8], own: &ArrayData, dictionary: &DictionaryValues) ->
     requires lies { LiesIn body.now own.now.values }
     requires room { (i : ℕ) → i < own.now.len → HasIndex own.now.layout own.now i }
     ensures value { IsBound result (slot (node dictionary.now.layout none)) own.now.len
-        (λ i. encoded_weight dictionary.now.layout
-        (coded_by own.now.layout dictionary.now.values (bytes_of body.now own.now.values) i)) }
+        (indexed_weight dictionary.now body.now own.now) }
     ensures bound { result ≤ max_cell_weight + 1 }
 {
     let mut most = cap(dictionary.layout.own_slot());
@@ -102,8 +101,7 @@ fn encoded_bound(body: &[u8], own: &ArrayData, dictionary: &DictionaryValues) ->
     requires lies { LiesIn body.now own.now.values }
     requires room { (i : ℕ) → i < own.now.len → HasIndex own.now.layout own.now i }
     ensures value { IsBound result (slot (node dictionary.now.layout none)) own.now.len
-        (λ i. encoded_weight dictionary.now.layout
-        (coded_by own.now.layout dictionary.now.values (bytes_of body.now own.now.values) i)) }
+        (indexed_weight dictionary.now body.now own.now) }
     ensures bound { result ≤ max_cell_weight + 1 }
 {
     if is_fixed(dictionary.layout) {

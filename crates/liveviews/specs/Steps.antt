@@ -43,6 +43,10 @@ abbrev pub AreTakenSo : Option (List (Rose Entry)) → List (List Datum) → Typ
 AreTakenSo None rows = rows ≡ []
 AreTakenSo (Some fields) rows = AreTaken (layouts_of fields) rows
 
+-- all rows of a stream were taken
+abbrev pub IsTaken : Story → Type 0
+IsTaken s = AreTakenSo s.schema s.rows
+
 -- Pieces may be pushed to the feed.
 abbrev pub IsOpen : FeedParts → Type 0
 IsOpen f = (t : FeedState) × Shows f t × (is_broken t.condition ≡ false)

@@ -121,6 +121,12 @@ abbrev pub OfEachStreamed : Sunk → FeedParts → Streaming → List ℕ → (S
 OfEachStreamed now f r piece holds =
     (start : Sunk) (s : Story) (later : List ℕ) → HasStreamed start now s f r (piece ++ later) → holds start s later
 
+-- Of a piece these last bytes are left, and each such stream is taken and written up to them.
+abbrev pub StreamsOn : Sunk → Sunk → FeedParts → Streaming → List ℕ → List ℕ → FeedParts → Streaming → Type 0
+StreamsOn old new feed streaming piece left feed-after streaming-after =
+    OfEachStreamed old feed streaming piece
+    (λ start s later. HasStreamed start new s feed-after streaming-after (left ++ later))
+
 -- a source that can't be read further, after so many bytes were put
 abbrev pub unread_after : ℕ → FileFault → SourceFault
 unread_after written file.Unusable = source.Unreadable

@@ -1,6 +1,7 @@
 //! Parses the message at the front of some bytes: Arrow Columnar Format, "Encapsulated message format".
 
-ghost use Rattle.std.specs.Prelude.{◌≡◌, ◌≤◌, ◌+◌, ◌++◌, Ok, None, Some, drop, length, slice_range, IfErr, IfOk, IfSome};
+ghost use Rattle.std.specs.Prelude.{◌≡◌, ◌≤◌, ◌+◌, ◌++◌, Ok, None, Some, drop, length, slice_range};
+ghost use Rattle.std.specs.Prelude.{IfErr, IfOk, IfSome};
 ghost use Rattle.byteorder.specs.Endian.{little_number};
 ghost use Rattle.values.specs.Limits.{max_metadata_size};
 ghost use Rattle.values.specs.Reading.{Answers, Fails, Yields};

@@ -52,7 +52,8 @@ impl Model for Framer {
       prepared = promised (known_of f.state) f.bytes.items f.len f.pending;
     } };
 
-    ghost invariant = { λ f. IsFramer (known_of f.state) (spare f.state.counts) f.bytes.items f.len f.wanted f.pending };
+    ghost invariant = { λ f.
+        IsFramer (known_of f.state) (spare f.state.counts) f.bytes.items f.len f.wanted f.pending };
 }
 
 impl Framer {

@@ -55,3 +55,7 @@ abbrev mutual
   members quote (more f fs) no_items = []
   members quote (more f fs) (item d ds) =
       (json_string quote (entry f).name ++ (codes ":" ++ json quote f d)) ∷ members quote fs ds
+
+-- the object of a struct with these fields
+abbrev pub json_object : List ℕ → Roses Entry → Items → List ℕ
+json_object quote fields es = codes "{" ++ (joined (codes ",") (members quote fields es) ++ codes "}")

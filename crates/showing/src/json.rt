@@ -9,7 +9,15 @@ ghost use Rattle.values.specs.Datum.{items_of};
 ghost use Rattle.values.specs.Rose.{kids_of, more, none};
 ghost use Rattle.showing.specs.Digits.{hex_text};
 ghost use Rattle.showing.specs.Joined.{joined};
-ghost use Rattle.showing.specs.Json.{four_digits, items_of_first, json, json_char, json_number, json_string, members};
+ghost use Rattle.showing.specs.Json.{
+  four_digits,
+  items_of_first,
+  json,
+  json_char,
+  json_number,
+  json_object,
+  json_string,
+};
 ghost use Rattle.showing.specs.Shown.{AreItems, AreMembers, IsReadable, items_in, row_items, seen};
 
 use crate::cell::{Cell, Items, array_cell, value_cell};
@@ -177,8 +185,7 @@ fn write_struct<W: Write>(
 ) -> io::Result<()>
     requires { AreMembers body.now (kids_of arrays.now) at }
     ensures { OnOk result (Appends (W.contents out.old) (W.contents out.new)
-        (codes "{" ++ (joined (codes ",") (members quote.now (kids_of fields.now)
-        (row_items body.now (kids_of arrays.now) at)) ++ codes "}"))) }
+        (json_object quote.now (kids_of fields.now) (row_items body.now (kids_of arrays.now) at))) }
 {
     out.write_all(b"{")?;
     let mut arrays = arrays;
@@ -246,8 +253,7 @@ fn write_held_struct<W: Write>(
     cells: &[Value],
 ) -> io::Result<()>
     ensures { OnOk result (Appends (W.contents out.old) (W.contents out.new)
-        (codes "{" ++ (joined (codes ",") (members quote.now (kids_of fields.now)
-        (items_of cells.now)) ++ codes "}"))) }
+        (json_object quote.now (kids_of fields.now) (items_of cells.now))) }
 {
     out.write_all(b"{")?;
     let mut cells = cells;

@@ -48,7 +48,8 @@ use Rattle.body_writer.specs.declared.from_places.place.PlacedRows.{PlacedRows}
 use Rattle.body_writer.specs.declared.from_places.place.RowPlace.{RowPlace}
 use Rattle.body_writer.specs.declared.from_places.plain.BatchArrays.{BatchArrays}
 use Rattle.body_writer.proofs.Cells.{part-listed}
-use Rattle.stream_writer.specs.JoinedRows.{AreArrays, HaveAlone, HaveJoined, IsFirst, IsPart, IsRest, beside, half, joined_rows, place_of}
+use Rattle.body_writer.specs.Picked.{beside}
+use Rattle.stream_writer.specs.JoinedRows.{AreArrays, HaveAlone, HaveJoined, IsFirst, IsPart, IsRest, half, joined_rows, place_of}
 use Rattle.stream_writer.specs.declared.joined_rows.JoinedRows.{JoinedRows}
 
 -- the table in which a column stands

@@ -1,12 +1,12 @@
 -- Rows that lie in batches of checked columns, and what is known of their weights.
-use Rattle.std.specs.Prelude.{◌≡◌, ◌⊎◌, ℕ, ◌+◌, ◌^◌, ◌<◌, ◌≤◌, All, List, [], ◌∷◌, length, drop, ⊤}
+use Rattle.std.specs.Prelude.{◌≡◌, ◌⊎◌, ℕ, ◌+◌, ◌^◌, ◌<◌, ◌≤◌, All, List, [], ◌∷◌, ◌++◌, length, drop, ⊤}
 use Rattle.values.specs.Datum.{Datum}
 use Rattle.values.specs.Rose.{Rose, Roses, kids_of}
 use Rattle.values.specs.declared.layout.Layout.{Layout}
 use Rattle.body_writer.specs.Batch.{row_weight}
-use Rattle.body_writer.specs.RowRanges.{IsSized, rows_of}
+use Rattle.body_writer.specs.RowRanges.{IsSized, batch_rows, rows_of}
 use Rattle.body_writer.specs.declared.from_columns.batch.Batch.{Batch}
-use Rattle.stream_writer.specs.Weights.{weights_of}
+use Rattle.stream_writer.specs.Weights.{WeighsAs, weights_of}
 use Rattle.stream_writer.specs.declared.batch_rows.BatchRows.{BatchRows}
 
 -- the greatest weight of a row of which 1,024 are within the limit of a batch, 2^27
@@ -19,6 +19,15 @@ AreLightRows ls rows = All (λ (row : List Datum). row_weight ls row ≤ max_lig
 -- No weight is given, and all rows are so light that each batch that is written has its 1,024 rows; or each row's is.
 abbrev pub AreWeighed : Roses Layout → List ℕ → List (List Datum) → Type 0
 AreWeighed ls weights rows = ((weights ≡ []) × AreLightRows ls rows) ⊎ (weights ≡ weights_of ls rows)
+
+-- Where these are the weights of the rows from row `from` on, those are the weights of them and of the batch's rows, of
+-- which none is above `heaviest`.
+abbrev pub AreWeighedToo : List Batch → ℕ → Batch → ℕ → List ℕ → List ℕ → Type 0
+AreWeighedToo before from batch heaviest weights more =
+    (ls : Roses Layout) → All (WeighsAs ls) before → WeighsAs ls batch
+    → All (λ (row : List Datum). row_weight ls row ≤ heaviest) (batch_rows batch)
+    → AreWeighed ls weights (drop from (rows_of before))
+    → AreWeighed ls more (drop from (rows_of before) ++ batch_rows batch)
 
 -- the batch has a row
 abbrev pub HasRows : Batch → Type 0

@@ -1,17 +1,12 @@
 -- Rows of a main table with rows of a side table beside them.
-use Rattle.std.specs.Prelude.{◌≡◌, ℕ, ◌+◌, ◌-◌, ◌<◌, nat_lt, if◌then◌else◌, All, List, [], ◌∷◌, ◌++◌, drop, length, take}
+use Rattle.std.specs.Prelude.{◌≡◌, ℕ, ◌+◌, ◌-◌, ◌<◌, nat_lt, if◌then◌else◌, All, List, [], ◌∷◌, drop, length, take}
 use Rattle.values.specs.Datum.{Datum}
+use Rattle.body_writer.specs.Picked.{beside}
 use Rattle.body_writer.specs.Places.{AreFound, ArePlaced, IsRowAt, rows_at}
 use Rattle.body_writer.specs.declared.from_places.place.PlacedRows.{PlacedRows}
 use Rattle.body_writer.specs.declared.from_places.place.RowPlace.{RowPlace}
 use Rattle.body_writer.specs.declared.from_places.plain.BatchArrays.{BatchArrays}
 use Rattle.stream_writer.specs.declared.joined_rows.JoinedRows.{JoinedRows}
-
--- each of the first rows, followed by the cells of the second one beside it
-abbrev pub beside : List (List Datum) → List (List Datum) → List (List Datum)
-beside [] ss = []
-beside (m ∷ ms) [] = []
-beside (m ∷ ms) (s ∷ ss) = (m ++ s) ∷ beside ms ss
 
 abbrev pub joined_rows : JoinedRows → List (List Datum)
 joined_rows r = beside (rows_at r.main) (rows_at r.side)

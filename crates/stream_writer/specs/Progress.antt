@@ -1,6 +1,6 @@
 -- How far a table is written whose later rows are not known yet: what is out is the beginning that its stream has
 -- whatever rows come.
-use Rattle.std.specs.Prelude.{◌≡◌, ℕ, ◌+◌, ◌-◌, ◌*◌, ◌^◌, ◌≤◌, All, List, ◌++◌, drop, length, Err}
+use Rattle.std.specs.Prelude.{◌≡◌, ℕ, ◌+◌, ◌-◌, ◌*◌, ◌^◌, ◌≤◌, All, List, [], ◌++◌, drop, length, Result, Err, MatchResult}
 use Rattle.values.specs.Limits.{max_main_rows}
 use Rattle.values.specs.Datum.{Datum}
 use Rattle.values.specs.Layouts.{AreLayouts}
@@ -13,6 +13,7 @@ use Rattle.stream_writer.specs.Stream.{batches, coded_canon, end_mark, trees}
 use Rattle.stream_writer.specs.Table.{IsRow}
 use Rattle.stream_writer.specs.WrittenSoFar.{WrittenSoFar}
 use Rattle.stream_writer.specs.declared.faults.WriteFault.{WriteFault}
+use Rattle.stream_writer.specs.declared.progress.Progress.{Progress}
 
 -- The first `written` bytes are out of the canonical stream of each table that begins with these rows; its batches of
 -- the held rows and of those after them, and the end mark, are left.
@@ -42,3 +43,31 @@ pub record IsHeld (fs : List (Rose NamedType)) (ls : List (Rose Layout)) (rows h
 -- the last n rows
 abbrev pub last_rows : ℕ → List (List Datum) → List (List Datum)
 last_rows n rows = drop (length rows - n) rows
+
+-- the Schema message of a table of which no row came yet is put, or the writer stops in it
+abbrev pub PutsSchema : Sunk → Sunk → List (Rose NamedType) → List ℕ → Result ℕ WriteFault → Type 0
+PutsSchema old new fs coded result =
+    MatchResult result (λ n. HasPut old new n fs coded [] []) (λ fault. StopsIn old new fault fs coded [])
+
+-- the last of the held rows, so many of them, are held after the bytes that are out then
+abbrev pub StayHeld : List (Rose Layout) → List (List Datum) → ℕ → Progress → Type 0
+StayHeld ls held written p =
+    (fs : List (Rose NamedType)) (rows : List (List Datum)) → IsHeld fs ls rows held written
+    → IsHeld fs ls rows (last_rows p.left held) p.written
+
+-- batches of the first of the held rows are put, or the writer stops in one of them
+abbrev pub PutsFirst : Sunk → Sunk → List (Rose Layout) → List ℕ → List (List Datum) → ℕ
+    → Result Progress WriteFault → Type 0
+PutsFirst old new ls coded held written result =
+    (start : Sunk) (fs : List (Rose NamedType)) (rows : List (List Datum)) → IsHeld fs ls rows held written
+    → HasPut start old written fs coded rows held
+    → MatchResult result (λ p. HasPut start new p.written fs coded rows (last_rows p.left held))
+    (λ fault. StopsIn start new fault fs coded rows)
+
+-- the batches of all held rows and the end mark are put, or the writer stops among them
+abbrev pub PutsRest : Sunk → Sunk → List (Rose Layout) → List ℕ → List (List Datum) → ℕ → Result ℕ WriteFault → Type 0
+PutsRest old new ls coded held written result =
+    (start : Sunk) (fs : List (Rose NamedType)) (rows : List (List Datum)) (whole : List ℕ)
+    → IsHeld fs ls rows held written
+    → WrittenSoFar start old written whole (batches coded (trees fs) (length held) held ++ end_mark)
+    → Writes start new result whole

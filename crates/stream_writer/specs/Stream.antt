@@ -13,13 +13,23 @@ use Rattle.values.specs.declared.layout.Layout.{Layout}
 use Rattle.values.specs.Logical.{NamedType, trees_of}
 use Rattle.schema_meta.specs.SchemaTree.{schema_metadata}
 use Rattle.body_writer.specs.Batch.{body_bytes, row_weight}
-use Rattle.stream_writer.specs.Batch.{batch_metadata}
+use Rattle.body_writer.specs.declared.body.Body.{Body}
+use Rattle.stream_writer.specs.Batch.{batch_metadata, batch_whole}
 use Rattle.stream_writer.specs.Coding.{indexed_layouts, indexed_rows, values_at}
-use Rattle.stream_writer.specs.DictionaryBatch.{dictionary_metadata, values_body}
+use Rattle.stream_writer.specs.DictionaryBatch.{dictionary_metadata, dictionary_whole, values_body}
 
 -- "Encapsulated message format": the continuation, the metadata's size, the metadata, the body
 abbrev pub message : List ℕ → List ℕ → List ℕ
 message metadata body = (255 ∷ 255 ∷ 255 ∷ 255 ∷ []) ++ (little_bytes 4 (length metadata) ++ (metadata ++ body))
+
+-- the messages with this body: of a batch of so many rows, and of a dictionary of so many values
+abbrev pub batch_with : ℕ → Body → List ℕ
+batch_with rows b =
+    message (batch_whole rows b.nodes.items b.ranges.items (length b.bytes.items)) b.bytes.items
+
+abbrev pub dictionary_with : ℕ → ℕ → Body → List ℕ
+dictionary_with id count b =
+    message (dictionary_whole id count b.nodes.items b.ranges.items (length b.bytes.items)) b.bytes.items
 
 -- the continuation mark, and a metadata size of 0
 abbrev pub end_mark : List ℕ

@@ -1,5 +1,5 @@
 -- A writer of a table whose rows come batch by batch.
-use Rattle.std.specs.Prelude.{◌≡◌, ℕ, ◌+◌, ◌<◌, ◌≤◌, All, List, [], length, drop}
+use Rattle.std.specs.Prelude.{◌≡◌, ℕ, ◌+◌, ◌^◌, ◌<◌, ◌≤◌, All, List, [], ◌++◌, length, drop}
 use Rattle.values.specs.Limits.{max_batch_rows, max_main_rows}
 use Rattle.values.specs.Datum.{Datum}
 use Rattle.values.specs.Rose.{Rose, kids_of}
@@ -9,11 +9,12 @@ use Rattle.body_writer.specs.Batch.{row_weight}
 use Rattle.body_writer.specs.declared.from_columns.batch.Batch.{Batch}
 use Rattle.body_writer.specs.RowRanges.{IsSized, batch_rows, rows_of}
 use Rattle.stream_writer.specs.BatchRows.{AreWeighed, HasRows, IsInFirst}
-use Rattle.stream_writer.specs.Progress.{HasPut, IsHeld}
+use Rattle.stream_writer.specs.Progress.{HasPut, IsHeld, StopsIn}
 use Rattle.stream_writer.specs.Sinks.{Sunk}
 use Rattle.stream_writer.specs.Stream.{trees}
 use Rattle.stream_writer.specs.Table.{IsRow}
 use Rattle.stream_writer.specs.Weights.{IsLightBatch, WeighsAs}
+use Rattle.stream_writer.specs.declared.faults.WriteFault.{WriteFault}
 use Rattle.stream_writer.specs.declared.table_writer.TableWriter.{TableWriter}
 
 -- the rows that came and are in no batch that was put
@@ -56,3 +57,26 @@ pub record IsWriting (start now : Sunk) (fs : List (Rose NamedType)) (rows : Lis
   pub holds : Holds start now fs rows w
   pub few : w.left < max_batch_rows
   pub batches : length w.held.items ≤ w.left
+
+-- Of each table to which the batch may come, the writer has its rows too.
+abbrev pub HoldsToo : Batch → ℕ → TableWriter → TableWriter → Type 0
+HoldsToo batch heaviest before after =
+    (start now : Sunk) (fs : List (Rose NamedType)) (rows : List (List Datum)) → Holds start now fs rows before
+    → MayCome fs rows batch heaviest → Holds start now fs (rows ++ batch_rows batch) after
+
+abbrev pub WritesToo : Sunk → Sunk → Batch → ℕ → TableWriter → TableWriter → Type 0
+WritesToo old new batch heaviest before after =
+    (start : Sunk) (fs : List (Rose NamedType)) (rows : List (List Datum)) → IsWriting start old fs rows before
+    → MayCome fs rows batch heaviest → IsWriting start new fs (rows ++ batch_rows batch) after
+
+-- A fault: the writer stops in each such table.
+abbrev pub StopsWriting : Sunk → Sunk → Batch → ℕ → TableWriter → WriteFault → Type 0
+StopsWriting old new batch heaviest before fault =
+    (start : Sunk) (fs : List (Rose NamedType)) (rows : List (List Datum)) → IsWriting start old fs rows before
+    → MayCome fs rows batch heaviest → StopsIn start new fault fs [] (rows ++ batch_rows batch)
+
+-- Of a table without columns the writer has so many rows more.
+abbrev pub HasMoreRows : Sunk → Sunk → ℕ → TableWriter → TableWriter → Type 0
+HasMoreRows old new count before after =
+    (start : Sunk) (rows : List (List Datum)) → IsWriting start old [] rows before → length rows + count ≤ 2 ^ 24
+    → (all : List (List Datum)) × IsWriting start new [] all after × (length all ≡ length rows + count)

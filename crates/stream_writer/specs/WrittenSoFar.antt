@@ -1,7 +1,8 @@
 -- How far a writer has come.
-use Rattle.std.specs.Prelude.{◌≡◌, ℕ, ◌≤◌, List, length, take, drop}
+use Rattle.std.specs.Prelude.{◌≡◌, ℕ, ◌≤◌, List, ◌++◌, length, take, drop, Result, Err, MatchResult}
 use Rattle.std.specs.Io.KnownBytes.{Appends}
-use Rattle.stream_writer.specs.Sinks.{Sunk}
+use Rattle.stream_writer.specs.Sinks.{Sunk, Writes}
+use Rattle.stream_writer.specs.declared.faults.WriteFault.{WriteFault}
 
 -- the first `written` bytes of `whole` went out, `rest` is left, and the sink has not failed
 pub record WrittenSoFar (start now : Sunk) (written : ℕ) (whole rest : List ℕ) : Type 0 where
@@ -9,3 +10,9 @@ pub record WrittenSoFar (start now : Sunk) (written : ℕ) (whole rest : List �
   pub left : drop written whole ≡ rest
   pub bound : written ≤ length whole
   pub failures : now.failures ≡ start.failures
+
+-- Where these bytes come next, they are put, or the writer stops among them.
+abbrev pub PutsNext : Sunk → Sunk → ℕ → List ℕ → Result ℕ WriteFault → Type 0
+PutsNext old new written bytes result =
+    (start : Sunk) (whole rest : List ℕ) → WrittenSoFar start old written whole (bytes ++ rest)
+    → MatchResult result (λ n. WrittenSoFar start new n whole rest) (λ fault. Writes start new (Err fault) whole)

@@ -1,8 +1,7 @@
 //! Messages as they are put: the body of the last one as it was made, and what comes before it.
 
-ghost use Rattle.std.specs.Prelude.{◌≡◌, ℕ, ◌+◌, ◌^◌, ◌<◌, ◌++◌, Err, List, IfOk, MatchResult, length};
-ghost use Rattle.stream_writer.specs.Sinks.{Sunk, Writes};
-ghost use Rattle.stream_writer.specs.WrittenSoFar.{WrittenSoFar};
+ghost use Rattle.std.specs.Prelude.{◌≡◌, ◌+◌, ◌^◌, ◌<◌, ◌++◌, IfOk, length};
+ghost use Rattle.stream_writer.specs.WrittenSoFar.{PutsNext};
 
 use crate::faults::WriteFault;
 use crate::progress::put_after;
@@ -56,10 +55,7 @@ impl Encoded {
     pub(crate) fn put_after<S: Sink>(&self, sink: &mut S, written: u64) -> Result<u64, WriteFault>
         requires { written + length self.now < 2 ^ 64 }
         ensures counted { IfOk result (λ n. n ≡ written + length self.now) }
-        ensures goes { (start : Sunk) (whole rest : List ℕ)
-            → WrittenSoFar start (S.sunk sink.old) written whole (self.now ++ rest)
-            → MatchResult result (λ n. WrittenSoFar start (S.sunk sink.new) n whole rest)
-            (λ fault. Writes start (S.sunk sink.new) (Err fault) whole) }
+        ensures goes { PutsNext (S.sunk sink.old) (S.sunk sink.new) written self.now result }
     {
         let written = put_after(sink, &self.head, written)?;
         put_after(sink, &self.body, written)

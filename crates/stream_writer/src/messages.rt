@@ -109,8 +109,7 @@ pub(crate) fn record_message(
     requires nodes { length body.nodes.items ≤ max_fields }
     requires ranges { length body.ranges.items ≤ 3 * max_fields }
     requires size { length body.bytes.items ≤ max_body_size }
-    ensures bytes { IfOk result (λ e. e ≡ head.items ++ stream.message
-        (batch_whole rows body.nodes.items body.ranges.items (length body.bytes.items)) body.bytes.items) }
+    ensures bytes { IfOk result (λ e. e ≡ head.items ++ stream.batch_with rows body) }
     ensures size { IfOk result (λ e. length e ≤ length head.items + 2 ^ 29) }
 {
     let mut head = head;
@@ -132,9 +131,7 @@ pub(crate) fn append_dictionary(
     requires nodes { length body.now.nodes.items ≤ max_fields }
     requires ranges { length body.now.ranges.items ≤ 3 * max_fields }
     requires size { length body.now.bytes.items ≤ max_body_size }
-    ensures bytes { OnOk result (bytes.new.items ≡ bytes.old.items ++ stream.message
-        (dictionary_whole id count body.now.nodes.items body.now.ranges.items (length body.now.bytes.items))
-        body.now.bytes.items) }
+    ensures bytes { OnOk result (bytes.new.items ≡ bytes.old.items ++ stream.dictionary_with id count body.now) }
     ensures size { OnOk result (length bytes.new.items ≤ length bytes.old.items + 2 ^ 29) }
 {
     let metadata = dictionary_metadata(alloc, id as u64, count as u64, body)?;

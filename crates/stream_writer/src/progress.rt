@@ -1,33 +1,13 @@
 //! Writes a table of which later rows may still come.
 
-ghost use Rattle.std.specs.Prelude.{
-  ◌≡◌,
-  ℕ,
-  ◌+◌,
-  ◌-◌,
-  ◌^◌,
-  ◌<◌,
-  ◌≤◌,
-  ◌==◌,
-  ◌||◌,
-  ◌++◌,
-  [],
-  List,
-  IfOk,
-  MatchResult,
-  Err,
-  length,
-  nat_lt,
-};
+ghost use Rattle.std.specs.Prelude.{◌≡◌, ◌+◌, ◌^◌, ◌<◌, ◌≤◌, ◌==◌, ◌||◌, List, IfOk, length, nat_lt};
 ghost use Rattle.values.specs.Datum.{Datum};
 ghost use Rattle.values.specs.Limits.{max_batch_rows};
 ghost use Rattle.values.specs.Logical.{NamedType};
 ghost use Rattle.values.specs.Rose.{Rose};
 ghost use Rattle.schema_meta.specs.SchemaTree.{AreColumns};
-ghost use Rattle.stream_writer.specs.Progress.{HasPut, IsHeld, StopsIn, last_rows};
-ghost use Rattle.stream_writer.specs.Sinks.{Sunk, Writes};
-ghost use Rattle.stream_writer.specs.Stream.{batches, end_mark, trees};
-ghost use Rattle.stream_writer.specs.WrittenSoFar.{WrittenSoFar};
+ghost use Rattle.stream_writer.specs.Progress.{IsHeld, PutsFirst, PutsRest, PutsSchema, StayHeld};
+ghost use Rattle.stream_writer.specs.WrittenSoFar.{PutsNext};
 
 use crate::faults::WriteFault;
 use crate::messages;
@@ -55,10 +35,7 @@ pub(crate) fn put_after<S: Sink>(
 ) -> Result<u64, WriteFault>
     requires { written + length bytes.now < 2 ^ 64 }
     ensures counted { IfOk result (λ n. n ≡ written + length bytes.now) }
-    ensures goes { (start : Sunk) (whole rest : List ℕ)
-        → WrittenSoFar start (S.sunk sink.old) written whole (bytes.now ++ rest)
-        → MatchResult result (λ n. WrittenSoFar start (S.sunk sink.new) n whole rest)
-        (λ fault. Writes start (S.sunk sink.new) (Err fault) whole) }
+    ensures goes { PutsNext (S.sunk sink.old) (S.sunk sink.new) written bytes.now result }
 {
     match put_all(sink, bytes) {
         Ok(more) => Ok(written + more),
@@ -75,9 +52,7 @@ pub(crate) fn put_schema<S: Sink>(
 ) -> Result<u64, WriteFault>
     requires { AreColumns schema.now.fields.items }
     ensures size { IfOk result (λ n. n ≤ 2 ^ 39) }
-    ensures goes { MatchResult result
-        (λ n. HasPut (S.sunk sink.old) (S.sunk sink.new) n schema.now.fields.items coded.now [] [])
-        (λ fault. StopsIn (S.sunk sink.old) (S.sunk sink.new) fault schema.now.fields.items coded.now []) }
+    ensures goes { PutsSchema (S.sunk sink.old) (S.sunk sink.new) schema.now.fields.items coded.now result }
 {
     let message = messages::schema_message(alloc, schema, coded)?;
     put_after(sink, &message, 0)
@@ -106,15 +81,9 @@ pub(crate) fn put_closed<S: Sink, R: RowSource + Drop>(
     requires fits { R.fits rows layouts.now }
     ensures few { IfOk result (λ p. p.left < max_batch_rows) }
     ensures within { IfOk result (λ p. p.left ≤ length (R.rows rows)) }
-    ensures held { IfOk result (λ p. (fs : List (Rose NamedType)) (all : List (List Datum))
-        → IsHeld fs layouts.now all (R.rows rows) written
-        → IsHeld fs layouts.now all (last_rows p.left (R.rows rows)) p.written) }
-    ensures goes { (start : Sunk) (fs : List (Rose NamedType)) (all : List (List Datum))
-        → IsHeld fs layouts.now all (R.rows rows) written
-        → HasPut start (S.sunk sink.old) written fs (R.coded rows) all (R.rows rows)
-        → MatchResult result
-        (λ p. HasPut start (S.sunk sink.new) p.written fs (R.coded rows) all (last_rows p.left (R.rows rows)))
-        (λ fault. StopsIn start (S.sunk sink.new) fault fs (R.coded rows) all) }
+    ensures held { IfOk result (StayHeld layouts.now (R.rows rows) written) }
+    ensures goes { PutsFirst (S.sunk sink.old) (S.sunk sink.new) layouts.now (R.coded rows) (R.rows rows) written
+        result }
 {
     let mut written = written;
     let mut room = 0;
@@ -147,11 +116,7 @@ pub(crate) fn put_rest<S: Sink, R: RowSource + Drop>(
     requires held { (fs : List (Rose NamedType)) × (all : List (List Datum))
         × IsHeld fs layouts.now all (R.rows rows) written }
     requires fits { R.fits rows layouts.now }
-    ensures { (start : Sunk) (fs : List (Rose NamedType)) (all : List (List Datum)) (whole : List ℕ)
-        → IsHeld fs layouts.now all (R.rows rows) written
-        → WrittenSoFar start (S.sunk sink.old) written whole
-        (batches (R.coded rows) (trees fs) (length (R.rows rows)) (R.rows rows) ++ end_mark)
-        → Writes start (S.sunk sink.new) result whole }
+    ensures { PutsRest (S.sunk sink.old) (S.sunk sink.new) layouts.now (R.coded rows) (R.rows rows) written result }
 {
     let mut written = written;
     let mut room = 0;

@@ -29,7 +29,16 @@ ghost use Rattle.stream_writer.specs.BatchRows.{FitsBatches, HasRows, IsInFirst,
 ghost use Rattle.stream_writer.specs.Progress.{StopsIn};
 ghost use Rattle.stream_writer.specs.Sinks.{Sunk, Writes};
 ghost use Rattle.stream_writer.specs.Stream.{canon, trees};
-ghost use Rattle.stream_writer.specs.TableWriters.{Holds, IsWeighable, IsWriting, MayCome, rows_held};
+ghost use Rattle.stream_writer.specs.TableWriters.{
+  Holds,
+  HoldsToo,
+  IsWeighable,
+  IsWriting,
+  MayCome,
+  StopsWriting,
+  WritesToo,
+  rows_held,
+};
 
 use crate::batch_rows::{BatchRows, find_row};
 use crate::faults::WriteFault;
@@ -94,12 +103,8 @@ impl TableWriter {
     ) -> Result<(), WriteFault>
         requires comes { (start : Sunk) × (fs : List (Rose NamedType)) × (rows : List (List Datum))
             × IsWriting start (S.sunk sink.old) fs rows self.old × MayCome fs rows batch heaviest }
-        ensures writing { OnOk result ((start : Sunk) (fs : List (Rose NamedType)) (rows : List (List Datum))
-            → IsWriting start (S.sunk sink.old) fs rows self.old → MayCome fs rows batch heaviest
-            → IsWriting start (S.sunk sink.new) fs (rows ++ batch_rows batch) self.new) }
-        ensures stops { IfErr result (λ fault. (start : Sunk) (fs : List (Rose NamedType)) (rows : List (List Datum))
-            → IsWriting start (S.sunk sink.old) fs rows self.old → MayCome fs rows batch heaviest
-            → StopsIn start (S.sunk sink.new) fault fs [] (rows ++ batch_rows batch)) }
+        ensures writing { OnOk result (WritesToo (S.sunk sink.old) (S.sunk sink.new) batch heaviest self.old self.new) }
+        ensures stops { IfErr result (StopsWriting (S.sunk sink.old) (S.sunk sink.new) batch heaviest self.old) }
     {
         let Ok(()) = self.hold(alloc, batch, heaviest) else {
             return Err(WriteFault::Memory {
@@ -148,9 +153,7 @@ impl TableWriter {
     fn hold(&mut self, alloc: Global, batch: Batch, heaviest: u64) -> Result<(), AllocError>
         requires comes { (start : Sunk) × (now : Sunk) × (fs : List (Rose NamedType)) × (rows : List (List Datum))
             × Holds start now fs rows self.old × MayCome fs rows batch heaviest }
-        ensures holds { OnOk result ((start now : Sunk) (fs : List (Rose NamedType)) (rows : List (List Datum))
-            → Holds start now fs rows self.old → MayCome fs rows batch heaviest
-            → Holds start now fs (rows ++ batch_rows batch) self.new) }
+        ensures holds { OnOk result (HoldsToo batch heaviest self.old self.new) }
         ensures same { self.new.written ≡ self.old.written }
     {
         if batch.rows == 0 {

@@ -3,7 +3,7 @@
 ghost use Rattle.std.specs.Prelude.{◌≡◌, ◌+◌, ◌^◌, ◌≤◌, All, IfOk, List, [], OnOk, length};
 ghost use Rattle.values.specs.Datum.{Datum};
 ghost use Rattle.stream_writer.specs.Sinks.{Sunk};
-ghost use Rattle.stream_writer.specs.TableWriters.{IsWriting};
+ghost use Rattle.stream_writer.specs.TableWriters.{HasMoreRows, IsWriting};
 
 use crate::{MemorySink, Sink, TableWriter, WriteFault, write_table};
 use body_writer::Batch;
@@ -26,10 +26,7 @@ fn take_rows<S: Sink>(
 ) -> Result<(), WriteFault>
     requires { (start : Sunk) × (rows : List (List Datum)) × IsWriting start (S.sunk sink.old) [] rows writer.old
         × (length rows + count ≤ 2 ^ 24) }
-    ensures { OnOk result ((start : Sunk) (rows : List (List Datum))
-        → IsWriting start (S.sunk sink.old) [] rows writer.old → length rows + count ≤ 2 ^ 24
-        → (all : List (List Datum)) × IsWriting start (S.sunk sink.new) [] all writer.new
-        × (length all ≡ length rows + count)) }
+    ensures { OnOk result (HasMoreRows (S.sunk sink.old) (S.sunk sink.new) count writer.old writer.new) }
 {
     let batch = Batch {
         columns: Vec::new(alloc),

@@ -1,14 +1,13 @@
 //! Weighs the rows of batches of checked columns.
 
-ghost use Rattle.std.specs.Prelude.{◌≡◌, ℕ, ◌<◌, ◌≤◌, ◌++◌, All, IfOk, OnOk, drop, length};
+ghost use Rattle.std.specs.Prelude.{◌≡◌, ℕ, ◌<◌, ◌≤◌, ◌++◌, All, IfOk, OnOk, length};
 ghost use Rattle.values.specs.Limits.{max_batch_rows, max_batch_weight};
 ghost use Rattle.values.specs.Rose.{Roses};
 ghost use Rattle.values.specs.declared.layout.Layout.{Layout};
 ghost use Rattle.schema_meta.specs.Rows.{row_at, rows_in};
-ghost use Rattle.body_writer.specs.Batch.{row_weight};
 ghost use Rattle.body_writer.specs.Heavy.{IsLight, layouts_in};
-ghost use Rattle.body_writer.specs.RowRanges.{batch_rows, cells_in, rows_of};
-ghost use Rattle.stream_writer.specs.BatchRows.{AreWeighed};
+ghost use Rattle.body_writer.specs.RowRanges.{cells_in, rows_of};
+ghost use Rattle.stream_writer.specs.BatchRows.{AreWeighedToo};
 ghost use Rattle.stream_writer.specs.Weights.{
   HasSizes,
   IsLightBatch,
@@ -67,10 +66,8 @@ pub(crate) fn add_weights(
     requires batch_light { IsLightBatch batch.now }
     requires place { from ≤ length (rows_of before.now) }
     requires alike { (ls : Roses Layout) × All (WeighsAs ls) before.now }
-    ensures { OnOk result ((ls : Roses Layout) → All (WeighsAs ls) before.now → WeighsAs ls batch.now
-        → All (λ row. row_weight ls row ≤ heaviest) (batch_rows batch.now)
-        → AreWeighed ls weights.old.items (drop from (rows_of before.now))
-        → AreWeighed ls weights.new.items (drop from (rows_of before.now) ++ batch_rows batch.now)) }
+    ensures { OnOk result
+        (AreWeighedToo before.now from batch.now heaviest weights.old.items weights.new.items) }
 {
     if !weights.is_empty() {
         push_weights(&batch.columns, batch.rows, weights)?;

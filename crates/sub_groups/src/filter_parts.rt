@@ -2,7 +2,8 @@
 
 ghost use Rattle.std.specs.Prelude.{◌≡◌};
 ghost use Rattle.std.specs.List.{list_any};
-ghost use Rattle.sub_groups.specs.FilterParts.{are_decided, conjuncts, fails, is_decided, passes_main as passes_main_by, passes_others as passes_others_by};
+ghost use Rattle.sub_groups.specs.FilterParts.{are_decided, conjuncts, fails, is_decided};
+ghost use Rattle.sub_groups.specs.FilterParts.{passes_main as passes_main_by, passes_others as passes_others_by};
 
 use crate::columns::{Columns, names_only};
 use view_lang::{Filter, RowView, Test};

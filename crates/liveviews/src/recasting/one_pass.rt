@@ -21,7 +21,7 @@ ghost use Rattle.body_writer.specs.RowRanges.{batch_rows};
 ghost use Rattle.stream_writer.specs.Sinks.{Sunk};
 ghost use Rattle.stream_writer.specs.Weights.{HasSizes};
 ghost use Rattle.liveviews.specs.Source.{OfSource};
-ghost use Rattle.liveviews.specs.Steps.{AreTakenSo, IsOpen};
+ghost use Rattle.liveviews.specs.Steps.{IsOpen, IsTaken};
 ghost use Rattle.liveviews.specs.Streams.{
   HasStreamed,
   HasWritten,
@@ -32,6 +32,7 @@ ghost use Rattle.liveviews.specs.Streams.{
   OfEachWritten,
   StopsWithin,
   Streams,
+  StreamsOn,
   StreamsSource,
   unread_after,
   written_by,
@@ -164,8 +165,8 @@ fn take_message<S: Sink>(
         × HasStreamed start (S.sunk sink.old) s feed.old streaming.old (piece.now ++ later) }
     ensures open { OnOk result (IsOpen feed.new) }
     ensures used { IfOk result (λ n. (0 < n) × (n ≤ length piece.now)) }
-    ensures streamed { IfOk result (λ n. OfEachStreamed (S.sunk sink.old) feed.old streaming.old piece.now
-        (λ start s later. HasStreamed start (S.sunk sink.new) s feed.new streaming.new (drop n piece.now ++ later))) }
+    ensures streamed { IfOk result (λ n. StreamsOn (S.sunk sink.old) (S.sunk sink.new) feed.old streaming.old piece.now
+        (drop n piece.now) feed.new streaming.new) }
     ensures stops { IfErr result (λ f. OfEachStreamed (S.sunk sink.old) feed.old streaming.old piece.now
         (λ start s later. StopsWithin start (S.sunk sink.new) f.cause f.written s)) }
 {
@@ -193,8 +194,8 @@ fn take_messages<S: Sink>(
     requires streamed { (start : Sunk) × (s : Story) × (later : List ℕ)
         × HasStreamed start (S.sunk sink.old) s feed.old streaming.old (piece.now ++ later) }
     ensures open { OnOk result (IsOpen feed.new) }
-    ensures streamed { OnOk result (OfEachStreamed (S.sunk sink.old) feed.old streaming.old piece.now
-        (λ start s later. HasStreamed start (S.sunk sink.new) s feed.new streaming.new later)) }
+    ensures streamed { OnOk result (StreamsOn (S.sunk sink.old) (S.sunk sink.new) feed.old streaming.old piece.now []
+        feed.new streaming.new) }
     ensures stops { IfErr result (λ f. OfEachStreamed (S.sunk sink.old) feed.old streaming.old piece.now
         (λ start s later. StopsWithin start (S.sunk sink.new) f.cause f.written s)) }
 {
@@ -266,7 +267,7 @@ fn finish<S: Sink>(
         → Streams start (S.sunk sink.new) result (story_of input) }
     ensures accepted { OnOk result ((start : Sunk) (input : List ℕ)
         → HasStreamed start (S.sunk sink.old) (story_of input) feed.old streaming.old []
-        → AreTakenSo (story_of input).schema (story_of input).rows) }
+        → IsTaken (story_of input)) }
 {
     // It does nothing: the proof takes from it that what is written is read back.
     recast_law();
@@ -293,7 +294,7 @@ pub fn recast_through<R: Read, S: Sink>(
 
     // On Ok no limit is passed either, as `recast` says it.
     ensures accepted { OnOk result (OfSource (R.remaining source.old)
-        (λ input. AreTakenSo (story_of input).schema (story_of input).rows)) }
+        (λ input. IsTaken (story_of input))) }
 {
     // They do nothing: the proof takes from them that nothing is told before the first byte.
     first_message_law();

@@ -8,12 +8,12 @@ ghost use Rattle.schema_meta.specs.Means.{Means};
 ghost use Rattle.stream_writer.specs.Table.{IsTable};
 ghost use Rattle.liveviews.specs.Source.{OfSource};
 ghost use Rattle.liveviews.specs.Steps.{
-  AreTakenSo,
   HasTaken,
   HasTakenAll,
   IsComplete,
   IsOpen,
   IsRead,
+  IsTaken,
   Reached,
   Refuses,
 };
@@ -158,7 +158,7 @@ fn complete(alloc: Global, feed: &mut Feed, rows: KeptBatches) -> Result<Table, 
     ensures counted { IfOk result (λ t. IsCounted t.rows) }
     ensures kept { IfOk result (λ t. (s : Story) → HasTaken s feed.old rows []
         → IsWritable t.schema.fields.items t.rows) }
-    ensures accepted { OnOk result ((s : Story) → HasTaken s feed.old rows [] → AreTakenSo s.schema s.rows) }
+    ensures accepted { OnOk result ((s : Story) → HasTaken s feed.old rows [] → IsTaken s) }
     ensures refused { IfErr result (λ c. (s : Story) → HasTaken s feed.old rows [] → Refuses s c) }
 {
     end(feed)?;
@@ -175,7 +175,7 @@ impl Table {
         ensures within { IfOk result (λ t. IsTable t.schema.fields.items (taken_rows t.rows)) }
         ensures counted { IfOk result (λ t. IsCounted t.rows) }
         ensures kept { IfOk result (λ t. IsWritable t.schema.fields.items t.rows) }
-        ensures accepted { OnOk result (AreTakenSo (story_of input.now).schema (story_of input.now).rows) }
+        ensures accepted { OnOk result (IsTaken (story_of input.now)) }
         ensures refused { IfErr result (Refuses (story_of input.now)) }
     {
         // They do nothing: the proof takes from them that nothing is told before the first byte.

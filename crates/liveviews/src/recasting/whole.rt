@@ -7,7 +7,7 @@ ghost use Rattle.liveviews.specs.Files.{RecastsSource};
 ghost use Rattle.liveviews.specs.Kept.{IsCounted, IsWritable, taken_rows};
 ghost use Rattle.liveviews.specs.Recast.{Recasts};
 ghost use Rattle.liveviews.specs.Source.{OfSource};
-ghost use Rattle.liveviews.specs.Steps.{AreTakenSo, IsRead};
+ghost use Rattle.liveviews.specs.Steps.{IsRead, IsTaken};
 
 use crate::files::FileFault;
 use crate::laws::recast_law;
@@ -91,7 +91,7 @@ pub fn recast<S: Sink>(alloc: Global, input: &[u8], sink: &mut S) -> Result<u64,
     ensures recasts { Recasts (S.sunk sink.old) (S.sunk sink.new) result (story_of input.now) }
 
     // On Ok no limit is passed either: at most 2^24 rows, none too heavy.
-    ensures accepted { OnOk result (AreTakenSo (story_of input.now).schema (story_of input.now).rows) }
+    ensures accepted { OnOk result (IsTaken (story_of input.now)) }
 {
     // It does nothing: the proof takes from it that what is written is read back.
     recast_law();
@@ -109,7 +109,7 @@ fn put<S: Sink>(alloc: Global, read: Result<Table, Cause>, sink: &mut S) -> Resu
     ensures recasts { (input : List ℕ) → IsRead read input
         → Recasts (S.sunk sink.old) (S.sunk sink.new) result (story_of input) }
     ensures accepted { OnOk result ((input : List ℕ) → IsRead read input
-        → AreTakenSo (story_of input).schema (story_of input).rows) }
+        → IsTaken (story_of input)) }
 {
     // It does nothing: the proof takes from it that what is written is read back.
     recast_law();
@@ -129,7 +129,7 @@ pub fn recast_from<R: Read, S: Sink>(
 
     // On Ok no limit is passed either, as `recast` says it.
     ensures accepted { OnOk result (OfSource (R.remaining source.old)
-        (λ input. AreTakenSo (story_of input).schema (story_of input).rows)) }
+        (λ input. IsTaken (story_of input))) }
 {
     let read = Table::read_from(alloc, source)?;
     match put(alloc, read, sink) {
