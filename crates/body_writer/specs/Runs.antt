@@ -1,18 +1,24 @@
 -- Slots one after the other, by what their cells are where no fault stands, and what they hold.
 use Rattle.std.specs.Prelude.{◌≡◌, ◌⊎◌, ℕ, zero, suc, ◌+◌, ◌<◌, ◌≤◌, List, [], ◌∷◌, Ok, Err}
+use Rattle.std.specs.List.{flat_map}
 use Rattle.array_layout.specs.Buffers.{is_null}
 use Rattle.byteorder.specs.Endian.{little_bytes}
 use Rattle.values.specs.Datum.{Datum, null}
-use Rattle.values.specs.Reading.{Reading}
+use Rattle.values.specs.Reading.{IsValid, Reading}
 use Rattle.values.specs.declared.layout.OffsetWidth.{OffsetWidth}
 use Rattle.values.specs.declared.layout.Layout.{Layout}
 use Rattle.values.specs.declared.layout.Layout.TheVariants.{Int, Decimal, FixedSizeBinary, Utf8, Binary, List as Listed}
 use Rattle.values.specs.Layouts.{bytes_in as width_of}
+use Rattle.body_writer.specs.Columns.{validity}
 use Rattle.body_writer.specs.Slots.{number_in, fixed_in}
 
 abbrev pub cell_in : Reading Datum → Datum
 cell_in (Ok d) = d
 cell_in (Err fs) = null
+
+-- d is read there, where anything is
+abbrev pub IsReadAs : Reading Datum → Datum → Type 0
+IsReadAs r d = IsValid r → d ≡ cell_in r
 
 -- the cells of n slots, the first of them slot i
 unfoldable pub slots : (ℕ → Reading Datum) → ℕ → ℕ → List Datum
@@ -36,6 +42,10 @@ slot_bytes (Int w s) c = little_bytes (width_of w) (number_in (width_of w) c)
 slot_bytes (Decimal p) c = little_bytes 16 (number_in 16 c)
 slot_bytes (FixedSizeBinary w) c = fixed_in w c
 slot_bytes l c = []
+
+-- the buffers of cells that take as many bytes each
+abbrev pub fixed_buffers : Layout → List Datum → List (List ℕ)
+fixed_buffers l cs = validity cs ∷ flat_map (slot_bytes l) cs ∷ []
 
 -- texts or bytes, whose offsets have this width
 abbrev pub HasBytes : Layout → OffsetWidth → Type 0

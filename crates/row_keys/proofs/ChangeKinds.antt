@@ -1,5 +1,5 @@
 -- Of which tables a change can be.
-use Rattle.std.proofs.Common.{◌≡◌, ℕ, zero, suc, IfOk}
+use Rattle.std.proofs.Common.{ℕ, zero, suc, IfOk}
 use Rattle.std.specs.Prelude.{Err, Ok, Result}
 use Rattle.row_keys.specs.TableChanges.{IsChangeOf}
 use Rattle.row_keys.specs.declared.faults.EditFault.{EditFault}

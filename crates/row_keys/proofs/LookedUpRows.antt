@@ -36,7 +36,7 @@ use Rattle.view_lang.specs.Config.{Table}
 use Rattle.view_lang.specs.Contents.{Contents, is_among, key_in, keys_in, same_key}
 use Rattle.view_lang.specs.Joined.{side_of}
 use Rattle.row_keys.specs.Numbers.{AreDistinct, IsAt, IsUnused, Numbered}
-use Rattle.row_keys.specs.Slots.{IsThere, Slot, contents_of, live, row_of, slot}
+use Rattle.row_keys.specs.Slots.{IsLiveAt, IsThere, Slot, contents_of, live, row_of, slot}
 use Rattle.row_keys.specs.Store.{IsKnown, IsUnknown, Store}
 use Rattle.row_keys.specs.Stored.{AreGiven, AreKeyed, joined, live_keys}
 use Rattle.row_keys.proofs.JoinedNumbers.{joined_at, keys_live, unused_among}
@@ -156,6 +156,11 @@ there_below [] n b there = absurd (none-some (slot there.0 b) there.1)
 there_below (s ∷ ss) zero b there = omega arith
 there_below (s ∷ ss) (suc n) b there = let below = there_below ss n b there in omega (arith, below)
 
+there_live : (slots : List Slot) (n : ℕ) → IsThere slots n true → IsLiveAt slots n
+there_live [] n there = absurd (none-some (slot there.0 true) there.1)
+there_live (s ∷ ss) zero there = ap (λ (x : Slot). x.live) (some_same s (slot there.0 true) there.1)
+there_live (s ∷ ss) (suc n) there = there_live ss n there
+
 known_by :
     (t : Table) (rows : List (List Datum)) (xs : List Numbered) (v : ℕ) (d : Datum) (k : Key) (found : Option ℕ)
     → AreKeyed t rows xs → AreDistinct xs → is_null d ≡ false → key_of d ≡ Some k
@@ -175,6 +180,7 @@ known_by t rows xs v d k (Some n) keyed distinct given is at =
           ∙ find_some t d (joined rows xs) n here.0 (here.1 ∙ exact) same
           (distinct_joined t rows xs keyed distinct),
       ap is_null (here.1 ∙ exact) ∙ given,
+      there_live (joined rows xs) n here.0,
     )
 
 -- A stored key is no null, so null finds no row.

@@ -1,5 +1,5 @@
 -- Why the rows of a batch are refused once their keys are numbered: too many rows, or too heavy ones.
-use Rattle.std.specs.Prelude.{◌≡◌, ℕ, ◌+◌, All, Bool, true, false, ◌||◌, nat_lt, List, length}
+use Rattle.std.specs.Prelude.{◌≡◌, ℕ, ◌+◌, Bool, true, false, ◌||◌, nat_lt, List}
 use Rattle.arrays.specs.Checked.{CheckedColumn}
 use Rattle.view_lang.specs.Causes.{any_heavy}
 use Rattle.view_lang.specs.Limits.{max_appended_rows}

@@ -47,14 +47,18 @@ live (s ∷ ss) = if s.live then s.row ∷ live ss else live ss
 abbrev pub contents_of : List Slot → Contents
 contents_of slots = record { live = live slots; appended = length slots }
 
+abbrev pub no_slot : Slot
+no_slot = slot [] false
+
+-- the row of this number is live
+abbrev pub IsLiveAt : List Slot → ℕ → Type 0
+IsLiveAt slots n = (get_or slots n no_slot).live ≡ true
+
 -- one row has become live, or has been retracted
 abbrev pub marked : Bool → List Slot → ℕ → List Slot
 marked b [] n = []
 marked b (s ∷ ss) zero = slot s.row b ∷ ss
 marked b (s ∷ ss) (suc n) = s ∷ marked b ss n
-
-abbrev pub no_slot : Slot
-no_slot = slot [] false
 
 abbrev pub row_of : List Slot → ℕ → List Datum
 row_of slots n = (get_or slots n no_slot).row

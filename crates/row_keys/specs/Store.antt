@@ -28,7 +28,7 @@ use Rattle.view_lang.specs.Joined.{side_of}
 use Rattle.view_lang.specs.declared.unfit.Unfit.{Unfit}
 use Rattle.row_keys.specs.declared.faults.EditFault.{EditFault}
 use Rattle.row_keys.specs.declared.faults.EditFault.TheVariants as fault
-use Rattle.row_keys.specs.Slots.{HasKey, IsThere, Slot, contents_of, live, row_of, slot}
+use Rattle.row_keys.specs.Slots.{HasKey, IsLiveAt, IsThere, Slot, contents_of, live, row_of, slot}
 
 pub record Store : Type 0 where
   pub table : Table
@@ -72,7 +72,7 @@ IsAbsent s key = is_among (datum_of_key key) (keys_in s.table (live_in s)) ≡ f
 abbrev pub IsKnown : Store → Datum → ℕ → Type 0
 IsKnown s cell n =
     (n < length s.slots) × (side_of s.table (contents_of s.slots) cell ≡ Some (row_of s.slots n))
-    × HasKey s.table (row_of s.slots n)
+    × HasKey s.table (row_of s.slots n) × IsLiveAt s.slots n
 
 abbrev pub IsUnknown : Store → Datum → Type 0
 IsUnknown s cell = side_of s.table (contents_of s.slots) cell ≡ None

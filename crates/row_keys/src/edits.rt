@@ -26,7 +26,8 @@ impl RowStore {
         rows: usize,
     ) -> Result<TableChange, EditFault>
         requires { IsBatchOf self.old.table.columns columns.items rows }
-        ensures makes { Makes self.old.table (change_by Append columns.items rows) self.old.slots self.new.slots result }
+        ensures makes { Makes self.old.table (change_by Append columns.items rows)
+            self.old.slots self.new.slots result }
         ensures table { self.new.table ≡ self.old.table }
         ensures slots { IfOk result (λ change. (change ≡ Appended rows)
             × (self.new.slots ≡ with_new self.old.slots (batch_rows rows columns.items))) }

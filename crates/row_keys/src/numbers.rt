@@ -31,7 +31,8 @@ ghost use Rattle.std.specs.Prelude.{
 ghost use Rattle.std.specs.List.Sorted.{IsPartitionPoint};
 ghost use Rattle.std.specs.Vec.{vec_capacity, vec_len};
 ghost use Rattle.values.specs.declared.key.Key.{Key};
-ghost use Rattle.row_keys.specs.Entries.{AreInOrder, Changes, EndsAt, IsKeptAt, all_entries, entry_in, gone_entry, is_kept};
+ghost use Rattle.row_keys.specs.Entries.{AreInOrder, Changes, EndsAt, IsKeptAt};
+ghost use Rattle.row_keys.specs.Entries.{all_entries, entry_in, gone_entry, is_kept};
 ghost use Rattle.row_keys.specs.Index.{HoldsPlace, IsFree, Puts, StartsWithNull, flagged};
 ghost use Rattle.row_keys.specs.Numbers.{
   AreDistinct,

@@ -47,6 +47,7 @@ ghost use Rattle.row_keys.specs.Slots.{
   CanUndoPut,
   AllOut,
   HasKey,
+  IsLiveAt,
   IsOut,
   emptied,
   keys_at,
@@ -595,7 +596,7 @@ impl RowStore {
     /// Where the visited rows lie, which are live: as many as lie one after the other at once. Each lies in as many
     /// columns as the table has.
     pub fn ranges(&self, visits: Visits) -> Result<Vec<RowRange<'_>>, AllocError>
-        requires { All (λ n. (get_or self.now.slots n no_slot).live ≡ true) visits }
+        requires { All (IsLiveAt self.now.slots) visits }
         ensures rows { IfOk result (λ ranges. ranges_rows ranges.items ≡ map (row_of self.now.slots) visits) }
         ensures ranges { IfOk result (λ ranges. All (IsRange (length self.now.table.columns)) ranges.items) }
     {
@@ -605,7 +606,7 @@ impl RowStore {
 
     /// Where the visited rows lie, which are live: each by itself. Each lies in as many columns as the table has.
     pub fn places(&self, visits: Visits) -> Result<StoredPlaces<'_>, AllocError>
-        requires { All (λ n. (get_or self.now.slots n no_slot).live ≡ true) visits }
+        requires { All (IsLiveAt self.now.slots) visits }
         ensures rows { IfOk result (λ found.
             placed_rows found.batches.items found.places.items ≡ map (row_of self.now.slots) visits) }
         ensures placed { IfOk result (λ found.
@@ -615,10 +616,11 @@ impl RowStore {
         self.rows.places(self.alloc, visits.numbers())
     }
 
-    /// Where the rows of these numbers lie, which are live: each by itself. Where there is no number, the place is in no
-    /// batch. Visits count the rows of the main table that are opened, and no others.
+    /// Where the rows of a side table of these numbers lie, which are live: each by itself. Where there is no number, the
+    /// place is in no batch. Visits count the rows of the main table that are opened, and no others.
     pub fn places_if(&self, numbers: &[Option<usize>]) -> Result<StoredPlaces<'_>, AllocError>
-        requires { All (λ o. IfSome o (λ n. (get_or self.now.slots n no_slot).live ≡ true)) numbers.now }
+        requires side { IsSideTable self.now.table }
+        requires live { All (λ o. IfSome o (IsLiveAt self.now.slots)) numbers.now }
         ensures rows { IfOk result (λ found.
             placed_rows found.batches.items found.places.items ≡ map (row_if (row_of self.now.slots)) numbers.now) }
         ensures placed { IfOk result (λ found.
@@ -679,6 +681,25 @@ impl RowStore {
         let _table = &self.table;
         match keys.key_of(cell)? {
             Some(key) => Ok(self.get(key)),
+            None => Ok(None),
+        }
+    }
+
+    /// The number of the live row of a side table whose key equals a cell, if there is one. Null is no row's key. The
+    /// cell is looked up as by `row_with_key`.
+    #[tactic(auto, using(values::proofs::ShallowLemmas::shallow_laws))]
+    pub fn number_with_key(
+        &self,
+        keys: &mut KeyBuffer,
+        cell: CellView<'_>,
+    ) -> Result<Option<usize>, AllocError>
+        requires { IsSideTable self.now.table }
+        ensures { IfOk result (λ number. (d : Datum) → viewed cell.entry ≡ shallow d
+            → MatchOption number (IsUnknown self.now d) (IsKnown self.now d)) }
+    {
+        let _table = &self.table;
+        match keys.key_of(cell)? {
+            Some(key) => Ok(self.number_with(key)),
             None => Ok(None),
         }
     }

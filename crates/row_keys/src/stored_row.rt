@@ -1,6 +1,6 @@
 //! Borrowed views of stored rows.
 
-ghost use Rattle.std.specs.Prelude.{◌≡◌, ◌+◌, ◌<◌, All, IfOk, length, nat_eq};
+ghost use Rattle.std.specs.Prelude.{◌≡◌, ◌+◌, ◌<◌, All, IfOk, get_or, length, nat_eq};
 ghost use Rattle.schema_meta.specs.Rows.{row_at};
 ghost use Rattle.values.specs.CellViews.{shallow, viewed};
 ghost use Rattle.view_lang.specs.Cells.{cell_at as cell_by};
@@ -188,6 +188,14 @@ impl Visits {
         ensures { result ≡ length self.now }
     {
         self.numbers.len()
+    }
+
+    /// The visit of one of the rows. It counts as one of these.
+    pub fn at(&self, place: usize) -> Visit
+        requires { place < length self.now }
+        ensures { result ≡ get_or self.now place 0 }
+    {
+        Visit::new(self.numbers[place])
     }
 
     /// How many runs of rows there are whose numbers follow one another.

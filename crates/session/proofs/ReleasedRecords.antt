@@ -40,7 +40,7 @@ use Rattle.upkeep.specs.StoreLaws.{length_placed, rows_kept}
 use Rattle.row_keys.specs.TableChanges.{CanGoBack, back, restores}
 use Rattle.upkeep.specs.Stores.{released_at}
 use Rattle.session.specs.Released.{EvictedGo, NothingIsSeen, OldestIsOut}
-use Rattle.session.specs.Shows.{AreWorld, CanUndo, HoldsBack, before}
+use Rattle.session.specs.Shows.{CanUndo, HoldsBack, before}
 use Rattle.session.specs.declared.undo.UndoRecord.{UndoRecord}
 use Rattle.session.proofs.Restored.{back_emptied, can_go_emptied, off_back, out_changed, restored_out}
 

@@ -1,112 +1,21 @@
 -- Each step of a run leads where its replay does.
-use Rattle.std.proofs.Common.{
-  ◌≡◌,
-  ◌⊎◌,
-  inl,
-  inr,
-  ℕ,
-  zero,
-  suc,
-  ◌<◌,
-  Bool,
-  true,
-  false,
-  Bor,
-  Option,
-  None,
-  Some,
-  Result,
-  Ok,
-  Err,
-  List,
-  [],
-  ◌∷◌,
-  ◌++◌,
-  length,
-  take,
-  drop,
-  refl,
-  ap,
-  sym,
-  subst,
-  ◌∙◌,
-  arith,
-  append-nil,
-  append_assoc,
-}
-use Rattle.std.specs.Prelude.{◌==◌, All, slice_get, slice_set}
-use Rattle.std.specs.Option.{option_map}
-use Rattle.std.proofs.lemmas.Bool.{eqb-true, eqb-false}
-use Rattle.std.proofs.lemmas.Option.{slice_get-map, same_Some, none-some}
+use Rattle.std.proofs.Common.{◌≡◌, ◌⊎◌, inl, inr, ℕ, zero, suc, ◌<◌, Bool, true, false, Bor, Option, None, Some, Result, Ok, Err, List, [], ◌∷◌, ◌++◌, length, take, drop, refl, ap, sym, subst, ◌∙◌}
+use Rattle.std.specs.Prelude.{◌==◌, slice_get, slice_set}
+use Rattle.std.proofs.lemmas.Option.{same_Some}
 use Rattle.std.proofs.Math.Seq.{take-length, drop-append_seam}
 use Rattle.std.specs.Io.KnownBytes.{Appends}
-use Rattle.values.specs.Reading.{IsValid, IsAmong, Faults, Reading, Stands}
+use Rattle.values.specs.Reading.{IsAmong, Faults, Reading, Stands}
 use Rattle.values.specs.StreamCauses.{cause_of as cause_named}
-use Rattle.values.specs.declared.causes.Cause.{Cause}
 use Rattle.values.specs.declared.causes.Cause.TheVariants as cause
 use Rattle.values.specs.declared.faults.StreamFault.{StreamFault}
-use Rattle.values.specs.declared.faults.StreamFault.TheVariants as fault
 use Rattle.stream_writer.specs.Sinks.{Sunk, Writes}
-use Rattle.feed.specs.Retained.{stream_in}
 use Rattle.feed.specs.Events.{Event as Message, Given, given}
 use Rattle.feed.specs.Transcript.{transcript}
-use Rattle.feed.specs.States.{
-  finishing_when,
-  retained_in,
-  FeedState,
-  Finishes,
-  Gives,
-  after_finish,
-  after_push,
-  gives,
-  is_broken,
-}
-use Rattle.view_lang.specs.Config.{Config, FeedConfig, Table, View, tables_of}
-use Rattle.view_lang.specs.Edits.{Edit}
-use Rattle.view_lang.specs.UnfitCauses.{named}
+use Rattle.feed.specs.States.{FeedState, Finishes, Gives, after_finish, after_push, gives, is_broken}
+use Rattle.view_lang.specs.Config.{Config, View, tables_of}
 use Rattle.view_lang.specs.World.{world}
-use Rattle.view_lang.specs.declared.config.Role.{Role}
-use Rattle.view_lang.specs.declared.unfit.Unfit.{Unfit}
-use Rattle.view_lang.specs.declared.unfit.Unfit.TheVariants as unfit
 use Rattle.session.specs.Refusals.{refused}
-use Rattle.session.specs.Steps.{
-  Channel,
-  Ends,
-  FinishBy,
-  FinishTo,
-  Gets,
-  Past,
-  PushBy,
-  PushTo,
-  Run,
-  State,
-  Steps,
-  UndoBy,
-  UndoTo,
-  WriteAnswers,
-  WriteTo,
-  WritesView,
-  edit_in,
-  end_answer,
-  edit_answer,
-  kind_of,
-  message_answer,
-  moved,
-  opened,
-  place_in,
-  push_answer,
-  push_channel,
-  push_past,
-  pushed,
-  start,
-  stream_of,
-  undone,
-  undone_by,
-  unfit_in,
-  view_in,
-  with_feed,
-}
-use Rattle.session.specs.declared.calls.Event.{Event as Kind}
+use Rattle.session.specs.Steps.{Channel, Ends, FinishBy, FinishTo, Gets, Past, PushBy, PushTo, State, Steps, UndoBy, UndoTo, WriteAnswers, WriteTo, WritesView, edit_in, end_answer, kind_of, message_answer, moved, push_answer, push_past, pushed, stream_of, undone, view_in, with_feed}
 use Rattle.session.specs.declared.calls.Fault.{Fault}
 use Rattle.session.specs.declared.calls.Pushed.{Pushed}
 use Rattle.session.specs.declared.calls.Reply.{Reply}
@@ -115,60 +24,7 @@ use Rattle.session.specs.declared.calls.Step.{Step}
 use Rattle.session.specs.declared.calls.Step.TheVariants as step
 use Rattle.session.specs.declared.calls.ViewFault.{ViewFault}
 use Rattle.session.specs.declared.calls.ViewFault.TheVariants as view_fault
-use Rattle.session.specs.Cuts.{
-  BeginsWith,
-  Breaks,
-  BreaksByPush,
-  Broke,
-  BrokeByPush,
-  EndedWell,
-  EndsWell,
-  FaultsAreTold,
-  FaultsBreak,
-  FinishIsTold,
-  IfAnswered,
-  IfHeard,
-  IsAmple,
-  IsAmpleAnswer,
-  IsDone,
-  IsFault,
-  IsOfferedWhole,
-  IsOther,
-  IsRunOn,
-  IsWrittenWhole,
-  Left,
-  Mark,
-  MayBreak,
-  Offers,
-  OffersNow,
-  PushFaultsAreTold,
-  RunIsReplayed,
-  SameRuns,
-  Took,
-  Unless,
-  completes,
-  is_unfit,
-  is_unheard,
-  left_after,
-  left_at_end,
-  mark_if,
-  marked,
-  next_message,
-  of_feed,
-  of_undo,
-  of_write,
-  order,
-  past_with,
-  put_at,
-  replay,
-  replayed,
-  role_at,
-  role_by,
-  told_at,
-  told_of,
-  used_of,
-  written_by,
-}
+use Rattle.session.specs.Cuts.{BeginsWith, IfAnswered, IsAmple, IsAmpleAnswer, IsDone, IsFault, IsOther, IsWrittenWhole, Left, Mark, MayBreak, OffersNow, Took, completes, mark_if, next_message, of_feed, past_with, put_at, replay, role_at, used_of, written_by}
 use Rattle.session.proofs.FedBytes.{FeedLaws, tells-broken, tells-fault, tells-none, tells-partial, tells-whole}
 use Rattle.session.proofs.ReplayedFeeds.{facts, get-set, get-other, set-same, same_by, put_at-same, put_at-other, appends-more, place, after_given, Heir, Stand, Follows, follows-set, follows-same, Goes, some-length, none-there, true-false, broken-stream, unknown-stream, same-stream, fault-heard, no-fault, faulty, breaks, from-heir, finish-fault, finish-heir, finish-well, finish-stand, put_at-nothing, event-completes, replay-feed, replay-undo, replay-write, undo-nothing, event-heard, going, stuck, over}
 

@@ -1,5 +1,5 @@
 -- Changes of a table of which a row is gone that they don't bring back.
-use Rattle.std.proofs.Common.{◌≡◌, ℕ, ◌-◌, List, length, ap, sym, subst, ◌∙◌}
+use Rattle.std.proofs.Common.{◌≡◌, ℕ, ◌-◌, List, ap, sym, subst, ◌∙◌}
 use Rattle.std.specs.List.{range_with_len}
 use Rattle.view_lang.specs.Config.{Table}
 use Rattle.row_keys.specs.Slots.{

@@ -1,5 +1,5 @@
 -- Views that are written from where their columns are stored.
-use Rattle.std.proofs.Common.{◌≡◌, ℕ, List, [], ap, length, sym, ◌∙◌}
+use Rattle.std.proofs.Common.{◌≡◌, ℕ, List, ap, length, sym, ◌∙◌}
 use Rattle.std.specs.Prelude.{map}
 use Rattle.std.proofs.lemmas.List.{length-map}
 use Rattle.values.specs.Logical.{NamedType}

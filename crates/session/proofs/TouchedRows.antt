@@ -26,8 +26,6 @@ use Rattle.std.proofs.Common.{
 }
 use Rattle.std.specs.Prelude.{count_by}
 use Rattle.std.specs.List.{range_with_len}
-use Rattle.std.proofs.lemmas.List.{map-append}
-use Rattle.values.specs.Datum.{Datum}
 use Rattle.view_lang.specs.Config.{Table, View}
 use Rattle.view_lang.specs.Contents.{key_in}
 use Rattle.view_lang.specs.Limits.{max_undo_depth}
@@ -53,7 +51,7 @@ use Rattle.upkeep.specs.ViewStates.{width_in}
 use Rattle.row_keys.specs.declared.table_change.TableChange.{TableChange}
 use Rattle.row_keys.specs.declared.table_change.TableChange.TheVariants.{Appended, Put, Retracted}
 use Rattle.session.specs.Released.{NewestTouches}
-use Rattle.session.specs.Shows.{CanUndo, HoldsBack}
+use Rattle.session.specs.Shows.{CanUndo}
 use Rattle.session.specs.Visits.{OpensTouched}
 use Rattle.session.specs.declared.undo.UndoRecord.{UndoRecord}
 use Rattle.session.proofs.Pasts.{can_held}

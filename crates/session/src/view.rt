@@ -1,16 +1,18 @@
 //! Writes views.
 
-ghost use Rattle.std.specs.Prelude.{◌≡◌, ◌<◌, All, false, OnOk, length, map, slice_set};
+ghost use Rattle.std.specs.Prelude.{◌≡◌, ◌<◌, All, List, false, OnOk, length, map, slice_set};
+ghost use Rattle.values.specs.Datum.{Datum};
 ghost use Rattle.body_writer.specs.Picked.{picked_rows};
 ghost use Rattle.stream_writer.specs.Sinks.{Writes};
 ghost use Rattle.stream_writer.specs.Stream.{canon};
 ghost use Rattle.stream_writer.specs.Table.{IsTable};
+ghost use Rattle.view_lang.specs.Config.{View};
 ghost use Rattle.view_lang.specs.ViewColumns.{view_columns};
-ghost use Rattle.row_keys.specs.Slots.{row_of};
+ghost use Rattle.row_keys.specs.Slots.{IsLiveAt, row_of};
 ghost use Rattle.upkeep.specs.LiveEdits.{NoneBecomesStale};
 ghost use Rattle.upkeep.specs.LiveParts.{view_at};
-ghost use Rattle.upkeep.specs.Shown.{IsLiveAt};
-ghost use Rattle.upkeep.specs.Stores.{HaveSameRows, main_slots, tables_in};
+ghost use Rattle.upkeep.specs.Shown.{AreJoined, joined_in};
+ghost use Rattle.upkeep.specs.Stores.{HaveSameRows, main_slots, rows_in, tables_in};
 ghost use Rattle.upkeep.specs.Touched.{OpensShown};
 ghost use Rattle.upkeep.specs.ViewStates.{width_in};
 ghost use Rattle.upkeep.specs.ViewedRows.{IsViewed, ShowsView};
@@ -22,20 +24,16 @@ use std::alloc::Global;
 use stream_writer::{
     JoinedRows, Sink, WriteFault, coded_law, write_coded, write_places, write_ranges,
 };
-use upkeep::{LiveTables, Shown, StoredColumns};
+use upkeep::{JoinedColumns, LiveTables, Shown, StoredColumns, are_many};
 use values::Schema;
 use view_lang::{config_law, rows_law};
 
 /// Rows lie scattered where no more than this lie one after the other in the mean.
 const SHORT_RUNS: usize = 4;
 
-/// Scattered rows are gathered where they are no less than one in so many of the table's.
-const FEW: usize = 8;
-
-/// Whether so many of all rows of a table, which lie in these runs, are written sooner one by one than run by run. What
-/// is found for that in each of the table's batches pays for many rows only.
+/// Whether so many of all rows of a table, which lie in these runs, are written sooner one by one than run by run.
 fn are_scattered(runs: usize, count: usize, all: usize) -> bool {
-    runs > count / SHORT_RUNS && count >= all / FEW
+    runs > count / SHORT_RUNS && are_many(count, all)
 }
 
 /// Writes the canonical stream of columns of the main table from where they are stored, row by row, and returns its
@@ -92,6 +90,45 @@ fn write_stored<S: Sink>(
     write_ranges(alloc, sink, schema, &columns, &ranges, count)
 }
 
+/// Writes the canonical stream of columns of joined rows from where they are stored, and returns its length in bytes.
+fn write_joined<S: Sink>(
+    alloc: Global,
+    tables: &LiveTables,
+    schema: &Schema,
+    joined: JoinedColumns,
+    sink: &mut S,
+) -> Result<u64, WriteFault>
+    requires joined { (v : View) × (rows : List (List Datum))
+        × AreJoined v (tables_in tables.now.stores) (rows_in tables.now.stores) joined rows }
+    requires many { length joined.columns.items ≡ length schema.now.fields.items }
+    requires table { IsTable schema.now.fields.items
+        (picked_rows joined.columns.items (joined_in (rows_in tables.now.stores) joined)) }
+    ensures { Writes (S.sunk sink.old) (S.sunk sink.new) result
+        (canon schema.now.fields.items
+        (picked_rows joined.columns.items (joined_in (rows_in tables.now.stores) joined))) }
+{
+    let JoinedColumns {
+        columns,
+        visits,
+        table,
+        side_numbers,
+    } = joined;
+    let main = tables.places(visits)?;
+    let side = tables.places_if(table, &side_numbers)?;
+    let rows = JoinedRows {
+        width: tables.width(),
+        main: PlacedRows {
+            batches: &main.batches,
+            places: &main.places,
+        },
+        side: PlacedRows {
+            batches: &side.batches,
+            places: &side.places,
+        },
+    };
+    write_places(alloc, sink, schema, &columns, &rows)
+}
+
 /// Writes the canonical stream of what the view at this place shows, and returns its length in bytes.
 fn write_shown<S: Sink>(
     alloc: Global,
@@ -116,6 +153,7 @@ fn write_shown<S: Sink>(
     match shown {
         Shown::Rows(rows) => write_coded(alloc, sink, schema, &view.coded_outputs, &rows),
         Shown::Stored(stored) => write_stored(alloc, tables, schema, stored, sink),
+        Shown::Joined(joined) => write_joined(alloc, tables, schema, joined, sink),
     }
 }
 

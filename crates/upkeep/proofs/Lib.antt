@@ -31,3 +31,5 @@ pub mod GoneRows
 pub mod MovedSubGroups
 pub mod MovedRows
 pub mod ShownColumns
+pub mod JoinedViews
+pub mod SideNumbers

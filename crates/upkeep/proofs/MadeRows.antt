@@ -56,7 +56,7 @@ use Rattle.top_rows.specs.OrderedPlaces.{OrderedPlaces}
 use Rattle.top_rows.specs.ViewOrder.{AreFirst, IsKeptFor, OrdersKeys}
 use Rattle.row_keys.specs.NumberLaws.{NumbersAscend, RowsAreAtNumbers, RowsAreLive}
 use Rattle.row_keys.specs.Numbered.{live_at, numbered}
-use Rattle.row_keys.specs.Slots.{Slot, live, no_slot, row_of}
+use Rattle.row_keys.specs.Slots.{IsLiveAt, Slot, live, no_slot, row_of}
 use Rattle.row_keys.specs.Store.{Store}
 use Rattle.upkeep.specs.Inputs.{listed, side_by}
 use Rattle.upkeep.specs.Stores.{rows_at, rows_in, tables_in}
@@ -67,7 +67,6 @@ use Rattle.upkeep.specs.Reading.{
   IsReadable,
   made_at,
 }
-use Rattle.upkeep.specs.Shown.{IsLiveAt}
 use Rattle.upkeep.specs.ViewStates.{IsKept, IsKeptBy, ShowsEach, made_by, made_row}
 use Rattle.upkeep.specs.declared.view_state.Kept.TheVariants as kept
 

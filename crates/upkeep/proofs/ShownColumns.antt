@@ -13,12 +13,12 @@ use Rattle.view_lang.specs.Rows.{IsRow}
 use Rattle.view_lang.specs.Truth.{passes}
 use Rattle.view_lang.specs.Views.{kept_row, shown_row, view_rows}
 use Rattle.view_lang.specs.declared.view.Lookup.{Lookup}
-use Rattle.row_keys.specs.Slots.{Slot, live, row_of}
+use Rattle.row_keys.specs.Slots.{IsLiveAt, Slot, live, row_of}
 use Rattle.row_keys.proofs.LiveRows.{held_long, live_row_is}
 use Rattle.row_keys.specs.Store.{Store, live_in}
 use Rattle.upkeep.specs.Inputs.{side_by}
 use Rattle.upkeep.specs.Reading.{AreShown, made_at}
-use Rattle.upkeep.specs.Shown.{AreStored, IsLiveAt}
+use Rattle.upkeep.specs.Shown.{AreStored}
 use Rattle.upkeep.specs.StoreLaws.{rows_there, table_there}
 use Rattle.upkeep.specs.Stores.{rows_at, rows_in, tables_in}
 use Rattle.upkeep.specs.ViewStates.{made_by, made_row, width_in}
@@ -41,7 +41,7 @@ shown_of (o ∷ os) row more below =
     ap₂ (λ d ds. d ∷ ds) (cell_before row more o.column (All-head P o os below))
     (shown_of os row more (All-tail P o os below))
 
-no_more : (outputs : List Output) (row : List Datum) → shown_row outputs row ≡ picked (map column_of outputs) row
+pub no_more : (outputs : List Output) (row : List Datum) → shown_row outputs row ≡ picked (map column_of outputs) row
 no_more [] row = refl
 no_more (o ∷ os) row = ap (λ ds. get_or row o.column null ∷ ds) (no_more os row)
 
@@ -71,19 +71,18 @@ kept_joined b (Some r) joined is = by (b r) is
     by true h = h
     by false h = absurd (cc)
 
-made_of : (v : View) (side : Side) (row made : List Datum) (os : Outputs) (outputs : List Output)
+-- What is made of a row is what is shown of it joined.
+pub made_of : (v : View) (side : Side) (row made cells : List Datum) (os : Outputs) (outputs : List Output)
     (kept : Option (List Datum)) → os ≡ columns outputs → kept ≡ kept_row v side row
-    → All (λ o. o.column < length row) outputs → made_by os kept ≡ Some made
-    → made_by os kept ≡ Some (picked (map column_of outputs) row)
-made_of v side row made (groups by gs having) outputs kept plain whole below is = absurd (cc)
-made_of v side row made (columns os) outputs None plain whole below is = absurd (cc)
-made_of v side row made (columns os) outputs (Some joined) plain whole below is =
+    → ((joined : List Datum) → joined_row v.lookup side row ≡ Some joined → shown_row outputs joined ≡ cells)
+    → made_by os kept ≡ Some made → made_by os kept ≡ Some cells
+made_of v side row made cells (groups by gs having) outputs kept plain whole shown is = absurd (cc)
+made_of v side row made cells (columns os) outputs None plain whole shown is = absurd (cc)
+made_of v side row made cells (columns os) outputs (Some joined) plain whole shown is =
     let same : os ≡ outputs = cc in
     let there : joined_row v.lookup side row ≡ Some joined =
     kept_joined (passes v.filter) (joined_row v.lookup side row) joined (sym whole) in
-    ap Some
-    (ap (λ xs. shown_row xs joined) same
-    ∙ joined_shown v.lookup side row joined outputs below there)
+    ap Some (ap (λ xs. shown_row xs joined) same ∙ shown joined there)
 
 -- what such a view makes of rows
 module _ (v : View) (side : Side) (slots : List Slot) (outputs : List Output) (plain : v.outputs ≡ columns outputs)
@@ -97,8 +96,9 @@ module _ (v : View) (side : Side) (slots : List Slot) (outputs : List Output) (p
   made_one n lives made =
       let row : List Datum = row_of slots n in
       let P : ℕ → Type 0 = λ w. All (λ o. o.column < w) outputs in
-      made_of v side row made.0 v.outputs outputs (kept_row v side row) plain refl (subst P (sym (wide n lives)) narrow)
-      made.1
+      let below : P (length row) = subst P (sym (wide n lives)) narrow in
+      made_of v side row made.0 (picked (map column_of outputs) row) v.outputs outputs (kept_row v side row) plain refl
+      (λ joined is. joined_shown v.lookup side row joined outputs below is) made.1
 
   pub made_all : (numbers : List ℕ) → All (IsLiveAt slots) numbers → All Made numbers
       → picked_rows (map column_of outputs) (map (row_of slots) numbers) ≡ made_at v side slots numbers

@@ -15,8 +15,7 @@ use Rattle.group_state.specs.Reading.{CanReadAll}
 use Rattle.top_rows.specs.OrderedPlaces.{OrderedPlaces}
 use Rattle.top_rows.specs.ViewOrder.{AreFirst, IsKeptFor}
 use Rattle.row_keys.specs.Numbered.{numbered}
-use Rattle.row_keys.specs.Slots.{Slot, live, row_of}
-use Rattle.upkeep.specs.Shown.{IsLiveAt}
+use Rattle.row_keys.specs.Slots.{IsLiveAt, Slot, live, row_of}
 use Rattle.upkeep.specs.ViewStates.{IsKeptLive, made_row}
 use Rattle.upkeep.specs.declared.view_state.Kept.{Kept}
 use Rattle.upkeep.specs.declared.view_state.Kept.TheVariants as kept

@@ -1,18 +1,18 @@
 -- What is read of a view: its rows, or where they are stored.
-use Rattle.std.specs.Prelude.{◌≡◌, ℕ, ◌<◌, All, true, List, [], get_or, map}
+use Rattle.std.specs.Prelude.{◌≡◌, ℕ, ◌+◌, ◌<◌, All, IfSome, List, [], length, map}
 use Rattle.values.specs.Datum.{Datum}
-use Rattle.body_writer.specs.Picked.{picked_rows}
+use Rattle.body_writer.specs.Picked.{beside, picked_rows}
 use Rattle.view_lang.specs.Cells.{rows_of}
-use Rattle.view_lang.specs.Config.{View}
+use Rattle.view_lang.specs.Config.{Table, View}
 use Rattle.view_lang.specs.Outputs.{Output, columns}
-use Rattle.row_keys.specs.Slots.{Slot, no_slot, row_of}
+use Rattle.row_keys.specs.Places.{row_if}
+use Rattle.row_keys.specs.Slots.{IsLiveAt, Slot, row_of}
+use Rattle.upkeep.specs.Stores.{Rows, rows_at}
+use Rattle.upkeep.specs.ViewStates.{width_at, width_in}
 use Rattle.upkeep.specs.declared.shown.Shown.{Shown}
 use Rattle.upkeep.specs.declared.shown.Shown.TheVariants as shown
+use Rattle.upkeep.specs.declared.shown.JoinedColumns.{JoinedColumns}
 use Rattle.upkeep.specs.declared.shown.StoredColumns.{StoredColumns}
-
--- the row of that number is live
-abbrev pub IsLiveAt : List Slot → ℕ → Type 0
-IsLiveAt slots n = (get_or slots n no_slot).live ≡ true
 
 -- The rows are cells of live rows of the main table, which has `width` columns: those in the columns that the view
 -- shows, none of which is coded.
@@ -26,7 +26,29 @@ pub record AreStored (v : View) (width : ℕ) (slots : List Slot) (s : StoredCol
     pub live : All (IsLiveAt slots) s.visits
     pub rows_are : picked_rows s.columns.items (map (row_of slots) s.visits) ≡ rows
 
--- What is read are these rows.
-abbrev pub Shows : View → ℕ → List Slot → Shown → List (List Datum) → Type 0
-Shows v width slots (shown.Rows made) rows = rows_of made.items ≡ rows
-Shows v width slots (shown.Stored s) rows = AreStored v width slots s rows
+-- the joined rows: those of the main table with rows of a side table beside them, or with none
+abbrev pub joined_in : Rows → JoinedColumns → List (List Datum)
+joined_in rows j =
+    beside (map (row_of (rows_at rows 0)) j.visits) (map (row_if (row_of (rows_at rows j.table))) j.side_numbers.items)
+
+-- What is shown are cells of live rows of the main table with live rows of a side table beside them: those in the
+-- columns that the view shows, none of which is coded.
+pub record AreJoined (v : View) (tables : List Table) (rows : Rows) (j : JoinedColumns) (shown : List (List Datum)) :
+    Type 0 where
+  pub outputs : List Output
+  pub plain : v.outputs ≡ columns outputs
+  pub coded : v.coded_outputs ≡ []
+  pub columns_are : j.columns.items ≡ map (λ o. o.column) outputs
+  pub side : 0 < j.table
+  pub there : j.table < length tables
+  pub below : All (λ c. c < width_in tables + width_at tables j.table) j.columns.items
+  pub live : All (IsLiveAt (rows_at rows 0)) j.visits
+  pub sides_live : All (λ o. IfSome o (IsLiveAt (rows_at rows j.table))) j.side_numbers.items
+  pub many : length j.side_numbers.items ≡ length j.visits
+  pub rows_are : picked_rows j.columns.items (joined_in rows j) ≡ shown
+
+-- What is read of these tables and their rows is this.
+abbrev pub Shows : View → List Table → Rows → Shown → List (List Datum) → Type 0
+Shows v tables rows (shown.Rows made) all = rows_of made.items ≡ all
+Shows v tables rows (shown.Stored s) all = AreStored v (width_in tables) (rows_at rows 0) s all
+Shows v tables rows (shown.Joined j) all = AreJoined v tables rows j all

@@ -26,6 +26,10 @@ rows_in stores = map (λ s. s.slots) stores
 abbrev pub main_slots : List Store → List Slot
 main_slots stores = rows_at (rows_in stores) 0
 
+-- the rows of a table
+abbrev pub slots_in : List Store → ℕ → List Slot
+slots_in stores n = rows_at (rows_in stores) n
+
 -- how often a row of the main table was opened
 abbrev pub visits_in : List Store → ℕ
 visits_in stores = (get_or stores 0 (no_rows no_table)).visits

@@ -146,9 +146,13 @@ abbrev pub form_of : Links → Option (List ℕ × List KeptColumn)
 form_of (links.Rows r) = None
 form_of (links.SubGroups s) = Some (s.groups.keys, s.groups.columns)
 
--- how many columns the main table has
+-- how many columns a table has, and how many the main table
+
+abbrev pub width_at : List Table → ℕ → ℕ
+width_at tables n = length (table_at tables n).columns
+
 abbrev pub width_in : List Table → ℕ
-width_in tables = length (table_at tables 0).columns
+width_in tables = width_at tables 0
 
 -- Sub-groups are kept of the views that can be kept by them, and of the columns of which the view's groups keep
 -- something; referrers are kept of the others.

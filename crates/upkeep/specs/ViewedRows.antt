@@ -8,8 +8,7 @@ use Rattle.row_keys.specs.Slots.{live}
 use Rattle.row_keys.specs.Store.{Store}
 use Rattle.upkeep.specs.Inputs.{side_from}
 use Rattle.upkeep.specs.Shown.{Shows}
-use Rattle.upkeep.specs.Stores.{main_slots, tables_in}
-use Rattle.upkeep.specs.ViewStates.{width_in}
+use Rattle.upkeep.specs.Stores.{main_slots, rows_in, tables_in}
 use Rattle.upkeep.specs.declared.shown.Shown.{Shown}
 
 -- The view is one of these tables, and of the live rows in them.
@@ -22,4 +21,4 @@ rows_shown stores v = view_rows v (side_from stores v) (live (main_slots stores)
 
 -- These are what was read of the view.
 abbrev pub ShowsView : List Store → View → Shown → Type 0
-ShowsView stores v shown = Shows v (width_in (tables_in stores)) (main_slots stores) shown (rows_shown stores v)
+ShowsView stores v shown = Shows v (tables_in stores) (rows_in stores) shown (rows_shown stores v)

@@ -1,6 +1,7 @@
 //! Brings what is kept of all views up to rows of the main table that come or go.
 
-ghost use Rattle.std.specs.Prelude.{◌≡◌, ◌<◌, ◌≤◌, ◌+◌, ◌*◌, [], All, count_by, false, IfOk, List, OnErr, OnOk, length, map, slice_set, true};
+ghost use Rattle.std.specs.Prelude.{◌≡◌, ◌<◌, ◌≤◌, ◌+◌, ◌*◌, [], All, IfOk, List, OnErr, OnOk};
+ghost use Rattle.std.specs.Prelude.{count_by, false, length, map, slice_set, true};
 ghost use Rattle.row_keys.specs.Slots.{last_numbers};
 ghost use Rattle.view_lang.specs.Config.{Table};
 ghost use Rattle.view_lang.specs.Shifts.{NumberedRows};

@@ -30,4 +30,4 @@ mod viewed;
 
 pub use live_tables::LiveTables;
 pub use parts::{KeptParts, LinksParts, LiveTablesParts, ViewParts};
-pub use shown::{Shown, StoredColumns};
+pub use shown::{JoinedColumns, Shown, StoredColumns, are_many};

@@ -11,6 +11,7 @@ ghost use Rattle.std.specs.Prelude.{
   count_by,
   get_or,
   IfOk,
+  IfSome,
   OnErr,
   OnOk,
   length,
@@ -18,7 +19,7 @@ ghost use Rattle.std.specs.Prelude.{
   slice_set,
   true,
 };
-ghost use Rattle.body_writer.specs.Places.{IsRowAt, placed_rows};
+ghost use Rattle.body_writer.specs.Places.{IsPlaced, IsRowAt, placed_rows};
 ghost use Rattle.body_writer.specs.RowRanges.{IsRange, ranges_rows};
 ghost use Rattle.view_lang.specs.Edits.{table_of};
 ghost use Rattle.view_lang.specs.ViewColumns.{columns_by, feed_columns, key_column};
@@ -29,21 +30,30 @@ ghost use Rattle.row_keys.specs.Slots.{
   AllOut,
   CanPutBack,
   CanTakeBack,
+  IsLiveAt,
   live,
   put_back,
   row_of,
   taken_back,
 };
+ghost use Rattle.row_keys.specs.Places.{row_if};
 ghost use Rattle.row_keys.specs.Store.{live_in};
 ghost use Rattle.upkeep.specs.LiveParts.{AreOf, store_at, view_at};
 ghost use Rattle.upkeep.specs.LiveEdits.{Edited, NoneBecomesStale, TakesBack, WentBack};
-ghost use Rattle.upkeep.specs.Shown.{IsLiveAt};
-ghost use Rattle.upkeep.specs.Stores.{HaveSameRows, main_slots, rows_at, rows_in, tables_in, visits_in};
+ghost use Rattle.upkeep.specs.Stores.{
+  HaveSameRows,
+  main_slots,
+  rows_at,
+  rows_in,
+  slots_in,
+  tables_in,
+  visits_in,
+};
 ghost use Rattle.row_keys.specs.TableChanges.{CanGoBack, IsBatchOf, IsChangeOf, change_by, restores};
 ghost use Rattle.upkeep.specs.Stores.{released_at};
 ghost use Rattle.upkeep.specs.TablesParts.{AreLiveParts, live_with};
 ghost use Rattle.upkeep.specs.Touched.{OpensShown, built_of};
-ghost use Rattle.upkeep.specs.ViewStates.{width_in};
+ghost use Rattle.upkeep.specs.ViewStates.{width_at, width_in};
 ghost use Rattle.upkeep.specs.ViewedRows.{IsViewed, ShowsView};
 
 use crate::all_views::{count_stale, follow_all, follow_last, fresh_states, replace_state};
@@ -481,5 +491,22 @@ impl LiveTables {
             All (IsRowAt (width_in (tables_in self.now.stores)) found.batches.items) found.places.items) }
     {
         self.stores[0].places(visits)
+    }
+
+    /// Where live rows of a side table lie, each by itself. Where there is no number, the place is in no batch.
+    pub fn places_if(
+        &self,
+        table: usize,
+        numbers: &[Option<usize>],
+    ) -> Result<StoredPlaces<'_>, AllocError>
+        requires side { 0 < table }
+        requires there { table < length self.now.stores }
+        requires live { All (λ o. IfSome o (IsLiveAt (slots_in self.now.stores table))) numbers.now }
+        ensures rows { IfOk result (λ found. placed_rows found.batches.items found.places.items
+            ≡ map (row_if (row_of (slots_in self.now.stores table))) numbers.now) }
+        ensures placed { IfOk result (λ found.
+            All (IsPlaced (width_at (tables_in self.now.stores) table) found.batches.items) found.places.items) }
+    {
+        self.stores[table].places_if(numbers)
     }
 }

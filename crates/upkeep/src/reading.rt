@@ -1,18 +1,36 @@
 //! Reads what a view shows out of what is kept of it.
 
-ghost use Rattle.std.specs.Prelude.{◌≡◌, ◌<◌, ◌≤◌, ◌+◌, ◌++◌, All, false, IfOk, OnOk, length, List, true};
+ghost use Rattle.std.specs.Prelude.{
+  ◌≡◌,
+  ◌<◌,
+  ◌≤◌,
+  ◌+◌,
+  ◌++◌,
+  All,
+  false,
+  IfOk,
+  IfSome,
+  OnOk,
+  Some,
+  [],
+  length,
+  List,
+  map,
+  suc,
+  true,
+};
 ghost use Rattle.std.specs.Option.{option_map};
 ghost use Rattle.view_lang.specs.Cells.{rows_of};
 ghost use Rattle.view_lang.specs.Config.{Table};
-ghost use Rattle.view_lang.specs.ConfigRules.{IsView};
+ghost use Rattle.view_lang.specs.ConfigRules.{IsLookup, IsView};
 ghost use Rattle.view_lang.specs.Joined.{Side};
 ghost use Rattle.view_lang.specs.TableRules.{IsTable};
 ghost use Rattle.view_lang.specs.Outputs.{columns};
 ghost use Rattle.view_lang.specs.Views.{shown_row, view_rows};
 ghost use Rattle.row_keys.specs.Numbered.{numbered};
-ghost use Rattle.row_keys.specs.Slots.{live, row_of};
+ghost use Rattle.row_keys.specs.Slots.{IsLiveAt, live, row_of};
 ghost use Rattle.upkeep.specs.Inputs.{listed, side_from};
-ghost use Rattle.upkeep.specs.JoinedRows.{joined_cells};
+ghost use Rattle.upkeep.specs.JoinedRows.{AreLookedUp, JoinsWith, joined_cells, row_beside};
 ghost use Rattle.upkeep.specs.Reading.{
   AreShown,
   FirstsAreShown,
@@ -22,7 +40,13 @@ ghost use Rattle.upkeep.specs.Reading.{
   WhereReadable,
   made_at,
 };
-ghost use Rattle.upkeep.specs.Stores.{HaveSameRows, main_slots, tables_in, visits_in};
+ghost use Rattle.upkeep.specs.Stores.{
+  HaveSameRows,
+  main_slots,
+  slots_in,
+  tables_in,
+  visits_in,
+};
 ghost use Rattle.upkeep.specs.Touched.{opened_of};
 ghost use Rattle.upkeep.specs.ViewStates.{IsCurrentFor, is_plain, made_row};
 ghost use Rattle.upkeep.specs.ViewedRows.{IsViewed, ShowsView, rows_shown};
@@ -30,15 +54,17 @@ ghost use Rattle.upkeep.specs.declared.view_state.Kept.TheVariants as kept;
 
 use crate::inputs::join_row;
 use crate::joined_row::JoinedRow;
-use crate::shown::{Shown, StoredColumns, shown_columns, shows_stored};
+use crate::shown::{JoinedColumns, Shown, StoredColumns, are_many, shown_columns, shows_stored};
 use crate::view_state::{Kept, ViewState};
 use group_order::RankedGroups;
-use row_keys::{RowStore, numbers_law};
+use row_keys::{RowStore, Visit, Visits, numbers_law};
 use std::alloc::{AllocError, Global};
 use top_rows::Ordered;
 use values::limits::MAX_MAIN_ROWS;
 use values::{KeyBuffer, Row};
-use view_lang::{Output, Outputs, View, image_law, one_by_one_law, project, rows_law};
+use view_lang::{
+    Lookup, Output, Outputs, RowView, View, image_law, one_by_one_law, project, rows_law,
+};
 
 /// What can be read out of what is kept of a view. It does nothing: its contract is the theorem.
 fn reading_law()
@@ -151,6 +177,111 @@ fn push_some(rows: &mut Vec<Row>, row: Option<Row>) -> Result<(), AllocError>
     }
 }
 
+/// The number of the side table's row that is looked up for a visited row, if there is one.
+fn side_number(
+    stores: &[RowStore],
+    lookup: Lookup,
+    visit: Visit,
+    keys: &mut KeyBuffer,
+) -> Result<Option<usize>, AllocError>
+    requires lookup { IsLookup (tables_in stores.now) (Some lookup) }
+    requires there { visit < length (main_slots stores.now) }
+    ensures row { IfOk result (λ number. option_map (row_of (slots_in stores.now (suc lookup.side))) number
+        ≡ row_beside stores.now lookup visit) }
+    ensures live { IfOk result
+        (λ number. IfSome number (IsLiveAt (slots_in stores.now (suc lookup.side)))) }
+{
+    let row = stores[0].row(visit);
+    stores[lookup.side + 1].number_with_key(keys, row.cell(lookup.on))
+}
+
+/// The numbers of the side table's rows that are looked up for visited rows, where there are such rows.
+fn side_numbers(
+    alloc: Global,
+    stores: &[RowStore],
+    lookup: Lookup,
+    visits: &Visits,
+) -> Result<Vec<Option<usize>>, AllocError>
+    requires lookup { IsLookup (tables_in stores.now) (Some lookup) }
+    requires there { All (λ n. n < length (main_slots stores.now)) visits.now }
+    ensures rows { IfOk result (λ numbers. AreLookedUp stores.now lookup visits.now numbers.items) }
+    ensures live { IfOk result
+        (λ numbers. All (λ o. IfSome o (IsLiveAt (slots_in stores.now (suc lookup.side)))) numbers.items) }
+{
+    let mut keys = KeyBuffer::new(alloc);
+    let mut numbers = Vec::with_capacity(alloc, visits.len())?;
+    for place in 0..visits.len() {
+        numbers.push(side_number(stores, lookup, visits.at(place), &mut keys)?)?;
+    }
+    Ok(numbers)
+}
+
+/// Whether a view that looks up rows of a side table shows so many rows from where they are stored.
+fn shows_joined(stores: &[RowStore], view: &View, lookup: Lookup, count: usize) -> bool
+    requires { suc lookup.side < length stores.now }
+    ensures { result ≡ true → view.now.coded_outputs ≡ [] }
+{
+    view.coded_outputs.is_empty()
+        && are_many(count, stores[0].len())
+        && are_many(count, stores[lookup.side + 1].len())
+}
+
+/// Visits the rows of these numbers.
+fn visit_all(stores: &mut Vec<RowStore>, numbers: Vec<usize>) -> Visits
+    requires { 0 < length stores.old.items }
+    ensures numbers { result ≡ numbers.items }
+    ensures same_rows { HaveSameRows stores.old.items stores.new.items }
+    ensures visits { visits_in stores.new.items ≤ visits_in stores.old.items + length numbers.items }
+{
+    stores[0].visit_all(numbers)
+}
+
+/// The columns of joined rows that a plain view with these outputs shows, of which these are the numbers. Only these are
+/// visited.
+fn show_joined(
+    alloc: Global,
+    stores: &mut Vec<RowStore>,
+    lookup: Lookup,
+    outputs: &[Output],
+    numbers: Vec<usize>,
+) -> Result<JoinedColumns, AllocError>
+    requires main { 0 < length stores.old.items }
+    requires lookup { IsLookup (tables_in stores.old.items) (Some lookup) }
+    requires there { All (λ n. n < length (main_slots stores.old.items)) numbers.items }
+    ensures joined { IfOk result (JoinsWith stores.old.items lookup outputs.now numbers.items) }
+    ensures same_rows { HaveSameRows stores.old.items stores.new.items }
+    ensures visits { visits_in stores.new.items ≤ visits_in stores.old.items + length numbers.items }
+{
+    let columns = shown_columns(alloc, outputs)?;
+    let visits = visit_all(stores, numbers);
+    let side_numbers = side_numbers(alloc, stores, lookup, &visits)?;
+    Ok(JoinedColumns {
+        columns,
+        visits,
+        table: lookup.side + 1,
+        side_numbers,
+    })
+}
+
+/// The columns of the main table that a plain view with these outputs shows, of which these are the numbers. Only these
+/// are visited.
+fn show_stored(
+    alloc: Global,
+    stores: &mut Vec<RowStore>,
+    outputs: &[Output],
+    numbers: Vec<usize>,
+) -> Result<StoredColumns, AllocError>
+    requires { 0 < length stores.old.items }
+    ensures columns { IfOk result (λ stored. stored.columns.items ≡ map (λ o. o.column) outputs.now) }
+    ensures visits { IfOk result (λ stored. stored.visits ≡ numbers.items) }
+    ensures same_rows { HaveSameRows stores.old.items stores.new.items }
+    ensures counted { visits_in stores.new.items ≤ visits_in stores.old.items + length numbers.items }
+{
+    let columns = shown_columns(alloc, outputs)?;
+    let visits = visit_all(stores, numbers);
+    Ok(StoredColumns { columns, visits })
+}
+
 /// What a plain view with these outputs shows, of which these are the numbers. Only these are visited.
 fn show_columns(
     alloc: Global,
@@ -168,15 +299,20 @@ fn show_columns(
     ensures same_rows { HaveSameRows stores.old.items stores.new.items }
     ensures visits { visits_in stores.new.items ≤ visits_in stores.old.items + length numbers.items }
 {
-    if !shows_stored(view, outputs, stores[0].table().columns.len()) {
-        let rows = make_rows(alloc, stores, view, outputs, &numbers)?;
-        return Ok(Shown::Rows(rows));
+    if shows_stored(view, outputs, stores[0].table().columns.len()) {
+        // It does nothing: the proof takes from it that live rows have a cell in each column.
+        stores[0].rows_law();
+        let stored = show_stored(alloc, stores, outputs, numbers)?;
+        return Ok(Shown::Stored(stored));
     }
-    // It does nothing: the proof takes from it that live rows have a cell in each column.
-    stores[0].rows_law();
-    let columns = shown_columns(alloc, outputs)?;
-    let visits = stores[0].visit_all(numbers);
-    Ok(Shown::Stored(StoredColumns { columns, visits }))
+    if let Some(lookup) = view.lookup {
+        if shows_joined(stores, view, lookup, numbers.len()) {
+            let joined = show_joined(alloc, stores, lookup, outputs, numbers)?;
+            return Ok(Shown::Joined(joined));
+        }
+    }
+    let rows = make_rows(alloc, stores, view, outputs, &numbers)?;
+    Ok(Shown::Rows(rows))
 }
 
 /// What a plain view shows, of which these are the numbers. Only these are visited.

@@ -1,6 +1,6 @@
 //! What is read of a view: its rows, or where they are stored.
 
-ghost use Rattle.std.specs.Prelude.{◌≡◌, ◌<◌, All, IfOk, [], map, true};
+ghost use Rattle.std.specs.Prelude.{◌≡◌, ◌/◌, ◌<◌, All, IfOk, [], map, nat_le, true};
 
 use row_keys::Visits;
 use std::alloc::{AllocError, Global};
@@ -14,6 +14,8 @@ pub enum Shown {
     Rows(Vec<Row>),
     /// Columns of the main table as they are stored, none of which is coded.
     Stored(StoredColumns),
+    /// Columns of the main table and of a side table as they are stored, none of which is coded.
+    Joined(JoinedColumns),
 }
 
 /// Columns of the main table, by their positions, and visits of the rows of which they are shown.
@@ -21,6 +23,27 @@ pub enum Shown {
 pub struct StoredColumns {
     pub columns: Vec<usize>,
     pub visits: Visits,
+}
+
+/// Columns of joined rows, by their positions: the main table's come first, then the side table's. The rows are those
+/// that are visited, and for each of them the row of this number in this side table, or none.
+#[derive(Drop)]
+pub struct JoinedColumns {
+    pub columns: Vec<usize>,
+    pub visits: Visits,
+    pub table: usize,
+    pub side_numbers: Vec<Option<usize>>,
+}
+
+/// One in so many of a table's rows are many.
+const FEW: usize = 8;
+
+/// Whether so many of all rows of a table are written sooner column by column, each from where it is stored, than row by
+/// row. What is found for that in each of the table's batches pays for many rows only.
+pub fn are_many(count: usize, all: usize) -> bool
+    ensures { result ≡ nat_le (all / 8) count }
+{
+    count >= all / FEW
 }
 
 /// Whether a plain view with these outputs shows no more than columns of the main table, of which it has `width`, as

@@ -31,7 +31,7 @@ ghost use Rattle.array_layout.specs.Buffers.{is_null};
 ghost use Rattle.array_layout.specs.Cells.{cell, coded_by};
 ghost use Rattle.arrays.specs.Encoded.{HasIndices};
 ghost use Rattle.body_writer.specs.Slots.{cell_of, cells_of};
-ghost use Rattle.body_writer.specs.Runs.{cell_in};
+ghost use Rattle.body_writer.specs.Runs.{IsReadAs, cell_in};
 ghost use Rattle.body_writer.specs.Pieces.{
   IsChecked,
   IsEncoded,
@@ -114,8 +114,7 @@ pub(crate) fn value_in<'a>(
     requires room { bytes_in width * (i + 1) ≤ length indices.now }
     ensures missing { is_null bits.now i ≡ true → cell_of result ≡ null }
     ensures found { is_null bits.now i ≡ false → (signed : Bool)
-        → IsValid (coded_by (Int width signed) values.now indices.now i)
-        → cell_of result ≡ cell_in (coded_by (Int width signed) values.now indices.now i) }
+        → IsReadAs (coded_by (Int width signed) values.now indices.now i) (cell_of result) }
 {
     let is_null = is_null_at(bits, i);
     if is_null {

@@ -21,7 +21,8 @@ fn array_at<'a, 'b>(
     arrays: &'b [Option<PlainArray<'a>>],
     place: &RowPlace,
 ) -> Option<&'b PlainArray<'a>>
-    ensures { MatchOption result (place_cell arrays.now place.now ≡ null) (λ a. (l : Layouts) → Fits l arrays.now place.now
+    ensures { MatchOption result (place_cell arrays.now place.now ≡ null)
+        (λ a. (l : Layouts) → Fits l arrays.now place.now
         → IsSlotAt l a.now place.now.row (place_cell arrays.now place.now)) }
 {
     match arrays.get(place.batch) {

@@ -18,7 +18,7 @@ ghost use Rattle.body_writer.specs.Columns.{
   validity as validity_of,
 };
 ghost use Rattle.body_writer.specs.Grows.{Appends, Grows};
-ghost use Rattle.body_writer.specs.Runs.{slot_bytes};
+ghost use Rattle.body_writer.specs.Runs.{fixed_buffers, slot_bytes};
 ghost use Rattle.body_writer.specs.Batch.{body_bytes, body_nodes, body_ranges};
 ghost use Rattle.body_writer.specs.Texts.{as_bytes};
 ghost use Rattle.body_writer.specs.Places.{
@@ -108,8 +108,7 @@ fn write_slots(
     requires few { length places.now < 2 ^ 31 }
     ensures { OnOk result
         (Grows body.old body.new (own_node (place_cells arrays.now places.now) ∷ [])
-        (validity_of (place_cells arrays.now places.now)
-        ∷ flat_map (slot_bytes layout) (place_cells arrays.now places.now) ∷ [])) }
+        (fixed_buffers layout (place_cells arrays.now places.now))) }
 {
     write_validity(alloc, arrays, places, body)?;
     append_slots(layout, arrays, places, body)
@@ -164,7 +163,8 @@ fn write_copies(
     requires held { All (Holds layout.now) (column_at j rows.now) }
     requires light { weights layout.now (column_at j rows.now) < 2 ^ 31 }
     ensures { OnOk result
-        (Grows body.old body.new (nodes layout.now (column_at j rows.now)) (buffers layout.now (column_at j rows.now))) }
+        (Grows body.old body.new (nodes layout.now (column_at j rows.now))
+        (buffers layout.now (column_at j rows.now))) }
 {
     let values = copies_at(alloc, rows.batches, rows.places, j)?;
     let cells = refs_of(alloc, &values)?;
@@ -184,7 +184,8 @@ fn write_cells(
     requires held { All (Holds layout.now) (column_at j rows.now) }
     requires light { weights layout.now (column_at j rows.now) < 2 ^ 31 }
     ensures { OnOk result
-        (Grows body.old body.new (nodes layout.now (column_at j rows.now)) (buffers layout.now (column_at j rows.now))) }
+        (Grows body.old body.new (nodes layout.now (column_at j rows.now))
+        (buffers layout.now (column_at j rows.now))) }
 {
     let pieces = pieces_at(alloc, rows.batches, rows.places, j)?;
     match model_of(&pieces, layout) {

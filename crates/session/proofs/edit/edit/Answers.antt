@@ -1,4 +1,4 @@
-use Rattle.std.proofs.Common.{◌≡◌, ◌∷◌, ◌<◌, ℕ, List, None, arith, length, subst, sym}
+use Rattle.std.proofs.Common.{◌≡◌, ◌∷◌, ◌<◌, ℕ, List, arith, length, subst, sym}
 use Rattle.std.proofs.lemmas.Result.{err_from_is_err_and}
 use Rattle.view_lang.specs.Config.{Table, View}
 use Rattle.view_lang.specs.Edits.{Edit}
@@ -8,7 +8,7 @@ use Rattle.upkeep.specs.StoreLaws.{rows_length}
 use Rattle.session.specs.Changes.{edit_by}
 use Rattle.upkeep.specs.Touched.{OpensOnce, touched}
 use Rattle.session.specs.Shows.{HoldsBack, ShowsPast}
-use Rattle.session.specs.Steps.{Past, unfit_in}
+use Rattle.session.specs.Steps.{unfit_in}
 use Rattle.session.proofs.Pasts.{edit_refused, edit_shown, edit_whole}
 use Rattle.session.proofs.TouchedRows.{opens_after}
 use Rattle.session.proofs.edit.edit.Goals as goal

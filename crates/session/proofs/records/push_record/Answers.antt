@@ -1,5 +1,4 @@
-use Rattle.std.proofs.Common.{◌≡◌, ◌∷◌, ◌++◌, [], ◌≤◌, List, ap, arith, length, slice_get, subst, suc, sym, take, ◌∙◌}
-use Rattle.std.specs.Prelude.{IfSome}
+use Rattle.std.proofs.Common.{◌≡◌, ◌∷◌, ◌≤◌, List, ap, arith, length, slice_get, suc, sym, take, ◌∙◌}
 use Rattle.circular_buffer.specs.Buffer.{Buffer}
 use Rattle.view_lang.specs.Limits.{max_undo_depth}
 use Rattle.session.specs.declared.undo.UndoRecord.{UndoRecord}

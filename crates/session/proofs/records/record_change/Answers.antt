@@ -1,4 +1,4 @@
-use Rattle.std.proofs.Common.{◌≡◌, ◌<◌, ◌∙◌, ◌∷◌, ◌++◌, ◌-◌, [], List, ap, arith, length, subst, sym, take}
+use Rattle.std.proofs.Common.{◌≡◌, ◌∙◌, ◌∷◌, ◌++◌, ◌-◌, [], List, ap, arith, subst, sym, take}
 use Rattle.view_lang.specs.Limits.{max_undo_depth}
 use Rattle.upkeep.specs.Stores.{Rows, rows_in, tables_in}
 use Rattle.upkeep.specs.StoreLaws.{rows_length}

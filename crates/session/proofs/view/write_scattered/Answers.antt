@@ -1,13 +1,11 @@
-use Rattle.std.proofs.Common.{◌≡◌, ℕ, ◌∙◌, ◌<◌, All, List, ap, map, subst, sym}
+use Rattle.std.proofs.Common.{ℕ, ◌∙◌, ◌<◌, All, List, ap, subst, sym}
 use denote.Ref.{Bor}
 use Rattle.body_writer.specs.declared.from_columns.batch.Batch.{Batch}
 use Rattle.body_writer.specs.Places.{IsRowAt, placed_rows}
 use Rattle.body_writer.specs.Picked.{picked_rows}
-use Rattle.stream_writer.specs.JoinedRows.{joined_rows}
 use Rattle.stream_writer.specs.Sinks.{Writes}
 use Rattle.stream_writer.specs.Stream.{canon}
 use Rattle.stream_writer.specs.Table.{IsTable}
-use Rattle.row_keys.specs.Slots.{row_of}
 use Rattle.upkeep.specs.Stores.{rows_at, rows_in, tables_in}
 use Rattle.upkeep.specs.ViewStates.{width_in}
 use Rattle.session.proofs.view.write_scattered.Goals as goal

@@ -7,7 +7,7 @@ use Rattle.view_lang.specs.Views.{view_rows}
 use Rattle.row_keys.specs.Slots.{live}
 use Rattle.upkeep.specs.Inputs.{side_by}
 use Rattle.upkeep.specs.LiveParts.{view_at}
-use Rattle.upkeep.specs.Shown.{AreStored, Shows}
+use Rattle.upkeep.specs.Shown.{AreJoined, AreStored, Shows}
 use Rattle.upkeep.specs.StoreLaws.{rows_length}
 use Rattle.upkeep.specs.Stores.{rows_at, rows_in, tables_in}
 use Rattle.upkeep.specs.ViewStates.{width_in}
@@ -22,7 +22,7 @@ write_coded-requires-clause-table g c =
     let rows = rows_in c.args.tables.now.stores in
     let v : View = view_at c.args.tables.now.views c.args.place in
     let all : List (List Datum) = view_rows v (side_by tables rows v) (live (rows_at rows 0)) in
-    let S : Shown → Type 0 = λ s. Shows v (width_in tables) (rows_at rows 0) s all in
+    let S : Shown → Type 0 = λ s. Shows v tables rows s all in
     let same : rows_of c.deref-in-Rows.result.now ≡ all = ap rows_of c.deref-in-Rows.ensures.value ∙ subst S c.in-Rows.is c.requires.shown in
     shown_fits c.rows_law.ensures.light c.rows_law.ensures.views c.rows_law.ensures.few c.config_law.ensures.views
     tables rows v c.args.schema.now.fields.items (rows_of c.deref-in-Rows.result.now) c.requires.viewed c.requires.schema same
@@ -41,7 +41,7 @@ returns-in-Rows g c =
     let rows = rows_in c.args.tables.now.stores in
     let v : View = view_at c.args.tables.now.views c.args.place in
     let all : List (List Datum) = view_rows v (side_by tables rows v) (live (rows_at rows 0)) in
-    let S : Shown → Type 0 = λ s. Shows v (width_in tables) (rows_at rows 0) s all in
+    let S : Shown → Type 0 = λ s. Shows v tables rows s all in
     let same : rows_of c.deref-in-Rows.result.now ≡ all = ap rows_of c.deref-in-Rows.ensures.value ∙ subst S c.in-Rows.is c.requires.shown in
     let many = rows_length c.args.tables.now.stores in
     let some : 0 < length rows = omega (arith, many, c.requires.main) in
@@ -60,7 +60,7 @@ write_stored-requires g c =
     let rows = rows_in c.args.tables.now.stores in
     let v : View = view_at c.args.tables.now.views c.args.place in
     let all : List (List Datum) = view_rows v (side_by tables rows v) (live (rows_at rows 0)) in
-    let S : Shown → Type 0 = λ s. Shows v (width_in tables) (rows_at rows 0) s all in
+    let S : Shown → Type 0 = λ s. Shows v tables rows s all in
     let stored : AreStored v (width_in tables) (rows_at rows 0) c.in-Stored.stored all = subst S c.in-Stored.is c.requires.shown in
     record {
       live = stored.live;
@@ -78,7 +78,7 @@ returns-in-Stored g c =
     let rows = rows_in c.args.tables.now.stores in
     let v : View = view_at c.args.tables.now.views c.args.place in
     let all : List (List Datum) = view_rows v (side_by tables rows v) (live (rows_at rows 0)) in
-    let S : Shown → Type 0 = λ s. Shows v (width_in tables) (rows_at rows 0) s all in
+    let S : Shown → Type 0 = λ s. Shows v tables rows s all in
     let stored : AreStored v (width_in tables) (rows_at rows 0) c.in-Stored.stored all = subst S c.in-Stored.is c.requires.shown in
     let many = rows_length c.args.tables.now.stores in
     let some : 0 < length rows = omega (arith, many, c.requires.main) in
@@ -86,3 +86,35 @@ returns-in-Stored g c =
     (stream_is tables rows v c.args.schema.now.fields.items [] _ some c.requires.schema (sym stored.coded)
     stored.rows_are)
     c.write_stored.ensures
+
+pub write_joined-requires : goal.write_joined-requires
+write_joined-requires g c =
+    let tables = tables_in c.args.tables.now.stores in
+    let rows = rows_in c.args.tables.now.stores in
+    let v : View = view_at c.args.tables.now.views c.args.place in
+    let all : List (List Datum) = view_rows v (side_by tables rows v) (live (rows_at rows 0)) in
+    let S : Shown → Type 0 = λ s. Shows v tables rows s all in
+    let joined : AreJoined v tables rows c.in-Joined.joined all = subst S c.in-Joined.is c.requires.shown in
+    record {
+      joined = (v, all, joined);
+      many = stored_many tables v joined.outputs c.in-Joined.joined.columns.items c.args.schema.now.fields.items
+          joined.plain joined.columns_are c.requires.schema;
+      table = shown_fits c.rows_law.ensures.light c.rows_law.ensures.views c.rows_law.ensures.few
+          c.config_law.ensures.views tables rows v c.args.schema.now.fields.items _ c.requires.viewed c.requires.schema
+          joined.rows_are;
+    }
+
+pub returns-in-Joined : goal.returns-in-Joined
+returns-in-Joined g c =
+    let tables = tables_in c.args.tables.now.stores in
+    let rows = rows_in c.args.tables.now.stores in
+    let v : View = view_at c.args.tables.now.views c.args.place in
+    let all : List (List Datum) = view_rows v (side_by tables rows v) (live (rows_at rows 0)) in
+    let S : Shown → Type 0 = λ s. Shows v tables rows s all in
+    let joined : AreJoined v tables rows c.in-Joined.joined all = subst S c.in-Joined.is c.requires.shown in
+    let many = rows_length c.args.tables.now.stores in
+    let some : 0 < length rows = omega (arith, many, c.requires.main) in
+    subst (Writes (g.S.Sink.sunk c.args.sink.now) (g.S.Sink.sunk c.write_joined.new.sink) c.write_joined.result)
+    (stream_is tables rows v c.args.schema.now.fields.items [] _ some c.requires.schema (sym joined.coded)
+    joined.rows_are)
+    c.write_joined.ensures

@@ -169,3 +169,15 @@ hold-requires-clause-within c =
     subst P (sym c.reserve-2.ensures.items)
     (place_within c.place_null.new.keys c.insert.new.self c.place_null.new.holders.items es
     c.self.inside.live c.in_ok-place.place c.args.key st.index c.in_ok-place.ensures.place)
+
+pub invariant_of-self-in_err-reserve-2 : goal.invariant_of-self-in_err-reserve-2
+invariant_of-self-in_err-reserve-2 c =
+    let es = all_entries c.self.inside.kept.items c.self.inside.len in
+    let st =
+    started c.self.inside.keys c.place_null.new.keys c.self.inside.holders.items c.place_null.new.holders.items
+    es c.self.inside.live c.self.invariant.index c.in_ok-place_null.ensures.ok in
+    rw (c.reserve-2.ensures.items, c.reserve.ensures.items) (record {
+      index = st.index;
+      order = c.self.invariant.order;
+      bound = c.self.invariant.bound;
+    })

@@ -1,6 +1,6 @@
-use Rattle.std.proofs.Common.{◌++◌, ap, sym, subst, ◌∙◌}
+use Rattle.std.proofs.Common.{◌++◌, ap, sym, ◌∙◌}
 use Rattle.std.proofs.lemmas.Result.{IfOk-weaker}
-use Rattle.row_keys.specs.HiddenChanges.{NamesRows, named_numbers}
+use Rattle.row_keys.specs.HiddenChanges.{named_numbers}
 use Rattle.row_keys.specs.Slots.{last_numbers}
 use Rattle.row_keys.specs.declared.table_change.TableChange.{TableChange}
 use Rattle.row_keys.proofs.NamedRows.{listed_there}

@@ -12,7 +12,7 @@ pub places_if-requires : goal.places_if-requires
 places_if-requires c =
     let P : Store → Type 0 = λ s. All (λ o. IfSome o (λ n. (get_or s.slots n no_slot).live ≡ true)) c.args.numbers.now in
     live_kept_if c.self.inside.table c.self.inside.rows c.self.inside.numbers c.self.invariant c.args.numbers.now
-    (subst P (sym c.self.view_is) c.requires)
+    (subst P (sym c.self.view_is) c.requires.live)
 
 pub returns-clause-rows : goal.returns-clause-rows
 returns-clause-rows c =
@@ -20,7 +20,7 @@ returns-clause-rows c =
     IfOk-weaker c.places_if.result _ _
     (λ found rows. rows
     ∙ live_mapped_if c.self.inside.table c.self.inside.rows c.self.inside.numbers c.self.invariant c.args.numbers.now
-    (subst P (sym c.self.view_is) c.requires)
+    (subst P (sym c.self.view_is) c.requires.live)
     ∙ ap (λ (s : Store). map (row_if (row_of s.slots)) c.args.numbers.now) c.self.view_is)
     c.places_if.ensures.rows
 
@@ -28,7 +28,7 @@ pub returns-clause-placed : goal.returns-clause-placed
 returns-clause-placed c =
     let P : Store → Type 0 = λ s. All (λ o. IfSome o (λ n. (get_or s.slots n no_slot).live ≡ true)) c.args.numbers.now in
     let wide = live_wide_if c.self.inside.table c.self.inside.rows c.self.inside.numbers c.self.invariant
-    c.args.numbers.now (subst P (sym c.self.view_is) c.requires) in
+    c.args.numbers.now (subst P (sym c.self.view_is) c.requires.live) in
     IfOk-weaker c.places_if.result _ _
     (λ found placed.
     subst (λ (s : Store). All (IsPlaced (length s.table.columns) found.batches.items) found.places.items)

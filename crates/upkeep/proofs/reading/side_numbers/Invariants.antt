@@ -1,0 +1,12 @@
+use Rattle.std.proofs.Common.{suc, All, take}
+use Rattle.std.specs.Prelude.{IfSome}
+use Rattle.row_keys.specs.Slots.{IsLiveAt}
+use Rattle.upkeep.specs.JoinedRows.{AreLookedUp}
+use Rattle.upkeep.specs.Stores.{slots_in}
+use Rattle.upkeep.proofs.reading.side_numbers.Given as goal
+
+abbrev pub invariant-loop-place : goal.invariant-loop-place
+invariant-loop-place l = record {
+  rows : AreLookedUp l.stores l.lookup (take l.place l.visits) l.numbers.items;
+  live : All (λ o. IfSome o (IsLiveAt (slots_in l.stores (suc l.lookup.side)))) l.numbers.items;
+}
