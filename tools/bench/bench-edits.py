@@ -2,7 +2,7 @@
 """Processor time and memory of edits by `lv run`: rows that come in batches, beside `lv recast` of the same stream, and then edits of one row
 each over 10,000 and over 1,000,000 live rows; and of writing views of these. Rows are of int64, utf8 of 10 bytes, int64 and int64. Where valgrind is
 there, the instructions of an edit and of an undo too, which other work on the machine doesn't change, and how often each asks for memory. Then the
-times of a view of the first ten of 1,000, of 100,000 and of 1,000,000 groups in an order of theirs."""
+times of a view of the first ten of 1,000, of 100,000 and of 1,000,000 groups in an order of theirs, and what each view takes by itself."""
 
 import os
 import re
@@ -30,25 +30,36 @@ columns = [["i", "int64"], ["n", "utf8"], ["a", "int64"], ["z", "int64"]]
 [feed.rows]
 role = "append"
 """ + "".join(f'[feed.more{it}]\nrole = "append"\n[feed.gone{it}]\nrole = "retract"\n' for it in range(ROUNDS))
-CONFIG = TABLE + """
+VIEWS = {
+    "all": """
 [view.all]
 columns = [["i", "col", "i"], ["n", "col", "n"], ["a", "col", "a"]]
+""",
+    "sorted": """
 [view.sorted]
 columns = [["i", "col", "i"], ["n", "col", "n"], ["a", "col", "a"]]
 order = [["n", "asc"], ["a", "desc"]]
+""",
+    "first": """
 [view.first]
 columns = [["i", "col", "i"], ["n", "col", "n"], ["a", "col", "a"]]
 order = [["n", "asc"], ["a", "desc"]]
 first = 10
+""",
+    "groups": """
 [view.groups]
 group = ["n"]
 columns = [["n", "col", "n"], ["rows", "count"], ["sum", "sum", "a"], ["most", "greatest", "a"]]
 order = [["sum", "desc"]]
 first = 10
+""",
+    "zones": """
 [view.zones]
 group = ["z"]
 columns = [["z", "col", "z"], ["rows", "count"], ["sum", "sum", "a"]]
-"""
+""",
+}
+CONFIG = TABLE + "".join(VIEWS.values())
 ORDERED = TABLE + """
 [view.first]
 group = ["z"]
@@ -154,6 +165,20 @@ def time_ordered_groups(folder, groups, edits, writes):
     print(f"{1e6 * (written[0] - rows[0]) / writes:.0f} microseconds for a write of the first ten")
 
 
+def tell_views(folder, live, edits):
+    """What each view takes by itself, beside a table without views."""
+    for name in ("none", *VIEWS):
+        bench = Bench(folder, TABLE + VIEWS.get(name, ""), ZONES)
+        bench.streams(live, edits)
+        rows = bench.run(["rows"])
+        print(f"view {name}: {1e6 * rows[0] / live:.1f} microseconds and {rows[1] / live:.0f} bytes a row of {live:,}", end="")
+        if shutil.which("valgrind"):
+            bench.streams(10_000, edits)
+            each, _ = count_edits(bench, instructions, edits)
+            print(f"; over 10,000 rows {each[0]:,.0f} instructions an append and {each[1]:,.0f} a retract", end="")
+        print()
+
+
 def main():
     os.chdir(os.path.abspath(f"{__file__}/../../.."))
     if not os.path.exists(LV):
@@ -184,6 +209,7 @@ def main():
                     print(f"; of a row that is loaded: {loaded / live:,.1f}")
         for groups in (1_000, 100_000, 1_000_000):
             time_ordered_groups(folder, groups, edits, 20_000)
+        tell_views(folder, 1_000_000, edits // 20)
 
 
 if __name__ == "__main__":
