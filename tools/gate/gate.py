@@ -12,8 +12,9 @@ In a copy of the tree, which holds nothing of an earlier run, and in lanes besid
    the streams that the tests of `damage_tests` change are compared with those that their tool makes.
 
 Then the must-fail edits that are due are tried (must_fail.py, records.py), until a time: none is begun later, and the gate
-says of which crates some weren't. With --all all edits are tried, however long it takes, and the tests' own functions are proved too,
-which takes longer than all that a test could show: that they index no array out of its bounds, and the like.
+says of which crates some weren't. With --rest those of each crate are due that isn't recorded as it stands, however long they take, and
+with --all all edits. With either the tests' own functions are proved too, which takes longer than all that a test could show: that they
+index no array out of its bounds, and the like.
 
 What a task waits for is all that orders them, so tests are run while crates wait for those below them, and edits where nothing else is
 ready.
@@ -39,12 +40,12 @@ from typing import Callable
 sys.dont_write_bytecode = True
 from lanes import Lanes, PARTS, below, crates_of, files_below, link, most_lanes, read, run
 from must_fail import Trial
-from records import RECORD, all_of, part_of, plan, turn_of
+from records import RECORD, all_of, none_of, part_of, plan, turn_of
 
 ROOT = os.path.abspath(f"{__file__}/../../..")
 PROGRAM, LIBRARY = "lv", "lv_c"
-# The merge has 180 minutes.
-UNTIL = 130
+# On two cores the gate takes 90 minutes.
+UNTIL = 80
 # How many seconds a crate's tests may take with run-time checks; and the tests that take longer so than with their proof.
 SECONDS_OF_TESTS = 300
 PROVED_TESTS = ("damage_tests",)
@@ -355,23 +356,27 @@ def apart(tree):
 def arguments():
     parser = argparse.ArgumentParser(description="The merge gate: proofs from nothing, contracts, layout, tests, runs, must-fail edits.")
     parser.add_argument("--jobs", type=int, default=most_lanes(), help="how many checks run side by side")
-    parser.add_argument("--all", action="store_true", help="try all edits, also of crates whose edits were all refused, and prove the tests")
-    parser.add_argument("--until", type=float, metavar="MINUTES", help=f"begin no edit later: {UNTIL}, or with --all whenever")
+    parts = parser.add_mutually_exclusive_group()
+    parts.add_argument("--rest", action="store_true", help="try no edit of crates as they were recorded, all of the others, and prove the tests")
+    parts.add_argument("--all", action="store_true", help="try all edits, and prove the tests")
+    parser.add_argument("--until", type=float, metavar="MINUTES", help=f"begin no edit later: {UNTIL}, or with --rest or --all whenever")
     parser.add_argument("--record", action="store_true", help=f"note in {RECORD} of which crates all that were due were refused")
     words = parser.parse_args()
+    words.is_whole = words.rest or words.all
     if words.until is None:
-        words.until = math.inf if words.all else UNTIL
+        words.until = math.inf if words.is_whole else UNTIL
     return words
 
 
 def main():
     words, began = arguments(), time.monotonic()
     with tempfile.TemporaryDirectory(prefix="lv-gate-") as room:
-        gate = Gate(apart(copied(f"{room}/tree")), room, words.jobs, words.all)
+        gate = Gate(apart(copied(f"{room}/tree")), room, words.jobs, words.is_whole)
         print(free(room), flush=True)
         if read(f"{ROOT}/HANDLES") != "Handles allowed: none.\n":
             gate.failed.append("HANDLES")
-        planned = plan(gate.tree, [*gate.crates], all_of if words.all else part_of(ROOT), turn_of(ROOT))
+        of_known = all_of if words.all else none_of if words.rest else part_of(ROOT)
+        planned = plan(gate.tree, [*gate.crates], of_known, turn_of(ROOT))
         trial = gate.work(planned, lambda: time.monotonic() - began < words.until * 60)
         if words.record:
             planned.record(ROOT, trial, [*gate.crates])

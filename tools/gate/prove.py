@@ -65,6 +65,9 @@ class Proving:
             is_well = ran.status == 0 and (proved is not None or word != "check")
             if is_well:
                 self.keep(lane, crate, what)
+            else:
+                # the next one begins with the functions that were proved
+                keep(lane, crate, self.tree, [])
         count = re.search(r"functions=(\d+)", proved[0] if proved else "")
         said = f"well, {count[1] if count else '?'} functions" if is_well else f"FAILED: {told(ran.text)}"
         print(f"{word} {crate}: {said}, {ran.seconds:.0f} s, {time.monotonic() - began:.0f} s by the clock", flush=True)
