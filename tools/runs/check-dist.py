@@ -1,9 +1,11 @@
 #!/usr/bin/env python3
-"""Tries the packages that `make dist` left in out/dist as a new user would: each is unpacked in a folder of its own and used there, with
-no toolchain on the PATH and with the examples that the package brings.
+"""Tries the packages that `make dist` left in out/dist as a new user would: each is installed in a folder of its own and used there, with
+no toolchain on the PATH and with the examples that the package brings. By root the Debian package is installed by dpkg, as a system of
+its own that has nothing else; by others it is unpacked.
 
-The report must be written by `lv run`, by `lv live` over pipes, by C as pkg-config links it, and by Python; a stream must go through
-`lv recast - -`. What `make uninstall` leaves is nothing.
+The report must be written by `lv run`, by `lv live` over pipes, by C as pkg-config links it, and by Python, also by the package that pip
+makes where pip is there; a stream must go through `lv recast - -`. The completions must be those of lv, and the licenses there. What
+`make uninstall` and dpkg leave is nothing.
 """
 import hashlib
 import os
@@ -11,12 +13,14 @@ import shutil
 import subprocess
 import sys
 import tempfile
-from dataclasses import dataclass, field
+from dataclasses import dataclass, field, replace
 
 sys.dont_write_bytecode = True
 ROOT = os.path.abspath(f"{__file__}/../../..")
 DIST = f"{ROOT}/out/dist"
 LAST = "live rows 5, stale 0"
+# Libraries that are linked in and have a license of their own.
+LICENSED = ("byteorder", "circular_buffer", "clap", "indexmap", "simdutf8", "smallvec", "thiserror", "toml")
 
 
 def read_bytes(path):
@@ -26,6 +30,10 @@ def read_bytes(path):
 
 def sums(path):
     return {name: it for it, name in (line.split() for line in read_bytes(path).decode().splitlines())}
+
+
+def files_below(folder):
+    return [os.path.relpath(os.path.join(at, name), folder) for at, _, names in os.walk(folder) for name in names]
 
 
 def summed(folder):
@@ -40,6 +48,7 @@ class Installed:
     name: str
     prefix: str
     examples: str
+    licenses: str
     python: str
     variables: dict = field(default_factory=dict)
 
@@ -83,9 +92,20 @@ class Installed:
         assert printed.decode().split("\n")[-2] == LAST, f"{self.name}: Python printed {printed}"
         self.check_views(f"{work}/python", "Python")
 
+    def check_files(self):
+        """What nothing of the rest reads: the manual page, the completions and the licenses."""
+        share = f"{self.prefix}/share"
+        assert os.path.isfile(f"{share}/man/man1/lv.1") or os.path.isfile(f"{share}/man/man1/lv.1.gz"), f"{self.name} has no manual page"
+        completed = self.run("bash", "-c", f". {share}/bash-completion/completions/lv && complete -p lv").decode()
+        assert completed.endswith(" lv\n"), f"{self.name}: bash completes {completed}"
+        assert os.path.isfile(f"{share}/fish/vendor_completions.d/lv.fish"), f"{self.name} has no completions for fish"
+        assert any(it.startswith("zsh/") and it.endswith("/_lv") for it in files_below(share)), f"{self.name} has none for zsh"
+        missing = {"lv", "README", *LICENSED} - {it.partition("-")[0] for it in os.listdir(self.licenses)}
+        assert not missing, f"{self.name} has no license of {missing}"
+
     def check(self, work):
         os.makedirs(work)
-        assert os.path.isfile(f"{self.prefix}/share/man/man1/lv.1") or os.path.isfile(f"{self.prefix}/share/man/man1/lv.1.gz"), self.name
+        self.check_files()
         self.check_program(work)
         self.check_calls(work)
 
@@ -100,18 +120,50 @@ def check_tarball(path, work):
     folder, prefix = f"{work}/{folder}", f"{work}/usr"
     make(folder, "install", prefix)
     known = {"PKG_CONFIG_PATH": f"{prefix}/lib/pkgconfig"}
-    Installed("the tarball", prefix, f"{folder}/examples", f"{folder}/python", known).check(f"{work}/tried")
+    tarball = Installed("the tarball", prefix, f"{folder}/examples", f"{folder}/licenses", f"{folder}/python", known)
+    tarball.check(f"{work}/tried")
+    if packed := packed_python(f"{folder}/python", f"{work}/packed"):
+        os.makedirs(f"{work}/pip")
+        replace(tarball, python=packed).check_calls(f"{work}/pip")
     make(folder, "uninstall", prefix)
-    left = [it for _, _, names in os.walk(prefix) for it in names]
-    assert not left, f"make uninstall leaves {left}"
+    assert not files_below(prefix), f"make uninstall leaves {files_below(prefix)}"
+
+
+def packed_python(folder, to):
+    """Where pip installed the Python package from this folder, or nothing where pip or what it builds with isn't there."""
+    words = [sys.executable, "-m", "pip", "install", "--quiet", "--no-index", "--no-build-isolation", "--no-deps", "--target", to, folder]
+    if subprocess.run([sys.executable, "-c", "import pip, setuptools"], stderr=subprocess.DEVNULL).returncode:
+        return None
+    subprocess.run(words, check=True)
+    return to
+
+
+def dpkg(root, *words):
+    """Runs dpkg over a system of its own in this folder. It has no other package, so none that this one depends on."""
+    subprocess.run(["dpkg", f"--root={root}", "--force-depends", *words], stdout=subprocess.DEVNULL, stderr=subprocess.DEVNULL, check=True)
+
+
+def install_debian(path, root):
+    if os.geteuid() == 0:
+        for it in ("info", "updates", "triggers"):
+            os.makedirs(f"{root}/var/lib/dpkg/{it}")
+        open(f"{root}/var/lib/dpkg/status", "w").close()
+        dpkg(root, "--install", path)
+    else:
+        subprocess.run(["dpkg-deb", "-x", path, root], check=True)
 
 
 def check_debian(path, work):
     root = f"{work}/root"
-    subprocess.run(["dpkg-deb", "-x", path, root], check=True)
+    install_debian(path, root)
     known = {"PKG_CONFIG_PATH": f"{root}/usr/lib/pkgconfig", "PKG_CONFIG_SYSROOT_DIR": root}
     documents, python = f"{root}/usr/share/doc/liveviews", f"{root}/usr/lib/python3/dist-packages"
-    Installed("the Debian package", f"{root}/usr", f"{documents}/examples", python, known).check(f"{work}/tried")
+    package = Installed("the Debian package", f"{root}/usr", f"{documents}/examples", f"{documents}/licenses", python, known)
+    package.check(f"{work}/tried")
+    if os.geteuid() == 0:
+        dpkg(root, "--purge", "liveviews")
+        left = files_below(f"{root}/usr") if os.path.isdir(f"{root}/usr") else []
+        assert not left, f"dpkg leaves {left}"
 
 
 def main():
