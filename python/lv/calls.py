@@ -5,8 +5,14 @@ import ctypes
 import ctypes.util
 import os
 from functools import cache
+from typing import TYPE_CHECKING
 
 from lv.causes import CAUSES
+
+if TYPE_CHECKING:
+    from collections.abc import Sequence
+
+    from lv.session import Event
 
 NOT_OPEN = 255
 
@@ -44,14 +50,19 @@ CALLS = {
 
 
 class Refused(Exception):
-    """A call was refused. `cause` is the number of the cause, `name` its name, and `used` says how many bytes of what was
-    pushed were consumed all the same. Of a configuration `place` has the keys of the part that is refused, as
-    `view.totals.order`, or the line at which it stops being TOML."""
+    """A call was refused. `cause` is the number of the cause, and `name` its name. Of a configuration `place` has the keys
+    of the part that is refused, as `view.totals.order`, or the line at which it stops being TOML.
 
-    def __init__(self, cause: int, used: int = 0, place: str | None = None) -> None:
+    Of a push `used` says how many bytes were consumed all the same, `rest` has the bytes that weren't, as far as they
+    were read of a file, and `events` the messages that were completed before."""
+
+    def __init__(
+        self, cause: int, *, place: str | None = None, used: int = 0, rest: bytes = b"", events: Sequence[Event] = ()
+    ) -> None:
         name, text = CAUSES.get(cause, ("NotOpen", "the session isn't open"))
         super().__init__(f"refused {cause} {name}: {text}" + (f" ({place})" if place else ""))
-        self.cause, self.name, self.used, self.place = cause, name, used, place
+        self.cause, self.name, self.place = cause, name, place
+        self.used, self.rest, self.events = used, rest, [*events]
 
 
 @cache

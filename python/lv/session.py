@@ -49,14 +49,17 @@ class Session:
         stream of a feed may be cut into pushes anywhere.
 
         Raises `Refused`, whose `used` says how many of the bytes were consumed by this call. A batch whose edit doesn't
-        fit (41 to 45) is consumed and changes nothing: the feed goes on with the bytes behind it. After a fault of the
-        stream (1 to 30) the feed is broken.
+        fit (41 to 45) is consumed and changes nothing: the feed goes on with the bytes behind it. These are the `rest` of
+        the refusal, which is to be pushed first, and then what the file still has. After a fault of the stream (1 to 30)
+        the feed is broken.
         """
+        events: list[Event] = []
         if not hasattr(data, "read"):
-            return self._push_bytes(feed, bytes(data), 0)
-        events, used = [], 0
+            self._push_bytes(feed, bytes(data), 0, events)
+            return events
+        used = 0
         while piece := data.read(PIECE):
-            events += self._push_bytes(feed, piece, used)
+            self._push_bytes(feed, piece, used, events)
             used += len(piece)
         return events
 
@@ -115,18 +118,18 @@ class Session:
             raise Refused(NOT_OPEN)
         return self._own()
 
-    def _push_bytes(self, feed: str, data: bytes, before: int) -> list[Event]:
-        """Pushes bytes, behind so many others of the same call."""
-        name, at, used, events = feed.encode(), ctypes.cast(data, ctypes.c_void_p).value, 0, []
+    def _push_bytes(self, feed: str, data: bytes, before: int, events: list[Event]) -> None:
+        """Pushes bytes, behind so many others of the same call, and adds the messages that they complete to `events`."""
+        name, at, used = feed.encode(), ctypes.cast(data, ctypes.c_void_p).value, 0
         while True:
             pushed = self._own().lv_push(self._handle, name, len(name), at + used, len(data) - used)
             used += pushed.used
             if pushed.cause:
-                raise Refused(pushed.cause, before + used)
+                raise Refused(pushed.cause, used=before + used, rest=data[used:], events=events)
             if pushed.event:
                 events.append(Event(pushed.event))
             if used == len(data):
-                return events
+                return
 
 
 def place_of_fault(config: bytes) -> str | None:

@@ -5,6 +5,7 @@ import io
 import threading
 import unittest
 from pathlib import Path
+from unittest import mock
 
 import lv
 from lv.calls import CALLS, Handle, library
@@ -24,6 +25,22 @@ def refusal(call, *words):
     except lv.Refused as refused:
         return refused.cause, refused.name, refused.used
     raise AssertionError("the call was not refused")
+
+
+def push_file(session, feed, file):
+    """Pushes all of a file, and behind each batch with a key that is there already what the refusal has of the rest. Gives
+    the messages, the refused ones too."""
+    events, source = [], file
+    while True:
+        try:
+            events += session.push(feed, source)
+            if source is file:
+                return events
+            source = file
+        except lv.Refused as refused:
+            assert refused.name == "DuplicateKey", refused
+            events += [*refused.events, lv.Event.BATCH]
+            source = refused.rest
 
 
 def shown(session):
@@ -91,6 +108,17 @@ class Sessions(unittest.TestCase):
             self.assertTrue(0 < used < len(FEEDS["calls"]))
             self.assertEqual(refusal(session.push, "again", FEEDS["calls"][used:])[:2], (42, "DuplicateKey"))
             self.assertEqual(session.view("report"), before)
+
+    def test_rest_of_file(self):
+        with lv.Session(CONFIG + '\n[feed.again]\nrole = "append"\n[feed.cut]\nrole = "append"\n') as session:
+            events = session.push("calls", FEEDS["calls"])
+            before = shown(session)
+            self.assertEqual(push_file(session, "again", io.BytesIO(FEEDS["calls"])), events)
+            with mock.patch("lv.session.PIECE", 16):
+                self.assertEqual(push_file(session, "cut", io.BytesIO(FEEDS["calls"])), events)
+            session.finish("again")
+            session.finish("cut")
+            self.assertEqual(shown(session), before)
 
     def test_undo_ends(self):
         with filled() as session:
