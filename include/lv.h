@@ -17,8 +17,8 @@
  * - A pointer is never null, also where the length that goes with it is 0, and as many bytes as the length says can be
  *   read there, or written for a buffer. A buffer doesn't overlap the handle or another argument. The library keeps no
  *   pointer of its caller once a call has returned.
- * - malloc, realloc and free are those of one C library, which aligns blocks to 16 bytes. No call is made from a signal
- *   handler, or in the forked child of a process with threads.
+ * - malloc, realloc and free come from one C library and return blocks aligned to 16 bytes. No call is made from a
+ *   signal handler, or in the forked child of a process with threads.
  *
  * Behind a handle that isn't open a call answers LV_NOT_OPEN, or 0 where it answers a number, and touches nothing.
  *

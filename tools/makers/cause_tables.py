@@ -43,8 +43,9 @@ PAGE_HEAD = """# The causes of a refusal
 
 Why a call or a command is refused. `lv` prints the number and the name, as `refused 41 NullKey`; `Display` of a `Cause`
 and the errors of the Python package give the text. 1 to 30 are faults of a stream, which break its feed
-([FORMAT.md](FORMAT.md) has their rules), 41 to 45 an edit that doesn't fit its table, 51 to 56 a call that can't be
-done, 61 to 70 a fault of a configuration ([VIEWS.md](VIEWS.md)). Written by `tools/makers/cause_tables.py`.
+([FORMAT.md](FORMAT.md) has their rules), 41 to 45 an edit that doesn't fit its table (44 and 45 also rows that `recast`
+doesn't write), 51 to 56 a call that can't be done, 61 to 70 a fault of a configuration ([VIEWS.md](VIEWS.md)). 255
+NotOpen, of the libraries alone, is a call with a session that isn't open. Written by `tools/makers/cause_tables.py`.
 
 | Number | Name | Text |
 |---|---|---|
