@@ -477,8 +477,7 @@ impl RankedGroups {
         ensures tuples { IfOk result (λ tuples.
             tuples.items ≡ map (λ (p : PlaceSeen). p.1) (take most self.now.places)) }
     {
-        let _size = self.places.len();
-        let mut tuples = Vec::new(alloc);
+        let mut tuples = Vec::with_capacity(alloc, self.places.len().min(most))?;
         for place in self.places.iter() {
             if tuples.len() == most {
                 break;
@@ -493,7 +492,7 @@ impl RankedGroups {
         ensures { IfOk result (λ made.
             rows_of made.items ≡ filter_map (shown_at self.now.ranking self.now.groups) tuples.now) }
     {
-        let mut made = Vec::new(alloc);
+        let mut made = Vec::with_capacity(alloc, tuples.len())?;
         for tuple in tuples {
             let row = self.shown_row(alloc, tuple)?;
             push_some(&mut made, row)?;

@@ -44,8 +44,7 @@ pub(crate) fn read_rows(
     ensures read { IfOk result (λ made. AreRead columns.now outputs.now groups.now.entries (rows_of made.items)) }
     ensures ordered { IsStrictlySortedBy tuple_cmp (keys_of groups.now.entries) }
 {
-    let _size = groups.len();
-    let mut made = Vec::new(alloc);
+    let mut made = Vec::with_capacity(alloc, groups.len())?;
     for (tuple, group) in groups.iter() {
         made.push(read_row(alloc, outputs, tuple, group, columns)?)?;
     }
@@ -64,8 +63,7 @@ pub(crate) fn read_first(
         ≡ map (seen_row columns.now outputs.now) (take most groups.now.entries)) }
     ensures ordered { IsStrictlySortedBy tuple_cmp (keys_of groups.now.entries) }
 {
-    let _size = groups.len();
-    let mut made = Vec::new(alloc);
+    let mut made = Vec::with_capacity(alloc, groups.len().min(most))?;
     for (tuple, group) in groups.iter() {
         if made.len() == most {
             break;

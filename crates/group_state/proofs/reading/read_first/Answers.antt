@@ -28,6 +28,6 @@ returns-clause-read c =
           inv.1.1 ∙ ap (map (seen_row c.args.columns.now c.args.outputs.now)) all
       | in-Some+then-len-most w ↦
           let e : length c.loop-tuple.yielded ≡ c.args.most =
-          sym inv.0 ∙ sym c.loop-tuple.made.ok.0 ∙ sym w.len.ensures ∙ w.if-len-most.true in
+          sym inv.0 ∙ sym c.loop-tuple.made.ok.0 ∙ sym w.len-in-loop-tuple.ensures ∙ w.if-len-most.true in
           inv.1.1 ∙ ap (λ (n : ℕ). map (seen_row c.args.columns.now c.args.outputs.now) (take n es)) e
     ]

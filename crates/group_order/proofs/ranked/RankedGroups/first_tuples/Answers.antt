@@ -28,6 +28,6 @@ returns-clause-tuples c =
           inv.1.1 ∙ ap (map (λ (p : GroupPlace). p.1)) all
       | in-Some+then-len-most w ↦
           let e : length c.loop-place.yielded ≡ c.args.most =
-          sym inv.0 ∙ sym c.loop-place.tuples.ok.0 ∙ sym w.len.ensures ∙ w.if-len-most.true in
+          sym inv.0 ∙ sym c.loop-place.tuples.ok.0 ∙ sym w.len-in-loop-place.ensures ∙ w.if-len-most.true in
           inv.1.1 ∙ ap (λ (n : ℕ). map (λ (p : GroupPlace). p.1) (take n c.args.self.now.places)) e
     ]
